@@ -1,0 +1,121 @@
+-- What a legal history keeps: each entry may follow on those before it, one entry at most stops the store, and a stopped
+-- store answers nothing else, with one why.
+use Rattle.std.proofs.Common.{◌≡◌, ℕ, ◌++◌, List, [], ◌∷◌, Bool, true, false, not, ◌||◌, ◌&&◌, ◌⊎◌, inl, inr, refl, ap, sym, subst, ◌∙◌, append_assoc, append-nil}
+use Rattle.std.specs.List.{list_all, AllByRecursion}
+use Rattle.std.proofs.lemmas.List.Folds.{list_all-append}
+use Rattle.blsm_model.specs.declared.row.Value.{Value}
+use Rattle.blsm_model.specs.declared.op.Op.{Op}
+use Rattle.blsm_model.specs.declared.op.Op.TheVariants.{Get, Next, Work}
+use Rattle.blsm_model.specs.declared.history.Why.{Why}
+use Rattle.blsm_model.specs.declared.history.Reply.{Reply}
+use Rattle.blsm_model.specs.declared.history.Reply.TheVariants.{Fault, Damaged, Stopped}
+use Rattle.blsm_model.specs.declared.history.Entry.{Entry}
+use Rattle.blsm_model.specs.Legal.{Limits, MayReply, MayFail, NamesNoOther, FollowsOn, IsLegal, is_running, none_stopping, is_stopping, is_stopped, is_work}
+
+abbrev Pairs : Type 0
+Pairs = List (List ℕ × Value)
+
+follows_at : (limits : Limits) (opening : Pairs) (done before : List Entry) (e : Entry) (more : List Entry) → FollowsOn limits opening done (before ++ e ∷ more) → MayReply limits opening (done ++ before) e.seat e.op e.reply
+follows_at limits opening done [] e more legal = subst (λ h. MayReply limits opening h e.seat e.op e.reply) (sym (append-nil done)) legal.0
+follows_at limits opening done (d ∷ ds) e more legal =
+    subst (λ h. MayReply limits opening h e.seat e.op e.reply) (append_assoc done (d ∷ []) ds) (follows_at limits opening (done ++ d ∷ []) ds e more legal.1)
+
+-- each entry of a legal history may come after those before it
+pub legal_at : (limits : Limits) (opening : Pairs) (before : List Entry) (e : Entry) (more : List Entry) → IsLegal limits opening (before ++ e ∷ more) → MayReply limits opening before e.seat e.op e.reply
+legal_at limits opening before e more legal = follows_at limits opening [] before e more legal
+
+-- a test that one entry fails doesn't hold of all
+one_fails : (p : Entry → Bool) (before : List Entry) (e : Entry) (more : List Entry) → p e ≡ false → list_all p (before ++ e ∷ more) ≡ true → ⊥
+one_fails p before e more fails all =
+    let wrong : false ≡ true = sym (both_false (list_all p before) (list_all p more)) ∙ ap (λ b. list_all p before && (b && list_all p more)) (sym fails) ∙ sym (list_all-append p before (e ∷ more)) ∙ all in cc
+  where
+    both_false : (a b : Bool) → (a && (false && b)) ≡ false
+    both_false true b = refl
+    both_false false b = refl
+
+-- not running, where an entry before shows a stop
+not_running : (before : List Entry) (e : Entry) (more : List Entry) → (is_stopping e.op e.reply || is_stopped e.reply) ≡ true → is_running (before ++ e ∷ more) ≡ true → ⊥
+not_running before e more stop running = one_fails (λ k. not (is_stopping k.op k.reply || is_stopped k.reply)) before e more (ap not stop) running
+
+-- what may follow a stop: the stopped reply, and a work that ends in a fault
+abbrev pub FollowsStop : Op → Reply → Type 0
+FollowsStop op reply = (is_stopped reply ≡ true) ⊎ ((is_stopping op reply ≡ true) × (is_work op ≡ true))
+
+may_fail_stopped : (before : List Entry) (op : Op) (reply : Reply) → is_stopping op reply ≡ is_work op → (is_running before ≡ true → ⊥) → MayFail before op → FollowsStop op reply
+may_fail_stopped before (Get key) reply same stop may = absurd (stop may)
+may_fail_stopped before (Next n) reply same stop may = absurd (stop may)
+may_fail_stopped before (Work n) reply same stop may = inr (same, refl)
+may_fail_stopped before _ reply same stop may = absurd may
+
+reply_stopped : (limits : Limits) (opening : Pairs) (before : List Entry) (seat : ℕ) (op : Op) (reply : Reply) → (is_running before ≡ true → ⊥) → MayReply limits opening before seat op reply → FollowsStop op reply
+reply_stopped limits opening before seat op Fault stop may = may_fail_stopped before op Fault refl stop may
+reply_stopped limits opening before seat op (Damaged page) stop may = may_fail_stopped before op (Damaged page) refl stop may
+reply_stopped limits opening before seat op (Stopped why) stop may = inl refl
+reply_stopped limits opening before seat op _ stop may = absurd (stop may.0)
+
+-- after an entry that shows a stop each entry is Stopped, but for a work that stops the store itself
+pub stays_stopped : (limits : Limits) (opening : Pairs) (before : List Entry) (e : Entry) (between : List Entry) (f : Entry) (more : List Entry) →
+    IsLegal limits opening ((before ++ e ∷ between) ++ f ∷ more) → (is_stopping e.op e.reply || is_stopped e.reply) ≡ true → FollowsStop f.op f.reply
+stays_stopped limits opening before e between f more legal stop =
+    reply_stopped limits opening (before ++ e ∷ between) f.seat f.op f.reply (not_running before e between stop) (legal_at limits opening (before ++ e ∷ between) f more legal)
+
+may_fail_once : (before : List Entry) (op : Op) (reply : Reply) → is_stopping op reply ≡ is_work op → is_stopping op reply ≡ true → MayFail before op → none_stopping before ≡ true
+may_fail_once before (Work n) reply same stopping may = may
+may_fail_once before (Get key) reply same stopping may = let wrong : false ≡ true = sym same ∙ stopping in cc
+may_fail_once before (Next n) reply same stopping may = let wrong : false ≡ true = sym same ∙ stopping in cc
+may_fail_once before _ reply same stopping may = absurd may
+
+running_none : (before : List Entry) → is_running before ≡ true → none_stopping before ≡ true
+running_none [] running = refl
+running_none (e ∷ es) running = parts (is_stopping e.op e.reply) (is_stopped e.reply) (is_running es) running (running_none es)
+  where
+    parts : (stopping stopped rest : Bool) → (not (stopping || stopped) && rest) ≡ true → (rest ≡ true → none_stopping es ≡ true) → (not stopping && none_stopping es) ≡ true
+    parts false false true running rest = rest refl
+    parts false true rest running later = cc
+    parts false false false running later = cc
+    parts true stopped rest running later = cc
+
+reply_once : (limits : Limits) (opening : Pairs) (before : List Entry) (seat : ℕ) (op : Op) (reply : Reply) → is_stopping op reply ≡ true → MayReply limits opening before seat op reply → none_stopping before ≡ true
+reply_once limits opening before seat op Fault stopping may = may_fail_once before op Fault refl stopping may
+reply_once limits opening before seat op (Damaged page) stopping may = may_fail_once before op (Damaged page) refl stopping may
+reply_once limits opening before seat op (Stopped why) stopping may = let wrong : false ≡ true = stopping in cc
+reply_once limits opening before seat op _ stopping may = running_none before may.0
+
+-- at most one entry stops the store
+pub stops_once : (limits : Limits) (opening : Pairs) (before : List Entry) (e : Entry) (between : List Entry) (f : Entry) (more : List Entry) →
+    IsLegal limits opening ((before ++ e ∷ between) ++ f ∷ more) → is_stopping e.op e.reply ≡ true → is_stopping f.op f.reply ≡ true → ⊥
+stops_once limits opening before e between f more legal first second =
+    one_fails (λ k. not (is_stopping k.op k.reply)) before e between (ap not first)
+    (reply_once limits opening (before ++ e ∷ between) f.seat f.op f.reply second (legal_at limits opening (before ++ e ∷ between) f more legal))
+
+named_there : (why : Why) (before : List Entry) (e : Entry) (more : List Entry) → AllByRecursion (λ k. NamesNoOther why k.reply) (before ++ e ∷ more) → NamesNoOther why e.reply
+named_there why [] e more all = all.0
+named_there why (b ∷ bs) e more all = named_there why bs e more all.1
+
+-- all stopped replies name one why
+pub one_why : (limits : Limits) (opening : Pairs) (before : List Entry) (e : Entry) (between : List Entry) (f : Entry) (more : List Entry) (first second : Why) →
+    IsLegal limits opening ((before ++ e ∷ between) ++ f ∷ more) → e.reply ≡ Stopped first → f.reply ≡ Stopped second → first ≡ second
+one_why limits opening before e between f more first second legal at_e at_f =
+    let may : MayReply limits opening (before ++ e ∷ between) f.seat f.op (Stopped second) = subst (λ r. MayReply limits opening (before ++ e ∷ between) f.seat f.op r) at_f (legal_at limits opening (before ++ e ∷ between) f more legal) in
+    let none : NamesNoOther second (Stopped first) = subst (λ r. NamesNoOther second r) at_e (named_there second before e between may) in
+    none
+
+-- one why for all, over a history that grows at the end
+pub named_push : (why : Why) (history : List Entry) (entry : Entry) → AllByRecursion (λ e. NamesNoOther why e.reply) history → NamesNoOther why entry.reply → AllByRecursion (λ e. NamesNoOther why e.reply) (history ++ entry ∷ [])
+named_push why [] entry all one = (one, tt)
+named_push why (e ∷ es) entry all one = (all.0, named_push why es entry all.1 one)
+
+names_none : (why : Why) (reply : Reply) → is_stopped reply ≡ false → NamesNoOther why reply
+names_none why (Stopped other) none = cc
+names_none why _ none = tt
+
+-- while the store runs no why is named
+pub named-running : (why : Why) (history : List Entry) → is_running history ≡ true → AllByRecursion (λ e. NamesNoOther why e.reply) history
+named-running why [] running = tt
+named-running why (e ∷ es) running = parts (is_stopping e.op e.reply) (is_stopped e.reply) (is_running es) running refl (named-running why es)
+  where
+    parts : (stopping stopped rest : Bool) → (not (stopping || stopped) && rest) ≡ true → is_stopped e.reply ≡ stopped → (rest ≡ true → AllByRecursion (λ k. NamesNoOther why k.reply) es) → AllByRecursion (λ k. NamesNoOther why k.reply) (e ∷ es)
+    parts false false true running none later = (names_none why e.reply none, later refl)
+    parts false true rest running none later = cc
+    parts false false false running none later = cc
+    parts true stopped rest running none later = cc

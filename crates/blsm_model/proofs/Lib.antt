@@ -1,0 +1,15 @@
+pub mod ExampleWords
+mod ValueExamples
+mod HoldExamples
+mod RefusalExamples
+mod PrintedExamples
+mod SizeExamples
+pub mod ValueLemmas
+pub mod HistoryLemmas
+pub mod HoldLemmas
+pub mod LegalLemmas
+pub mod PlainLemmas
+pub mod ScriptLemmas
+pub mod RowLemmas
+pub mod GeometryLemmas
+pub mod AnnalsLemmas

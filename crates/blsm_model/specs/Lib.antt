@@ -1,0 +1,14 @@
+pub mod Keys
+pub mod Values
+pub mod Rows
+pub mod Histories
+pub mod Legal
+pub mod Images
+pub mod Scripts
+pub mod Sizes
+pub mod Geometry
+pub mod Printed
+pub mod Book
+pub mod Stored
+pub mod Kept
+pub mod Plain

@@ -1,0 +1,297 @@
+//! The history of a run, in memory that is reserved before it.
+ghost use Rattle.std.specs.Prelude.{◌≡◌, ◌+◌, ◌<◌, ◌≤◌, ◌^◌, ◌++◌, [], ◌==◌, length, sum, slice_index, slice_set, vec_capacity, IfOk};
+ghost use Rattle.blsm_model.specs.Book.{HasRoom, noted, counted_up, entry_at, rows_given};
+ghost use Rattle.blsm_model.specs.Stored.{stored_reply, FitsRows};
+
+use crate::{Entry, Op, Reply, Room, Row, RowList, Value, Why};
+use refusal::NoMemory;
+use std::alloc::Global;
+use std::marker::Model;
+
+// A reply without its rows, which lie in the list of all rows: from the first place on, without the second.
+#[derive(Debug, Drop)]
+enum StoredReply {
+    Done,
+    Is(Value),
+    Absent,
+    Held,
+    Rows(usize, usize),
+    NoHold,
+    Did(u32),
+    Full(u64),
+    NoMemory,
+    FaultLost,
+    FaultUnsure,
+    Fault,
+    Damaged(u32),
+    Stopped(Why),
+}
+
+#[derive(Debug, Drop)]
+struct StoredEntry {
+    seat: u32,
+    op: Op,
+    reply: StoredReply,
+}
+
+/// The entries of a run, the quanta of each, and the room that is left at each seat.
+///
+/// Places are counted from 0. The entries only grow. Nothing but `reserve` takes memory: a reply's rows are copied
+/// into one list of all rows, so that an entry takes no more than its own bytes.
+#[derive(Debug, Drop)]
+pub struct Annals {
+    stored: Vec<StoredEntry>,
+    rows: Vec<Row>,
+    quanta: Vec<u64>,
+    room: Room,
+}
+
+impl Model for Annals {
+    ghost use Rattle.std.specs.Prelude.{map, vec_capacity};
+    ghost use Rattle.blsm_model.specs.Book.{Book};
+
+    ghost Value = { Book };
+
+    ghost use Rattle.blsm_model.specs.Stored.{stored_entry, IsStored};
+
+    ghost view = { λ a. record { entries = map (stored_entry a.rows.items) a.stored.items; quanta = a.quanta.items; room = a.room } };
+
+    ghost invariant = { λ a. IsStored a.stored.items a.rows.items a.quanta.items a.room (vec_capacity a.stored) (vec_capacity a.rows) (vec_capacity a.quanta) };
+}
+
+impl Annals {
+    /// Annals with this room, and nothing noted. `NoMemory` where memory is refused.
+    pub fn reserve(alloc: Global, room: Room) -> Result<Annals, NoMemory>
+        requires entries { sum room.entries ≤ Room.MAX_ENTRIES }
+        requires rows { sum room.rows ≤ Room.MAX_ROWS }
+        ensures { IfOk result (λ annals. annals ≡ record { entries = []; quanta = []; room = room }) }
+    {
+        Ok(Annals {
+            stored: Vec::with_capacity(alloc, total(&room.entries))?,
+            rows: Vec::with_capacity(alloc, total(&room.rows))?,
+            quanta: Vec::with_capacity(alloc, total(&room.entries))?,
+            room,
+        })
+    }
+
+    /// Notes an entry at the end, with 0 quanta, and lowers its seat's room by one entry and by the rows that it gives.
+    pub fn note(&mut self, entry: Entry)
+        requires { HasRoom self.old.room entry }
+        ensures { self.new ≡ noted self.old entry }
+    {
+        let Entry { seat, op, reply } = entry;
+        let count = given(&reply);
+        let reply = keep(&mut self.rows, reply);
+        self.stored.push_reserved(StoredEntry { seat, op, reply });
+        self.quanta.push_reserved(0);
+        self.room.entries[seat as usize] -= 1;
+        self.room.rows[seat as usize] -= count;
+    }
+
+    /// Raises the quanta of the entry at a place by `n`.
+    pub fn count(&mut self, place: u32, n: u64)
+        requires place { place < length self.old.entries }
+        requires sum { slice_index self.old.quanta place + n < 2 ^ 64 }
+        ensures { self.new ≡ counted_up self.old place n }
+    {
+        self.quanta[place as usize] += n;
+    }
+
+    /// How many entries there are, of which each has its quanta.
+    pub fn len(&self) -> usize
+        ensures entries { result ≡ length self.now.entries }
+        ensures quanta { result ≡ length self.now.quanta }
+        ensures few { result ≤ 65537 }
+    {
+        self.stored.len()
+    }
+
+    /// Whether there is no entry.
+    pub fn is_empty(&self) -> bool
+        ensures { result ≡ (length self.now.entries == 0) }
+    {
+        self.stored.is_empty()
+    }
+
+    /// The seat of the entry at a place.
+    pub fn seat(&self, place: u32) -> u32
+        requires { place < length self.now.entries }
+        ensures { result ≡ (entry_at self.now place).seat }
+    {
+        self.stored[place as usize].seat
+    }
+
+    /// The command of the entry at a place.
+    pub fn op(&self, place: u32) -> &Op
+        requires { place < length self.now.entries }
+        ensures { result.now ≡ (entry_at self.now place).op }
+    {
+        &self.stored[place as usize].op
+    }
+
+    /// The reply of the entry at a place, with copies of its rows.
+    pub fn reply(&self, place: u32) -> Reply
+        requires { place < length self.now.entries }
+        ensures { result ≡ (entry_at self.now place).reply }
+    {
+        tell(&self.stored[place as usize].reply, &self.rows)
+    }
+
+    /// The quanta of the entry at a place.
+    pub fn quanta(&self, place: u32) -> u64
+        requires { place < length self.now.entries }
+        ensures { result ≡ slice_index self.now.quanta place }
+    {
+        self.quanta[place as usize]
+    }
+
+    /// How many entries and rows each seat may still note.
+    pub fn room(&self) -> Room
+        ensures { result ≡ self.now.room }
+    {
+        self.room
+    }
+}
+
+// How many rows a reply gives.
+fn given(reply: &Reply) -> u32
+    ensures { result ≡ length (rows_given reply.now) }
+{
+    match reply {
+        Reply::Rows(rows) => rows.as_slice().len() as u32,
+        _ => 0,
+    }
+}
+
+// The reply without its rows, which go to the end of the list.
+fn keep(rows: &mut Vec<Row>, reply: Reply) -> StoredReply
+    requires { length rows.old.items + length (rows_given reply) ≤ vec_capacity rows.old }
+    ensures rows { rows.new.items ≡ rows.old.items ++ rows_given reply }
+    ensures capacity { vec_capacity rows.new ≡ vec_capacity rows.old }
+    ensures told { stored_reply rows.new.items result ≡ reply }
+    ensures fits { FitsRows rows.new.items result }
+{
+    match reply {
+        Reply::Rows(list) => {
+            let first = rows.len();
+            append(rows, &list);
+            StoredReply::Rows(first, rows.len())
+        }
+        Reply::Done => StoredReply::Done,
+        Reply::Is(value) => StoredReply::Is(value),
+        Reply::Absent => StoredReply::Absent,
+        Reply::Held => StoredReply::Held,
+        Reply::NoHold => StoredReply::NoHold,
+        Reply::Did(turns) => StoredReply::Did(turns),
+        Reply::Full(charge) => StoredReply::Full(charge),
+        Reply::NoMemory => StoredReply::NoMemory,
+        Reply::FaultLost => StoredReply::FaultLost,
+        Reply::FaultUnsure => StoredReply::FaultUnsure,
+        Reply::Fault => StoredReply::Fault,
+        Reply::Damaged(page) => StoredReply::Damaged(page),
+        Reply::Stopped(why) => StoredReply::Stopped(why),
+    }
+}
+
+// The reply with its rows again.
+fn tell(reply: &StoredReply, rows: &[Row]) -> Reply
+    requires { FitsRows rows.now reply.now }
+    ensures { result ≡ stored_reply rows.now reply.now }
+{
+    match reply {
+        StoredReply::Rows(first, end) => Reply::Rows(RowList::from_slice(&rows[*first..*end])),
+        StoredReply::Done => Reply::Done,
+        StoredReply::Is(value) => Reply::Is(value.copy()),
+        StoredReply::Absent => Reply::Absent,
+        StoredReply::Held => Reply::Held,
+        StoredReply::NoHold => Reply::NoHold,
+        StoredReply::Did(turns) => Reply::Did(*turns),
+        StoredReply::Full(charge) => Reply::Full(*charge),
+        StoredReply::NoMemory => Reply::NoMemory,
+        StoredReply::FaultLost => Reply::FaultLost,
+        StoredReply::FaultUnsure => Reply::FaultUnsure,
+        StoredReply::Fault => Reply::Fault,
+        StoredReply::Damaged(page) => Reply::Damaged(*page),
+        StoredReply::Stopped(why) => Reply::Stopped(*why),
+    }
+}
+
+// Puts rows at the end, in memory that is there.
+fn append(rows: &mut Vec<Row>, list: &RowList)
+    requires { length rows.old.items + length list.now ≤ vec_capacity rows.old }
+    ensures rows { rows.new.items ≡ rows.old.items ++ list.now }
+    ensures capacity { vec_capacity rows.new ≡ vec_capacity rows.old }
+    ensures fits { length list.now ≤ RowList.MAX_LEN }
+{
+    let more = list.as_slice();
+    for row in more {
+        rows.push_reserved(row.copy());
+    }
+}
+
+// The room of all seats together.
+fn total(room: &[u32]) -> usize
+    requires { sum room.now ≤ Room.MAX_ROWS }
+    ensures { result ≡ sum room.now }
+{
+    let mut all = 0usize;
+    for of_seat in room {
+        all += *of_seat as usize;
+    }
+    all
+}
+
+#[cfg(test)]
+mod tests {
+    use super::*;
+    use crate::Key;
+    use std::test::Fail;
+
+    #[test]
+    fn annals_tell_what_was_noted(rt: HostRuntime) -> Result<(), Fail> {
+        let mut room = Room {
+            entries: [0; 16],
+            rows: [0; 16],
+        };
+        room.entries[3] = 2;
+        room.rows[3] = 5;
+        let mut annals = Annals::reserve(rt.alloc(), room)?;
+        assert!(rt; annals.is_empty());
+
+        let row = Row {
+            key: Key::from_bytes(b"a").ok_or("no key")?,
+            value: Value {
+                count: 7,
+                text: Default::default(),
+            },
+        };
+        let mut rows = RowList::new();
+        rows.push(row.copy());
+        rows.push(row);
+        annals.note(Entry {
+            seat: 3,
+            op: Op::Next(2),
+            reply: Reply::Rows(rows.copy()),
+        });
+        annals.note(Entry {
+            seat: 3,
+            op: Op::Release,
+            reply: Reply::Done,
+        });
+        annals.count(1, 7);
+        annals.count(1, 2);
+
+        assert_eq!(rt; annals.len(), 2);
+        assert!(rt; !annals.is_empty());
+        assert_eq!(rt; (annals.seat(0), annals.quanta(0)), (3, 0));
+        assert_eq!(rt; (annals.seat(1), annals.quanta(1)), (3, 9));
+        assert!(rt; annals.op(0) == &Op::Next(2));
+        assert!(rt; annals.reply(0) == Reply::Rows(rows));
+        assert!(rt; annals.op(1) == &Op::Release);
+        assert!(rt; annals.reply(1) == Reply::Done);
+        let left = annals.room();
+        assert_eq!(rt; (left.entries[3], left.rows[3]), (0, 3));
+        assert_eq!(rt; (left.entries[4], left.rows[4]), (0, 0));
+        Ok(())
+    }
+}

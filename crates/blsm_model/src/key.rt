@@ -1,0 +1,110 @@
+//! Keys.
+ghost use Rattle.std.specs.Prelude.{◌≡◌, ◌<◌, ◌≤◌, ◌↔◌, ◌⊎◌, ⊤, length, IsNone, IfSome};
+
+use arrayvec::ArrayVec;
+use std::alloc::AllocError;
+use std::cmp::Ordering;
+use std::marker::Model;
+
+/// A key of 1 to 64 bytes. Contracts see it as the list of its bytes. Keys are ordered bytewise.
+#[derive(PartialEq, Eq, Debug, Drop)]
+pub struct Key {
+    bytes: ArrayVec<u8, { Key::MAX_LEN }>,
+}
+
+impl Model for Key {
+    ghost use Rattle.std.specs.Prelude.{ℕ, List, ◌≤◌, length};
+
+    ghost Value = { List ℕ };
+
+    ghost view = { λ k. k.bytes.items };
+
+    ghost invariant = { λ k. (1 ≤ length k.bytes.items) × (length k.bytes.items ≤ 64) };
+
+    ghost inverse = { λ bytes. record { bytes = record { items = bytes } } };
+}
+
+impl Ord for Key {
+    ghost use Rattle.std.specs.Prelude.{refl};
+    ghost use Rattle.std.specs.Cmp.{nat_cmp_total};
+    ghost use Rattle.std.specs.Cmp.Lexicographic.{lists_total, texts_ties};
+    ghost use Rattle.blsm_model.specs.Keys.{key_cmp};
+
+    ghost cmp = { key_cmp };
+
+    ghost total = { lists_total nat_cmp_total };
+
+    ghost matches_partial_cmp = { λ _ _. refl };
+
+    ghost matches_eq = { texts_ties };
+
+    fn cmp(&self, other: &Key) -> Ordering {
+        self.as_bytes().cmp(&other.as_bytes())
+    }
+}
+
+impl PartialOrd for Key {
+    ghost use Rattle.std.specs.Cmp.{nat_cmp_total, partial_order_from_total, partial_order_from_own_ties};
+    ghost use Rattle.std.specs.Cmp.Lexicographic.{lists_total, texts_ties};
+    ghost use Rattle.std.specs.Ordering.{as_partial_cmp};
+    ghost use Rattle.blsm_model.specs.Keys.{key_cmp};
+
+    ghost partial_cmp = { as_partial_cmp key_cmp };
+
+    ghost laws = { partial_order_from_own_ties (partial_order_from_total (lists_total nat_cmp_total)) texts_ties };
+
+    fn partial_cmp(&self, other: &Key) -> Option<Ordering> {
+        Some(self.cmp(other))
+    }
+}
+
+impl Clone for Key {
+    ghost is_clone = { λ key copy. copy ≡ key };
+
+    ghost is_infallible = { λ _. ⊤ };
+
+    fn clone(&self) -> Result<Key, AllocError> {
+        Ok(self.copy())
+    }
+}
+
+impl Key {
+    /// How many bytes a key has at most.
+    pub const MAX_LEN: usize = 64;
+
+    /// The key of these bytes; `None` for no bytes and for more than 64.
+    pub fn from_bytes(bytes: &[u8]) -> Option<Key>
+        ensures none { IsNone result ↔ ((length bytes.now ≡ 0) ⊎ (Key.MAX_LEN < length bytes.now)) }
+        ensures some { IfSome result (λ key. key ≡ bytes.now) }
+    {
+        if bytes.is_empty() {
+            return None;
+        }
+        match ArrayVec::try_from(bytes) {
+            Ok(bytes) => Some(Key { bytes }),
+            Err(_) => None,
+        }
+    }
+
+    /// Its bytes, 1 to 64 of them.
+    pub fn as_bytes(&self) -> &[u8]
+        ensures bytes { result.now ≡ self.now }
+        ensures not_empty { 1 ≤ length result.now }
+        ensures fits { length result.now ≤ Key.MAX_LEN }
+    {
+        self.bytes.as_slice()
+    }
+
+    /// The same key once more. It takes no memory.
+    pub fn copy(&self) -> Key
+        ensures { result ≡ self.now }
+    {
+        match self.bytes.clone() {
+            Ok(bytes) => Key { bytes },
+            Err(_) => unreachable!(),
+        }
+    }
+}
+
+#[cfg(test)]
+mod tests;

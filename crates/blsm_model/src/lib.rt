@@ -1,0 +1,31 @@
+//! The values of the store, its commands and replies, its geometry, and what a right history of them is.
+//!
+//! The definitions in `specs/` say what is meant, over lists and numbers: the value of a key after a list of writes,
+//! the rows of a range, the map after a history, which histories are legal, which follow a script, and their printed
+//! text. They know no component, table, log, debt or lock. Every crate of the store may use this one; of the store's
+//! crates it uses `refusal` alone.
+#![tactic(auto)]
+
+mod annals;
+mod component;
+mod gate;
+mod geometry;
+mod history;
+mod key;
+mod op;
+mod plain;
+mod room;
+mod row;
+mod text;
+
+pub use annals::Annals;
+pub use component::Component;
+pub use gate::{Gate, NoGate, Point};
+pub use geometry::{Geometry, GeometryFault};
+pub use history::{Entry, Line, Reply, Totals, Why};
+pub use key::Key;
+pub use op::{Op, Write};
+pub use plain::{Plain, run, value_of};
+pub use room::{CALLERS, Room};
+pub use row::{Row, RowList, Value};
+pub use text::Text;

@@ -1,0 +1,159 @@
+//! Writes and commands.
+ghost use Rattle.std.specs.Prelude.{◌≡◌, ◌∷◌, ◌≤◌, [], ⊤, IsTrue, length};
+ghost use Rattle.blsm_model.specs.Values.{text_written, weight_of};
+ghost use Rattle.blsm_model.specs.Histories.{writes_of};
+ghost use Rattle.blsm_model.specs.Legal.{is_write, total_weight};
+
+use crate::{Key, Value};
+use std::alloc::AllocError;
+
+/// A write of one key.
+#[derive(PartialEq, Eq, Debug, Drop)]
+pub enum Write {
+    /// Sets both parts of the value.
+    Put(Key, Value),
+    /// Adds to the count, modulo 2^64. An absent key gets this count and the empty text.
+    Add(Key, u64),
+    /// Removes the key.
+    Del(Key),
+}
+
+impl Clone for Write {
+    ghost is_clone = { λ write copy. copy ≡ write };
+
+    ghost is_infallible = { λ _. ⊤ };
+
+    fn clone(&self) -> Result<Write, AllocError> {
+        Ok(self.copy())
+    }
+}
+
+impl Write {
+    /// The same write once more. It takes no memory.
+    pub fn copy(&self) -> Write
+        ensures { result ≡ self.now }
+    {
+        match self {
+            Write::Put(key, value) => Write::Put(key.copy(), value.copy()),
+            Write::Add(key, count) => Write::Add(key.copy(), *count),
+            Write::Del(key) => Write::Del(key.copy()),
+        }
+    }
+}
+
+/// A command of a caller.
+#[derive(PartialEq, Eq, Debug, Drop)]
+pub enum Op {
+    /// Sets both parts of the key's value.
+    Put(Key, Value),
+    /// Adds to the key's count, modulo 2^64.
+    Add(Key, u64),
+    /// Removes the key.
+    Del(Key),
+    /// Looks a key up.
+    Get(Key),
+    /// Holds the rows from the first key on, without the second: a snapshot, which replaces the caller's last one.
+    Hold(Key, Key),
+    /// Takes so many of the rows that the caller holds, from the first on.
+    Next(u32),
+    /// Drops the rows that the caller holds.
+    Release,
+    /// Does at most so many turns of merging.
+    Work(u32),
+}
+
+impl Clone for Op {
+    ghost is_clone = { λ op copy. copy ≡ op };
+
+    ghost is_infallible = { λ _. ⊤ };
+
+    fn clone(&self) -> Result<Op, AllocError> {
+        Ok(self.copy())
+    }
+}
+
+impl Op {
+    /// How many bytes a write weighs beside its key and its text.
+    pub const OVERHEAD: u64 = 13;
+
+    /// How many bytes a write weighs at most: the overhead, a key of 64 bytes and a text of 435.
+    pub const MAX_WEIGHT: u64 = 512;
+
+    /// The same command once more. It takes no memory.
+    pub fn copy(&self) -> Op
+        ensures { result ≡ self.now }
+    {
+        match self {
+            Op::Put(key, value) => Op::Put(key.copy(), value.copy()),
+            Op::Add(key, count) => Op::Add(key.copy(), *count),
+            Op::Del(key) => Op::Del(key.copy()),
+            Op::Get(key) => Op::Get(key.copy()),
+            Op::Hold(low, high) => Op::Hold(low.copy(), high.copy()),
+            Op::Next(n) => Op::Next(*n),
+            Op::Release => Op::Release,
+            Op::Work(n) => Op::Work(*n),
+        }
+    }
+
+    /// Whether it is a put, an add or a del.
+    pub fn is_write(&self) -> bool
+        ensures { result ≡ is_write self.now }
+    {
+        matches!(self, Op::Put(..) | Op::Add(..) | Op::Del(_))
+    }
+
+    /// The weight of a write, in bytes: 14 to 512.
+    pub fn weight(&self) -> u64
+        requires { IsTrue (is_write self.now) }
+        ensures weight { result ≡ total_weight (writes_of self.now) }
+        ensures least { 14 ≤ result }
+        ensures bound { result ≤ Op.MAX_WEIGHT }
+    {
+        match self {
+            Op::Put(key, value) => {
+                Op::OVERHEAD + key.as_bytes().len() as u64 + value.text.as_bytes().len() as u64
+            }
+            Op::Add(key, _) => Op::OVERHEAD + key.as_bytes().len() as u64,
+            Op::Del(key) => Op::OVERHEAD + key.as_bytes().len() as u64,
+            _ => unreachable!(),
+        }
+    }
+
+    /// The write that the command asks for.
+    pub fn write(&self) -> Write
+        requires { IsTrue (is_write self.now) }
+        ensures { writes_of self.now ≡ result ∷ [] }
+    {
+        match self {
+            Op::Put(key, value) => Write::Put(key.copy(), value.copy()),
+            Op::Add(key, count) => Write::Add(key.copy(), *count),
+            Op::Del(key) => Write::Del(key.copy()),
+            _ => unreachable!(),
+        }
+    }
+}
+
+#[cfg(test)]
+mod tests {
+    use super::*;
+    use crate::Text;
+    use std::test::Fail;
+
+    #[test]
+    fn writes_weigh_their_entry(rt: HostRuntime) -> Result<(), Fail> {
+        let bytes = [b'x'; 435];
+        let longest = Key::from_bytes(&bytes[..64]).ok_or("no key")?;
+        let text = Text::from_bytes(&bytes).ok_or("no text")?;
+        let short = Key::from_bytes(b"a").ok_or("no key")?;
+        let hi = Text::from_bytes(b"hi").ok_or("no text")?;
+        let heaviest = Op::Put(longest, Value { count: 9, text });
+        assert_eq!(rt; heaviest.weight(), Op::MAX_WEIGHT);
+        assert_eq!(rt;
+            Op::Put(short.copy(), Value { count: 5, text: hi }).weight(),
+            16
+        );
+        assert_eq!(rt; Op::Add(short.copy(), 7).weight(), 14);
+        assert_eq!(rt; Op::Del(short).weight(), 14);
+        Ok(())
+    }
+}

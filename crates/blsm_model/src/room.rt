@@ -1,0 +1,22 @@
+//! Callers' seats, and the room of each.
+
+/// How many seats there are for callers. They are numbered from 0.
+pub const CALLERS: u32 = 16;
+
+const SEATS: usize = CALLERS as usize;
+
+/// How many entries, and how many rows, each caller's seat may still note. In all there are at most 65,537 entries and
+/// 131,072 rows: those of the longest script, and one entry.
+#[derive(Clone, Copy, PartialEq, Eq, Debug)]
+pub struct Room {
+    pub entries: [u32; SEATS],
+    pub rows: [u32; SEATS],
+}
+
+impl Room {
+    /// How many entries all seats together may note at most.
+    pub const MAX_ENTRIES: u32 = 65_537;
+
+    /// How many rows all seats together may note at most.
+    pub const MAX_ROWS: u32 = 131_072;
+}

@@ -1,0 +1,160 @@
+//! Values, and rows of a key and its value.
+ghost use Rattle.std.specs.Prelude.{◌≡◌, ◌<◌, ◌≤◌, ◌++◌, ◌∷◌, [], ⊤, length};
+
+use crate::{Key, Text};
+use arrayvec::ArrayVec;
+use std::alloc::AllocError;
+use std::default::MadeWith;
+use std::marker::Model;
+
+/// What a present key has: a count and a text. Sums of counts are modulo 2^64.
+#[derive(PartialEq, Eq, Debug, Drop)]
+pub struct Value {
+    pub count: u64,
+    pub text: Text,
+}
+
+impl Clone for Value {
+    ghost is_clone = { λ value copy. copy ≡ value };
+
+    ghost is_infallible = { λ _. ⊤ };
+
+    fn clone(&self) -> Result<Value, AllocError> {
+        Ok(self.copy())
+    }
+}
+
+impl Value {
+    /// The same value once more. It takes no memory.
+    pub fn copy(&self) -> Value
+        ensures { result ≡ self.now }
+    {
+        Value {
+            count: self.count,
+            text: self.text.copy(),
+        }
+    }
+}
+
+/// A key and its value.
+#[derive(PartialEq, Eq, Debug, Drop)]
+pub struct Row {
+    pub key: Key,
+    pub value: Value,
+}
+
+impl Clone for Row {
+    ghost is_clone = { λ row copy. copy ≡ row };
+
+    ghost is_infallible = { λ _. ⊤ };
+
+    fn clone(&self) -> Result<Row, AllocError> {
+        Ok(self.copy())
+    }
+}
+
+impl Row {
+    /// The same row once more. It takes no memory.
+    pub fn copy(&self) -> Row
+        ensures { result ≡ self.now }
+    {
+        Row {
+            key: self.key.copy(),
+            value: self.value.copy(),
+        }
+    }
+}
+
+// What an unused place of a row list holds.
+impl MadeWith<()> for Row {
+    fn made_with(_alloc: ()) -> Row {
+        match Key::from_bytes(b"-") {
+            Some(key) => Row {
+                key,
+                value: Value {
+                    count: 0,
+                    text: Text::empty(),
+                },
+            },
+            None => unreachable!(),
+        }
+    }
+}
+
+/// At most 32 rows, some 17 kilobytes that lie in the value itself. Contracts see it as the list of its rows.
+#[derive(PartialEq, Eq, Debug, Drop)]
+pub struct RowList {
+    rows: ArrayVec<Row, { RowList::MAX_LEN }>,
+}
+
+impl Model for RowList {
+    ghost use Rattle.std.specs.Prelude.{List, ◌≤◌, length};
+    ghost use Rattle.blsm_model.specs.declared.row.Row.{Row};
+
+    ghost Value = { List Row };
+
+    ghost view = { λ r. r.rows.items };
+
+    ghost invariant = { λ r. length r.rows.items ≤ 32 };
+
+    ghost inverse = { λ rows. record { rows = record { items = rows } } };
+}
+
+impl Clone for RowList {
+    ghost is_clone = { λ rows copy. copy ≡ rows };
+
+    ghost is_infallible = { λ _. ⊤ };
+
+    fn clone(&self) -> Result<RowList, AllocError> {
+        Ok(self.copy())
+    }
+}
+
+impl RowList {
+    /// How many rows a list has at most.
+    pub const MAX_LEN: usize = 32;
+
+    /// The list with no row.
+    pub fn new() -> RowList
+        ensures { result ≡ [] }
+    {
+        RowList {
+            rows: ArrayVec::new_in(()),
+        }
+    }
+
+    /// A list of copies of these rows. It takes no memory.
+    pub fn from_slice(rows: &[Row]) -> RowList
+        requires { length rows.now ≤ RowList.MAX_LEN }
+        ensures { result ≡ rows.now }
+    {
+        let mut list = RowList::new();
+        for row in rows {
+            list.push(row.copy());
+        }
+        list
+    }
+
+    /// Puts a row at the end.
+    pub fn push(&mut self, row: Row)
+        requires { length self.old < RowList.MAX_LEN }
+        ensures { self.new ≡ self.old ++ row ∷ [] }
+    {
+        self.rows.push(row);
+    }
+
+    /// Its rows, at most 32 of them.
+    pub fn as_slice(&self) -> &[Row]
+        ensures rows { result.now ≡ self.now }
+        ensures fits { length result.now ≤ RowList.MAX_LEN }
+    {
+        self.rows.as_slice()
+    }
+
+    /// The same rows once more. It takes no memory.
+    pub fn copy(&self) -> RowList
+        ensures { result ≡ self.now }
+    {
+        RowList::from_slice(self.as_slice())
+    }
+}

@@ -1,0 +1,85 @@
+//! Texts.
+ghost use Rattle.std.specs.Prelude.{◌≡◌, ◌<◌, ◌≤◌, ◌↔◌, ⊤, length, IsNone, IfSome, []};
+
+use arrayvec::ArrayVec;
+use std::alloc::AllocError;
+use std::marker::Model;
+
+/// A text of at most 435 bytes. Contracts see it as the list of its bytes.
+#[derive(PartialEq, Eq, Debug, Drop)]
+pub struct Text {
+    bytes: ArrayVec<u8, { Text::MAX_LEN }>,
+}
+
+impl Model for Text {
+    ghost use Rattle.std.specs.Prelude.{ℕ, List, ◌≤◌, length};
+
+    ghost Value = { List ℕ };
+
+    ghost view = { λ t. t.bytes.items };
+
+    ghost invariant = { λ t. length t.bytes.items ≤ 435 };
+
+    ghost inverse = { λ bytes. record { bytes = record { items = bytes } } };
+}
+
+impl Clone for Text {
+    ghost is_clone = { λ text copy. copy ≡ text };
+
+    ghost is_infallible = { λ _. ⊤ };
+
+    fn clone(&self) -> Result<Text, AllocError> {
+        Ok(self.copy())
+    }
+}
+
+impl Default for Text {
+    ghost is_default = { λ text. text ≡ [] };
+
+    fn default() -> Text {
+        Text::empty()
+    }
+}
+
+impl Text {
+    /// How many bytes a text has at most.
+    pub const MAX_LEN: usize = 435;
+
+    /// The text of these bytes; `None` for more than 435.
+    pub fn from_bytes(bytes: &[u8]) -> Option<Text>
+        ensures none { IsNone result ↔ (Text.MAX_LEN < length bytes.now) }
+        ensures some { IfSome result (λ text. text ≡ bytes.now) }
+    {
+        match ArrayVec::try_from(bytes) {
+            Ok(bytes) => Some(Text { bytes }),
+            Err(_) => None,
+        }
+    }
+
+    /// The text with no byte.
+    pub fn empty() -> Text
+        ensures { result ≡ [] }
+    {
+        Text {
+            bytes: ArrayVec::new(),
+        }
+    }
+
+    /// Its bytes, at most 435 of them.
+    pub fn as_bytes(&self) -> &[u8]
+        ensures bytes { result.now ≡ self.now }
+        ensures fits { length result.now ≤ Text.MAX_LEN }
+    {
+        self.bytes.as_slice()
+    }
+
+    /// The same text once more. It takes no memory.
+    pub fn copy(&self) -> Text
+        ensures { result ≡ self.now }
+    {
+        match self.bytes.clone() {
+            Ok(bytes) => Text { bytes },
+            Err(_) => unreachable!(),
+        }
+    }
+}

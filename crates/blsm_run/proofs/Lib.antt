@@ -1,0 +1,5 @@
+pub mod TableLemmas
+pub mod MemoryLemmas
+pub mod RunLemmas
+pub mod SessionLemmas
+pub mod AnswerLemmas

@@ -1,0 +1,76 @@
+-- What a store that ran a script from nothing leaves to be printed.
+use Rattle.std.proofs.Common.{◌≡◌, ℕ, ◌*◌, ◌<◌, ◌≤◌, List, [], ◌++◌, Bool, true, false, Option, Some, None, IsTrue, length, option_to_list, refl, ap, sym, subst, ◌∙◌, arith, nat_lt}
+use Rattle.std.proofs.lemmas.Bool.Decides.{nat_tests}
+use Rattle.std.proofs.lemmas.Grind.{common_steps}
+use Rattle.blsm_model.specs.declared.history.Why.{Why}
+use Rattle.blsm_model.specs.declared.history.Why.TheVariants.{Faulted, BadPage}
+use Rattle.blsm_model.specs.declared.history.Entry.{Entry}
+use Rattle.blsm_model.specs.declared.history.Line.{Line}
+use Rattle.blsm_model.specs.declared.history.Totals.{Totals}
+use Rattle.blsm_model.specs.Legal.{IsLegal}
+use Rattle.blsm_model.proofs.ScriptLemmas.{of_script}
+use Rattle.blsm_model.specs.Book.{Book}
+use Rattle.disk_trait.specs.Disk.{DiskState}
+use Rattle.blsm_run.specs.Memory.{Memory, StandsFor, StopIsTold, FitFrom, fault_count, is_untroubled}
+use Rattle.blsm_run.specs.StoreState.{IsStoppedByFault}
+use Rattle.blsm_run.specs.Outcome.{Run}
+use Rattle.blsm_run.proofs.MemoryLemmas.{stands_start}
+use Rattle.blsm_run.specs.Run.{asked, asked_in}
+use Rattle.blsm_run.specs.Cause.{HasFinished, charge_limit}
+
+abbrev pub totals_of : Memory → Totals
+totals_of m = record { peak = m.peak; high = 2 * m.limit; callers = 0; workers = 0; passes = 0; deeps = 0; charge = m.charge; stopped = m.stopped }
+
+abbrev pub run_with : Book → Totals → Run
+run_with book totals = record { charge = 0; entries = book.entries; quanta = book.quanta; totals = totals }
+
+faults_counted : (stopped : Option Why) (count faults : ℕ) → count ≤ length (option_to_list stopped) → IsStoppedByFault stopped faults → count ≤ faults
+faults_counted None count faults few stop = omega arith
+faults_counted (Some (Faulted n)) count faults few stop = omega (arith, stop.0, stop.1)
+faults_counted (Some (BadPage page)) count faults few stop = absurd stop
+
+troubles_counted : (stopped : Option Why) (history : List Entry) (faults : ℕ) → StopIsTold stopped history → IsStoppedByFault stopped faults → is_untroubled history ≡ false → 0 < faults
+troubles_counted None history faults told stop trouble = let wrong : true ≡ false = sym told.1 ∙ trouble in cc
+troubles_counted (Some (Faulted n)) history faults told stop trouble = omega (arith, stop.0, stop.1)
+troubles_counted (Some (BadPage page)) history faults told stop trouble = absurd stop
+
+finished_by : (lines : List Line) (m : Memory) (totals : Totals) (faulted : Bool) (last : DiskState) → StandsFor [] 0 m → asked_in m.book.entries ≡ asked lines → m.limit ≡ charge_limit
+    → totals ≡ totals_of m → IsStoppedByFault m.stopped last.faults → m.peak ≤ m.limit → faulted ≡ nat_lt 0 last.faults
+    → HasFinished lines (run_with m.book totals) (IsTrue faulted) last
+finished_by lines m totals faulted last s same limit is stop within test = record {
+  run_of = record {
+    of_script = of_script lines m.book.entries same;
+    legal = subst (λ (n : ℕ). IsLegal (record { opening = 0; dels = n; others = n }) [] m.book.entries) limit s.legal;
+    fit = subst (λ (n : ℕ). FitFrom n 0 [] m.book.entries) limit s.fit;
+    no_page = s.no_page;
+    quanta = s.quanta;
+    opening = refl;
+    peak = ap (λ (t : Totals). t.peak) is ∙ s.peak;
+    high = ap (λ (t : Totals). t.high) is ∙ ap (λ n. 2 * n) limit;
+    within = let peak : totals.peak ≡ m.peak = ap (λ (t : Totals). t.peak) is in omega arith;
+    callers = ap (λ (t : Totals). t.callers) is;
+    workers = ap (λ (t : Totals). t.workers) is;
+    passes = ap (λ (t : Totals). t.passes) is;
+    deeps = ap (λ (t : Totals). t.deeps) is;
+    charge = let charge : totals.charge ≡ m.charge = ap (λ (t : Totals). t.charge) is in omega (arith, s.charge);
+  };
+  faults = faults_counted m.stopped (fault_count m.book.entries) last.faults s.faults stop;
+  troubles = troubles_counted m.stopped m.book.entries last.faults s.stop stop;
+  counted = grind (arith, common_steps, nat_tests);
+  calm = grind (arith, common_steps, nat_tests);
+}
+
+-- a store that began with nothing, and ran these lines
+pub finished : (lines : List Line) (start m : Memory) (first book : Book) (totals : Totals) (faulted : Bool) (last : DiskState)
+    → first.entries ≡ [] → first.quanta ≡ [] → (limit : ℕ) → limit ≡ charge_limit → start ≡ record { table = []; book = first; charge = 0; limit = limit; peak = 0; stopped = None }
+    → (StandsFor [] 0 start → StandsFor [] 0 m) → asked_in m.book.entries ≡ asked_in start.book.entries ++ asked lines → m.limit ≡ start.limit
+    → book ≡ m.book → totals ≡ totals_of m → IsStoppedByFault m.stopped last.faults → m.peak ≤ m.limit → faulted ≡ nat_lt 0 last.faults
+    → HasFinished lines (run_with book totals) (IsTrue faulted) last
+finished lines start m first book totals faulted last entries quanta limit is_limit begins keeps same kept is_book is stop within test =
+    let empty : first ≡ record { entries = []; quanta = []; room = first.room } = λ i. record { entries = entries i; quanta = quanta i; room = first.room } in
+    let begun : start ≡ record { table = []; book = record { entries = []; quanta = []; room = first.room }; charge = 0; limit = limit; peak = 0; stopped = None } =
+    begins ∙ ap (λ b. record { table = []; book = b; charge = 0; limit = limit; peak = 0; stopped = None }) empty in
+    let stands : StandsFor [] 0 start = subst (StandsFor [] 0) (sym begun) (stands_start limit first.room) in
+    subst (λ b. HasFinished lines (run_with b totals) (IsTrue faulted) last) (sym is_book)
+    (finished_by lines m totals faulted last (keeps stands) (same ∙ ap (λ (k : Memory). asked_in k.book.entries ++ asked lines) begun)
+    (kept ∙ ap (λ (k : Memory). k.limit) begins ∙ is_limit) is stop within test)

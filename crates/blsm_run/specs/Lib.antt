@@ -1,0 +1,13 @@
+pub mod Words
+pub mod Outside
+pub mod Outcome
+pub mod Making
+pub mod MemoryTable
+pub mod Memory
+pub mod StoreState
+pub mod Rooms
+pub mod Run
+pub mod Cause
+pub mod Session
+pub mod Reading
+pub mod Answer

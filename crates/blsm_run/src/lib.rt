@@ -1,0 +1,15 @@
+//! The program's one call: it reads the words and the script, runs the script over one store, and prints the history.
+//! `main` calls it, and does nothing else.
+#![tactic(auto)]
+
+mod answer;
+mod making;
+mod perform;
+mod run;
+mod session;
+mod status;
+mod store;
+mod words;
+
+pub use run::blsm_run;
+pub use status::Status;

@@ -1,0 +1,35 @@
+//! How a call ends.
+
+/// How a call ends. The numbers are the exit statuses.
+#[derive(Clone, Copy, Debug, PartialEq, Eq)]
+pub enum Status {
+    /// The script was run, and no call of the disk failed.
+    Done = 0,
+    /// The words are not accepted.
+    Usage = 1,
+    /// A line of the script is outside the grammar or past a limit.
+    BadLine = 2,
+    /// The script has more than 8,388,608 bytes.
+    TooBig = 3,
+    /// The disk is no store.
+    NotAStore = 4,
+    /// The disk is to be made into a store, and has bytes already.
+    NotEmpty = 5,
+    /// A part of the store is not of the written form.
+    Damaged = 6,
+    /// The shelf or the disk failed.
+    DiskFault = 7,
+    /// The source failed.
+    SourceFault = 8,
+    /// The sink failed: what was written is a front of the text.
+    SinkFault = 9,
+    /// Memory was refused, before the first command.
+    NoMemory = 10,
+}
+
+impl Status {
+    /// The exit status.
+    pub fn code(self) -> u8 {
+        self as u8
+    }
+}

@@ -1,0 +1,6 @@
+mod Noted
+mod Patches
+mod Pieces
+mod Results
+mod Steps
+mod Told

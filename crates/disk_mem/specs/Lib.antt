@@ -1,0 +1,13 @@
+pub mod Calls
+pub mod Changes
+pub mod Events
+pub mod Faultless
+pub mod Images
+pub mod Laws
+pub mod Places
+pub mod Recorded
+pub mod Recorder
+pub mod Replayed
+pub mod Shelved
+pub mod Start
+pub mod Stock

@@ -1,0 +1,202 @@
+// A disk in memory that keeps a record of its calls, by which it tells what a crash at each moment may leave.
+ghost use Rattle.std.specs.Prelude.{◌≡◌, ◌⊎◌, ◌<◌, ◌≤◌, ◌+◌, ◌↔◌, max, false, IsTrue, IsErr, IsOk, OnOk, OnErr, IfOk, refl, List, ℕ, [], ◌∷◌, ◌++◌, length, is_ok};
+ghost use Rattle.refusal.specs.Count.{HasRisen};
+ghost use Rattle.disk_trait.specs.Disk.{Passes, MarksSync, WritesNothing, WritesWithin, ChangesNothing, KeepsImages, LeavesAnyBytes, Only, IsSure, part, overwritten};
+ghost use Rattle.disk_mem.specs.Recorded.{new_disk, told, look, sync_call, write_call, Fails, Outcome};
+ghost use Rattle.disk_mem.specs.Start.{StartsAs};
+ghost use Rattle.disk_mem.specs.Laws.{told_timed, told_as_read};
+
+use crate::recorder::Recorder;
+use disk_trait::Disk;
+use refusal::{Failed, NoMemory};
+use std::alloc::Global;
+use std::marker::Model;
+
+/// A disk in memory. All numbers are bytes, and calls are counted from 1 since it was made.
+///
+/// It keeps a record of its calls, of a size that is chosen when it is made: a call takes 16 bytes, a write also the bytes that
+/// it was to write. By it the disk tells what a crash at each moment might have left. A call fails past its record, where it is
+/// listed, after the stop, past the end of the bytes, and where a write ends past the limit; else it ends well. Once a call came
+/// past the record, each later one does.
+#[derive(Drop)]
+pub struct MemDisk {
+    recorder: Recorder,
+}
+
+impl Model for MemDisk {
+    ghost use Rattle.disk_mem.specs.Recorded.{Recorded};
+    ghost use Rattle.disk_mem.specs.Recorder.{recorded};
+
+    ghost Value = { Recorded };
+
+    ghost view = { λ d. recorded d.recorder };
+}
+
+impl MemDisk {
+    /// An empty disk with room for `limit` bytes and a record of `kept` bytes.
+    pub fn new(alloc: Global, limit: u64, kept: u64) -> Result<MemDisk, NoMemory>
+        ensures made { IfOk result (λ d. d ≡ new_disk [] limit kept) }
+        ensures starts { IfOk result (λ d. StartsAs [] (told d)) }
+    {
+        Ok(MemDisk {
+            recorder: Recorder::new(alloc, &[], limit, kept)?,
+        })
+    }
+
+    /// Lists one call more that is to fail, by its number. One that was answered already changes nothing.
+    pub fn fail(&mut self, call: u64) -> Result<(), NoMemory>
+        ensures ok { OnOk result (self.new ≡ record self.old { fails = self.old.fails ++ call ∷ [] }) }
+        ensures err { OnErr result (self.new ≡ self.old) }
+    {
+        self.recorder.fail(call)
+    }
+
+    /// Every call after this number fails.
+    pub fn stop_after(&mut self, call: u64)
+        ensures { self.new ≡ record self.old { stop = call } }
+    {
+        self.recorder.stop_after(call);
+    }
+
+    /// Before this call the bytes at an offset change, by no call of the disk, which is no longer honest. What lies past the end
+    /// is left out.
+    pub fn poke(&mut self, call: u64, at: u64, bytes: &[u8]) -> Result<(), NoMemory>
+        ensures ok { OnOk result (self.new ≡ record self.old { changes = self.old.changes
+            ++ record { call = call; at = at; bytes = bytes.now } ∷ [] }) }
+        ensures dishonest { OnOk result ((told self.new).is_honest ≡ false) }
+        ensures err { OnErr result (self.new ≡ self.old) }
+    {
+        self.recorder.poke(call, at, bytes)
+    }
+
+    /// A disk of the same limit and record size that holds one of the images which a crash now may leave, with no call answered
+    /// yet and none that is to fail.
+    ///
+    /// The number picks the image. It has one digit for each write since the last sync that ended well, failed writes too, the
+    /// first write's digit lowest. A write of n bytes has a digit below 2 * (n + 1): up to n, so many bytes of the write from its
+    /// beginning stand in the image; from n + 1 on, after digit - n - 1 of them one byte follows that is neither the old nor the
+    /// new one; the greatest digit writes zeros over the whole range. Over all numbers the images are those where each write
+    /// stands not at all, in part, or in whole, whatever the others do.
+    pub fn image(&self, pick: u64) -> Result<MemDisk, NoMemory>
+        ensures image { IfOk result (λ d. (image : List ℕ) × (told self.now).images image
+            × (d ≡ new_disk image self.now.limit self.now.kept)) }
+        ensures starts { IfOk result (λ d. StartsAs d.bytes (told d)) }
+    {
+        Ok(MemDisk {
+            recorder: self.recorder.image(pick)?,
+        })
+    }
+}
+
+impl MemDisk {
+    /// The same disk with its count of faults at 0.
+    pub(crate) fn without_faults(self) -> MemDisk
+        ensures { result ≡ record self { faults = 0 } }
+    {
+        MemDisk {
+            recorder: self.recorder.without_faults(),
+        }
+    }
+}
+
+impl Disk for MemDisk {
+    ghost state = { told };
+
+    ghost timed = { told_timed };
+
+    ghost as_read = { λ d honest tells. told_as_read d honest };
+
+    ghost honest_tells = { λ d honest. refl };
+
+    ghost images_tell = { λ d tells. refl };
+
+    fn len(&mut self) -> Result<u64, Failed>
+        ensures passes { Passes (told self.old) (told self.new) }
+        ensures no_sync { MarksSync ⊥ (told self.old) (told self.new) }
+        ensures same { WritesNothing (told self.old) (told self.new) }
+        ensures images { KeepsImages (told self.old) (told self.new) }
+        ensures sure { IsSure 0 (told self.old) (told self.new) }
+        ensures length { IfOk result (λ n. IsTrue (told self.old).tells_bytes → n ≡ length (told self.new).bytes) }
+        ensures stands { OnOk result ((told self.new).faults ≡ (told self.old).faults) }
+        ensures failed { IsErr result → HasRisen (told self.old).faults (told self.new).faults }
+
+        // It fails exactly where it is listed, after the stop, and past the record.
+        ensures cause { IsErr result → Fails (look 0) self.old }
+        ensures fails { Fails (look 0) self.old → IsErr result }
+        ensures outcome { Outcome (look 0) self.old self.new (is_ok result) }
+    {
+        self.recorder.len()
+    }
+
+    fn read(&mut self, at: u64, into: &mut [u8]) -> Result<(), Failed>
+        ensures passes { Passes (told self.old) (told self.new) }
+        ensures no_sync { MarksSync ⊥ (told self.old) (told self.new) }
+        ensures same { WritesNothing (told self.old) (told self.new) }
+        ensures images { KeepsImages (told self.old) (told self.new) }
+        ensures sure { IsSure (at + length into.old) (told self.old) (told self.new) }
+        ensures bytes { OnOk result (IsTrue (told self.old).tells_bytes → into.new ≡ part (told self.new).bytes at (length into.old)) }
+        ensures past_end { IsTrue (told self.old).tells_bytes → length (told self.old).bytes < at + length into.old
+            → IsErr result × ((told self.new).faults ≡ (told self.old).faults) }
+        ensures stands { OnOk result ((told self.new).faults ≡ (told self.old).faults) }
+        ensures failed { IsErr result → HasRisen (told self.old).faults (told self.new).faults
+            ⊎ (IsTrue (told self.old).tells_bytes × (length (told self.old).bytes < at + length into.old)) }
+
+        // It fails exactly where it is listed, after the stop, past the record, and where the range ends past the bytes.
+        ensures cause { IsErr result → Fails (look (at + length into.old)) self.old }
+        ensures fails { Fails (look (at + length into.old)) self.old → IsErr result }
+        ensures outcome { Outcome (look (at + length into.old)) self.old self.new (is_ok result) }
+    {
+        self.recorder.read(at, into)
+    }
+
+    fn write(&mut self, at: u64, from: &[u8]) -> Result<(), Failed>
+        ensures passes { Passes (told self.old) (told self.new) }
+        ensures no_sync { MarksSync ⊥ (told self.old) (told self.new) }
+        ensures within { WritesWithin at (length from.now) (told self.old) (told self.new) }
+        ensures sure { IsSure (at + length from.now) (told self.old) (told self.new) }
+        ensures bytes { OnOk result (IsTrue (told self.old).is_honest
+            → (told self.new).bytes ≡ overwritten (told self.old).bytes at from.now) }
+        ensures length { OnOk result (IsTrue (told self.old).tells_bytes
+            → length (told self.new).bytes ≡ max (length (told self.old).bytes) (at + length from.now)) }
+        ensures any_bytes { IsTrue (told self.new).is_noted → at ≤ length (told self.old).bytes
+            → LeavesAnyBytes at (length from.now) (told self.old) (told self.new) }
+        ensures noted { OnOk result (IsTrue (told self.new).is_noted) }
+        ensures unnoted { (told self.new).is_noted ≡ false → ChangesNothing (told self.old) (told self.new) }
+        ensures past_end { IsTrue (told self.old).tells_bytes → length (told self.old).bytes < at
+            → IsErr result × ((told self.new).faults ≡ (told self.old).faults) }
+        ensures untouched { IsTrue (told self.old).tells_bytes → length (told self.old).bytes < at
+            → ChangesNothing (told self.old) (told self.new) }
+        ensures stands { OnOk result ((told self.new).faults ≡ (told self.old).faults) }
+        ensures failed { IsErr result → HasRisen (told self.old).faults (told self.new).faults
+            ⊎ (IsTrue (told self.old).tells_bytes × (length (told self.old).bytes < at)) }
+
+        // It fails exactly where it is listed, after the stop, past the record, where it begins past the bytes, and where it ends past the limit.
+        ensures cause { IsErr result → Fails (write_call at from.now) self.old }
+        ensures fails { Fails (write_call at from.now) self.old → IsErr result }
+        ensures outcome { Outcome (write_call at from.now) self.old self.new (is_ok result) }
+    {
+        self.recorder.write(at, from)
+    }
+
+    fn sync(&mut self) -> Result<(), Failed>
+        ensures passes { Passes (told self.old) (told self.new) }
+        ensures marks { MarksSync (IsOk result) (told self.old) (told self.new) }
+        ensures same { WritesNothing (told self.old) (told self.new) }
+        ensures sure { IsSure 0 (told self.old) (told self.new) }
+        ensures durable { OnOk result (IsTrue (told self.old).is_honest → Only (told self.new).bytes (told self.new).images) }
+        ensures unsettled { OnErr result (KeepsImages (told self.old) (told self.new)) }
+        ensures stands { OnOk result ((told self.new).faults ≡ (told self.old).faults) }
+        ensures failed { IsErr result → HasRisen (told self.old).faults (told self.new).faults }
+
+        // It fails exactly where it is listed, after the stop, and past the record.
+        ensures cause { IsErr result → Fails sync_call self.old }
+        ensures fails { Fails sync_call self.old → IsErr result }
+        ensures outcome { Outcome sync_call self.old self.new (is_ok result) }
+    {
+        self.recorder.sync()
+    }
+
+    fn faults(&self) -> u64 {
+        self.recorder.faults()
+    }
+}

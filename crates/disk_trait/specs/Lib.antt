@@ -1,0 +1,6 @@
+pub mod Disk
+pub mod Moments
+pub mod Parts
+pub mod Shelf
+pub mod Untold
+pub mod Writes

@@ -1,0 +1,266 @@
+-- Spellings: how long they are, and that none begins another.
+use Rattle.std.proofs.Common.{◌≡◌, ℕ, zero, suc, ◌+◌, ◌^◌, ◌<◌, ◌≤◌, List, [], ◌∷◌, ◌++◌, length, get_or, take, drop, true, false, Option, Some, None, ◌⊎◌, inl, inr, refl, ap, sym, ◌∙◌, append_assoc, length-append, length-drop, arith}
+use Rattle.std.specs.Prelude.{IfSome, IfNone, is_some, unwrap_or}
+use Rattle.std.specs.Int.{w16, w64, to_be_bytes, from_be_bytes}
+use Rattle.std.proofs.lemmas.Bool.{cases_lt, false≢true}
+use Rattle.std.proofs.lemmas.List.{take_at, drop_at, take-append-drop, length-take}
+use Rattle.std.proofs.lemmas.Nat.{be_bytes_2, be_bytes_8, from_be_bytes-to_be_bytes_2, from_be_bytes-to_be_bytes_8}
+use Rattle.blsm_model.specs.declared.key.Key.{Key}
+use Rattle.record_delta.specs.declared.record.Rec.{Rec}
+use Rattle.record_delta.specs.declared.record.Rec.TheVariants.{Base, Delta, Tomb}
+use Rattle.record_delta.specs.Records.{text_of, weight}
+use Rattle.entry_codec.specs.declared.decoding.Head.{Head}
+use Rattle.entry_codec.specs.Spelling.{kind_of, count_of, head, head_of, spelling, IsEntry, BeginsWith}
+use Rattle.entry_codec.specs.Reading.{InRange, AreAt, IsOf, HasParts}
+
+-- ---- lengths
+
+pub length-head : (kind key_len text_len count : ℕ) → length (head kind key_len text_len count) ≡ 13
+unfolding head
+length-head kind key_len text_len count = refl
+
+pub length-spelling : (key : Key) (rec : Rec) → length (spelling key rec) ≡ weight key rec
+unfolding spelling
+length-spelling key rec =
+    omega (arith, length-append (head_of key rec ++ key) (text_of rec), length-append (head_of key rec) key, length-head (kind_of rec) (length key) (length (text_of rec)) (count_of rec))
+
+-- ---- the head
+
+abbrev pub IsBytes : List ℕ → Type 0
+IsBytes bytes = (i : ℕ) → get_or bytes i 0 < 256
+
+no_bytes : IsBytes []
+no_bytes i = omega arith
+
+one_more : (b : ℕ) (bytes : List ℕ) → b < 256 → IsBytes bytes → IsBytes (b ∷ bytes)
+one_more b bytes h fits zero = h
+one_more b bytes h fits (suc i) = fits i
+
+-- the cells of the head, one by one
+cells : (bytes : List ℕ) → 13 ≤ length bytes → bytes ≡
+    get_or bytes 0 0 ∷ get_or bytes 1 0 ∷ get_or bytes 2 0 ∷ get_or bytes 3 0 ∷ get_or bytes 4 0 ∷ get_or bytes 5 0 ∷ get_or bytes 6 0 ∷ get_or bytes 7 0
+    ∷ get_or bytes 8 0 ∷ get_or bytes 9 0 ∷ get_or bytes 10 0 ∷ get_or bytes 11 0 ∷ get_or bytes 12 0 ∷ drop 13 bytes
+cells (b0 ∷ b1 ∷ b2 ∷ b3 ∷ b4 ∷ b5 ∷ b6 ∷ b7 ∷ b8 ∷ b9 ∷ b10 ∷ b11 ∷ b12 ∷ rest) long = refl
+cells _ long = absurd (omega arith)
+
+-- numbers that are read and written again
+pair : (a b : ℕ) → a < 256 → b < 256 → to_be_bytes w16 (from_be_bytes w16 (a ∷ b ∷ [])) ≡ a ∷ b ∷ []
+pair a b la lb = be_bytes_2 (a ∷ b ∷ []) (from_be_bytes w16 (a ∷ b ∷ [])) refl (one_more a (b ∷ []) la (one_more b [] lb no_bytes)) refl
+
+eight : (a b c d e f g h : ℕ) → a < 256 → b < 256 → c < 256 → d < 256 → e < 256 → f < 256 → g < 256 → h < 256
+    → to_be_bytes w64 (from_be_bytes w64 (a ∷ b ∷ c ∷ d ∷ e ∷ f ∷ g ∷ h ∷ [])) ≡ a ∷ b ∷ c ∷ d ∷ e ∷ f ∷ g ∷ h ∷ []
+eight a b c d e f g h la lb lc ld le lf lg lh =
+    let h_fits = one_more h [] lh no_bytes in
+    let g_fits = one_more g (h ∷ []) lg h_fits in
+    let f_fits = one_more f (g ∷ h ∷ []) lf g_fits in
+    let e_fits = one_more e (f ∷ g ∷ h ∷ []) le f_fits in
+    let d_fits = one_more d (e ∷ f ∷ g ∷ h ∷ []) ld e_fits in
+    let c_fits = one_more c (d ∷ e ∷ f ∷ g ∷ h ∷ []) lc d_fits in
+    let b_fits = one_more b (c ∷ d ∷ e ∷ f ∷ g ∷ h ∷ []) lb c_fits in
+    let a_fits = one_more a (b ∷ c ∷ d ∷ e ∷ f ∷ g ∷ h ∷ []) la b_fits in
+    be_bytes_8 (a ∷ b ∷ c ∷ d ∷ e ∷ f ∷ g ∷ h ∷ []) (from_be_bytes w64 (a ∷ b ∷ c ∷ d ∷ e ∷ f ∷ g ∷ h ∷ [])) refl a_fits refl
+
+glue : ℕ → List ℕ → List ℕ → List ℕ → List ℕ → List ℕ
+glue kind key_len text_len count rest = (kind ∷ (key_len ++ text_len ++ count)) ++ rest
+
+-- thirteen bytes or more begin with the head of the numbers that are read there
+pub head_read : (bytes : List ℕ) → 13 ≤ length bytes → IsBytes bytes → bytes ≡
+    head (get_or bytes 0 0) (from_be_bytes w16 (get_or bytes 1 0 ∷ get_or bytes 2 0 ∷ [])) (from_be_bytes w16 (get_or bytes 3 0 ∷ get_or bytes 4 0 ∷ []))
+    (from_be_bytes w64 (get_or bytes 5 0 ∷ get_or bytes 6 0 ∷ get_or bytes 7 0 ∷ get_or bytes 8 0 ∷ get_or bytes 9 0 ∷ get_or bytes 10 0 ∷ get_or bytes 11 0 ∷ get_or bytes 12 0 ∷ []))
+    ++ drop 13 bytes
+unfolding head glue
+head_read bytes long fits =
+    let rest : List ℕ = drop 13 bytes in
+    let kind : ℕ = get_or bytes 0 0 in
+    let key_len : List ℕ = get_or bytes 1 0 ∷ get_or bytes 2 0 ∷ [] in
+    let text_len : List ℕ = get_or bytes 3 0 ∷ get_or bytes 4 0 ∷ [] in
+    let count : List ℕ = get_or bytes 5 0 ∷ get_or bytes 6 0 ∷ get_or bytes 7 0 ∷ get_or bytes 8 0 ∷ get_or bytes 9 0 ∷ get_or bytes 10 0 ∷ get_or bytes 11 0 ∷ get_or bytes 12 0 ∷ [] in
+    cells bytes long
+    ∙ sym (
+    ap (λ n. glue kind n (to_be_bytes w16 (from_be_bytes w16 text_len)) (to_be_bytes w64 (from_be_bytes w64 count)) rest) (pair _ _ (fits 1) (fits 2))
+    ∙ ap (λ n. glue kind key_len n (to_be_bytes w64 (from_be_bytes w64 count)) rest) (pair _ _ (fits 3) (fits 4))
+    ∙ ap (λ n. glue kind key_len text_len n rest) (eight _ _ _ _ _ _ _ _ (fits 5) (fits 6) (fits 7) (fits 8) (fits 9) (fits 10) (fits 11) (fits 12)))
+
+-- two fronts of one length
+front_same : (a b x y : List ℕ) → length a ≡ length b → a ++ x ≡ b ++ y → (a ≡ b) × (x ≡ y)
+front_same a b x y len same = (
+  sym (take_at a x (length b) len) ∙ ap (take (length b)) same ∙ take_at b y (length b) refl,
+  sym (drop_at a x (length b) len) ∙ ap (drop (length b)) same ∙ drop_at b y (length b) refl,
+)
+
+-- two heads of the same numbers
+pub record SameHead (kind key_len text_len count kind' key_len' text_len' count' : ℕ) (x y : List ℕ) : Type 0 where
+  pub kind_is : kind ≡ kind'
+  pub key_len_is : key_len ≡ key_len'
+  pub text_len_is : text_len ≡ text_len'
+  pub count_is : count ≡ count'
+  pub rest_is : x ≡ y
+
+same16 : (n m : ℕ) → n < 2 ^ 16 → m < 2 ^ 16 → to_be_bytes w16 n ≡ to_be_bytes w16 m → n ≡ m
+same16 n m ln lm e = sym (from_be_bytes-to_be_bytes_2 n ln) ∙ ap (from_be_bytes w16) e ∙ from_be_bytes-to_be_bytes_2 m lm
+
+same64 : (n m : ℕ) → n < 2 ^ 64 → m < 2 ^ 64 → to_be_bytes w64 n ≡ to_be_bytes w64 m → n ≡ m
+same64 n m ln lm e = sym (from_be_bytes-to_be_bytes_8 n ln) ∙ ap (from_be_bytes w64) e ∙ from_be_bytes-to_be_bytes_8 m lm
+
+pub head_same : (kind key_len text_len count kind' key_len' text_len' count' : ℕ) (x y : List ℕ)
+    → key_len < 2 ^ 16 → key_len' < 2 ^ 16 → text_len < 2 ^ 16 → text_len' < 2 ^ 16 → count < 2 ^ 64 → count' < 2 ^ 64
+    → head kind key_len text_len count ++ x ≡ head kind' key_len' text_len' count' ++ y
+    → SameHead kind key_len text_len count kind' key_len' text_len' count' x y
+unfolding head
+head_same kind key_len text_len count kind' key_len' text_len' count' x y k k' t t' c c' same =
+    let parts = front_same (head kind key_len text_len count) (head kind' key_len' text_len' count') x y refl same in
+    record {
+      kind_is = ap (λ l. get_or l 0 0) parts.0;
+      key_len_is = same16 key_len key_len' k k' (ap (λ l. take 2 (drop 1 l)) parts.0);
+      text_len_is = same16 text_len text_len' t t' (ap (λ l. take 2 (drop 3 l)) parts.0);
+      count_is = same64 count count' c c' (ap (λ l. take 8 (drop 5 l)) parts.0);
+      rest_is = parts.1;
+    }
+
+-- ---- entries
+
+-- a record is its kind, its count and its text
+pub rec_same : (r s : Rec) → kind_of r ≡ kind_of s → count_of r ≡ count_of s → text_of r ≡ text_of s → r ≡ s
+rec_same (Base v) (Base w) kind count text = ap (λ n. Base (record { count = n; text = v.text })) count ∙ ap (λ t. Base (record { count = w.count; text = t })) text
+rec_same (Delta m) (Delta n) kind count text = ap (λ n. Delta n) count
+rec_same Tomb Tomb kind count text = refl
+rec_same _ _ kind count text = absurd (omega arith)
+
+-- the head, and then the key and the text
+pub spelled : (key : Key) (rec : Rec) (rest : List ℕ) → spelling key rec ++ rest ≡ head_of key rec ++ (key ++ text_of rec ++ rest)
+unfolding spelling
+spelled key rec rest =
+    append_assoc (head_of key rec ++ key) (text_of rec) rest ∙ append_assoc (head_of key rec) key (text_of rec ++ rest)
+    ∙ ap (λ l. head_of key rec ++ l) (sym (append_assoc key (text_of rec) rest))
+
+-- ---- what is read is spelled so, and what is spelled so is read
+
+pub to_parts : (bytes rest : List ℕ) (h : Head) (key : Key) (rec : Rec) → InRange h → bytes ≡ head h.kind h.key_len h.text_len h.count ++ rest
+    → BeginsWith bytes key rec → HasParts h rest key rec
+to_parts bytes rest h key rec range read b =
+    let whole : head_of key rec ++ (key ++ text_of rec ++ b.rest) ≡ head h.kind h.key_len h.text_len h.count ++ rest = sym (spelled key rec b.rest) ∙ sym b.parts ∙ read in
+    let e = b.entry in
+    let key_most = e.key_most in
+    let text_most = e.text_most in
+    let same = head_same (kind_of rec) (length key) (length (text_of rec)) (count_of rec) h.kind h.key_len h.text_len h.count (key ++ text_of rec ++ b.rest) rest
+    (omega arith) range.key_len (omega arith) range.text_len e.count_fits range.count whole in
+    record {
+      entry = b.entry;
+      kind_is = same.kind_is;
+      key_len_is = same.key_len_is;
+      text_len_is = same.text_len_is;
+      count_is = same.count_is;
+      rest = b.rest;
+      parts = sym same.rest_is;
+    }
+
+pub from_parts : (bytes rest : List ℕ) (h : Head) (key : Key) (rec : Rec) → bytes ≡ head h.kind h.key_len h.text_len h.count ++ rest
+    → HasParts h rest key rec → BeginsWith bytes key rec
+from_parts bytes rest h key rec read p =
+    let heads : head_of key rec ≡ head h.kind h.key_len h.text_len h.count = rw (p.kind_is, p.key_len_is, p.text_len_is, p.count_is) refl in
+    record {
+      entry = p.entry;
+      rest = p.rest;
+      parts = read ∙ ap (λ l. l ++ rest) (sym heads) ∙ ap (λ l. head_of key rec ++ l) p.parts ∙ sym (spelled key rec p.rest);
+    }
+
+-- where two spellings begin the same bytes, they are of one entry
+pub entry_same : (a b : Key) (r s : Rec) (x y : List ℕ) → IsEntry a r → IsEntry b s → spelling a r ++ x ≡ spelling b s ++ y → (a ≡ b) × (r ≡ s) × (x ≡ y)
+entry_same a b r s x y ea eb same =
+    let ka = ea.key_most in
+    let kb = eb.key_most in
+    let ta = ea.text_most in
+    let tb = eb.text_most in
+    let heads = head_same (kind_of r) (length a) (length (text_of r)) (count_of r) (kind_of s) (length b) (length (text_of s)) (count_of s) (a ++ text_of r ++ x) (b ++ text_of s ++ y)
+    (omega arith) (omega arith) (omega arith) (omega arith) ea.count_fits eb.count_fits (sym (spelled a r x) ∙ same ∙ spelled b s y) in
+    let keys = front_same a b (text_of r ++ x) (text_of s ++ y) heads.key_len_is (sym (append_assoc a (text_of r) x) ∙ heads.rest_is ∙ append_assoc b (text_of s) y) in
+    let texts = front_same (text_of r) (text_of s) x y heads.text_len_is keys.1 in
+    (keys.0, rec_same r s heads.kind_is heads.count_is texts.0, texts.1)
+
+-- too few bytes for any entry
+pub too_short : (bytes : List ℕ) → length bytes < 13 → (key : Key) (rec : Rec) → BeginsWith bytes key rec → ⊥
+too_short bytes short key rec b = omega (arith, ap (length {A = ℕ}) b.parts, length-append (spelling key rec) b.rest, length-spelling key rec)
+
+-- ---- part by part
+
+pub key_bounds : (n : ℕ) → ((n ≡ 0) ⊎ (64 < n) → true ≡ false) → (1 ≤ n) × (n ≤ 64)
+key_bounds n some = (above, below)
+  where
+    above : 1 ≤ n
+    above =
+        elim (cases_lt 0 n) [
+          | inl lt ↦ omega arith
+          | inr le ↦ let wrong : true ≡ false = some (inl (omega arith)) in absurd cc
+        ]
+
+    below : n ≤ 64
+    below =
+        elim (cases_lt 64 n) [
+          | inl lt ↦ let wrong : true ≡ false = some (inr lt) in absurd cc
+          | inr le ↦ le
+        ]
+
+pub text_bound : (n : ℕ) → (435 < n → true ≡ false) → n ≤ 435
+text_bound n some =
+    elim (cases_lt 435 n) [
+      | inl lt ↦ let wrong : true ≡ false = some lt in absurd cc
+      | inr le ↦ le
+    ]
+
+pub are_read : (bytes : List ℕ) (key_len text_len : ℕ) (key text : List ℕ) → key_len + text_len ≤ length bytes → key ≡ take key_len bytes → text ≡ take text_len (drop key_len bytes)
+    → (1 ≤ length key) × (length key ≤ 64) → length text ≤ 435 → AreAt bytes key_len text_len key text
+are_read bytes key_len text_len key text long key_is text_is key_fits text_fits =
+    record {
+      key_len_is = omega (arith, ap (length {A = ℕ}) key_is, length-take key_len bytes);
+      text_len_is = omega (arith, ap (length {A = ℕ}) text_is, length-take text_len (drop key_len bytes), length-drop key_len bytes);
+      key_least = key_fits.0;
+      key_most = key_fits.1;
+      text_most = text_fits;
+      rest = drop text_len (drop key_len bytes);
+      parts =
+          sym (take-append-drop key_len bytes)
+          ∙ ap (λ l. take key_len bytes ++ l) (sym (take-append-drop text_len (drop key_len bytes)))
+          ∙ sym (append_assoc (take key_len bytes) (take text_len (drop key_len bytes)) (drop text_len (drop key_len bytes)))
+          ∙ ap (λ l. l ++ take text_len (drop key_len bytes) ++ drop text_len (drop key_len bytes)) (sym key_is)
+          ∙ ap (λ l. key ++ l ++ drop text_len (drop key_len bytes)) (sym text_is);
+    }
+
+pub key_and_text_at : (h : Head) (bytes : List ℕ) (key : Key) (rec : Rec) → HasParts h bytes key rec → AreAt bytes h.key_len h.text_len key (text_of rec)
+key_and_text_at h bytes key rec p =
+    record {
+      key_len_is = p.key_len_is;
+      text_len_is = p.text_len_is;
+      key_least = p.entry.key_least;
+      key_most = p.entry.key_most;
+      text_most = p.entry.text_most;
+      rest = p.rest;
+      parts = p.parts;
+    }
+
+pub of_kind : (h : Head) (bytes : List ℕ) (key : Key) (rec : Rec) (text : List ℕ) → HasParts h bytes key rec → text_of rec ≡ text → IsOf h.kind h.count text rec
+of_kind h bytes key rec text p text_is = record { kind_is = p.kind_is; count_is = p.count_is; text_is = text_is }
+
+abbrev pub both : List ℕ → List ℕ → Option (List ℕ × List ℕ)
+both a b = Some (a, b)
+
+pub first_is : (a b c d : List ℕ) → both a b ≡ both c d → a ≡ c
+first_is a b c d e = ap (λ (o : Option (List ℕ × List ℕ)). (unwrap_or o (a, b)).0) e
+
+pub second_is : (a b c d : List ℕ) → both a b ≡ both c d → b ≡ d
+second_is a b c d e = ap (λ (o : Option (List ℕ × List ℕ)). (unwrap_or o (a, b)).1) e
+
+abbrev pub answer_of : Key → Rec → Option (Key × Rec × ℕ)
+answer_of key rec = Some (key, rec, weight key rec)
+
+nothing_is_no_answer : (key : Key) (rec : Rec) → None ≡ answer_of key rec → ⊥
+nothing_is_no_answer key rec e = false≢true (ap is_some e)
+
+pub none_whole : (bytes : List ℕ) (r : Option (Key × Rec × ℕ)) → ((key : Key) (rec : Rec) → BeginsWith bytes key rec → r ≡ answer_of key rec)
+    → IfNone r ((key : Key) (rec : Rec) → BeginsWith bytes key rec → ⊥)
+none_whole bytes None only = λ key rec begins. nothing_is_no_answer key rec (only key rec begins)
+none_whole bytes (Some e) only = tt
+
+pub found_whole : (bytes tail : List ℕ) (h : Head) (r : Option (Key × Rec × ℕ)) → bytes ≡ head h.kind h.key_len h.text_len h.count ++ tail
+    → IfSome r (λ e. HasParts h tail e.0 e.1 × (e.2 ≡ weight e.0 e.1)) → IfSome r (λ e. BeginsWith bytes e.0 e.1 × (e.2 ≡ weight e.0 e.1))
+found_whole bytes tail h None read found = tt
+found_whole bytes tail h (Some e) read found = (from_parts bytes tail h e.0 e.1 read found.0, found.1)

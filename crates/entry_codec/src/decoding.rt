@@ -1,0 +1,97 @@
+//! Reading an entry, from any bytes.
+ghost use Rattle.std.specs.Prelude.{◌≡◌, ◌+◌, ◌≤◌, ◌<◌, ◌++◌, ◌^◌, List, ℕ, Some, IfSome, IfNone, length, drop};
+ghost use Rattle.blsm_model.specs.declared.key.Key.{Key};
+ghost use Rattle.record_delta.specs.declared.record.Rec.{Rec};
+ghost use Rattle.record_delta.specs.Records.{weight};
+ghost use Rattle.entry_codec.specs.Spelling.{head, spelling, IsEntry, BeginsWith};
+ghost use Rattle.entry_codec.specs.Reading.{InRange, AreAt, IsOf, HasParts};
+
+use crate::format::{BASE, DELTA, HEAD_LEN, TOMB};
+use blsm_model::{Key, Text, Value};
+use record_delta::Rec;
+
+// What stands before the key.
+#[derive(Clone, Copy)]
+struct Head {
+    kind: u8,
+    key_len: u16,
+    text_len: u16,
+    count: u64,
+}
+
+fn head_at(bytes: &[u8]) -> Head
+    requires { HEAD_LEN ≤ length bytes.now }
+    ensures in_range { InRange result }
+    ensures parts { bytes.now ≡ head result.kind result.key_len result.text_len result.count ++ drop HEAD_LEN bytes.now }
+{
+    Head {
+        kind: bytes[0],
+        key_len: u16::from_be_bytes([bytes[1], bytes[2]]),
+        text_len: u16::from_be_bytes([bytes[3], bytes[4]]),
+        count: u64::from_be_bytes([
+            bytes[5], bytes[6], bytes[7], bytes[8], bytes[9], bytes[10], bytes[11], bytes[12],
+        ]),
+    }
+}
+
+// The key and the text of these lengths at the front, if they are a key and a text.
+fn key_and_text(bytes: &[u8], key_len: usize, text_len: usize) -> Option<(Key, Text)>
+    requires key { key_len < 2 ^ 16 }
+    requires text { text_len < 2 ^ 16 }
+    ensures found { IfSome result (λ p. AreAt bytes.now key_len text_len p.0 p.1) }
+    ensures only { (key text : List ℕ) → AreAt bytes.now key_len text_len key text → result ≡ Some (key, text) }
+{
+    if bytes.len() < key_len + text_len {
+        return None;
+    }
+    let (key, rest) = bytes.split_at(key_len);
+    let key = Key::from_bytes(key)?;
+    let text = Text::from_bytes(&rest[..text_len])?;
+    Some((key, text))
+}
+
+// The record of this kind, with this count and text, if there is one.
+fn record(kind: u8, count: u64, text: Text) -> Option<Rec>
+    ensures found { IfSome result (λ rec. IsOf kind count text rec) }
+    ensures only { (rec : Rec) → IsOf kind count text rec → result ≡ Some rec }
+{
+    let is_bare = text.as_bytes().is_empty();
+    match kind {
+        BASE => Some(Rec::Base(Value { count, text })),
+        DELTA if is_bare => Some(Rec::Delta(count)),
+        TOMB if is_bare && count == 0 => Some(Rec::Tomb),
+        _ => None,
+    }
+}
+
+// The entry with this head whose key and text stand at the front of these bytes, if there is one, and its length.
+fn entry(head: &Head, bytes: &[u8]) -> Option<(Key, Rec, usize)>
+    ensures found { IfSome result (λ e. HasParts head.now bytes.now e.0 e.1 × (e.2 ≡ weight e.0 e.1)) }
+    ensures only { (key : Key) (rec : Rec) → HasParts head.now bytes.now key rec → result ≡ Some (key, rec, weight key rec) }
+{
+    let key_len = head.key_len as usize;
+    let text_len = head.text_len as usize;
+    let (key, text) = key_and_text(bytes, key_len, text_len)?;
+    let rec = record(head.kind, head.count, text)?;
+    Some((key, rec, HEAD_LEN + key_len + text_len))
+}
+
+/// Reads the entry at the front of any bytes: the key, the record, and the entry's length in bytes. `None` exactly where
+/// no front of the bytes is the spelling of an entry. Bytes may follow.
+pub fn decode(bytes: &[u8]) -> Option<(Key, Rec, usize)>
+    ensures found { IfSome result (λ e. BeginsWith bytes.now e.0 e.1 × (e.2 ≡ weight e.0 e.1)) }
+    ensures none { IfNone result ((key : Key) (rec : Rec) → BeginsWith bytes.now key rec → ⊥) }
+    // No other entry is at the front.
+    ensures only { (key : Key) (rec : Rec) → BeginsWith bytes.now key rec → result ≡ Some (key, rec, weight key rec) }
+{
+    if bytes.len() < HEAD_LEN {
+        return None;
+    }
+    let head = head_at(bytes);
+    entry(&head, &bytes[HEAD_LEN..])
+}
+
+/// No spelling begins another one, and an entry has one: where two begin the same bytes, they are the same.
+pub fn one_spelling()
+    ensures { (a b : Key) (r s : Rec) (x y : List ℕ) → IsEntry a r → IsEntry b s → spelling a r ++ x ≡ spelling b s ++ y → (a ≡ b) × (r ≡ s) × (x ≡ y) }
+{}

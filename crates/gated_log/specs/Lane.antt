@@ -1,0 +1,44 @@
+-- A lane of the log on a disk: entries, each behind an open gate, and then a gate that is closed.
+use Rattle.std.specs.Prelude.{◌≡◌, ◌≢◌, ◌⊎◌, ℕ, ◌+◌, ◌*◌, ◌≤◌, List, [], ◌∷◌, ◌++◌, length}
+use Rattle.disk_trait.specs.Disk.{Torn, part}
+use Rattle.gated_write.specs.Gated.{open_byte}
+use Rattle.blsm_model.specs.declared.key.Key.{Key}
+use Rattle.blsm_model.specs.Sizes.{Sizes}
+use Rattle.record_delta.specs.declared.record.Rec.{Rec}
+use Rattle.entry_codec.specs.Spelling.{spelling}
+
+-- how many bytes stand before the first region
+abbrev pub head_length : ℕ
+head_length = 4096
+
+-- how many bytes a region has, and where a region begins, by its number
+abbrev pub region_length : Sizes → ℕ
+region_length sizes = 4 * sizes.half
+
+abbrev pub region_start : Sizes → ℕ → ℕ
+region_start sizes lane = head_length + region_length sizes * lane
+
+-- open gates, each with its entry
+abbrev pub blocks : List (Key × Rec) → List ℕ
+blocks [] = []
+blocks (e ∷ es) = open_byte ∷ (spelling e.0 e.1 ++ blocks es)
+
+-- The lane has these entries: from its region's start on there are their blocks, and then, inside the region, a gate that is closed.
+pub record HasEntries (sizes : Sizes) (lane : ℕ) (entries : List (Key × Rec)) (file : List ℕ) : Type 0 where
+  pub gate : ℕ
+  pub closed : gate ≢ open_byte
+  pub inside : length (blocks entries) + 1 ≤ region_length sizes
+  pub begins : part file (region_start sizes lane) (length (blocks entries) + 1) ≡ blocks entries ++ gate ∷ []
+
+-- each file has them
+abbrev pub EachHasEntries : Sizes → ℕ → List (Key × Rec) → (List ℕ → Type 0) → Type 0
+EachHasEntries sizes lane entries images = (c : List ℕ) → images c → HasEntries sizes lane entries c
+
+-- outside the lane's region the file is one of those from before
+abbrev pub IsOldOutside : Sizes → ℕ → (List ℕ → Type 0) → List ℕ → Type 0
+IsOldOutside sizes lane before file = (old : List ℕ) × before old × Torn (region_start sizes lane) (region_length sizes) old file
+
+-- the lane has its entries, with one more or without it, and the rest of the file is as it was
+pub record IsAppended (sizes : Sizes) (lane : ℕ) (entries : List (Key × Rec)) (entry : Key × Rec) (before : List ℕ → Type 0) (file : List ℕ) : Type 0 where
+  pub has : HasEntries sizes lane entries file ⊎ HasEntries sizes lane (entries ++ entry ∷ []) file
+  pub outside : IsOldOutside sizes lane before file

@@ -1,0 +1,7 @@
+//! The write-ahead log: three lanes of entries, each in a region of its own. An entry that is acknowledged stands in every crash image.
+//! The core writes each write to the lane of its memory table, and opening replays a lane to that table.
+#![tactic(auto)]
+
+mod lanes;
+
+pub use lanes::Lanes;

@@ -1,0 +1,176 @@
+-- What folding a record into sorted entries does to them and to their weight.
+use Rattle.std.proofs.Common.{◌≡◌, ℕ, ◌+◌, ◌-◌, ◌*◌, ◌<◌, ◌≤◌, Bool, true, false, cond, T, List, [], ◌∷◌, ◌++◌, length, get_or, set, Some, refl, ap, sym, subst, ◌∙◌, ◌⊎◌, inl, inr, arith}
+use Rattle.std.specs.List.{insert, remove, AllByRecursion}
+use Rattle.std.specs.Ordering.{is_eq, eq_by_cmp}
+use Rattle.std.specs.declared.cmp.Ordering.{Ordering}
+use Rattle.std.specs.declared.cmp.Ordering.TheVariants.{Less, Equal, Greater}
+use Rattle.std.specs.Cmp.{nat_eq_equiv}
+use Rattle.std.specs.Cmp.Lexicographic.{texts_ties, lists_equiv}
+use Rattle.std.specs.FinMap.{put}
+use Rattle.std.specs.FinMap.Entries.{is_sorted-put, find-put, by_order}
+use Rattle.std.proofs.lemmas.Bool.{false≢true}
+use Rattle.std.proofs.lemmas.Cmp.{nat_list_cmp_total}
+use Rattle.std.proofs.lemmas.List.Sums.{sum_by-cons, sum_by-set, sum_by-insert, sum_by-remove}
+use Rattle.blsm_model.specs.declared.key.Key.{Key}
+use Rattle.blsm_model.specs.declared.op.Write.{Write}
+use Rattle.blsm_model.specs.Keys.{key_cmp, same_key}
+use Rattle.blsm_model.specs.Values.{key_of}
+use Rattle.record_delta.specs.declared.record.Rec.{Rec}
+use Rattle.record_delta.specs.declared.record.Rec.TheVariants.{Base, Delta, Tomb}
+use Rattle.record_delta.specs.Records.{weight, settled}
+use Rattle.record_delta.specs.Folding.{fold, over, kept_after, StandsForMore}
+use Rattle.mem_table.specs.Entries.{Entries, AreSorted, record_of_key, total_weight, with_record, StandFor}
+use Rattle.mem_table.specs.Places.{IsAt, IsGapFor}
+use Rattle.mem_table.specs.Tables.{IsTable}
+use Rattle.mem_table.proofs.SortedLemmas.{put_at, put_apart}
+use Rattle.mem_table.proofs.PlaceLemmas.{sorted_test, tied, present_at, absent_at, parts_of_gap, place_of}
+
+-- ---- the entries after it
+
+pub with_record_at : (es : Entries) (key : Key) (rec : Rec) (i : ℕ) (d : Key × Rec) → AreSorted es → IsAt es key i → with_record key rec es ≡ set es i (key, fold rec (get_or es i d).1)
+with_record_at es key rec i d sorted at =
+    ap (λ r. put key_cmp key (over rec r) es) (present_at es key i d sorted at)
+    ∙ subst (λ (k : Key). put key_cmp k (fold rec (get_or es i d).1) es ≡ set es i (k, fold rec (get_or es i d).1)) (at.has_key d)
+    (put_at key_cmp nat_list_cmp_total es i d (fold rec (get_or es i d).1) (sorted_test es sorted) at.in_range)
+
+pub with_record_apart : (es : Entries) (key : Key) (rec : Rec) (i : ℕ) → IsGapFor es key i → with_record key rec es ≡ insert es i (key, rec)
+with_record_apart es key rec i gap =
+    ap (λ r. put key_cmp key (over rec r) es) (absent_at es key i gap) ∙ put_apart key_cmp nat_list_cmp_total es key i rec gap.in_range (parts_of_gap es key i gap)
+
+test_holds : (b : Bool) → T b → b ≡ true
+test_holds true h = refl
+test_holds false h = absurd h
+
+pub sorted_with_record : (es : Entries) (key : Key) (rec : Rec) → AreSorted es → AreSorted (with_record key rec es)
+sorted_with_record es key rec sorted =
+    test_holds _ (is_sorted-put key_cmp nat_list_cmp_total key (over rec (record_of_key key es)) es (sorted_test es sorted))
+
+pub keys_put : (es : Entries) (key : Key) (rec : Rec) → 1 ≤ length key → AllByRecursion (λ e. 1 ≤ length e.0) es → AllByRecursion (λ e. 1 ≤ length e.0) (put key_cmp key rec es)
+keys_put [] key rec key_least keys = (key_least, tt)
+keys_put (e ∷ es) key rec key_least keys =
+    elim (key_cmp key e.0) as (λ o. AllByRecursion (λ e. 1 ≤ length e.0) (by_order o ((key, rec) ∷ e ∷ es) ((e.0, rec) ∷ es) (e ∷ put key_cmp key rec es))) [
+      | Less ↦ (key_least, keys)
+      | Equal ↦ keys
+      | Greater ↦ (keys.0, keys_put es key rec key_least keys.1)
+    ]
+
+-- ---- their weight
+
+pub weight-fold_le : (key : Key) (newer older : Rec) → weight key (fold newer older) ≤ weight key newer + weight key older
+weight-fold_le key (Base v) older = omega arith
+weight-fold_le key Tomb older = omega arith
+weight-fold_le key (Delta d) (Base v) = omega arith
+weight-fold_le key (Delta d) (Delta c) = omega arith
+weight-fold_le key (Delta d) Tomb = omega arith
+
+-- one record gives place to another
+pub total_at : (es : Entries) (key : Key) (rec : Rec) (i : ℕ) (d : Key × Rec) → AreSorted es → IsAt es key i
+    → total_weight (with_record key rec es) + weight key (get_or es i d).1 ≡ total_weight es + weight key (fold rec (get_or es i d).1)
+total_at es key rec i d sorted at =
+    ap (λ l. total_weight l + weight key (get_or es i d).1) (with_record_at es key rec i d sorted at)
+    ∙ ap (λ k. total_weight (set es i (key, fold rec (get_or es i d).1)) + weight k (get_or es i d).1) (sym (at.has_key d))
+    ∙ sum_by-set (λ e. weight e.0 e.1) es i (key, fold rec (get_or es i d).1) d at.in_range
+
+pub total_apart : (es : Entries) (key : Key) (rec : Rec) (i : ℕ) → IsGapFor es key i → total_weight (with_record key rec es) ≡ total_weight es + weight key rec
+total_apart es key rec i gap = ap total_weight (with_record_apart es key rec i gap) ∙ sum_by-insert (λ e. weight e.0 e.1) es i (key, rec)
+
+-- an entry weighs no more than all
+pub weight_at_le : (es : Entries) (key : Key) (i : ℕ) (d : Key × Rec) → IsAt es key i → weight key (get_or es i d).1 ≤ total_weight es
+weight_at_le es key i d at =
+    let all : total_weight (remove es i) + weight (get_or es i d).0 (get_or es i d).1 ≡ total_weight es = sum_by-remove (λ e. weight e.0 e.1) es i d at.in_range in
+    let key_is : (get_or es i d).0 ≡ key = at.has_key d in
+    subst (λ (k : Key). weight k (get_or es i d).1 ≤ total_weight es) key_is (omega (arith, all))
+
+-- each entry weighs 14 at least
+pub least_total : (es : Entries) → AllByRecursion (λ e. 1 ≤ length e.0) es → 14 * length es ≤ total_weight es
+least_total [] keys = omega arith
+least_total (e ∷ es) keys = omega (arith, keys.0, least_total es keys.1, sum_by-cons (λ e. weight e.0 e.1) e es)
+
+-- wherever the key is, a folded record adds at most its own weight
+pub weight_more : (es : Entries) (key : Key) (rec : Rec) → AreSorted es → total_weight (with_record key rec es) ≤ total_weight es + weight key rec
+weight_more es key rec sorted =
+    let none : Key × Rec = (key, rec) in
+    elim (place_of es key (sorted_test es sorted)) [
+      | inl p ↦ omega (arith, total_at es key rec p.0 none sorted p.1, weight-fold_le key rec (get_or es p.0 none).1)
+      | inr p ↦ omega (arith, total_apart es key rec p.0 p.1)
+    ]
+
+-- ---- what it stands for
+
+by_test : (b : Bool) → (b ≡ true) ⊎ (b ≡ false)
+by_test true = inl refl
+by_test false = inr refl
+
+test_of_tie : (o : Ordering) → is_eq o ≡ true → o ≡ Equal
+test_of_tie Less e = absurd (false≢true e)
+test_of_tie Equal e = refl
+test_of_tie Greater e = absurd (false≢true e)
+
+ties : (q key : Key) → same_key key q ≡ eq_by_cmp key_cmp q key
+ties q key = sym (sym (texts_ties q key) ∙ (lists_equiv nat_eq_equiv).symm q key)
+
+record_after : (es : Entries) (key : Key) (rec : Rec) (write : Write) (q : Key) → key_of write ≡ key
+    → record_of_key q (with_record key rec es) ≡ kept_after write rec q (record_of_key q es)
+record_after es key rec write q key_is =
+    let kept = record_of_key q es in
+    find-put key_cmp nat_list_cmp_total q key (over rec (record_of_key key es)) es
+    ∙ elim (by_test (eq_by_cmp key_cmp q key)) [
+      | inl same ↦
+          let q_is : q ≡ key = tied q key (test_of_tie (key_cmp q key) same) in
+          ap (λ b. cond b (Some (over rec (record_of_key key es))) kept) same
+          ∙ ap (λ k. Some (over rec (record_of_key k es))) (sym q_is)
+          ∙ ap (λ b. cond b (Some (over rec kept)) kept) (sym (ap (λ k. same_key k q) key_is ∙ ties q key ∙ same))
+      | inr apart ↦
+          ap (λ b. cond b (Some (over rec (record_of_key key es))) kept) apart
+          ∙ ap (λ b. cond b (Some (over rec kept)) kept) (sym (ap (λ k. same_key k q) key_is ∙ ties q key ∙ apart))
+    ]
+
+pub stand_more : (es : Entries) (key : Key) (rec : Rec) (write : Write) (writes : List Write) → key_of write ≡ key → StandsForMore write rec
+    → StandFor es writes → StandFor (with_record key rec es) (writes ++ write ∷ [])
+stand_more es key rec write writes key_is more stood = λ q. ap settled (record_after es key rec write q key_is) ∙ more q (record_of_key q es) writes (stood q)
+
+-- ---- a table stays a table
+
+pub set_at : (es : Entries) (key : Key) (rec : Rec) (i : ℕ) (d e : Key × Rec) (folded : Rec) → AreSorted es → IsAt es key i → e ≡ get_or es i e → folded ≡ fold rec (get_or es i d).1
+    → set es i (e.0, folded) ≡ with_record key rec es
+set_at es key rec i d e folded sorted at e_is folded_is =
+    let key_is : e.0 ≡ key = ap (λ (x : Key × Rec). x.0) e_is ∙ at.has_key e in
+    ap (λ (k : Key). set es i (k, folded)) key_is ∙ ap (λ (r : Rec). set es i (key, r)) folded_is ∙ sym (with_record_at es key rec i d sorted at)
+
+pub table_at : (es : Entries) (kept reserved places : ℕ) (key : Key) (rec : Rec) (i : ℕ) (d : Key × Rec) (before after : ℕ)
+    → IsTable es kept reserved places → IsAt es key i → 1 ≤ length key → total_weight (with_record key rec es) ≤ reserved
+    → before ≡ weight key (get_or es i d).1 → after ≡ weight key (fold rec (get_or es i d).1)
+    → IsTable (with_record key rec es) (kept - before + after) reserved places
+table_at es kept reserved places key rec i d before after t at key_least fits before_is after_is =
+    let kept_is = t.weight_is in
+    let total : kept - before + after ≡ total_weight (with_record key rec es) =
+    omega (arith, total_at es key rec i d t.sorted at, weight_at_le es key i d at) in
+    record {
+      sorted = sorted_with_record es key rec t.sorted;
+      weight_is = total;
+      fits = omega arith;
+      keys = keys_put es key (over rec (record_of_key key es)) key_least t.keys;
+      room = t.room;
+    }
+
+pub table_apart : (es : Entries) (kept reserved places more : ℕ) (key : Key) (rec : Rec) (i after : ℕ)
+    → IsTable es kept reserved places → IsGapFor es key i → 1 ≤ length key → total_weight (with_record key rec es) ≤ reserved
+    → after ≡ weight key rec → places ≤ more → IsTable (with_record key rec es) (kept + after) reserved more
+table_apart es kept reserved places more key rec i after t gap key_least fits after_is grown =
+    let kept_is = t.weight_is in
+    let room = t.room in
+    let total : kept + after ≡ total_weight (with_record key rec es) = omega (arith, total_apart es key rec i gap) in
+    record {
+      sorted = sorted_with_record es key rec t.sorted;
+      weight_is = total;
+      fits = omega arith;
+      keys = keys_put es key (over rec (record_of_key key es)) key_least t.keys;
+      room = omega arith;
+    }
+
+-- where one more entry fits there is a place for it
+pub place_left : (es : Entries) (kept reserved places : ℕ) (key : Key) (rec : Rec) (i : ℕ) → IsTable es kept reserved places → IsGapFor es key i → 1 ≤ length key
+    → total_weight (with_record key rec es) ≤ reserved → length es < places
+place_left es kept reserved places key rec i t gap key_least fits =
+    let room = t.room in
+    omega (arith, total_apart es key rec i gap, least_total es t.keys)

@@ -1,0 +1,4 @@
+pub mod SortedLemmas
+pub mod PlaceLemmas
+pub mod EditLemmas
+pub mod OrderLemmas

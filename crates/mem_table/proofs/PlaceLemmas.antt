@@ -1,0 +1,91 @@
+-- What a search among a table's entries finds.
+use Rattle.std.proofs.Common.{◌≡◌, ℕ, zero, suc, ◌+◌, ◌⊎◌, inl, inr, T, [], ◌∷◌, length, get_or, Some, None, Result, Ok, Err, IfOk, IfErr, refl, ap, sym, subst, ◌∙◌, arith}
+use Rattle.std.specs.List.{AllWithin}
+use Rattle.std.specs.List.Sorted.{IsSearchInRange, IsBinarySearchResult, IsNonDecreasingBy, IsSortedBy}
+use Rattle.std.specs.Ordering.{is_lt, ordering_index}
+use Rattle.std.specs.declared.cmp.Ordering.TheVariants.{Less, Equal, Greater}
+use Rattle.std.specs.FinMap.{slice_cmp-IsAntisymmetric, nat_cmp-IsAntisymmetric, is_sorted}
+use Rattle.std.proofs.lemmas.Cmp.{nat_list_cmp_total}
+use Rattle.std.proofs.lemmas.List.Sorted.{searchable_from_sorted}
+use Rattle.blsm_model.specs.declared.key.Key.{Key}
+use Rattle.blsm_model.specs.Keys.{key_cmp}
+use Rattle.record_delta.specs.declared.record.Rec.{Rec}
+use Rattle.mem_table.specs.Entries.{Entries, AreSorted, record_of_key}
+use Rattle.mem_table.specs.Places.{IsAt, IsGapFor}
+use Rattle.mem_table.proofs.SortedLemmas.{both_hold, turned, rising, find_at, Parts, find_apart}
+
+pub sorted_test : (es : Entries) → AreSorted es → T (is_sorted key_cmp es)
+sorted_test es sorted = subst T (sym sorted) tt
+
+pub tied : (a b : Key) → key_cmp a b ≡ Equal → a ≡ b
+tied a b e = slice_cmp-IsAntisymmetric nat_cmp-IsAntisymmetric a b e
+
+-- no key is below the one before it
+not_falling : (es : Entries) → AreSorted es → IsSortedBy (λ a b. is_lt (key_cmp a.0 b.0)) es
+not_falling es sorted = λ k d low high.
+    ap is_lt (turned key_cmp nat_list_cmp_total (get_or es k d).0 (get_or es (k + 1) d).0 Less (rising key_cmp nat_list_cmp_total es k (k + 1) d (sorted_test es sorted) (omega arith) high))
+
+comparisons_rise : (es : Entries) (key : Key) → AreSorted es → IsNonDecreasingBy (λ e. ordering_index (key_cmp e.0 key)) es
+comparisons_rise es key sorted = searchable_from_sorted nat_list_cmp_total (λ e. e.0) es key (not_falling es sorted)
+
+-- a binary search ends at the key, or at the gap for it
+pub record Searched (es : Entries) (key : Key) (r : Result ℕ ℕ) : Type 0 where
+  pub found : IfOk r (IsAt es key)
+  pub absent : IfErr r (IsGapFor es key)
+
+pub searched : (es : Entries) (key : Key) (r : Result ℕ ℕ) → AreSorted es → IsSearchInRange r (length es) → IsBinarySearchResult (λ e. key_cmp e.0 key) es r → Searched es key r
+searched es key (Ok at) sorted in_range equal =
+    record { found = record { in_range = in_range; has_key = λ d. tied _ _ (equal d) }; absent = tt }
+searched es key (Err at) sorted in_range parted =
+    let parts = parted (comparisons_rise es key sorted) in
+    record { found = tt; absent = record { in_range = in_range; before = parts.0; after = parts.1 } }
+
+-- what the entries have at a key that was found, and at one that wasn't
+pub present_at : (es : Entries) (key : Key) (i : ℕ) (d : Key × Rec) → AreSorted es → IsAt es key i → record_of_key key es ≡ Some (get_or es i d).1
+present_at es key i d sorted at =
+    ap (λ k. record_of_key k es) (sym (at.has_key d)) ∙ find_at key_cmp nat_list_cmp_total es i d (sorted_test es sorted) at.in_range
+
+pub parts_of_gap : (es : Entries) (key : Key) (i : ℕ) → IsGapFor es key i → Parts key_cmp nat_list_cmp_total es key i
+parts_of_gap es key i gap = record { before = λ j d lt. gap.before j d (omega arith) lt; after = gap.after }
+
+pub absent_at : (es : Entries) (key : Key) (i : ℕ) → IsGapFor es key i → record_of_key key es ≡ None
+absent_at es key i gap = find_apart key_cmp nat_list_cmp_total es key i (parts_of_gap es key i gap)
+
+-- ---- each key has a place
+
+at_later : (e : Key × Rec) (es : Entries) (key : Key) (i : ℕ) → IsAt es key i → IsAt (e ∷ es) key (suc i)
+at_later e es key i at = record { in_range = omega (arith, at.in_range); has_key = at.has_key }
+
+gap_later : (e : Key × Rec) (es : Entries) (key : Key) (i : ℕ) → key_cmp e.0 key ≡ Less → IsGapFor es key i → IsGapFor (e ∷ es) key (suc i)
+gap_later e es key i less gap = record { in_range = omega (arith, gap.in_range); before = before; after = after }
+  where
+    before : AllWithin (λ f. key_cmp f.0 key ≡ Less) (e ∷ es) 0 (suc i)
+    before zero d low high = less
+    before (suc k) d low high = gap.before k d (omega arith) (omega arith)
+
+    after : AllWithin (λ f. key_cmp f.0 key ≡ Greater) (e ∷ es) (suc i) (length (e ∷ es))
+    after zero d low high = absurd (omega arith)
+    after (suc k) d low high = gap.after k d (omega arith) (omega arith)
+
+gap_first : (e : Key × Rec) (es : Entries) (key : Key) → T (is_sorted key_cmp (e ∷ es)) → key_cmp e.0 key ≡ Greater → IsGapFor (e ∷ es) key 0
+gap_first e es key sorted greater = record { in_range = omega arith; before = λ k d low high. absurd (omega arith); after = after }
+  where
+    after : AllWithin (λ f. key_cmp f.0 key ≡ Greater) (e ∷ es) 0 (length (e ∷ es))
+    after zero d low high = greater
+    after (suc k) d low high =
+        let first : key_cmp key e.0 ≡ Less = turned key_cmp nat_list_cmp_total e.0 key Greater greater in
+        let later : key_cmp e.0 (get_or es k d).0 ≡ Less = rising key_cmp nat_list_cmp_total (e ∷ es) 0 (suc k) d sorted (omega arith) (omega arith) in
+        turned key_cmp nat_list_cmp_total key (get_or es k d).0 Less (nat_list_cmp_total.trans key e.0 (get_or es k d).0 first later)
+
+pub place_of : (es : Entries) (key : Key) → T (is_sorted key_cmp es) → ((i : ℕ) × IsAt es key i) ⊎ ((i : ℕ) × IsGapFor es key i)
+place_of [] key sorted = inr (0, record { in_range = omega arith; before = λ k d low high. absurd (omega arith); after = λ k d low high. absurd (omega arith) })
+place_of (e ∷ es) key sorted =
+    elim (key_cmp e.0 key) as (λ o. key_cmp e.0 key ≡ o → ((i : ℕ) × IsAt (e ∷ es) key i) ⊎ ((i : ℕ) × IsGapFor (e ∷ es) key i)) [
+      | Less ↦ λ less.
+          elim (place_of es key (both_hold _ _ sorted).1) [
+            | inl p ↦ inl (suc p.0, at_later e es key p.0 p.1)
+            | inr p ↦ inr (suc p.0, gap_later e es key p.0 less p.1)
+          ]
+      | Equal ↦ λ same. inl (0, record { in_range = omega arith; has_key = λ d. tied e.0 key same })
+      | Greater ↦ λ greater. inr (0, gap_first e es key sorted greater)
+    ] refl

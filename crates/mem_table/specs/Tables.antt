@@ -1,0 +1,24 @@
+-- What contracts see of a memory table.
+use Rattle.std.specs.Prelude.{◌≡◌, ℕ, ◌≤◌, ◌<◌, ◌+◌, ◌*◌, length}
+use Rattle.std.specs.List.{AllByRecursion}
+use Rattle.blsm_model.specs.declared.key.Key.{Key}
+use Rattle.record_delta.specs.declared.record.Rec.{Rec}
+use Rattle.mem_table.specs.Entries.{Entries, AreSorted, total_weight, with_record}
+
+pub record Contents : Type 0 where
+  pub entries : Entries
+  -- how much the entries may weigh, in bytes
+  pub reserved : ℕ
+
+-- what holds of a table that has this many places for entries, and keeps this weight of them
+pub record IsTable (entries : Entries) (weight reserved places : ℕ) : Type 0 where
+  pub sorted : AreSorted entries
+  pub weight_is : weight ≡ total_weight entries
+  pub fits : weight ≤ reserved
+  pub keys : AllByRecursion (λ e. 1 ≤ length e.0) entries
+  -- no key is empty, so an entry weighs at least 14, so there is a place for one more wherever one more fits
+  pub room : reserved < 14 * (places + 1)
+
+-- the record is folded into the entries, and the reserve stays
+abbrev pub IsFoldedIn : Key → Rec → Contents → Contents → Type 0
+IsFoldedIn key rec old new = new ≡ record { entries = with_record key rec old.entries; reserved = old.reserved }

@@ -1,0 +1,10 @@
+//! The memory table: the record of each key that was written, in key order, with room reserved for all that it may hold.
+//! Contracts see a sorted list of keys and records. The log's owner and the merges use it.
+#![tactic(auto)]
+
+mod table;
+
+pub use table::Table;
+
+#[cfg(test)]
+mod tests;

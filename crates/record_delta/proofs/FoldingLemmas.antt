@@ -1,0 +1,100 @@
+-- What a record stands for after one more write.
+use Rattle.std.proofs.Common.{◌≡◌, ℕ, ◌+◌, ◌%◌, ◌^◌, ◌<◌, ◌++◌, List, [], ◌∷◌, Bool, cond, true, false, Some, None, Option, refl, ap, sym, ◌∙◌, ◌⊎◌, inl, inr, map, append-nil, zero-add}
+use Rattle.std.proofs.lemmas.List.{map-append}
+use Rattle.std.proofs.lemmas.List.Sums.{fold-append}
+use Rattle.std.proofs.lemmas.List.Elements.{filter-append}
+use Rattle.blsm_model.specs.declared.key.Key.{Key}
+use Rattle.blsm_model.specs.declared.row.Value.{Value}
+use Rattle.blsm_model.specs.declared.op.Write.{Write}
+use Rattle.blsm_model.specs.declared.op.Write.TheVariants.{Put, Add, Del}
+use Rattle.blsm_model.specs.Keys.{same_key}
+use Rattle.std.proofs.Math.Nat.{mod-eq_of_lt}
+use Rattle.blsm_model.specs.Values.{key_of, base_of, writes_of_key, value_at}
+use Rattle.blsm_model.proofs.ValueLemmas.{value_at-put, value_at-add, value_at-del, value_at-other}
+use Rattle.record_delta.specs.declared.record.Rec.{Rec}
+use Rattle.record_delta.specs.declared.record.Rec.TheVariants.{Base, Delta, Tomb}
+use Rattle.record_delta.specs.Records.{record_of, bare, settled}
+use Rattle.record_delta.specs.Folding.{over, folded, record_at, StandsFor, kept_after, StandsForMore}
+
+by_test : (b : Bool) → (b ≡ true) ⊎ (b ≡ false)
+by_test true = inl refl
+by_test false = inr refl
+
+-- another key's write changes nothing
+stands_apart : (write : Write) (rec : Rec) (key : Key) (kept : Option Rec) (writes : List Write) → same_key (key_of write) key ≡ false → StandsFor kept writes key
+    → StandsFor (kept_after write rec key kept) (writes ++ write ∷ []) key
+stands_apart write rec key kept writes apart stood = ap (λ b. settled (cond b (Some (over rec kept)) kept)) apart ∙ stood ∙ sym (value_at-other writes write key apart)
+
+-- a write of the key, if the value is right then
+stands_same : (write : Write) (rec : Rec) (key : Key) (kept : Option Rec) (writes : List Write) → same_key (key_of write) key ≡ true
+    → settled (Some (over rec kept)) ≡ value_at (writes ++ write ∷ []) key → StandsFor (kept_after write rec key kept) (writes ++ write ∷ []) key
+stands_same write rec key kept writes same right = ap (λ b. settled (cond b (Some (over rec kept)) kept)) same ∙ right
+
+put_over : (value : Value) (kept : Option Rec) → settled (Some (over (Base value) kept)) ≡ Some value
+put_over value None = refl
+put_over value (Some rec) = refl
+
+del_over : (kept : Option Rec) → settled (Some (over Tomb kept)) ≡ None
+del_over None = refl
+del_over (Some rec) = refl
+
+pub stands_put : (at : Key) (value : Value) → StandsForMore (Put at value) (Base value)
+stands_put at value key kept writes stood =
+    elim (by_test (same_key at key)) [
+      | inl same ↦ stands_same (Put at value) (Base value) key kept writes same (put_over value kept ∙ sym (value_at-put writes at key value same))
+      | inr apart ↦ stands_apart (Put at value) (Base value) key kept writes apart stood
+    ]
+
+pub stands_del : (at : Key) → StandsForMore (Del at) Tomb
+stands_del at key kept writes stood =
+    elim (by_test (same_key at key)) [
+      | inl same ↦ stands_same (Del at) Tomb key kept writes same (del_over kept ∙ sym (value_at-del writes at key same))
+      | inr apart ↦ stands_apart (Del at) Tomb key kept writes apart stood
+    ]
+
+-- a count that fits is itself after nothing
+from_nothing : (count : ℕ) → count < 2 ^ 64 → count ≡ (0 + count) % 2 ^ 64
+from_nothing count fits = sym (ap (λ n. n % 2 ^ 64) (zero-add count) ∙ mod-eq_of_lt fits)
+
+added_to : Option Value → ℕ → Value
+added_to below count = record { count = ((base_of below).count + count) % 2 ^ 64; text = (base_of below).text }
+
+add_over : (count : ℕ) (kept : Option Rec) → count < 2 ^ 64 → settled (Some (over (Delta count) kept)) ≡ Some (added_to (settled kept) count)
+unfolding added_to
+add_over count None fits = ap (λ n. Some (bare n)) (from_nothing count fits)
+add_over count (Some (Base value)) fits = refl
+add_over count (Some (Delta below)) fits = refl
+add_over count (Some Tomb) fits = ap (λ n. Some (bare n)) (from_nothing count fits)
+
+pub stands_add : (at : Key) (count : ℕ) → count < 2 ^ 64 → StandsForMore (Add at count) (Delta count)
+unfolding added_to
+stands_add at count fits key kept writes stood =
+    elim (by_test (same_key at key)) [
+      | inl same ↦
+          stands_same (Add at count) (Delta count) key kept writes same
+          (add_over count kept fits ∙ ap (λ v. Some (added_to v count)) stood ∙ sym (value_at-add writes at key count same))
+      | inr apart ↦ stands_apart (Add at count) (Delta count) key kept writes apart stood
+    ]
+
+pub ruleset stands_more = (stands_put, stands_add, stands_del)
+
+-- one write more, of this key or of another
+pub record_at-push : (writes : List Write) (write : Write) (key : Key) → record_at (writes ++ write ∷ []) key ≡ kept_after write (record_of write) key (record_at writes key)
+record_at-push writes write key =
+    ap (λ own. folded (map record_of own)) (filter-append (λ w. same_key (key_of w) key) writes (write ∷ []))
+    ∙ elim (by_test (same_key (key_of write) key)) [
+      | inl same ↦
+          ap (λ b. folded (map record_of (writes_of_key writes key ++ cond b (write ∷ []) []))) same
+          ∙ ap folded (map-append record_of (writes_of_key writes key) (write ∷ []))
+          ∙ fold-append (λ kept newer. Some (over newer kept)) None (map record_of (writes_of_key writes key)) (record_of write ∷ [])
+          ∙ ap (λ b. cond b (Some (over (record_of write) (record_at writes key))) (record_at writes key)) (sym same)
+      | inr apart ↦
+          ap (λ b. folded (map record_of (writes_of_key writes key ++ cond b (write ∷ []) []))) apart
+          ∙ ap (λ own. folded (map record_of own)) (append-nil (writes_of_key writes key))
+          ∙ ap (λ b. cond b (Some (over (record_of write) (record_at writes key))) (record_at writes key)) (sym apart)
+    ]
+
+-- with a record folded over what was kept at its key
+pub stands_over : (write : Write) (rec : Rec) (key : Key) (kept : Option Rec) → StandsForMore write rec → same_key (key_of write) key ≡ true
+    → (writes : List Write) → StandsFor kept writes key → StandsFor (Some (over rec kept)) (writes ++ write ∷ []) key
+stands_over write rec key kept more same writes stood = ap (λ b. settled (cond b (Some (over rec kept)) kept)) (sym same) ∙ more key kept writes stood

@@ -1,0 +1,2 @@
+pub mod FoldingLemmas
+pub mod Examples

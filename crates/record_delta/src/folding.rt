@@ -1,0 +1,155 @@
+//! Folding a newer record over an older one, and settling what is left.
+ghost use Rattle.std.specs.Prelude.{◌≡◌, ◌≤◌, max, [], ◌∷◌, ◌++◌, List};
+ghost use Rattle.blsm_model.specs.declared.key.Key.{Key};
+ghost use Rattle.blsm_model.specs.declared.op.Write.{Write};
+ghost use Rattle.blsm_model.specs.Values.{value_at, key_of};
+ghost use Rattle.record_delta.specs.declared.record.Rec.{Rec};
+ghost use Rattle.record_delta.specs.Records.{record_of, weight as weight_with, settle as settle_of, settled};
+ghost use Rattle.record_delta.specs.Folding.{fold as fold_of, record_at, kept_after, StandsFor};
+
+use crate::Rec;
+use blsm_model::{Key, Text, Value, Write};
+
+/// One record that stands for both: what the newer one makes of the older one.
+pub fn fold(newer: Rec, older: Rec) -> Rec
+    ensures record { result ≡ fold_of newer older }
+    // Which two of three are folded first makes no difference.
+    ensures associative { (oldest : Rec) → fold_of result oldest ≡ fold_of newer (fold_of older oldest) }
+    ensures weight { (key : Key) → weight_with key result ≤ max (weight_with key newer) (weight_with key older) }
+{
+    match (newer, older) {
+        (Rec::Delta(count), Rec::Base(value)) => Rec::Base(Value {
+            count: value.count.wrapping_add(count),
+            text: value.text,
+        }),
+        (Rec::Delta(count), Rec::Delta(below)) => Rec::Delta(below.wrapping_add(count)),
+        (Rec::Delta(count), Rec::Tomb) => Rec::Base(bare(count)),
+        (newer, _) => newer,
+    }
+}
+
+// The value of a key that had nothing before this count was added.
+fn bare(count: u64) -> Value
+    ensures { result ≡ record { count = count; text = [] } }
+{
+    Value {
+        count,
+        text: Text::empty(),
+    }
+}
+
+/// The value that a record leaves where nothing is older, if it leaves one.
+pub fn settle(rec: Rec) -> Option<Value>
+    ensures { result ≡ settle_of rec }
+{
+    match rec {
+        Rec::Base(value) => Some(value),
+        Rec::Delta(count) => Some(bare(count)),
+        Rec::Tomb => None,
+    }
+}
+
+// What is kept at a key after one more write.
+fn after_write(kept: Option<Rec>, write: &Write, key: &Key) -> Option<Rec>
+    ensures record { result ≡ kept_after write.now (record_of write.now) key.now kept }
+    ensures stands { (writes : List Write) → StandsFor kept writes key.now → StandsFor result (writes ++ write.now ∷ []) key.now }
+{
+    if key_written(write) != key {
+        return kept;
+    }
+    let newer = Rec::of_write(write);
+    match kept {
+        Some(older) => Some(fold(newer, older)),
+        None => Some(newer),
+    }
+}
+
+fn key_written(write: &Write) -> &Key
+    ensures { result.now ≡ key_of write.now }
+{
+    match write {
+        Write::Put(key, _) | Write::Add(key, _) | Write::Del(key) => key,
+    }
+}
+
+/// The record that a list of writes, the oldest first, leaves at a key. Settled, it is the value that they leave.
+pub fn fold_writes(writes: &[Write], key: &Key) -> Option<Rec>
+    ensures record { result ≡ record_at writes.now key.now }
+    ensures value { settled result ≡ value_at writes.now key.now }
+{
+    let mut kept = None;
+    for write in writes {
+        kept = after_write(kept, write, key);
+    }
+    kept
+}
+
+#[cfg(test)]
+mod tests {
+    use super::*;
+    use crate::weight;
+    use std::test::Fail;
+
+    fn value(count: u64, text: &[u8]) -> Result<Value, Fail> {
+        Ok(Value {
+            count,
+            text: Text::from_bytes(text).ok_or("too long a text")?,
+        })
+    }
+
+    fn base(count: u64, text: &[u8]) -> Result<Rec, Fail> {
+        Ok(Rec::Base(value(count, text)?))
+    }
+
+    #[test]
+    fn each_record_over_each(rt: HostRuntime) -> Result<(), Fail> {
+        let put = base(5, b"new")?;
+        assert_eq!(rt; fold(put.copy(), base(1, b"old")?), put);
+        assert_eq!(rt; fold(put.copy(), Rec::Delta(1)), put);
+        assert_eq!(rt; fold(put.copy(), Rec::Tomb), put);
+        assert_eq!(rt; fold(Rec::Tomb, base(1, b"old")?), Rec::Tomb);
+        assert_eq!(rt; fold(Rec::Tomb, Rec::Delta(1)), Rec::Tomb);
+        assert_eq!(rt; fold(Rec::Tomb, Rec::Tomb), Rec::Tomb);
+        assert_eq!(rt;
+            fold(Rec::Delta(2), base(u64::MAX, b"old")?),
+            base(1, b"old")?
+        );
+        assert_eq!(rt; fold(Rec::Delta(2), Rec::Delta(3)), Rec::Delta(5));
+        assert_eq!(rt; fold(Rec::Delta(2), Rec::Tomb), base(2, b"")?);
+        Ok(())
+    }
+
+    #[test]
+    fn writes_leave_their_value(rt: HostRuntime) -> Result<(), Fail> {
+        let key = Key::from_bytes(b"x").ok_or("no key")?;
+        let writes = [
+            Write::Add(key.copy(), u64::MAX),
+            Write::Add(key.copy(), 2),
+            Write::Put(key.copy(), value(100, b"old")?),
+            Write::Del(key.copy()),
+            Write::Add(key.copy(), 7),
+        ];
+        assert_eq!(rt; fold_writes(&writes[..0], &key), None);
+        assert_eq!(rt; fold_writes(&writes[..2], &key), Some(Rec::Delta(1)));
+        assert_eq!(rt; fold_writes(&writes[..3], &key), Some(base(100, b"old")?));
+        assert_eq!(rt; fold_writes(&writes[..4], &key), Some(Rec::Tomb));
+        assert_eq!(rt; fold_writes(&writes, &key), Some(base(7, b"")?));
+        assert_eq!(rt; settle(Rec::Delta(1)), Some(value(1, b"")?));
+        assert_eq!(rt; settle(base(7, b"")?), Some(value(7, b"")?));
+        assert_eq!(rt; settle(Rec::Tomb), None);
+        let other = Key::from_bytes(b"y").ok_or("no key")?;
+        assert_eq!(rt; fold_writes(&writes, &other), None);
+        Ok(())
+    }
+
+    #[test]
+    fn a_record_weighs_its_key_and_text(rt: HostRuntime) -> Result<(), Fail> {
+        let key = Key::from_bytes(b"a").ok_or("no key")?;
+        assert_eq!(rt; weight(&key, &base(5, b"hi")?), 16);
+        assert_eq!(rt; weight(&key, &Rec::Delta(7)), 14);
+        assert_eq!(rt; weight(&key, &Rec::Tomb), 14);
+        let longest = Key::from_bytes(&[b'k'; 64]).ok_or("no key")?;
+        assert_eq!(rt; weight(&longest, &base(0, &[b't'; 435])?), 512);
+        Ok(())
+    }
+}

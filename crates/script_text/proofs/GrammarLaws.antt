@@ -1,0 +1,272 @@
+-- A text has one reading: it is one script, or one line of it is the first that is bad, and not both.
+use Rattle.std.proofs.Common.{◌≡◌, ◌≢◌, ℕ, ◌+◌, ◌^◌, ◌<◌, ◌≤◌, inl, inr, cond, eqb, not, List, [], ◌∷◌, ◌++◌, Some, Result, Ok, Err, length, take, drop, decimal, codes, sym, ◌∙◌, ap, subst, refl, append_assoc, append-nil, arith, length-append}
+use Rattle.std.specs.List.{All, prefix_len, position_or_len}
+use Rattle.std.proofs.lemmas.List.Elements.{All-head, All-tail, All-cons, All-append, All-drop, All-from_recursion}
+use Rattle.std.proofs.lemmas.List.Concat.{flat_map-cons}
+use Rattle.std.proofs.lemmas.List.Sums.{prefix_len-le-length}
+use Rattle.std.proofs.lemmas.List.{take-append-le}
+use Rattle.std.proofs.lemmas.Fmt.{decimal_injective, decimal_nonempty}
+use Rattle.std.proofs.Math.Seq.{drop-append_seam}
+use Rattle.blsm_model.specs.declared.row.Value.{Value}
+use Rattle.blsm_model.specs.declared.op.Op.{Op}
+use Rattle.blsm_model.specs.declared.op.Op.TheVariants.{Put, Add, Del, Get, Hold, Next, Release, Work}
+use Rattle.blsm_model.specs.declared.history.Line.{Line}
+use Rattle.blsm_model.specs.Printed.{and_number, and_value, and_word, command_text, spelled}
+use Rattle.script_text.specs.Grammar.{IsAllowed, IsBadLine, IsCommand, IsKey, IsLine, IsOnlyBadLine, IsOnlyReading, IsScript, IsText, first_line, line_text, lines_text}
+use Rattle.script_text.specs.declared.script.ScriptFault.{ScriptFault}
+use Rattle.script_text.specs.declared.script.ScriptFault.TheVariants.{Bad, NoMemory}
+use Rattle.script_text.specs.Script.{IfBad}
+use Rattle.script_text.specs.Reading.{Lacks}
+use Rattle.script_text.proofs.ReadLemmas.{one_cut, decimal_lacks, visible_lacks, heads}
+use Rattle.script_text.proofs.ScriptLemmas.{first_line_is}
+
+-- a spelling has one text, value, command and line
+one_text : (x y : List ℕ) → x ≢ 45 ∷ [] → y ≢ 45 ∷ [] → spelled x ≡ spelled y → x ≡ y
+one_text [] [] no_x no_y is = refl
+one_text [] (y ∷ ys) no_x no_y is = absurd (no_y (sym is))
+one_text (x ∷ xs) [] no_x no_y is = absurd (no_x is)
+one_text (x ∷ xs) (y ∷ ys) no_x no_y is = is
+
+one_value : (v w : Value) → v.count < 2 ^ 64 → w.count < 2 ^ 64 → IsText v.text → IsText w.text → decimal v.count ++ and_word (spelled v.text) ≡ decimal w.count ++ and_word (spelled w.text) → v ≡ w
+one_value v w small_v small_w text_v text_w is =
+    let both = one_cut 32 (decimal v.count) (decimal w.count) (spelled v.text) (spelled w.text) (decimal_lacks 32 v.count small_v (omega arith)) (decimal_lacks 32 w.count small_w (omega arith)) is in
+    let count : v.count ≡ w.count = decimal_injective v.count w.count small_v small_w both.0 in
+    let text : v.text ≡ w.text = one_text v.text w.text text_v.no_dash text_w.no_dash both.1 in
+    λ i. record { count = count i; text = text i }
+
+one_put : (key : List ℕ) (value : Value) (y : Op) → IsCommand (Put key value) → IsCommand y → command_text (Put key value) ≡ command_text y → Put key value ≡ y
+one_put key value (Put k v) (is_key, small, is_text) (is_k, small_v, is_text_v) is =
+    let both = one_cut 32 key k (decimal value.count ++ and_word (spelled value.text)) (decimal v.count ++ and_word (spelled v.text)) (visible_lacks 32 key (omega arith) is_key.visible) (visible_lacks 32 k (omega arith) is_k.visible) (ap (λ (l : List ℕ). drop 4 l) is) in
+    let same_key : key ≡ k = both.0 in
+    let same_value : value ≡ v = one_value value v small small_v is_text is_text_v both.1 in
+    λ i. Put (same_key i) (same_value i)
+one_put key value (Add k n) x y is = absurd (omega (arith, heads is))
+one_put key value (Del k) x y is = absurd (omega (arith, heads is))
+one_put key value (Get k) x y is = absurd (omega (arith, heads is))
+one_put key value (Hold low high) x y is = absurd y
+one_put key value (Next n) x y is = absurd y
+one_put key value Release x y is = absurd y
+one_put key value (Work n) x y is = absurd y
+
+one_add : (key : List ℕ) (count : ℕ) (y : Op) → IsCommand (Add key count) → IsCommand y → command_text (Add key count) ≡ command_text y → Add key count ≡ y
+one_add key count (Put k v) x y is = absurd (omega (arith, heads is))
+one_add key count (Add k n) (is_key, small) (is_k, small_n) is =
+    let both = one_cut 32 key k (decimal count) (decimal n) (visible_lacks 32 key (omega arith) is_key.visible) (visible_lacks 32 k (omega arith) is_k.visible) (ap (λ (l : List ℕ). drop 4 l) is) in
+    let same_key : key ≡ k = both.0 in
+    let same_count : count ≡ n = decimal_injective count n small small_n both.1 in
+    λ i. Add (same_key i) (same_count i)
+one_add key count (Del k) x y is = absurd (omega (arith, heads is))
+one_add key count (Get k) x y is = absurd (omega (arith, heads is))
+one_add key count (Hold low high) x y is = absurd y
+one_add key count (Next n) x y is = absurd y
+one_add key count Release x y is = absurd y
+one_add key count (Work n) x y is = absurd y
+
+one_del : (key : List ℕ) (y : Op) → IsCommand y → command_text (Del key) ≡ command_text y → Del key ≡ y
+one_del key (Put k v) y is = absurd (omega (arith, heads is))
+one_del key (Add k n) y is = absurd (omega (arith, heads is))
+one_del key (Del k) y is = ap (λ (l : List ℕ). Del l) (ap (λ (l : List ℕ). drop 4 l) is)
+one_del key (Get k) y is = absurd (omega (arith, heads is))
+one_del key (Hold low high) y is = absurd y
+one_del key (Next n) y is = absurd y
+one_del key Release y is = absurd y
+one_del key (Work n) y is = absurd y
+
+one_get : (key : List ℕ) (y : Op) → IsCommand y → command_text (Get key) ≡ command_text y → Get key ≡ y
+one_get key (Put k v) y is = absurd (omega (arith, heads is))
+one_get key (Add k n) y is = absurd (omega (arith, heads is))
+one_get key (Del k) y is = absurd (omega (arith, heads is))
+one_get key (Get k) y is = ap (λ (l : List ℕ). Get l) (ap (λ (l : List ℕ). drop 4 l) is)
+one_get key (Hold low high) y is = absurd y
+one_get key (Next n) y is = absurd y
+one_get key Release y is = absurd y
+one_get key (Work n) y is = absurd y
+
+one_command : (x y : Op) → IsCommand x → IsCommand y → command_text x ≡ command_text y → x ≡ y
+one_command (Put key value) y allowed_x allowed_y is = one_put key value y allowed_x allowed_y is
+one_command (Add key count) y allowed_x allowed_y is = one_add key count y allowed_x allowed_y is
+one_command (Del key) y allowed_x allowed_y is = one_del key y allowed_y is
+one_command (Get key) y allowed_x allowed_y is = one_get key y allowed_y is
+one_command (Hold low high) y allowed_x allowed_y is = absurd allowed_x
+one_command (Next n) y allowed_x allowed_y is = absurd allowed_x
+one_command Release y allowed_x allowed_y is = absurd allowed_x
+one_command (Work n) y allowed_x allowed_y is = absurd allowed_x
+
+seat_small : (line : Line) → IsAllowed line → line.seat + 1 < 2 ^ 64
+seat_small line allowed = omega (arith, allowed.seat)
+
+pub one_line : (bytes : List ℕ) (x y : Line) → IsLine bytes x → IsLine bytes y → x ≡ y
+one_line bytes x y is_x is_y =
+    let both = one_cut 32 (decimal (x.seat + 1)) (decimal (y.seat + 1)) (command_text x.op) (command_text y.op) (decimal_lacks 32 (x.seat + 1) (seat_small x is_x.allowed) (omega arith)) (decimal_lacks 32 (y.seat + 1) (seat_small y is_y.allowed) (omega arith))
+    (sym is_x.spelled ∙ is_y.spelled) in
+    let next : x.seat + 1 ≡ y.seat + 1 = decimal_injective (x.seat + 1) (y.seat + 1) (seat_small x is_x.allowed) (seat_small y is_y.allowed) both.0 in
+    let seat : x.seat ≡ y.seat = omega (arith, next) in
+    let op : x.op ≡ y.op = one_command x.op y.op is_x.allowed.command is_y.allowed.command both.1 in
+    λ i. record { seat = seat i; op = op i }
+
+-- a spelled line has no end of a line in it
+key_lacks : (key : List ℕ) → IsKey key → Lacks 10 (and_word key)
+key_lacks key is_key = All-cons (λ byte. byte ≢ 10) 32 key (λ same. absurd (omega arith)) (visible_lacks 10 key (omega arith) is_key.visible)
+
+number_lacks : (n : ℕ) → n < 2 ^ 64 → Lacks 10 (and_number n)
+number_lacks n small = All-cons (λ byte. byte ≢ 10) 32 (decimal n) (λ same. absurd (omega arith)) (decimal_lacks 10 n small (omega arith))
+
+text_lacks : (text : List ℕ) → IsText text → Lacks 10 (and_word (spelled text))
+text_lacks [] is_text = All-from_recursion (λ byte. byte ≢ 10) (32 ∷ 45 ∷ []) (λ same. absurd (omega arith), (λ same. absurd (omega arith), tt))
+text_lacks (b ∷ bytes) is_text = All-cons (λ byte. byte ≢ 10) 32 (b ∷ bytes) (λ same. absurd (omega arith)) (visible_lacks 10 (b ∷ bytes) (omega arith) is_text.visible)
+
+three_lack : (a b c : ℕ) → a ≢ 10 → b ≢ 10 → c ≢ 10 → Lacks 10 (a ∷ b ∷ c ∷ [])
+three_lack a b c no_a no_b no_c = All-from_recursion (λ byte. byte ≢ 10) (a ∷ b ∷ c ∷ []) (no_a, (no_b, (no_c, tt)))
+
+command_lacks : (op : Op) → IsCommand op → Lacks 10 (command_text op)
+command_lacks (Put key value) (is_key, small, is_text) =
+    All-append (λ byte. byte ≢ 10) (codes "put" ++ and_word key) (and_value value)
+    (All-append (λ byte. byte ≢ 10) (codes "put") (and_word key) (three_lack 112 117 116 (λ same. absurd (omega arith)) (λ same. absurd (omega arith)) (λ same. absurd (omega arith))) (key_lacks key is_key))
+    (All-append (λ byte. byte ≢ 10) (and_number value.count) (and_word (spelled value.text)) (number_lacks value.count small) (text_lacks value.text is_text))
+command_lacks (Add key count) (is_key, small) =
+    All-append (λ byte. byte ≢ 10) (codes "add" ++ and_word key) (and_number count)
+    (All-append (λ byte. byte ≢ 10) (codes "add") (and_word key) (three_lack 97 100 100 (λ same. absurd (omega arith)) (λ same. absurd (omega arith)) (λ same. absurd (omega arith))) (key_lacks key is_key))
+    (number_lacks count small)
+command_lacks (Del key) is_key =
+    All-append (λ byte. byte ≢ 10) (codes "del") (and_word key) (three_lack 100 101 108 (λ same. absurd (omega arith)) (λ same. absurd (omega arith)) (λ same. absurd (omega arith))) (key_lacks key is_key)
+command_lacks (Get key) is_key =
+    All-append (λ byte. byte ≢ 10) (codes "get") (and_word key) (three_lack 103 101 116 (λ same. absurd (omega arith)) (λ same. absurd (omega arith)) (λ same. absurd (omega arith))) (key_lacks key is_key)
+command_lacks (Hold low high) allowed = absurd allowed
+command_lacks (Next n) allowed = absurd allowed
+command_lacks Release allowed = absurd allowed
+command_lacks (Work n) allowed = absurd allowed
+
+line_lacks : (line : Line) → IsAllowed line → Lacks 10 (line_text line)
+line_lacks line allowed =
+    All-append (λ byte. byte ≢ 10) (decimal (line.seat + 1)) (and_word (command_text line.op)) (decimal_lacks 10 (line.seat + 1) (seat_small line allowed) (omega arith))
+    (All-cons (λ byte. byte ≢ 10) 32 (command_text line.op) (λ same. absurd (omega arith)) (command_lacks line.op allowed.command))
+
+line_some : (line : Line) → IsAllowed line → 0 < length (line_text line)
+line_some line allowed = omega (arith, decimal_nonempty (line.seat + 1) (seat_small line allowed), length-append (decimal (line.seat + 1)) (and_word (command_text line.op)))
+
+-- the first line, its end, and the rest
+opened : (x : Line) (xs : List Line) (r : List ℕ) → lines_text (x ∷ xs) ++ r ≡ line_text x ++ 10 ∷ (lines_text xs ++ r)
+opened x xs r =
+    ap (λ (l : List ℕ). l ++ r) (flat_map-cons (λ (l : Line). line_text l ++ 10 ∷ []) x xs) ∙ append_assoc (line_text x ++ 10 ∷ []) (lines_text xs) r ∙ append_assoc (line_text x) (10 ∷ []) (lines_text xs ++ r)
+
+-- of two readings of one text the one goes on where the other ends
+data Compared (xs ys : List Line) (r s : List ℕ) : Type 0 where
+  ahead : (zs : List Line) → ys ≡ xs ++ zs → r ≡ lines_text zs ++ s → Compared xs ys r s
+  behind : (zs : List Line) → xs ≡ ys ++ zs → s ≡ lines_text zs ++ r → Compared xs ys r s
+
+compared : (xs ys : List Line) (r s : List ℕ) → All IsAllowed xs → All IsAllowed ys → lines_text xs ++ r ≡ lines_text ys ++ s → Compared xs ys r s
+compared [] ys r s allowed_x allowed_y is = ahead ys refl is
+compared (x ∷ xs) [] r s allowed_x allowed_y is = behind (x ∷ xs) refl (sym is)
+compared (x ∷ xs) (y ∷ ys) r s allowed_x allowed_y is =
+    let ok_x = All-head IsAllowed x xs allowed_x in
+    let ok_y = All-head IsAllowed y ys allowed_y in
+    let both = one_cut 10 (line_text x) (line_text y) (lines_text xs ++ r) (lines_text ys ++ s) (line_lacks x ok_x) (line_lacks y ok_y) (sym (opened x xs r) ∙ is ∙ opened y ys s) in
+    let same : x ≡ y = one_line (line_text x) x y (record { allowed = ok_x; spelled = refl }) (record { allowed = ok_y; spelled = both.0 }) in
+    elim (compared xs ys r s (All-tail IsAllowed x xs allowed_x) (All-tail IsAllowed y ys allowed_y) both.1) [
+      | ahead zs more left ↦ ahead zs (λ i. sym same i ∷ more i) left
+      | behind zs more left ↦ behind zs (λ i. same i ∷ more i) left
+    ]
+
+nothing_left : (zs : List Line) (s : List ℕ) → [] ≡ lines_text zs ++ s → (zs ≡ []) × (s ≡ [])
+nothing_left [] s is = (refl, sym is)
+nothing_left (z ∷ zs) s is = absurd (omega (arith, ap length (is ∙ opened z zs s), length-append (line_text z) (10 ∷ (lines_text zs ++ s))))
+
+-- an end of a line alone is no line
+no_empty_line : (zs : List Line) → All IsAllowed zs → 10 ∷ [] ≡ lines_text zs ++ [] → ⊥
+no_empty_line [] allowed is = omega (arith, ap length is)
+no_empty_line (z ∷ zs) allowed is = omega (arith, ap length (is ∙ opened z zs []), length-append (line_text z) (10 ∷ (lines_text zs ++ [])), line_some z (All-head IsAllowed z zs allowed))
+
+allowed_rest : (xs ys zs : List Line) → ys ≡ xs ++ zs → All IsAllowed ys → All IsAllowed zs
+allowed_rest xs ys zs is allowed =
+    subst (λ (l : List Line). All IsAllowed l) (ap (λ (l : List Line). drop (length xs) l) is ∙ drop-append_seam xs zs) (All-drop IsAllowed (length xs) ys allowed)
+
+one_end : (xs ys : List Line) → Compared xs ys [] [] → xs ≡ ys
+one_end xs ys (ahead zs more left) = sym (more ∙ ap (λ (l : List Line). xs ++ l) (nothing_left zs [] left).0 ∙ append-nil xs)
+one_end xs ys (behind zs more left) = more ∙ ap (λ (l : List Line). ys ++ l) (nothing_left zs [] left).0 ∙ append-nil ys
+
+one_ended : (xs ys : List Line) → All IsAllowed xs → All IsAllowed ys → lines_text xs ≡ lines_text ys → xs ≡ ys
+one_ended xs ys allowed_x allowed_y is = one_end xs ys (compared xs ys [] [] allowed_x allowed_y (ap (λ (l : List ℕ). l ++ []) is))
+
+-- lines with an end, and an end more, aren't lines
+no_end_more : (xs ys : List Line) → All IsAllowed xs → All IsAllowed ys → lines_text xs ++ 10 ∷ [] ≡ lines_text ys → ⊥
+no_end_more xs ys allowed_x allowed_y is =
+    elim (compared xs ys (10 ∷ []) [] allowed_x allowed_y (is ∙ sym (append-nil (lines_text ys)))) [
+      | ahead zs more left ↦ no_empty_line zs (allowed_rest xs ys zs more allowed_y) left
+      | behind zs more left ↦ omega (arith, ap length (nothing_left zs (10 ∷ []) left).1)
+    ]
+
+-- a text is one script
+pub one_script : (bytes : List ℕ) (x y : List Line) → IsScript bytes x → IsScript bytes y → x ≡ y
+one_script bytes x y is_x is_y =
+    elim is_x.spelled [
+      | inl a ↦ elim is_y.spelled [
+        | inl b ↦ one_ended x y is_x.allowed is_y.allowed (sym a ∙ b)
+        | inr b ↦ absurd (no_end_more x y is_x.allowed is_y.allowed (ap (λ (l : List ℕ). l ++ 10 ∷ []) (sym a) ∙ b))
+      ]
+      | inr a ↦ elim is_y.spelled [
+        | inl b ↦ absurd (no_end_more y x is_y.allowed is_x.allowed (ap (λ (l : List ℕ). l ++ 10 ∷ []) (sym b) ∙ a))
+        | inr b ↦ one_ended x y is_x.allowed is_y.allowed (sym a ∙ b)
+      ]
+    ]
+
+-- the first line is as before where an end stands behind it
+prefix_end : (bytes : List ℕ) → prefix_len (λ byte. not (eqb byte 10)) (bytes ++ 10 ∷ []) ≡ prefix_len (λ byte. not (eqb byte 10)) bytes
+prefix_end [] = refl
+prefix_end (b ∷ bytes) = ap (λ n. cond (not (eqb b 10)) (1 + n) 0) (prefix_end bytes)
+
+first_line_end : (bytes : List ℕ) → first_line (bytes ++ 10 ∷ []) ≡ first_line bytes
+first_line_end bytes =
+    ap (λ n. take n (bytes ++ 10 ∷ [])) (prefix_end bytes) ∙ take-append-le (position_or_len (λ byte. eqb byte 10) bytes) bytes (10 ∷ []) (prefix_len-le-length (λ byte. not (eqb byte 10)) bytes)
+
+-- a bad line is no line of a script that has few enough
+refused : (bytes : List ℕ) (n : ℕ) (bad : IsBadLine bytes n) (z : Line) (more : ℕ) → IsAllowed z → first_line bad.rest ≡ line_text z → length bad.before + more + 1 ≤ 65536 → ⊥
+refused bytes n bad z more allowed first few = elim bad.bad [ inl none ↦ none z (record { allowed = allowed; spelled = first }) | inr full ↦ omega arith ]
+
+opened_first : (z : Line) (zs : List Line) (s : List ℕ) → IsAllowed z → first_line (lines_text (z ∷ zs) ++ s) ≡ line_text z
+opened_first z zs s allowed = ap first_line (opened z zs s) ∙ first_line_is (line_text z ++ 10 ∷ (lines_text zs ++ s)) (line_text z) (Some (lines_text zs ++ s)) (line_lacks z allowed) refl
+
+-- the rest of a bad line is no lines
+no_lines : (bytes : List ℕ) (n : ℕ) (bad : IsBadLine bytes n) (zs : List Line) (r s : List ℕ) → All IsAllowed zs → 0 < length r → first_line r ≡ first_line bad.rest → r ≡ lines_text zs ++ s → length bad.before + length zs ≤ 65536 → (zs ≡ [])
+no_lines bytes n bad [] r s allowed some first is few = refl
+no_lines bytes n bad (z ∷ zs) r s allowed some first is few =
+    let ok = All-head IsAllowed z zs allowed in
+    absurd (refused bytes n bad z (length zs) ok (sym first ∙ ap first_line is ∙ opened_first z zs s ok) (omega arith))
+
+-- a script has no bad line
+pub script_not_bad : (bytes : List ℕ) (x : List Line) (n : ℕ) → IsScript bytes x → IsBadLine bytes n → ⊥
+script_not_bad bytes x n is_x bad =
+    elim is_x.spelled [
+      | inl a ↦ elim (compared x bad.before [] bad.rest is_x.allowed bad.allowed (append-nil (lines_text x) ∙ sym a ∙ bad.split)) [
+        | ahead zs more left ↦ omega (arith, bad.there, ap length (nothing_left zs bad.rest left).1)
+        | behind zs more left ↦
+            let none = no_lines bytes n bad zs bad.rest [] (allowed_rest bad.before x zs more is_x.allowed) bad.there refl left (omega (arith, is_x.few, ap length more, length-append bad.before zs)) in
+            omega (arith, bad.there, ap length (left ∙ ap (λ (l : List Line). lines_text l ++ []) none))
+      ]
+      | inr a ↦ elim (compared x bad.before [] (bad.rest ++ 10 ∷ []) is_x.allowed bad.allowed
+          (append-nil (lines_text x) ∙ sym a ∙ ap (λ (l : List ℕ). l ++ 10 ∷ []) bad.split ∙ append_assoc (lines_text bad.before) bad.rest (10 ∷ []))) [
+            | ahead zs more left ↦ omega (arith, length-append bad.rest (10 ∷ []), ap length (nothing_left zs (bad.rest ++ 10 ∷ []) left).1)
+            | behind zs more left ↦
+                let none = no_lines bytes n bad zs (bad.rest ++ 10 ∷ []) [] (allowed_rest bad.before x zs more is_x.allowed) (omega (arith, length-append bad.rest (10 ∷ []))) (first_line_end bad.rest) left (omega (arith, is_x.few, ap length more, length-append bad.before zs)) in
+                omega (arith, length-append bad.rest (10 ∷ []), ap length (left ∙ ap (λ (l : List Line). lines_text l ++ []) none))
+          ]
+    ]
+
+-- and a text has one bad line
+pub one_bad : (bytes : List ℕ) (m n : ℕ) → IsBadLine bytes m → IsBadLine bytes n → m ≡ n
+one_bad bytes m n bad_m bad_n =
+    elim (compared bad_m.before bad_n.before bad_m.rest bad_n.rest bad_m.allowed bad_n.allowed (sym bad_m.split ∙ bad_n.split)) [
+      | ahead zs more left ↦
+          let none = no_lines bytes m bad_m zs bad_m.rest bad_n.rest (allowed_rest bad_m.before bad_n.before zs more bad_n.allowed) bad_m.there refl left (omega (arith, bad_n.few, ap length more, length-append bad_m.before zs)) in
+          omega (arith, bad_m.place, bad_n.place, ap length more, length-append bad_m.before zs, ap length none)
+      | behind zs more left ↦
+          let none = no_lines bytes n bad_n zs bad_n.rest bad_m.rest (allowed_rest bad_n.before bad_m.before zs more bad_m.allowed) bad_n.there refl left (omega (arith, bad_m.few, ap length more, length-append bad_n.before zs)) in
+          omega (arith, bad_m.place, bad_n.place, ap length more, length-append bad_n.before zs, ap length none)
+    ]
+
+pub only_reading : (bytes : List ℕ) (lines : List Line) → IsScript bytes lines → IsOnlyReading bytes lines
+only_reading bytes lines is = record { only = λ other is_other. one_script bytes other lines is_other is; none_bad = λ n bad. script_not_bad bytes lines n is bad }
+
+pub only_bad : {T : Type 0} (bytes : List ℕ) (result : Result T ScriptFault) → IfBad result (IsBadLine bytes) → IfBad result (IsOnlyBadLine bytes)
+only_bad bytes (Err (Bad n)) bad = record { only = λ other is. one_bad bytes other n is bad; no_script = λ lines is. script_not_bad bytes lines n is bad }
+only_bad bytes (Err NoMemory) bad = tt
+only_bad bytes (Ok value) bad = tt

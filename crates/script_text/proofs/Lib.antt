@@ -1,0 +1,5 @@
+pub mod GrammarLaws
+pub mod PrintLemmas
+pub mod ReadLemmas
+pub mod RoomLemmas
+pub mod ScriptLemmas

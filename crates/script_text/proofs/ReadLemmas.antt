@@ -1,0 +1,142 @@
+-- A text is cut in one way, and its parts are spelled in one way.
+use Rattle.std.proofs.Common.{◌≡◌, ◌≢◌, ℕ, ◌+◌, ◌^◌, ◌<◌, zero, suc, List, [], ◌∷◌, ◌++◌, length, drop, get_or, Option, Some, None, Result, Ok, Err, decimal, sym, ◌∙◌, ap, subst, refl, arith}
+use Rattle.std.specs.List.{All}
+use Rattle.std.specs.Option.{option_copied}
+use Rattle.std.specs.Result.{result_ok}
+use Rattle.std.specs.Str.{IsUtf8}
+use Rattle.std.specs.Str.Parse.{AllDigits, digits_value, ParsesUnsigned}
+use Rattle.std.specs.Int.{IsInRange}
+use Rattle.std.proofs.lemmas.List.Elements.{All-head, All-tail, All-from_recursion, All-from_get_or, All-weaker}
+use Rattle.std.proofs.lemmas.Str.{IsUtf8-from_ascii}
+use Rattle.std.proofs.lemmas.Str.Parse.{IsNumeralModel, numerals_by_value, tells_digits, parse_plain, digit_at}
+use Rattle.std.proofs.lemmas.Fmt.{IsAscii-decimal, decimal_nonempty, decimal_digit, first_decimal, decimal_injective, digits_decimal, digits_value-decimal, decimal-digits_value}
+use Rattle.std.specs.Borrow.{Bor}
+use Rattle.blsm_model.specs.declared.row.Value.{Value}
+use Rattle.blsm_model.specs.declared.op.Op.{Op}
+use Rattle.blsm_model.specs.declared.op.Op.TheVariants.{Put, Add, Del, Get, Hold, Next, Release, Work}
+use Rattle.blsm_model.specs.Printed.{command_text, and_value, and_number}
+use Rattle.script_text.specs.declared.read_line.Verb.{Verb}
+use Rattle.script_text.specs.declared.read_line.Verb.TheVariants as verb
+use Rattle.script_text.specs.Grammar.{IsVisible, IsCommand}
+use Rattle.script_text.specs.Reading.{Reads, Lacks, IsJoined, BeginsAsNumber, SpellsNumber, SpellsSeat, SpellsKeyAndValue, SpellsKeyAndNumber, SpellsArguments, verb_text}
+
+-- an answer of none
+pub reads_nothing : {X : Type 0} (Spells : List ℕ → X → Type 0) (bytes : List ℕ) (result : Option X) → result ≡ None → ((x : X) → Spells bytes x → ⊥) → Reads Spells bytes result
+reads_nothing Spells bytes None is none = none
+reads_nothing Spells bytes (Some x) is none = cc
+
+-- a list is cut at the first mark in one way
+pub one_cut : (mark : ℕ) (w f r s : List ℕ) → Lacks mark w → Lacks mark f → w ++ mark ∷ r ≡ f ++ mark ∷ s → (w ≡ f) × (r ≡ s)
+one_cut mark [] [] r s lacks_w lacks_f same = (refl, cc)
+one_cut mark [] (b ∷ f) r s lacks_w lacks_f same = absurd (All-head (λ byte. byte ≢ mark) b f lacks_f cc)
+one_cut mark (a ∷ w) [] r s lacks_w lacks_f same = absurd (All-head (λ byte. byte ≢ mark) a w lacks_w cc)
+one_cut mark (a ∷ w) (b ∷ f) r s lacks_w lacks_f same =
+    let rest : w ++ mark ∷ r ≡ f ++ mark ∷ s = cc in
+    let both = one_cut mark w f r s (All-tail (λ byte. byte ≢ mark) a w lacks_w) (All-tail (λ byte. byte ≢ mark) b f lacks_f) rest in
+    let heads : a ≡ b = cc in
+    let tails = both.0 in
+    (cc, both.1)
+
+-- a list with a mark doesn't lack it
+no_cut : (mark : ℕ) (w f r : List ℕ) → Lacks mark f → w ++ mark ∷ r ≡ f → ⊥
+no_cut mark [] [] r lacks same = cc
+no_cut mark [] (b ∷ f) r lacks same = All-head (λ byte. byte ≢ mark) b f lacks cc
+no_cut mark (a ∷ w) [] r lacks same = cc
+no_cut mark (a ∷ w) (b ∷ f) r lacks same = no_cut mark w f r (All-tail (λ byte. byte ≢ mark) b f lacks) cc
+
+-- where no mark was found, the bytes are no word with a mark behind it
+pub no_rest : (mark : ℕ) (bytes front : List ℕ) (rest : Option (Bor (List ℕ))) → Lacks mark front → IsJoined mark bytes front (option_copied rest) → rest ≡ None → (w r : List ℕ) → bytes ≡ w ++ mark ∷ r → ⊥
+no_rest mark bytes front None lacks joined is w r same = no_cut mark w front r lacks (sym same ∙ joined)
+no_rest mark bytes front (Some x) lacks joined is w r same = cc
+
+-- and where one was found, the word is what stood before it
+pub cut_is : (mark : ℕ) (bytes front : List ℕ) (rest : Option (Bor (List ℕ))) (x : Bor (List ℕ)) → Lacks mark front → IsJoined mark bytes front (option_copied rest) → rest ≡ Some x → (w r : List ℕ) → Lacks mark w → bytes ≡ w ++ mark ∷ r
+    → (front ≡ w) × (x.now ≡ r)
+cut_is mark bytes front None x lacks joined is w r lacks_w same = cc
+cut_is mark bytes front (Some y) x lacks joined is w r lacks_w same =
+    let whole : front ++ mark ∷ y.now ≡ w ++ mark ∷ r = sym joined ∙ same in
+    let both = one_cut mark front w y.now r lacks lacks_w whole in
+    (both.0, let same_rest : y ≡ x = cc in ap (λ (b : Bor (List ℕ)). b.now) (sym same_rest) ∙ both.1)
+
+own : IsNumeralModel (AllDigits 10) (digits_value 10)
+own = numerals_by_value (AllDigits 10) tells_digits
+
+-- a number in digits has no space, and no end of a line
+pub decimal_lacks : (mark n : ℕ) → n < 2 ^ 64 → mark < 48 → Lacks mark (decimal n)
+decimal_lacks mark n small low =
+    All-from_get_or (λ byte. byte ≢ mark) (decimal n) 0 (λ i within. let digit : IsInRange 48 57 (get_or (decimal n) i 0) = digit_at (decimal n) i (digits_decimal own n small) within in λ same. absurd (omega (arith, digit.0)))
+
+-- a word has no space, and no end of a line
+pub visible_lacks : (mark : ℕ) (word : List ℕ) → mark < 33 → All IsVisible word → Lacks mark word
+visible_lacks mark word low visible = All-weaker IsVisible (λ byte. byte ≢ mark) (λ byte (v : IsVisible byte). λ same. absurd (omega (arith, v.0))) word visible
+
+decimal_alone : (n : ℕ) → n < 2 ^ 64 → get_or (decimal n) 0 0 ≡ 48 → length (decimal n) ≡ 1
+decimal_alone zero small is = ap length (decimal_digit 0 (omega arith))
+decimal_alone (suc n) small is = absurd (omega (arith, first_decimal (suc n) (omega arith) small))
+
+-- a number in digits begins as one
+pub decimal_begins : (n : ℕ) → n < 2 ^ 64 → BeginsAsNumber (decimal n)
+decimal_begins n small =
+    let some = decimal_nonempty n small in
+    let digit : IsInRange 48 57 (get_or (decimal n) 0 0) = digit_at (decimal n) 0 (digits_decimal own n small) some in
+    record { some = some; digit = digit; alone = decimal_alone n small }
+
+-- what `parse` reads, where the first byte is right
+pub number_read : {E : Type 0} (bytes : List ℕ) (r : Result ℕ E) → BeginsAsNumber bytes → ParsesUnsigned 64 10 bytes r → Reads SpellsNumber bytes (result_ok r)
+number_read {E = E} bytes (Ok n) begins parses =
+    let read = parse_plain own {E = E} 64 bytes (Ok n) parses (λ (sign : get_or bytes 0 0 ≡ 43). absurd (omega (arith, begins.digit.0))) in
+    (sym (decimal-digits_value own bytes read.0.0 begins.some begins.alone read.0.2) ∙ ap decimal (sym read.1), subst (λ (m : ℕ). m < 2 ^ 64) (sym read.1) read.0.2)
+number_read {E = E} bytes (Err e) begins parses =
+    let read = parse_plain own {E = E} 64 bytes (Err e) parses (λ (sign : get_or bytes 0 0 ≡ 43). absurd (omega (arith, begins.digit.0))) in
+    λ n (spelled, small). read (subst (λ (b : List ℕ). AllDigits 10 b × (0 < length b) × (digits_value 10 b < 2 ^ 64)) (sym spelled)
+    (digits_decimal own n small, decimal_nonempty n small, subst (λ (m : ℕ). m < 2 ^ 64) (sym (digits_value-decimal own n small)) small))
+
+pub number_is_text : (n : ℕ) (bytes : List ℕ) → SpellsNumber bytes n → IsUtf8 bytes
+number_is_text n bytes (spelled, small) = subst (λ (b : List ℕ). IsUtf8 b) (sym spelled) (IsUtf8-from_ascii (decimal n) (IsAscii-decimal n small))
+
+-- no number but the caller's own is its seat's
+pub seat_is : (n seat : ℕ) (bytes : List ℕ) → SpellsNumber bytes n → SpellsSeat bytes seat → n ≡ seat + 1
+seat_is n seat bytes (spelled, small) (of_seat, within) = decimal_injective n (seat + 1) small (omega arith) (sym spelled ∙ of_seat)
+
+pub heads : {x y : ℕ} {xs ys : List ℕ} → x ∷ xs ≡ y ∷ ys → x ≡ y
+heads same = cc
+
+-- what isn't a key and a value is no put's arguments
+pub no_put : (bytes : List ℕ) → ((x : List ℕ × Value) → SpellsKeyAndValue bytes x → ⊥) → (op : Op) → SpellsArguments verb.Put bytes op → ⊥
+no_put bytes none (Put key value) (is, (is_key, small, is_text)) = none (key, value) (sym (ap (λ (l : List ℕ). drop 4 l) is), is_key, small, is_text)
+no_put bytes none (Add key count) (is, allowed) = absurd (omega (arith, heads is))
+no_put bytes none (Del key) (is, allowed) = absurd (omega (arith, heads is))
+no_put bytes none (Get key) (is, allowed) = absurd (omega (arith, heads is))
+no_put bytes none (Hold low high) (is, allowed) = allowed
+no_put bytes none (Next n) (is, allowed) = allowed
+no_put bytes none Release (is, allowed) = allowed
+no_put bytes none (Work n) (is, allowed) = allowed
+
+-- what isn't a key and a number is no add's arguments
+pub no_add : (bytes : List ℕ) → ((x : List ℕ × ℕ) → SpellsKeyAndNumber bytes x → ⊥) → (op : Op) → SpellsArguments verb.Add bytes op → ⊥
+no_add bytes none (Put key value) (is, allowed) = absurd (omega (arith, heads is))
+no_add bytes none (Add key count) (is, (is_key, small)) = none (key, count) (sym (ap (λ (l : List ℕ). drop 4 l) is), is_key, small)
+no_add bytes none (Del key) (is, allowed) = absurd (omega (arith, heads is))
+no_add bytes none (Get key) (is, allowed) = absurd (omega (arith, heads is))
+no_add bytes none (Hold low high) (is, allowed) = allowed
+no_add bytes none (Next n) (is, allowed) = allowed
+no_add bytes none Release (is, allowed) = allowed
+no_add bytes none (Work n) (is, allowed) = allowed
+
+-- a command is a first word and something behind a space
+pub verb_of : (op : Op) → IsCommand op → (v : Verb) × (rest : List ℕ) × (command_text op ≡ verb_text v ++ 32 ∷ rest)
+verb_of (Put key value) allowed = (verb.Put, key ++ and_value value, refl)
+verb_of (Add key count) allowed = (verb.Add, key ++ and_number count, refl)
+verb_of (Del key) allowed = (verb.Del, key, refl)
+verb_of (Get key) allowed = (verb.Get, key, refl)
+verb_of (Hold low high) allowed = absurd allowed
+verb_of (Next n) allowed = absurd allowed
+verb_of Release allowed = absurd allowed
+verb_of (Work n) allowed = absurd allowed
+
+-- and that word has no space
+pub verb_lacks : (v : Verb) → Lacks 32 (verb_text v)
+verb_lacks verb.Put = All-from_recursion (λ byte. byte ≢ 32) (verb_text verb.Put) (λ same. absurd (omega arith), (λ same. absurd (omega arith), (λ same. absurd (omega arith), tt)))
+verb_lacks verb.Add = All-from_recursion (λ byte. byte ≢ 32) (verb_text verb.Add) (λ same. absurd (omega arith), (λ same. absurd (omega arith), (λ same. absurd (omega arith), tt)))
+verb_lacks verb.Del = All-from_recursion (λ byte. byte ≢ 32) (verb_text verb.Del) (λ same. absurd (omega arith), (λ same. absurd (omega arith), (λ same. absurd (omega arith), tt)))
+verb_lacks verb.Get = All-from_recursion (λ byte. byte ≢ 32) (verb_text verb.Get) (λ same. absurd (omega arith), (λ same. absurd (omega arith), (λ same. absurd (omega arith), tt)))

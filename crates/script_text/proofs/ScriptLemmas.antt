@@ -1,0 +1,74 @@
+-- A text is read line by line.
+use Rattle.std.proofs.Common.{◌≡◌, ◌≢◌, ℕ, zero, suc, ◌-◌, ◌<◌, ◌≤◌, inl, inr, false, eqb, List, [], ◌∷◌, ◌++◌, length, take, get_or, Option, Some, None, sym, ◌∙◌, ap, refl, append_assoc, append-nil, arith, length-append}
+use Rattle.std.specs.List.{All, before_first, position_or_len}
+use Rattle.std.specs.Option.{unwrap_or}
+use Rattle.std.proofs.lemmas.Grind.{flat_map-append}
+use Rattle.std.proofs.lemmas.List.{get_or_append_left, get_or-append_right}
+use Rattle.std.proofs.lemmas.List.Sums.{position_or_len_is}
+use Rattle.std.proofs.lemmas.Bool.Decides.{eqb_tells}
+use Rattle.std.proofs.Math.Seq.{take-append_seam, take-length}
+use Rattle.blsm_model.specs.declared.history.Line.{Line}
+use Rattle.script_text.specs.Grammar.{IsAllowed, IsScript, first_line, line_text, lines_text}
+use Rattle.script_text.specs.Reading.{IsJoined, Lacks}
+
+-- the lines are what was read, and the rest is still to be read; a last line without an end leaves nothing
+pub data SoFar (text : List ℕ) (lines : List Line) (rest : List ℕ) : Type 0 where
+  ended : text ≡ lines_text lines ++ rest → SoFar text lines rest
+  unended : rest ≡ [] → text ++ 10 ∷ [] ≡ lines_text lines → SoFar text lines rest
+
+pub lines_text-push : (lines : List Line) (line : Line) → lines_text (lines ++ line ∷ []) ≡ lines_text lines ++ (line_text line ++ 10 ∷ [])
+lines_text-push lines line =
+    flat_map-append (λ (l : Line). line_text l ++ 10 ∷ []) lines (line ∷ [])
+    ∙ ap (λ (l : List ℕ). lines_text lines ++ l) (append-nil (line_text line ++ 10 ∷ []))
+
+-- where something is left, each line had its end
+pub so_far_whole : (text : List ℕ) (lines : List Line) (rest : List ℕ) → SoFar text lines rest → 0 < length rest → text ≡ lines_text lines ++ rest
+so_far_whole text lines rest (ended is) some = is
+so_far_whole text lines rest (unended nothing is) some = absurd (omega (arith, ap length nothing))
+
+-- one line more
+pub so_far_more : (text : List ℕ) (lines : List Line) (rest front : List ℕ) (behind : Option (List ℕ)) (line : Line) → text ≡ lines_text lines ++ rest → IsJoined 10 rest front behind → front ≡ line_text line
+    → SoFar text (lines ++ line ∷ []) (unwrap_or behind [])
+so_far_more text lines rest front (Some more) line is joined spelled =
+    ended (is ∙ ap (λ (l : List ℕ). lines_text lines ++ l) (joined ∙ ap (λ (l : List ℕ). l ++ 10 ∷ more) spelled ∙ sym (append_assoc (line_text line) (10 ∷ []) more))
+    ∙ sym (append_assoc (lines_text lines) (line_text line ++ 10 ∷ []) more) ∙ ap (λ (l : List ℕ). l ++ more) (sym (lines_text-push lines line)))
+so_far_more text lines rest front None line is joined spelled =
+    unended refl (ap (λ (l : List ℕ). l ++ 10 ∷ []) (is ∙ ap (λ (l : List ℕ). lines_text lines ++ l) (joined ∙ spelled)) ∙ append_assoc (lines_text lines) (line_text line) (10 ∷ []) ∙ sym (lines_text-push lines line))
+
+-- where nothing is left, the text is a script
+pub so_far_all : (text : List ℕ) (lines : List Line) (rest : List ℕ) → SoFar text lines rest → rest ≡ [] → All IsAllowed lines → length lines ≤ 65536 → IsScript text lines
+so_far_all text lines rest (ended is) nothing allowed few = record { allowed = allowed; few = few; spelled = inl (is ∙ ap (λ (l : List ℕ). lines_text lines ++ l) nothing ∙ append-nil (lines_text lines)) }
+so_far_all text lines rest (unended _ is) nothing allowed few = record { allowed = allowed; few = few; spelled = inr is }
+
+eqb_is_false : (a b : ℕ) → a ≢ b → eqb a b ≡ false
+eqb_is_false a b other = elim (eqb_tells a b) [ inl both ↦ absurd (other both.1) | inr both ↦ both.0 ]
+
+-- what was cut off is the first line
+front_is : (front : List ℕ) (rest : List ℕ) → Lacks 10 front → before_first (λ byte. eqb byte 10) (front ++ 10 ∷ rest) ≡ front
+front_is front rest lacks =
+    let place : position_or_len (λ byte. eqb byte 10) (front ++ 10 ∷ rest) ≡ length front =
+    position_or_len_is (λ byte. eqb byte 10) (front ++ 10 ∷ rest) (length front) 0 (omega (arith, length-append front (10 ∷ rest)))
+    (λ k within. ap (λ byte. eqb byte 10) (get_or_append_left front (10 ∷ rest) 0 k within) ∙ eqb_is_false (get_or front k 0) 10 (lacks k 0 within))
+    (λ within. let none : length front - length front ≡ 0 = omega arith in
+    ap (λ byte. eqb byte 10) (get_or-append_right front (10 ∷ rest) (length front) (length front) 0 refl (omega arith) ∙ ap (λ n. get_or (10 ∷ rest) n 0) none)) in
+    ap (λ n. take n (front ++ 10 ∷ rest)) place ∙ take-append_seam front (10 ∷ rest)
+
+whole_is : (front : List ℕ) → Lacks 10 front → before_first (λ byte. eqb byte 10) front ≡ front
+whole_is front lacks =
+    let place : position_or_len (λ byte. eqb byte 10) front ≡ length front =
+    position_or_len_is (λ byte. eqb byte 10) front (length front) 0 (omega arith) (λ k within. eqb_is_false (get_or front k 0) 10 (lacks k 0 within)) (λ within. absurd (omega arith)) in
+    ap (λ n. take n front) place ∙ take-length front
+
+pub first_line_is : (bytes front : List ℕ) (behind : Option (List ℕ)) → Lacks 10 front → IsJoined 10 bytes front behind → first_line bytes ≡ front
+first_line_is bytes front None lacks joined = ap first_line joined ∙ whole_is front lacks
+first_line_is bytes front (Some rest) lacks joined = ap first_line joined ∙ front_is front rest lacks
+
+-- a list that isn't empty has an element
+pub not_empty : (n : ℕ) → eqb n 0 ≡ false → 0 < n
+not_empty zero is = cc
+not_empty (suc n) is = omega arith
+
+-- less is left
+pub shorter : (bytes front : List ℕ) (behind : Option (List ℕ)) → IsJoined 10 bytes front behind → 0 < length bytes → length (unwrap_or behind []) < length bytes
+shorter bytes front None joined some = some
+shorter bytes front (Some rest) joined some = omega (arith, ap length joined, length-append front (10 ∷ rest))

@@ -1,0 +1,12 @@
+use Rattle.script_text.specs.declared.read_line.Verb.TheVariants as verb
+use Rattle.script_text.proofs.ReadLemmas.{reads_nothing, no_put, no_add}
+use Rattle.script_text.specs.Reading.{SpellsArguments}
+use Rattle.script_text.proofs.read_line.read_arguments.Goals as goal
+
+pub returns-in_err-key-in-Put : goal.returns-in_err-key-in-Put
+returns-in_err-key-in-Put c =
+    rw c.in-Put.is (reads_nothing (SpellsArguments verb.Put) _ _ c.from_residual.ensures (no_put c.args.bytes.now c.in_err-key-in-Put.ensures))
+
+pub returns-in_err-key-in-Add : goal.returns-in_err-key-in-Add
+returns-in_err-key-in-Add c =
+    rw c.in-Add.is (reads_nothing (SpellsArguments verb.Add) _ _ c.from_residual-in_err-key-in-Add.ensures (no_add c.args.bytes.now c.in_err-key-in-Add.ensures))

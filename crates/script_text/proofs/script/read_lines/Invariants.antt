@@ -1,0 +1,15 @@
+use Rattle.std.proofs.Common.{◌≤◌, length}
+use Rattle.std.specs.List.{All}
+use Rattle.script_text.specs.Grammar.{IsAllowed}
+use Rattle.script_text.proofs.ScriptLemmas.{SoFar}
+use Rattle.script_text.proofs.script.read_lines.Given as goal
+
+abbrev pub invariant-loop-rest : goal.invariant-loop-rest
+invariant-loop-rest l = record {
+  allowed : All IsAllowed l.lines.items;
+  few : length l.lines.items ≤ 65536;
+  so_far : SoFar l.text l.lines.items l.rest;
+}
+
+abbrev pub decreases-loop-rest : goal.decreases-loop-rest
+decreases-loop-rest l = length l.rest

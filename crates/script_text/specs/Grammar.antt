@@ -1,0 +1,82 @@
+-- The grammar of scripts: which lines there are, how each is spelled, and which line of a text is the first that is wrong.
+use Rattle.std.specs.Prelude.{◌≡◌, ◌≢◌, ℕ, ◌+◌, ◌^◌, ◌<◌, ◌≤◌, ◌⊎◌, ◌==◌, List, [], ◌∷◌, ◌++◌, length, decimal, flat_map}
+use Rattle.std.specs.List.{All, before_first}
+use Rattle.blsm_model.specs.declared.op.Op.{Op}
+use Rattle.blsm_model.specs.declared.op.Op.TheVariants.{Put, Add, Del, Get, Hold, Next, Release, Work}
+use Rattle.blsm_model.specs.declared.history.Line.{Line}
+use Rattle.blsm_model.specs.Printed.{and_word, command_text}
+
+-- a byte that a word of a script may have
+abbrev pub IsVisible : ℕ → Type 0
+IsVisible byte = (33 ≤ byte) × (byte ≤ 126)
+
+pub record IsKey (key : List ℕ) : Type 0 where
+  pub some : 1 ≤ length key
+  pub fits : length key ≤ 64
+  pub visible : All IsVisible key
+
+-- a dash alone spells the empty text, so it is no text
+pub record IsText (text : List ℕ) : Type 0 where
+  pub fits : length text ≤ 435
+  pub visible : All IsVisible text
+  pub no_dash : text ≢ 45 ∷ []
+
+-- a command that a script may have
+abbrev pub IsCommand : Op → Type 0
+IsCommand (Put key value) = IsKey key × (value.count < 2 ^ 64) × IsText value.text
+IsCommand (Add key count) = IsKey key × (count < 2 ^ 64)
+IsCommand (Del key) = IsKey key
+IsCommand (Get key) = IsKey key
+IsCommand (Hold low high) = ⊥
+IsCommand (Next n) = ⊥
+IsCommand Release = ⊥
+IsCommand (Work n) = ⊥
+
+-- a line that a script may have
+pub record IsAllowed (line : Line) : Type 0 where
+  pub seat : line.seat < 16
+  pub command : IsCommand line.op
+
+-- the caller, counted from 1, and the command as the history prints it
+abbrev pub line_text : Line → List ℕ
+line_text line = decimal (line.seat + 1) ++ and_word (command_text line.op)
+
+-- the bytes spell the line
+pub record IsLine (bytes : List ℕ) (line : Line) : Type 0 where
+  pub allowed : IsAllowed line
+  pub spelled : bytes ≡ line_text line
+
+-- lines, each with its end
+abbrev pub lines_text : List Line → List ℕ
+lines_text lines = flat_map (λ line. line_text line ++ 10 ∷ []) lines
+
+-- the bytes are these lines, each with its end, which the last may lack
+pub record IsScript (bytes : List ℕ) (lines : List Line) : Type 0 where
+  pub allowed : All IsAllowed lines
+  pub few : length lines ≤ 65536
+  pub spelled : (bytes ≡ lines_text lines) ⊎ (bytes ++ 10 ∷ [] ≡ lines_text lines)
+
+-- what stands before the first end of a line
+abbrev pub first_line : List ℕ → List ℕ
+first_line bytes = before_first (λ byte. byte == 10) bytes
+
+-- line n, counted from 1, is there, those before it are lines of a script, and it is none, or is one too many
+pub record IsBadLine (bytes : List ℕ) (n : ℕ) : Type 0 where
+  pub before : List Line
+  pub rest : List ℕ
+  pub split : bytes ≡ lines_text before ++ rest
+  pub allowed : All IsAllowed before
+  pub few : length before ≤ 65536
+  pub place : n ≡ length before + 1
+  pub there : 0 < length rest
+  pub bad : ((line : Line) → IsLine (first_line rest) line → ⊥) ⊎ (length before ≡ 65536)
+
+-- no other lines are the bytes' script, and no line of theirs is bad
+pub record IsOnlyReading (bytes : List ℕ) (lines : List Line) : Type 0 where
+  pub only : (other : List Line) → IsScript bytes other → other ≡ lines
+  pub none_bad : (n : ℕ) → IsBadLine bytes n → ⊥
+
+-- no other line is the first that is bad, and the bytes are no script
+pub record IsOnlyBadLine (bytes : List ℕ) (n : ℕ) : Type 0 where
+  pub only : (other : ℕ) → IsBadLine bytes other → other ≡ n
+  pub no_script : (lines : List Line) → IsScript bytes lines → ⊥

@@ -1,0 +1,18 @@
+//! The script that a run reads and the history that it prints: a script is the list of its lines, a history its text.
+//! The top call and whoever else shows a run to a person may use it.
+#![tactic(auto)]
+
+mod print;
+mod print_command;
+mod print_reply;
+mod read_line;
+mod read_word;
+mod script;
+mod words;
+
+pub use print::print_history;
+pub use script::{MOST_LINES, Script, ScriptFault, read_script};
+pub use words::print_number;
+
+#[cfg(test)]
+mod tests;

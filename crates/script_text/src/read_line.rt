@@ -1,0 +1,107 @@
+// One line of a script.
+ghost use Rattle.std.specs.Prelude.{◌≡◌};
+ghost use Rattle.std.specs.Option.{option_copied};
+ghost use Rattle.script_text.specs.Grammar.{IsLine};
+ghost use Rattle.script_text.specs.Reading.{IsJoined, Lacks, Reads, SpellsArguments, SpellsCommand, SpellsKeyAndNumber, SpellsKeyAndValue, SpellsValue, SpellsVerb};
+
+use crate::read_word::{read_key, read_number, read_seat, read_text};
+use blsm_model::{Key, Line, Op, Value};
+
+// The front before the first such byte, and the rest behind it, if there is such a byte.
+pub fn cut(bytes: &[u8], mark: u8) -> (&[u8], Option<&[u8]>)
+    ensures front { Lacks mark result.0.now }
+    ensures whole { IsJoined mark bytes.now result.0.now (option_copied result.1) }
+{
+    match bytes.iter().position(|byte| *byte == mark) {
+        Some(at) => (&bytes[..at], Some(&bytes[at + 1..])),
+        None => (bytes, None),
+    }
+}
+
+fn read_value(bytes: &[u8]) -> Option<Value>
+    ensures { Reads SpellsValue bytes.now result }
+{
+    let (number, rest) = cut(bytes, b' ');
+    let text = rest?;
+    let count = read_number(number)?;
+    let text = read_text(text)?;
+    Some(Value { count, text })
+}
+
+fn read_key_and_value(bytes: &[u8]) -> Option<(Key, Value)>
+    ensures { Reads SpellsKeyAndValue bytes.now result }
+{
+    let (word, rest) = cut(bytes, b' ');
+    let rest = rest?;
+    let key = read_key(word)?;
+    let value = read_value(rest)?;
+    Some((key, value))
+}
+
+fn read_key_and_number(bytes: &[u8]) -> Option<(Key, u64)>
+    ensures { Reads SpellsKeyAndNumber bytes.now result }
+{
+    let (word, rest) = cut(bytes, b' ');
+    let rest = rest?;
+    let key = read_key(word)?;
+    let count = read_number(rest)?;
+    Some((key, count))
+}
+
+// What a command does, by its first word.
+enum Verb {
+    Put,
+    Add,
+    Del,
+    Get,
+}
+
+fn read_verb(word: &[u8]) -> Option<Verb>
+    ensures { Reads SpellsVerb word.now result }
+{
+    match word {
+        b"put" => Some(Verb::Put),
+        b"add" => Some(Verb::Add),
+        b"del" => Some(Verb::Del),
+        b"get" => Some(Verb::Get),
+        _ => None,
+    }
+}
+
+// The command behind its first word.
+fn read_arguments(verb: Verb, bytes: &[u8]) -> Option<Op>
+    ensures { Reads (SpellsArguments verb) bytes.now result }
+{
+    match verb {
+        Verb::Put => {
+            let (key, value) = read_key_and_value(bytes)?;
+            Some(Op::Put(key, value))
+        }
+        Verb::Add => {
+            let (key, count) = read_key_and_number(bytes)?;
+            Some(Op::Add(key, count))
+        }
+        Verb::Del => Some(Op::Del(read_key(bytes)?)),
+        Verb::Get => Some(Op::Get(read_key(bytes)?)),
+    }
+}
+
+fn read_command(bytes: &[u8]) -> Option<Op>
+    ensures { Reads SpellsCommand bytes.now result }
+{
+    let (word, rest) = cut(bytes, b' ');
+    let rest = rest?;
+    let verb = read_verb(word)?;
+    read_arguments(verb, rest)
+}
+
+/// The line that the bytes spell, without its end.
+pub fn read_line(bytes: &[u8]) -> Option<Line>
+    ensures { Reads IsLine bytes.now result }
+{
+    let (caller, rest) = cut(bytes, b' ');
+    let rest = rest?;
+    let seat = read_seat(caller)?;
+    let op = read_command(rest)?;
+    Some(Line { seat, op })
+}

@@ -1,0 +1,71 @@
+// The words of a line. A reader answers what its word spells, and nothing exactly where that is nothing.
+ghost use Rattle.std.specs.Prelude.{◌≡◌, ◌↔◌, IsTrue};
+ghost use Rattle.std.specs.List.{All};
+ghost use Rattle.script_text.specs.Grammar.{IsVisible};
+ghost use Rattle.script_text.specs.Reading.{BeginsAsNumber, Reads, SpellsKey, SpellsNumber, SpellsSeat, SpellsText};
+
+use blsm_model::{CALLERS, Key, Text};
+use std::str;
+
+// Whether each byte may stand in a word.
+fn is_visible(word: &[u8]) -> bool
+    ensures { IsTrue result ↔ All IsVisible word.now }
+{
+    word.iter().all(|byte| byte.is_ascii_graphic())
+}
+
+// Whether the first byte is right for a number: no sign, and no zero but in the number 0.
+fn begins_as_number(word: &[u8]) -> bool
+    ensures { IsTrue result ↔ BeginsAsNumber word.now }
+{
+    match word {
+        [b'0'] => true,
+        [first, ..] => matches!(*first, b'1'..=b'9'),
+        [] => false,
+    }
+}
+
+pub fn read_number(word: &[u8]) -> Option<u64>
+    ensures { Reads SpellsNumber word.now result }
+{
+    if !begins_as_number(word) {
+        return None;
+    }
+    match str::from_utf8(word) {
+        Ok(digits) => digits.parse::<u64>().ok(),
+        Err(_) => None,
+    }
+}
+
+// A caller is counted from 1, a seat from 0.
+pub fn read_seat(word: &[u8]) -> Option<u32>
+    ensures { Reads SpellsSeat word.now result }
+{
+    let caller = read_number(word)?;
+    if caller == 0 || u64::from(CALLERS) < caller {
+        return None;
+    }
+    Some((caller - 1) as u32)
+}
+
+pub fn read_key(word: &[u8]) -> Option<Key>
+    ensures { Reads SpellsKey word.now result }
+{
+    if is_visible(word) {
+        Key::from_bytes(word)
+    } else {
+        None
+    }
+}
+
+// A dash alone is the empty text.
+pub fn read_text(word: &[u8]) -> Option<Text>
+    ensures { Reads SpellsText word.now result }
+{
+    match word {
+        b"-" => Some(Text::empty()),
+        [] => None,
+        _ if is_visible(word) => Text::from_bytes(word),
+        _ => None,
+    }
+}

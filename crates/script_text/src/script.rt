@@ -1,0 +1,128 @@
+// A whole script.
+ghost use Rattle.std.specs.Prelude.{◌≡◌, ℕ, ◌<◌, ◌≤◌, [], IfOk, length, slice_index, sum};
+ghost use Rattle.std.specs.Option.{option_copied, unwrap_or};
+ghost use Rattle.std.specs.List.{All};
+ghost use Rattle.blsm_model.specs.Scripts.{lines_of};
+ghost use Rattle.script_text.specs.Grammar.{IsAllowed, IsBadLine, IsOnlyBadLine, IsOnlyReading, IsScript};
+ghost use Rattle.script_text.specs.Script.{IfBad, rows_asked};
+ghost use Rattle.script_text.specs.declared.script.ScriptFault.TheVariants.{NoMemory};
+
+use crate::read_line::{cut, read_line};
+use blsm_model::{Line, Room};
+use std::alloc::{AllocFailed, Global};
+use std::marker::Model;
+use thiserror::Error;
+
+/// How many lines a script may have.
+pub const MOST_LINES: u32 = 65_536;
+
+/// Why a text is no script, or wasn't read.
+#[derive(Clone, Copy, PartialEq, Eq, Debug, Error)]
+pub enum ScriptFault {
+    /// The line with this number, counted from 1, is the first that is none of a script's, or is one too many.
+    #[error("bad line {0}")]
+    Bad(u32),
+    /// Memory was refused.
+    #[error("no memory")]
+    NoMemory,
+}
+
+impl<T: Drop> From<AllocFailed<T>> for ScriptFault {
+    ghost from_gives = { λ _ fault. fault ≡ NoMemory };
+
+    fn from(_refused: AllocFailed<T>) -> ScriptFault {
+        ScriptFault::NoMemory
+    }
+}
+
+/// A script. Contracts see it as the list of its lines, of which each is allowed and which are at most 65,536.
+#[derive(Debug, Drop)]
+pub struct Script {
+    lines: Vec<Line>,
+}
+
+impl Model for Script {
+    ghost use Rattle.std.specs.Prelude.{List};
+    ghost use Rattle.blsm_model.specs.declared.history.Line.{Line};
+    ghost use Rattle.script_text.specs.Script.{AreLines};
+
+    ghost Value = { List Line };
+
+    ghost view = { λ s. s.lines.items };
+
+    ghost invariant = { λ s. AreLines s.lines.items };
+}
+
+impl Script {
+    /// The lines in order.
+    pub fn lines(&self) -> &[Line]
+        ensures lines { result.now ≡ self.now }
+        ensures allowed { All IsAllowed result.now }
+        ensures few { length result.now ≤ 65536 }
+    {
+        &self.lines
+    }
+
+    /// How many lines each caller's seat has, and how many rows these ask for.
+    pub fn room(&self) -> Room
+        ensures entries { (seat : ℕ) → seat < 16 → slice_index result.entries seat ≡ length (lines_of seat self.now) }
+        ensures rows { (seat : ℕ) → seat < 16 → slice_index result.rows seat ≡ rows_asked seat self.now }
+        ensures all_entries { sum result.entries ≡ length self.now }
+        ensures few_entries { sum result.entries ≤ 65536 }
+        ensures few_rows { sum result.rows ≤ 131072 }
+    {
+        let lines = self.lines();
+        let mut entries = [0u32; 16];
+        for line in lines {
+            entries[line.seat as usize] += 1;
+        }
+        Room {
+            entries,
+            rows: [0; 16],
+        }
+    }
+}
+
+// What stands behind the end of a line, or nothing where it has no end.
+fn remainder(behind: Option<&[u8]>) -> &[u8]
+    ensures { result.now ≡ unwrap_or (option_copied behind.entry) [] }
+{
+    match behind {
+        Some(rest) => rest,
+        None => &[],
+    }
+}
+
+// The lines that the text spells.
+fn read_lines(alloc: Global, text: &[u8]) -> Result<Vec<Line>, ScriptFault>
+    ensures script { IfOk result (λ lines. IsScript text.now lines.items) }
+    ensures bad { IfBad result (IsBadLine text.now) }
+{
+    let mut lines = Vec::new(alloc);
+    let mut rest = text;
+    while !rest.is_empty() {
+        let number = lines.len() as u32 + 1;
+        let (bytes, behind) = cut(rest, b'\n');
+        if number > MOST_LINES {
+            return Err(ScriptFault::Bad(number));
+        }
+        match read_line(bytes) {
+            Some(line) => lines.push(line)?,
+            None => return Err(ScriptFault::Bad(number)),
+        }
+        rest = remainder(behind);
+    }
+    Ok(lines)
+}
+
+/// Reads a script. `Bad` says which line is the first that is wrong; a text without a wrong line is a script.
+/// A text has one reading: no other script, and no other bad line, is to be read in it.
+pub fn read_script(alloc: Global, text: &[u8]) -> Result<Script, ScriptFault>
+    ensures script { IfOk result (λ script. IsScript text.now script) }
+    ensures only_script { IfOk result (λ script. IsOnlyReading text.now script) }
+    ensures bad { IfBad result (IsBadLine text.now) }
+    ensures only_bad { IfBad result (IsOnlyBadLine text.now) }
+{
+    let lines = read_lines(alloc, text)?;
+    Ok(Script { lines })
+}

@@ -1,0 +1,13 @@
+use Rattle.std.proofs.Common.{◌≡◌, ◌≤◌, ◌-◌, length, take}
+use Rattle.text_io.specs.Text.{Adds}
+use Rattle.text_io.proofs.whole.write_all.Given as goal
+
+abbrev pub invariant-loop-done : goal.invariant-loop-done
+invariant-loop-done g l = record {
+  in_range : l.done ≤ length l.bytes;
+  written : Adds (take l.done l.bytes) (g.K.Sink.held l.fn.sink) (g.K.Sink.held l.sink);
+  calm : g.K.Sink.faults l.sink ≡ g.K.Sink.faults l.fn.sink;
+}
+
+abbrev pub decreases-loop-done : goal.decreases-loop-done
+decreases-loop-done g l = length l.bytes - l.done

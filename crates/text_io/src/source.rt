@@ -1,0 +1,146 @@
+// Bytes that are read to their end.
+ghost use Rattle.std.specs.Prelude.{◌≡◌, ◌≤◌, ◌<◌, ◌↔◌, ℕ, Option, Some, List, Contains, length, drop, min, IfOk, OnOk, OnErr, IsErr, IsOk, is_ok, if◌then◌else◌};
+ghost use Rattle.refusal.specs.Count.{CountsFault, next_count};
+ghost use Rattle.text_io.specs.Text.{Gives};
+
+use refusal::{Failed, NoMemory, raise};
+use std::alloc::Global;
+use std::marker::Model;
+
+pub trait Source {
+    /// The bytes that are left, where it tells them.
+    ghost left: { Self → Option (List ℕ) };
+
+    /// How often it has failed.
+    ghost faults: { Self → ℕ };
+
+    /// Puts bytes at the front of the slice, and answers how many.
+    /// None, for a slice with room, is the end. `Failed` takes none of the bytes.
+    fn read(&mut self, into: &mut [u8]) -> Result<usize, Failed>
+        ensures gives { IfOk result (Gives (left self.old) (left self.new) (length into.old) into.new) }
+        ensures err { OnErr result (left self.new ≡ left self.old) }
+        ensures calm { OnOk result (faults self.new ≡ faults self.old) }
+        ensures cause { CountsFault result (faults self.old) (faults self.new) };
+}
+
+// Moves bytes from a place of a text to the front of the slice, as many as both allow.
+fn give(bytes: &[u8], at: &mut usize, into: &mut [u8]) -> usize
+    requires { at.old ≤ length bytes.now }
+    ensures place { at.new ≤ length bytes.now }
+    ensures gives { Gives (Some (drop at.old bytes.now)) (Some (drop at.new bytes.now)) (length into.old) into.new result }
+    ensures most { result ≡ min (length into.old) (length (drop at.old bytes.now)) }
+{
+    let n = into.len().min(bytes.len() - *at);
+    into[..n].copy_from_slice(&bytes[*at..*at + n]);
+    *at += n;
+    n
+}
+
+/// A text in memory, whose listed calls fail and no others. The first call is number 1.
+#[derive(Debug, Drop)]
+pub struct MemSource {
+    bytes: Vec<u8>,
+    at: usize,
+    fails: Vec<u64>,
+    calls: u64,
+    faults: u64,
+}
+
+impl Model for MemSource {
+    ghost use Rattle.std.specs.Prelude.{◌≤◌, drop, length};
+    ghost use Rattle.text_io.specs.Memory.{ListedSource};
+
+    ghost Value = { ListedSource };
+
+    ghost view = { λ s. record {
+      left = drop s.at s.bytes.items;
+      fails = s.fails.items;
+      calls = s.calls;
+      faults = s.faults;
+    } };
+
+    ghost invariant = { λ s. s.at ≤ length s.bytes.items };
+}
+
+impl MemSource {
+    /// A source with these bytes, whose calls with these numbers fail.
+    pub fn new(alloc: Global, bytes: &[u8], fails: &[u64]) -> Result<MemSource, NoMemory>
+        ensures { IfOk result (λ s. s ≡ record { left = bytes.now; fails = fails.now; calls = 0; faults = 0 }) }
+    {
+        Ok(MemSource {
+            bytes: bytes.to_vec(alloc)?,
+            at: 0,
+            fails: fails.to_vec(alloc)?,
+            calls: 0,
+            faults: 0,
+        })
+    }
+}
+
+impl Source for MemSource {
+    ghost left = { λ s. Some s.left };
+
+    ghost faults = { λ s. s.faults };
+
+    fn read(&mut self, into: &mut [u8]) -> Result<usize, Failed>
+        ensures gives { IfOk result (Gives (Some self.old.left) (Some self.new.left) (length into.old) into.new) }
+        ensures most { IfOk result (λ n. n ≡ min (length into.old) (length self.old.left)) }
+        ensures err { OnErr result (self.new.left ≡ self.old.left) }
+        ensures listed { IsErr result ↔ Contains self.old.fails (next_count self.old.calls) }
+        ensures faults { self.new.faults ≡ (if is_ok result then self.old.faults else next_count self.old.faults) }
+        ensures calls { self.new.calls ≡ next_count self.old.calls }
+        ensures fails { self.new.fails ≡ self.old.fails }
+        ensures calm { OnOk result (self.new.faults ≡ self.old.faults) }
+        ensures cause { CountsFault result self.old.faults self.new.faults }
+    {
+        raise(&mut self.calls);
+        if self.fails.contains(&self.calls) {
+            raise(&mut self.faults);
+            return Err(Failed);
+        }
+        Ok(give(&self.bytes, &mut self.at, into))
+    }
+}
+
+/// A text in memory, which never fails.
+#[derive(Debug, Drop)]
+pub struct FaultlessSource {
+    bytes: Vec<u8>,
+    at: usize,
+}
+
+impl Model for FaultlessSource {
+    ghost use Rattle.std.specs.Prelude.{◌≤◌, ℕ, List, drop, length};
+
+    ghost Value = { List ℕ };
+
+    ghost view = { λ s. drop s.at s.bytes.items };
+
+    ghost invariant = { λ s. s.at ≤ length s.bytes.items };
+}
+
+impl FaultlessSource {
+    /// A source with these bytes.
+    pub fn new(alloc: Global, bytes: &[u8]) -> Result<FaultlessSource, NoMemory>
+        ensures { IfOk result (λ s. s ≡ bytes.now) }
+    {
+        Ok(FaultlessSource {
+            bytes: bytes.to_vec(alloc)?,
+            at: 0,
+        })
+    }
+}
+
+impl Source for FaultlessSource {
+    ghost left = { λ s. Some s };
+
+    ghost faults = { λ _. 0 };
+
+    fn read(&mut self, into: &mut [u8]) -> Result<usize, Failed>
+        ensures gives { IfOk result (Gives (Some self.old) (Some self.new) (length into.old) into.new) }
+        ensures most { IfOk result (λ n. n ≡ min (length into.old) (length self.old)) }
+        ensures ok { IsOk result }
+    {
+        Ok(give(&self.bytes, &mut self.at, into))
+    }
+}
