@@ -6,9 +6,18 @@ ghost use Rattle.blsm_run.specs.Session.{outcome_of};
 
 use crate::Status;
 use crate::session::{Finished, Refusal};
+use itoa::Buffer;
 use refusal::Failed;
-use script_text::{print_history, print_number};
+use script_text::print_history;
 use text_io::{Sink, write_all};
+
+fn print_number<K: Sink>(sink: &mut K, number: u64) -> Result<(), Failed>
+    ensures { Writes (decimal number) result (K.held sink.old) (K.held sink.new) (K.faults sink.old) (K.faults sink.new) }
+{
+    let mut buffer = Buffer::new();
+    let digits = buffer.format(number);
+    write_all(sink, digits.as_bytes())
+}
 
 // A line with a number at its end.
 fn print_numbered<K: Sink>(sink: &mut K, name: &[u8], number: u64) -> Result<(), Failed>

@@ -61,7 +61,7 @@ impl<D: Disk + Drop> Store<D> {
         ensures disk { result.disk ≡ disk }
         ensures memory { result.memory ≡ record { table = []; book = annals; charge = 0; limit = geometry.half; peak = 0; stopped = None } }
     {
-        let lanes = Lanes::resume(&geometry, [0; 3]);
+        let lanes = Lanes::resume(&geometry, [0, 1, 2], [0; 3]);
         Store {
             disk,
             lanes,

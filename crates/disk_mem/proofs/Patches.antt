@@ -12,23 +12,23 @@ pub changed_inside : (bytes new : List ℕ) (at inside : ℕ) → at < length by
 changed_inside bytes new at inside lt is =
     elim (cases_lt (length bytes) (at + length new)) [
       | inr fits ↦
-        let whole : inside ≡ length new = omega (arith, is, fits) in
-        let all : take inside new ≡ new = take_all inside new (omega (arith, whole)) in
-        ap (λ (l : List ℕ). overwritten bytes at l) all
-        ∙ sym (take_all (length bytes) (overwritten bytes at new) (omega (arith, length-overwritten bytes at new (omega arith), fits)))
+          let whole : inside ≡ length new = omega (arith, is, fits) in
+          let all : take inside new ≡ new = take_all inside new (omega (arith, whole)) in
+          ap (λ (l : List ℕ). overwritten bytes at l) all
+          ∙ sym (take_all (length bytes) (overwritten bytes at new) (omega (arith, length-overwritten bytes at new (omega arith), fits)))
       | inl past ↦
-        let some : inside ≡ length bytes - at = omega (arith, is, past) in
-        let front : length (take at bytes) ≡ at = length-take-le at bytes (omega arith) in
-        let short : length (take inside new) ≡ inside = length-take-le inside new (omega (arith, some, past)) in
-        let none : drop (at + length (take inside new)) bytes ≡ drop (at + length new) bytes =
-            drop_all (at + length (take inside new)) bytes (omega (arith, short, some)) ∙ sym (drop_all (at + length new) bytes (omega (arith, past))) in
-        let end : length bytes ≡ length (take at bytes) + inside = omega (arith, front, some, lt) in
-        let gone : drop (at + length new) bytes ≡ [] = drop_all (at + length new) bytes (omega (arith, past)) in
-        (λ i. take at bytes ++ take inside new ++ (none ∙ gone) i)
-        ∙ append-nil (take at bytes ++ take inside new)
-        ∙ sym (take-append-add (take at bytes) new inside)
-        ∙ (λ i. take (sym end i) (take at bytes ++ new))
-        ∙ sym (take-append-le (length bytes) (take at bytes ++ new) (drop (at + length new) bytes) (omega (arith, front, past, length-append (take at bytes) new)))
+          let some : inside ≡ length bytes - at = omega (arith, is, past) in
+          let front : length (take at bytes) ≡ at = length-take-le at bytes (omega arith) in
+          let short : length (take inside new) ≡ inside = length-take-le inside new (omega (arith, some, past)) in
+          let none : drop (at + length (take inside new)) bytes ≡ drop (at + length new) bytes =
+          drop_all (at + length (take inside new)) bytes (omega (arith, short, some)) ∙ sym (drop_all (at + length new) bytes (omega (arith, past))) in
+          let end : length bytes ≡ length (take at bytes) + inside = omega (arith, front, some, lt) in
+          let gone : drop (at + length new) bytes ≡ [] = drop_all (at + length new) bytes (omega (arith, past)) in
+          (λ i. take at bytes ++ take inside new ++ (none ∙ gone) i)
+          ∙ append-nil (take at bytes ++ take inside new)
+          ∙ sym (take-append-add (take at bytes) new inside)
+          ∙ (λ i. take (sym end i) (take at bytes ++ new))
+          ∙ sym (take-append-le (length bytes) (take at bytes ++ new) (drop (at + length new) bytes) (omega (arith, front, past, length-append (take at bytes) new)))
     ]
 
 -- nothing of it lies inside

@@ -151,8 +151,8 @@ module _ (d e : Recorded) (before : IsConsistent d) (after : IsConsistent e) (fa
         (λ has lt bad. within_nothing at (length text) (same_passed d.first d.events h d.bytes found d.past has.0 d.faults d.faults found_is found_long))
         (λ has fits bad. within_tore d.first d.events h d.bytes found d.past has.0 d.faults (next_count d.faults) found_is found_long at text)
         (λ has fits good. within_wrote d.first d.events h d.bytes (overwritten found at text) d.past has.0 d.faults d.faults at text fits
-            (λ untouched. ap (λ (l : List ℕ). overwritten l at text) (found_is untouched))
-            (omega (arith, length-overwritten found at text (omega (arith, found_long, fits)), found_long)))
+        (λ untouched. ap (λ (l : List ℕ). overwritten l at text) (found_is untouched))
+        (omega (arith, length-overwritten found at text (omega (arith, found_long, fits)), found_long)))
 
     abbrev AnyBytes : DiskState → DiskState → Type 0
     AnyBytes x y = IsTrue y.is_noted → at ≤ length x.bytes → LeavesAnyBytes at (length text) x y

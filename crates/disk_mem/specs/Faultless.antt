@@ -1,7 +1,7 @@
 -- A disk in memory that tells its bytes and no images.
-use Rattle.std.specs.Prelude.{◌≡◌, ◌≤◌, ◌<◌, ◌⊎◌, ℕ, ◌+◌, true, false, IsTrue, List, [], length, refl}
+use Rattle.std.specs.Prelude.{◌<◌, ◌⊎◌, ℕ, ◌+◌, true, false, IsTrue, List, length}
 use Rattle.refusal.specs.Count.{next_count}
-use Rattle.disk_trait.specs.Disk.{DiskState, overwritten}
+use Rattle.disk_trait.specs.Disk.{DiskState}
 use Rattle.disk_trait.specs.Moments.{IsTimed}
 
 -- how it reads, how many calls it has answered, how often it has failed, and up to which offset it may be written
@@ -36,3 +36,7 @@ called d = record d { calls = next_count d.calls }
 -- a write fails where it begins past the bytes or ends past the limit
 abbrev pub FailsToWrite : ℕ → ℕ → Faultless → Type 0
 FailsToWrite at n d = (length d.bytes < at) ⊎ (d.limit < at + n)
+
+-- It tells no image.
+pub faultless_as_read : (d : Faultless) → IsTrue (faultless_state d).is_honest → IsTrue (faultless_state d).tells_images → (faultless_state d).images (faultless_state d).bytes
+faultless_as_read d honest tells = absurd (cc)

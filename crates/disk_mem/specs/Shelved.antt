@@ -1,6 +1,6 @@
 -- A shelf in memory as contracts see it.
 use Rattle.std.specs.Prelude.{◌≡◌, ◌≤◌, ◌⊎◌, ℕ, Bool, true, Option, None, List, [], length}
-use Rattle.disk_trait.specs.Shelf.{ShelfState, Fetch}
+use Rattle.disk_trait.specs.Shelf.{ShelfState}
 use Rattle.disk_mem.specs.Recorded.{Recorded}
 use Rattle.disk_mem.specs.Places.{disk_under, is_out_under, all_noted}
 

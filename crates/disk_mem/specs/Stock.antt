@@ -1,5 +1,5 @@
 -- What the parts of a shelf in memory stand for.
-use Rattle.std.specs.Prelude.{List, map, string_bytes}
+use Rattle.std.specs.Prelude.{map, string_bytes}
 use Rattle.disk_mem.specs.Shelved.{Shelved}
 use Rattle.disk_mem.specs.declared.stock.Stock.{Stock}
 

@@ -61,8 +61,10 @@ impl MemDisk {
     /// Before this call the bytes at an offset change, by no call of the disk, which is no longer honest. What lies past the end
     /// is left out.
     pub fn poke(&mut self, call: u64, at: u64, bytes: &[u8]) -> Result<(), NoMemory>
-        ensures ok { OnOk result (self.new ≡ record self.old { changes = self.old.changes
-            ++ record { call = call; at = at; bytes = bytes.now } ∷ [] }) }
+        ensures ok { OnOk result (self.new ≡ record self.old {
+          changes = self.old.changes
+              ++ record { call = call; at = at; bytes = bytes.now } ∷ [];
+        }) }
         ensures dishonest { OnOk result ((told self.new).is_honest ≡ false) }
         ensures err { OnErr result (self.new ≡ self.old) }
     {
@@ -76,7 +78,8 @@ impl MemDisk {
     /// first write's digit lowest. A write of n bytes has a digit below 2 * (n + 1): up to n, so many bytes of the write from its
     /// beginning stand in the image; from n + 1 on, after digit - n - 1 of them one byte follows that is neither the old nor the
     /// new one; the greatest digit writes zeros over the whole range. Over all numbers the images are those where each write
-    /// stands not at all, in part, or in whole, whatever the others do.
+    /// stands not at all, in part, or in whole, whatever the others do. An image may be longer than the limit, where a write past it
+    /// had failed.
     pub fn image(&self, pick: u64) -> Result<MemDisk, NoMemory>
         ensures image { IfOk result (λ d. (image : List ℕ) × (told self.now).images image
             × (d ≡ new_disk image self.now.limit self.now.kept)) }

@@ -2,7 +2,7 @@
 ghost use Rattle.std.specs.Prelude.{◌≡◌, ◌⊎◌, ◌<◌, ◌≤◌, ◌+◌, ◌-◌, ◌^◌, min, max, false, IsTrue, IsErr, IsOk, OnOk, OnErr, IfOk, refl, List, ℕ, [], length, vec_capacity};
 ghost use Rattle.refusal.specs.Count.{next_count, HasRisen};
 ghost use Rattle.disk_trait.specs.Disk.{Passes, MarksSync, WritesNothing, WritesWithin, ChangesNothing, KeepsImages, LeavesAnyBytes, Only, IsSure, part, overwritten};
-ghost use Rattle.disk_mem.specs.Faultless.{faultless_state, faultless_timed, called, FailsToWrite};
+ghost use Rattle.disk_mem.specs.Faultless.{faultless_state, faultless_timed, faultless_as_read, called, FailsToWrite};
 
 use crate::bytes::overwrite;
 use disk_trait::Disk;
@@ -51,7 +51,7 @@ impl Disk for FaultlessDisk {
 
     ghost timed = { faultless_timed };
 
-    ghost as_read = { λ d honest tells. absurd (Prim.cc) };
+    ghost as_read = { faultless_as_read };
 
     ghost honest_tells = { λ d honest. refl };
 

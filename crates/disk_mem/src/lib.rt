@@ -1,4 +1,6 @@
-//! Disks in memory.
+//! Disks and a shelf in memory, whose calls can be made to fail, whose bytes somebody else can change, and whose crash images can
+//! be opened: the forms of `disk_trait` that tell what they hold.
+//! Tests use them for every fault and every crash, and programs in place of a file.
 #![tactic(auto)]
 
 mod bytes;
@@ -14,3 +16,6 @@ mod stock;
 pub use disk::MemDisk;
 pub use faultless::FaultlessDisk;
 pub use shelf::MemShelf;
+
+#[cfg(test)]
+mod tests;

@@ -209,8 +209,10 @@ impl Recorder {
     }
 
     pub(crate) fn poke(&mut self, call: u64, at: u64, bytes: &[u8]) -> Result<(), NoMemory>
-        ensures ok { OnOk result (recorded self.new ≡ record (recorded self.old) { changes = (recorded self.old).changes
-            ++ record { call = call; at = at; bytes = bytes.now } ∷ [] }) }
+        ensures ok { OnOk result (recorded self.new ≡ record (recorded self.old) {
+          changes = (recorded self.old).changes
+              ++ record { call = call; at = at; bytes = bytes.now } ∷ [];
+        }) }
         ensures err { OnErr result (recorded self.new ≡ recorded self.old) }
     {
         let bytes = bytes.to_vec(self.alloc)?;

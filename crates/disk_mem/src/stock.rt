@@ -187,12 +187,12 @@ impl Stock {
         ensures faults { self.new.faults ≡ min (self.old.faults + disk.faults) (2 ^ 64 - 1) }
     {
         self.faults = self.faults.saturating_add(disk.faults());
-        let Some(i) = place_of(&self.names, name) else {
+        let Some(place) = place_of(&self.names, name) else {
             return;
         };
-        if self.disks[i].is_some() {
+        if self.disks[place].is_some() {
             return;
         }
-        self.disks[i] = Some(disk);
+        self.disks[place] = Some(disk);
     }
 }

@@ -3,14 +3,14 @@ use Rattle.std.proofs.Common.{◌≡◌, ℕ, zero, suc, ◌+◌, ◌^◌, ◌<�
 use Rattle.std.specs.Prelude.{IfSome, IfNone, is_some, unwrap_or}
 use Rattle.std.specs.Int.{w16, w64, to_be_bytes, from_be_bytes}
 use Rattle.std.proofs.lemmas.Bool.{cases_lt, false≢true}
-use Rattle.std.proofs.lemmas.List.{take_at, drop_at, take-append-drop, length-take}
+use Rattle.std.proofs.lemmas.List.{take_at, drop_at, take-append-drop, take-append-le, length-take}
 use Rattle.std.proofs.lemmas.Nat.{be_bytes_2, be_bytes_8, from_be_bytes-to_be_bytes_2, from_be_bytes-to_be_bytes_8}
 use Rattle.blsm_model.specs.declared.key.Key.{Key}
 use Rattle.record_delta.specs.declared.record.Rec.{Rec}
 use Rattle.record_delta.specs.declared.record.Rec.TheVariants.{Base, Delta, Tomb}
-use Rattle.record_delta.specs.Records.{text_of, weight}
+use Rattle.record_delta.specs.Records.{count_of, text_of, weight}
 use Rattle.entry_codec.specs.declared.decoding.Head.{Head}
-use Rattle.entry_codec.specs.Spelling.{kind_of, count_of, head, head_of, spelling, IsEntry, BeginsWith}
+use Rattle.entry_codec.specs.Spelling.{kind_of, head, head_of, spelling, IsEntry, BeginsWith}
 use Rattle.entry_codec.specs.Reading.{InRange, AreAt, IsOf, HasParts}
 
 -- ---- lengths
@@ -141,9 +141,9 @@ to_parts bytes rest h key rec range read b =
     let whole : head_of key rec ++ (key ++ text_of rec ++ b.rest) ≡ head h.kind h.key_len h.text_len h.count ++ rest = sym (spelled key rec b.rest) ∙ sym b.parts ∙ read in
     let e = b.entry in
     let key_most = e.key_most in
-    let text_most = e.text_most in
+    let text_most = e.in_range.text_fits in
     let same = head_same (kind_of rec) (length key) (length (text_of rec)) (count_of rec) h.kind h.key_len h.text_len h.count (key ++ text_of rec ++ b.rest) rest
-    (omega arith) range.key_len (omega arith) range.text_len e.count_fits range.count whole in
+    (omega arith) range.key_len (omega arith) range.text_len e.in_range.count_fits range.count whole in
     record {
       entry = b.entry;
       kind_is = same.kind_is;
@@ -169,10 +169,10 @@ pub entry_same : (a b : Key) (r s : Rec) (x y : List ℕ) → IsEntry a r → Is
 entry_same a b r s x y ea eb same =
     let ka = ea.key_most in
     let kb = eb.key_most in
-    let ta = ea.text_most in
-    let tb = eb.text_most in
+    let ta = ea.in_range.text_fits in
+    let tb = eb.in_range.text_fits in
     let heads = head_same (kind_of r) (length a) (length (text_of r)) (count_of r) (kind_of s) (length b) (length (text_of s)) (count_of s) (a ++ text_of r ++ x) (b ++ text_of s ++ y)
-    (omega arith) (omega arith) (omega arith) (omega arith) ea.count_fits eb.count_fits (sym (spelled a r x) ∙ same ∙ spelled b s y) in
+    (omega arith) (omega arith) (omega arith) (omega arith) ea.in_range.count_fits eb.in_range.count_fits (sym (spelled a r x) ∙ same ∙ spelled b s y) in
     let keys = front_same a b (text_of r ++ x) (text_of s ++ y) heads.key_len_is (sym (append_assoc a (text_of r) x) ∙ heads.rest_is ∙ append_assoc b (text_of s) y) in
     let texts = front_same (text_of r) (text_of s) x y heads.text_len_is keys.1 in
     (keys.0, rec_same r s heads.kind_is heads.count_is texts.0, texts.1)
@@ -232,7 +232,7 @@ key_and_text_at h bytes key rec p =
       text_len_is = p.text_len_is;
       key_least = p.entry.key_least;
       key_most = p.entry.key_most;
-      text_most = p.entry.text_most;
+      text_most = p.entry.in_range.text_fits;
       rest = p.rest;
       parts = p.parts;
     }
@@ -264,3 +264,16 @@ pub found_whole : (bytes tail : List ℕ) (h : Head) (r : Option (Key × Rec × 
     → IfSome r (λ e. HasParts h tail e.0 e.1 × (e.2 ≡ weight e.0 e.1)) → IfSome r (λ e. BeginsWith bytes e.0 e.1 × (e.2 ≡ weight e.0 e.1))
 found_whole bytes tail h None read found = tt
 found_whole bytes tail h (Some e) read found = (from_parts bytes tail h e.0 e.1 read found.0, found.1)
+
+-- ---- bytes behind an entry
+
+pub begins_more : (bytes more : List ℕ) (key : Key) (rec : Rec) → BeginsWith bytes key rec → BeginsWith (bytes ++ more) key rec
+begins_more bytes more key rec b =
+    record { entry = b.entry; rest = b.rest ++ more; parts = ap (λ l. l ++ more) b.parts ∙ append_assoc (spelling key rec) b.rest more }
+
+pub begins_fewer : (bytes more : List ℕ) (key : Key) (rec : Rec) → weight key rec ≤ length bytes → BeginsWith (bytes ++ more) key rec → BeginsWith bytes key rec
+begins_fewer bytes more key rec long b =
+    let n = weight key rec in
+    let front : take n bytes ≡ spelling key rec =
+    sym (take-append-le n bytes more long) ∙ ap (take n) b.parts ∙ take_at (spelling key rec) b.rest n (length-spelling key rec) in
+    record { entry = b.entry; rest = drop n bytes; parts = sym (take-append-drop n bytes) ∙ ap (λ l. l ++ drop n bytes) front }

@@ -4,9 +4,9 @@ use Rattle.blsm_model.specs.declared.key.Key.{Key}
 use Rattle.blsm_model.specs.declared.key.TheConstants.Key.{MAX_LEN as max_key_len}
 use Rattle.blsm_model.specs.declared.text.TheConstants.Text.{MAX_LEN as max_text_len}
 use Rattle.record_delta.specs.declared.record.Rec.{Rec}
-use Rattle.record_delta.specs.Records.{text_of}
+use Rattle.record_delta.specs.Records.{count_of, text_of}
 use Rattle.entry_codec.specs.declared.decoding.Head.{Head}
-use Rattle.entry_codec.specs.Spelling.{kind_of, count_of, IsEntry}
+use Rattle.entry_codec.specs.Spelling.{kind_of, IsEntry}
 
 -- the numbers of a head fit their fields
 pub record InRange (head : Head) : Type 0 where

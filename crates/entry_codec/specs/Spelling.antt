@@ -1,12 +1,11 @@
 -- The spelling of an entry: a key and its record as bytes.
-use Rattle.std.specs.Prelude.{◌≡◌, ℕ, ◌<◌, ◌≤◌, ◌^◌, List, ◌∷◌, ◌++◌, length, drop}
+use Rattle.std.specs.Prelude.{◌≡◌, ℕ, ◌≤◌, List, ◌∷◌, ◌++◌, length, drop}
 use Rattle.std.specs.Int.{w16, w64, to_be_bytes}
 use Rattle.blsm_model.specs.declared.key.Key.{Key}
 use Rattle.blsm_model.specs.declared.key.TheConstants.Key.{MAX_LEN as max_key_len}
-use Rattle.blsm_model.specs.declared.text.TheConstants.Text.{MAX_LEN as max_text_len}
 use Rattle.record_delta.specs.declared.record.Rec.{Rec}
 use Rattle.record_delta.specs.declared.record.Rec.TheVariants.{Base, Delta, Tomb}
-use Rattle.record_delta.specs.Records.{text_of}
+use Rattle.record_delta.specs.Records.{count_of, text_of, IsRecord}
 
 abbrev pub base_kind : ℕ
 base_kind = 1
@@ -22,12 +21,6 @@ kind_of (Base value) = base_kind
 kind_of (Delta count) = delta_kind
 kind_of Tomb = tomb_kind
 
--- a tombstone's is 0
-abbrev pub count_of : Rec → ℕ
-count_of (Base value) = value.count
-count_of (Delta count) = count
-count_of Tomb = 0
-
 -- what stands before the key: the kind, the lengths of the key and of the text, the count
 unfoldable pub head : ℕ → ℕ → ℕ → ℕ → List ℕ
 head kind key_len text_len count = kind ∷ (to_be_bytes w16 key_len ++ to_be_bytes w16 text_len ++ to_be_bytes w64 count)
@@ -38,12 +31,11 @@ head_of key rec = head (kind_of rec) (length key) (length (text_of rec)) (count_
 unfoldable pub spelling : Key → Rec → List ℕ
 spelling key rec = head_of key rec ++ key ++ text_of rec
 
--- what has a spelling: a key of 1 to 64 bytes, and a record with a text of at most 435 bytes
+-- what has a spelling: a key of 1 to 64 bytes, and a record of the program
 pub record IsEntry (key : Key) (rec : Rec) : Type 0 where
   pub key_least : 1 ≤ length key
   pub key_most : length key ≤ max_key_len
-  pub text_most : length (text_of rec) ≤ max_text_len
-  pub count_fits : count_of rec < 2 ^ 64
+  pub in_range : IsRecord rec
 
 -- bytes that begin with the spelling of an entry
 pub record BeginsWith (bytes : List ℕ) (key : Key) (rec : Rec) : Type 0 where

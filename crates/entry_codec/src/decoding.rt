@@ -90,8 +90,3 @@ pub fn decode(bytes: &[u8]) -> Option<(Key, Rec, usize)>
     let head = head_at(bytes);
     entry(&head, &bytes[HEAD_LEN..])
 }
-
-/// No spelling begins another one, and an entry has one: where two begin the same bytes, they are the same.
-pub fn one_spelling()
-    ensures { (a b : Key) (r s : Rec) (x y : List ℕ) → IsEntry a r → IsEntry b s → spelling a r ++ x ≡ spelling b s ++ y → (a ≡ b) × (r ≡ s) × (x ≡ y) }
-{}

@@ -1,7 +1,7 @@
 //! Writing an entry.
 ghost use Rattle.std.specs.Prelude.{◌≡◌, ◌+◌, ◌≤◌, ◌++◌, List, ℕ, length, drop};
-ghost use Rattle.record_delta.specs.Records.{weight, text_of};
-ghost use Rattle.entry_codec.specs.Spelling.{kind_of, count_of, head, spelling, over_front};
+ghost use Rattle.record_delta.specs.Records.{weight, count_of, text_of};
+ghost use Rattle.entry_codec.specs.Spelling.{kind_of, head, spelling, over_front, IsEntry};
 
 use crate::format::{BASE, DELTA, HEAD_LEN, TOMB};
 use blsm_model::{Key, Op, Text};
@@ -66,6 +66,7 @@ fn put(out: &mut [u8], at: usize, bytes: &[u8]) -> usize
 pub fn encode(key: &Key, rec: &Rec, out: &mut [u8]) -> usize
     requires { Op.MAX_WEIGHT ≤ length out.old }
     ensures spelled { out.new ≡ spelling key.now rec.now ++ drop (weight key.now rec.now) out.old }
+    ensures entry { IsEntry key.now rec.now }
     ensures weight { result ≡ weight key.now rec.now }
     ensures len { result ≡ length (spelling key.now rec.now) }
 {

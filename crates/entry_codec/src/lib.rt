@@ -5,9 +5,11 @@
 mod decoding;
 mod encoding;
 mod format;
+mod laws;
 
-pub use decoding::{decode, one_spelling};
+pub use decoding::decode;
 pub use encoding::encode;
+pub use laws::{one_spelling, whatever_follows};
 
 #[cfg(test)]
 mod tests;

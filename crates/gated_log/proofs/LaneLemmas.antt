@@ -9,10 +9,11 @@ use Rattle.gated_write.specs.Gated.{open_byte, IsClosed, IsWhole, HasRangeTorn, 
 use Rattle.blsm_model.specs.declared.key.Key.{Key}
 use Rattle.blsm_model.specs.Sizes.{Sizes}
 use Rattle.record_delta.specs.declared.record.Rec.{Rec}
-use Rattle.entry_codec.specs.Spelling.{spelling}
+use Rattle.std.proofs.lemmas.List.Elements.{All-push}
+use Rattle.entry_codec.specs.Spelling.{spelling, IsEntry}
 use Rattle.gated_log.specs.Lane.{region_start, region_length, blocks, HasEntries, EachHasEntries, IsOldOutside, IsAppended}
 
-blocks-append : (es fs : List (Key × Rec)) → blocks (es ++ fs) ≡ blocks es ++ blocks fs
+pub blocks-append : (es fs : List (Key × Rec)) → blocks (es ++ fs) ≡ blocks es ++ blocks fs
 blocks-append [] fs = refl
 blocks-append (e ∷ es) fs =
     ap (λ (bs : List ℕ). open_byte ∷ (spelling e.0 e.1 ++ bs)) (blocks-append es fs)
@@ -23,7 +24,7 @@ abbrev pub text_of : Key → Rec → List ℕ
 text_of key rec = spelling key rec ++ 0 ∷ []
 
 -- the two parts of a front that is known
-front_parts : (file : List ℕ) (at : ℕ) (front : List ℕ) (gate : ℕ) → part file at (length front + 1) ≡ front ++ gate ∷ [] → (part file at (length front) ≡ front) × (part file (at + length front) 1 ≡ gate ∷ [])
+pub front_parts : (file : List ℕ) (at : ℕ) (front : List ℕ) (gate : ℕ) → part file at (length front + 1) ≡ front ++ gate ∷ [] → (part file at (length front) ≡ front) × (part file (at + length front) 1 ≡ gate ∷ [])
 front_parts file at front gate begins =
     let n = length front in
     let own : List ℕ = drop at file in
@@ -39,7 +40,7 @@ gate_closed sizes lane entries file has opened =
     let same : has.gate ∷ [] ≡ open_byte ∷ [] = sym parts.1 ∙ opened in
     has.closed (cc (same))
 
-one_byte : (file : List ℕ) (at : ℕ) → at < length file → (g : ℕ) × (part file at 1 ≡ g ∷ [])
+pub one_byte : (file : List ℕ) (at : ℕ) → at < length file → (g : ℕ) × (part file at 1 ≡ g ∷ [])
 one_byte file at below = (get_or file at 0, ap (λ (l : List ℕ). take 1 l) (drop-cons file at 0 below))
 
 part_below : (file : List ℕ) (at : ℕ) (g : ℕ) → part file at 1 ≡ g ∷ [] → at < length file
@@ -62,6 +63,7 @@ still_has sizes lane entries n old file has torn closed =
     let here : start + length front < length file = omega (arith, torn.no_shorter) in
     let byte = one_byte file (start + length front) here in
     record {
+      each = has.each;
       gate = byte.0;
       closed = λ same. closed (byte.1 ∙ ap (λ (g : ℕ). g ∷ []) same);
       inside = has.inside;
@@ -74,8 +76,8 @@ still_has sizes lane entries n old file has torn closed =
 -- with the entry whole behind an open gate the lane has one entry more
 pub has_more : (sizes : Sizes) (lane : ℕ) (entries : List (Key × Rec)) (key : Key) (rec : Rec) (n : ℕ) (old file : List ℕ) → HasEntries sizes lane entries old → Torn (region_start sizes lane + length (blocks entries)) n old file
     → IsWhole (region_start sizes lane + length (blocks entries)) (text_of key rec) file → length (blocks entries) + 1 + length (text_of key rec) ≤ region_length sizes
-    → HasEntries sizes lane (entries ++ (key, rec) ∷ []) file
-has_more sizes lane entries key rec n old file has torn stands fits =
+    → IsEntry key rec → HasEntries sizes lane (entries ++ (key, rec) ∷ []) file
+has_more sizes lane entries key rec n old file has torn stands fits entry =
     let start = region_start sizes lane in
     let front : List ℕ = blocks entries in
     let text : List ℕ = text_of key rec in
@@ -88,6 +90,7 @@ has_more sizes lane entries key rec n old file has torn stands fits =
     let length_is : length (blocks (entries ++ (key, rec) ∷ [])) + 1 ≡ length front + (1 + length text) =
     omega (arith, ap (λ (l : List ℕ). length l) written, length-append front (open_byte ∷ text), length-append (blocks (entries ++ (key, rec) ∷ [])) (0 ∷ [])) in
     record {
+      each = All-push (λ e. IsEntry e.0 e.1) entries (key, rec) has.each entry;
       gate = 0;
       closed = λ same. cc (same);
       inside = omega (arith, length_is, fits);
@@ -106,14 +109,14 @@ old_outside sizes lane at n before old file was torn begins ends = (old, was, to
 -- each file that a gated write may leave
 pub appended : (sizes : Sizes) (lane : ℕ) (entries : List (Key × Rec)) (key : Key) (rec : Rec) (before : List ℕ → Type 0) (file : List ℕ) → EachHasEntries sizes lane entries before
     → length (blocks entries) + 1 + length (text_of key rec) ≤ region_length sizes → IsGated before (region_start sizes lane + length (blocks entries)) (text_of key rec) file
-    → IsAppended sizes lane entries (key, rec) before file
-appended sizes lane entries key rec before file each fits (untouched was) = record { has = inl (each file was); outside = (file, was, torn_same (region_start sizes lane) (region_length sizes) file) }
-appended sizes lane entries key rec before file each fits (behind_gate torn closed) = record {
+    → IsEntry key rec → IsAppended sizes lane entries (key, rec) before file
+appended sizes lane entries key rec before file each fits (untouched was) entry = record { has = inl (each file was); outside = (file, was, torn_same (region_start sizes lane) (region_length sizes) file) }
+appended sizes lane entries key rec before file each fits (behind_gate torn closed) entry = record {
   has = inl (still_has sizes lane entries (1 + length (text_of key rec)) torn.0 file (each torn.0 torn.1) torn.2 closed);
   outside = old_outside sizes lane (region_start sizes lane + length (blocks entries)) (1 + length (text_of key rec)) before torn.0 file torn.1 torn.2 (omega arith) (omega (arith, fits));
 }
-appended sizes lane entries key rec before file each fits (whole torn stands) = record {
-  has = inr (has_more sizes lane entries key rec (1 + length (text_of key rec)) torn.0 file (each torn.0 torn.1) torn.2 stands fits);
+appended sizes lane entries key rec before file each fits (whole torn stands) entry = record {
+  has = inr (has_more sizes lane entries key rec (1 + length (text_of key rec)) torn.0 file (each torn.0 torn.1) torn.2 stands fits entry);
   outside = old_outside sizes lane (region_start sizes lane + length (blocks entries)) (1 + length (text_of key rec)) before torn.0 file torn.1 torn.2 (omega arith) (omega (arith, fits));
 }
 

@@ -1,2 +1,5 @@
 pub mod LaneLemmas
 pub mod AppendLemmas
+pub mod BlockLemmas
+pub mod OneList
+pub mod ReplayLemmas

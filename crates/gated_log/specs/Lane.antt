@@ -1,11 +1,12 @@
 -- A lane of the log on a disk: entries, each behind an open gate, and then a gate that is closed.
 use Rattle.std.specs.Prelude.{◌≡◌, ◌≢◌, ◌⊎◌, ℕ, ◌+◌, ◌*◌, ◌≤◌, List, [], ◌∷◌, ◌++◌, length}
+use Rattle.std.specs.List.{All}
 use Rattle.disk_trait.specs.Disk.{Torn, part}
 use Rattle.gated_write.specs.Gated.{open_byte}
 use Rattle.blsm_model.specs.declared.key.Key.{Key}
 use Rattle.blsm_model.specs.Sizes.{Sizes}
 use Rattle.record_delta.specs.declared.record.Rec.{Rec}
-use Rattle.entry_codec.specs.Spelling.{spelling}
+use Rattle.entry_codec.specs.Spelling.{spelling, IsEntry}
 
 -- how many bytes stand before the first region
 abbrev pub head_length : ℕ
@@ -23,8 +24,13 @@ abbrev pub blocks : List (Key × Rec) → List ℕ
 blocks [] = []
 blocks (e ∷ es) = open_byte ∷ (spelling e.0 e.1 ++ blocks es)
 
+-- each is a key and a record that have a spelling
+abbrev pub AreEntries : List (Key × Rec) → Type 0
+AreEntries entries = All (λ e. IsEntry e.0 e.1) entries
+
 -- The lane has these entries: from its region's start on there are their blocks, and then, inside the region, a gate that is closed.
 pub record HasEntries (sizes : Sizes) (lane : ℕ) (entries : List (Key × Rec)) (file : List ℕ) : Type 0 where
+  pub each : AreEntries entries
   pub gate : ℕ
   pub closed : gate ≢ open_byte
   pub inside : length (blocks entries) + 1 ≤ region_length sizes
@@ -42,3 +48,19 @@ IsOldOutside sizes lane before file = (old : List ℕ) × before old × Torn (re
 pub record IsAppended (sizes : Sizes) (lane : ℕ) (entries : List (Key × Rec)) (entry : Key × Rec) (before : List ℕ → Type 0) (file : List ℕ) : Type 0 where
   pub has : HasEntries sizes lane entries file ⊎ HasEntries sizes lane (entries ++ entry ∷ []) file
   pub outside : IsOldOutside sizes lane before file
+
+-- The lane begins with these entries: their blocks stand from its region's start on, and the place behind them, where the next gate is, lies inside the region.
+pub record HasFront (sizes : Sizes) (lane : ℕ) (entries : List (Key × Rec)) (file : List ℕ) : Type 0 where
+  pub each : AreEntries entries
+  pub inside : length (blocks entries) + 1 ≤ region_length sizes
+  pub begins : part file (region_start sizes lane) (length (blocks entries)) ≡ blocks entries
+
+-- behind these entries there is an open gate that isn't followed by an entry with its next gate inside the region
+pub record IsDamagedBehind (sizes : Sizes) (lane : ℕ) (entries : List (Key × Rec)) (file : List ℕ) : Type 0 where
+  pub front : HasFront sizes lane entries file
+  pub opened : part file (region_start sizes lane + length (blocks entries)) 1 ≡ open_byte ∷ []
+  pub no_entry : (entry : Key × Rec) → HasFront sizes lane (entries ++ entry ∷ []) file → ⊥
+
+-- the lane is damaged behind some entries
+abbrev pub IsDamaged : Sizes → ℕ → List ℕ → Type 0
+IsDamaged sizes lane file = (entries : List (Key × Rec)) × IsDamagedBehind sizes lane entries file

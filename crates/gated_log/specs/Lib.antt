@@ -1,2 +1,4 @@
 pub mod Lane
 pub mod Lanes
+pub mod Replay
+pub mod Block

@@ -7,11 +7,12 @@ ghost use Rattle.blsm_model.specs.declared.key.Key.{Key};
 ghost use Rattle.blsm_model.specs.Geometry.{file_length};
 ghost use Rattle.record_delta.specs.declared.record.Rec.{Rec};
 ghost use Rattle.record_delta.specs.Records.{weight};
-ghost use Rattle.entry_codec.specs.Spelling.{spelling};
+ghost use Rattle.entry_codec.specs.Spelling.{spelling, IsEntry};
 ghost use Rattle.gated_log.specs.Lane.{region_length, region_start, blocks, HasEntries, EachHasEntries, IsAppended};
-ghost use Rattle.gated_log.specs.Lanes.{end_of, moved, IsEnd};
+ghost use Rattle.gated_log.specs.Lanes.{a_of, b_of, spare_of, AreRoles, end_of, moved, turned, IsEnd};
 
-use blsm_model::{Geometry, Key};
+use crate::region::place_in_file;
+use blsm_model::{Geometry, Key, Op};
 use disk_trait::Disk;
 use entry_codec::encode;
 use gated_write::write_gated;
@@ -19,28 +20,53 @@ use record_delta::{Rec, weight};
 use refusal::Failed;
 use std::marker::Model;
 
-// Where the first region begins, and how many bytes the longest entry has with the gate behind it.
-const HEAD_LENGTH: u64 = 4_096;
+// How many lanes there are.
+const LANES: usize = 3;
 
-const LONGEST: usize = 513;
+// The longest entry, with the gate behind it, in bytes.
+const LONGEST: usize = Op::MAX_WEIGHT as usize + 1;
 
-/// Three lanes, each with the place of its closed gate, in bytes from its region's start.
+// What is written for a closed gate.
+const CLOSED: u8 = 0;
+
+/// Three lanes, each with the place of its closed gate, in bytes from its region's start, and which of them are A, B and
+/// spare. A lane is named by its region's number, 0 to 2.
 #[derive(Debug, Drop)]
 pub struct Lanes {
     geometry: Geometry,
-    ends: [u64; 3],
+    roles: [u8; LANES],
+    ends: [u64; LANES],
 }
 
 impl Model for Lanes {
     ghost use Rattle.std.specs.Prelude.{◌≤◌, ◌<◌, ◌*◌, ℕ, slice_index};
-    ghost use Rattle.blsm_model.specs.Sizes.{IsGeometry};
-    ghost use Rattle.gated_log.specs.Lanes.{LanesState};
+    ghost use Rattle.gated_log.specs.Lanes.{LanesState, AreRoles};
 
     ghost Value = { LanesState };
 
-    ghost view = { λ l. record { sizes = l.geometry; ends = l.ends } };
+    ghost view = { λ l. record { sizes = l.geometry; roles = l.roles; ends = l.ends } };
 
-    ghost invariant = { λ l. (lane : ℕ) → lane < 3 → slice_index l.ends lane < 4 * l.geometry.half };
+    ghost invariant = { λ l. AreRoles l.roles × ((lane : ℕ) → lane < 3 → slice_index l.ends lane < 4 * l.geometry.half) };
+}
+
+// A count fits its type.
+fn count_fits(count: u64)
+    ensures { count < 2 ^ 64 }
+{}
+
+// Whatever the key and the record are, they have a spelling: their types keep its bounds.
+fn has_spelling(key: &Key, rec: &Rec)
+    ensures { IsEntry key.now rec.now }
+{
+    let _bytes = key.as_bytes();
+    match rec {
+        Rec::Base(value) => {
+            let _text = value.text.as_bytes();
+            count_fits(value.count);
+        }
+        Rec::Delta(count) => count_fits(*count),
+        Rec::Tomb => {}
+    }
 }
 
 // Puts the entry and the next gate, closed, at the front of the buffer, and answers their length in bytes.
@@ -48,23 +74,62 @@ fn put_entry(key: &Key, rec: &Rec, buffer: &mut [u8; LONGEST]) -> usize
     ensures text { take result buffer.new ≡ spelling key.now rec.now ++ 0 ∷ [] }
     ensures len { result ≡ weight key.now rec.now + 1 }
     ensures fits { result ≤ 513 }
+    ensures entry { IsEntry key.now rec.now }
 {
+    has_spelling(key, rec);
     let length = weight(key, rec) as usize;
     encode(key, rec, buffer);
-    buffer[length] = 0;
+    buffer[length] = CLOSED;
     length + 1
 }
 
 impl Lanes {
-    /// The lanes of a store of this geometry, whose closed gates stand so many bytes from their regions' starts.
-    pub fn resume(geometry: &Geometry, ends: [u64; 3]) -> Lanes
-        requires { (lane : ℕ) → lane < 3 → slice_index ends lane < region_length geometry.now }
-        ensures { result ≡ record { sizes = geometry.now; ends = ends } }
+    /// The lanes of a store of this geometry. `roles` are the numbers of the regions that are A, B and spare; `ends` are the
+    /// places of the regions' closed gates, in bytes from each region's start, by the region's number.
+    pub fn resume(geometry: &Geometry, roles: [u8; LANES], ends: [u64; LANES]) -> Lanes
+        requires roles { AreRoles roles }
+        requires inside { (lane : ℕ) → lane < 3 → slice_index ends lane < region_length geometry.now }
+        ensures { result ≡ record { sizes = geometry.now; roles = roles; ends = ends } }
     {
         Lanes {
             geometry: *geometry,
+            roles,
             ends,
         }
+    }
+
+    /// The number of the region that is lane A, the lane of the table that the pass takes from.
+    pub fn a(&self) -> u8
+        ensures number { result ≡ a_of self.now.roles }
+        ensures roles { AreRoles self.now.roles }
+    {
+        self.roles[0]
+    }
+
+    /// The number of the region that is lane B, the lane of the next pass's table.
+    pub fn b(&self) -> u8
+        ensures number { result ≡ b_of self.now.roles }
+        ensures roles { AreRoles self.now.roles }
+    {
+        self.roles[1]
+    }
+
+    /// The number of the region that is spare.
+    pub fn spare(&self) -> u8
+        ensures number { result ≡ spare_of self.now.roles }
+        ensures roles { AreRoles self.now.roles }
+    {
+        self.roles[2]
+    }
+
+    /// Turns the lanes (A, B, spare) into (B, spare, A). The spare region's first gate must be closed on the disk: the new
+    /// lane B ends there.
+    pub fn turn(&mut self)
+        ensures { self.new ≡ turned self.old }
+    {
+        let [a, b, spare] = self.roles;
+        self.roles = [b, spare, a];
+        self.ends[spare as usize] = 0;
     }
 
     // Where the closed gate of a lane stands in the file.
@@ -74,13 +139,14 @@ impl Lanes {
         ensures inside { region_start self.now.sizes lane + region_length self.now.sizes ≤ file_length self.now.sizes }
         ensures small { file_length self.now.sizes < 2 ^ 63 }
     {
-        HEAD_LENGTH + 4 * self.geometry.half() * u64::from(lane) + self.ends[lane as usize]
+        place_in_file(&self.geometry, lane, self.ends[lane as usize])
     }
 
     /// Where the closed gate of a lane stands, in bytes from its region's start.
     pub fn end(&self, lane: u8) -> u64
         requires { lane < 3 }
-        ensures { result ≡ end_of self.now lane }
+        ensures place { result ≡ end_of self.now lane }
+        ensures inside { result < region_length self.now.sizes }
     {
         self.ends[lane as usize]
     }

@@ -3,5 +3,8 @@
 #![tactic(auto)]
 
 mod lanes;
+mod region;
+mod replay;
 
 pub use lanes::Lanes;
+pub use replay::{LaneBroken, Replay, one_list};

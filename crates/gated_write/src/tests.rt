@@ -1,7 +1,7 @@
 // A disk that tells nothing, as a real file, and the text that is written over it.
 ghost use Rattle.std.specs.Prelude.{◌≡◌, ◌≤◌, ◌<◌, ◌+◌, ◌-◌, ◌^◌, IsErr, OnOk};
 ghost use Rattle.refusal.specs.Count.{HasRisen};
-ghost use Rattle.disk_trait.specs.Untold.{untold_state, untold_timed};
+ghost use Rattle.disk_trait.specs.Untold.{untold_state, untold_timed, untold_as_read};
 
 use crate::{OPEN, write_gated};
 use disk_trait::Disk;
@@ -70,7 +70,7 @@ impl Disk for Slate {
 
     ghost timed = { λ d. untold_timed d.calls d.faults };
 
-    ghost as_read = { λ d honest tells. absurd (Prim.cc) };
+    ghost as_read = { λ d. untold_as_read d.calls d.faults };
 
     ghost honest_tells = { λ d honest. honest };
 

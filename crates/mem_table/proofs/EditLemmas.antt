@@ -16,9 +16,9 @@ use Rattle.blsm_model.specs.declared.op.Write.{Write}
 use Rattle.blsm_model.specs.Keys.{key_cmp, same_key}
 use Rattle.blsm_model.specs.Values.{key_of}
 use Rattle.record_delta.specs.declared.record.Rec.{Rec}
-use Rattle.record_delta.specs.declared.record.Rec.TheVariants.{Base, Delta, Tomb}
-use Rattle.record_delta.specs.Records.{weight, settled}
-use Rattle.record_delta.specs.Folding.{fold, over, kept_after, StandsForMore}
+use Rattle.record_delta.specs.Records.{weight, settled, write_of, IsRecord}
+use Rattle.record_delta.specs.Folding.{fold, over, kept_after}
+use Rattle.record_delta.proofs.FoldingLemmas.{weight-fold_le, key_of-write_of, stands_rec}
 use Rattle.mem_table.specs.Entries.{Entries, AreSorted, record_of_key, total_weight, with_record, StandFor}
 use Rattle.mem_table.specs.Places.{IsAt, IsGapFor}
 use Rattle.mem_table.specs.Tables.{IsTable}
@@ -55,13 +55,6 @@ keys_put (e ∷ es) key rec key_least keys =
     ]
 
 -- ---- their weight
-
-pub weight-fold_le : (key : Key) (newer older : Rec) → weight key (fold newer older) ≤ weight key newer + weight key older
-weight-fold_le key (Base v) older = omega arith
-weight-fold_le key Tomb older = omega arith
-weight-fold_le key (Delta d) (Base v) = omega arith
-weight-fold_le key (Delta d) (Delta c) = omega arith
-weight-fold_le key (Delta d) Tomb = omega arith
 
 -- one record gives place to another
 pub total_at : (es : Entries) (key : Key) (rec : Rec) (i : ℕ) (d : Key × Rec) → AreSorted es → IsAt es key i
@@ -125,9 +118,10 @@ record_after es key rec write q key_is =
           ∙ ap (λ b. cond b (Some (over rec kept)) kept) (sym (ap (λ k. same_key k q) key_is ∙ ties q key ∙ apart))
     ]
 
-pub stand_more : (es : Entries) (key : Key) (rec : Rec) (write : Write) (writes : List Write) → key_of write ≡ key → StandsForMore write rec
-    → StandFor es writes → StandFor (with_record key rec es) (writes ++ write ∷ [])
-stand_more es key rec write writes key_is more stood = λ q. ap settled (record_after es key rec write q key_is) ∙ more q (record_of_key q es) writes (stood q)
+pub stand_more : (es : Entries) (key : Key) (rec : Rec) (writes : List Write) → IsRecord rec → StandFor es writes
+    → StandFor (with_record key rec es) (writes ++ write_of key rec ∷ [])
+stand_more es key rec writes in_range stood = λ q.
+    ap settled (record_after es key rec (write_of key rec) q (key_of-write_of key rec)) ∙ stands_rec key rec in_range.count_fits q (record_of_key q es) writes (stood q)
 
 -- ---- a table stays a table
 

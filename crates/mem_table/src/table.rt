@@ -3,9 +3,7 @@ ghost use Rattle.std.specs.Prelude.{◌≡◌, ◌+◌, ◌≤◌, ◌<◌, [], 
 ghost use Rattle.blsm_model.specs.declared.key.Key.{Key};
 ghost use Rattle.blsm_model.specs.declared.op.Write.{Write};
 ghost use Rattle.record_delta.specs.declared.record.Rec.{Rec};
-ghost use Rattle.blsm_model.specs.Values.{key_of};
-ghost use Rattle.record_delta.specs.Records.{weight as weight_with};
-ghost use Rattle.record_delta.specs.Folding.{StandsForMore};
+ghost use Rattle.record_delta.specs.Records.{write_of, IsRecord, weight as weight_with};
 ghost use Rattle.mem_table.specs.Entries.{AreSorted, total_weight, record_of_key, with_record, StandFor};
 ghost use Rattle.mem_table.specs.Tables.{IsFoldedIn};
 ghost use Rattle.mem_table.specs.Order.{IsLeastAbove, NoneAbove};
@@ -88,9 +86,8 @@ impl Table {
         ensures entries { self.new.entries ≡ with_record key.now rec.now self.old.entries }
         ensures reserved { self.new.reserved ≡ self.old.reserved }
         ensures weight { total_weight self.new.entries ≤ total_weight self.old.entries + weight_with key.now rec.now }
-        // With a write's record the entries that stood for writes stand for those and this one.
-        ensures stands { (write : Write) (writes : List Write) → key_of write ≡ key.now → StandsForMore write rec.now
-            → StandFor self.old.entries writes → StandFor self.new.entries (writes ++ write ∷ []) }
+        // Where the entries stood for writes, they stand for those and this record's.
+        ensures stands { (writes : List Write) → StandFor self.old.entries writes → StandFor self.new.entries (writes ++ write_of key.now rec.now ∷ []) }
     {
         match self.search(key) {
             Ok(at) => self.fold_at(at, key, rec),
@@ -102,7 +99,8 @@ impl Table {
     fn fold_at(&mut self, at: usize, key: &Key, rec: &Rec)
         requires at { IsAt self.old.entries key.now at }
         requires fits { total_weight (with_record key.now rec.now self.old.entries) ≤ self.old.reserved }
-        ensures { IsFoldedIn key.now rec.now self.old self.new }
+        ensures folded { IsFoldedIn key.now rec.now self.old self.new }
+        ensures in_range { IsRecord rec.now }
     {
         let older = self.entries[at].1.copy();
         let before = weight(key, &older);
@@ -115,7 +113,8 @@ impl Table {
     fn add_at(&mut self, at: usize, key: &Key, rec: &Rec)
         requires at { IsGapFor self.old.entries key.now at }
         requires fits { total_weight (with_record key.now rec.now self.old.entries) ≤ self.old.reserved }
-        ensures { IsFoldedIn key.now rec.now self.old self.new }
+        ensures folded { IsFoldedIn key.now rec.now self.old self.new }
+        ensures in_range { IsRecord rec.now }
     {
         self.weight += weight(key, rec);
         match self.entries.insert(at, (key.copy(), rec.copy())) {

@@ -1,20 +1,21 @@
 -- What a record stands for after one more write.
-use Rattle.std.proofs.Common.{◌≡◌, ℕ, ◌+◌, ◌%◌, ◌^◌, ◌<◌, ◌++◌, List, [], ◌∷◌, Bool, cond, true, false, Some, None, Option, refl, ap, sym, ◌∙◌, ◌⊎◌, inl, inr, map, append-nil, zero-add}
+use Rattle.std.proofs.Common.{◌≡◌, ℕ, ◌+◌, ◌%◌, ◌^◌, ◌<◌, ◌≤◌, max, ◌++◌, List, [], ◌∷◌, Bool, cond, true, false, Some, None, Option, refl, ap, sym, ◌∙◌, ◌⊎◌, inl, inr, map, append-nil, zero-add, add_assoc, arith}
 use Rattle.std.proofs.lemmas.List.{map-append}
 use Rattle.std.proofs.lemmas.List.Sums.{fold-append}
 use Rattle.std.proofs.lemmas.List.Elements.{filter-append}
+use Rattle.std.specs.Cmp.Lexicographic.{bytes_decides}
 use Rattle.blsm_model.specs.declared.key.Key.{Key}
 use Rattle.blsm_model.specs.declared.row.Value.{Value}
 use Rattle.blsm_model.specs.declared.op.Write.{Write}
 use Rattle.blsm_model.specs.declared.op.Write.TheVariants.{Put, Add, Del}
 use Rattle.blsm_model.specs.Keys.{same_key}
-use Rattle.std.proofs.Math.Nat.{mod-eq_of_lt}
+use Rattle.std.proofs.Math.Nat.{mod-eq_of_lt, mod-add-mod, add-mod-mod}
 use Rattle.blsm_model.specs.Values.{key_of, base_of, writes_of_key, value_at}
 use Rattle.blsm_model.proofs.ValueLemmas.{value_at-put, value_at-add, value_at-del, value_at-other}
 use Rattle.record_delta.specs.declared.record.Rec.{Rec}
 use Rattle.record_delta.specs.declared.record.Rec.TheVariants.{Base, Delta, Tomb}
-use Rattle.record_delta.specs.Records.{record_of, bare, settled}
-use Rattle.record_delta.specs.Folding.{over, folded, record_at, StandsFor, kept_after, StandsForMore}
+use Rattle.record_delta.specs.Records.{write_of, count_of, record_of, weight, bare, settled}
+use Rattle.record_delta.specs.Folding.{fold, sum_of, over, folded, record_at, StandsFor, kept_after, StandsForMore}
 
 by_test : (b : Bool) → (b ≡ true) ⊎ (b ≡ false)
 by_test true = inl refl
@@ -76,6 +77,17 @@ stands_add at count fits key kept writes stood =
       | inr apart ↦ stands_apart (Add at count) (Delta count) key kept writes apart stood
     ]
 
+pub key_of-write_of : (key : Key) (rec : Rec) → key_of (write_of key rec) ≡ key
+key_of-write_of key (Base value) = refl
+key_of-write_of key (Delta count) = refl
+key_of-write_of key Tomb = refl
+
+-- whatever the record
+pub stands_rec : (at : Key) (rec : Rec) → count_of rec < 2 ^ 64 → StandsForMore (write_of at rec) rec
+stands_rec at (Base value) fits = stands_put at value
+stands_rec at (Delta count) fits = stands_add at count fits
+stands_rec at Tomb fits = stands_del at
+
 pub ruleset stands_more = (stands_put, stands_add, stands_del)
 
 -- one write more, of this key or of another
@@ -98,3 +110,33 @@ record_at-push writes write key =
 pub stands_over : (write : Write) (rec : Rec) (key : Key) (kept : Option Rec) → StandsForMore write rec → same_key (key_of write) key ≡ true
     → (writes : List Write) → StandsFor kept writes key → StandsFor (Some (over rec kept)) (writes ++ write ∷ []) key
 stands_over write rec key kept more same writes stood = ap (λ b. settled (cond b (Some (over rec kept)) kept)) (sym same) ∙ more key kept writes stood
+
+-- a key is the same as itself
+same_as_itself : (key : Key) → same_key key key ≡ true
+same_as_itself key = (bytes_decides key key).1 refl
+
+pub stands_folded : (newer older : Rec) → count_of newer < 2 ^ 64 → (key : Key) (writes : List Write) → StandsFor (Some older) writes key
+    → StandsFor (Some (fold newer older)) (writes ++ write_of key newer ∷ []) key
+stands_folded newer older fits key writes stood =
+    stands_over (write_of key newer) newer key (Some older) (stands_rec key newer fits) (ap (λ k. same_key k key) (key_of-write_of key newer) ∙ same_as_itself key) writes stood
+
+-- ---- the laws of folding
+
+sums_regroup : (d e v : ℕ) → sum_of d (sum_of e v) ≡ sum_of (sum_of d e) v
+sums_regroup d e v = mod-add-mod (v + e) (2 ^ 64) d ∙ ap (λ n. n % 2 ^ 64) (add_assoc v e d) ∙ sym (add-mod-mod v (e + d) (2 ^ 64))
+
+pub fold_associative : (newer older oldest : Rec) → fold (fold newer older) oldest ≡ fold newer (fold older oldest)
+fold_associative (Base v) older oldest = refl
+fold_associative Tomb older oldest = refl
+fold_associative (Delta d) (Base v) oldest = refl
+fold_associative (Delta d) Tomb oldest = refl
+fold_associative (Delta d) (Delta e) (Base v) = ap (λ n. Base (record { count = n; text = v.text })) (sym (sums_regroup d e v.count))
+fold_associative (Delta d) (Delta e) (Delta c) = ap (λ n. Delta n) (sym (sums_regroup d e c))
+fold_associative (Delta d) (Delta e) Tomb = refl
+
+pub weight-fold_le : (key : Key) (newer older : Rec) → weight key (fold newer older) ≤ max (weight key newer) (weight key older)
+weight-fold_le key (Base v) older = omega arith
+weight-fold_le key Tomb older = omega arith
+weight-fold_le key (Delta d) (Base v) = omega arith
+weight-fold_le key (Delta d) (Delta c) = omega arith
+weight-fold_le key (Delta d) Tomb = omega arith

@@ -1,9 +1,10 @@
 -- Records: what a table keeps of the writes of a key, and what a record weighs.
-use Rattle.std.specs.Prelude.{ℕ, ◌+◌, List, [], length, Option, Some, None}
+use Rattle.std.specs.Prelude.{ℕ, ◌+◌, ◌<◌, ◌≤◌, ◌^◌, List, [], length, Option, Some, None}
 use Rattle.blsm_model.specs.declared.key.Key.{Key}
 use Rattle.blsm_model.specs.declared.row.Value.{Value}
 use Rattle.blsm_model.specs.declared.op.Write.{Write}
 use Rattle.blsm_model.specs.declared.op.Write.TheVariants.{Put, Add, Del}
+use Rattle.blsm_model.specs.declared.text.TheConstants.Text.{MAX_LEN as max_text_len}
 use Rattle.blsm_model.specs.Values.{overhead}
 use Rattle.record_delta.specs.declared.record.Rec.{Rec}
 use Rattle.record_delta.specs.declared.record.Rec.TheVariants.{Base, Delta, Tomb}
@@ -14,11 +15,28 @@ record_of (Put key value) = Base value
 record_of (Add key count) = Delta count
 record_of (Del key) = Tomb
 
+-- the write that has this key and this record
+abbrev pub write_of : Key → Rec → Write
+write_of key (Base value) = Put key value
+write_of key (Delta count) = Add key count
+write_of key Tomb = Del key
+
+-- a tombstone's is 0
+abbrev pub count_of : Rec → ℕ
+count_of (Base value) = value.count
+count_of (Delta count) = count
+count_of Tomb = 0
+
 -- only a base has a text
 abbrev pub text_of : Rec → List ℕ
 text_of (Base value) = value.text
 text_of (Delta count) = []
 text_of Tomb = []
+
+-- what holds of each record of a program, since its parts have their types' ranges
+pub record IsRecord (rec : Rec) : Type 0 where
+  pub count_fits : count_of rec < 2 ^ 64
+  pub text_fits : length (text_of rec) ≤ max_text_len
 
 -- the weight of a record with its key, in bytes
 abbrev pub weight : Key → Rec → ℕ

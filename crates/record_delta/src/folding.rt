@@ -1,10 +1,10 @@
 //! Folding a newer record over an older one, and settling what is left.
-ghost use Rattle.std.specs.Prelude.{◌≡◌, ◌≤◌, max, [], ◌∷◌, ◌++◌, List};
+ghost use Rattle.std.specs.Prelude.{◌≡◌, ◌<◌, ◌≤◌, ◌^◌, max, [], ◌∷◌, ◌++◌, List};
 ghost use Rattle.blsm_model.specs.declared.key.Key.{Key};
 ghost use Rattle.blsm_model.specs.declared.op.Write.{Write};
 ghost use Rattle.blsm_model.specs.Values.{value_at, key_of};
 ghost use Rattle.record_delta.specs.declared.record.Rec.{Rec};
-ghost use Rattle.record_delta.specs.Records.{record_of, weight as weight_with, settle as settle_of, settled};
+ghost use Rattle.record_delta.specs.Records.{count_of, record_of, write_of, weight as weight_with, settle as settle_of, settled};
 ghost use Rattle.record_delta.specs.Folding.{fold as fold_of, record_at, kept_after, StandsFor};
 
 use crate::Rec;
@@ -16,15 +16,26 @@ pub fn fold(newer: Rec, older: Rec) -> Rec
     // Which two of three are folded first makes no difference.
     ensures associative { (oldest : Rec) → fold_of result oldest ≡ fold_of newer (fold_of older oldest) }
     ensures weight { (key : Key) → weight_with key result ≤ max (weight_with key newer) (weight_with key older) }
+    // Where the older one stood for writes, the folded one stands for those and the newer one's.
+    ensures stands { (key : Key) (writes : List Write) → StandsFor (Some older) writes key → StandsFor (Some result) (writes ++ write_of key newer ∷ []) key }
+{
+    combined(newer, older)
+}
+
+// What the newer record makes of the older one, pair by pair.
+fn combined(newer: Rec, older: Rec) -> Rec
+    ensures record { result ≡ fold_of newer older }
+    ensures in_range { count_of newer < 2 ^ 64 }
 {
     match (newer, older) {
+        (Rec::Base(value), _) => Rec::Base(value),
         (Rec::Delta(count), Rec::Base(value)) => Rec::Base(Value {
             count: value.count.wrapping_add(count),
             text: value.text,
         }),
         (Rec::Delta(count), Rec::Delta(below)) => Rec::Delta(below.wrapping_add(count)),
         (Rec::Delta(count), Rec::Tomb) => Rec::Base(bare(count)),
-        (newer, _) => newer,
+        (Rec::Tomb, _) => Rec::Tomb,
     }
 }
 

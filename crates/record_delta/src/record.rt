@@ -1,7 +1,7 @@
 //! Records and their weight.
 ghost use Rattle.std.specs.Prelude.{◌≡◌, ◌≤◌, ⊤, length};
 ghost use Rattle.blsm_model.specs.Values.{key_of, weight_of};
-ghost use Rattle.record_delta.specs.Records.{record_of, weight as weight_with};
+ghost use Rattle.record_delta.specs.Records.{record_of, write_of, IsRecord, weight as weight_with};
 ghost use Rattle.record_delta.specs.Folding.{StandsForMore};
 
 use blsm_model::{Key, Op, Value, Write};
@@ -31,7 +31,8 @@ impl Clone for Rec {
 impl Rec {
     /// The same record once more. It takes no memory.
     pub fn copy(&self) -> Rec
-        ensures { result ≡ self.now }
+        ensures same { result ≡ self.now }
+        ensures in_range { IsRecord self.now }
     {
         match self {
             Rec::Base(value) => Rec::Base(value.copy()),
@@ -45,6 +46,7 @@ impl Rec {
     #[tactic(auto, using(crate::proofs::FoldingLemmas::stands_more))]
     pub fn of_write(write: &Write) -> Rec
         ensures record { result ≡ record_of write.now }
+        ensures write { write_of (key_of write.now) result ≡ write.now }
         ensures weight { weight_with (key_of write.now) result ≡ weight_of write.now }
         ensures stands { StandsForMore write.now result }
     {

@@ -1,3 +1,4 @@
+pub mod GrammarExamples
 pub mod GrammarLaws
 pub mod PrintLemmas
 pub mod ReadLemmas

@@ -1,3 +1,4 @@
 pub mod Grammar
+pub mod Printing
 pub mod Reading
 pub mod Script

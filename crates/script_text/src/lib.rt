@@ -2,17 +2,16 @@
 //! The top call and whoever else shows a run to a person may use it.
 #![tactic(auto)]
 
+mod command;
+mod piece;
 mod print;
-mod print_command;
-mod print_reply;
 mod read_line;
 mod read_word;
+mod reply;
 mod script;
-mod words;
 
 pub use print::print_history;
 pub use script::{MOST_LINES, Script, ScriptFault, read_script};
-pub use words::print_number;
 
 #[cfg(test)]
 mod tests;

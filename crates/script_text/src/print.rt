@@ -1,50 +1,94 @@
-// The text of a whole history.
-ghost use Rattle.std.specs.Prelude.{◌≡◌, ◌+◌, ◌<◌, ◌++◌, ◌∷◌, [], codes, decimal, length, drop, slice_index};
+// The text of a whole history. Each line is one call of the sink, or a few where it gives rows.
+ghost use Rattle.std.specs.Prelude.{◌≡◌, ◌+◌, ◌<◌, ◌≤◌, ◌++◌, ◌∷◌, [], codes, decimal, flat_map, length, slice_index};
 ghost use Rattle.text_io.specs.Text.{Writes};
 ghost use Rattle.blsm_model.specs.Book.{entry_at};
-ghost use Rattle.blsm_model.specs.Printed.{and_number, and_word, command_text, end_text, entries_text, entry_text, history_text, reply_text};
+ghost use Rattle.blsm_model.specs.Printed.{and_number, and_row, and_word, command_text, end_text, entries_text, entry_text, history_text, reply_text};
+ghost use Rattle.script_text.specs.Printing.{GivesNoRows};
 
-use crate::print_command::print_command;
-use crate::print_reply::print_reply;
-use crate::words::{print_and_number, print_named_number, print_number};
-use blsm_model::{Annals, Op, Reply, Totals};
+use crate::command::add_command;
+use crate::piece::{AND_NUMBER, LINE_END, LINE_START, LONGEST, Piece, REPLY};
+use crate::reply::{add_and_row, add_reply};
+use blsm_model::{Annals, Op, Reply, Row, Totals};
 use refusal::Failed;
 use text_io::{Sink, write_all};
 
-// The command behind a space.
-fn print_and_command<K: Sink>(sink: &mut K, op: &Op) -> Result<(), Failed>
-    ensures { Writes (and_word (command_text op.now)) result (K.held sink.old) (K.held sink.new) (K.faults sink.old) (K.faults sink.new) }
-{
-    write_all(sink, b" ")?;
-    print_command(sink, op)
-}
-
 // Which caller gave which command at which place of the history, both counted from 1.
-fn print_command_at<K: Sink>(sink: &mut K, place: u64, caller: u64, op: &Op) -> Result<(), Failed>
-    ensures { Writes (decimal place ++ and_number caller ++ and_word (command_text op.now)) result (K.held sink.old) (K.held sink.new) (K.faults sink.old) (K.faults sink.new) }
+fn start_line(place: u64, caller: u64, op: &Op) -> Piece
+    ensures text { result ≡ decimal place ++ and_number caller ++ and_word (command_text op.now) ++ codes " => " }
+    ensures fits { length result ≤ LINE_START }
 {
-    print_number(sink, place)?;
-    print_and_number(sink, caller)?;
-    print_and_command(sink, op)
+    let mut piece = Piece::new();
+    piece.add_number(place);
+    piece.add_and_number(caller);
+    piece.add(b" ");
+    add_command(&mut piece, op);
+    piece.add(b" => ");
+    piece
 }
 
-// One line of the history.
-fn print_line<K: Sink>(
+// The end of a line, and what stands before it.
+fn print_end_of_line<K: Sink>(sink: &mut K, mut piece: Piece, quanta: u64) -> Result<(), Failed>
+    requires { length piece + LINE_END ≤ LONGEST }
+    ensures { Writes (piece ++ codes " q" ++ decimal quanta ++ 10 ∷ []) result (K.held sink.old) (K.held sink.new) (K.faults sink.old) (K.faults sink.new) }
+{
+    piece.add(b" q");
+    piece.add_number(quanta);
+    piece.add(b"\n");
+    write_all(sink, piece.as_slice())
+}
+
+fn print_short_line<K: Sink>(
     sink: &mut K,
-    place: u64,
-    caller: u64,
-    op: &Op,
+    mut piece: Piece,
     reply: &Reply,
     quanta: u64,
 ) -> Result<(), Failed>
-    ensures { Writes (decimal place ++ and_number caller ++ and_word (command_text op.now) ++ codes " => " ++ reply_text reply.now ++ codes " q" ++ decimal quanta ++ 10 ∷ []) result (K.held sink.old) (K.held sink.new) (K.faults sink.old) (K.faults sink.new) }
+    requires short { GivesNoRows reply.now }
+    requires room { length piece + REPLY + LINE_END ≤ LONGEST }
+    ensures { Writes (piece ++ reply_text reply.now ++ codes " q" ++ decimal quanta ++ 10 ∷ []) result (K.held sink.old) (K.held sink.new) (K.faults sink.old) (K.faults sink.new) }
 {
-    print_command_at(sink, place, caller, op)?;
-    write_all(sink, b" => ")?;
-    print_reply(sink, reply)?;
-    write_all(sink, b" q")?;
-    print_number(sink, quanta)?;
-    write_all(sink, b"\n")
+    add_reply(&mut piece, reply);
+    print_end_of_line(sink, piece, quanta)
+}
+
+fn print_row<K: Sink>(sink: &mut K, row: &Row) -> Result<(), Failed>
+    ensures { Writes (and_row row.now) result (K.held sink.old) (K.held sink.new) (K.faults sink.old) (K.faults sink.new) }
+{
+    let mut piece = Piece::new();
+    add_and_row(&mut piece, row);
+    write_all(sink, piece.as_slice())
+}
+
+fn print_each_row<K: Sink>(sink: &mut K, rows: &[Row]) -> Result<(), Failed>
+    ensures { Writes (flat_map and_row rows.now) result (K.held sink.old) (K.held sink.new) (K.faults sink.old) (K.faults sink.new) }
+{
+    for row in rows {
+        print_row(sink, row)?;
+    }
+    Ok(())
+}
+
+// What stands before the rows: the line so far, and how many there are.
+fn print_before_rows<K: Sink>(sink: &mut K, mut piece: Piece, count: u64) -> Result<(), Failed>
+    requires { length piece + 4 + AND_NUMBER ≤ LONGEST }
+    ensures { Writes (piece ++ (codes "rows" ++ and_number count)) result (K.held sink.old) (K.held sink.new) (K.faults sink.old) (K.faults sink.new) }
+{
+    piece.add_named_number(b"rows", count);
+    write_all(sink, piece.as_slice())
+}
+
+fn print_rows_line<K: Sink>(
+    sink: &mut K,
+    piece: Piece,
+    rows: &[Row],
+    quanta: u64,
+) -> Result<(), Failed>
+    requires { length piece + 4 + AND_NUMBER ≤ LONGEST }
+    ensures { Writes (piece ++ (codes "rows" ++ and_number (length rows.now) ++ flat_map and_row rows.now) ++ codes " q" ++ decimal quanta ++ 10 ∷ []) result (K.held sink.old) (K.held sink.new) (K.faults sink.old) (K.faults sink.new) }
+{
+    print_before_rows(sink, piece, rows.len() as u64)?;
+    print_each_row(sink, rows)?;
+    print_end_of_line(sink, Piece::new(), quanta)
 }
 
 // The entry at a place, which is counted from 0.
@@ -52,15 +96,13 @@ fn print_entry<K: Sink>(sink: &mut K, annals: &Annals, place: u32) -> Result<(),
     requires { place < length annals.now.entries }
     ensures { Writes (entry_text (place + 1) (entry_at annals.now place) (slice_index annals.now.quanta place)) result (K.held sink.old) (K.held sink.new) (K.faults sink.old) (K.faults sink.new) }
 {
-    let reply = annals.reply(place);
-    print_line(
-        sink,
-        u64::from(place) + 1,
-        u64::from(annals.seat(place)) + 1,
-        annals.op(place),
-        &reply,
-        annals.quanta(place),
-    )
+    let caller = u64::from(annals.seat(place)) + 1;
+    let piece = start_line(u64::from(place) + 1, caller, annals.op(place));
+    let quanta = annals.quanta(place);
+    match annals.reply(place) {
+        Reply::Rows(rows) => print_rows_line(sink, piece, rows.as_slice(), quanta),
+        reply => print_short_line(sink, piece, &reply, quanta),
+    }
 }
 
 fn print_entries<K: Sink>(sink: &mut K, annals: &Annals) -> Result<(), Failed>
@@ -73,44 +115,29 @@ fn print_entries<K: Sink>(sink: &mut K, annals: &Annals) -> Result<(), Failed>
     Ok(())
 }
 
-// The greatest weight of the memory table, and what it may weigh.
-fn print_table<K: Sink>(sink: &mut K, totals: &Totals) -> Result<(), Failed>
-    ensures { Writes (codes "end c0" ++ and_number totals.now.peak ++ codes " of" ++ and_number totals.now.high) result (K.held sink.old) (K.held sink.new) (K.faults sink.old) (K.faults sink.new) }
-{
-    print_named_number(sink, b"end c0", totals.peak)?;
-    write_all(sink, b" of")?;
-    print_and_number(sink, totals.high)
-}
-
-// The same, and the quanta.
-fn print_table_and_quanta<K: Sink>(sink: &mut K, totals: &Totals) -> Result<(), Failed>
-    ensures { Writes (codes "end c0" ++ and_number totals.now.peak ++ codes " of" ++ and_number totals.now.high
-        ++ codes " callers" ++ and_number totals.now.callers ++ codes " workers" ++ and_number totals.now.workers) result (K.held sink.old) (K.held sink.new) (K.faults sink.old) (K.faults sink.new) }
-{
-    print_table(sink, totals)?;
-    write_all(sink, b" callers")?;
-    print_and_number(sink, totals.callers)?;
-    write_all(sink, b" workers")?;
-    print_and_number(sink, totals.workers)
-}
-
 // The last line.
 fn print_end<K: Sink>(sink: &mut K, totals: &Totals) -> Result<(), Failed>
     ensures { Writes (end_text totals.now) result (K.held sink.old) (K.held sink.new) (K.faults sink.old) (K.faults sink.new) }
 {
-    print_table_and_quanta(sink, totals)?;
-    write_all(sink, b" swaps")?;
-    print_and_number(sink, totals.passes)?;
-    print_and_number(sink, totals.deeps)?;
-    write_all(sink, b"\n")
+    let mut piece = Piece::new();
+    piece.add_named_number(b"end c0", totals.peak);
+    piece.add_named_number(b" of", totals.high);
+    piece.add_named_number(b" callers", totals.callers);
+    piece.add_named_number(b" workers", totals.workers);
+    piece.add_named_number(b" swaps", totals.passes);
+    piece.add_and_number(totals.deeps);
+    piece.add(b"\n");
+    write_all(sink, piece.as_slice())
 }
 
 // The first line.
 fn print_charge<K: Sink>(sink: &mut K, charge: u64) -> Result<(), Failed>
     ensures { Writes (codes "open charge" ++ and_number charge ++ 10 ∷ []) result (K.held sink.old) (K.held sink.new) (K.faults sink.old) (K.faults sink.new) }
 {
-    print_named_number(sink, b"open charge", charge)?;
-    write_all(sink, b"\n")
+    let mut piece = Piece::new();
+    piece.add_named_number(b"open charge", charge);
+    piece.add(b"\n");
+    write_all(sink, piece.as_slice())
 }
 
 /// Prints the history of a run: the charge at the opening, in bytes, each entry with its quanta, and the totals.

@@ -8,13 +8,15 @@ ghost use Rattle.script_text.specs.Script.{IfBad, rows_asked};
 ghost use Rattle.script_text.specs.declared.script.ScriptFault.TheVariants.{NoMemory};
 
 use crate::read_line::{cut, read_line};
-use blsm_model::{Line, Room};
+use blsm_model::{CALLERS, Line, Room};
 use std::alloc::{AllocFailed, Global};
 use std::marker::Model;
 use thiserror::Error;
 
 /// How many lines a script may have.
 pub const MOST_LINES: u32 = 65_536;
+
+const SEATS: usize = CALLERS as usize;
 
 /// Why a text is no script, or wasn't read.
 #[derive(Clone, Copy, PartialEq, Eq, Debug, Error)]
@@ -72,13 +74,13 @@ impl Script {
         ensures few_rows { sum result.rows ≤ 131072 }
     {
         let lines = self.lines();
-        let mut entries = [0u32; 16];
+        let mut entries = [0u32; SEATS];
         for line in lines {
             entries[line.seat as usize] += 1;
         }
         Room {
             entries,
-            rows: [0; 16],
+            rows: [0; SEATS],
         }
     }
 }

@@ -30,11 +30,6 @@ on_err_of : {T E : Type 0} (result : Result T E) (P Q : Type 0) → (P → Q) �
 on_err_of (Ok value) P Q f fact = tt
 on_err_of (Err error) P Q f fact = f fact
 
--- no text was written by no call
-pub writes_nothing : {T E : Type 0} (value : T) (held : Option (List ℕ)) (faults : ℕ) → Writes {T = T} {E = E} [] (Ok value) held held faults faults
-writes_nothing value None faults = record { ok = tt; err = tt; calm = refl; cause = record { no_fall = omega arith; failed = λ failed. cc } }
-writes_nothing value (Some held) faults = record { ok = ap (λ (l : List ℕ). Some l) (sym (append-nil held)); err = tt; calm = refl; cause = record { no_fall = omega arith; failed = λ failed. cc } }
-
 -- one text and then another
 pub writes_then : {T E U F : Type 0} (a b : List ℕ) {value : T} {result : Result U F} {old mid new : Option (List ℕ)} {first second third : ℕ}
     → Writes {T = T} {E = E} a (Ok value) old mid first second → Writes b result mid new second third → Writes (a ++ b) result old new first third
@@ -62,16 +57,6 @@ pub writes_stopped : {T E U F : Type 0} (a b : List ℕ) {error : E} {result : R
 writes_stopped a b {result = result} {old = old} {new = new} one failed = record {
   ok = on_ok_never result _ failed;
   err = on_err_always result _ (front_of_first a b old new one.err);
-  calm = on_ok_never result _ failed;
-  cause = record { no_fall = one.cause.no_fall; failed = λ _. one.cause.failed refl };
-}
-
--- one text alone failed, and the error is passed on
-pub writes_failed : {T E U F : Type 0} {a : List ℕ} {error : E} {result : Result U F} {old new : Option (List ℕ)} {first second : ℕ}
-    → Writes {T = T} {E = E} a (Err error) old new first second → IsErr result → Writes a result old new first second
-writes_failed {a = a} {result = result} {old = old} {new = new} one failed = record {
-  ok = on_ok_never result _ failed;
-  err = on_err_always result _ one.err;
   calm = on_ok_never result _ failed;
   cause = record { no_fall = one.cause.no_fall; failed = λ _. one.cause.failed refl };
 }

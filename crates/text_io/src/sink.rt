@@ -7,6 +7,7 @@ use refusal::{Failed, NoMemory, raise};
 use std::alloc::Global;
 use std::marker::Model;
 
+/// Where bytes go.
 pub trait Sink {
     /// The bytes that it holds, where it tells them.
     ghost held: { Self → Option (List ℕ) };

@@ -7,6 +7,7 @@ use refusal::{Failed, NoMemory, raise};
 use std::alloc::Global;
 use std::marker::Model;
 
+/// Where bytes come from.
 pub trait Source {
     /// The bytes that are left, where it tells them.
     ghost left: { Self → Option (List ℕ) };

@@ -1,4 +1,4 @@
-use Rattle.std.proofs.Common.{◌≡◌, List, ℕ, length, ◌∙◌, ap, sym, subst, arith}
+use Rattle.std.proofs.Common.{List, ℕ, length, ◌∙◌, ap, arith}
 use Rattle.disk_trait.specs.Disk.{overwritten}
 use Rattle.disk_mem.proofs.Pieces.{torn_by_piece}
 use Rattle.disk_mem.proofs.image.tear.Goals as goal

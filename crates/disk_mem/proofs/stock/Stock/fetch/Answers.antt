@@ -1,6 +1,6 @@
-use Rattle.std.proofs.Common.{ℕ, ◌+◌, ◌<◌, ◌≡◌, ◌++◌, ◌∷◌, [], Bool, Option, None, Some, List, map, length, string_bytes, String, inl, inr, ⊎_elim, is_none, is_some, not, true, false, ◌≤◌, refl, sym, ◌∙◌, ap, subst, arith}
+use Rattle.std.proofs.Common.{◌<◌, ◌≡◌, ◌++◌, ◌∷◌, [], Option, None, Some, List, map, length, string_bytes, String, inl, ⊎_elim, is_some, not, true, false, ◌≤◌, refl, sym, ◌∙◌, ap, subst, arith}
 use Rattle.std.specs.declared.alloc.Global.{Global}
-use Rattle.std.proofs.lemmas.List.{length-map, get_or_read}
+use Rattle.std.proofs.lemmas.List.{get_or_read}
 use Rattle.std.proofs.Math.ListN.{length-set}
 use Rattle.disk_mem.specs.Recorded.{Recorded}
 use Rattle.disk_mem.specs.Places.{IsPlace, HasNoPlace, disk_under, is_out_under, all_noted, under_get, under_set, under_nowhere, out_set, under_other, out_other, noted_push, name_at_place, all_placed_push, length-all_noted}

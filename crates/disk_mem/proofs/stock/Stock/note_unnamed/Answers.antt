@@ -1,4 +1,4 @@
-use Rattle.std.proofs.Common.{None, map, length, arith}
+use Rattle.std.proofs.Common.{None, length, arith}
 use Rattle.disk_mem.specs.Places.{all_placed_push}
 use Rattle.disk_mem.proofs.Noted.{went_well}
 use Rattle.disk_mem.proofs.stock.Stock.note_unnamed.Goals as goal

@@ -14,6 +14,7 @@ returns-clause-each g c = λ entries honest is_end has.
       place = c.gate-at.ensures.place ∙ ap (λ n. region_start c.args.self.now.sizes c.args.lane + n) (sym is_end);
       writes = c.put_entry-length.ensures.text;
       fits = omega (arith, c.requires.fits, is_end, long, length-append (spelling c.args.key.now c.args.rec.now) (0 ∷ []));
+      entry = c.put_entry-length.ensures.entry;
     } in
     each_moment _ _ entries c.args.key.now c.args.rec.now _ _ _ _ write has (c.write_gated.ensures.each honest)
 
@@ -28,6 +29,7 @@ returns-clause-acknowledged g c = λ entries ok honest is_end has.
       place = c.gate-at.ensures.place ∙ ap (λ n. region_start c.args.self.now.sizes c.args.lane + n) (sym is_end);
       writes = c.put_entry-length.ensures.text;
       fits = omega (arith, c.requires.fits, is_end, long, length-append (spelling c.args.key.now c.args.rec.now) (0 ∷ []));
+      entry = c.put_entry-length.ensures.entry;
     } in
     let new = c.write_gated.new.disk in
     let timed : IsTimed (g.D.Disk.state new) = g.met.D.Disk.timed new in
@@ -43,6 +45,7 @@ returns-clause-reads g c = λ entries ok honest is_end has.
       place = c.gate-at.ensures.place ∙ ap (λ n. region_start c.args.self.now.sizes c.args.lane + n) (sym is_end);
       writes = c.put_entry-length.ensures.text;
       fits = omega (arith, c.requires.fits, is_end, long, length-append (spelling c.args.key.now c.args.rec.now) (0 ∷ []));
+      entry = c.put_entry-length.ensures.entry;
     } in
     let tells = g.met.D.Disk.honest_tells c.args.disk.now honest in
     reads_so _ _ entries c.args.key.now c.args.rec.now _ _ _ _ write has (c.write_gated.ensures.within.bytes honest)

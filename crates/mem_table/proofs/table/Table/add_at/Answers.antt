@@ -28,13 +28,13 @@ pub invariant_of-self : goal.invariant_of-self
 invariant_of-self c =
     let b = (goal.at.invariant_of-self c).After-copy in
     let items : c.insert.new.self.items ≡ with_record c.args.key.now c.args.rec.now c.self.inside.entries.items =
-    c.in-Ok.ensures.items ∙ rw (c.copy.ensures, c.copy-2.ensures) (sym (inserted b)) in
+    c.in-Ok.ensures.items ∙ rw (c.copy.ensures, c.copy-2.ensures.same) (sym (inserted b)) in
     rw items (table_apart c.self.inside.entries.items c.self.inside.weight c.self.inside.reserved c.self.inside.entries.cap (vec_capacity c.insert.new.self) c.args.key.now c.args.rec.now c.args.at c.weight.result
     c.self.invariant (gap_inside b) c.weight.ensures.not_empty (fits_inside b) c.weight.ensures.weight c.in-Ok.ensures.capacity)
 
-pub returns : goal.returns
-returns c =
-    let b = (goal.at.returns c).After-copy in
+pub returns-clause-folded : goal.returns-clause-folded
+returns-clause-folded c =
+    let b = (goal.at.returns-clause-folded c).After-copy in
     let items : c.insert.new.self.items ≡ with_record c.args.key.now c.args.rec.now c.self.inside.entries.items =
-    c.in-Ok.ensures.items ∙ rw (c.copy.ensures, c.copy-2.ensures) (sym (inserted b)) in
+    c.in-Ok.ensures.items ∙ rw (c.copy.ensures, c.copy-2.ensures.same) (sym (inserted b)) in
     rw (← c.self.view_is) (ap (λ l. record { entries = l; reserved = c.self.inside.reserved }) items)

@@ -14,10 +14,10 @@ at_inside : (c : After-fold-folded) → IsAt c.self.inside.entries.items c.args.
 at_inside c = subst (λ v. IsAt v.entries c.args.key.now c.args.at) (sym c.self.view_is) c.requires.at
 
 older_is : (c : After-fold-folded) → c.copy-older.result ≡ (get_or c.self.inside.entries.items c.args.at c.index.result.now).1
-older_is c = c.copy-older.ensures ∙ ap (λ (e : Key × Rec). e.1) c.index.ensures
+older_is c = c.copy-older.ensures.same ∙ ap (λ (e : Key × Rec). e.1) c.index.ensures
 
 folded_is : (c : After-fold-folded) → c.fold-folded.result ≡ fold c.args.rec.now (get_or c.self.inside.entries.items c.args.at c.index.result.now).1
-folded_is c = c.fold-folded.ensures.«record» ∙ ap (λ r. fold r c.copy-older.result) c.copy.ensures ∙ ap (fold c.args.rec.now) (older_is c)
+folded_is c = c.fold-folded.ensures.«record» ∙ ap (λ r. fold r c.copy-older.result) c.copy.ensures.same ∙ ap (fold c.args.rec.now) (older_is c)
 
 before_is : (c : After-fold-folded) → c.weight-before.result ≡ weight c.args.key.now (get_or c.self.inside.entries.items c.args.at c.index.result.now).1
 before_is c = c.weight-before.ensures.weight ∙ ap (weight c.args.key.now) (older_is c)
@@ -37,9 +37,9 @@ invariant_of-self c =
     rw is (table_at es c.self.inside.weight c.self.inside.reserved c.self.inside.entries.cap c.args.key.now c.args.rec.now c.args.at c.index.result.now c.weight-before.result c.weight.result
     c.self.invariant (at_inside b) c.weight.ensures.not_empty (fits_inside b) (before_is b) after_is)
 
-pub returns : goal.returns
-returns c =
-    let b = (goal.at.returns c).After-fold-folded in
+pub returns-clause-folded : goal.returns-clause-folded
+returns-clause-folded c =
+    let b = (goal.at.returns-clause-folded c).After-fold-folded in
     let es = c.self.inside.entries.items in
     let is = set_at es c.args.key.now c.args.rec.now c.args.at c.index.result.now c.index_mut.result.now c.fold-folded.result c.self.invariant.sorted (at_inside b) c.index_mut.ensures.value (folded_is b) in
     rw (← c.self.view_is) (ap (λ l. record { entries = l; reserved = c.self.inside.reserved }) is)

@@ -2,13 +2,13 @@ use Rattle.mem_table.proofs.EditLemmas.{weight_more, stand_more}
 use Rattle.mem_table.proofs.table.Table.fold_in.Goals as goal
 
 pub returns-in-Ok-clause-weight : goal.returns-in-Ok-clause-weight
-returns-in-Ok-clause-weight c = rw c.fold_at.ensures (weight_more c.args.self.now.entries c.args.key.now c.args.rec.now c.in-Ok.ensures.sorted)
+returns-in-Ok-clause-weight c = rw c.fold_at.ensures.folded (weight_more c.args.self.now.entries c.args.key.now c.args.rec.now c.in-Ok.ensures.sorted)
 
 pub returns-in-Ok-clause-stands : goal.returns-in-Ok-clause-stands
-returns-in-Ok-clause-stands c = λ write writes key_is more stood. rw c.fold_at.ensures (stand_more c.args.self.now.entries c.args.key.now c.args.rec.now write writes key_is more stood)
+returns-in-Ok-clause-stands c = λ writes stood. rw c.fold_at.ensures.folded (stand_more c.args.self.now.entries c.args.key.now c.args.rec.now writes c.fold_at.ensures.in_range stood)
 
 pub returns-in-Err-clause-weight : goal.returns-in-Err-clause-weight
-returns-in-Err-clause-weight c = rw c.add_at.ensures (weight_more c.args.self.now.entries c.args.key.now c.args.rec.now c.in-Err.ensures.sorted)
+returns-in-Err-clause-weight c = rw c.add_at.ensures.folded (weight_more c.args.self.now.entries c.args.key.now c.args.rec.now c.in-Err.ensures.sorted)
 
 pub returns-in-Err-clause-stands : goal.returns-in-Err-clause-stands
-returns-in-Err-clause-stands c = λ write writes key_is more stood. rw c.add_at.ensures (stand_more c.args.self.now.entries c.args.key.now c.args.rec.now write writes key_is more stood)
+returns-in-Err-clause-stands c = λ writes stood. rw c.add_at.ensures.folded (stand_more c.args.self.now.entries c.args.key.now c.args.rec.now writes c.add_at.ensures.in_range stood)

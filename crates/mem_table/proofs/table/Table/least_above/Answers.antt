@@ -21,5 +21,5 @@ pub returns-clause-least : goal.returns-clause-least
 returns-clause-least c =
     let b = (goal.at.returns-clause-least c).After-deref in
     let least = least_found c.deref.result.now c.args.key c.first_above-at.result c.in_ok-key.field-0.now (rw c.deref.ensures.value c.self.invariant.sorted) (split_inside b) c.in_ok-key.ensures.lookup.3.0 in
-    rw (c.copy.ensures, c.copy-2.ensures, ← c.self.view_is, ← c.deref.ensures.value)
+    rw (c.copy.ensures, c.copy-2.ensures.same, ← c.self.view_is, ← c.deref.ensures.value)
     (subst (λ (e : Key × Rec). IsLeastAbove c.args.key c.deref.result.now e.0 e.1) (sym c.in_ok-key.ensures.lookup.1) least)

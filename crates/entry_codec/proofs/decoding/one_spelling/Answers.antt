@@ -1,5 +1,0 @@
-use Rattle.entry_codec.proofs.SpellingLemmas.{entry_same}
-use Rattle.entry_codec.proofs.decoding.one_spelling.Goals as goal
-
-pub returns : goal.returns
-returns c = entry_same

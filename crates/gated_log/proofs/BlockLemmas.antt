@@ -1,0 +1,150 @@
+-- What the bytes from a gate on say of the lane.
+use Rattle.std.proofs.Common.{◌≡◌, ◌≢◌, ℕ, ◌+◌, ◌-◌, ◌≤◌, ◌<◌, List, [], ◌∷◌, ◌++◌, length, get_or, take, drop, refl, ap, sym, ◌∙◌, arith, append-nil, length-append, length-drop}
+use Rattle.std.specs.List.{between}
+use Rattle.std.proofs.lemmas.List.{take_at, drop_at, take-take, take-append-drop, length-take}
+use Rattle.std.proofs.lemmas.List.Elements.{All-push, All-head, All-tail}
+use Rattle.std.proofs.lemmas.Slice.{between_to_end}
+use Rattle.std.proofs.Math.Seq.{drop-cons}
+use Rattle.disk_trait.specs.Disk.{part}
+use Rattle.disk_trait.specs.Parts.{part-split}
+use Rattle.gated_write.specs.Gated.{open_byte}
+use Rattle.blsm_model.specs.declared.key.Key.{Key}
+use Rattle.blsm_model.specs.Sizes.{Sizes}
+use Rattle.record_delta.specs.declared.record.Rec.{Rec}
+use Rattle.record_delta.specs.Records.{weight}
+use Rattle.entry_codec.specs.Spelling.{spelling, IsEntry, BeginsWith}
+use Rattle.entry_codec.proofs.SpellingLemmas.{length-spelling}
+use Rattle.gated_log.specs.Lane.{region_start, region_length, blocks, AreEntries, HasEntries, HasFront, IsDamagedBehind}
+use Rattle.gated_log.specs.Block.{IsOpenBlock, IsBrokenBlock}
+use Rattle.gated_log.proofs.LaneLemmas.{blocks-append, one_byte}
+
+-- ---- the bytes that were read
+
+-- the gate and the bytes behind it
+gate_first : (bytes : List ℕ) → 1 ≤ length bytes → get_or bytes 0 0 ≡ open_byte → bytes ≡ open_byte ∷ drop 1 bytes
+gate_first [] long is = absurd (omega arith)
+gate_first (b ∷ bytes) long is = ap (λ (g : ℕ). g ∷ bytes) is
+
+behind_gate : (bytes : List ℕ) → between 1 (length bytes) bytes ≡ drop 1 bytes
+behind_gate bytes = between_to_end bytes 1 (length bytes) (omega arith)
+
+pub open_block : (bytes : List ℕ) (key : Key) (rec : Rec) → 1 ≤ length bytes → get_or bytes 0 0 ≡ open_byte → BeginsWith (between 1 (length bytes) bytes) key rec → IsOpenBlock bytes (key, rec)
+open_block bytes key rec long is begins = record {
+  fields = begins.entry;
+  rest = begins.rest;
+  parts = gate_first bytes long is ∙ ap (λ (l : List ℕ). open_byte ∷ l) (sym (behind_gate bytes) ∙ begins.parts);
+}
+
+pub broken_block : (bytes : List ℕ) → 1 ≤ length bytes → get_or bytes 0 0 ≡ open_byte → ((key : Key) (rec : Rec) → BeginsWith (between 1 (length bytes) bytes) key rec → ⊥) → IsBrokenBlock bytes
+broken_block bytes long is none = record {
+  opened = ap (λ (l : List ℕ). take 1 l) (gate_first bytes long is);
+  no_entry = λ key rec begins. none key rec (record { entry = begins.entry; rest = begins.rest; parts = behind_gate bytes ∙ begins.parts });
+}
+
+pub open_fits : (bytes : List ℕ) (e : Key × Rec) → IsOpenBlock bytes e → 1 + weight e.0 e.1 ≤ length bytes
+open_fits bytes e block =
+    let long : length bytes ≡ length (open_byte ∷ (spelling e.0 e.1 ++ block.rest)) = ap (λ (l : List ℕ). length l) block.parts in
+    omega (arith, long, length-append (spelling e.0 e.1) block.rest, length-spelling e.0 e.1)
+
+-- ---- the lane
+
+pub blocks-push : (es : List (Key × Rec)) (e : Key × Rec) → blocks (es ++ e ∷ []) ≡ blocks es ++ (open_byte ∷ spelling e.0 e.1)
+blocks-push es e = blocks-append es (e ∷ []) ∙ ap (λ (l : List ℕ). blocks es ++ (open_byte ∷ l)) (append-nil (spelling e.0 e.1))
+
+pub length-blocks-push : (es : List (Key × Rec)) (e : Key × Rec) → length (blocks (es ++ e ∷ [])) ≡ length (blocks es) + (1 + weight e.0 e.1)
+length-blocks-push es e =
+    let same : length (blocks (es ++ e ∷ [])) ≡ length (blocks es ++ (open_byte ∷ spelling e.0 e.1)) = ap (λ (l : List ℕ). length l) (blocks-push es e) in
+    omega (arith, same, length-append (blocks es) (open_byte ∷ spelling e.0 e.1), length-spelling e.0 e.1)
+
+-- an entry behind an open gate, as the front of the bytes from there on
+open_front : (own : List ℕ) (room : ℕ) (e : Key × Rec) → IsOpenBlock (take (1 + room) own) e → (weight e.0 e.1 ≤ room) × (take (1 + weight e.0 e.1) own ≡ open_byte ∷ spelling e.0 e.1)
+open_front own room e block =
+    let fits : weight e.0 e.1 ≤ room = omega (arith, open_fits (take (1 + room) own) e block, length-take (1 + room) own) in
+    let short : 1 + weight e.0 e.1 ≤ 1 + room = omega (arith, fits) in
+    let long : length (open_byte ∷ spelling e.0 e.1) ≡ 1 + weight e.0 e.1 = omega (arith, length-spelling e.0 e.1) in (
+      fits,
+      sym (take-take (1 + weight e.0 e.1) (1 + room) own short)
+          ∙ ap (λ (l : List ℕ). take (1 + weight e.0 e.1) l) block.parts
+          ∙ take_at (open_byte ∷ spelling e.0 e.1) block.rest (1 + weight e.0 e.1) long,
+    )
+
+-- an open gate with an entry: the lane begins with one entry more
+pub one_more_given : (sizes : Sizes) (lane room : ℕ) (es : List (Key × Rec)) (e : Key × Rec) (file : List ℕ) → HasFront sizes lane es file
+    → room ≤ region_length sizes - (length (blocks es) + 2) → IsOpenBlock (part file (region_start sizes lane + length (blocks es)) (1 + room)) e
+    → HasFront sizes lane (es ++ e ∷ []) file
+one_more_given sizes lane room es e file front small block =
+    let start = region_start sizes lane in
+    let n = length (blocks es) in
+    let parts = open_front (drop (start + n) file) room e block in
+    let long = length-blocks-push es e in
+    record {
+      each = All-push (λ x. IsEntry x.0 x.1) es e front.each block.fields;
+      inside = omega (arith, long, small, parts.0, block.fields.key_least);
+      begins =
+          ap (λ (m : ℕ). part file start m) long
+          ∙ part-split file start n (1 + weight e.0 e.1)
+          ∙ ap (λ (l : List ℕ). l ++ part file (start + n) (1 + weight e.0 e.1)) front.begins
+          ∙ ap (λ (l : List ℕ). blocks es ++ l) parts.1
+          ∙ sym (blocks-push es e);
+    }
+
+-- a closed gate: the lane has no more entries
+pub none_more : (sizes : Sizes) (lane room : ℕ) (es : List (Key × Rec)) (file : List ℕ) → HasFront sizes lane es file → region_start sizes lane + region_length sizes ≤ length file
+    → take 1 (part file (region_start sizes lane + length (blocks es)) (1 + room)) ≢ open_byte ∷ [] → HasEntries sizes lane es file
+none_more sizes lane room es file front long closed =
+    let start = region_start sizes lane in
+    let n = length (blocks es) in
+    let byte = one_byte file (start + n) (omega (arith, front.inside, long)) in
+    let short : 1 ≤ 1 + room = omega arith in
+    record {
+      each = front.each;
+      gate = byte.0;
+      closed = λ same. closed (take-take 1 (1 + room) (drop (start + n) file) short ∙ byte.1 ∙ ap (λ (g : ℕ). g ∷ []) same);
+      inside = front.inside;
+      begins =
+          part-split file start n 1
+          ∙ ap (λ (l : List ℕ). l ++ part file (start + n) 1) front.begins
+          ∙ ap (λ (l : List ℕ). blocks es ++ l) byte.1;
+    }
+
+-- the entry behind the front, where the lane begins with one more
+pub last_part : (sizes : Sizes) (lane : ℕ) (es : List (Key × Rec)) (e : Key × Rec) (file : List ℕ) → HasFront sizes lane (es ++ e ∷ []) file
+    → part file (region_start sizes lane + length (blocks es)) (1 + weight e.0 e.1) ≡ open_byte ∷ spelling e.0 e.1
+last_part sizes lane es e file more =
+    let start = region_start sizes lane in
+    let n = length (blocks es) in
+    let w = 1 + weight e.0 e.1 in
+    let whole : part file start (n + w) ≡ blocks es ++ (open_byte ∷ spelling e.0 e.1) =
+    ap (λ (m : ℕ). part file start m) (sym (length-blocks-push es e)) ∙ more.begins ∙ blocks-push es e in
+    sym (drop_at (part file start n) (part file (start + n) w) n (omega (arith, length-take n (drop start file), length-take (n + w) (drop start file), ap (λ (l : List ℕ). length l) whole, length-append (blocks es) (open_byte ∷ spelling e.0 e.1), length-spelling e.0 e.1)))
+    ∙ ap (λ (l : List ℕ). drop n l) (sym (part-split file start n w) ∙ whole)
+    ∙ drop_at (blocks es) (open_byte ∷ spelling e.0 e.1) n refl
+
+last_entry : (es : List (Key × Rec)) (e : Key × Rec) → AreEntries (es ++ e ∷ []) → IsEntry e.0 e.1
+last_entry [] e each = All-head (λ x. IsEntry x.0 x.1) e [] each
+last_entry (x ∷ es) e each = last_entry es e (All-tail (λ y. IsEntry y.0 y.1) x (es ++ e ∷ []) each)
+
+heaviest : (e : Key × Rec) → IsEntry e.0 e.1 → weight e.0 e.1 ≤ 512
+heaviest e entry = omega (arith, entry.key_most, entry.in_range.text_fits)
+
+-- an open gate with no entry: the lane is damaged there
+pub damaged_here : (sizes : Sizes) (lane room : ℕ) (es : List (Key × Rec)) (file : List ℕ) → HasFront sizes lane es file
+    → ((w : ℕ) → w ≤ 512 → length (blocks es) + (1 + w) + 1 ≤ region_length sizes → w ≤ room) → IsBrokenBlock (part file (region_start sizes lane + length (blocks es)) (1 + room))
+    → IsDamagedBehind sizes lane es file
+damaged_here sizes lane room es file front wide broken =
+    let start = region_start sizes lane in
+    let n = length (blocks es) in
+    let own : List ℕ = drop (start + n) file in
+    let block : List ℕ = take (1 + room) own in
+    let short : 1 ≤ 1 + room = omega arith in
+    record {
+      front = front;
+      opened = sym (take-take 1 (1 + room) own short) ∙ broken.opened;
+      no_entry = λ e more.
+          let entry : IsEntry e.0 e.1 = last_entry es e more.each in
+          let fits : 1 + weight e.0 e.1 ≤ 1 + room = omega (arith, wide (weight e.0 e.1) (heaviest e entry) (omega (arith, more.inside, length-blocks-push es e))) in
+          let here : take (1 + weight e.0 e.1) block ≡ open_byte ∷ spelling e.0 e.1 = take-take (1 + weight e.0 e.1) (1 + room) own fits ∙ last_part sizes lane es e file more in
+          let parts : block ≡ open_byte ∷ (spelling e.0 e.1 ++ drop (1 + weight e.0 e.1) block) =
+          sym (take-append-drop (1 + weight e.0 e.1) block) ∙ ap (λ (l : List ℕ). l ++ drop (1 + weight e.0 e.1) block) here in
+          broken.no_entry e.0 e.1 (record { entry = entry; rest = drop (1 + weight e.0 e.1) block; parts = ap (λ (l : List ℕ). drop 1 l) parts });
+    }

@@ -1,0 +1,60 @@
+// A command as a script spells it.
+ghost use Rattle.std.specs.Prelude.{◌≡◌, ◌+◌, ◌≤◌, ◌++◌, codes, length};
+ghost use Rattle.blsm_model.specs.Printed.{and_number, and_value, and_word, command_text};
+
+use crate::piece::{AND_KEY, COMMAND, LONGEST, Piece};
+use blsm_model::{Key, Op, Value};
+
+fn add_named_key(piece: &mut Piece, name: &[u8], key: &Key)
+    requires { length piece.old + length name.now + AND_KEY ≤ LONGEST }
+    ensures text { piece.new ≡ piece.old ++ (name.now ++ and_word key.now) }
+    ensures fits { length piece.new ≤ length piece.old + length name.now + AND_KEY }
+{
+    piece.add(name);
+    piece.add_and_key(key);
+}
+
+fn add_put(piece: &mut Piece, key: &Key, value: &Value)
+    requires { length piece.old + COMMAND ≤ LONGEST }
+    ensures text { piece.new ≡ piece.old ++ (codes "put" ++ and_word key.now ++ and_value value.now) }
+    ensures fits { length piece.new ≤ length piece.old + COMMAND }
+{
+    add_named_key(piece, b"put", key);
+    piece.add_and_value(value);
+}
+
+fn add_add(piece: &mut Piece, key: &Key, count: u64)
+    requires { length piece.old + COMMAND ≤ LONGEST }
+    ensures text { piece.new ≡ piece.old ++ (codes "add" ++ and_word key.now ++ and_number count) }
+    ensures fits { length piece.new ≤ length piece.old + COMMAND }
+{
+    add_named_key(piece, b"add", key);
+    piece.add_and_number(count);
+}
+
+fn add_hold(piece: &mut Piece, low: &Key, high: &Key)
+    requires { length piece.old + COMMAND ≤ LONGEST }
+    ensures text { piece.new ≡ piece.old ++ (codes "hold" ++ and_word low.now ++ and_word high.now) }
+    ensures fits { length piece.new ≤ length piece.old + COMMAND }
+{
+    add_named_key(piece, b"hold", low);
+    piece.add_and_key(high);
+}
+
+/// Adds a command.
+pub fn add_command(piece: &mut Piece, op: &Op)
+    requires { length piece.old + COMMAND ≤ LONGEST }
+    ensures text { piece.new ≡ piece.old ++ command_text op.now }
+    ensures fits { length piece.new ≤ length piece.old + COMMAND }
+{
+    match op {
+        Op::Put(key, value) => add_put(piece, key, value),
+        Op::Add(key, count) => add_add(piece, key, *count),
+        Op::Del(key) => add_named_key(piece, b"del", key),
+        Op::Get(key) => add_named_key(piece, b"get", key),
+        Op::Hold(low, high) => add_hold(piece, low, high),
+        Op::Next(n) => piece.add_named_number(b"next", u64::from(*n)),
+        Op::Release => piece.add(b"drop"),
+        Op::Work(n) => piece.add_named_number(b"work", u64::from(*n)),
+    }
+}

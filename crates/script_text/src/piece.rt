@@ -1,0 +1,150 @@
+// A piece of text that is gathered before it is written, so that a line is one call of the sink.
+ghost use Rattle.std.specs.Prelude.{◌≡◌, ◌+◌, ◌≤◌, ◌++◌, [], decimal, length};
+ghost use Rattle.blsm_model.specs.Printed.{and_number, and_value, and_word, spelled};
+
+use arrayvec::ArrayVec;
+use blsm_model::{Key, Text, Value};
+use itoa::Buffer;
+use std::marker::Model;
+
+// How many bytes the parts of a line have at most. Each but the first begins with a space or a word.
+pub const NUMBER: usize = 20;
+
+pub const AND_NUMBER: usize = 1 + NUMBER;
+
+pub const AND_KEY: usize = 1 + Key::MAX_LEN;
+
+pub const AND_TEXT: usize = 1 + Text::MAX_LEN;
+
+pub const AND_VALUE: usize = AND_NUMBER + AND_TEXT;
+
+/// The longest command: a put.
+pub const COMMAND: usize = 3 + AND_KEY + AND_VALUE;
+
+/// The longest reply that gives no rows: a value.
+pub const REPLY: usize = 2 + AND_VALUE;
+
+/// What stands before the reply: the place, the caller, the command and an arrow.
+pub const LINE_START: usize = NUMBER + AND_NUMBER + 1 + COMMAND + 4;
+
+/// What stands behind the reply: the quanta, and the end of the line.
+pub const LINE_END: usize = 2 + NUMBER + 1;
+
+/// The longest line that gives no rows.
+pub const LONGEST: usize = LINE_START + REPLY + LINE_END;
+
+// Contracts see it as the list of its bytes.
+#[derive(Debug, Drop)]
+pub struct Piece {
+    bytes: ArrayVec<u8, LONGEST>,
+}
+
+impl Model for Piece {
+    ghost use Rattle.std.specs.Prelude.{List, ℕ};
+
+    ghost Value = { List ℕ };
+
+    ghost view = { λ p. p.bytes.items };
+}
+
+impl Piece {
+    pub fn new() -> Piece
+        ensures { result ≡ [] }
+    {
+        Piece {
+            bytes: ArrayVec::new(),
+        }
+    }
+
+    pub fn as_slice(&self) -> &[u8]
+        ensures { result.now ≡ self.now }
+    {
+        self.bytes.as_slice()
+    }
+
+    pub fn add(&mut self, more: &[u8])
+        requires { length self.old + length more.now ≤ LONGEST }
+        ensures { self.new ≡ self.old ++ more.now }
+    {
+        match self.bytes.try_extend_from_slice(more) {
+            Ok(()) => (),
+            Err(_) => unreachable!(),
+        }
+    }
+
+    pub fn add_number(&mut self, n: u64)
+        requires { length self.old + NUMBER ≤ LONGEST }
+        ensures text { self.new ≡ self.old ++ decimal n }
+        ensures fits { length self.new ≤ length self.old + NUMBER }
+    {
+        let mut buffer = Buffer::new();
+        let digits = buffer.format(n);
+        self.add(digits.as_bytes());
+    }
+
+    // A word with a space before it.
+    fn add_and_word(&mut self, word: &[u8])
+        requires { length self.old + length word.now + 1 ≤ LONGEST }
+        ensures { self.new ≡ self.old ++ and_word word.now }
+    {
+        self.add(b" ");
+        self.add(word);
+    }
+
+    // A number with a space before it.
+    pub fn add_and_number(&mut self, n: u64)
+        requires { length self.old + AND_NUMBER ≤ LONGEST }
+        ensures text { self.new ≡ self.old ++ and_number n }
+        ensures fits { length self.new ≤ length self.old + AND_NUMBER }
+    {
+        self.add(b" ");
+        self.add_number(n);
+    }
+
+    // A word, and a number behind a space.
+    pub fn add_named_number(&mut self, name: &[u8], n: u64)
+        requires { length self.old + length name.now + AND_NUMBER ≤ LONGEST }
+        ensures text { self.new ≡ self.old ++ (name.now ++ and_number n) }
+        ensures fits { length self.new ≤ length self.old + length name.now + AND_NUMBER }
+    {
+        self.add(name);
+        self.add_and_number(n);
+    }
+
+    // A key with a space before it.
+    pub fn add_and_key(&mut self, key: &Key)
+        requires { length self.old + AND_KEY ≤ LONGEST }
+        ensures text { self.new ≡ self.old ++ and_word key.now }
+        ensures fits { length self.new ≤ length self.old + AND_KEY }
+    {
+        self.add_and_word(key.as_bytes());
+    }
+
+    // A text with a space before it. A dash stands for the empty one.
+    fn add_and_text(&mut self, text: &Text)
+        requires { length self.old + AND_TEXT ≤ LONGEST }
+        ensures text { self.new ≡ self.old ++ and_word (spelled text.now) }
+        ensures fits { length self.new ≤ length self.old + AND_TEXT }
+    {
+        self.add_and_word(spelling(text));
+    }
+
+    // A value's count and text, with a space before each.
+    pub fn add_and_value(&mut self, value: &Value)
+        requires { length self.old + AND_VALUE ≤ LONGEST }
+        ensures text { self.new ≡ self.old ++ and_value value.now }
+        ensures fits { length self.new ≤ length self.old + AND_VALUE }
+    {
+        self.add_and_number(value.count);
+        self.add_and_text(&value.text);
+    }
+}
+
+// The bytes of a text, or a dash for none.
+fn spelling(text: &Text) -> &[u8]
+    ensures bytes { result.now ≡ spelled text.now }
+    ensures fits { length result.now ≤ Text.MAX_LEN }
+{
+    let bytes = text.as_bytes();
+    if bytes.is_empty() { b"-" } else { bytes }
+}
