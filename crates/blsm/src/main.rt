@@ -49,3 +49,6 @@ fn main(rt: HostRuntime) -> ExitCode {
     );
     ExitCode::from(status.code())
 }
+
+#[cfg(test)]
+mod tests;

@@ -3,3 +3,5 @@ pub mod MemoryLemmas
 pub mod RunLemmas
 pub mod SessionLemmas
 pub mod AnswerLemmas
+pub mod WordLemmas
+pub mod WordExamples

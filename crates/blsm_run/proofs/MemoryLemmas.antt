@@ -104,7 +104,7 @@ same_limit at m _ = refl
 record Grows (opening : List (Key × Value)) (at : ℕ) (m : Memory) (entry : Entry) (stopped : Option Why) : Type 0 where
   may : MayReply (limits_at at m) opening m.book.entries entry.seat entry.op entry.reply
   stop : StopIsTold stopped (m.book.entries ++ entry ∷ [])
-  faults : fault_count (m.book.entries ++ entry ∷ []) ≤ length (option_to_list stopped)
+  faults : fault_count (m.book.entries ++ entry ∷ []) ≡ length (option_to_list stopped)
   fits : FitsReply m.limit at m.book.entries entry.op entry.reply
   no_page : TellsNoPage entry.reply
   no_page_stop : IsNoPageStop stopped
@@ -138,7 +138,7 @@ grows_calm : (opening : List (Key × Value)) (at : ℕ) (m : Memory) (entry : En
     → (is_running m.book.entries ≡ true → MayReply (limits_at at m) opening m.book.entries entry.seat entry.op entry.reply) → Grows opening at m entry None
 grows_calm opening at m entry s runs stopping troubled stopped told fits no_page may =
     let stop : StopIsTold None m.book.entries = subst (λ o. StopIsTold o m.book.entries) runs s.stop in
-    let none : fault_count m.book.entries ≤ 0 = subst (λ (o : Option Why). fault_count m.book.entries ≤ length (option_to_list o)) runs s.faults in
+    let none : fault_count m.book.entries ≡ 0 = subst (λ (o : Option Why). fault_count m.book.entries ≡ length (option_to_list o)) runs s.faults in
     let one : fault_count (entry ∷ []) ≡ 0 = ap (λ b. 0 + cond b 1 0) told in
     record {
       may = may stop.0;
@@ -187,7 +187,7 @@ stands_done opening at m seat op write asks below runs s =
       peak = ap (λ p. max p (table_weight (with_write m.table write))) s.peak ∙ ap (λ t. max (peak_of opening history) (table_weight t)) table ∙ sym (peak_push opening history entry);
       legal = legal_push (limits_at at m) opening history entry s.legal grows.may;
       stop = subst (λ o. StopIsTold o (history ++ entry ∷ [])) (sym runs) grows.stop;
-      faults = subst (λ (o : Option Why). fault_count (history ++ entry ∷ []) ≤ length (option_to_list o)) (sym runs) grows.faults;
+      faults = subst (λ (o : Option Why). fault_count (history ++ entry ∷ []) ≡ length (option_to_list o)) (sym runs) grows.faults;
       fit = fit_push m.limit at history entry s.fit grows.fits;
       no_page = all_push (λ e. TellsNoPage e.reply) history entry s.no_page grows.no_page;
       no_page_stop = s.no_page_stop;
@@ -227,7 +227,7 @@ names_none_one why op (Stopped other) h = let wrong : false ≡ true = h in cc
 names_none_one why op _ h = tt
 
 -- while no entry was a stop, none names another cause
-names_none : (why : Why) (history : List Entry) → is_running history ≡ true → AllByRecursion (λ e. NamesNoOther why e.reply) history
+pub names_none : (why : Why) (history : List Entry) → is_running history ≡ true → AllByRecursion (λ e. NamesNoOther why e.reply) history
 names_none why [] running = tt
 names_none why (e ∷ es) running =
     let parts = both_hold (not (is_stopping e.op e.reply || is_stopped e.reply)) (is_running es) running in
@@ -237,7 +237,7 @@ stands_unsure : (opening : List (Key × Value)) (at : ℕ) (m : Memory) (seat : 
     → StandsFor opening at (with_entry (record m { stopped = Some (Faulted n) }) (by seat op FaultUnsure))
 stands_unsure opening at m seat op write n asks runs s =
     let stop : StopIsTold None m.book.entries = subst (λ o. StopIsTold o m.book.entries) runs s.stop in
-    let none : fault_count m.book.entries ≤ 0 = subst (λ (o : Option Why). fault_count m.book.entries ≤ length (option_to_list o)) runs s.faults in
+    let none : fault_count m.book.entries ≡ 0 = subst (λ (o : Option Why). fault_count m.book.entries ≡ length (option_to_list o)) runs s.faults in
     let entry : Entry = by seat op FaultUnsure in
     stands_same opening at m entry (Some (Faulted n)) s refl (record {
       may = (stop.0, asks.is);
@@ -252,7 +252,7 @@ stands_stopped : (opening : List (Key × Value)) (at : ℕ) (m : Memory) (seat :
     → StandsFor opening at (with_entry m (by seat op (Stopped why)))
 stands_stopped opening at m seat op why is s =
     let stop : StopIsTold (Some why) m.book.entries = subst (λ o. StopIsTold o m.book.entries) is s.stop in
-    let few : fault_count m.book.entries ≤ 1 = subst (λ (o : Option Why). fault_count m.book.entries ≤ length (option_to_list o)) is s.faults in
+    let few : fault_count m.book.entries ≡ 1 = subst (λ (o : Option Why). fault_count m.book.entries ≡ length (option_to_list o)) is s.faults in
     let entry : Entry = by seat op (Stopped why) in
     subst (λ (k : Memory). StandsFor opening at (with_entry k entry)) (ap (λ o. record m { stopped = o }) (sym is))
     (stands_same opening at m entry (Some why) s refl (record {

@@ -7,14 +7,15 @@ use Rattle.blsm_model.specs.declared.history.Why.TheVariants.{Faulted, BadPage}
 use Rattle.blsm_model.specs.declared.history.Entry.{Entry}
 use Rattle.blsm_model.specs.declared.history.Line.{Line}
 use Rattle.blsm_model.specs.declared.history.Totals.{Totals}
-use Rattle.blsm_model.specs.Legal.{IsLegal}
+use Rattle.blsm_model.specs.Legal.{IsLegal, NamesNoOther}
+use Rattle.std.specs.List.{AllByRecursion}
 use Rattle.blsm_model.proofs.ScriptLemmas.{of_script}
 use Rattle.blsm_model.specs.Book.{Book}
 use Rattle.disk_trait.specs.Disk.{DiskState}
 use Rattle.blsm_run.specs.Memory.{Memory, StandsFor, StopIsTold, FitFrom, fault_count, is_untroubled}
 use Rattle.blsm_run.specs.StoreState.{IsStoppedByFault}
 use Rattle.blsm_run.specs.Outcome.{Run}
-use Rattle.blsm_run.proofs.MemoryLemmas.{stands_start}
+use Rattle.blsm_run.proofs.MemoryLemmas.{stands_start, names_none}
 use Rattle.blsm_run.specs.Run.{asked, asked_in}
 use Rattle.blsm_run.specs.Cause.{HasFinished, charge_limit}
 
@@ -24,7 +25,7 @@ totals_of m = record { peak = m.peak; high = 2 * m.limit; callers = 0; workers =
 abbrev pub run_with : Book → Totals → Run
 run_with book totals = record { charge = 0; entries = book.entries; quanta = book.quanta; totals = totals }
 
-faults_counted : (stopped : Option Why) (count faults : ℕ) → count ≤ length (option_to_list stopped) → IsStoppedByFault stopped faults → count ≤ faults
+faults_counted : (stopped : Option Why) (count faults : ℕ) → count ≡ length (option_to_list stopped) → IsStoppedByFault stopped faults → count ≤ faults
 faults_counted None count faults few stop = omega arith
 faults_counted (Some (Faulted n)) count faults few stop = omega (arith, stop.0, stop.1)
 faults_counted (Some (BadPage page)) count faults few stop = absurd stop
@@ -33,6 +34,15 @@ troubles_counted : (stopped : Option Why) (history : List Entry) (faults : ℕ) 
 troubles_counted None history faults told stop trouble = let wrong : true ≡ false = sym told.1 ∙ trouble in cc
 troubles_counted (Some (Faulted n)) history faults told stop trouble = omega (arith, stop.0, stop.1)
 troubles_counted (Some (BadPage page)) history faults told stop trouble = absurd stop
+
+one_fault_told : (stopped : Option Why) (history : List Entry) → StopIsTold stopped history → fault_count history ≡ length (option_to_list stopped) → is_untroubled history ≡ false → fault_count history ≡ 1
+one_fault_told None history told count trouble = let wrong : true ≡ false = sym told.1 ∙ trouble in cc
+one_fault_told (Some why) history told count trouble = count
+
+stops_name : (stopped : Option Why) (history : List Entry) (faults : ℕ) → StopIsTold stopped history → IsStoppedByFault stopped faults → AllByRecursion (λ e. NamesNoOther (Faulted faults) e.reply) history
+stops_name None history faults told stop = names_none (Faulted faults) history told.0
+stops_name (Some (Faulted n)) history faults told stop = subst (λ k. AllByRecursion (λ e. NamesNoOther (Faulted k) e.reply) history) stop.1 told
+stops_name (Some (BadPage page)) history faults told stop = absurd stop
 
 finished_by : (lines : List Line) (m : Memory) (totals : Totals) (faulted : Bool) (last : DiskState) → StandsFor [] 0 m → asked_in m.book.entries ≡ asked lines → m.limit ≡ charge_limit
     → totals ≡ totals_of m → IsStoppedByFault m.stopped last.faults → m.peak ≤ m.limit → faulted ≡ nat_lt 0 last.faults
@@ -56,6 +66,8 @@ finished_by lines m totals faulted last s same limit is stop within test = recor
   };
   faults = faults_counted m.stopped (fault_count m.book.entries) last.faults s.faults stop;
   troubles = troubles_counted m.stopped m.book.entries last.faults s.stop stop;
+  one_fault = one_fault_told m.stopped m.book.entries s.stop s.faults;
+  stops = stops_name m.stopped m.book.entries last.faults s.stop stop;
   counted = grind (arith, common_steps, nat_tests);
   calm = grind (arith, common_steps, nat_tests);
 }

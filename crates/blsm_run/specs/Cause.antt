@@ -3,11 +3,12 @@ use Rattle.std.specs.Prelude.{◌≡◌, ◌⊎◌, ◌<◌, ◌≤◌, ℕ, fal
 use Rattle.std.specs.List.{AllByRecursion}
 use Rattle.refusal.specs.Count.{HasRisen, HasRisenBy}
 use Rattle.disk_trait.specs.Disk.{DiskState}
-use Rattle.disk_trait.specs.Shelf.{ShelfState}
+use Rattle.disk_trait.specs.Shelf.{ShelfState, IsFreshCount}
 use Rattle.blsm_model.specs.declared.history.Line.{Line}
 use Rattle.blsm_model.specs.Scripts.{IsOfScript}
 use Rattle.blsm_model.specs.Histories.{counted_writes}
-use Rattle.blsm_model.specs.Legal.{Limits, IsLegal, total_weight}
+use Rattle.blsm_model.specs.declared.history.Why.TheVariants.{Faulted}
+use Rattle.blsm_model.specs.Legal.{Limits, IsLegal, NamesNoOther, total_weight}
 use Rattle.blsm_run.specs.Words.{AreAccepted}
 use Rattle.script_text.specs.Grammar.{IsScript, IsBadLine}
 use Rattle.blsm_run.specs.Outside.{Outside, name, HasNotFetched, HasFetched, OfTheDisk}
@@ -53,11 +54,17 @@ pub record IsRunOf (lines : List Line) (run : Run) : Type 0 where
   pub deeps : run.totals.deeps ≡ 0
   pub charge : run.totals.charge ≡ total_weight (counted_writes run.entries)
 
+-- each stop names this count of faults
+abbrev pub StopsName : ℕ → Run → Type 0
+StopsName faults run = AllByRecursion (λ e. NamesNoOther (Faulted faults) e.reply) run.entries
+
 -- A script was run over a disk that reads so now: faults and stops are told only where its count rose, and by that count the run is told to be faulted.
 pub record HasFinished (lines : List Line) (run : Run) (faulted : Type 0) (last : DiskState) : Type 0 where
   pub run_of : IsRunOf lines run
   pub faults : fault_count run.entries ≤ last.faults
   pub troubles : is_untroubled run.entries ≡ false → 0 < last.faults
+  pub one_fault : is_untroubled run.entries ≡ false → fault_count run.entries ≡ 1
+  pub stops : StopsName last.faults run
   pub counted : faulted → 0 < last.faults
   pub calm : (¬ faulted) → last.faults ≡ 0
 
@@ -70,6 +77,9 @@ pub record IsRunOnShelf {D : Type 0} (state : D → DiskState) (disk : List ℕ)
   -- faults are told only as often as the shelf's count rose, and without a rise there is neither a fault nor a stop
   pub faults : HasRisenBy (fault_count run.entries) old.faults new.faults
   pub troubles : is_untroubled run.entries ≡ false → HasRisen old.faults new.faults
+  -- the first trouble is told as one fault, and each stop after it names the disk's count
+  pub one_fault : is_untroubled run.entries ≡ false → fault_count run.entries ≡ 1
+  pub stops : OfTheDisk state disk old new (λ first last. StopsName last.faults run)
   -- the status is the disk's count
   pub rose : faulted → HasRisen old.faults new.faults
   pub counted : OfTheDisk state disk old new (λ first last. faulted → 0 < last.faults)
@@ -78,6 +88,10 @@ pub record IsRunOnShelf {D : Type 0} (state : D → DiskState) (disk : List ℕ)
 -- a disk that has bytes already was left as it was
 abbrev pub WasNotEmpty : {D : Type 0} → (D → DiskState) → List ℕ → ℕ → ShelfState D → ShelfState D → Type 0
 WasNotEmpty state disk n old new = (0 < n) × OfTheDisk state disk old new (λ first last. IsLengthOf n first × IsUntouched first last)
+
+-- no call of the disk was made: no store was made, and no command was run
+abbrev pub WasNotUsed : {D : Type 0} → (D → DiskState) → List ℕ → ShelfState D → ShelfState D → Type 0
+WasNotUsed state disk old new = OfTheDisk state disk old new IsFreshCount
 
 -- the words are accepted, and the source was read to its end
 pub record HasRead {D : Type 0} (o : Outside D) : Type 0 where
@@ -108,5 +122,5 @@ Cause state o too_big = AreAccepted o.words × IfSome o.left (λ input. script_l
 Cause state o (bad_line n) = HasRead o × IfSome o.left (λ input. IsBadLine input n) × HasNotFetched o.shelf o.shelf_after
 Cause state o disk_fault = HasRefused o × HasRisen o.shelf.faults o.shelf_after.faults
 Cause state o (not_empty n) = HasRefused o × WasNotEmpty state (name o) n o.shelf o.shelf_after
-Cause state o no_memory = HasNotFetched o.shelf o.shelf_after ⊎ HasRefused o
+Cause state o no_memory = HasNotFetched o.shelf o.shelf_after ⊎ (HasRefused o × WasNotUsed state (name o) o.shelf o.shelf_after)
 Cause state o (ran run faulted) = HasRun state o run (IsTrue faulted)

@@ -138,7 +138,7 @@ pub record StandsFor (opening : List (Key × Value)) (at : ℕ) (m : Memory) : T
   pub peak : m.peak ≡ peak_of opening m.book.entries
   pub legal : IsLegal (limits_at at m) opening m.book.entries
   pub stop : StopIsTold m.stopped m.book.entries
-  pub faults : fault_count m.book.entries ≤ length (option_to_list m.stopped)
+  pub faults : fault_count m.book.entries ≡ length (option_to_list m.stopped)
   pub fit : FitFrom m.limit at [] m.book.entries
   pub no_page : AllByRecursion (λ e. TellsNoPage e.reply) m.book.entries
   pub no_page_stop : IsNoPageStop m.stopped

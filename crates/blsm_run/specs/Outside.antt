@@ -1,5 +1,5 @@
 -- What is seen of one call from outside, but for the text that it writes, and what it did to the shelf.
-use Rattle.std.specs.Prelude.{◌≡◌, ◌⊎◌, ◌<◌, ℕ, ◌-◌, ◌^◌, true, IsTrue, Option, Some, None, List, [], ◌∷◌, ◌++◌, length, IfSome}
+use Rattle.std.specs.Prelude.{◌≡◌, ◌⊎◌, ◌<◌, ℕ, ◌-◌, ◌^◌, true, IsTrue, Option, Some, None, List, [], ◌∷◌, ◌++◌, length, IfSome, IsSome}
 use Rattle.disk_trait.specs.Disk.{DiskState}
 use Rattle.disk_trait.specs.Shelf.{ShelfState, KeepsOthers, KeepsDisks}
 use Rattle.blsm_run.specs.Words.{disk_name}
@@ -23,10 +23,11 @@ pub record HasNotFetched {D : Type 0} (old new : ShelfState D) : Type 0 where
   pub fetches : IsTrue old.tells_fetches → new.fetches ≡ old.fetches
   pub faults : new.faults ≡ old.faults
 
--- One fetch was made, of the name and with leave to make a missing disk. What it gave was given back: no other disk changed.
+-- One fetch was made, of the name and with leave to make a missing disk. What it gave was given back under that name, and no other disk changed.
 pub record HasFetched {D : Type 0} (name : List ℕ) (old new : ShelfState D) : Type 0 where
   pub fetches : IsTrue old.tells_fetches → length old.fetches < 2 ^ 64 - 1
       → (new.fetches ≡ old.fetches ++ Some (name, true) ∷ []) ⊎ (new.fetches ≡ old.fetches ++ None ∷ [])
+  pub back : IsTrue old.tells_disks → IsSome (old.disk_at name) → IsSome (new.disk_at name)
   pub others : IsTrue old.tells_disks → KeepsOthers name old new
 
 -- Where a disk stood under the name, one stands there again, and this holds of it before and after.

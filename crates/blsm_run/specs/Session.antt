@@ -9,7 +9,7 @@ use Rattle.blsm_run.specs.declared.session.Refusal.{Refusal}
 use Rattle.blsm_run.specs.declared.session.Refusal.TheVariants as refusal
 use Rattle.blsm_run.specs.Outcome.{Run, Outcome, usage, source_fault, too_big, bad_line, disk_fault, not_empty, no_memory, ran}
 use Rattle.blsm_run.specs.Making.{IsLengthOf, IsUntouched}
-use Rattle.blsm_run.specs.Cause.{HasFinished, IsRunOnShelf, WasNotEmpty}
+use Rattle.blsm_run.specs.Cause.{HasFinished, IsRunOnShelf, WasNotEmpty, WasNotUsed}
 
 abbrev pub run_of : Finished → Run
 run_of f = record { charge = f.charge; entries = f.annals.entries; quanta = f.annals.quanta; totals = f.totals }
@@ -42,5 +42,5 @@ abbrev pub RunsOnShelf : {D : Type 0} → (D → DiskState) → List ℕ → Lis
 RunsOnShelf state disk lines old new (Ok finished) = IsRunOnShelf state disk lines (run_of finished) (IsTrue finished.is_faulted) old new
 RunsOnShelf state disk lines old new (Err refusal.DiskFault) = HasRisen old.faults new.faults
 RunsOnShelf state disk lines old new (Err (refusal.NotEmpty n)) = WasNotEmpty state disk n old new
-RunsOnShelf state disk lines old new (Err refusal.NoMemory) = ⊤
+RunsOnShelf state disk lines old new (Err refusal.NoMemory) = WasNotUsed state disk old new
 RunsOnShelf state disk lines old new (Err refusal) = ⊥

@@ -14,10 +14,10 @@ pub record StoreState (D : Type 0) : Type 0 where
   pub disk : D
   pub memory : Memory
 
--- a store is stopped by a fault alone, which the disk has counted
+-- a store is stopped by a fault alone, the last that the disk has counted
 abbrev pub IsStoppedByFault : Option Why → ℕ → Type 0
 IsStoppedByFault None faults = ⊤
-IsStoppedByFault (Some (Faulted n)) faults = (1 ≤ n) × (n ≤ faults)
+IsStoppedByFault (Some (Faulted n)) faults = (1 ≤ n) × (n ≡ faults)
 IsStoppedByFault (Some (BadPage page)) faults = ⊥
 
 -- the parts of a store fit together, and none is past its bound

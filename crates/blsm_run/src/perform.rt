@@ -5,7 +5,7 @@ ghost use Rattle.blsm_run.specs.Cause.{Cause};
 ghost use Rattle.blsm_run.specs.Session.{outcome_of};
 
 use crate::session::{Finished, Refusal, run_on_shelf};
-use crate::words::name_of;
+use crate::words::{Unread, name_of};
 use disk_trait::Shelf;
 use script_text::{Script, ScriptFault, read_script};
 use std::alloc::Global;
@@ -48,8 +48,10 @@ pub(crate) fn perform<S: Source, H: Shelf>(
       shelf_after = H.state shelf.new;
     }) (outcome_of result) }
 {
-    let Some(name) = name_of(words) else {
-        return Err(Refusal::Usage);
+    let name = match name_of(alloc, words) {
+        Ok(name) => name,
+        Err(Unread::Refused) => return Err(Refusal::Usage),
+        Err(Unread::NoMemory) => return Err(Refusal::NoMemory),
     };
     let script = read_source(alloc, source)?;
     let lines = script.lines();

@@ -1,5 +1,5 @@
 //! One script, run over the disk of a name.
-ghost use Rattle.std.specs.Prelude.{◌≡◌, ◌≤◌, [], sum, length, IsTrue, IfOk, IfErr, OnOk};
+ghost use Rattle.std.specs.Prelude.{◌≡◌, ◌≤◌, [], sum, length, IsTrue, IfOk, IfErr, OnOk, Err};
 ghost use Rattle.disk_trait.specs.Disk.{GoesOn};
 ghost use Rattle.blsm_run.specs.Rooms.{HasRoomFor, AreRunnable};
 ghost use Rattle.blsm_model.specs.Geometry.{file_length, high_mark};
@@ -52,6 +52,7 @@ fn prepare<D: Disk>(
     ensures empty { OnOk result (IsTrue (D.state disk.old).tells_bytes → length (D.state disk.old).bytes ≡ 0) }
     ensures length { OnOk result (IsTrue (D.state disk.old).tells_bytes → length (D.state disk.new).bytes ≡ file_length geometry.now) }
     ensures refused { IfErr result (IsRefusedOver (D.state disk.old) (D.state disk.new)) }
+    ensures untouched { result ≡ Err Refusal.NoMemory → disk.new ≡ disk.old }
 {
     let Ok(annals) = Annals::reserve(alloc, room) else {
         return Err(Refusal::NoMemory);
@@ -97,7 +98,7 @@ fn run_store<D: Disk + Drop>(
     (disk, finished)
 }
 
-/// Makes a store of the disk, and runs the script over it. The disk comes back whatever happens.
+/// Makes a store of the disk, and runs the script over it. The disk comes back whatever happens, as it was where memory was refused.
 pub(crate) fn run_over_disk<D: Disk + Drop>(
     alloc: Global,
     disk: D,
@@ -110,6 +111,7 @@ pub(crate) fn run_over_disk<D: Disk + Drop>(
     requires room { HasRoomFor room lines.now }
     ensures goes_on { GoesOn (D.state disk) (D.state result.0) }
     ensures runs { RunsOverDisk lines.now (D.state disk) (D.state result.0) result.1 }
+    ensures untouched { result.1 ≡ Err Refusal.NoMemory → result.0 ≡ disk }
 {
     let mut disk = disk;
     let geometry = Geometry::default();

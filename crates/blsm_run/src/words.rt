@@ -1,32 +1,55 @@
-//! The words of the command line, read by hand.
-ghost use Rattle.std.specs.Prelude.{◌≡◌, ◌↔◌, map, string_bytes, IfSome, IfNone, IsTrue, codes};
-ghost use Rattle.blsm_run.specs.Words.{AreAccepted, IsOperand, disk_name};
+//! The words of the command line, as `clap` reads them: the one command `run FILE`.
+ghost use Rattle.std.specs.Prelude.{◌≡◌, ◌≢◌, IfOk, map, string_bytes};
+ghost use Rattle.clap.specs.Words.{app_of, kind_of};
+ghost use Rattle.blsm_run.specs.Words.{program as program_app, ReadsWords};
 
-fn is_run(command: &str) -> bool
-    ensures { IsTrue result ↔ (command.now ≡ codes "run") }
-{
-    command == "run"
+use clap::error::ErrorKind;
+use clap::{Arg, ArgAction, Command, Error};
+use std::alloc::{AllocError, Global};
+
+/// Why words name no disk.
+#[derive(Clone, Copy)]
+pub(crate) enum Unread {
+    /// They are not accepted.
+    Refused,
+    NoMemory,
 }
 
-fn is_operand(name: &str) -> bool
-    ensures { IsTrue result ↔ IsOperand name.now }
+// What the program takes: a command, which is `run FILE`.
+fn program<'a>(alloc: Global) -> Result<Command<'a>, AllocError>
+    ensures { IfOk result (λ command. app_of command ≡ program_app) }
 {
-    match name.as_bytes() {
-        [] => true,
-        [first, ..] => *first != b'-',
+    let file = Arg::new(alloc, "FILE")
+        .required(true)
+        .action(ArgAction::Set);
+    let run = Command::new(alloc, "run").arg(file)?;
+    let program = Command::new(alloc, "blsm").subcommand_required(true);
+    program.subcommand(run)
+}
+
+// Why words were refused with this error.
+fn why(error: &Error) -> Unread
+    ensures { result ≡ Unread.Refused → kind_of error.now ≢ ErrorKind.OutOfMemory }
+{
+    match error.kind() {
+        ErrorKind::OutOfMemory => Unread::NoMemory,
+        _ => Unread::Refused,
     }
 }
 
-/// The name of the disk, where the words are the program's name, the command `run` and a name that doesn't begin with a dash.
-pub(crate) fn name_of(words: &[String]) -> Option<&str>
-    ensures accepted { IfSome result (λ name. AreAccepted (map string_bytes words.now) × (name.now ≡ disk_name (map string_bytes words.now))) }
-    ensures refused { IfNone result (¬ AreAccepted (map string_bytes words.now)) }
+/// The name of the disk that the words name.
+pub(crate) fn name_of(alloc: Global, words: &[String]) -> Result<&str, Unread>
+    ensures { ReadsWords (map string_bytes words.now) result }
 {
-    let [_program, command, name] = words else {
-        return None;
+    let Ok(program) = program(alloc) else {
+        return Err(Unread::NoMemory);
     };
-    if !is_run(command.as_str()) || !is_operand(name.as_str()) {
-        return None;
+    let matches = match program.try_get_matches_from(words) {
+        Ok(matches) => matches,
+        Err(error) => return Err(why(&error)),
+    };
+    match matches.subcommand() {
+        Some((_run, file)) => file.get_str("FILE").ok_or(Unread::Refused),
+        None => Err(Unread::Refused),
     }
-    Some(name.as_str())
 }

@@ -39,7 +39,7 @@ fn text(rec: &Rec) -> &[u8]
 
 // What stands before the key.
 #[tactic(auto, unfolding(crate::specs::Spelling::head))]
-fn head_bytes(kind: u8, key_len: u16, text_len: u16, count: u64) -> [u8; 13]
+fn head_bytes(kind: u8, key_len: u16, text_len: u16, count: u64) -> [u8; HEAD_LEN]
     ensures { result ≡ head kind key_len text_len count }
 {
     let [k1, k0] = key_len.to_be_bytes();

@@ -8,12 +8,14 @@
 //! | 5 | count u64; 0 for a tombstone |
 //! | 13 | the key, then the text |
 
-/// The bytes before the key.
+/// How many bytes stand before the key.
 pub const HEAD_LEN: usize = 13;
 
-/// Kinds.
+/// The kind of a base.
 pub const BASE: u8 = 1;
 
+/// The kind of a delta.
 pub const DELTA: u8 = 2;
 
+/// The kind of a tombstone.
 pub const TOMB: u8 = 3;

@@ -1,5 +1,5 @@
 -- A gated write behind a lane's closed gate is an append: what each of its moments leaves, and what stands once it has ended well.
-use Rattle.std.proofs.Common.{◌≡◌, inl, inr, ℕ, ◌+◌, ◌≤◌, ◌<◌, IsTrue, List, [], ◌∷◌, ◌++◌, length, take, drop, refl, ap, sym, subst, ◌∙◌, arith}
+use Rattle.std.proofs.Common.{◌≡◌, ℕ, ◌+◌, ◌≤◌, List, [], ◌∷◌, ◌++◌, length, take, drop, ap, sym, subst, ◌∙◌, arith}
 use Rattle.std.proofs.lemmas.List.{take-take}
 use Rattle.disk_trait.specs.Disk.{DiskState, Torn, Only, part, overwritten}
 use Rattle.disk_trait.specs.Moments.{LeavesOnly, IsTimed, leaves_only_weaken, leaves_only_now}

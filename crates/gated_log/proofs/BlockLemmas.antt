@@ -1,10 +1,9 @@
 -- What the bytes from a gate on say of the lane.
-use Rattle.std.proofs.Common.{◌≡◌, ◌≢◌, ℕ, ◌+◌, ◌-◌, ◌≤◌, ◌<◌, List, [], ◌∷◌, ◌++◌, length, get_or, take, drop, refl, ap, sym, ◌∙◌, arith, append-nil, length-append, length-drop}
+use Rattle.std.proofs.Common.{◌≡◌, ◌≢◌, ℕ, ◌+◌, ◌-◌, ◌≤◌, List, [], ◌∷◌, ◌++◌, length, get_or, take, drop, refl, ap, sym, ◌∙◌, arith, append-nil, length-append}
 use Rattle.std.specs.List.{between}
 use Rattle.std.proofs.lemmas.List.{take_at, drop_at, take-take, take-append-drop, length-take}
 use Rattle.std.proofs.lemmas.List.Elements.{All-push, All-head, All-tail}
 use Rattle.std.proofs.lemmas.Slice.{between_to_end}
-use Rattle.std.proofs.Math.Seq.{drop-cons}
 use Rattle.disk_trait.specs.Disk.{part}
 use Rattle.disk_trait.specs.Parts.{part-split}
 use Rattle.gated_write.specs.Gated.{open_byte}

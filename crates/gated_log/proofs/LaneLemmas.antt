@@ -1,11 +1,11 @@
 -- What an append leaves of a lane, image by image.
-use Rattle.std.proofs.Common.{◌≡◌, ◌≢◌, ◌⊎◌, inl, inr, ℕ, zero, suc, ◌+◌, ◌*◌, ◌-◌, ◌≤◌, ◌<◌, List, [], ◌∷◌, ◌++◌, length, take, drop, refl, ap, sym, subst, ◌∙◌, arith, append_assoc, append-nil, length-append, length-drop, get_or}
+use Rattle.std.proofs.Common.{◌≡◌, inl, inr, ℕ, zero, suc, ◌+◌, ◌*◌, ◌≤◌, ◌<◌, List, [], ◌∷◌, ◌++◌, length, take, drop, refl, ap, sym, ◌∙◌, arith, append_assoc, append-nil, length-append, length-drop, get_or}
 use Rattle.std.proofs.lemmas.List.{take_at, drop_at, take-take, drop-take, drop-drop}
 use Rattle.std.proofs.lemmas.Grind.{common_steps}
 use Rattle.std.proofs.Math.Seq.{drop-cons}
 use Rattle.disk_trait.specs.Disk.{Torn, part}
 use Rattle.disk_trait.specs.Parts.{torn_below, torn_same, torn_widen, part-split}
-use Rattle.gated_write.specs.Gated.{open_byte, IsClosed, IsWhole, HasRangeTorn, IsGated, untouched, behind_gate, whole}
+use Rattle.gated_write.specs.Gated.{open_byte, IsClosed, IsWhole, IsGated, untouched, behind_gate, whole}
 use Rattle.blsm_model.specs.declared.key.Key.{Key}
 use Rattle.blsm_model.specs.Sizes.{Sizes}
 use Rattle.record_delta.specs.declared.record.Rec.{Rec}

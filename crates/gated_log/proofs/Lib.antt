@@ -3,3 +3,4 @@ pub mod AppendLemmas
 pub mod BlockLemmas
 pub mod OneList
 pub mod ReplayLemmas
+pub mod Examples

@@ -1,14 +1,13 @@
 -- What the answers of a replay say of its lane.
-use Rattle.std.proofs.Common.{◌≡◌, ◌≢◌, ℕ, ◌+◌, ◌-◌, ◌≤◌, List, [], ◌∷◌, ◌++◌, length, take, drop, Option, Some, None, Ok, Err, refl, ap, sym, subst, ◌∙◌, arith}
+use Rattle.std.proofs.Common.{◌≡◌, ◌≢◌, ℕ, ◌+◌, ◌≤◌, List, [], ◌∷◌, ◌++◌, length, take, Option, Some, None, Ok, Err, refl, sym, subst, arith}
 use Rattle.std.specs.Prelude.{slice_get, IfSome, IfNone}
 use Rattle.disk_trait.specs.Disk.{part}
 use Rattle.gated_write.specs.Gated.{open_byte}
 use Rattle.blsm_model.specs.declared.key.Key.{Key}
-use Rattle.blsm_model.specs.Sizes.{Sizes}
 use Rattle.record_delta.specs.declared.record.Rec.{Rec}
 use Rattle.gated_log.specs.declared.replay.LaneBroken.{LaneBroken}
 use Rattle.gated_log.specs.declared.replay.LaneBroken.TheVariants.{Fault, Damaged}
-use Rattle.gated_log.specs.Lane.{region_start, region_length, blocks, HasEntries, HasFront, IsDamagedBehind}
+use Rattle.gated_log.specs.Lane.{region_start, region_length, blocks, HasEntries, IsDamagedBehind}
 use Rattle.gated_log.specs.Replay.{ReplayState, HasGiven, Answer, replay_after}
 use Rattle.gated_log.specs.Block.{IsOpenBlock, IsBrokenBlock, IsReadFrom, block_of, room_of}
 use Rattle.gated_log.proofs.LaneLemmas.{gate_closed}

@@ -1,12 +1,12 @@
 -- What contracts see of a replay, and what its answers say of the lane.
-use Rattle.std.specs.Prelude.{◌≡◌, ℕ, ◌+◌, ◌<◌, List, [], ◌∷◌, ◌++◌, length, Option, Some, None, Result, Ok, Err, ⊤}
+use Rattle.std.specs.Prelude.{◌≡◌, ℕ, ◌+◌, List, [], ◌∷◌, ◌++◌, length, Option, Some, None, Result, Ok, Err, ⊤}
 use Rattle.blsm_model.specs.declared.key.Key.{Key}
 use Rattle.blsm_model.specs.Sizes.{Sizes}
 use Rattle.record_delta.specs.declared.record.Rec.{Rec}
 use Rattle.record_delta.specs.Records.{weight}
 use Rattle.gated_log.specs.declared.replay.LaneBroken.{LaneBroken}
 use Rattle.gated_log.specs.declared.replay.LaneBroken.TheVariants.{Fault, Damaged}
-use Rattle.gated_log.specs.Lane.{blocks, region_length, HasEntries, HasFront, IsDamagedBehind}
+use Rattle.gated_log.specs.Lane.{blocks, HasEntries, HasFront, IsDamagedBehind}
 
 -- The store's sizes, the number of the lane's region, and where in it the next gate stands.
 pub record ReplayState : Type 0 where

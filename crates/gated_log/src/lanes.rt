@@ -177,6 +177,7 @@ impl Lanes {
         ensures sure { IsSure (file_length self.now.sizes) (D.state disk.old) (D.state disk.new) }
         ensures goes_on { GoesOn (D.state disk.old) (D.state disk.new) }
         ensures four_calls { (D.state disk.new).clock ≤ (D.state disk.old).clock + 4 }
+        ensures stands { OnOk result ((D.state disk.new).faults ≡ (D.state disk.old).faults) }
         ensures failed { IsErr result → HasRisen (D.state disk.old).faults (D.state disk.new).faults }
     {
         let mut buffer = [0; LONGEST];
@@ -221,6 +222,7 @@ impl Lanes {
         ensures sure { IsSure (file_length self.old.sizes) (D.state disk.old) (D.state disk.new) }
         ensures goes_on { GoesOn (D.state disk.old) (D.state disk.new) }
         ensures four_calls { (D.state disk.new).clock ≤ (D.state disk.old).clock + 4 }
+        ensures stands { OnOk result ((D.state disk.new).faults ≡ (D.state disk.old).faults) }
         ensures failed { IsErr result → HasRisen (D.state disk.old).faults (D.state disk.new).faults }
     {
         self.write_entry(disk, lane, key, rec)?;

@@ -8,3 +8,6 @@ mod replay;
 
 pub use lanes::Lanes;
 pub use replay::{LaneBroken, Replay, one_list};
+
+#[cfg(test)]
+mod tests;

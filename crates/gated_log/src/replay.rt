@@ -92,7 +92,8 @@ impl Replay {
         ensures start { result ≡ record { sizes = geometry.now; lane = lane; end = 0 } }
         ensures nothing { (file : List ℕ) → HasGiven result [] file }
     {
-        let _half = geometry.half();
+        // A region isn't empty, so its first gate lies inside it.
+        let _region_length = length_of(geometry);
         Replay {
             geometry: *geometry,
             lane,
@@ -150,6 +151,8 @@ impl Replay {
 
         ensures moved { self.new ≡ replay_after result self.old }
         ensures inside { self.new.end < region_length self.new.sizes }
+        ensures sizes { self.new.sizes ≡ self.old.sizes }
+        ensures same_lane { self.new.lane ≡ self.old.lane }
 
         // What an answer says of a lane that begins with the entries given so far. The lane's bytes are those that a read gives
         // after the call; on an honest disk they are those from before it.
@@ -176,6 +179,7 @@ impl Replay {
         ensures passes { Passes (D.state disk.old) (D.state disk.new) }
         ensures no_sync { MarksSync ⊥ (D.state disk.old) (D.state disk.new) }
         ensures same { ChangesNothing (D.state disk.old) (D.state disk.new) }
+        ensures length { IsTrue (D.state disk.old).tells_bytes → length (D.state disk.new).bytes ≡ length (D.state disk.old).bytes }
         ensures each { IsTrue (D.state disk.old).is_honest → LeavesOnly (D.state disk.old) (D.state disk.new) (D.state disk.old).images }
         ensures sure { IsSure (file_length self.old.sizes) (D.state disk.old) (D.state disk.new) }
         ensures stands { result ≢ Err LaneBroken.Fault → (D.state disk.new).faults ≡ (D.state disk.old).faults }

@@ -1,10 +1,10 @@
 -- What folding a record into sorted entries does to them and to their weight.
-use Rattle.std.proofs.Common.{◌≡◌, ℕ, ◌+◌, ◌-◌, ◌*◌, ◌<◌, ◌≤◌, Bool, true, false, cond, T, List, [], ◌∷◌, ◌++◌, length, get_or, set, Some, refl, ap, sym, subst, ◌∙◌, ◌⊎◌, inl, inr, arith}
+use Rattle.std.proofs.Common.{◌≡◌, ◌≢◌, ℕ, ◌+◌, ◌-◌, ◌*◌, ◌<◌, ◌≤◌, Bool, true, false, cond, T, List, [], ◌∷◌, ◌++◌, length, get_or, set, Some, refl, ap, sym, subst, ◌∙◌, ◌⊎◌, inl, inr, arith}
 use Rattle.std.specs.List.{insert, remove, AllByRecursion}
 use Rattle.std.specs.Ordering.{is_eq, eq_by_cmp}
 use Rattle.std.specs.declared.cmp.Ordering.{Ordering}
 use Rattle.std.specs.declared.cmp.Ordering.TheVariants.{Less, Equal, Greater}
-use Rattle.std.specs.Cmp.{nat_eq_equiv}
+use Rattle.std.specs.Cmp.{nat_eq_equiv, tied_itself}
 use Rattle.std.specs.Cmp.Lexicographic.{texts_ties, lists_equiv}
 use Rattle.std.specs.FinMap.{put}
 use Rattle.std.specs.FinMap.Entries.{is_sorted-put, find-put, by_order}
@@ -116,6 +116,19 @@ record_after es key rec write q key_is =
       | inr apart ↦
           ap (λ b. cond b (Some (over rec (record_of_key key es))) kept) apart
           ∙ ap (λ b. cond b (Some (over rec kept)) kept) (sym (ap (λ k. same_key k q) key_is ∙ ties q key ∙ apart))
+    ]
+
+pub record_of_this : (es : Entries) (key : Key) (rec : Rec) → record_of_key key (with_record key rec es) ≡ Some (over rec (record_of_key key es))
+record_of_this es key rec =
+    find-put key_cmp nat_list_cmp_total key key (over rec (record_of_key key es)) es
+    ∙ ap (λ o. cond (is_eq o) (Some (over rec (record_of_key key es))) (record_of_key key es)) (tied_itself nat_list_cmp_total key)
+
+pub record_of_other : (es : Entries) (key : Key) (rec : Rec) (other : Key) → other ≢ key → record_of_key other (with_record key rec es) ≡ record_of_key other es
+record_of_other es key rec other differs =
+    find-put key_cmp nat_list_cmp_total other key (over rec (record_of_key key es)) es
+    ∙ elim (by_test (eq_by_cmp key_cmp other key)) [
+      | inl same ↦ absurd (differs (tied other key (test_of_tie (key_cmp other key) same)))
+      | inr apart ↦ ap (λ b. cond b (Some (over rec (record_of_key key es))) (record_of_key other es)) apart
     ]
 
 pub stand_more : (es : Entries) (key : Key) (rec : Rec) (writes : List Write) → IsRecord rec → StandFor es writes

@@ -3,7 +3,7 @@ use Rattle.std.specs.Prelude.{◌≡◌, ℕ, ◌≤◌, ◌<◌, ◌+◌, ◌*�
 use Rattle.std.specs.List.{AllByRecursion}
 use Rattle.blsm_model.specs.declared.key.Key.{Key}
 use Rattle.record_delta.specs.declared.record.Rec.{Rec}
-use Rattle.mem_table.specs.Entries.{Entries, AreSorted, total_weight, with_record}
+use Rattle.mem_table.specs.Entries.{Entries, AreSorted, least_weight, total_weight, with_record}
 
 pub record Contents : Type 0 where
   pub entries : Entries
@@ -16,8 +16,8 @@ pub record IsTable (entries : Entries) (weight reserved places : ℕ) : Type 0 w
   pub weight_is : weight ≡ total_weight entries
   pub fits : weight ≤ reserved
   pub keys : AllByRecursion (λ e. 1 ≤ length e.0) entries
-  -- no key is empty, so an entry weighs at least 14, so there is a place for one more wherever one more fits
-  pub room : reserved < 14 * (places + 1)
+  -- so that there is a place for one entry more wherever its weight fits
+  pub room : reserved < least_weight * (places + 1)
 
 -- the record is folded into the entries, and the reserve stays
 abbrev pub IsFoldedIn : Key → Rec → Contents → Contents → Type 0

@@ -1,22 +1,23 @@
 //! A sorted vector of keys and records.
-ghost use Rattle.std.specs.Prelude.{◌≡◌, ◌+◌, ◌≤◌, ◌<◌, [], ◌∷◌, ◌++◌, List, IfOk, IfErr, IfSome, IfNone};
+ghost use Rattle.std.specs.Prelude.{◌≡◌, ◌≢◌, ◌+◌, ◌≤◌, ◌<◌, [], ◌∷◌, ◌++◌, List, Some, IfOk, IfErr, IfSome, IfNone};
 ghost use Rattle.blsm_model.specs.declared.key.Key.{Key};
 ghost use Rattle.blsm_model.specs.declared.op.Write.{Write};
 ghost use Rattle.record_delta.specs.declared.record.Rec.{Rec};
 ghost use Rattle.record_delta.specs.Records.{write_of, IsRecord, weight as weight_with};
+ghost use Rattle.record_delta.specs.Folding.{over};
 ghost use Rattle.mem_table.specs.Entries.{AreSorted, total_weight, record_of_key, with_record, StandFor};
 ghost use Rattle.mem_table.specs.Tables.{IsFoldedIn};
 ghost use Rattle.mem_table.specs.Order.{IsLeastAbove, NoneAbove};
 ghost use Rattle.mem_table.specs.Places.{IsAt, IsGapFor, IsSplit};
 
-use blsm_model::Key;
+use blsm_model::{Key, Op};
 use record_delta::{Rec, fold, weight};
 use refusal::NoMemory;
 use std::alloc::Global;
 use std::marker::Model;
 
-/// No entry weighs less, in bytes.
-const LEAST_WEIGHT: u64 = 14;
+// No entry weighs less: a key of one byte, and no text.
+const LEAST_WEIGHT: u64 = Op::OVERHEAD + 1;
 
 /// The memory table. Contracts see its entries, sorted by key, and how much they may weigh.
 #[derive(Debug, Drop)]
@@ -38,7 +39,8 @@ impl Model for Table {
 }
 
 impl Table {
-    /// An empty table with room for entries of this weight in all, in bytes. It takes memory for as many of the least entry.
+    /// An empty table with room for entries of this weight in all, in bytes. It takes memory for as many of the lightest
+    /// entries at once; where that is refused there is no table.
     pub fn reserve(alloc: Global, weight: u64) -> Result<Table, NoMemory>
         ensures { IfOk result (λ table. table ≡ record { entries = []; reserved = weight }) }
     {
@@ -69,7 +71,7 @@ impl Table {
         self.weight
     }
 
-    /// The record of a key.
+    /// The record of a key, if it has one.
     pub fn get(&self, key: &Key) -> Option<Rec>
         ensures { result ≡ record_of_key key.now self.now.entries }
     {
@@ -84,6 +86,8 @@ impl Table {
     pub fn fold_in(&mut self, key: &Key, rec: &Rec)
         requires { total_weight (with_record key.now rec.now self.old.entries) ≤ self.old.reserved }
         ensures entries { self.new.entries ≡ with_record key.now rec.now self.old.entries }
+        ensures this { record_of_key key.now self.new.entries ≡ Some (over rec.now (record_of_key key.now self.old.entries)) }
+        ensures others { (other : Key) → other ≢ key.now → record_of_key other self.new.entries ≡ record_of_key other self.old.entries }
         ensures reserved { self.new.reserved ≡ self.old.reserved }
         ensures weight { total_weight self.new.entries ≤ total_weight self.old.entries + weight_with key.now rec.now }
         // Where the entries stood for writes, they stand for those and this record's.

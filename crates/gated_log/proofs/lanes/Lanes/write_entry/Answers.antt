@@ -1,9 +1,9 @@
-use Rattle.std.proofs.Common.{◌≡◌, ℕ, ◌+◌, ◌≤◌, List, ◌++◌, [], ◌∷◌, length, ap, sym, subst, ◌∙◌, arith, length-append, Result, Ok, Err, OnOk, IsOk}
+use Rattle.std.proofs.Common.{ℕ, ◌+◌, List, [], ◌∷◌, length, ap, sym, ◌∙◌, arith, length-append, Result, Ok, Err, OnOk, IsOk}
 use Rattle.disk_trait.specs.Moments.{IsTimed}
 use Rattle.disk_trait.specs.Parts.{torn_widen}
 use Rattle.entry_codec.specs.Spelling.{spelling}
 use Rattle.entry_codec.proofs.SpellingLemmas.{length-spelling}
-use Rattle.gated_log.specs.Lane.{region_start, region_length}
+use Rattle.gated_log.specs.Lane.{region_start}
 use Rattle.gated_log.proofs.AppendLemmas.{IsEntryWrite, each_moment, once_done, reads_so}
 use Rattle.gated_log.proofs.lanes.Lanes.write_entry.Goals as goal
 

@@ -1,9 +1,7 @@
-use Rattle.std.proofs.Common.{◌≡◌, ◌≢◌, ◌+◌, ◌≤◌, ℕ, List, length, Option, Ok, Err, ap, sym, ◌∙◌, refl, rules, arith}
+use Rattle.std.proofs.Common.{◌≡◌, Ok, Err, ap, sym, ◌∙◌, rules, arith}
 use Rattle.std.proofs.lemmas.Result.{err_from_is_err_and}
-use Rattle.gated_log.specs.declared.replay.LaneBroken.{LaneBroken}
-use Rattle.gated_log.specs.declared.replay.LaneBroken.TheVariants.{Fault}
-use Rattle.gated_log.specs.Replay.{Answer, replay_after}
-use Rattle.gated_log.proofs.ReplayLemmas.{IsInside, entry_given, none_given, damage_told, list_found, list_unbroken, damage_found}
+use Rattle.gated_log.specs.Replay.{replay_after}
+use Rattle.gated_log.proofs.ReplayLemmas.{entry_given, none_given, damage_told, list_found, list_unbroken, damage_found}
 use Rattle.gated_log.proofs.replay.Replay.next.Goals as goal
 
 -- what is handed on is what was answered

@@ -1,0 +1,23 @@
+use Rattle.std.proofs.Common.{◌≡◌, ◌<◌, ◌≤◌, ℕ, List, length, IsTrue, ◌-◌}
+use Rattle.blsm_model.specs.declared.key.Key.{Key}
+use Rattle.blsm_model.specs.Geometry.{file_length}
+use Rattle.record_delta.specs.declared.record.Rec.{Rec}
+use Rattle.disk_trait.specs.Disk.{GoesOn}
+use Rattle.gated_log.specs.Lane.{region_length}
+use Rattle.gated_log.specs.Replay.{HasGiven}
+use Rattle.gated_log.proofs.tests.count.Given as goal
+
+abbrev pub invariant-loop-entries : goal.invariant-loop-entries
+invariant-loop-entries g l = record {
+  sizes : l.replay.sizes ≡ l.geometry;
+  lane : l.replay.lane ≡ l.lane;
+  within : l.entries ≤ l.replay.end;
+  inside : l.replay.end < region_length l.replay.sizes;
+  goes_on : GoesOn (g.D.Disk.state l.fn.disk) (g.D.Disk.state l.disk);
+  long : IsTrue (g.D.Disk.state l.fn.disk).tells_bytes → length (g.D.Disk.state l.disk).bytes ≡ file_length l.geometry;
+  bytes : IsTrue (g.D.Disk.state l.fn.disk).is_honest → (g.D.Disk.state l.disk).bytes ≡ (g.D.Disk.state l.fn.disk).bytes;
+  given : IsTrue (g.D.Disk.state l.fn.disk).is_honest → (es : List (Key × Rec)) × HasGiven l.replay es (g.D.Disk.state l.disk).bytes × (length es ≡ l.entries);
+}
+
+abbrev pub decreases-loop-entries : goal.decreases-loop-entries
+decreases-loop-entries g l = region_length l.replay.sizes - l.replay.end
