@@ -9,7 +9,7 @@ use Rattle.blsm_run.specs.declared.status.Status.TheVariants.{Done, NoMemory}
 use Rattle.blsm_run.specs.Outside.{Outside, name, OfTheDisk}
 use Rattle.blsm_run.specs.Outcome.{Run, Outcome, usage, source_fault, too_big, bad_line, disk_fault, not_empty, no_memory, ran, Written, Tells, status_of}
 use Rattle.blsm_run.specs.Cause.{Cause, script_limit}
-use Rattle.blsm_run.specs.Making.{IsLengthOf, IsUntouched}
+use Rattle.store_file.specs.Making.{IsLengthOf, IsUntouched}
 use Rattle.blsm_run.specs.Answer.{IsGranted, IsQuietCount}
 
 quiet_is_no_rise : (old new : ℕ) → IsQuietCount old new → HasRisen old new → ⊥

@@ -1,3 +1,4 @@
+pub mod LogLemmas
 pub mod TableLemmas
 pub mod MemoryLemmas
 pub mod RunLemmas

@@ -44,7 +44,7 @@ stops_name None history faults told stop = names_none (Faulted faults) history t
 stops_name (Some (Faulted n)) history faults told stop = subst (λ k. AllByRecursion (λ e. NamesNoOther (Faulted k) e.reply) history) stop.1 told
 stops_name (Some (BadPage page)) history faults told stop = absurd stop
 
-finished_by : (lines : List Line) (m : Memory) (totals : Totals) (faulted : Bool) (last : DiskState) → StandsFor [] 0 m → asked_in m.book.entries ≡ asked lines → m.limit ≡ charge_limit
+finished_by : (lines : List Line) (m : Memory) (totals : Totals) (faulted : Bool) (last : DiskState) → StandsFor [] m → asked_in m.book.entries ≡ asked lines → m.limit ≡ charge_limit
     → totals ≡ totals_of m → IsStoppedByFault m.stopped last.faults → m.peak ≤ m.limit → faulted ≡ nat_lt 0 last.faults
     → HasFinished lines (run_with m.book totals) (IsTrue faulted) last
 finished_by lines m totals faulted last s same limit is stop within test = record {
@@ -75,14 +75,14 @@ finished_by lines m totals faulted last s same limit is stop within test = recor
 -- a store that began with nothing, and ran these lines
 pub finished : (lines : List Line) (start m : Memory) (first book : Book) (totals : Totals) (faulted : Bool) (last : DiskState)
     → first.entries ≡ [] → first.quanta ≡ [] → (limit : ℕ) → limit ≡ charge_limit → start ≡ record { table = []; book = first; charge = 0; limit = limit; peak = 0; stopped = None }
-    → (StandsFor [] 0 start → StandsFor [] 0 m) → asked_in m.book.entries ≡ asked_in start.book.entries ++ asked lines → m.limit ≡ start.limit
+    → (StandsFor [] start → StandsFor [] m) → asked_in m.book.entries ≡ asked_in start.book.entries ++ asked lines → m.limit ≡ start.limit
     → book ≡ m.book → totals ≡ totals_of m → IsStoppedByFault m.stopped last.faults → m.peak ≤ m.limit → faulted ≡ nat_lt 0 last.faults
     → HasFinished lines (run_with book totals) (IsTrue faulted) last
 finished lines start m first book totals faulted last entries quanta limit is_limit begins keeps same kept is_book is stop within test =
     let empty : first ≡ record { entries = []; quanta = []; room = first.room } = λ i. record { entries = entries i; quanta = quanta i; room = first.room } in
     let begun : start ≡ record { table = []; book = record { entries = []; quanta = []; room = first.room }; charge = 0; limit = limit; peak = 0; stopped = None } =
     begins ∙ ap (λ b. record { table = []; book = b; charge = 0; limit = limit; peak = 0; stopped = None }) empty in
-    let stands : StandsFor [] 0 start = subst (StandsFor [] 0) (sym begun) (stands_start limit first.room) in
+    let stands : StandsFor [] start = subst (StandsFor []) (sym begun) (stands_start [] limit first.room [] refl (λ key. refl)) in
     subst (λ b. HasFinished lines (run_with b totals) (IsTrue faulted) last) (sym is_book)
     (finished_by lines m totals faulted last (keeps stands) (same ∙ ap (λ (k : Memory). asked_in k.book.entries ++ asked lines) begun)
     (kept ∙ ap (λ (k : Memory). k.limit) begins ∙ is_limit) is stop within test)

@@ -13,8 +13,8 @@ use Rattle.blsm_run.specs.Words.{AreAccepted}
 use Rattle.script_text.specs.Grammar.{IsScript, IsBadLine}
 use Rattle.blsm_run.specs.Outside.{Outside, name, HasNotFetched, HasFetched, OfTheDisk}
 use Rattle.blsm_run.specs.Outcome.{Run, Outcome, usage, source_fault, too_big, bad_line, disk_fault, not_empty, no_memory, ran}
-use Rattle.blsm_run.specs.Memory.{peak_of, fault_count, is_untroubled, FitFrom, TellsNoPage}
-use Rattle.blsm_run.specs.Making.{IsLengthOf, IsUntouched}
+use Rattle.blsm_run.specs.Memory.{peak_from, fault_count, is_untroubled, FitFrom, TellsNoPage}
+use Rattle.store_file.specs.Making.{IsLengthOf, IsUntouched}
 
 -- how many bytes a script may have
 abbrev pub script_limit : ℕ
@@ -45,7 +45,7 @@ pub record IsRunOf (lines : List Line) (run : Run) : Type 0 where
   -- the store had nothing in it
   pub opening : run.charge ≡ 0
   -- the greatest weight of the memory table is printed, and is within its bytes
-  pub peak : run.totals.peak ≡ peak_of [] run.entries
+  pub peak : run.totals.peak ≡ peak_from [] run.entries
   pub high : run.totals.high ≡ high_mark
   pub within : run.totals.peak ≤ high_mark
   pub callers : run.totals.callers ≡ 0

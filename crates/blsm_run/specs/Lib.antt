@@ -1,7 +1,6 @@
 pub mod Words
 pub mod Outside
 pub mod Outcome
-pub mod Making
 pub mod MemoryTable
 pub mod Memory
 pub mod StoreState

@@ -2,7 +2,6 @@
 use Rattle.std.specs.Prelude.{◌≡◌, ℕ, ◌+◌, ◌^◌, ◌<◌, ◌≤◌, max, ⊤, Bool, true, false, not, List, [], ◌∷◌, ◌++◌, length, map, Option, Some, None, option_to_list, if◌then◌else◌, sum_by}
 use Rattle.std.specs.List.{list_all, AllByRecursion}
 use Rattle.blsm_model.specs.declared.key.Key.{Key}
-use Rattle.blsm_model.specs.declared.row.Value.{Value}
 use Rattle.blsm_model.specs.declared.op.Write.{Write}
 use Rattle.blsm_model.specs.declared.op.Write.TheVariants as write
 use Rattle.blsm_model.specs.declared.op.Op.{Op}
@@ -14,7 +13,8 @@ use Rattle.blsm_model.specs.declared.history.Reply.TheVariants.{Done, Full, Faul
 use Rattle.blsm_model.specs.declared.history.Entry.{Entry}
 use Rattle.blsm_model.specs.Book.{Book, noted}
 use Rattle.blsm_model.specs.Values.{key_of, value_at}
-use Rattle.blsm_model.specs.Histories.{writes_of, counted, counted_writes, written, answer_to_get}
+use Rattle.blsm_model.specs.Rows.{map_of}
+use Rattle.blsm_model.specs.Histories.{writes_of, counted, counted_writes, answer_to_get}
 use Rattle.blsm_model.specs.Legal.{Limits, total_weight, is_running, NamesNoOther, IsLegal}
 use Rattle.record_delta.specs.declared.record.Rec.{Rec}
 use Rattle.record_delta.specs.Records.{record_of, settled, weight}
@@ -68,14 +68,14 @@ Answers old op new reply = AnswersWhere old.stopped old op new reply
 abbrev pub with_entry : Memory → Entry → Memory
 with_entry m entry = record m { book = noted m.book entry }
 
--- the greatest weight of the memory table from these writes on
+-- the greatest weight of the memory table after these writes, and after each entry from there on
 abbrev pub peak_from : List Write → List Entry → ℕ
 peak_from writes [] = table_weight (table_of writes)
 peak_from writes (e ∷ es) = max (table_weight (table_of writes)) (peak_from (writes ++ counted e) es)
 
--- the greatest weight of the memory table after the opening and after each entry
-abbrev pub peak_of : List (Key × Value) → List Entry → ℕ
-peak_of opening history = peak_from (written opening []) history
+-- all that was written: what the log had at the opening, and the counted writes of the history
+abbrev pub log_after : List Write → List Entry → List Write
+log_after log history = log ++ counted_writes history
 
 -- a reply that tells of a fault, and one that tells of a fault or of a stop
 abbrev pub tells_fault : Reply → Bool
@@ -130,16 +130,16 @@ FitFrom limit at before (e ∷ es) = FitsReply limit at before e.op e.reply × F
 abbrev pub limits_at : ℕ → Memory → Limits
 limits_at at m = record { opening = at; dels = m.limit; others = m.limit }
 
--- what the store holds is what this opening, at this charge, and the history lead to
-pub record StandsFor (opening : List (Key × Value)) (at : ℕ) (m : Memory) : Type 0 where
-  pub table : m.table ≡ table_of (written opening m.book.entries)
-  pub values : (key : Key) → settled (record_of_key key m.table) ≡ value_at (written opening m.book.entries) key
-  pub charge : m.charge ≡ at + total_weight (counted_writes m.book.entries)
-  pub peak : m.peak ≡ peak_of opening m.book.entries
-  pub legal : IsLegal (limits_at at m) opening m.book.entries
+-- What the store holds is what the writes of the log at the opening and the history lead to.
+pub record StandsFor (log : List Write) (m : Memory) : Type 0 where
+  pub table : m.table ≡ table_of (log_after log m.book.entries)
+  pub values : (key : Key) → settled (record_of_key key m.table) ≡ value_at (log_after log m.book.entries) key
+  pub charge : m.charge ≡ total_weight log + total_weight (counted_writes m.book.entries)
+  pub peak : m.peak ≡ peak_from log m.book.entries
+  pub legal : IsLegal (limits_at (total_weight log) m) (map_of log) m.book.entries
   pub stop : StopIsTold m.stopped m.book.entries
   pub faults : fault_count m.book.entries ≡ length (option_to_list m.stopped)
-  pub fit : FitFrom m.limit at [] m.book.entries
+  pub fit : FitFrom m.limit (total_weight log) [] m.book.entries
   pub no_page : AllByRecursion (λ e. TellsNoPage e.reply) m.book.entries
   pub no_page_stop : IsNoPageStop m.stopped
   pub quanta : m.book.quanta ≡ map (λ _. 0) m.book.entries

@@ -2,7 +2,7 @@
 use Rattle.std.specs.Prelude.{◌≡◌, ◌≤◌, ◌*◌, ℕ, IsTrue, List, ◌++◌, length, map}
 use Rattle.disk_trait.specs.Disk.{DiskState, GoesOn}
 use Rattle.blsm_model.specs.declared.key.Key.{Key}
-use Rattle.blsm_model.specs.declared.row.Value.{Value}
+use Rattle.blsm_model.specs.declared.op.Write.{Write}
 use Rattle.blsm_model.specs.declared.op.Op.{Op}
 use Rattle.blsm_model.specs.declared.history.Reply.{Reply}
 use Rattle.blsm_model.specs.declared.history.Entry.{Entry}
@@ -46,7 +46,7 @@ pub record Executes {D : Type 0} (state : D → DiskState) (seat : ℕ) (op : Op
 
 -- A script was run: whatever the store stood for, it stands for now, and the history has gained the script's lines, in order.
 pub record Runs {D : Type 0} (state : D → DiskState) (lines : List Line) (old new : StoreState D) : Type 0 where
-  pub stands : (opening : List (Key × Value)) (at : ℕ) → StandsFor opening at old.memory → StandsFor opening at new.memory
+  pub stands : (log : List Write) → StandsFor log old.memory → StandsFor log new.memory
   pub asked : asked_in new.memory.book.entries ≡ asked_in old.memory.book.entries ++ asked lines
   pub along : GoesAlong state old new
 

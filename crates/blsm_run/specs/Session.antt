@@ -8,7 +8,7 @@ use Rattle.blsm_run.specs.declared.session.Finished.{Finished}
 use Rattle.blsm_run.specs.declared.session.Refusal.{Refusal}
 use Rattle.blsm_run.specs.declared.session.Refusal.TheVariants as refusal
 use Rattle.blsm_run.specs.Outcome.{Run, Outcome, usage, source_fault, too_big, bad_line, disk_fault, not_empty, no_memory, ran}
-use Rattle.blsm_run.specs.Making.{IsLengthOf, IsUntouched}
+use Rattle.store_file.specs.Making.{IsLengthOf, IsUntouched}
 use Rattle.blsm_run.specs.Cause.{HasFinished, IsRunOnShelf, WasNotEmpty, WasNotUsed}
 
 abbrev pub run_of : Finished → Run

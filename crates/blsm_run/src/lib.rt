@@ -3,7 +3,6 @@
 #![tactic(auto)]
 
 mod answer;
-mod making;
 mod perform;
 mod run;
 mod session;

@@ -7,12 +7,12 @@ ghost use Rattle.blsm_run.specs.Outside.{HasFetched};
 ghost use Rattle.blsm_run.specs.Cause.{HasFinished, charge_limit};
 ghost use Rattle.blsm_run.specs.Session.{run_of, IsRefusedOver, RunsOverDisk, RunsOnShelf};
 
-use crate::making::{MakeFault, make_store};
 use crate::store::Store;
 use blsm_model::{Annals, Geometry, Line, Room, Totals};
 use disk_trait::{Disk, Shelf};
 use mem_table::Table;
 use std::alloc::Global;
+use store_file::{MakeFault, make_store};
 
 /// What a run leaves to be printed.
 #[derive(Drop)]

@@ -8,7 +8,7 @@ ghost use Rattle.blsm_model.specs.Geometry.{file_length};
 ghost use Rattle.record_delta.specs.declared.record.Rec.{Rec};
 ghost use Rattle.record_delta.specs.Records.{weight};
 ghost use Rattle.entry_codec.specs.Spelling.{spelling, IsEntry};
-ghost use Rattle.gated_log.specs.Lane.{region_length, region_start, blocks, HasEntries, EachHasEntries, IsAppended};
+ghost use Rattle.gated_log.specs.Lane.{region_length, region_start, HasEntries, EachHasEntries, IsAppended};
 ghost use Rattle.gated_log.specs.Lanes.{a_of, b_of, spare_of, AreRoles, end_of, moved, turned, IsEnd};
 
 use crate::region::place_in_file;
@@ -49,26 +49,6 @@ impl Model for Lanes {
     ghost invariant = { λ l. AreRoles l.roles × ((lane : ℕ) → lane < 3 → slice_index l.ends lane < 4 * l.geometry.half) };
 }
 
-// A count fits its type.
-fn count_fits(count: u64)
-    ensures { count < 2 ^ 64 }
-{}
-
-// Whatever the key and the record are, they have a spelling: their types keep its bounds.
-fn has_spelling(key: &Key, rec: &Rec)
-    ensures { IsEntry key.now rec.now }
-{
-    let _bytes = key.as_bytes();
-    match rec {
-        Rec::Base(value) => {
-            let _text = value.text.as_bytes();
-            count_fits(value.count);
-        }
-        Rec::Delta(count) => count_fits(*count),
-        Rec::Tomb => {}
-    }
-}
-
 // Puts the entry and the next gate, closed, at the front of the buffer, and answers their length in bytes.
 fn put_entry(key: &Key, rec: &Rec, buffer: &mut [u8; LONGEST]) -> usize
     ensures text { take result buffer.new ≡ spelling key.now rec.now ++ 0 ∷ [] }
@@ -76,7 +56,6 @@ fn put_entry(key: &Key, rec: &Rec, buffer: &mut [u8; LONGEST]) -> usize
     ensures fits { result ≤ 513 }
     ensures entry { IsEntry key.now rec.now }
 {
-    has_spelling(key, rec);
     let length = weight(key, rec) as usize;
     encode(key, rec, buffer);
     buffer[length] = CLOSED;

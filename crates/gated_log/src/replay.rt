@@ -1,14 +1,14 @@
 //! Reading a lane: its entries one by one, and then its end.
-ghost use Rattle.std.specs.Prelude.{◌≡◌, ◌≢◌, ◌≤◌, ◌<◌, ◌+◌, ℕ, List, [], ◌∷◌, ◌++◌, length, Some, None, Ok, Err, IfOk, IfSome, IfNone, OnOk, IsErr, IsTrue, slice_get};
+ghost use Rattle.std.specs.Prelude.{◌≡◌, ◌≢◌, ◌≤◌, ◌<◌, ◌+◌, ℕ, List, [], ◌∷◌, ◌++◌, length, Some, None, Ok, Err, IfOk, IfSome, IfNone, IsTrue, slice_get};
 ghost use Rattle.refusal.specs.Count.{HasRisen};
-ghost use Rattle.disk_trait.specs.Disk.{Passes, MarksSync, ChangesNothing, IsSure, part};
+ghost use Rattle.disk_trait.specs.Disk.{Passes, MarksSync, ChangesNothing, IsSure};
 ghost use Rattle.disk_trait.specs.Moments.{LeavesOnly};
 ghost use Rattle.blsm_model.specs.declared.key.Key.{Key};
 ghost use Rattle.blsm_model.specs.Sizes.{Sizes};
 ghost use Rattle.blsm_model.specs.Geometry.{file_length};
 ghost use Rattle.record_delta.specs.declared.record.Rec.{Rec};
 ghost use Rattle.record_delta.specs.Records.{weight};
-ghost use Rattle.gated_log.specs.Lane.{region_length, region_start, HasEntries, HasFront, IsDamaged, IsDamagedBehind, blocks};
+ghost use Rattle.gated_log.specs.Lane.{region_length, region_start, HasEntries, IsDamaged, IsDamagedBehind, blocks};
 ghost use Rattle.gated_log.specs.Replay.{HasGiven, replay_after};
 ghost use Rattle.gated_log.specs.Block.{IsReadAs, IsReadFrom, room_of};
 

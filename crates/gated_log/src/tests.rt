@@ -4,7 +4,7 @@ ghost use Rattle.blsm_model.specs.declared.key.Key.{Key};
 ghost use Rattle.blsm_model.specs.Geometry.{file_length};
 ghost use Rattle.disk_mem.specs.Recorded.{told};
 ghost use Rattle.record_delta.specs.declared.record.Rec.{Rec};
-ghost use Rattle.gated_log.specs.Lane.{HasEntries, IsDamaged, region_length};
+ghost use Rattle.gated_log.specs.Lane.{HasEntries, IsDamaged};
 
 use crate::region::{length_of, place_in_file};
 use crate::{LaneBroken, Lanes, Replay};

@@ -10,7 +10,7 @@ use Rattle.blsm_run.proofs.store.Store.run.Goals as goal
 
 pub loop-line-init : goal.loop-line-init
 loop-line-init g c = record {
-  stands = λ opening at stood. stood;
+  stands = λ log stood. stood;
   asked = sym (append-nil (asked_in c.args.self.now.memory.book.entries));
   along = along_start g.D.Disk.state c.args.self.now;
   room = c.requires.room;
@@ -29,8 +29,8 @@ loop-line-preserved g c =
     let book = ap (λ (m : Memory). m.book) did.noted in
     let rest : drop i lines ≡ line ∷ drop (i + 1) lines = drop_more lines i line below ∙ ap (λ l. l ∷ drop (i + 1) lines) (sym c.line-item.is) in
     record {
-      stands = λ opening at stood. subst (λ (m : Memory). StandsFor opening at m) (sym did.noted)
-          (stands_push opening at old did.answered line.seat line.op did.reply did.answers (c.loop-line.invariant.stands opening at stood));
+      stands = λ log stood. subst (λ (m : Memory). StandsFor log m) (sym did.noted)
+          (stands_push log old did.answered line.seat line.op did.reply did.answers (c.loop-line.invariant.stands log stood));
       asked =
           asked_then old.book.entries new.book.entries (take i lines) line (record { seat = line.seat; op = line.op; reply = did.reply }) c.args.self.now.memory.book.entries refl refl
           (ap (λ (b : Book). b.entries) book ∙ ap (λ (b : Book). b.entries ++ (record { seat = line.seat; op = line.op; reply = did.reply }) ∷ []) kept.0) c.loop-line.invariant.asked

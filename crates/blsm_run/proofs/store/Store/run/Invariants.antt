@@ -1,6 +1,5 @@
-use Rattle.std.proofs.Common.{◌≡◌, ℕ, List, ◌++◌, take, drop}
-use Rattle.blsm_model.specs.declared.key.Key.{Key}
-use Rattle.blsm_model.specs.declared.row.Value.{Value}
+use Rattle.std.proofs.Common.{◌≡◌, List, ◌++◌, take, drop}
+use Rattle.blsm_model.specs.declared.op.Write.{Write}
 use Rattle.blsm_run.specs.Rooms.{HasRoomFor}
 use Rattle.blsm_run.specs.Memory.{StandsFor}
 use Rattle.blsm_run.specs.Run.{asked, asked_in, GoesAlong}
@@ -8,7 +7,7 @@ use Rattle.blsm_run.proofs.store.Store.run.Given as goal
 
 abbrev pub invariant-loop-line : goal.invariant-loop-line
 invariant-loop-line g l = record {
-  stands : (opening : List (Key × Value)) (at : ℕ) → StandsFor opening at l.fn.self.memory → StandsFor opening at l.self.memory;
+  stands : (log : List Write) → StandsFor log l.fn.self.memory → StandsFor log l.self.memory;
   asked : asked_in l.self.memory.book.entries ≡ asked_in l.fn.self.memory.book.entries ++ asked (take l.line-index l.lines);
   along : GoesAlong g.D.Disk.state l.fn.self l.self;
   room : HasRoomFor l.self.memory.book.room (drop l.line-index l.lines);

@@ -1,0 +1,279 @@
+-- What stands where in the file that making writes, and which files are no store.
+use Rattle.std.proofs.Common.{◌≡◌, ◌⊎◌, inl, inr, ⊎_elim, ℕ, zero, suc, ◌+◌, ◌-◌, ◌*◌, ◌^◌, ◌<◌, ◌≤◌, Bool, not, true, false, List, [], ◌∷◌, ◌++◌, length, take, drop, bytes_eq, refl, sym, ◌∙◌, ap, subst, arith, append_assoc, length-append}
+use Rattle.std.specs.Int.{w32, to_be_bytes, from_be_bytes}
+use Rattle.std.proofs.lemmas.Slice.Eq.{bytes_eq-Decides}
+use Rattle.std.proofs.lemmas.List.{append-nil, drop_at, drop-drop, take-take, take-append-drop, length-replicate, take-replicate, drop-replicate, replicate-append-replicate}
+use Rattle.std.proofs.lemmas.Nat.{from_be_bytes-to_be_bytes_4}
+use Rattle.disk_trait.specs.Disk.{Torn, part, overwritten}
+use Rattle.gated_write.specs.Gated.{open_byte, IsClosed}
+use Rattle.gated_log.specs.Lane.{HasEntries, region_start}
+use Rattle.blsm_model.specs.Sizes.{Sizes, IsGeometry}
+use Rattle.blsm_model.specs.Geometry.{file_length, IsFirstFault}
+use Rattle.blsm_model.specs.declared.geometry.GeometryFault.{GeometryFault}
+use Rattle.blsm_model.specs.declared.geometry.GeometryFault.TheVariants.{Half, Ratio, Low, Quantum}
+use Rattle.store_file.specs.Layout.{superblock_text, superblock, IsStoreOf, IsStore, zeros, first_catalogue, IsMade, first_file}
+use Rattle.store_file.specs.declared.layout.TheConstants.{FIRST_CATALOGUE}
+use Rattle.store_file.specs.Making.{IsShort, IsShut, IsHalfMade}
+
+-- ---- sizes and superblocks
+
+pub length-superblock_text : (sizes : Sizes) → length (superblock_text sizes) ≡ 26
+unfolding superblock_text
+length-superblock_text sizes = refl
+
+-- as the code has it
+pub first_catalogue_is : FIRST_CATALOGUE ≡ first_catalogue
+unfolding first_catalogue
+first_catalogue_is = refl
+
+pub length-first_catalogue : length first_catalogue ≡ 84
+unfolding first_catalogue
+length-first_catalogue = refl
+
+same32 : (n m : ℕ) → n < 2 ^ 32 → m < 2 ^ 32 → to_be_bytes w32 n ≡ to_be_bytes w32 m → n ≡ m
+same32 n m ln lm e = sym (from_be_bytes-to_be_bytes_4 n ln) ∙ ap (from_be_bytes w32) e ∙ from_be_bytes-to_be_bytes_4 m lm
+
+sizes_same : (a b : Sizes) → a.half ≡ b.half → a.ratio ≡ b.ratio → a.low ≡ b.low → a.quantum ≡ b.quantum → a ≡ b
+sizes_same a b half ratio low quantum = λ i. record { half = half i; ratio = ratio i; low = low i; quantum = quantum i }
+
+-- one superblock is that of one geometry
+text_same : (a b : Sizes) → IsGeometry a → IsGeometry b → superblock_text a ≡ superblock_text b → a ≡ b
+unfolding superblock_text
+text_same a b ga gb same =
+    let ha = ga.half.1 in
+    let hb = gb.half.1 in
+    let ra = ga.ratio.1 in
+    let rb = gb.ratio.1 in
+    let la = ga.low in
+    let lb = gb.low in
+    let qa = ga.quantum.1 in
+    let qb = gb.quantum.1 in
+    sizes_same a b
+    (same32 a.half b.half (omega arith) (omega arith) (ap (λ (l : List ℕ). take 4 (drop 10 l)) same))
+    (same32 a.ratio b.ratio (omega arith) (omega arith) (ap (λ (l : List ℕ). take 4 (drop 14 l)) same))
+    (same32 a.low b.low (omega arith) (omega arith) (ap (λ (l : List ℕ). take 4 (drop 18 l)) same))
+    (same32 a.quantum b.quantum (omega arith) (omega arith) (ap (λ (l : List ℕ). take 4 (drop 22 l)) same))
+
+pub superblock_same : (a b : Sizes) → IsGeometry a → IsGeometry b → superblock open_byte a ≡ superblock open_byte b → a ≡ b
+superblock_same a b ga gb same = text_same a b ga gb (ap (drop 1) same)
+
+-- a store is one of one geometry
+pub only_sizes : (a b : Sizes) (file : List ℕ) → IsStoreOf a file → IsStoreOf b file → a ≡ b
+only_sizes a b file sa sb = superblock_same a b sa.geometry sb.geometry (sym sa.begins ∙ sb.begins)
+
+-- ---- files that are no store
+
+-- a store is longer than its first block
+pub store_length : (sizes : Sizes) → IsGeometry sizes → 4096 + 12 * 17408 ≤ file_length sizes
+store_length sizes geometry =
+    let half = geometry.half.0 in
+    omega (arith, half)
+
+pub short_no_store : (file : List ℕ) → IsShort file → IsStore file → ⊥
+short_no_store file short store =
+    let least = store_length store.0 store.1.geometry in
+    let long = store.1.long in
+    let no_longer = short.no_longer in
+    omega (arith, least, long, no_longer)
+
+pub shut_no_store : (end : ℕ) (file : List ℕ) → IsShut end file → IsStore file → ⊥
+shut_no_store end file shut store = shut.closed (sym (take-take 1 27 file (omega arith)) ∙ ap (take 1) store.1.begins)
+
+zero_is_open : ◌≡◌ {A = List ℕ} (0 ∷ []) (open_byte ∷ []) → ⊥
+zero_is_open same = cc
+
+-- the first block, of zeros
+pub block_shut : (end : ℕ) (file : List ℕ) → 4096 ≤ end → file ≡ zeros 4096 → IsShut end file
+block_shut end file fits blank = record {
+  closed = λ opened. zero_is_open (sym (ap (λ (l : List ℕ). part l 0 1) blank) ∙ opened);
+  no_longer = omega (arith, ap (length {A = ℕ}) blank, length-replicate {A = ℕ} 4096 0);
+}
+
+pub short_half : (sizes : Sizes) → IsGeometry sizes → (file : List ℕ) → IsShort file → IsHalfMade sizes file
+short_half sizes geometry file short =
+    let least = store_length sizes geometry in
+    let no_longer = short.no_longer in
+    record { store = inl (short_no_store file short); no_longer = omega (arith, least, no_longer) }
+
+pub shut_half : (sizes : Sizes) (file : List ℕ) → IsShut (file_length sizes) file → IsHalfMade sizes file
+shut_half sizes file shut = record { store = inl (shut_no_store (file_length sizes) file shut); no_longer = shut.no_longer }
+
+-- ---- the file that making writes
+
+front : ℕ → Sizes → List ℕ
+front gate sizes = superblock gate sizes ++ zeros 485 ++ first_catalogue
+
+length-front : (gate : ℕ) (sizes : Sizes) → length (front gate sizes) ≡ 596
+unfolding front superblock_text first_catalogue
+length-front gate sizes = refl
+
+as_front : (gate : ℕ) (sizes : Sizes) → first_file gate sizes ≡ front gate sizes ++ zeros (file_length sizes - 596)
+unfolding front first_file
+as_front gate sizes = refl
+
+pub length-first_file : (gate : ℕ) (sizes : Sizes) → 596 ≤ file_length sizes → length (first_file gate sizes) ≡ file_length sizes
+length-first_file gate sizes le =
+    ap (length {A = ℕ}) (as_front gate sizes)
+    ∙ omega (arith, length-append (front gate sizes) (zeros (file_length sizes - 596)), length-front gate sizes, length-replicate {A = ℕ} (file_length sizes - 596) 0)
+
+begins : (gate : ℕ) (sizes : Sizes) → part (first_file gate sizes) 0 27 ≡ superblock gate sizes
+unfolding first_file superblock_text
+begins gate sizes = refl
+
+odd : (gate : ℕ) (sizes : Sizes) → part (first_file gate sizes) 512 84 ≡ first_catalogue
+unfolding first_file superblock_text first_catalogue
+odd gate sizes = refl
+
+-- zeros behind the catalogue
+behind : (gate : ℕ) (sizes : Sizes) (at n : ℕ) → 596 ≤ at → at + n ≤ file_length sizes → part (first_file gate sizes) at n ≡ zeros n
+behind gate sizes at n le fits =
+    let place : at ≡ 596 + (at - 596) = omega arith in
+    ap (λ (l : List ℕ). part l at n) (as_front gate sizes)
+    ∙ ap (λ (k : ℕ). part (front gate sizes ++ zeros (file_length sizes - 596)) k n) place
+    ∙ ap (take n) (sym (drop-drop (at - 596) 596 (front gate sizes ++ zeros (file_length sizes - 596)))
+    ∙ ap (drop (at - 596)) (drop_at (front gate sizes) (zeros (file_length sizes - 596)) 596 (length-front gate sizes))
+    ∙ drop-replicate (at - 596) (file_length sizes - 596) 0)
+    ∙ take-replicate n (file_length sizes - 596 - (at - 596)) 0 (omega arith)
+
+zero_is_closed : ◌≡◌ {A = ℕ} 0 open_byte → ⊥
+zero_is_closed same = omega arith
+
+no_entries : (gate : ℕ) (sizes : Sizes) → IsGeometry sizes → (lane : ℕ) → lane < 3 → HasEntries sizes lane [] (first_file gate sizes)
+no_entries gate sizes geometry lane below =
+    let half = geometry.half.0 in
+    let offset : 4 * sizes.half * lane ≤ 4 * sizes.half * 2 = grind arith in
+    record {
+      each = λ k d below. absurd (omega (arith, below));
+      gate = 0;
+      closed = zero_is_closed;
+      inside = omega (arith, half);
+      begins = behind gate sizes (region_start sizes lane) 1 (omega arith) (omega (arith, half, offset));
+    }
+
+pub first_file_made : (sizes : Sizes) → IsGeometry sizes → IsMade sizes (first_file open_byte sizes)
+first_file_made sizes geometry =
+    let least = store_length sizes geometry in
+    record {
+      store = record { geometry = geometry; long = length-first_file open_byte sizes (omega (arith, least)); begins = begins open_byte sizes };
+      slots = record { odd = odd open_byte sizes; even = behind open_byte sizes 1024 84 (omega arith) (omega (arith, least)) };
+      lanes = no_entries open_byte sizes geometry;
+    }
+
+-- ---- how it is written
+
+drop_nothing : (n : ℕ) → drop {A = ℕ} n [] ≡ []
+drop_nothing zero = refl
+drop_nothing (suc n) = refl
+
+-- over an empty file
+pub overwritten_empty : (file bytes : List ℕ) → length file ≡ 0 → overwritten file 0 bytes ≡ bytes
+overwritten_empty [] bytes none = ap (λ (l : List ℕ). bytes ++ l) (drop_nothing (0 + length bytes)) ∙ append-nil bytes
+overwritten_empty (b ∷ file) bytes none = absurd (omega (arith, none))
+
+-- zeros behind zeros
+pub zeros_more : (at n : ℕ) → overwritten (zeros at) at (zeros n) ≡ zeros (at + n)
+zeros_more at n =
+    let long = length-replicate {A = ℕ} at 0 in
+    ap (λ (l : List ℕ). l ++ zeros n ++ drop (at + length (zeros n)) (zeros at)) (take-replicate at at 0 (omega arith))
+    ∙ ap (λ (l : List ℕ). zeros at ++ zeros n ++ l) (drop-replicate (at + length (zeros n)) at 0 ∙ ap zeros (let none : at - (at + length (zeros n)) ≡ 0 = omega arith in none))
+    ∙ ap (λ (l : List ℕ). l ++ []) (replicate-append-replicate at n 0)
+    ∙ append-nil (zeros (at + n))
+
+over_front : (text catalogue tail : List ℕ) → length text ≡ 26
+    → take 1 (zeros 512 ++ catalogue ++ tail) ++ text ++ drop (1 + length text) (zeros 512 ++ catalogue ++ tail) ≡ (0 ∷ text) ++ zeros 485 ++ catalogue ++ tail
+over_front text catalogue tail long =
+    ap (λ (n : ℕ). take 1 (zeros 512 ++ catalogue ++ tail) ++ text ++ drop (1 + n) (zeros 512 ++ catalogue ++ tail)) long
+    ∙ sym (append_assoc (0 ∷ text) (zeros 485 ++ catalogue) tail)
+    ∙ ap (λ (l : List ℕ). l ++ tail) (sym (append_assoc (0 ∷ text) (zeros 485) catalogue))
+
+pub parts_written : (sizes : Sizes) (file : List ℕ) → 596 ≤ file_length sizes → file ≡ zeros (file_length sizes)
+    → overwritten (overwritten file 512 first_catalogue) 1 (superblock_text sizes) ≡ first_file 0 sizes
+unfolding first_file
+parts_written sizes file le blank =
+    ap (λ (l : List ℕ). overwritten (overwritten l 512 first_catalogue) 1 (superblock_text sizes)) blank
+    ∙ ap (λ (l : List ℕ). overwritten l 1 (superblock_text sizes)) placed
+    ∙ over_front (superblock_text sizes) first_catalogue (zeros (file_length sizes - 596)) (length-superblock_text sizes)
+  where
+    placed : overwritten (zeros (file_length sizes)) 512 first_catalogue ≡ zeros 512 ++ first_catalogue ++ zeros (file_length sizes - 596)
+    placed =
+        ap (λ (l : List ℕ). l ++ first_catalogue ++ drop (512 + length first_catalogue) (zeros (file_length sizes))) (take-replicate 512 (file_length sizes) 0 (omega arith))
+        ∙ ap (λ (l : List ℕ). zeros 512 ++ first_catalogue ++ l)
+        (ap (λ (n : ℕ). drop (512 + n) (zeros (file_length sizes))) length-first_catalogue ∙ drop-replicate 596 (file_length sizes) 0)
+
+pub gate_opened : (sizes : Sizes) → overwritten (first_file 0 sizes) 0 (open_byte ∷ []) ≡ first_file open_byte sizes
+unfolding first_file
+gate_opened sizes = refl
+
+-- the gate is open, or it isn't
+gate_cases : (file : List ℕ) → (part file 0 1 ≡ open_byte ∷ []) ⊎ IsClosed 0 file
+gate_cases file =
+    elim (bytes_eq (part file 0 1) (open_byte ∷ [])) as (λ b. bytes_eq (part file 0 1) (open_byte ∷ []) ≡ b → (part file 0 1 ≡ open_byte ∷ []) ⊎ IsClosed 0 file) [
+      | true ↦ λ same. inl ((bytes_eq-Decides (part file 0 1) (open_byte ∷ [])).0 same)
+      | false ↦ λ other. inr (λ same. let is = (bytes_eq-Decides (part file 0 1) (open_byte ∷ [])).1 same in absurd (cc (other, is)))
+    ] refl
+
+behind_gate : (gate : ℕ) (sizes : Sizes) → drop 1 (first_file 0 sizes) ≡ drop 1 (first_file gate sizes)
+unfolding first_file
+behind_gate gate sizes = refl
+
+before_gate : (gate : ℕ) (sizes : Sizes) → first_file gate sizes ≡ gate ∷ [] ++ drop 1 (first_file gate sizes)
+unfolding first_file
+before_gate gate sizes = refl
+
+-- with a torn gate the file is no store, or the one that was to be made
+pub gate_torn : (sizes : Sizes) → IsGeometry sizes → (file : List ℕ) → Torn 0 1 (first_file 0 sizes) file → IsHalfMade sizes file
+gate_torn sizes geometry file torn =
+    let least = store_length sizes geometry in
+    let long = length-first_file 0 sizes (omega (arith, least)) in
+    let fits : length file ≤ file_length sizes = omega (arith, torn.no_longer, long, least) in
+    ⊎_elim
+    (λ (opened : part file 0 1 ≡ open_byte ∷ []).
+    let same : file ≡ first_file open_byte sizes =
+    sym (take-append-drop 1 file) ∙ (λ i. opened i ++ (torn.after ∙ behind_gate open_byte sizes) i) ∙ sym (before_gate open_byte sizes) in
+    let made : IsHalfMade sizes file = record { store = inr (subst (IsMade sizes) (sym same) (first_file_made sizes geometry)); no_longer = fits } in
+    made)
+    (λ (shut : IsClosed 0 file). shut_half sizes file (record { closed = shut; no_longer = fits }))
+    (gate_cases file)
+
+-- ---- how it is read
+
+-- the numbers that a superblock says
+abbrev pub sizes_in : List ℕ → Sizes
+sizes_in block = record {
+  half = from_be_bytes w32 (part block 11 4);
+  ratio = from_be_bytes w32 (part block 15 4);
+  low = from_be_bytes w32 (part block 19 4);
+  quantum = from_be_bytes w32 (part block 23 4);
+}
+
+pub sizes_read : (block : List ℕ) (sizes : Sizes) → IsGeometry sizes → block ≡ superblock open_byte sizes → sizes_in block ≡ sizes
+unfolding superblock_text
+sizes_read block sizes geometry same =
+    let half = geometry.half.1 in
+    let ratio = geometry.ratio.1 in
+    let low = geometry.low in
+    let quantum = geometry.quantum.1 in
+    ap sizes_in same
+    ∙ sizes_same (sizes_in (superblock open_byte sizes)) sizes
+    (from_be_bytes-to_be_bytes_4 sizes.half (omega arith))
+    (from_be_bytes-to_be_bytes_4 sizes.ratio (omega arith))
+    (from_be_bytes-to_be_bytes_4 sizes.low (omega arith))
+    (from_be_bytes-to_be_bytes_4 sizes.quantum (omega arith))
+
+-- numbers in range have no fault
+pub no_fault : (sizes : Sizes) (fault : GeometryFault) → IsGeometry sizes → IsFirstFault sizes fault → ⊥
+no_fault sizes Half geometry wrong = wrong geometry.half
+no_fault sizes Ratio geometry wrong = wrong.1 geometry.ratio
+no_fault sizes Low geometry wrong = wrong.2 geometry.low
+no_fault sizes Quantum geometry wrong = wrong.3 geometry.quantum
+
+not_twice : (b : Bool) → false ≡ not b → b ≡ true
+not_twice true h = refl
+not_twice false h = absurd cc
+
+-- what a comparison of bytes says
+pub bytes_same : (a b : List ℕ) → false ≡ not (bytes_eq a b) → a ≡ b
+bytes_same a b h = (bytes_eq-Decides a b).0 (not_twice (bytes_eq a b) h)
+
+pub bytes_differ : (a b : List ℕ) → true ≡ not (bytes_eq a b) → a ≡ b → ⊥
+bytes_differ a b h same = let is = (bytes_eq-Decides a b).1 same in cc

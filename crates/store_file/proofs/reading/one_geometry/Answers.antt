@@ -1,0 +1,5 @@
+use Rattle.store_file.proofs.LayoutLemmas.{only_sizes}
+use Rattle.store_file.proofs.reading.one_geometry.Goals as goal
+
+pub returns : goal.returns
+returns c = only_sizes

@@ -1,0 +1,205 @@
+//! Making: a disk of length 0 becomes a store that has no keys.
+ghost use Rattle.std.specs.Prelude.{◌≡◌, ◌⊎◌, ◌≤◌, ◌<◌, ◌+◌, ◌∷◌, [], List, ℕ, length, IsTrue, IsErr, OnOk, IfErr};
+ghost use Rattle.refusal.specs.Count.{HasRisen};
+ghost use Rattle.disk_trait.specs.Disk.{GoesOn, IsSure, MarksSync, Only, Torn, overwritten};
+ghost use Rattle.disk_trait.specs.Moments.{LeavesOnly, LeavesOnlyOnceSynced};
+ghost use Rattle.gated_write.specs.Gated.{open_byte};
+ghost use Rattle.blsm_model.specs.Geometry.{file_length};
+ghost use Rattle.store_file.specs.Layout.{zeros, first_catalogue, superblock_text, first_file, IsMade};
+ghost use Rattle.store_file.specs.Making.{IsShort, IsShut, IsHalfMade, IsOldOr, SyncsLater, HasSynced, IsUnwritten, HasCause};
+
+use crate::layout::{BLOCK, FIRST_CATALOGUE, ODD_SLOT, SLOT_LEN, length_of, superblock_text};
+use blsm_model::Geometry;
+use disk_trait::Disk;
+use gated_write::OPEN;
+use refusal::Failed;
+use thiserror::Error;
+
+/// Why a disk was not made into a store.
+#[derive(Clone, Copy, PartialEq, Eq, Debug, Drop, Error)]
+pub enum MakeFault {
+    /// It has so many bytes already. Nothing was written.
+    #[error("the disk has {0} bytes already")]
+    NotEmpty(u64),
+    /// A call of the disk failed. It may hold any part of a store, and is one only where it was made in whole.
+    #[error("the disk failed")]
+    Failed,
+}
+
+impl From<Failed> for MakeFault {
+    ghost use Rattle.store_file.specs.declared.making.MakeFault.{MakeFault};
+
+    ghost from_gives = { λ _ fault. fault ≡ MakeFault.Failed };
+
+    fn from(_failed: Failed) -> MakeFault {
+        MakeFault::Failed
+    }
+}
+
+const BLOCK_LEN: usize = BLOCK as usize;
+
+static ZEROS: [u8; BLOCK_LEN] = [0; BLOCK_LEN];
+
+// So many zeros, at most a block.
+fn zero_bytes(count: u64) -> &'static [u8]
+    requires { count ≤ BLOCK }
+    ensures value { result.now ≡ zeros count }
+    ensures len { length result.now ≡ count }
+{
+    &ZEROS[..count as usize]
+}
+
+// Writes the first block, of zeros, over the empty file alone.
+//
+// Until a sync, a write may leave any bytes in its range, a whole store of other keys among them. So the file stays shorter
+// than any store until its gate is known to be closed, and it begins with a sync, since a disk that reads as empty may still
+// have the bytes of an earlier write that failed.
+fn write_first_block<D: Disk>(disk: &mut D) -> Result<(), Failed>
+    requires { IsTrue (D.state disk.old).tells_bytes → length (D.state disk.old).bytes ≡ 0 }
+    ensures each { IsTrue (D.state disk.old).is_honest
+        → LeavesOnly (D.state disk.old) (D.state disk.new) (IsOldOr (D.state disk.old).images IsShort) }
+    ensures once_synced { IsTrue (D.state disk.old).is_honest
+        → LeavesOnlyOnceSynced (D.state disk.old) (D.state disk.new) IsShort }
+    ensures unsynced { IsTrue (D.state disk.old).is_honest → IsTrue (D.state disk.old).tells_images
+        → IsUnwritten (D.state disk.old) (D.state disk.new) }
+    ensures synced { OnOk result (IsTrue (D.state disk.old).tells_images → HasSynced (D.state disk.old) (D.state disk.new)) }
+    ensures written { OnOk result (IsTrue (D.state disk.old).is_honest → (D.state disk.new).bytes ≡ zeros BLOCK) }
+    ensures durable { OnOk result (IsTrue (D.state disk.old).is_honest → Only (D.state disk.new).bytes (D.state disk.new).images) }
+    ensures length { OnOk result (IsTrue (D.state disk.old).tells_bytes → length (D.state disk.new).bytes ≡ BLOCK) }
+    ensures goes_on { GoesOn (D.state disk.old) (D.state disk.new) }
+    ensures sure { IsSure BLOCK (D.state disk.old) (D.state disk.new) }
+    ensures stands { OnOk result ((D.state disk.new).faults ≡ (D.state disk.old).faults) }
+    ensures failed { IsErr result → HasRisen (D.state disk.old).faults (D.state disk.new).faults }
+{
+    disk.sync()?;
+    disk.write(0, zero_bytes(BLOCK))?;
+    disk.sync()?;
+    Ok(())
+}
+
+// Writes zeros behind the first block, up to this length in bytes.
+fn write_zeros<D: Disk>(disk: &mut D, end: u64) -> Result<(), Failed>
+    requires start { BLOCK ≤ end }
+    requires block { IsTrue (D.state disk.old).tells_bytes → length (D.state disk.old).bytes ≡ BLOCK }
+    ensures each { IsTrue (D.state disk.old).is_honest → ((c : List ℕ) → (D.state disk.old).images c → IsShut end c)
+        → LeavesOnly (D.state disk.old) (D.state disk.new) (IsShut end) }
+    ensures written { OnOk result (IsTrue (D.state disk.old).is_honest → (D.state disk.old).bytes ≡ zeros BLOCK
+        → (D.state disk.new).bytes ≡ zeros end) }
+    ensures length { OnOk result (IsTrue (D.state disk.old).tells_bytes → length (D.state disk.new).bytes ≡ end) }
+    ensures no_sync { MarksSync ⊥ (D.state disk.old) (D.state disk.new) }
+    ensures goes_on { GoesOn (D.state disk.old) (D.state disk.new) }
+    ensures sure { IsSure end (D.state disk.old) (D.state disk.new) }
+    ensures stands { OnOk result ((D.state disk.new).faults ≡ (D.state disk.old).faults) }
+    ensures failed { IsErr result → HasRisen (D.state disk.old).faults (D.state disk.new).faults }
+{
+    let mut at = BLOCK;
+    while at < end {
+        let count = (end - at).min(BLOCK);
+        disk.write(at, zero_bytes(count))?;
+        at += count;
+    }
+    Ok(())
+}
+
+// Writes the first catalogue, and what the superblock says behind its gate.
+fn write_parts<D: Disk>(disk: &mut D, geometry: &Geometry) -> Result<(), Failed>
+    requires room { BLOCK ≤ file_length geometry.now }
+    requires blank { IsTrue (D.state disk.old).tells_bytes → length (D.state disk.old).bytes ≡ file_length geometry.now }
+    ensures each { IsTrue (D.state disk.old).is_honest
+        → ((c : List ℕ) → (D.state disk.old).images c → IsShut (file_length geometry.now) c)
+        → LeavesOnly (D.state disk.old) (D.state disk.new) (IsShut (file_length geometry.now)) }
+    ensures written { OnOk result (IsTrue (D.state disk.old).is_honest
+        → (D.state disk.old).bytes ≡ zeros (file_length geometry.now) → (D.state disk.new).bytes ≡ first_file 0 geometry.now) }
+    ensures length { OnOk result (IsTrue (D.state disk.old).tells_bytes
+        → length (D.state disk.new).bytes ≡ file_length geometry.now) }
+    ensures no_sync { MarksSync ⊥ (D.state disk.old) (D.state disk.new) }
+    ensures goes_on { GoesOn (D.state disk.old) (D.state disk.new) }
+    ensures sure { IsSure (ODD_SLOT + SLOT_LEN) (D.state disk.old) (D.state disk.new) }
+    ensures stands { OnOk result ((D.state disk.new).faults ≡ (D.state disk.old).faults) }
+    ensures failed { IsErr result → HasRisen (D.state disk.old).faults (D.state disk.new).faults }
+{
+    disk.write(ODD_SLOT, &FIRST_CATALOGUE)?;
+    disk.write(1, &superblock_text(geometry))?;
+    Ok(())
+}
+
+// Makes all that was written durable, opens the gate, and makes that durable.
+fn open_gate<D: Disk>(disk: &mut D) -> Result<(), Failed>
+    requires { IsTrue (D.state disk.old).tells_bytes → 0 < length (D.state disk.old).bytes }
+    ensures each { IsTrue (D.state disk.old).is_honest → LeavesOnly (D.state disk.old) (D.state disk.new)
+        (IsOldOr (D.state disk.old).images (Torn 0 1 (D.state disk.old).bytes)) }
+    ensures written { OnOk result (IsTrue (D.state disk.old).is_honest
+        → (D.state disk.new).bytes ≡ overwritten (D.state disk.old).bytes 0 (open_byte ∷ [])) }
+    ensures durable { OnOk result (IsTrue (D.state disk.old).is_honest → Only (D.state disk.new).bytes (D.state disk.new).images) }
+    ensures length { OnOk result (IsTrue (D.state disk.old).tells_bytes
+        → length (D.state disk.new).bytes ≡ length (D.state disk.old).bytes) }
+    ensures syncs { SyncsLater (D.state disk.old) (D.state disk.new) }
+    ensures goes_on { GoesOn (D.state disk.old) (D.state disk.new) }
+    ensures sure { IsSure 1 (D.state disk.old) (D.state disk.new) }
+    ensures stands { OnOk result ((D.state disk.new).faults ≡ (D.state disk.old).faults) }
+    ensures failed { IsErr result → HasRisen (D.state disk.old).faults (D.state disk.new).faults }
+{
+    disk.sync()?;
+    disk.write(0, &[OPEN])?;
+    disk.sync()?;
+    Ok(())
+}
+
+// Writes the store with the superblock's gate closed, and opens that gate.
+fn write_store<D: Disk>(disk: &mut D, geometry: &Geometry) -> Result<(), Failed>
+    requires { IsTrue (D.state disk.old).tells_bytes → length (D.state disk.old).bytes ≡ 0 }
+    ensures each { IsTrue (D.state disk.old).is_honest → LeavesOnly (D.state disk.old) (D.state disk.new)
+        (IsOldOr (D.state disk.old).images (IsHalfMade geometry.now)) }
+    ensures once_synced { IsTrue (D.state disk.old).is_honest
+        → LeavesOnlyOnceSynced (D.state disk.old) (D.state disk.new) (IsHalfMade geometry.now) }
+    ensures unsynced { IsTrue (D.state disk.old).is_honest → IsTrue (D.state disk.old).tells_images
+        → IsUnwritten (D.state disk.old) (D.state disk.new) }
+    ensures written { OnOk result (IsTrue (D.state disk.old).is_honest
+        → (D.state disk.new).bytes ≡ first_file open_byte geometry.now) }
+    ensures made { OnOk result (IsTrue (D.state disk.old).is_honest → IsMade geometry.now (D.state disk.new).bytes) }
+    ensures durable { OnOk result (IsTrue (D.state disk.old).is_honest → Only (D.state disk.new).bytes (D.state disk.new).images) }
+    ensures length { OnOk result (IsTrue (D.state disk.old).tells_bytes
+        → length (D.state disk.new).bytes ≡ file_length geometry.now) }
+    ensures goes_on { GoesOn (D.state disk.old) (D.state disk.new) }
+    ensures sure { IsSure (file_length geometry.now) (D.state disk.old) (D.state disk.new) }
+    ensures stands { OnOk result ((D.state disk.new).faults ≡ (D.state disk.old).faults) }
+    ensures failed { IsErr result → HasRisen (D.state disk.old).faults (D.state disk.new).faults }
+{
+    let length = length_of(geometry);
+    write_first_block(disk)?;
+    write_zeros(disk, length)?;
+    write_parts(disk, geometry)?;
+    open_gate(disk)?;
+    Ok(())
+}
+
+/// Makes a store of this geometry, with no keys, out of a disk of length 0.
+///
+/// All is written with the superblock's gate closed and synced before that gate is opened, so a crash leaves no store, or the
+/// store that was to be made. After an `Err` the disk may hold any part of it.
+pub fn make_store<D: Disk>(disk: &mut D, geometry: &Geometry) -> Result<(), MakeFault>
+    ensures each { IsTrue (D.state disk.old).is_honest → LeavesOnly (D.state disk.old) (D.state disk.new)
+        (IsOldOr (D.state disk.old).images (IsHalfMade geometry.now)) }
+    ensures once_synced { IsTrue (D.state disk.old).is_honest
+        → LeavesOnlyOnceSynced (D.state disk.old) (D.state disk.new) (IsHalfMade geometry.now) }
+    ensures unsynced { IsTrue (D.state disk.old).is_honest → IsTrue (D.state disk.old).tells_images
+        → IsUnwritten (D.state disk.old) (D.state disk.new) }
+    ensures written { OnOk result (IsTrue (D.state disk.old).is_honest
+        → (D.state disk.new).bytes ≡ first_file open_byte geometry.now) }
+    ensures made { OnOk result (IsTrue (D.state disk.old).is_honest → IsMade geometry.now (D.state disk.new).bytes) }
+    ensures durable { OnOk result (IsTrue (D.state disk.old).is_honest → Only (D.state disk.new).bytes (D.state disk.new).images) }
+    ensures was_empty { OnOk result (IsTrue (D.state disk.old).tells_bytes → length (D.state disk.old).bytes ≡ 0) }
+    ensures length { OnOk result (IsTrue (D.state disk.old).tells_bytes
+        → length (D.state disk.new).bytes ≡ file_length geometry.now) }
+    ensures goes_on { GoesOn (D.state disk.old) (D.state disk.new) }
+    ensures sure { IsSure (file_length geometry.now) (D.state disk.old) (D.state disk.new) }
+    ensures stands { OnOk result ((D.state disk.new).faults ≡ (D.state disk.old).faults) }
+    ensures cause { IfErr result (HasCause (D.state disk.old) (D.state disk.new)) }
+{
+    let length = disk.len()?;
+    if length > 0 {
+        return Err(MakeFault::NotEmpty(length));
+    }
+    write_store(disk, geometry)?;
+    Ok(())
+}

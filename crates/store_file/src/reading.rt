@@ -1,0 +1,155 @@
+//! Reading: which store a disk is, and whether its catalogue slots are as at making.
+ghost use Rattle.std.specs.Prelude.{◌≡◌, ◌≤◌, ◌<◌, ◌+◌, List, ℕ, length, IsTrue, IfSome, IfNone, IfOk};
+ghost use Rattle.std.specs.Int.{w32, from_be_bytes};
+ghost use Rattle.disk_trait.specs.Disk.{GoesOn, IsSure, MarksSync, ChangesNothing, part};
+ghost use Rattle.disk_trait.specs.Moments.{LeavesOnly};
+ghost use Rattle.gated_write.specs.Gated.{open_byte};
+ghost use Rattle.blsm_model.specs.Sizes.{Sizes, IsGeometry};
+ghost use Rattle.blsm_model.specs.Geometry.{file_length};
+ghost use Rattle.store_file.specs.Layout.{superblock, HasFirstSlots, IsStoreOf};
+ghost use Rattle.store_file.specs.Reading.{Tells, TellsGeometry, TellsSlots, HasReadCause};
+
+use crate::layout::{
+    EVEN_SLOT, FIRST_CATALOGUE, HALF_AT, LOW_AT, NO_CATALOGUE, ODD_SLOT, QUANTUM_AT, RATIO_AT,
+    SLOT_LEN, SUPERBLOCK_LEN, superblock,
+};
+use blsm_model::Geometry;
+use disk_trait::Disk;
+use gated_write::OPEN;
+use refusal::Failed;
+use thiserror::Error;
+
+/// Why a disk was not read as a store.
+#[derive(Clone, Copy, PartialEq, Eq, Debug, Drop, Error)]
+pub enum StoreBroken {
+    /// A call of the disk failed.
+    #[error("the disk failed")]
+    Fault,
+    /// The superblock isn't one, or the length isn't that of its geometry.
+    #[error("the disk is not a store")]
+    NotAStore,
+    /// The catalogue slots aren't as at making.
+    #[error("the catalogue slots are damaged")]
+    DamagedSlots,
+}
+
+impl From<Failed> for StoreBroken {
+    ghost use Rattle.store_file.specs.declared.reading.StoreBroken.{StoreBroken};
+
+    ghost from_gives = { λ _ broken. broken ≡ StoreBroken.Fault };
+
+    fn from(_failed: Failed) -> StoreBroken {
+        StoreBroken::Fault
+    }
+}
+
+// The number of four bytes at a place.
+fn number_at(block: &[u8; SUPERBLOCK_LEN], at: usize) -> u64
+    requires { at + 4 ≤ SUPERBLOCK_LEN }
+    ensures { result ≡ from_be_bytes w32 (part block.now at 4) }
+{
+    let mut bytes = [0; 4];
+    bytes.copy_from_slice(&block[at..at + 4]);
+    u64::from(u32::from_be_bytes(bytes))
+}
+
+// The geometry whose superblock this is, if there is one.
+fn geometry_of(block: &[u8; SUPERBLOCK_LEN]) -> Option<Geometry>
+    ensures found { IfSome result (λ sizes. IsGeometry sizes × (block.now ≡ superblock open_byte sizes)) }
+    ensures none { IfNone result ((sizes : Sizes) → IsGeometry sizes → block.now ≡ superblock open_byte sizes → ⊥) }
+{
+    let half = number_at(block, HALF_AT);
+    let ratio = number_at(block, RATIO_AT);
+    let low = number_at(block, LOW_AT);
+    let quantum = number_at(block, QUANTUM_AT);
+    let Ok(geometry) = Geometry::new(half, ratio, low, quantum) else {
+        return None;
+    };
+    if *block == superblock(OPEN, &geometry) {
+        Some(geometry)
+    } else {
+        None
+    }
+}
+
+// Reads which geometry the store on a disk has, by its superblock and its length.
+fn read_geometry<D: Disk>(disk: &mut D) -> Result<Geometry, StoreBroken>
+    ensures tells { IsTrue (D.state disk.old).is_honest → TellsGeometry (D.state disk.old).bytes result }
+    ensures length { IfOk result (λ sizes. IsTrue (D.state disk.old).tells_bytes
+        → length (D.state disk.old).bytes ≡ file_length sizes) }
+    ensures fits { IfOk result IsGeometry }
+    ensures cause { HasReadCause (D.state disk.old) (D.state disk.new) result }
+    ensures same { ChangesNothing (D.state disk.old) (D.state disk.new) }
+    ensures each { IsTrue (D.state disk.old).is_honest
+        → LeavesOnly (D.state disk.old) (D.state disk.new) (D.state disk.old).images }
+    ensures no_sync { MarksSync ⊥ (D.state disk.old) (D.state disk.new) }
+    ensures goes_on { GoesOn (D.state disk.old) (D.state disk.new) }
+    ensures sure { IsSure SUPERBLOCK_LEN (D.state disk.old) (D.state disk.new) }
+{
+    let length = disk.len()?;
+    if length < SUPERBLOCK_LEN as u64 {
+        return Err(StoreBroken::NotAStore);
+    }
+    let mut block = [0; SUPERBLOCK_LEN];
+    disk.read(0, &mut block)?;
+    let Some(geometry) = geometry_of(&block) else {
+        return Err(StoreBroken::NotAStore);
+    };
+    if length == geometry.length() {
+        Ok(geometry)
+    } else {
+        Err(StoreBroken::NotAStore)
+    }
+}
+
+// Reads whether the catalogue slots are as at making.
+fn check_slots<D: Disk>(disk: &mut D) -> Result<(), StoreBroken>
+    requires { IsTrue (D.state disk.old).tells_bytes → EVEN_SLOT + SLOT_LEN ≤ length (D.state disk.old).bytes }
+    ensures tells { IsTrue (D.state disk.old).is_honest → TellsSlots (D.state disk.old).bytes result }
+    ensures cause { HasReadCause (D.state disk.old) (D.state disk.new) result }
+    ensures same { ChangesNothing (D.state disk.old) (D.state disk.new) }
+    ensures each { IsTrue (D.state disk.old).is_honest
+        → LeavesOnly (D.state disk.old) (D.state disk.new) (D.state disk.old).images }
+    ensures no_sync { MarksSync ⊥ (D.state disk.old) (D.state disk.new) }
+    ensures goes_on { GoesOn (D.state disk.old) (D.state disk.new) }
+    ensures sure { IsSure (EVEN_SLOT + SLOT_LEN) (D.state disk.old) (D.state disk.new) }
+{
+    let mut odd = [0; SLOT_LEN];
+    disk.read(ODD_SLOT, &mut odd)?;
+    let mut even = [0; SLOT_LEN];
+    disk.read(EVEN_SLOT, &mut even)?;
+    if odd != FIRST_CATALOGUE {
+        return Err(StoreBroken::DamagedSlots);
+    }
+    if even != NO_CATALOGUE {
+        return Err(StoreBroken::DamagedSlots);
+    }
+    Ok(())
+}
+
+/// Reads which geometry the store on a disk has. Its superblock and its length are looked at first, then its catalogue slots,
+/// of which each of the 84 bytes must be as at making. Nothing is read past the end.
+///
+/// No answer changes what the disk holds.
+pub fn read_store<D: Disk>(disk: &mut D) -> Result<Geometry, StoreBroken>
+    ensures tells { IsTrue (D.state disk.old).is_honest → Tells (D.state disk.old).bytes result }
+    ensures length { IfOk result (λ sizes. IsTrue (D.state disk.old).tells_bytes
+        → length (D.state disk.old).bytes ≡ file_length sizes) }
+    ensures fits { IfOk result IsGeometry }
+    ensures cause { HasReadCause (D.state disk.old) (D.state disk.new) result }
+    ensures same { ChangesNothing (D.state disk.old) (D.state disk.new) }
+    ensures each { IsTrue (D.state disk.old).is_honest
+        → LeavesOnly (D.state disk.old) (D.state disk.new) (D.state disk.old).images }
+    ensures no_sync { MarksSync ⊥ (D.state disk.old) (D.state disk.new) }
+    ensures goes_on { GoesOn (D.state disk.old) (D.state disk.new) }
+    ensures sure { IsSure (EVEN_SLOT + SLOT_LEN) (D.state disk.old) (D.state disk.new) }
+{
+    let geometry = read_geometry(disk)?;
+    check_slots(disk)?;
+    Ok(geometry)
+}
+
+/// A file is a store of one geometry at most.
+pub fn one_geometry()
+    ensures { (a b : Sizes) (file : List ℕ) → IsStoreOf a file → IsStoreOf b file → a ≡ b }
+{}
