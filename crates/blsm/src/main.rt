@@ -1,14 +1,19 @@
 //! The program: it makes the real streams and a shelf in memory with one empty disk named `mem`, and makes the one call.
 #![tactic(auto)]
 
+ghost use Rattle.blsm_run.specs.Outcome.{Tells, no_memory};
+
 use blsm_model::NoGate;
 use blsm_run::{Status, blsm_run};
 use disk_mem::{MemDisk, MemShelf};
 use real_edge::{StdSink, StdSource};
-use refusal::NoMemory;
+use refusal::{Failed, NoMemory};
 use std::alloc::Global;
 use std::env;
+use std::io::ErrorKind;
 use std::process::ExitCode;
+use std::rt::Env;
+use text_io::{Sink, write_all};
 
 // What the disk has room for, in bytes, and of how many it keeps a record: making a store writes 23,511,040.
 const DISK_LIMIT: u64 = 1 << 25;
@@ -25,19 +30,37 @@ fn shelf(alloc: Global) -> Result<MemShelf, NoMemory> {
     Ok(shelf)
 }
 
+// The words of the command line. Where one is no text there are none, and the call refuses them.
+fn words<R: Env + Alloc<A = Global>>(rt: &R, alloc: Global) -> Result<Vec<String>, NoMemory> {
+    match env::args(rt) {
+        Ok(args) => Ok(args.collect(alloc)?),
+        Err(fault) if fault.kind() == ErrorKind::OutOfMemory => Err(NoMemory),
+        Err(_) => Ok(Vec::new(alloc)),
+    }
+}
+
+// Want of memory before the call: the line and the status that the call has for it.
+fn tell_no_memory<K: Sink>(sink: &mut K) -> Status
+    ensures { Tells (record {
+      held = K.held sink.old;
+      held_after = K.held sink.new;
+      faults = K.faults sink.old;
+      faults_after = K.faults sink.new;
+    }) no_memory result }
+{
+    match write_all(sink, b"no memory\n") {
+        Ok(()) => Status::NoMemory,
+        Err(Failed) => Status::SinkFault,
+    }
+}
+
 fn main(rt: HostRuntime) -> ExitCode {
     let alloc = rt.alloc();
-    let Ok(args) = env::args(&rt) else {
-        return ExitCode::from(Status::Usage.code());
-    };
-    let Ok(words) = args.collect::<Vec<String>>(alloc) else {
-        return ExitCode::from(Status::NoMemory.code());
-    };
-    let Ok(mut shelf) = shelf(alloc) else {
-        return ExitCode::from(Status::NoMemory.code());
+    let mut sink = StdSink::new(rt.stdout());
+    let (Ok(words), Ok(mut shelf)) = (words(&rt, alloc), shelf(alloc)) else {
+        return ExitCode::from(tell_no_memory(&mut sink).code());
     };
     let mut source = StdSource::new(rt.stdin());
-    let mut sink = StdSink::new(rt.stdout());
     let status = blsm_run(
         &rt,
         alloc,

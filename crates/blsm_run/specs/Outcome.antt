@@ -6,7 +6,7 @@ use Rattle.blsm_model.specs.declared.history.Entry.{Entry}
 use Rattle.blsm_model.specs.declared.history.Totals.{Totals}
 use Rattle.blsm_model.specs.Printed.{history_text}
 use Rattle.blsm_run.specs.declared.status.Status.{Status}
-use Rattle.blsm_run.specs.declared.status.Status.TheVariants.{Done, Usage, BadLine, TooBig, NotEmpty, DiskFault, SourceFault, SinkFault, NoMemory}
+use Rattle.blsm_run.specs.declared.status.Status.TheVariants.{Done, Usage, BadLine, TooBig, NotAStore, NotEmpty, Damaged, DiskFault, SourceFault, SinkFault, NoMemory}
 
 -- what a run leaves to be printed: the charge at the opening, the history, the quanta of each entry, the totals
 pub record Run : Type 0 where
@@ -26,6 +26,20 @@ pub data Outcome : Type 0 where
   no_memory : Outcome
   -- the script was run, and whether the disk's count of faults rose in it
   ran : Run → Bool → Outcome
+
+-- the exit status
+abbrev pub code_of : Status → ℕ
+code_of Done = 0
+code_of Usage = 1
+code_of BadLine = 2
+code_of TooBig = 3
+code_of NotAStore = 4
+code_of NotEmpty = 5
+code_of Damaged = 6
+code_of DiskFault = 7
+code_of SourceFault = 8
+code_of SinkFault = 9
+code_of NoMemory = 10
 
 abbrev pub status_of : Outcome → Status
 status_of usage = Usage

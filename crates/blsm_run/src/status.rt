@@ -1,4 +1,5 @@
 //! How a call ends.
+ghost use Rattle.std.specs.Prelude.{◌≡◌};
 
 /// How a call ends. The numbers are the exit statuses.
 #[derive(Clone, Copy, Debug, PartialEq, Eq)]
@@ -28,8 +29,12 @@ pub enum Status {
 }
 
 impl Status {
+    ghost use Rattle.blsm_run.specs.Outcome.{code_of};
+
     /// The exit status.
-    pub fn code(self) -> u8 {
+    pub fn code(self) -> u8
+        ensures { result ≡ code_of self }
+    {
         self as u8
     }
 }

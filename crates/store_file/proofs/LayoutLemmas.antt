@@ -1,6 +1,6 @@
 -- What stands where in the file that making writes, and which files are no store.
-use Rattle.std.proofs.Common.{◌≡◌, ◌⊎◌, inl, inr, ⊎_elim, ℕ, zero, suc, ◌+◌, ◌-◌, ◌*◌, ◌^◌, ◌<◌, ◌≤◌, Bool, not, true, false, List, [], ◌∷◌, ◌++◌, length, take, drop, bytes_eq, refl, sym, ◌∙◌, ap, subst, arith, append_assoc, length-append}
-use Rattle.std.specs.Int.{w32, to_be_bytes, from_be_bytes}
+use Rattle.std.proofs.Common.{◌≡◌, ◌⊎◌, inl, inr, ⊎_elim, ℕ, zero, suc, ◌+◌, ◌-◌, ◌*◌, ◌<◌, ◌≤◌, Bool, not, true, false, List, [], ◌∷◌, ◌++◌, length, take, drop, bytes_eq, refl, sym, ◌∙◌, ap, subst, arith, append_assoc, length-append}
+use Rattle.std.specs.Int.{w32, from_be_bytes}
 use Rattle.std.proofs.lemmas.Slice.Eq.{bytes_eq-Decides}
 use Rattle.std.proofs.lemmas.List.{append-nil, drop_at, drop-drop, take-take, take-append-drop, length-replicate, take-replicate, drop-replicate, replicate-append-replicate}
 use Rattle.std.proofs.lemmas.Nat.{from_be_bytes-to_be_bytes_4}
@@ -11,7 +11,8 @@ use Rattle.blsm_model.specs.Sizes.{Sizes, IsGeometry}
 use Rattle.blsm_model.specs.Geometry.{file_length, IsFirstFault}
 use Rattle.blsm_model.specs.declared.geometry.GeometryFault.{GeometryFault}
 use Rattle.blsm_model.specs.declared.geometry.GeometryFault.TheVariants.{Half, Ratio, Low, Quantum}
-use Rattle.store_file.specs.Layout.{superblock_text, superblock, IsStoreOf, IsStore, zeros, first_catalogue, IsMade, first_file}
+use Rattle.store_file.specs.Layout.{superblock_text, superblock, IsStore, zeros, first_catalogue, IsMade, first_file}
+use Rattle.store_file.specs.Laws.{sizes_same}
 use Rattle.store_file.specs.declared.layout.TheConstants.{FIRST_CATALOGUE}
 use Rattle.store_file.specs.Making.{IsShort, IsShut, IsHalfMade}
 
@@ -29,37 +30,6 @@ first_catalogue_is = refl
 pub length-first_catalogue : length first_catalogue ≡ 84
 unfolding first_catalogue
 length-first_catalogue = refl
-
-same32 : (n m : ℕ) → n < 2 ^ 32 → m < 2 ^ 32 → to_be_bytes w32 n ≡ to_be_bytes w32 m → n ≡ m
-same32 n m ln lm e = sym (from_be_bytes-to_be_bytes_4 n ln) ∙ ap (from_be_bytes w32) e ∙ from_be_bytes-to_be_bytes_4 m lm
-
-sizes_same : (a b : Sizes) → a.half ≡ b.half → a.ratio ≡ b.ratio → a.low ≡ b.low → a.quantum ≡ b.quantum → a ≡ b
-sizes_same a b half ratio low quantum = λ i. record { half = half i; ratio = ratio i; low = low i; quantum = quantum i }
-
--- one superblock is that of one geometry
-text_same : (a b : Sizes) → IsGeometry a → IsGeometry b → superblock_text a ≡ superblock_text b → a ≡ b
-unfolding superblock_text
-text_same a b ga gb same =
-    let ha = ga.half.1 in
-    let hb = gb.half.1 in
-    let ra = ga.ratio.1 in
-    let rb = gb.ratio.1 in
-    let la = ga.low in
-    let lb = gb.low in
-    let qa = ga.quantum.1 in
-    let qb = gb.quantum.1 in
-    sizes_same a b
-    (same32 a.half b.half (omega arith) (omega arith) (ap (λ (l : List ℕ). take 4 (drop 10 l)) same))
-    (same32 a.ratio b.ratio (omega arith) (omega arith) (ap (λ (l : List ℕ). take 4 (drop 14 l)) same))
-    (same32 a.low b.low (omega arith) (omega arith) (ap (λ (l : List ℕ). take 4 (drop 18 l)) same))
-    (same32 a.quantum b.quantum (omega arith) (omega arith) (ap (λ (l : List ℕ). take 4 (drop 22 l)) same))
-
-pub superblock_same : (a b : Sizes) → IsGeometry a → IsGeometry b → superblock open_byte a ≡ superblock open_byte b → a ≡ b
-superblock_same a b ga gb same = text_same a b ga gb (ap (drop 1) same)
-
--- a store is one of one geometry
-pub only_sizes : (a b : Sizes) (file : List ℕ) → IsStoreOf a file → IsStoreOf b file → a ≡ b
-only_sizes a b file sa sb = superblock_same a b sa.geometry sb.geometry (sym sa.begins ∙ sb.begins)
 
 -- ---- files that are no store
 

@@ -1,3 +1,4 @@
 pub mod Layout
 pub mod Making
 pub mod Reading
+pub mod Laws

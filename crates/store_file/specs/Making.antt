@@ -1,7 +1,7 @@
 -- What making leaves of a disk.
 use Rattle.std.specs.Prelude.{◌≡◌, ◌⊎◌, ◌<◌, ◌≤◌, ℕ, IsTrue, List, length}
 use Rattle.refusal.specs.Count.{HasRisen}
-use Rattle.disk_trait.specs.Disk.{DiskState}
+use Rattle.disk_trait.specs.Disk.{DiskState, KeepsImages, MarksSync}
 use Rattle.disk_trait.specs.Moments.{LeavesOnly}
 use Rattle.gated_write.specs.Gated.{IsClosed}
 use Rattle.gated_log.specs.Lane.{head_length}
@@ -42,11 +42,13 @@ HasSynced old new = (t : ℕ) × (old.clock ≤ t) × new.synced_at t
 abbrev pub IsUnwritten : DiskState → DiskState → Type 0
 IsUnwritten old new = LeavesOnly old new old.images ⊎ HasSynced old new
 
--- nothing was written, and a crash leaves what it might have left before
+-- nothing was written or synced, and a crash leaves what it might have left before
 pub record IsUntouched (old new : DiskState) : Type 0 where
   pub bytes : IsTrue old.is_honest → new.bytes ≡ old.bytes
   pub length : IsTrue old.tells_bytes → length new.bytes ≡ length old.bytes
   pub images : IsTrue old.is_honest → LeavesOnly old new old.images
+  pub kept : KeepsImages old new
+  pub no_sync : MarksSync ⊥ old new
 
 -- how many bytes the disk has, where it tells them; an honest one does
 abbrev pub IsLengthOf : ℕ → DiskState → Type 0

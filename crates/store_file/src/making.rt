@@ -173,10 +173,11 @@ fn write_store<D: Disk>(disk: &mut D, geometry: &Geometry) -> Result<(), Failed>
     Ok(())
 }
 
-/// Makes a store of this geometry, with no keys, out of a disk of length 0.
+/// Makes a store of this geometry, with no keys, out of a disk of length 0. The file gets its whole length, in bytes.
 ///
 /// All is written with the superblock's gate closed and synced before that gate is opened, so a crash leaves no store, or the
-/// store that was to be made. After an `Err` the disk may hold any part of it.
+/// store that was to be made, whatever is answered. A disk that has bytes is `NotEmpty`, and nothing is written or synced.
+/// After `Failed` the disk may hold any part of the file.
 pub fn make_store<D: Disk>(disk: &mut D, geometry: &Geometry) -> Result<(), MakeFault>
     ensures each { IsTrue (D.state disk.old).is_honest → LeavesOnly (D.state disk.old) (D.state disk.new)
         (IsOldOr (D.state disk.old).images (IsHalfMade geometry.now)) }

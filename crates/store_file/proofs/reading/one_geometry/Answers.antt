@@ -1,4 +1,4 @@
-use Rattle.store_file.proofs.LayoutLemmas.{only_sizes}
+use Rattle.store_file.specs.Laws.{only_sizes}
 use Rattle.store_file.proofs.reading.one_geometry.Goals as goal
 
 pub returns : goal.returns
