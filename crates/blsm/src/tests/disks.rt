@@ -5,8 +5,9 @@ use disk_mem::MemDisk;
 use std::alloc::Global;
 use std::test::Fail;
 
-// Making asks for the length, writes 5,740 blocks and syncs, writes the gate and syncs.
-const MAKING: u64 = 5_744;
+// Making asks for the length and syncs, writes the first block and syncs, writes 5,739 blocks, the catalogue and the superblock's
+// text and syncs, writes the gate and syncs.
+const MAKING: u64 = 5_748;
 
 // Each write takes four calls: the entry, a sync, the gate, a sync.
 const APPEND: u64 = 4;
