@@ -1,13 +1,13 @@
 -- What each image has, run by run, while a store is made.
-use Rattle.std.proofs.Common.{◌≡◌, inl, inr, ⊎_elim, ℕ, ◌+◌, ◌<◌, ◌≤◌, IsTrue, List, sym, subst, ◌∙◌, arith}
-use Rattle.disk_trait.specs.Disk.{DiskState, GoesOn, Passes, MarksSync, WritesNothing, WritesWithin, Torn, Only}
+use Rattle.std.proofs.Common.{◌≡◌, inl, inr, ⊎_elim, ℕ, ◌+◌, ◌≤◌, IsTrue, List, sym, subst, ◌∙◌, arith}
+use Rattle.disk_trait.specs.Disk.{DiskState, GoesOn, Passes, MarksSync, WritesWithin, Torn, Only}
 use Rattle.disk_trait.specs.Parts.{torn_below}
-use Rattle.disk_trait.specs.Moments.{IsTimed, LeavesOnly, LeavesOnlyOnceSynced, leaves_only_start, leaves_only_call, leaves_only_run, leaves_only_weaken, leaves_only_now, once_synced_start, once_synced_call, once_synced_run, once_synced_weaken}
+use Rattle.disk_trait.specs.Moments.{IsTimed, LeavesOnly, LeavesOnlyOnceSynced, leaves_only_start, leaves_only_call, leaves_only_run, leaves_only_weaken, leaves_only_now, once_synced_run, once_synced_weaken}
 use Rattle.blsm_model.specs.Sizes.{Sizes, IsGeometry}
 use Rattle.blsm_model.specs.Geometry.{file_length}
 use Rattle.store_file.specs.Layout.{zeros, first_file}
 use Rattle.store_file.proofs.LayoutLemmas.{block_shut, shut_half, gate_torn}
-use Rattle.store_file.specs.Making.{IsShort, IsShut, IsHalfMade, IsOldOr, SyncsLater, HasSynced, IsUnwritten}
+use Rattle.store_file.specs.Making.{IsShort, IsShut, IsHalfMade, IsOldOr, SyncsLater, HasSynced}
 
 -- what is written behind the gate leaves it closed
 pub shut_torn : (end at n : ℕ) (old new : List ℕ) → Torn at n old new → 1 ≤ at → at + n ≤ end → IsShut end old → IsShut end new
@@ -97,39 +97,7 @@ module _ (sizes : Sizes) (start : DiskState) where
           (λ before. shut_half sizes c (so_far.shut c before))
           (λ torn. gate_torn sizes geometry c (subst (λ (l : List ℕ). Torn 0 1 l c) written torn))
 
--- ---- a store is made once the length was looked at
-
-looked_honest : (start mid : DiskState) → Passes start mid → IsTrue start.is_honest → IsTrue mid.is_honest
-looked_honest start mid passes honest = subst IsTrue (sym passes.goes_on.is_honest) honest
-
-pub looked_each : (sizes : Sizes) (start mid new : DiskState) → IsTimed start → IsTrue start.is_honest → Passes start mid → WritesNothing start mid
-    → (IsTrue mid.is_honest → LeavesOnly mid new (IsOldOr mid.images (IsHalfMade sizes))) → LeavesOnly start new (IsOldOr start.images (IsHalfMade sizes))
-looked_each sizes start mid new timed honest passes same run =
-    leaves_only_run
-    (leaves_only_call (leaves_only_start start (IsOldOr start.images (IsHalfMade sizes)) timed (λ c left. inl left)) passes (λ c left. inl (same.images honest c left)))
-    (leaves_only_weaken (λ c. ⊎_elim (λ before. inl (same.images honest c before)) (λ half. inr half)) (run (looked_honest start mid passes honest)))
-
-pub looked_once : (sizes : Sizes) (start mid new : DiskState) → IsTimed start → IsTimed mid → IsTrue start.is_honest → Passes start mid → MarksSync ⊥ start mid
-    → (IsTrue mid.is_honest → LeavesOnlyOnceSynced mid new (IsHalfMade sizes)) → LeavesOnlyOnceSynced start new (IsHalfMade sizes)
-looked_once sizes start mid new timed timed' honest passes marks run =
-    once_synced_run
-    (once_synced_call ⊥ (once_synced_start start (IsHalfMade sizes) timed) passes marks timed timed' (λ t c after at left. absurd (none t after at)))
-    (run (looked_honest start mid passes honest)) timed' (λ t after at. absurd (none t after at))
-  where
-    none : (t : ℕ) → start.clock < t → mid.synced_at t → ⊥
-    none t after at = ⊎_elim (λ before. omega (arith, timed.synced_by_now t before, after)) (λ ended. ended.0) (marks.none_else t at)
-
 -- ---- no sync yet
 
 pub synced_more : (start mid new : DiskState) → HasSynced start mid → ((t : ℕ) → mid.synced_at t → new.synced_at t) → HasSynced start new
 synced_more start mid new synced kept = (synced.0, synced.1, kept synced.0 synced.2)
-
-pub looked_unwritten : (start mid new : DiskState) → IsTimed start → IsTrue start.is_honest → IsTrue start.tells_images → Passes start mid → WritesNothing start mid
-    → (IsTrue mid.is_honest → IsTrue mid.tells_images → IsUnwritten mid new) → IsUnwritten start new
-looked_unwritten start mid new timed honest tells passes same run =
-    ⊎_elim
-    (λ unwritten. inl (leaves_only_run
-    (leaves_only_call (leaves_only_start start start.images timed (λ c left. left)) passes (λ c left. same.images honest c left))
-    (leaves_only_weaken (λ c before. same.images honest c before) unwritten)))
-    (λ synced. let earlier = passes.goes_on.clock in inr (synced.0, omega (arith, earlier, synced.1), synced.2))
-    (run (looked_honest start mid passes honest) (subst IsTrue (sym passes.goes_on.tells_images) tells))

@@ -6,7 +6,7 @@ mod layout;
 mod making;
 mod reading;
 
-pub use making::{MakeFault, make_store};
+pub use making::make_store;
 pub use reading::{StoreBroken, one_geometry, read_store};
 
 #[cfg(test)]

@@ -1,40 +1,18 @@
 //! Making: a disk of length 0 becomes a store that has no keys.
-ghost use Rattle.std.specs.Prelude.{◌≡◌, ◌⊎◌, ◌≤◌, ◌<◌, ◌+◌, ◌∷◌, [], List, ℕ, length, IsTrue, IsErr, OnOk, IfErr};
+ghost use Rattle.std.specs.Prelude.{◌≡◌, ◌⊎◌, ◌≤◌, ◌<◌, ◌+◌, ◌∷◌, [], List, ℕ, length, IsTrue, IsErr, OnOk};
 ghost use Rattle.refusal.specs.Count.{HasRisen};
 ghost use Rattle.disk_trait.specs.Disk.{GoesOn, IsSure, MarksSync, Only, Torn, overwritten};
 ghost use Rattle.disk_trait.specs.Moments.{LeavesOnly, LeavesOnlyOnceSynced};
 ghost use Rattle.gated_write.specs.Gated.{open_byte};
 ghost use Rattle.blsm_model.specs.Geometry.{file_length};
 ghost use Rattle.store_file.specs.Layout.{zeros, first_catalogue, superblock_text, first_file, IsMade};
-ghost use Rattle.store_file.specs.Making.{IsShort, IsShut, IsHalfMade, IsOldOr, SyncsLater, HasSynced, IsUnwritten, HasCause};
+ghost use Rattle.store_file.specs.Making.{IsShort, IsShut, IsHalfMade, IsOldOr, SyncsLater, HasSynced, IsUnwritten};
 
 use crate::layout::{BLOCK, FIRST_CATALOGUE, ODD_SLOT, SLOT_LEN, length_of, superblock_text};
 use blsm_model::Geometry;
 use disk_trait::Disk;
 use gated_write::OPEN;
 use refusal::Failed;
-use thiserror::Error;
-
-/// Why a disk was not made into a store.
-#[derive(Clone, Copy, PartialEq, Eq, Debug, Drop, Error)]
-pub enum MakeFault {
-    /// It has so many bytes already. Nothing was written.
-    #[error("the disk has {0} bytes already")]
-    NotEmpty(u64),
-    /// A call of the disk failed. It may hold any part of a store, and is one only where it was made in whole.
-    #[error("the disk failed")]
-    Failed,
-}
-
-impl From<Failed> for MakeFault {
-    ghost use Rattle.store_file.specs.declared.making.MakeFault.{MakeFault};
-
-    ghost from_gives = { λ _ fault. fault ≡ MakeFault.Failed };
-
-    fn from(_failed: Failed) -> MakeFault {
-        MakeFault::Failed
-    }
-}
 
 const BLOCK_LEN: usize = BLOCK as usize;
 
@@ -145,8 +123,11 @@ fn open_gate<D: Disk>(disk: &mut D) -> Result<(), Failed>
     Ok(())
 }
 
-// Writes the store with the superblock's gate closed, and opens that gate.
-fn write_store<D: Disk>(disk: &mut D, geometry: &Geometry) -> Result<(), Failed>
+/// Makes a store of this geometry, with no keys, out of a disk of length 0. The file gets its whole length, in bytes.
+///
+/// All is written with the superblock's gate closed and synced before that gate is opened, so a crash leaves no store, or the
+/// store that was to be made, whatever is answered. After an `Err` the disk may hold any part of the file.
+pub fn make_store<D: Disk>(disk: &mut D, geometry: &Geometry) -> Result<(), Failed>
     requires { IsTrue (D.state disk.old).tells_bytes → length (D.state disk.old).bytes ≡ 0 }
     ensures each { IsTrue (D.state disk.old).is_honest → LeavesOnly (D.state disk.old) (D.state disk.new)
         (IsOldOr (D.state disk.old).images (IsHalfMade geometry.now)) }
@@ -170,37 +151,5 @@ fn write_store<D: Disk>(disk: &mut D, geometry: &Geometry) -> Result<(), Failed>
     write_zeros(disk, length)?;
     write_parts(disk, geometry)?;
     open_gate(disk)?;
-    Ok(())
-}
-
-/// Makes a store of this geometry, with no keys, out of a disk of length 0. The file gets its whole length, in bytes.
-///
-/// All is written with the superblock's gate closed and synced before that gate is opened, so a crash leaves no store, or the
-/// store that was to be made, whatever is answered. A disk that has bytes is `NotEmpty`, and nothing is written or synced.
-/// After `Failed` the disk may hold any part of the file.
-pub fn make_store<D: Disk>(disk: &mut D, geometry: &Geometry) -> Result<(), MakeFault>
-    ensures each { IsTrue (D.state disk.old).is_honest → LeavesOnly (D.state disk.old) (D.state disk.new)
-        (IsOldOr (D.state disk.old).images (IsHalfMade geometry.now)) }
-    ensures once_synced { IsTrue (D.state disk.old).is_honest
-        → LeavesOnlyOnceSynced (D.state disk.old) (D.state disk.new) (IsHalfMade geometry.now) }
-    ensures unsynced { IsTrue (D.state disk.old).is_honest → IsTrue (D.state disk.old).tells_images
-        → IsUnwritten (D.state disk.old) (D.state disk.new) }
-    ensures written { OnOk result (IsTrue (D.state disk.old).is_honest
-        → (D.state disk.new).bytes ≡ first_file open_byte geometry.now) }
-    ensures made { OnOk result (IsTrue (D.state disk.old).is_honest → IsMade geometry.now (D.state disk.new).bytes) }
-    ensures durable { OnOk result (IsTrue (D.state disk.old).is_honest → Only (D.state disk.new).bytes (D.state disk.new).images) }
-    ensures was_empty { OnOk result (IsTrue (D.state disk.old).tells_bytes → length (D.state disk.old).bytes ≡ 0) }
-    ensures length { OnOk result (IsTrue (D.state disk.old).tells_bytes
-        → length (D.state disk.new).bytes ≡ file_length geometry.now) }
-    ensures goes_on { GoesOn (D.state disk.old) (D.state disk.new) }
-    ensures sure { IsSure (file_length geometry.now) (D.state disk.old) (D.state disk.new) }
-    ensures stands { OnOk result ((D.state disk.new).faults ≡ (D.state disk.old).faults) }
-    ensures cause { IfErr result (HasCause (D.state disk.old) (D.state disk.new)) }
-{
-    let length = disk.len()?;
-    if length > 0 {
-        return Err(MakeFault::NotEmpty(length));
-    }
-    write_store(disk, geometry)?;
     Ok(())
 }
