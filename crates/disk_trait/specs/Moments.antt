@@ -28,6 +28,11 @@ pub record LeavesOnlyOnceSynced (old new : DiskState) (P : List ℕ → Type 0) 
   -- for a run that began earlier
   pub before : (t : ℕ) → new.synced_at t → old.synced_at t ⊎ (old.clock < t)
 
+-- each sync that ended well did so before, or since then; those from before stay
+pub record SyncsLater (old new : DiskState) : Type 0 where
+  pub none_else : (t : ℕ) → new.synced_at t → old.synced_at t ⊎ (old.clock < t)
+  pub none_lost : (t : ℕ) → old.synced_at t → new.synced_at t
+
 -- a crash at any moment from t on leaves a file that has P
 pub record HasSince (t : ℕ) (d : DiskState) (P : List ℕ → Type 0) : Type 0 where
   pub later : t ≤ d.clock
@@ -75,6 +80,10 @@ leaves_only_weaken so run = record { later = run.later; each = λ c left. so c (
 pub leaves_only_now : {old new : DiskState} {P : List ℕ → Type 0} → IsTimed new → LeavesOnly old new P → (c : List ℕ) → new.images c → P c
 leaves_only_now {old} {new} timed run c here = run.each c (timed.counts_now old.clock c run.later here)
 
+-- a run that leaves only what a crash before it might have left
+pub leaves_only_kept : {old mid new : DiskState} {P : List ℕ → Type 0} → IsTimed mid → LeavesOnly old mid P → LeavesOnly mid new mid.images → LeavesOnly old new P
+leaves_only_kept timed so_far run = leaves_only_run so_far (leaves_only_weaken (leaves_only_now timed so_far) run)
+
 -- what held since a moment before a run holds after it
 pub has_since_run : {old new : DiskState} {P : List ℕ → Type 0} (t : ℕ) → HasSince t old P → LeavesOnly old new P → HasSince t new P
 has_since_run {old} {new} {P} t held run = record {
@@ -89,6 +98,36 @@ has_since_start run = record { later = run.later; each = run.each }
 -- Each image now is one since any moment so far.
 pub has_since_now : {d : DiskState} {P : List ℕ → Type 0} (t : ℕ) → IsTimed d → HasSince t d P → (c : List ℕ) → d.images c → P c
 has_since_now {d} t timed held c here = held.each c (timed.counts_now t c held.later here)
+
+-- no sync before the first call
+pub no_sync_start : (d : DiskState) → MarksSync ⊥ d d
+no_sync_start d = record { none_else = λ t at. inl at; none_lost = λ t at. at; now = λ tells never. absurd never }
+
+-- none in a run after a run, where there is none in either
+pub no_sync_run : {old mid new : DiskState} → MarksSync ⊥ old mid → MarksSync ⊥ mid new → MarksSync ⊥ old new
+no_sync_run {old} {mid} {new} first second = record {
+  none_else = λ t at. ⊎_elim (λ mid. ⊎_elim (λ before. inl before) (λ ended. absurd ended.0) (first.none_else t mid)) (λ ended. absurd ended.0) (second.none_else t at);
+  none_lost = λ t at. second.none_lost t (first.none_lost t at);
+  now = λ tells never. absurd never;
+}
+
+-- before the first call
+pub syncs_later_start : (d : DiskState) → SyncsLater d d
+syncs_later_start d = record { none_else = λ t at. inl at; none_lost = λ t at. at }
+
+-- one call, or a run that makes no sync
+pub syncs_later_call : {old new : DiskState} (ended_well : Type 0) → MarksSync ended_well old new → SyncsLater old new
+syncs_later_call {old} {new} ended_well marks = record {
+  none_else = λ t at. ⊎_elim (λ before. inl before) (λ ended. inr ended.1) (marks.none_else t at);
+  none_lost = marks.none_lost;
+}
+
+-- a run after a run
+pub syncs_later_run : {old mid new : DiskState} → old.clock ≤ mid.clock → SyncsLater old mid → SyncsLater mid new → SyncsLater old new
+syncs_later_run {old} {mid} {new} order first second = record {
+  none_else = λ t at. ⊎_elim (first.none_else t) (λ later. inr (omega (arith, order, later))) (second.none_else t at);
+  none_lost = λ t at. second.none_lost t (first.none_lost t at);
+}
 
 -- no sync before the first call
 pub once_synced_start : (d : DiskState) (P : List ℕ → Type 0) → IsTimed d → LeavesOnlyOnceSynced d d P
@@ -124,6 +163,52 @@ once_synced_run {old} {mid} {new} {P} first second timed keeps = record {
       (second.before t at);
   before = λ t at. ⊎_elim (first.before t) (λ later. inr (omega (arith, first.later, later))) (second.before t at);
 }
+
+-- a run behind one that made no sync
+pub once_synced_behind : {old mid new : DiskState} {P : List ℕ → Type 0} → IsTimed old → old.clock ≤ mid.clock → MarksSync ⊥ old mid → LeavesOnlyOnceSynced mid new P
+    → LeavesOnlyOnceSynced old new P
+once_synced_behind {old} {mid} {new} timed order marks run = record {
+  later = omega (arith, order, run.later);
+  each = λ t c after at left.
+      ⊎_elim
+      (λ synced. absurd (⊎_elim (λ before. omega (arith, timed.synced_by_now t before, after)) (λ ended. ended.0) (marks.none_else t synced)))
+      (λ later. run.each t c later at left)
+      (run.before t at);
+  before = λ t at. ⊎_elim (λ synced. ⊎_elim (λ before. inl before) (λ ended. absurd ended.0) (marks.none_else t synced)) (λ later. inr (omega (arith, order, later))) (run.before t at);
+}
+
+-- The first sync, behind a run that made none: where it ended well, each image after it has P.
+pub once_synced_first : {old mid new : DiskState} {P : List ℕ → Type 0} (ended_well : Type 0) → IsTimed old → IsTimed mid → IsTimed new
+    → old.clock ≤ mid.clock → MarksSync ⊥ old mid → Passes mid new → MarksSync ended_well mid new
+    → (ended_well → (c : List ℕ) → new.images c → P c) → LeavesOnlyOnceSynced old new P
+once_synced_first {old} {mid} {new} {P} ended_well timed timed' timed'' order none passes marks here =
+    once_synced_behind timed order none (once_synced_call ended_well (once_synced_start mid P timed') passes marks timed' timed'' now)
+  where
+    now : (t : ℕ) (c : List ℕ) → mid.clock < t → new.synced_at t → new.images c → P c
+    now t c after at left = ⊎_elim (λ before. absurd (omega (arith, timed'.synced_by_now t before, after))) (λ ended. here ended.0 c left) (marks.none_else t at)
+
+-- a run, with syncs or without, at each moment of which a crash leaves a file that has P
+pub once_synced_more : {start old new : DiskState} {P : List ℕ → Type 0} → IsTimed old → IsTimed new → LeavesOnlyOnceSynced start old P → LeavesOnly old new P → SyncsLater old new
+    → LeavesOnlyOnceSynced start new P
+once_synced_more {start} {old} {new} timed timed' so_far run syncs =
+    once_synced_run so_far
+    (record { later = run.later; each = λ t c after at left. run.each c (timed'.since_earlier old.clock t c (omega (arith, after)) left); before = syncs.none_else })
+    timed (λ t after at. run)
+
+-- a run without a sync that leaves only what a crash before it might have left
+pub once_synced_kept : {start old new : DiskState} {P : List ℕ → Type 0} → IsTimed old → LeavesOnlyOnceSynced start old P → LeavesOnly old new old.images → MarksSync ⊥ old new
+    → LeavesOnlyOnceSynced start new P
+once_synced_kept {start} {old} {new} timed so_far run marks = record {
+  later = omega (arith, so_far.later, run.later);
+  each = λ t c after at left.
+      let synced = was t at in
+      so_far.each t c after synced
+      (⊎_elim (λ before. before) (timed.counts_now t c (timed.synced_by_now t synced)) (run.before t c (timed.synced_by_now t synced) left));
+  before = λ t at. so_far.before t (was t at);
+}
+  where
+    was : (t : ℕ) → new.synced_at t → old.synced_at t
+    was t at = ⊎_elim (λ before. before) (λ ended. absurd ended.0) (marks.none_else t at)
 
 -- what has P has Q
 pub once_synced_weaken : {old new : DiskState} {P Q : List ℕ → Type 0} → ((c : List ℕ) → P c → Q c) → LeavesOnlyOnceSynced old new P → LeavesOnlyOnceSynced old new Q
