@@ -5,7 +5,7 @@
 ghost use Rattle.std.specs.Prelude.{◌≡◌, ◌≤◌, ◌<◌, ◌+◌, ◌^◌, ℕ, List, ◌∷◌, length, IsTrue, IsErr, OnOk};
 ghost use Rattle.refusal.specs.Count.{HasRisen};
 ghost use Rattle.disk_trait.specs.Disk.{GoesOn, IsSure, WritesWithin, Only, overwritten};
-ghost use Rattle.disk_trait.specs.Moments.{LeavesOnly};
+ghost use Rattle.disk_trait.specs.Moments.{LeavesOnly, SyncsLater};
 ghost use Rattle.gated_write.specs.Gated.{IsClosed, IsGated, open_byte};
 
 use disk_trait::Disk;
@@ -28,6 +28,7 @@ pub fn write_gated<D: Disk>(disk: &mut D, at: u64, text: &[u8]) -> Result<(), Fa
         → (D.state disk.new).bytes ≡ overwritten (D.state disk.old).bytes at (open_byte ∷ text.now)) }
     ensures durable { OnOk result (IsTrue (D.state disk.old).is_honest → Only (D.state disk.new).bytes (D.state disk.new).images) }
     ensures within { WritesWithin at (1 + length text.now) (D.state disk.old) (D.state disk.new) }
+    ensures syncs { SyncsLater (D.state disk.old) (D.state disk.new) }
     ensures sure { IsSure (at + 1 + length text.now) (D.state disk.old) (D.state disk.new) }
     ensures goes_on { GoesOn (D.state disk.old) (D.state disk.new) }
     ensures four_calls { (D.state disk.new).clock ≤ (D.state disk.old).clock + 4 }
