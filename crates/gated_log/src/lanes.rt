@@ -2,7 +2,7 @@
 ghost use Rattle.std.specs.Prelude.{◌≡◌, ◌≤◌, ◌<◌, ◌+◌, ◌*◌, ◌^◌, ◌∷◌, ◌++◌, [], List, ℕ, length, IsTrue, IsErr, OnOk, IsOk, is_ok, if◌then◌else◌, slice_index, take};
 ghost use Rattle.refusal.specs.Count.{HasRisen};
 ghost use Rattle.disk_trait.specs.Disk.{GoesOn, IsSure, Torn};
-ghost use Rattle.disk_trait.specs.Moments.{LeavesOnly};
+ghost use Rattle.disk_trait.specs.Moments.{LeavesOnly, SyncsLater};
 ghost use Rattle.blsm_model.specs.declared.key.Key.{Key};
 ghost use Rattle.blsm_model.specs.Geometry.{file_length};
 ghost use Rattle.record_delta.specs.declared.record.Rec.{Rec};
@@ -153,6 +153,7 @@ impl Lanes {
         ensures outside { IsTrue (D.state disk.old).is_honest
             → Torn (region_start self.now.sizes lane) (region_length self.now.sizes) (D.state disk.old).bytes (D.state disk.new).bytes }
         ensures length { IsTrue (D.state disk.old).tells_bytes → length (D.state disk.new).bytes ≡ length (D.state disk.old).bytes }
+        ensures syncs { SyncsLater (D.state disk.old) (D.state disk.new) }
         ensures sure { IsSure (file_length self.now.sizes) (D.state disk.old) (D.state disk.new) }
         ensures goes_on { GoesOn (D.state disk.old) (D.state disk.new) }
         ensures four_calls { (D.state disk.new).clock ≤ (D.state disk.old).clock + 4 }
@@ -198,6 +199,7 @@ impl Lanes {
         ensures outside { IsTrue (D.state disk.old).is_honest
             → Torn (region_start self.old.sizes lane) (region_length self.old.sizes) (D.state disk.old).bytes (D.state disk.new).bytes }
         ensures length { IsTrue (D.state disk.old).tells_bytes → length (D.state disk.new).bytes ≡ length (D.state disk.old).bytes }
+        ensures syncs { SyncsLater (D.state disk.old) (D.state disk.new) }
         ensures sure { IsSure (file_length self.old.sizes) (D.state disk.old) (D.state disk.new) }
         ensures goes_on { GoesOn (D.state disk.old) (D.state disk.new) }
         ensures four_calls { (D.state disk.new).clock ≤ (D.state disk.old).clock + 4 }
