@@ -2,12 +2,12 @@
 use Rattle.std.proofs.Common.{◌≡◌, inl, inr, ⊎_elim, ℕ, ◌+◌, ◌≤◌, IsTrue, List, sym, subst, ◌∙◌, arith}
 use Rattle.disk_trait.specs.Disk.{DiskState, GoesOn, Passes, MarksSync, WritesWithin, Torn, Only}
 use Rattle.disk_trait.specs.Parts.{torn_below}
-use Rattle.disk_trait.specs.Moments.{IsTimed, LeavesOnly, LeavesOnlyOnceSynced, leaves_only_start, leaves_only_call, leaves_only_run, leaves_only_weaken, leaves_only_now, once_synced_run, once_synced_weaken}
+use Rattle.disk_trait.specs.Moments.{IsTimed, LeavesOnly, LeavesOnlyOnceSynced, leaves_only_start, leaves_only_call, leaves_only_run, leaves_only_weaken, leaves_only_now, once_synced_more, once_synced_weaken, SyncsLater, syncs_later_call}
 use Rattle.blsm_model.specs.Sizes.{Sizes, IsGeometry}
 use Rattle.blsm_model.specs.Geometry.{file_length}
 use Rattle.store_file.specs.Layout.{zeros, first_file}
 use Rattle.store_file.proofs.LayoutLemmas.{block_shut, shut_half, gate_torn}
-use Rattle.store_file.specs.Making.{IsShort, IsShut, IsHalfMade, IsOldOr, SyncsLater, HasSynced}
+use Rattle.store_file.specs.Making.{IsShort, IsShut, IsHalfMade, IsOldOr}
 
 -- what is written behind the gate leaves it closed
 pub shut_torn : (end at n : ℕ) (old new : List ℕ) → Torn at n old new → 1 ≤ at → at + n ≤ end → IsShut end old → IsShut end new
@@ -25,21 +25,6 @@ module _ (end : ℕ) (start : DiskState) where
       → 1 ≤ at → at + n ≤ end → LeavesOnly start e (IsShut end)
   shut_write d e at n timed honest run passes within behind ends =
       leaves_only_call run passes (λ c left. let was = within.images honest c left in shut_torn end at n was.0 c was.2 behind ends (leaves_only_now timed run was.0 was.1))
-
--- ---- no sync in a run
-
-pub no_sync_start : (d : DiskState) → MarksSync ⊥ d d
-no_sync_start d = record { none_else = λ t at. inl at; none_lost = λ t at. at; now = λ tells never. absurd never }
-
-pub no_sync_run : (old mid new : DiskState) → MarksSync ⊥ old mid → MarksSync ⊥ mid new → MarksSync ⊥ old new
-no_sync_run old mid new first second = record {
-  none_else = λ t at. ⊎_elim (λ mid. ⊎_elim (λ before. inl before) (λ ended. absurd ended.0) (first.none_else t mid)) (λ ended. absurd ended.0) (second.none_else t at);
-  none_lost = λ t at. second.none_lost t (first.none_lost t at);
-  now = λ tells never. absurd never;
-}
-
-pub syncs_none : (old new : DiskState) → MarksSync ⊥ old new → SyncsLater old new
-syncs_none old new marks = record { none_lost = marks.none_lost; none_else = λ t at. ⊎_elim (λ before. inl before) (λ ended. absurd ended.0) (marks.none_else t at) }
 
 -- ---- a store is made
 
@@ -63,10 +48,7 @@ module _ (sizes : Sizes) (start : DiskState) where
   making_more d e timed timed' so_far goes run syncs = record {
     honest = subst IsTrue (sym goes.is_honest) so_far.honest;
     run = leaves_only_run so_far.run (leaves_only_weaken (λ c half. inr half) run);
-    synced =
-        once_synced_run so_far.synced
-        (record { later = run.later; each = λ t c after at left. run.each c (timed'.since_earlier d.clock t c (omega arith) left); before = syncs.none_else })
-        timed (λ t after at. run);
+    synced = once_synced_more timed timed' so_far.synced run syncs;
   }
 
   -- so far, and in each image now the gate is closed
@@ -81,7 +63,7 @@ module _ (sizes : Sizes) (start : DiskState) where
   -- a run of writes behind the gate
   pub behind_more : (d e : DiskState) → IsTimed d → IsTimed e → IsBehind d → GoesOn d e → LeavesOnly d e (IsShut (file_length sizes)) → MarksSync ⊥ d e → IsBehind e
   behind_more d e timed timed' so_far goes run marks = record {
-    making = making_more d e timed timed' so_far.making goes (leaves_only_weaken (shut_half sizes) run) (syncs_none d e marks);
+    making = making_more d e timed timed' so_far.making goes (leaves_only_weaken (shut_half sizes) run) (syncs_later_call ⊥ marks);
     shut = leaves_only_now timed' run;
   }
 
@@ -96,8 +78,3 @@ module _ (sizes : Sizes) (start : DiskState) where
           ⊎_elim
           (λ before. shut_half sizes c (so_far.shut c before))
           (λ torn. gate_torn sizes geometry c (subst (λ (l : List ℕ). Torn 0 1 l c) written torn))
-
--- ---- no sync yet
-
-pub synced_more : (start mid new : DiskState) → HasSynced start mid → ((t : ℕ) → mid.synced_at t → new.synced_at t) → HasSynced start new
-synced_more start mid new synced kept = (synced.0, synced.1, kept synced.0 synced.2)

@@ -1,7 +1,8 @@
 -- What making leaves of a disk.
-use Rattle.std.specs.Prelude.{◌⊎◌, ◌<◌, ◌≤◌, ℕ, List, length}
+use Rattle.std.specs.Prelude.{◌⊎◌, ◌≤◌, ℕ, List, length}
+use Rattle.std.proofs.Common.{inl, inr, ⊎_elim, arith}
 use Rattle.disk_trait.specs.Disk.{DiskState}
-use Rattle.disk_trait.specs.Moments.{LeavesOnly}
+use Rattle.disk_trait.specs.Moments.{IsTimed, LeavesOnly, leaves_only_kept, leaves_only_now, leaves_only_run, leaves_only_weaken}
 use Rattle.gated_write.specs.Gated.{IsClosed}
 use Rattle.gated_log.specs.Lane.{head_length}
 use Rattle.blsm_model.specs.Sizes.{Sizes}
@@ -26,11 +27,6 @@ pub record IsHalfMade (sizes : Sizes) (file : List ℕ) : Type 0 where
 abbrev pub IsOldOr : (List ℕ → Type 0) → (List ℕ → Type 0) → List ℕ → Type 0
 IsOldOr before P file = before file ⊎ P file
 
--- each sync that ended well did so before, or since then; those from before stay
-pub record SyncsLater (old new : DiskState) : Type 0 where
-  pub none_else : (t : ℕ) → new.synced_at t → old.synced_at t ⊎ (old.clock < t)
-  pub none_lost : (t : ℕ) → old.synced_at t → new.synced_at t
-
 -- a sync has ended well since then
 abbrev pub HasSynced : DiskState → DiskState → Type 0
 HasSynced old new = (t : ℕ) × (old.clock ≤ t) × new.synced_at t
@@ -38,3 +34,16 @@ HasSynced old new = (t : ℕ) × (old.clock ≤ t) × new.synced_at t
 -- As long as no sync has ended well, a crash leaves what it might have left before.
 abbrev pub IsUnwritten : DiskState → DiskState → Type 0
 IsUnwritten old new = LeavesOnly old new old.images ⊎ HasSynced old new
+
+-- a run that leaves only old files or ones that have P, behind one that leaves only old files
+pub old_or_behind : {old mid new : DiskState} {P : List ℕ → Type 0} → IsTimed mid → LeavesOnly old mid old.images → LeavesOnly mid new (IsOldOr mid.images P)
+    → LeavesOnly old new (IsOldOr old.images P)
+old_or_behind {old} {mid} {new} timed first second =
+    leaves_only_run
+    (leaves_only_weaken (λ c before. inl before) first)
+    (leaves_only_weaken (λ c. ⊎_elim (λ before. inl (leaves_only_now timed first c before)) (λ has. inr has)) second)
+
+-- nothing is written before a sync, behind a run that leaves only old files
+pub unwritten_behind : {old mid new : DiskState} → IsTimed mid → LeavesOnly old mid old.images → IsUnwritten mid new → IsUnwritten old new
+unwritten_behind {old} {mid} {new} timed first second =
+    ⊎_elim (λ run. inl (leaves_only_kept timed first run)) (λ synced. inr (synced.0, omega (arith, first.later, synced.1), synced.2)) second

@@ -2,11 +2,11 @@
 ghost use Rattle.std.specs.Prelude.{◌≡◌, ◌⊎◌, ◌≤◌, ◌<◌, ◌+◌, ◌∷◌, [], List, ℕ, length, IsTrue, IsErr, OnOk};
 ghost use Rattle.refusal.specs.Count.{HasRisen};
 ghost use Rattle.disk_trait.specs.Disk.{GoesOn, IsSure, MarksSync, Only, Torn, overwritten};
-ghost use Rattle.disk_trait.specs.Moments.{LeavesOnly, LeavesOnlyOnceSynced};
+ghost use Rattle.disk_trait.specs.Moments.{LeavesOnly, LeavesOnlyOnceSynced, SyncsLater};
 ghost use Rattle.gated_write.specs.Gated.{open_byte};
 ghost use Rattle.blsm_model.specs.Geometry.{file_length};
 ghost use Rattle.store_file.specs.Layout.{zeros, first_catalogue, superblock_text, first_file, IsMade};
-ghost use Rattle.store_file.specs.Making.{IsShort, IsShut, IsHalfMade, IsOldOr, SyncsLater, HasSynced, IsUnwritten};
+ghost use Rattle.store_file.specs.Making.{IsShort, IsShut, IsHalfMade, IsOldOr, HasSynced, IsUnwritten};
 
 use crate::layout::{BLOCK, FIRST_CATALOGUE, ODD_SLOT, SLOT_LEN, length_of, superblock_text};
 use blsm_model::Geometry;

@@ -1,8 +1,9 @@
 use Rattle.std.proofs.Common.{rules, arith, ◌∙◌, IsTrue, List, ℕ, length, subst, sym, ap}
 use Rattle.disk_trait.specs.Disk.{overwritten}
+use Rattle.disk_trait.specs.Moments.{no_sync_run}
 use Rattle.store_file.specs.Layout.{zeros}
 use Rattle.store_file.proofs.LayoutLemmas.{zeros_more}
-use Rattle.store_file.proofs.MakingLemmas.{shut_write, no_sync_run}
+use Rattle.store_file.proofs.MakingLemmas.{shut_write}
 use Rattle.store_file.proofs.making.write_zeros.Goals as goal
 
 pub returns-in_err-write-clause-each : goal.returns-in_err-write-clause-each
@@ -28,7 +29,7 @@ loop-at-preserved g c =
       goes_on = search rules;
       stands = search rules;
       length = search rules;
-      no_sync = no_sync_run start mid new c.loop-at.invariant.no_sync c.write.ensures.no_sync;
+      no_sync = no_sync_run c.loop-at.invariant.no_sync c.write.ensures.no_sync;
       written = λ honest blank.
           let still = subst IsTrue (sym c.loop-at.invariant.goes_on.is_honest) honest in
           c.in_ok-write.ensures.bytes still
