@@ -44,6 +44,7 @@ fn write_first_block<D: Disk>(disk: &mut D) -> Result<(), Failed>
     ensures written { OnOk result (IsTrue (D.state disk.old).is_honest → (D.state disk.new).bytes ≡ zeros BLOCK) }
     ensures durable { OnOk result (IsTrue (D.state disk.old).is_honest → Only (D.state disk.new).bytes (D.state disk.new).images) }
     ensures length { OnOk result (IsTrue (D.state disk.old).tells_bytes → length (D.state disk.new).bytes ≡ BLOCK) }
+    ensures syncs { SyncsLater (D.state disk.old) (D.state disk.new) }
     ensures goes_on { GoesOn (D.state disk.old) (D.state disk.new) }
     ensures sure { IsSure BLOCK (D.state disk.old) (D.state disk.new) }
     ensures stands { OnOk result ((D.state disk.new).faults ≡ (D.state disk.old).faults) }
@@ -141,6 +142,7 @@ pub fn make_store<D: Disk>(disk: &mut D, geometry: &Geometry) -> Result<(), Fail
     ensures durable { OnOk result (IsTrue (D.state disk.old).is_honest → Only (D.state disk.new).bytes (D.state disk.new).images) }
     ensures length { OnOk result (IsTrue (D.state disk.old).tells_bytes
         → length (D.state disk.new).bytes ≡ file_length geometry.now) }
+    ensures syncs { SyncsLater (D.state disk.old) (D.state disk.new) }
     ensures goes_on { GoesOn (D.state disk.old) (D.state disk.new) }
     ensures sure { IsSure (file_length geometry.now) (D.state disk.old) (D.state disk.new) }
     ensures stands { OnOk result ((D.state disk.new).faults ≡ (D.state disk.old).faults) }
