@@ -1,0 +1,2 @@
+pub mod PageSetLemmas
+pub mod SpaceLemmas

@@ -1,0 +1,2 @@
+pub mod PageSet
+pub mod Space
