@@ -1,2 +1,5 @@
 pub mod PageSetLemmas
 pub mod SpaceLemmas
+pub mod SizeLemmas
+pub mod FreeLemmas
+pub mod Examples

@@ -1,9 +1,9 @@
 -- What stays true of a free-page map when one of its sets changes.
 use Rattle.std.proofs.Common.{◌≡◌, ℕ, ◌<◌, true, false, List, [], length, get_or, set, ap, sym, ◌∙◌, inl, inr, arith}
 use Rattle.std.proofs.lemmas.Bool.{cases_eq, cases_lt, false≢true}
-use Rattle.std.proofs.lemmas.List.{length-set, get_or-set_same, get_or-set_other, get_or_past}
-use Rattle.page_space.specs.PageSet.{Members, IsIn, with_page, union}
-use Rattle.page_space.specs.Space.{SpaceState, pages_of, IsFree, IsSpace, role_count, seat_count}
+use Rattle.std.proofs.lemmas.List.{length-set, length-replicate, get_or-replicate, get_or-set_same, get_or-set_other, get_or_past}
+use Rattle.page_space.specs.PageSet.{Members, IsIn, none_of, with_page, union}
+use Rattle.page_space.specs.Space.{SpaceState, unused, pages_of, IsFree, IsSpace, role_count, seat_count}
 use Rattle.page_space.proofs.PageSetLemmas.{length-union}
 
 -- a page that is in a set is below its number of pages, and only a set that there is has pages
@@ -22,7 +22,7 @@ there sets k page is_in =
     ]
 
 -- a set keeps its pages when one is put into it
-kept_with : (page k : ℕ) (set : Members) → IsIn set k → IsIn (with_page page set) k
+pub kept_with : (page k : ℕ) (set : Members) → IsIn set k → IsIn (with_page page set) k
 kept_with page k set is_in =
     elim (cases_eq k page) [
       | inl same ↦
@@ -62,6 +62,15 @@ lengths_set sets n pages place changed many within long each k below =
           ∙ ap (λ (s : Members). length s) (get_or-set_same sets place changed [] (omega (arith, many, within))) ∙ long
       | inr differs ↦ ap (λ (s : Members). length s) (get_or-set_other sets place k changed [] differs) ∙ each k below
     ]
+
+pub shape_unused : (pages : ℕ) → IsSpace (unused pages)
+shape_unused pages =
+    record {
+      roles = length-replicate role_count (none_of pages);
+      pins = length-replicate seat_count (none_of pages);
+      of_role = λ role below. ap (λ (s : Members). length s) (get_or-replicate role_count role (none_of pages) [] below) ∙ length-replicate pages false;
+      of_seat = λ seat below. ap (λ (s : Members). length s) (get_or-replicate seat_count seat (none_of pages) [] below) ∙ length-replicate pages false;
+    }
 
 pub shape_with_role : (space : SpaceState) (role : ℕ) (changed : Members) → IsSpace space → role < role_count → length changed ≡ space.pages → IsSpace (record space { roles = set space.roles role changed })
 shape_with_role space role changed shape within long =

@@ -1,5 +1,5 @@
 -- What contracts see of the free-page map.
-use Rattle.std.specs.Prelude.{◌≡◌, ◌≢◌, ℕ, ◌<◌, List, [], length, replicate, slice_index_or}
+use Rattle.std.specs.Prelude.{◌≡◌, ◌≢◌, ℕ, ◌+◌, ◌<◌, ◌≤◌, List, [], length, replicate, slice_index_or}
 use Rattle.page_space.specs.PageSet.{Members, IsIn, none_of, size}
 
 -- a page may have the tags of five roles, and be pinned by sixteen seats
@@ -55,12 +55,21 @@ pub record IsSpace (space : SpaceState) : Type 0 where
   pub of_role : (role : ℕ) → role < role_count → length (pages_of space role) ≡ space.pages
   pub of_seat : (seat : ℕ) → seat < seat_count → length (pins_of space seat) ≡ space.pages
 
+-- what a map keeps that was searched for free pages below this one
+abbrev pub IsSearchedBelow : SpaceState → ℕ → Type 0
+IsSearchedBelow space end = IsSpace space × NoneFreeBelow space end
+
 -- how many pages have the role's tag, and how many the seat pins
 abbrev pub role_size : SpaceState → ℕ → ℕ
 role_size space role = size (pages_of space role)
 
 abbrev pub pin_size : SpaceState → ℕ → ℕ
 pin_size space seat = size (pins_of space seat)
+
+-- the roles have at most so many pages, all together, and each seat pins at most its share
+pub record IsWithin (live share : ℕ) (space : SpaceState) : Type 0 where
+  pub roles : role_size space 0 + role_size space 1 + role_size space 2 + role_size space 3 + role_size space 4 ≤ live
+  pub seats : (seat : ℕ) → seat < seat_count → pin_size space seat ≤ share
 
 -- the same pages have the tag of each other role
 abbrev pub KeepsOtherRoles : ℕ → SpaceState → SpaceState → Type 0

@@ -10,3 +10,6 @@ mod space;
 
 pub use role::Role;
 pub use space::Space;
+
+#[cfg(test)]
+mod tests;

@@ -1,7 +1,7 @@
 //! Which pages have which tag, which are pinned, and which are free.
-ghost use Rattle.std.specs.Prelude.{◌≡◌, ◌<◌, ◌≤◌, ◌+◌, ◌↔◌, ◌⊎◌, ℕ, length, replicate, All, IsTrue, IfOk, IfSome, IfNone};
+ghost use Rattle.std.specs.Prelude.{◌≡◌, ◌<◌, ◌≤◌, ◌+◌, ◌*◌, ◌↔◌, ◌⊎◌, ◌≢◌, ℕ, length, replicate, All, IsTrue, IfOk, IfSome, IfNone};
 ghost use Rattle.page_space.specs.PageSet.{Members, IsInSome, none_of, with_page, union};
-ghost use Rattle.page_space.specs.Space.{pages_of, pins_of, HasRole, IsFree, HasFree, NoneFreeBelow, IsLeastFree, IsSpace, unused, role_size, pin_size, KeepsOtherRoles, KeepsOtherPins};
+ghost use Rattle.page_space.specs.Space.{pages_of, pins_of, HasRole, IsPinnedBy, IsFree, HasFree, NoneFreeBelow, IsLeastFree, IsSpace, unused, role_size, pin_size, IsWithin, seat_count, KeepsOtherRoles, KeepsOtherPins};
 
 use crate::Role;
 use crate::page_set::PageSet;
@@ -24,14 +24,13 @@ pub struct Space {
 }
 
 impl Model for Space {
-    ghost use Rattle.page_space.specs.Space.{SpaceState, IsSpace, NoneFreeBelow};
+    ghost use Rattle.page_space.specs.Space.{SpaceState, IsSearchedBelow};
 
     ghost Value = { SpaceState };
 
     ghost view = { λ s. record { pages = s.pages; roles = s.roles.items; pins = s.pins.items } };
 
-    ghost invariant = { λ s. IsSpace (record { pages = s.pages; roles = s.roles.items; pins = s.pins.items })
-        × NoneFreeBelow (record { pages = s.pages; roles = s.roles.items; pins = s.pins.items }) s.in_use_below };
+    ghost invariant = { λ s. IsSearchedBelow (record { pages = s.pages; roles = s.roles.items; pins = s.pins.items }) s.in_use_below };
 }
 
 impl Space {
@@ -74,7 +73,9 @@ impl Space {
 
     /// Whether there is a free page.
     pub fn has_free(&self) -> bool
-        ensures { IsTrue result ↔ HasFree self.now }
+        ensures free { IsTrue result ↔ HasFree self.now }
+        // There is one where the roles' pages and each seat's share don't fill the map.
+        ensures within { (live share : ℕ) → IsWithin live share self.now → live + seat_count * share < self.now.pages → HasFree self.now }
     {
         self.first_free().is_some()
     }
@@ -87,6 +88,10 @@ impl Space {
         ensures pins { self.new.pins ≡ self.old.pins }
         ensures pages { self.new.pages ≡ self.old.pages }
         ensures shape { IsSpace self.new }
+        ensures tags { (tag k : ℕ) → HasRole self.new tag k ↔ (HasRole self.old tag k ⊎ ((tag ≡ role) × (k ≡ page))) }
+        // Of the pages that were free it uses up this one alone.
+        ensures free { (other : ℕ) → IsFree self.new other ↔ (IsFree self.old other × (other ≢ page)) }
+        ensures size { (HasRole self.old role page → ⊥) → role_size self.new role ≡ role_size self.old role + 1 }
     {
         let set = &mut self.roles[role.number() as usize];
         set.insert(page);
@@ -99,6 +104,9 @@ impl Space {
         ensures pins { self.new.pins ≡ self.old.pins }
         ensures pages { self.new.pages ≡ self.old.pages }
         ensures shape { IsSpace self.new }
+        // It frees none but the role's pages.
+        ensures freed { (page : ℕ) → IsFree self.new page → (IsFree self.old page ⊎ HasRole self.old role page) }
+        ensures size { role_size self.new role ≡ 0 }
     {
         let set = &mut self.roles[role.number() as usize];
         set.clear();
@@ -113,6 +121,10 @@ impl Space {
         ensures roles { self.new.roles ≡ self.old.roles }
         ensures pages { self.new.pages ≡ self.old.pages }
         ensures shape { IsSpace self.new }
+        ensures pinned { (page : ℕ) → IsPinnedBy self.new seat page ↔ (HasRole self.old c1 page ⊎ (HasRole self.old c1x page ⊎ HasRole self.old c2 page)) }
+        // It frees none but pages that the seat had pinned.
+        ensures freed { (page : ℕ) → IsFree self.new page → (IsFree self.old page ⊎ IsPinnedBy self.old seat page) }
+        ensures size { pin_size self.new seat ≤ role_size self.old c1 + role_size self.old c1x + role_size self.old c2 }
     {
         let pins = &mut self.pins[seat as usize];
         pins.set_to_union(
@@ -131,6 +143,9 @@ impl Space {
         ensures roles { self.new.roles ≡ self.old.roles }
         ensures pages { self.new.pages ≡ self.old.pages }
         ensures shape { IsSpace self.new }
+        // It frees none but pages that the seat had pinned.
+        ensures freed { (page : ℕ) → IsFree self.new page → (IsFree self.old page ⊎ IsPinnedBy self.old seat page) }
+        ensures size { pin_size self.new seat ≡ 0 }
     {
         let pins = &mut self.pins[seat as usize];
         pins.clear();
@@ -141,6 +156,7 @@ impl Space {
     fn first_free(&self) -> Option<u32>
         ensures least { IfSome result (IsLeastFree self.now) }
         ensures none { IfNone result (¬ HasFree self.now) }
+        ensures shape { IsSpace self.now }
     {
         for page in self.in_use_below..self.pages {
             if self.is_free(page) {

@@ -1,0 +1,18 @@
+-- How many pages a set has.
+use Rattle.std.proofs.Common.{◌≡◌, ◌+◌, ◌≤◌, ◌||◌, Bool, true, false, cond, [], ◌∷◌, arith}
+use Rattle.std.proofs.lemmas.List.Sums.{sum_by-cons}
+use Rattle.page_space.specs.PageSet.{Members, size, union}
+
+pub size-cons : (x : Bool) (xs : Members) → size (x ∷ xs) ≡ cond x 1 0 + size xs
+size-cons x xs = sum_by-cons (λ b. cond b 1 0) x xs
+
+pub or_le : (a b : Bool) → cond (a || b) 1 0 ≤ cond a 1 0 + cond b 1 0
+or_le true true = omega arith
+or_le true false = omega arith
+or_le false b = omega arith
+
+pub size-union_le : (xs ys : Members) → size (union xs ys) ≤ size xs + size ys
+size-union_le [] ys = omega arith
+size-union_le (x ∷ xs) [] = omega arith
+size-union_le (x ∷ xs) (y ∷ ys) =
+    omega (arith, size-union_le xs ys, or_le x y, size-cons (x || y) (union xs ys), size-cons x xs, size-cons y ys)
