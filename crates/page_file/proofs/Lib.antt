@@ -1,0 +1,3 @@
+mod Examples
+pub mod EntryLemmas
+pub mod PageLemmas

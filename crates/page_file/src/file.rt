@@ -1,0 +1,121 @@
+//! Reading and writing a page of a store's file.
+ghost use Rattle.std.specs.Prelude.{◌≡◌, ◌≢◌, ◌+◌, ◌*◌, ◌≤◌, ◌<◌, ◌^◌, ℕ, List, length, Err, IsTrue, IsErr, IsOk, OnOk};
+ghost use Rattle.refusal.specs.Count.{HasRisen};
+ghost use Rattle.disk_trait.specs.Disk.{Passes, MarksSync, ChangesNothing, WritesWithin, IsSure, Torn, overwritten};
+ghost use Rattle.disk_trait.specs.Moments.{LeavesOnly};
+ghost use Rattle.blsm_model.specs.Geometry.{page_count, file_length};
+ghost use Rattle.page_file.specs.Page.{page_length, no_page};
+ghost use Rattle.page_file.specs.File.{page_start, page_at, Tells, HasReadCause, IsOldOutside};
+
+use crate::page::{PAGE_LEN, is_page};
+use blsm_model::Geometry;
+use disk_trait::Disk;
+use refusal::Failed;
+use thiserror::Error;
+
+/// Why a page was not read.
+#[derive(Clone, Copy, PartialEq, Eq, Debug, Drop, Error)]
+pub enum Broken {
+    /// The disk failed to read.
+    #[error("a read of a page failed")]
+    Fault,
+    /// The bytes of the page of this number aren't a valid page.
+    #[error("page {0} is damaged")]
+    Damaged(u32),
+}
+
+impl From<Failed> for Broken {
+    ghost use Rattle.std.specs.Prelude.{◌≡◌};
+    ghost use Rattle.page_file.specs.declared.file.Broken.TheVariants.{Fault};
+
+    ghost from_gives = { λ _ broken. broken ≡ Fault };
+
+    fn from(_failed: Failed) -> Broken {
+        Broken::Fault
+    }
+}
+
+// The bytes before the lanes of the log, and how many halves of the spring the lanes have.
+const HEAD_LEN: u64 = 4_096;
+
+const LANE_HALVES: u64 = 12;
+
+// Where a page begins in the file, in bytes.
+fn place_of(geo: &Geometry, n: u32) -> u64
+    requires { n < page_count geo.now }
+    ensures place { result ≡ page_start geo.now n }
+    ensures inside { page_start geo.now n + page_length ≤ file_length geo.now }
+    ensures small { file_length geo.now < 2 ^ 63 }
+{
+    let _pages = geo.pages();
+    HEAD_LEN + LANE_HALVES * geo.half() + PAGE_LEN as u64 * u64::from(n)
+}
+
+/// Reads page n into a buffer and tells whether it is valid. The disk is read once, and no memory is taken.
+///
+/// After `Ok` the buffer has the page as it reads. `Damaged(n)` comes exactly where the bytes aren't a valid page; the buffer has
+/// them then too. After `Fault`, which comes only where the disk's count of faults rose, it may have any bytes. No answer
+/// changes what the disk holds.
+pub fn read_page<D: Disk>(
+    disk: &mut D,
+    geo: &Geometry,
+    n: u32,
+    into: &mut [u8; PAGE_LEN],
+) -> Result<(), Broken>
+    requires page { n < page_count geo.now }
+    requires length { IsTrue (D.state disk.old).tells_bytes → length (D.state disk.old).bytes ≡ file_length geo.now }
+
+    // Whatever the disk is, the answer is what the bytes in the buffer say; and they are those that the disk reads as.
+    ensures answer { Tells (page_count geo.now) n into.new result }
+    ensures bytes { result ≢ Err Broken.Fault → IsTrue (D.state disk.old).tells_bytes → into.new ≡ page_at geo.now n (D.state disk.new).bytes }
+    ensures tells { IsTrue (D.state disk.old).is_honest → Tells (page_count geo.now) n (page_at geo.now n (D.state disk.old).bytes) result }
+
+    // One call of the disk, which reads.
+    ensures cause { HasReadCause (D.state disk.old) (D.state disk.new) result }
+    ensures passes { Passes (D.state disk.old) (D.state disk.new) }
+    ensures no_sync { MarksSync ⊥ (D.state disk.old) (D.state disk.new) }
+    ensures same { ChangesNothing (D.state disk.old) (D.state disk.new) }
+    ensures each { IsTrue (D.state disk.old).is_honest → LeavesOnly (D.state disk.old) (D.state disk.new) (D.state disk.old).images }
+    ensures length { IsTrue (D.state disk.old).tells_bytes → length (D.state disk.new).bytes ≡ file_length geo.now }
+    ensures sure { IsSure (file_length geo.now) (D.state disk.old) (D.state disk.new) }
+{
+    disk.read(place_of(geo, n), into)?;
+    if is_page(into, geo.pages()) {
+        Ok(())
+    } else {
+        Err(Broken::Damaged(n))
+    }
+}
+
+/// Writes page n. The disk is written once, and no memory is taken.
+///
+/// After `Ok` the page reads so. Whatever is answered, no other byte changes, and a crash leaves a file that is, outside the page,
+/// one from before; of the page itself it may leave any bytes until a sync. A failure comes only where the disk's count of
+/// faults rose.
+pub fn write_page<D: Disk>(
+    disk: &mut D,
+    geo: &Geometry,
+    n: u32,
+    bytes: &[u8; PAGE_LEN],
+) -> Result<(), Failed>
+    requires page { n < page_count geo.now }
+    requires length { IsTrue (D.state disk.old).tells_bytes → length (D.state disk.old).bytes ≡ file_length geo.now }
+
+    ensures reads { OnOk result (IsTrue (D.state disk.old).is_honest → page_at geo.now n (D.state disk.new).bytes ≡ bytes.now) }
+    ensures written { OnOk result (IsTrue (D.state disk.old).is_honest
+        → (D.state disk.new).bytes ≡ overwritten (D.state disk.old).bytes (page_start geo.now n) bytes.now) }
+
+    // No byte outside the page changes, in no image of any moment.
+    ensures within { WritesWithin (page_start geo.now n) page_length (D.state disk.old) (D.state disk.new) }
+    ensures each { IsTrue (D.state disk.old).is_honest
+        → LeavesOnly (D.state disk.old) (D.state disk.new) (IsOldOutside geo.now n (D.state disk.old).images) }
+
+    ensures passes { Passes (D.state disk.old) (D.state disk.new) }
+    ensures no_sync { MarksSync ⊥ (D.state disk.old) (D.state disk.new) }
+    ensures length { IsTrue (D.state disk.old).tells_bytes → length (D.state disk.new).bytes ≡ file_length geo.now }
+    ensures sure { IsSure (file_length geo.now) (D.state disk.old) (D.state disk.new) }
+    ensures stands { OnOk result ((D.state disk.new).faults ≡ (D.state disk.old).faults) }
+    ensures failed { IsErr result → HasRisen (D.state disk.old).faults (D.state disk.new).faults }
+{
+    disk.write(place_of(geo, n), bytes)
+}

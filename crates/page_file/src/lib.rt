@@ -1,0 +1,16 @@
+//! The pages of a store's file: reading one, which tells whether it is valid, and writing one. The runs read and write their
+//! pages by it.
+#![tactic(auto)]
+
+mod entry;
+mod file;
+mod laws;
+mod number;
+mod page;
+
+pub use file::{Broken, read_page, write_page};
+pub use laws::{one_page, other_pages, where_entries_stand};
+pub use page::{LEAST_FULL, MOST_USED, PAGE_HEAD_LEN, PAGE_LEN, PageHead};
+
+#[cfg(test)]
+mod tests;
