@@ -50,6 +50,10 @@ front_of_entries sizes lane es fs file has front =
     (sym (append_assoc (blocks es) (has.gate ∷ []) (drop m own)) ∙ sym (whole_part file start m (blocks es ++ has.gate ∷ []) has.begins) ∙ whole_part file start (length (blocks fs)) (blocks fs) front.begins) in
     record { left = left.left; parts = left.parts; bytes = left.bytes ∙ drop-drop (length (blocks fs)) start file }
 
+-- so these are those and what is left
+pub front_is_front : (sizes : Sizes) (lane : ℕ) (es fs : List (Key × Rec)) (file : List ℕ) → HasEntries sizes lane es file → HasFront sizes lane fs file → (left : List (Key × Rec)) × (es ≡ fs ++ left)
+front_is_front sizes lane es fs file has front = let left = front_of_entries sizes lane es fs file has front in (left.left, left.parts)
+
 -- a closed gate behind a front: nothing is left
 left_none : (left : List (Key × Rec)) (gate : ℕ) (behind rest : List ℕ) → blocks left ++ gate ∷ behind ≡ rest → take 1 rest ≢ open_byte ∷ [] → left ≡ []
 left_none [] gate behind rest is closed = refl

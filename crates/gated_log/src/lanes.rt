@@ -182,6 +182,7 @@ impl Lanes {
         requires length { IsTrue (D.state disk.old).tells_bytes → length (D.state disk.old).bytes ≡ file_length self.old.sizes }
 
         ensures moved { self.new ≡ (if is_ok result then moved self.old lane (weight key.now rec.now + 1) else self.old) }
+        ensures ended { OnOk result (end_of self.new lane ≡ end_of self.old lane + (weight key.now rec.now + 1)) }
 
         // Where each image has the lane's entries: each of every moment of the call has them, with the new one or without, and is as one
         // from before the call outside the region; and after `Ok` each has the new one.
