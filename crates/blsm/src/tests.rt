@@ -3,6 +3,7 @@
 mod disks;
 mod full;
 mod long;
+mod opening;
 mod streams;
 mod table;
 

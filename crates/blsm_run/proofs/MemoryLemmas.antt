@@ -71,7 +71,7 @@ last_below_peak writes (e ∷ es) =
     ap (λ ws. table_weight (table_of ws)) (sym (append_assoc writes (counted e) (counted_writes es))) in
     omega (arith, last_below_peak (writes ++ counted e) es)
 
-log_push : (log : List Write) (history : List Entry) (entry : Entry) → log_after log (history ++ entry ∷ []) ≡ log_after log history ++ counted entry
+pub log_push : (log : List Write) (history : List Entry) (entry : Entry) → log_after log (history ++ entry ∷ []) ≡ log_after log history ++ counted entry
 log_push log history entry = ap (λ ws. log ++ ws) (counted_writes_push history entry) ∙ sym (append_assoc log (counted_writes history) (counted entry))
 
 -- an entry that writes nothing leaves what was written, and the peak
@@ -216,7 +216,7 @@ stands_found log m seat key found is runs s = by_found found told
     by_found None same = stands_calm log m (by seat (Get key) Absent) s runs refl (grows_calm log m (by seat (Get key) Absent) s runs refl refl refl refl tt tt (λ running. (running, same)))
     by_found (Some value) same = stands_calm log m (by seat (Get key) (Is value)) s runs refl (grows_calm log m (by seat (Get key) (Is value)) s runs refl refl refl refl tt tt (λ running. (running, same)))
 
-both_hold : (a b : Bool) → (a && b) ≡ true → (a ≡ true) × (b ≡ true)
+pub both_hold : (a b : Bool) → (a && b) ≡ true → (a ≡ true) × (b ≡ true)
 both_hold true b h = (refl, h)
 both_hold false b h = let wrong : false ≡ true = h in cc
 

@@ -13,10 +13,15 @@ use Rattle.blsm_model.specs.declared.history.Why.{Why}
 use Rattle.blsm_model.specs.declared.history.Entry.{Entry}
 use Rattle.blsm_model.specs.declared.history.Line.{Line}
 use Rattle.blsm_model.specs.declared.room.Room.{Room}
-use Rattle.blsm_model.specs.Book.{room_after}
+use Rattle.blsm_model.specs.Book.{rows_given, room_after}
+use Rattle.blsm_model.specs.declared.row.Value.{Value}
+use Rattle.blsm_model.specs.Histories.{answer_to_get}
+use Rattle.record_delta.specs.Records.{settled}
+use Rattle.mem_table.specs.Entries.{record_of_key}
 use Rattle.blsm_model.specs.Scripts.{lines_of}
 use Rattle.blsm_run.specs.Memory.{Memory, AnswersWrite, AnswersRunning, AnswersWhere, Answers}
-use Rattle.disk_trait.specs.Disk.{DiskState, GoesOn}
+use Rattle.disk_trait.specs.Disk.{DiskState}
+use Rattle.disk_trait.specs.Moments.{goes_on_start, goes_on_run, syncs_later_start, syncs_later_run}
 use Rattle.blsm_run.specs.StoreState.{StoreState}
 use Rattle.blsm_run.specs.Run.{asked, asked_in, GoesAlong}
 use Rattle.blsm_run.specs.Rooms.{HasRoomFor}
@@ -46,6 +51,31 @@ stays old new op reply a = by_stop old.stopped a
     by_stop None b = stays_running old new op reply b
     by_stop (Some why) b = (ap (λ (m : Memory). m.book) b.1, ap (λ (m : Memory). m.limit) b.1)
 
+-- no answer has rows
+no_rows_write : (old new : Memory) (w : Write) (reply : Reply) → AnswersWrite old w new reply → rows_given reply ≡ []
+no_rows_write old new w Done a = refl
+no_rows_write old new w (Full charge) a = refl
+no_rows_write old new w FaultUnsure a = refl
+no_rows_write old new w _ a = absurd a
+
+no_rows_found : (found : Option Value) → rows_given (answer_to_get found) ≡ []
+no_rows_found None = refl
+no_rows_found (Some value) = refl
+
+no_rows_running : (old new : Memory) (op : Op) (reply : Reply) → AnswersRunning old op new reply → rows_given reply ≡ []
+no_rows_running old new (Get key) reply a = ap rows_given a.0 ∙ no_rows_found (settled (record_of_key key old.table))
+no_rows_running old new (Put key value) reply a = no_rows_write old new (write.Put key value) reply a
+no_rows_running old new (Add key count) reply a = no_rows_write old new (write.Add key count) reply a.1
+no_rows_running old new (Del key) reply a = no_rows_write old new (write.Del key) reply a
+no_rows_running old new _ reply a = absurd a
+
+pub no_rows : (old new : Memory) (op : Op) (reply : Reply) → Answers old op new reply → rows_given reply ≡ []
+no_rows old new op reply a = by_stop old.stopped a
+  where
+    by_stop : (stopped : Option Why) → AnswersWhere stopped old op new reply → rows_given reply ≡ []
+    by_stop None b = no_rows_running old new op reply b
+    by_stop (Some why) b = ap rows_given b.0
+
 -- the first line's seat has room for it
 pub room_now : (room : Room) (line : Line) (lines : List Line) → line.seat < 16 → HasRoomFor room (line ∷ lines) → 0 < slice_index room.entries line.seat
 room_now room line lines seat has =
@@ -67,22 +97,14 @@ asked_then old new lines line entry before seat op is so_far =
     ∙ append_assoc (asked_in before) (asked lines) ((line.seat, line.op) ∷ [])
     ∙ ap (λ cs. asked_in before ++ cs) (sym (map-append (λ (l : Line). (l.seat, l.op)) lines (line ∷ [])))
 
-goes_then : {old mid new : DiskState} → GoesOn old mid → GoesOn mid new → GoesOn old new
-goes_then {old} {mid} {new} first second = record {
-  tells_bytes = second.tells_bytes ∙ first.tells_bytes;
-  tells_images = second.tells_images ∙ first.tells_images;
-  is_honest = second.is_honest ∙ first.is_honest;
-  sure_up_to = second.sure_up_to ∙ first.sure_up_to;
-  clock = omega (arith, first.clock, second.clock);
-  faults = omega (arith, first.faults, second.faults);
-}
-
 pub along_start : {D : Type 0} (state : D → DiskState) (s : StoreState D) → GoesAlong state s s
-along_start state s = record { disk = record { tells_bytes = refl; tells_images = refl; is_honest = refl; sure_up_to = refl; clock = omega arith; faults = omega arith }; length = λ _. refl; limit = refl }
+along_start state s = record { disk = goes_on_start (state s.disk); length = λ _. refl; syncs = syncs_later_start (state s.disk); sizes = refl; limit = refl }
 
 pub along_then : {D : Type 0} (state : D → DiskState) (old mid new : StoreState D) → GoesAlong state old mid → GoesAlong state mid new → GoesAlong state old new
 along_then state old mid new first second = record {
-  disk = goes_then first.disk second.disk;
+  disk = goes_on_run first.disk second.disk;
   length = λ tells. second.length (subst IsTrue (sym first.disk.tells_bytes) tells) ∙ first.length tells;
+  syncs = syncs_later_run first.disk.clock first.syncs second.syncs;
+  sizes = second.sizes ∙ first.sizes;
   limit = second.limit ∙ first.limit;
 }

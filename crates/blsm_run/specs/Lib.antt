@@ -4,6 +4,10 @@ pub mod Outcome
 pub mod MemoryTable
 pub mod Memory
 pub mod StoreState
+pub mod Holding
+pub mod Opening
+pub mod Showing
+pub mod Crashes
 pub mod Rooms
 pub mod Run
 pub mod Cause

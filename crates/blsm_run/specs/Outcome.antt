@@ -6,7 +6,7 @@ use Rattle.blsm_model.specs.declared.history.Entry.{Entry}
 use Rattle.blsm_model.specs.declared.history.Totals.{Totals}
 use Rattle.blsm_model.specs.Printed.{history_text}
 use Rattle.blsm_run.specs.declared.status.Status.{Status}
-use Rattle.blsm_run.specs.declared.status.Status.TheVariants.{Done, Usage, BadLine, TooBig, NotAStore, NotEmpty, Damaged, DiskFault, SourceFault, SinkFault, NoMemory}
+use Rattle.blsm_run.specs.declared.status.Status.TheVariants.{Done, Usage, BadLine, TooBig, NotAStore, Damaged, DiskFault, SourceFault, SinkFault, NoMemory}
 
 -- what a run leaves to be printed: the charge at the opening, the history, the quanta of each entry, the totals
 pub record Run : Type 0 where
@@ -22,7 +22,9 @@ pub data Outcome : Type 0 where
   too_big : Outcome
   bad_line : ℕ → Outcome
   disk_fault : Outcome
-  not_empty : ℕ → Outcome
+  not_a_store : Outcome
+  damaged_slots : Outcome
+  damaged_lane : Outcome
   no_memory : Outcome
   -- the script was run, and whether the disk's count of faults rose in it
   ran : Run → Bool → Outcome
@@ -34,7 +36,6 @@ code_of Usage = 1
 code_of BadLine = 2
 code_of TooBig = 3
 code_of NotAStore = 4
-code_of NotEmpty = 5
 code_of Damaged = 6
 code_of DiskFault = 7
 code_of SourceFault = 8
@@ -47,7 +48,9 @@ status_of source_fault = SourceFault
 status_of too_big = TooBig
 status_of (bad_line n) = BadLine
 status_of disk_fault = DiskFault
-status_of (not_empty n) = NotEmpty
+status_of not_a_store = NotAStore
+status_of damaged_slots = Damaged
+status_of damaged_lane = Damaged
 status_of no_memory = NoMemory
 status_of (ran run faulted) = if faulted then DiskFault else Done
 
@@ -60,7 +63,9 @@ text_of source_fault = codes "source fault" ++ newline
 text_of too_big = codes "too big" ++ newline
 text_of (bad_line n) = codes "bad line " ++ decimal n ++ newline
 text_of disk_fault = codes "disk fault" ++ newline
-text_of (not_empty n) = codes "not empty " ++ decimal n ++ newline
+text_of not_a_store = codes "not a store" ++ newline
+text_of damaged_slots = codes "damaged slots" ++ newline
+text_of damaged_lane = codes "damaged lane 0" ++ newline
 text_of no_memory = codes "no memory" ++ newline
 text_of (ran run faulted) = history_text run.charge run.entries run.quanta run.totals
 

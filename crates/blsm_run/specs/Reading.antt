@@ -3,8 +3,8 @@ use Rattle.std.specs.Prelude.{◌≡◌, ◌<◌, ◌≤◌, ⊤, ℕ, Option, S
 use Rattle.refusal.specs.Count.{HasRisen}
 use Rattle.script_text.specs.Grammar.{IsScript, IsBadLine}
 use Rattle.blsm_model.specs.declared.history.Line.{Line}
-use Rattle.blsm_run.specs.declared.session.Refusal.{Refusal}
-use Rattle.blsm_run.specs.declared.session.Refusal.TheVariants as refusal
+use Rattle.blsm_run.specs.declared.outcome.Refusal.{Refusal}
+use Rattle.blsm_run.specs.declared.outcome.Refusal.TheVariants as refusal
 use Rattle.blsm_run.specs.Cause.{script_limit}
 
 -- the source was read to its end

@@ -1,17 +1,26 @@
 -- What one command does to the store, and what a whole script does.
-use Rattle.std.specs.Prelude.{◌≡◌, ◌≤◌, ◌*◌, ℕ, IsTrue, List, ◌++◌, length, map}
-use Rattle.disk_trait.specs.Disk.{DiskState, GoesOn}
+use Rattle.std.specs.Prelude.{◌≡◌, ◌≤◌, ◌*◌, ◌+◌, ℕ, IsTrue, List, [], ◌∷◌, ◌++◌, length, map}
+use Rattle.disk_trait.specs.Disk.{DiskState, GoesOn, Torn}
+use Rattle.disk_trait.specs.Moments.{LeavesOnly, SyncsLater}
 use Rattle.blsm_model.specs.declared.key.Key.{Key}
 use Rattle.blsm_model.specs.declared.op.Write.{Write}
 use Rattle.blsm_model.specs.declared.op.Op.{Op}
+use Rattle.blsm_model.specs.declared.op.Op.TheVariants.{Put, Add, Del}
 use Rattle.blsm_model.specs.declared.history.Reply.{Reply}
+use Rattle.blsm_model.specs.declared.history.Reply.TheVariants.{Done, FaultUnsure}
 use Rattle.blsm_model.specs.declared.history.Entry.{Entry}
 use Rattle.blsm_model.specs.declared.history.Line.{Line}
 use Rattle.blsm_model.specs.declared.history.Totals.{Totals}
 use Rattle.blsm_model.specs.Book.{Book}
+use Rattle.blsm_model.specs.Sizes.{Sizes}
 use Rattle.record_delta.specs.declared.record.Rec.{Rec}
+use Rattle.record_delta.specs.declared.record.Rec.TheVariants.{Base, Delta, Tomb}
+use Rattle.record_delta.specs.Records.{weight}
+use Rattle.gated_log.specs.Lane.{region_start, region_length, blocks, HasEntries, EachHasEntries, IsAppended}
+use Rattle.blsm_run.specs.Holding.{log_lane}
 use Rattle.blsm_run.specs.Memory.{Memory, AnswersRecord, Answers, with_entry, StandsFor}
 use Rattle.blsm_run.specs.StoreState.{StoreState, IsStoppedByFault}
+use Rattle.blsm_run.specs.Crashes.{StandsOnDisk, KeepsShowing}
 
 -- who asked for what, in order
 abbrev pub asked : List Line → List (ℕ × Op)
@@ -20,20 +29,57 @@ asked lines = map (λ l. (l.seat, l.op)) lines
 abbrev pub asked_in : List Entry → List (ℕ × Op)
 asked_in history = map (λ e. (e.seat, e.op)) history
 
--- the disk goes on, with its length, and what the store was told of its faults
+-- the disk goes on, with its length, and each sync comes later; the sizes and the limit stay
 pub record GoesAlong {D : Type 0} (state : D → DiskState) (old new : StoreState D) : Type 0 where
   pub disk : GoesOn (state old.disk) (state new.disk)
   pub length : IsTrue (state old.disk).tells_bytes → length (state new.disk).bytes ≡ length (state old.disk).bytes
+  pub syncs : SyncsLater (state old.disk) (state new.disk)
+  pub sizes : new.sizes ≡ old.sizes
   pub limit : new.memory.limit ≡ old.memory.limit
+
+-- the disk and the end of the log are as they were
+abbrev pub HasSameDisk : {D : Type 0} → StoreState D → StoreState D → Type 0
+HasSameDisk old new = (new.disk ≡ old.disk) × (new.log_end ≡ old.log_end)
+
+-- Where each crash before left a log with some entries that end here, each crash of every moment leaves it with these, with one more or without it, and the rest of the file as it was.
+abbrev pub Appends : Sizes → ℕ → Key × Rec → DiskState → DiskState → Type 0
+Appends sizes end entry old new =
+    (entries : List (Key × Rec)) → IsTrue old.is_honest → length (blocks entries) ≡ end → EachHasEntries sizes log_lane entries old.images
+    → LeavesOnly old new (IsAppended sizes log_lane entries entry old.images)
+
+-- and each crash from now on leaves it with the one more, which is read there
+pub record HasAppended (sizes : Sizes) (end : ℕ) (entry : Key × Rec) (old new : DiskState) : Type 0 where
+  pub each : Appends sizes end entry old new
+  pub acknowledged : (entries : List (Key × Rec)) → IsTrue old.is_honest → length (blocks entries) ≡ end → EachHasEntries sizes log_lane entries old.images
+      → EachHasEntries sizes log_lane (entries ++ entry ∷ []) new.images
+  pub reads : (entries : List (Key × Rec)) → IsTrue old.is_honest → length (blocks entries) ≡ end → HasEntries sizes log_lane entries old.bytes
+      → HasEntries sizes log_lane (entries ++ entry ∷ []) new.bytes
+  pub outside : IsTrue old.is_honest → Torn (region_start sizes log_lane) (region_length sizes) old.bytes new.bytes
+
+-- What a reply to a write says of the disk: the write was appended to the log; or its append failed; or the disk was not touched.
+abbrev pub WritesOnDisk : {D : Type 0} → (D → DiskState) → Key → Rec → StoreState D → StoreState D → Reply → Type 0
+WritesOnDisk state key rec old new Done =
+    (new.log_end ≡ old.log_end + (weight key rec + 1)) × HasAppended old.sizes old.log_end (key, rec) (state old.disk) (state new.disk)
+WritesOnDisk state key rec old new FaultUnsure = Appends old.sizes old.log_end (key, rec) (state old.disk) (state new.disk)
+WritesOnDisk state key rec old new reply = HasSameDisk old new
+
+-- what a reply to a command says of it
+abbrev pub ChangesDisk : {D : Type 0} → (D → DiskState) → Op → StoreState D → StoreState D → Reply → Type 0
+ChangesDisk state (Put key value) old new reply = WritesOnDisk state key (Base value) old new reply
+ChangesDisk state (Add key count) old new reply = WritesOnDisk state key (Delta count) old new reply
+ChangesDisk state (Del key) old new reply = WritesOnDisk state key Tomb old new reply
+ChangesDisk state op old new reply = HasSameDisk old new
 
 -- One command was answered: only what is held in memory has changed, and the log on the disk.
 pub record Answered {D : Type 0} (state : D → DiskState) (op : Op) (old new : StoreState D) (reply : Reply) : Type 0 where
   pub answers : Answers old.memory op new.memory reply
+  pub disk : ChangesDisk state op old new reply
   pub along : GoesAlong state old new
 
 -- A write of this key and record was taken or refused.
 pub record AnsweredWrite {D : Type 0} (state : D → DiskState) (key : Key) (rec : Rec) (old new : StoreState D) (reply : Reply) : Type 0 where
   pub answers : AnswersRecord old.memory key rec new.memory reply
+  pub disk : WritesOnDisk state key rec old new reply
   pub along : GoesAlong state old new
 
 -- One command was answered, and noted with its reply.
@@ -42,11 +88,17 @@ pub record Executes {D : Type 0} (state : D → DiskState) (seat : ℕ) (op : Op
   pub answered : Memory
   pub answers : Answers old.memory op answered reply
   pub noted : new.memory ≡ with_entry answered (record { seat = seat; op = op; reply = reply })
+  pub limit : old.memory.limit ≡ old.sizes.half
+  pub disk : ChangesDisk state op old new reply
   pub along : GoesAlong state old new
 
--- A script was run: whatever the store stood for, it stands for now, and the history has gained the script's lines, in order.
+-- A script was run: whatever the store stood for, it stands for now, in memory and on the disk, and the history has gained the script's lines, in order.
 pub record Runs {D : Type 0} (state : D → DiskState) (lines : List Line) (old new : StoreState D) : Type 0 where
   pub stands : (log : List Write) → StandsFor log old.memory → StandsFor log new.memory
+  pub shows : (log : List Write) → StandsFor log old.memory
+      → StandsOnDisk old.sizes log old.memory.book.entries old.memory.stopped old.log_end (state old.disk)
+      → KeepsShowing old.sizes log old.memory.book.entries new.memory.book.entries (state old.disk) (state new.disk)
+      × StandsOnDisk old.sizes log new.memory.book.entries new.memory.stopped new.log_end (state new.disk)
   pub asked : asked_in new.memory.book.entries ≡ asked_in old.memory.book.entries ++ asked lines
   pub along : GoesAlong state old new
 

@@ -1,15 +1,26 @@
 -- What the run of a script over a disk, and over a shelf, answers.
-use Rattle.std.specs.Prelude.{◌≡◌, ◌<◌, ⊤, ℕ, IsTrue, List, length, Result, Ok, Err}
+use Rattle.std.specs.Prelude.{◌≡◌, ℕ, true, IsTrue, List, length, Result, Ok, Err}
 use Rattle.refusal.specs.Count.{HasRisen}
-use Rattle.disk_trait.specs.Disk.{DiskState}
+use Rattle.disk_trait.specs.Disk.{DiskState, Only}
+use Rattle.disk_trait.specs.Moments.{LeavesOnly}
 use Rattle.disk_trait.specs.Shelf.{ShelfState}
 use Rattle.blsm_model.specs.declared.history.Line.{Line}
-use Rattle.blsm_run.specs.declared.session.Finished.{Finished}
-use Rattle.blsm_run.specs.declared.session.Refusal.{Refusal}
-use Rattle.blsm_run.specs.declared.session.Refusal.TheVariants as refusal
-use Rattle.blsm_run.specs.Outcome.{Run, Outcome, usage, source_fault, too_big, bad_line, disk_fault, not_empty, no_memory, ran}
-use Rattle.store_file.specs.Making.{IsLengthOf, IsUntouched}
-use Rattle.blsm_run.specs.Cause.{HasFinished, IsRunOnShelf, WasNotEmpty, WasNotUsed}
+use Rattle.blsm_run.specs.declared.outcome.Finished.{Finished}
+use Rattle.blsm_run.specs.declared.outcome.Refusal.{Refusal}
+use Rattle.blsm_run.specs.declared.outcome.Refusal.TheVariants as refusal
+use Rattle.blsm_run.specs.Outcome.{Run, Outcome, usage, source_fault, too_big, bad_line, disk_fault, not_a_store, damaged_slots, damaged_lane, no_memory, ran}
+use Rattle.blsm_model.specs.declared.op.Write.{Write}
+use Rattle.blsm_model.specs.Sizes.{Sizes}
+use Rattle.blsm_run.specs.Outside.{OfTheDisk}
+use Rattle.blsm_model.specs.Book.{Book}
+use Rattle.blsm_model.specs.declared.history.Entry.{Entry}
+use Rattle.gated_log.specs.Lane.{blocks}
+use Rattle.blsm_run.specs.declared.opening.Opened.{Opened}
+use Rattle.blsm_run.specs.Memory.{is_untroubled, log_after}
+use Rattle.blsm_run.specs.Holding.{entries_of, HoldsWrites}
+use Rattle.blsm_run.specs.Opening.{HasOpened, Refuses, IsCounted}
+use Rattle.blsm_run.specs.Showing.{ShowsWhole, ShowsPrefix, HasShown}
+use Rattle.blsm_run.specs.Cause.{HasFinished, IsRunOnShelf}
 
 abbrev pub run_of : Finished → Run
 run_of f = record { charge = f.charge; entries = f.annals.entries; quanta = f.annals.quanta; totals = f.totals }
@@ -21,26 +32,51 @@ outcome_of (Err refusal.SourceFault) = source_fault
 outcome_of (Err refusal.TooBig) = too_big
 outcome_of (Err (refusal.BadLine n)) = bad_line n
 outcome_of (Err refusal.DiskFault) = disk_fault
-outcome_of (Err (refusal.NotEmpty n)) = not_empty n
+outcome_of (Err refusal.NotAStore) = not_a_store
+outcome_of (Err refusal.DamagedSlots) = damaged_slots
+outcome_of (Err refusal.DamagedLane) = damaged_lane
 outcome_of (Err refusal.NoMemory) = no_memory
 
--- why no command was run over a disk that was this and is that
-abbrev pub IsRefusedOver : DiskState → DiskState → Refusal → Type 0
-IsRefusedOver first last refusal.DiskFault = HasRisen first.faults last.faults
-IsRefusedOver first last (refusal.NotEmpty n) = (0 < n) × IsLengthOf n first × IsUntouched first last
-IsRefusedOver first last refusal.NoMemory = ⊤
-IsRefusedOver first last refusal = ⊥
+-- the store was opened, or why it was not
+abbrev pub Prepares : DiskState → DiskState → Result (Book × Opened) Refusal → Type 0
+Prepares old new (Ok prepared) = (writes : List Write) × HasOpened old new writes prepared.1
+Prepares old new (Err refusal) = Refuses old new refusal × IsCounted old.faults new.faults refusal
 
--- a run over that disk, or why there was none
-abbrev pub RunsOverDisk : List Line → DiskState → DiskState → Result Finished Refusal → Type 0
-RunsOverDisk lines first last (Ok finished) =
-    (IsTrue first.tells_bytes → length first.bytes ≡ 0) × HasFinished lines (run_of finished) (IsTrue finished.is_faulted) last
-RunsOverDisk lines first last (Err refusal) = IsRefusedOver first last refusal
+-- an honest disk has these writes in its log, whatever a crash leaves, and the log ends where the opening says
+pub record IsDurable (opened : Opened) (log : List Write) (disk : DiskState) : Type 0 where
+  pub honest : IsTrue disk.is_honest
+  pub ends : opened.end ≡ length (blocks (entries_of log))
+  pub holds : HoldsWrites opened.geometry log disk.bytes
+  pub durable : Only disk.bytes disk.images
+
+-- each crash since then leaves a prefix of the history, and each now the whole; without trouble that is what a read gives
+pub record KeepsWhole (sizes : Sizes) (log : List Write) (history : List Entry) (old new : DiskState) : Type 0 where
+  pub leaves : LeavesOnly old new (ShowsPrefix sizes log history 0)
+  pub whole : (c : List ℕ) → new.images c → ShowsWhole sizes log history c
+  pub reads : is_untroubled history ≡ true → HoldsWrites sizes (log_after log history) new.bytes
+
+-- A run over a disk that was this and is that, whose log had some writes; or why there was none.
+abbrev pub RunsOverDisk : {D : Type 0} → (D → DiskState) → List Line → DiskState → DiskState → Result Finished Refusal → Type 0
+RunsOverDisk state lines first last (Ok finished) =
+    (sizes : Sizes) × (log : List Write)
+    × HasFinished sizes log lines (run_of finished) (IsTrue finished.is_faulted) last
+    × (IsTrue first.is_honest → HasShown state sizes log finished.annals.entries first last)
+RunsOverDisk state lines first last (Err refusal) = Refuses first last refusal × IsCounted first.faults last.faults refusal
+
+-- the disk of this name of a shelf was refused for this
+abbrev pub IsRefusedOnShelf : {D : Type 0} → (D → DiskState) → List ℕ → ShelfState D → ShelfState D → Refusal → Type 0
+IsRefusedOnShelf state disk old new refusal = OfTheDisk state disk old new (λ first last. Refuses first last refusal)
+
+-- and no call of it failed
+abbrev pub IsFoundOnShelf : {D : Type 0} → (D → DiskState) → List ℕ → ShelfState D → ShelfState D → Refusal → Type 0
+IsFoundOnShelf state disk old new refusal = IsRefusedOnShelf state disk old new refusal × OfTheDisk state disk old new (λ first last. last.faults ≡ 0)
 
 -- over the disk of this name of a shelf
 abbrev pub RunsOnShelf : {D : Type 0} → (D → DiskState) → List ℕ → List Line → ShelfState D → ShelfState D → Result Finished Refusal → Type 0
 RunsOnShelf state disk lines old new (Ok finished) = IsRunOnShelf state disk lines (run_of finished) (IsTrue finished.is_faulted) old new
-RunsOnShelf state disk lines old new (Err refusal.DiskFault) = HasRisen old.faults new.faults
-RunsOnShelf state disk lines old new (Err (refusal.NotEmpty n)) = WasNotEmpty state disk n old new
-RunsOnShelf state disk lines old new (Err refusal.NoMemory) = WasNotUsed state disk old new
+RunsOnShelf state disk lines old new (Err refusal.DiskFault) = IsRefusedOnShelf state disk old new refusal.DiskFault × HasRisen old.faults new.faults
+RunsOnShelf state disk lines old new (Err refusal.NotAStore) = IsFoundOnShelf state disk old new refusal.NotAStore
+RunsOnShelf state disk lines old new (Err refusal.DamagedSlots) = IsFoundOnShelf state disk old new refusal.DamagedSlots
+RunsOnShelf state disk lines old new (Err refusal.DamagedLane) = IsFoundOnShelf state disk old new refusal.DamagedLane
+RunsOnShelf state disk lines old new (Err refusal.NoMemory) = IsRefusedOnShelf state disk old new refusal.NoMemory
 RunsOnShelf state disk lines old new (Err refusal) = ⊥

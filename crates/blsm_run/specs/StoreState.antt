@@ -1,4 +1,4 @@
--- What contracts see of the store: the disk, and what is held in memory; and what holds of its parts.
+-- What contracts see of the store: the disk, its sizes, the end of its log, and what is held in memory; and what holds of its parts.
 use Rattle.std.specs.Prelude.{◌≡◌, ◌≤◌, ◌*◌, ℕ, ⊤, IsTrue, length, Option, Some, None}
 use Rattle.disk_trait.specs.Disk.{DiskState}
 use Rattle.blsm_model.specs.declared.history.Why.{Why}
@@ -12,6 +12,9 @@ use Rattle.blsm_run.specs.Memory.{Memory}
 
 pub record StoreState (D : Type 0) : Type 0 where
   pub disk : D
+  pub sizes : Sizes
+  -- where in the log the next entry goes, in bytes from its region's start
+  pub log_end : ℕ
   pub memory : Memory
 
 -- a store is stopped by a fault alone, the last that the disk has counted

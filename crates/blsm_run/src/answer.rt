@@ -5,7 +5,7 @@ ghost use Rattle.blsm_run.specs.Outcome.{text_of, status_of, newline, Tells};
 ghost use Rattle.blsm_run.specs.Session.{outcome_of};
 
 use crate::Status;
-use crate::session::{Finished, Refusal};
+use crate::outcome::{Finished, Refusal};
 use itoa::Buffer;
 use refusal::Failed;
 use script_text::print_history;
@@ -37,7 +37,9 @@ fn print_refusal<K: Sink>(sink: &mut K, refusal: Refusal) -> Result<(), Failed>
         Refusal::TooBig => write_all(sink, b"too big\n"),
         Refusal::BadLine(line) => print_numbered(sink, b"bad line ", line),
         Refusal::DiskFault => write_all(sink, b"disk fault\n"),
-        Refusal::NotEmpty(length) => print_numbered(sink, b"not empty ", length),
+        Refusal::NotAStore => write_all(sink, b"not a store\n"),
+        Refusal::DamagedSlots => write_all(sink, b"damaged slots\n"),
+        Refusal::DamagedLane => write_all(sink, b"damaged lane 0\n"),
         Refusal::NoMemory => write_all(sink, b"no memory\n"),
     }
 }
@@ -69,7 +71,8 @@ fn status_for(answer: &Result<Finished, Refusal>) -> Status
         Err(Refusal::TooBig) => Status::TooBig,
         Err(Refusal::BadLine(_)) => Status::BadLine,
         Err(Refusal::DiskFault) => Status::DiskFault,
-        Err(Refusal::NotEmpty(_)) => Status::NotEmpty,
+        Err(Refusal::NotAStore) => Status::NotAStore,
+        Err(Refusal::DamagedSlots | Refusal::DamagedLane) => Status::Damaged,
         Err(Refusal::NoMemory) => Status::NoMemory,
     }
 }

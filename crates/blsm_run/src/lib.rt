@@ -3,6 +3,8 @@
 #![tactic(auto)]
 
 mod answer;
+mod opening;
+mod outcome;
 mod perform;
 mod run;
 mod session;

@@ -4,7 +4,8 @@ ghost use Rattle.blsm_run.specs.Reading.{ReadsScript};
 ghost use Rattle.blsm_run.specs.Cause.{Cause};
 ghost use Rattle.blsm_run.specs.Session.{outcome_of};
 
-use crate::session::{Finished, Refusal, run_on_shelf};
+use crate::outcome::{Finished, Refusal};
+use crate::session::run_on_shelf;
 use crate::words::{Unread, name_of};
 use disk_trait::Shelf;
 use script_text::{Script, ScriptFault, read_script};

@@ -1,96 +1,67 @@
 //! One script, run over the disk of a name.
-ghost use Rattle.std.specs.Prelude.{◌≡◌, ◌≤◌, [], sum, length, IsTrue, IfOk, IfErr, OnOk, Err};
+ghost use Rattle.std.specs.Prelude.{◌≡◌, ◌≤◌, ◌<◌, ◌*◌, List, [], sum, length, IsTrue, IfOk};
 ghost use Rattle.disk_trait.specs.Disk.{GoesOn};
+ghost use Rattle.disk_trait.specs.Moments.{SyncsLater};
+ghost use Rattle.gated_log.specs.Lane.{region_length};
+ghost use Rattle.blsm_model.specs.declared.op.Write.{Write};
+ghost use Rattle.blsm_model.specs.Geometry.{file_length};
 ghost use Rattle.blsm_run.specs.Rooms.{HasRoomFor, AreRunnable};
-ghost use Rattle.blsm_model.specs.Geometry.{file_length, high_mark};
 ghost use Rattle.blsm_run.specs.Outside.{HasFetched};
-ghost use Rattle.blsm_run.specs.Cause.{HasFinished, charge_limit};
-ghost use Rattle.blsm_run.specs.Session.{run_of, IsRefusedOver, RunsOverDisk, RunsOnShelf};
+ghost use Rattle.blsm_run.specs.Opening.{HasTaken, IsFit};
+ghost use Rattle.blsm_run.specs.Cause.{HasFinished};
+ghost use Rattle.blsm_run.specs.Session.{run_of, Prepares, IsDurable, KeepsWhole, RunsOverDisk, RunsOnShelf};
 
+use crate::opening::{Opened, open};
+use crate::outcome::{Finished, Refusal};
 use crate::store::Store;
-use blsm_model::{Annals, Geometry, Line, Room, Totals};
+use blsm_model::{Annals, Line, Room};
 use disk_trait::{Disk, Shelf};
-use mem_table::Table;
 use std::alloc::Global;
-use store_file::{MakeFault, make_store};
 
-/// What a run leaves to be printed.
-#[derive(Drop)]
-pub(crate) struct Finished {
-    /// The charge at the opening.
-    pub charge: u64,
-    pub annals: Annals,
-    pub totals: Totals,
-    /// Whether a call of the disk failed.
-    pub is_faulted: bool,
-}
-
-/// Why no command of a script was run.
-#[derive(Clone, Copy, Debug, PartialEq, Eq)]
-pub(crate) enum Refusal {
-    Usage,
-    SourceFault,
-    TooBig,
-    BadLine(u64),
-    DiskFault,
-    NotEmpty(u64),
-    NoMemory,
-}
-
-// Reserves the memory of a run, and makes the store.
-fn prepare<D: Disk>(
-    alloc: Global,
-    disk: &mut D,
-    geometry: &Geometry,
-    room: Room,
-) -> Result<(Annals, Table), Refusal>
+// Reserves the memory of a history, and opens the store.
+fn prepare<D: Disk>(alloc: Global, disk: &mut D, room: Room) -> Result<(Annals, Opened), Refusal>
     requires entries { sum room.entries ≤ 65537 }
     requires rows { sum room.rows ≤ 131072 }
     ensures goes_on { GoesOn (D.state disk.old) (D.state disk.new) }
-    ensures annals { IfOk result (λ reserved. reserved.0 ≡ record { entries = []; quanta = []; room = room }) }
-    ensures table { IfOk result (λ reserved. reserved.1 ≡ record { entries = []; reserved = high_mark geometry.now }) }
-    ensures empty { OnOk result (IsTrue (D.state disk.old).tells_bytes → length (D.state disk.old).bytes ≡ 0) }
-    ensures length { OnOk result (IsTrue (D.state disk.old).tells_bytes → length (D.state disk.new).bytes ≡ file_length geometry.now) }
-    ensures refused { IfErr result (IsRefusedOver (D.state disk.old) (D.state disk.new)) }
-    ensures untouched { result ≡ Err Refusal.NoMemory → disk.new ≡ disk.old }
+    ensures annals { IfOk result (λ prepared. prepared.0 ≡ record { entries = []; quanta = []; room = room }) }
+    ensures opens { Prepares (D.state disk.old) (D.state disk.new) result }
 {
     let Ok(annals) = Annals::reserve(alloc, room) else {
         return Err(Refusal::NoMemory);
     };
-    let Ok(table) = Table::reserve(alloc, geometry.high_mark()) else {
-        return Err(Refusal::NoMemory);
-    };
-    match make_store(disk, geometry) {
-        Ok(()) => Ok((annals, table)),
-        Err(MakeFault::NotEmpty(length)) => Err(Refusal::NotEmpty(length)),
-        Err(MakeFault::Failed) => Err(Refusal::DiskFault),
-    }
+    let opened = open(alloc, disk)?;
+    Ok((annals, opened))
 }
 
-// Runs the script over a store that was just made.
+// Runs the script over a store that was just opened.
 fn run_store<D: Disk + Drop>(
     disk: D,
-    geometry: Geometry,
+    opened: Opened,
     annals: Annals,
-    table: Table,
     lines: &[Line],
 ) -> (D, Finished)
-    requires length { IsTrue (D.state disk).tells_bytes → length (D.state disk).bytes ≡ file_length geometry }
+    requires length { IsTrue (D.state disk).tells_bytes → length (D.state disk).bytes ≡ file_length opened.geometry }
+    requires fit { IsFit opened }
+    requires inside { opened.end < region_length opened.geometry }
+    requires short { opened.end ≤ 2 * opened.charge }
     requires history { annals.entries ≡ [] }
     requires quanta { annals.quanta ≡ [] }
-    requires table { table ≡ record { entries = []; reserved = high_mark geometry } }
-    requires half { geometry.half ≡ charge_limit }
     requires runnable { AreRunnable lines.now }
     requires room { HasRoomFor annals.room lines.now }
     ensures goes_on { GoesOn (D.state disk) (D.state result.0) }
-    ensures finished { HasFinished lines.now (run_of result.1) (IsTrue result.1.is_faulted) (D.state result.0) }
+    ensures syncs { SyncsLater (D.state disk) (D.state result.0) }
+    ensures finished { (log : List Write) → HasTaken log opened
+        → HasFinished opened.geometry log lines.now (run_of result.1) (IsTrue result.1.is_faulted) (D.state result.0) }
+    ensures shows { (log : List Write) → HasTaken log opened → IsDurable opened log (D.state disk)
+        → KeepsWhole opened.geometry log result.1.annals.entries (D.state disk) (D.state result.0) }
 {
-    let mut store = Store::new(disk, geometry, annals, table);
+    let charge = opened.charge;
+    let mut store = Store::new(disk, opened, annals);
     store.run(lines);
     let (disk, annals, totals) = store.end();
     let is_faulted = disk.faults() > 0;
     let finished = Finished {
-        charge: 0,
+        charge,
         annals,
         totals,
         is_faulted,
@@ -98,7 +69,7 @@ fn run_store<D: Disk + Drop>(
     (disk, finished)
 }
 
-/// Makes a store of the disk, and runs the script over it. The disk comes back whatever happens, as it was where memory was refused.
+/// Opens the store on the disk, and runs the script over it. The disk comes back whatever happens.
 pub(crate) fn run_over_disk<D: Disk + Drop>(
     alloc: Global,
     disk: D,
@@ -110,14 +81,12 @@ pub(crate) fn run_over_disk<D: Disk + Drop>(
     requires runnable { AreRunnable lines.now }
     requires room { HasRoomFor room lines.now }
     ensures goes_on { GoesOn (D.state disk) (D.state result.0) }
-    ensures runs { RunsOverDisk lines.now (D.state disk) (D.state result.0) result.1 }
-    ensures untouched { result.1 ≡ Err Refusal.NoMemory → result.0 ≡ disk }
+    ensures runs { RunsOverDisk D.state lines.now (D.state disk) (D.state result.0) result.1 }
 {
     let mut disk = disk;
-    let geometry = Geometry::default();
-    match prepare(alloc, &mut disk, &geometry, room) {
-        Ok((annals, table)) => {
-            let (disk, finished) = run_store(disk, geometry, annals, table, lines);
+    match prepare(alloc, &mut disk, room) {
+        Ok((annals, opened)) => {
+            let (disk, finished) = run_store(disk, opened, annals, lines);
             (disk, Ok(finished))
         }
         Err(refusal) => (disk, Err(refusal)),

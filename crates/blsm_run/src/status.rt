@@ -14,8 +14,6 @@ pub enum Status {
     TooBig = 3,
     /// The disk is no store.
     NotAStore = 4,
-    /// The disk is to be made into a store, and has bytes already.
-    NotEmpty = 5,
     /// A part of the store is not of the written form.
     Damaged = 6,
     /// The shelf or the disk failed.

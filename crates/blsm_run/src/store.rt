@@ -1,17 +1,20 @@
 //! The store as one caller at a time sees it: a write-ahead log on a disk, the memory table that it stands for, and the history of its
 //! commands.
-ghost use Rattle.std.specs.Prelude.{◌≡◌, ◌≤◌, ◌<◌, ◌+◌, ◌*◌, [], length, IsTrue, None, slice_index};
+ghost use Rattle.std.specs.Prelude.{◌≡◌, ◌≤◌, ◌<◌, ◌+◌, ◌*◌, length, IsTrue, None, slice_index};
 ghost use Rattle.std.specs.FinMap.{find};
 ghost use Rattle.disk_trait.specs.Disk.{GoesOn};
 ghost use Rattle.blsm_model.specs.Keys.{key_cmp};
 ghost use Rattle.blsm_model.specs.Values.{weight_of, key_of};
-ghost use Rattle.blsm_model.specs.Geometry.{file_length, high_mark};
+ghost use Rattle.blsm_model.specs.Geometry.{file_length};
+ghost use Rattle.gated_log.specs.Lane.{region_length};
 ghost use Rattle.blsm_model.specs.Histories.{answer_to_get};
 ghost use Rattle.blsm_model.specs.Plain.{is_plain};
 ghost use Rattle.record_delta.specs.Records.{settled, record_of, weight as weight_with};
 ghost use Rattle.mem_table.specs.Entries.{record_of_key};
 ghost use Rattle.blsm_run.specs.Rooms.{HasRoomFor, AreRunnable};
+ghost use Rattle.blsm_run.specs.Opening.{IsFit, memory_at};
 
+use crate::opening::{LANE, Opened};
 use blsm_model::{Annals, Entry, Geometry, Key, Line, Op, Reply, Totals, Why, Write};
 use disk_trait::Disk;
 use gated_log::Lanes;
@@ -19,9 +22,6 @@ use mem_table::Table;
 use record_delta::{Rec, settle, weight};
 use refusal::Failed;
 use std::marker::Model;
-
-// The lane that every write goes to.
-const LANE: u8 = 0;
 
 /// A store over a disk. Contracts see it as the disk and what is held in memory.
 #[derive(Drop)]
@@ -39,12 +39,16 @@ pub(crate) struct Store<D: Disk + Drop> {
 }
 
 impl<D: Disk + Drop> Model for Store<D> {
+    ghost use Rattle.gated_log.specs.Lanes.{end_of};
+    ghost use Rattle.blsm_run.specs.Holding.{log_lane};
     ghost use Rattle.blsm_run.specs.StoreState.{StoreState, IsKept};
 
     ghost Value = { StoreState D };
 
     ghost view = { λ s. record {
       disk = s.disk;
+      sizes = s.geometry;
+      log_end = end_of s.lanes log_lane;
       memory = record { table = s.table.entries; book = s.annals; charge = s.charge; limit = s.geometry.half; peak = s.peak; stopped = s.stopped };
     } };
 
@@ -54,22 +58,27 @@ impl<D: Disk + Drop> Model for Store<D> {
 impl<D: Disk + Drop> Store<D> {
     ghost use Rattle.blsm_run.specs.Run.{Answered, AnsweredWrite, Executes, Runs, Ends};
 
-    /// A store with nothing in it, over a disk that was just made.
-    pub fn new(disk: D, geometry: Geometry, annals: Annals, table: Table) -> Store<D>
-        requires length { IsTrue (D.state disk).tells_bytes → length (D.state disk).bytes ≡ file_length geometry }
-        requires table { table ≡ record { entries = []; reserved = high_mark geometry } }
+    /// The store that was opened on a disk, with no history yet.
+    pub fn new(disk: D, opened: Opened, annals: Annals) -> Store<D>
+        requires length { IsTrue (D.state disk).tells_bytes → length (D.state disk).bytes ≡ file_length opened.geometry }
+        requires fit { IsFit opened }
+        requires inside { opened.end < region_length opened.geometry }
+        requires short { opened.end ≤ 2 * opened.charge }
         ensures disk { result.disk ≡ disk }
-        ensures memory { result.memory ≡ record { table = []; book = annals; charge = 0; limit = geometry.half; peak = 0; stopped = None } }
+        ensures sizes { result.sizes ≡ opened.geometry }
+        ensures log_end { result.log_end ≡ opened.end }
+        ensures memory { result.memory ≡ memory_at opened annals }
     {
-        let lanes = Lanes::resume(&geometry, [0, 1, 2], [0; 3]);
+        let lanes = Lanes::resume(&opened.geometry, [0, 1, 2], [opened.end, 0, 0]);
+        let peak = opened.table.weight();
         Store {
             disk,
             lanes,
-            table,
+            table: opened.table,
             annals,
-            geometry,
-            charge: 0,
-            peak: 0,
+            geometry: opened.geometry,
+            charge: opened.charge,
+            peak,
             stopped: None,
         }
     }

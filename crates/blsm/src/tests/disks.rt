@@ -7,7 +7,7 @@ use std::test::Fail;
 
 // Making asks for the length and syncs, writes the first block and syncs, writes 5,739 blocks, the catalogue and the superblock's
 // text and syncs, writes the gate and syncs.
-const MAKING: u64 = 5_748;
+pub(super) const MAKING: u64 = 5_748;
 
 // Each write takes four calls: the entry, a sync, the gate, a sync.
 const APPEND: u64 = 4;

@@ -195,12 +195,12 @@ fn sixteen_callers_share_one_map(rt: HostRuntime) -> Result<(), Fail> {
 fn a_disk_with_bytes_is_left_as_it_was(rt: HostRuntime) -> Result<(), Fail> {
     let alloc = rt.alloc();
     for (old, text) in [
-        (b"x".as_slice(), "not empty 1\n"),
-        (b"0123456789", "not empty 10\n"),
+        (b"x".as_slice(), "not a store\n"),
+        (b"0123456789", "not a store\n"),
     ] {
         let mut disk = MemDisk::new(alloc, DISK_LIMIT, 4096)?;
         disk.write(0, old).map_err(|_| "not written")?;
-        let wanted = (Status::NotEmpty, text);
+        let wanted = (Status::NotAStore, text);
         let mut disk = check(&rt, alloc, &RUN, b"1 put a 1 -", disk, wanted)?;
         assert_eq!(rt; length_of(&mut disk)?, old.len() as u64);
         let mut bytes = vec![in alloc; 0u8; old.len()]?;

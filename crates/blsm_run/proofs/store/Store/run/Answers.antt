@@ -4,6 +4,10 @@ use Rattle.blsm_model.specs.Book.{Book}
 use Rattle.blsm_run.specs.Memory.{Memory, StandsFor}
 use Rattle.blsm_run.specs.Rooms.{HasRoomFor}
 use Rattle.blsm_run.specs.Run.{asked, asked_in}
+use Rattle.blsm_model.specs.Sizes.{Sizes}
+use Rattle.blsm_model.specs.declared.history.Entry.{Entry}
+use Rattle.blsm_run.specs.Crashes.{StandsOnDisk}
+use Rattle.blsm_run.proofs.CrashLemmas.{Kept, kept_start, kept_push, kept_then}
 use Rattle.blsm_run.proofs.MemoryLemmas.{stands_push}
 use Rattle.blsm_run.proofs.RunLemmas.{stays, room_then, asked_then, along_then, along_start}
 use Rattle.blsm_run.proofs.store.Store.run.Goals as goal
@@ -11,6 +15,7 @@ use Rattle.blsm_run.proofs.store.Store.run.Goals as goal
 pub loop-line-init : goal.loop-line-init
 loop-line-init g c = record {
   stands = λ log stood. stood;
+  shows = λ log stood on. (kept_start c.args.self.now.sizes log c.args.self.now.memory.book.entries (g.D.Disk.state c.args.self.now.disk) (g.met.D.Disk.timed c.args.self.now.disk) on.whole, on);
   asked = sym (append-nil (asked_in c.args.self.now.memory.book.entries));
   along = along_start g.D.Disk.state c.args.self.now;
   room = c.requires.room;
@@ -18,6 +23,7 @@ loop-line-init g c = record {
 
 pub loop-line-preserved : goal.loop-line-preserved
 loop-line-preserved g c =
+    let state = g.D.Disk.state in
     let lines = c.args.lines.now in
     let i = c.loop-line.line-index in
     let line = c.line-item.result in
@@ -31,6 +37,23 @@ loop-line-preserved g c =
     record {
       stands = λ log stood. subst (λ (m : Memory). StandsFor log m) (sym did.noted)
           (stands_push log old did.answered line.seat line.op did.reply did.answers (c.loop-line.invariant.stands log stood));
+      shows = λ log stood on.
+          let first = c.args.self.now in
+          let before = c.loop-line.self in
+          let after = c.execute.new.self in
+          let entry : Entry = record { seat = line.seat; op = line.op; reply = did.reply } in
+          let sizes = c.loop-line.invariant.along.sizes in
+          let so_far = c.loop-line.invariant.shows log stood on in
+          let one = kept_push state log before after (g.met.D.Disk.timed before.disk) (g.met.D.Disk.timed after.disk) did.along.disk did.answered line.seat line.op did.reply did.limit did.answers did.disk
+          (c.loop-line.invariant.stands log stood)
+          (subst (λ (s : Sizes). StandsOnDisk s log old.book.entries old.stopped before.log_end (state before.disk)) (sym sizes) so_far.1) in
+          let entries : new.book.entries ≡ old.book.entries ++ entry ∷ [] = ap (λ (b : Book). b.entries) book ∙ ap (λ (b : Book). b.entries ++ entry ∷ []) kept.0 in
+          let stopped : new.stopped ≡ did.answered.stopped = ap (λ (m : Memory). m.stopped) did.noted in
+          let more : Kept first.sizes log old.book.entries (state before.disk) new.book.entries new.stopped after.log_end (state after.disk) =
+          subst (λ w. Kept first.sizes log old.book.entries (state before.disk) new.book.entries w after.log_end (state after.disk)) (sym stopped)
+          (subst (λ es. Kept first.sizes log old.book.entries (state before.disk) es did.answered.stopped after.log_end (state after.disk)) (sym entries)
+          (subst (λ (s : Sizes). Kept s log old.book.entries (state before.disk) (old.book.entries ++ entry ∷ []) did.answered.stopped after.log_end (state after.disk)) sizes one)) in
+          (kept_then first.sizes log first.memory.book.entries old.book.entries new.book.entries (state first.disk) (state before.disk) (state after.disk) so_far.0 more.0, more.1);
       asked =
           asked_then old.book.entries new.book.entries (take i lines) line (record { seat = line.seat; op = line.op; reply = did.reply }) c.args.self.now.memory.book.entries refl refl
           (ap (λ (b : Book). b.entries) book ∙ ap (λ (b : Book). b.entries ++ (record { seat = line.seat; op = line.op; reply = did.reply }) ∷ []) kept.0) c.loop-line.invariant.asked

@@ -3,11 +3,16 @@ use Rattle.blsm_model.specs.declared.op.Write.{Write}
 use Rattle.blsm_run.specs.Rooms.{HasRoomFor}
 use Rattle.blsm_run.specs.Memory.{StandsFor}
 use Rattle.blsm_run.specs.Run.{asked, asked_in, GoesAlong}
+use Rattle.blsm_run.specs.Crashes.{StandsOnDisk}
+use Rattle.blsm_run.proofs.CrashLemmas.{Kept}
 use Rattle.blsm_run.proofs.store.Store.run.Given as goal
 
 abbrev pub invariant-loop-line : goal.invariant-loop-line
 invariant-loop-line g l = record {
   stands : (log : List Write) → StandsFor log l.fn.self.memory → StandsFor log l.self.memory;
+  shows : (log : List Write) → StandsFor log l.fn.self.memory
+      → StandsOnDisk l.fn.self.sizes log l.fn.self.memory.book.entries l.fn.self.memory.stopped l.fn.self.log_end (g.D.Disk.state l.fn.self.disk)
+      → Kept l.fn.self.sizes log l.fn.self.memory.book.entries (g.D.Disk.state l.fn.self.disk) l.self.memory.book.entries l.self.memory.stopped l.self.log_end (g.D.Disk.state l.self.disk);
   asked : asked_in l.self.memory.book.entries ≡ asked_in l.fn.self.memory.book.entries ++ asked (take l.line-index l.lines);
   along : GoesAlong g.D.Disk.state l.fn.self l.self;
   room : HasRoomFor l.self.memory.book.room (drop l.line-index l.lines);

@@ -1,0 +1,64 @@
+-- What a run over a disk of a shelf says of the shelf.
+use Rattle.std.proofs.Common.{◌≡◌, ℕ, ◌+◌, ◌-◌, ◌^◌, ◌<◌, ◌≤◌, min, List, Some, Option, IfSome, IsSome, IsTrue, Result, Ok, Err, refl, sym, subst, ◌∙◌, arith}
+use Rattle.refusal.specs.Count.{HasRisen, HasRisenBy}
+use Rattle.disk_trait.specs.Disk.{DiskState}
+use Rattle.disk_trait.specs.Shelf.{ShelfState, TakesOut, PutsBack, IsFreshCount}
+use Rattle.blsm_model.specs.declared.history.Line.{Line}
+use Rattle.blsm_model.specs.declared.op.Write.{Write}
+use Rattle.blsm_model.specs.Sizes.{Sizes}
+use Rattle.blsm_run.specs.declared.outcome.Finished.{Finished}
+use Rattle.blsm_run.specs.declared.outcome.Refusal.{Refusal}
+use Rattle.blsm_run.specs.declared.outcome.Refusal.TheVariants as refusal
+use Rattle.blsm_run.specs.Memory.{fault_count}
+use Rattle.blsm_run.specs.Outside.{OfTheDisk}
+use Rattle.blsm_run.specs.Opening.{Refuses}
+use Rattle.blsm_run.specs.Showing.{HasShown}
+use Rattle.blsm_run.specs.Cause.{HasFinished, StopsName, IsRunOnShelf}
+use Rattle.blsm_run.specs.Session.{run_of, RunsOverDisk, IsRefusedOnShelf, IsFoundOnShelf, RunsOnShelf}
+use Rattle.blsm_run.proofs.ShownLemmas.{fresh_refuses, fresh_shown}
+
+module _ {D : Type 0} (state : D → DiskState) (name : List ℕ) (lines : List Line) (old mid new : ShelfState D) (disk last : D) (count : (state disk).faults ≡ 0) (taken : IsTrue old.tells_disks → TakesOut state name old mid disk) (stands : mid.faults ≡ old.faults) (told : mid.tells_disks ≡ old.tells_disks) (put : IsTrue mid.tells_disks → IsTrue (mid.is_out name) → PutsBack name mid new last) (faults : new.faults ≡ min (mid.faults + (state last).faults) (2 ^ 64 - 1)) where
+  -- what is said of the disk that stood under the name, and of the one that stands there again
+  of_the_disk : (P : DiskState → DiskState → Type 0) → ((before : D) → IsFreshCount (state before) (state disk) → P (state before) (state last)) → OfTheDisk state name old new P
+  of_the_disk P says tells =
+      let took = taken tells in
+      subst (λ (o : Option D). IfSome o (λ first. (d : D) × (new.disk_at name ≡ Some d) × P (state first) (state d))) (sym took.stood.1)
+      (last, (put (told ∙ tells) took.out).stands, says took.stood.0 took.stood.2)
+
+  rises_by : (n : ℕ) → n ≤ (state last).faults → HasRisenBy n old.faults new.faults
+  rises_by n few = grind (arith, stands, faults, few)
+
+  rises : 0 < (state last).faults → HasRisen old.faults new.faults
+  rises some = grind (arith, stands, faults, some)
+
+  finished_on_shelf : (finished : Finished) (sizes : Sizes) (log : List Write) → HasFinished sizes log lines (run_of finished) (IsTrue finished.is_faulted) (state last)
+      → (IsTrue (state disk).is_honest → HasShown state sizes log finished.annals.entries (state disk) (state last)) → IsRunOnShelf state name lines (run_of finished) (IsTrue finished.is_faulted) old new
+  finished_on_shelf finished sizes log has shown = record {
+    sizes = sizes;
+    log = log;
+    run_of = has.run_of;
+    stood = λ tells. subst (λ (o : Option D). IsSome o) (sym (taken tells).stood.1) refl;
+    shown = of_the_disk (λ a b. IsTrue a.is_honest → HasShown state sizes log finished.annals.entries a b) (λ before fresh honest. fresh_shown fresh state sizes log finished.annals.entries (state last) shown honest);
+    faults = rises_by (fault_count finished.annals.entries) has.faults;
+    troubles = λ trouble. rises (has.troubles trouble);
+    one_fault = has.one_fault;
+    stops = of_the_disk (λ a b. StopsName b.faults (run_of finished)) (λ before fresh. has.stops);
+    rose = λ faulted. rises (has.counted faulted);
+    counted = of_the_disk (λ a b. IsTrue finished.is_faulted → 0 < b.faults) (λ before fresh. has.counted);
+    calm = of_the_disk (λ a b. (¬ (IsTrue finished.is_faulted)) → b.faults ≡ 0) (λ before fresh. has.calm);
+  }
+
+  refused : (r : Refusal) → Refuses (state disk) (state last) r → IsRefusedOnShelf state name old new r
+  refused r says = of_the_disk (λ a b. Refuses a b r) (λ before fresh. fresh_refuses fresh (state last) r says)
+
+  found : (r : Refusal) → Refuses (state disk) (state last) r → (state last).faults ≡ (state disk).faults → IsFoundOnShelf state name old new r
+  found r says calm = (refused r says, of_the_disk (λ a b. b.faults ≡ 0) (λ before fresh. calm ∙ count))
+
+  pub on_shelf : (result : Result Finished Refusal) → RunsOverDisk state lines (state disk) (state last) result → RunsOnShelf state name lines old new result
+  on_shelf (Ok finished) runs = finished_on_shelf finished runs.0 runs.1 runs.2 runs.3
+  on_shelf (Err refusal.DiskFault) runs = (refused refusal.DiskFault runs.0, grind (arith, stands, faults, count, runs.1))
+  on_shelf (Err refusal.NotAStore) runs = found refusal.NotAStore runs.0 runs.1
+  on_shelf (Err refusal.DamagedSlots) runs = found refusal.DamagedSlots runs.0 runs.1
+  on_shelf (Err refusal.DamagedLane) runs = found refusal.DamagedLane runs.0 runs.1
+  on_shelf (Err refusal.NoMemory) runs = refused refusal.NoMemory runs.0
+  on_shelf (Err _) runs = absurd runs.0

@@ -1,0 +1,129 @@
+use Rattle.std.proofs.Common.{◌≡◌, ◌<◌, ◌+◌, IsTrue, Ok, Err, Some, refl, ap, sym, subst, ◌∙◌, [], ◌∷◌, ◌++◌, arith, List, IfOk, IfSome, inr}
+use Rattle.std.proofs.lemmas.Result.{err_from_is_err_and}
+use Rattle.disk_trait.specs.Moments.{goes_on_start, goes_on_run, leaves_only_start, leaves_only_kept, no_sync_start, no_sync_run}
+use Rattle.blsm_model.specs.Legal.{total_weight}
+use Rattle.blsm_model.specs.Sizes.{Sizes}
+use Rattle.record_delta.specs.Records.{write_of, weight}
+use Rattle.gated_log.specs.Replay.{HasGiven, ReplayState, replay_after}
+use Rattle.gated_log.specs.Lane.{IsDamagedBehind, HasFront}
+use Rattle.blsm_run.specs.Holding.{log_lane, entries_of}
+use Rattle.blsm_model.specs.declared.key.Key.{Key}
+use Rattle.record_delta.specs.declared.record.Rec.{Rec}
+use Rattle.gated_log.specs.declared.replay.LaneBroken.TheVariants.{Damaged}
+use Rattle.blsm_run.specs.Opening.{Replays, IsBroken}
+use Rattle.blsm_run.proofs.OpeningLemmas.{same_error, taken_start, fit_start, broken_told, ends_push, too_heavy, entries_of-push}
+use Rattle.blsm_run.proofs.opening.replay_lane.Goals as goal
+
+pub loop-key-init : goal.loop-key-init
+loop-key-init g c =
+    let first = g.D.Disk.state c.args.disk.now in
+    let begun = c.new-replay.ensures in
+    let none : c.new-replay.result.end ≡ 0 = ap (λ (r : ReplayState). r.end) begun.start in
+    record {
+      sizes = ap (λ (r : ReplayState). r.sizes) begun.start;
+      lane = ap (λ (r : ReplayState). r.lane) begun.start;
+      same = refl;
+      fit = fit_start c.args.opened.now c.args.opened.now.geometry c.requires.empty;
+      short = omega arith;
+      goes_on = goes_on_start first;
+      long = λ _. refl;
+      bytes = λ _. refl;
+      each = λ honest. leaves_only_start first first.images (g.met.D.Disk.timed c.args.disk.now) (λ d left. left);
+      no_sync = no_sync_start first;
+      stands = refl;
+      given = ([], taken_start c.args.opened.now c.args.opened.now.geometry c.requires.empty, sym none, λ honest. begun.nothing first.bytes);
+    }
+
+pub returns-in_err-key-clause-replays : goal.returns-in_err-key-clause-replays
+returns-in_err-key-clause-replays g c =
+    let first = g.D.Disk.state c.args.disk.now in
+    let mid = g.D.Disk.state c.loop-key.disk in
+    let new = g.D.Disk.state c.next.new.disk in
+    let inv = c.loop-key.invariant in
+    let next = c.next.ensures in
+    let entries = entries_of inv.given.0 in
+    let told = err_from_is_err_and c.from_residual.result c.from_residual.ensures.1 in
+    subst (λ r. Replays first new c.loop-key.opened r) (sym (told.1 ∙ ap Err told.2))
+    (broken_told first mid new c.loop-key.opened c.loop-key.replay.sizes c.loop-key.replay.lane entries c.next.result c.in_err-key.field-0.0 c.in_err-key.was
+    inv.sizes inv.lane inv.stands next.failed next.stands next.lane
+    (λ honest l is.
+    let honest' : IsTrue mid.is_honest = inv.goes_on.is_honest ∙ honest in
+    let bytes : new.bytes ≡ first.bytes = next.same.same.bytes honest' ∙ inv.bytes honest in
+    subst (λ b. IsDamagedBehind c.loop-key.replay.sizes c.loop-key.replay.lane entries b) bytes
+    (next.damaged entries l (g.met.D.Disk.honest_tells c.loop-key.disk honest') (subst (λ b. HasGiven c.loop-key.replay entries b) (sym bytes) (inv.given.3 honest)) is)))
+
+pub loop-key-preserved : goal.loop-key-preserved
+loop-key-preserved g c =
+    let first = g.D.Disk.state c.args.disk.now in
+    let mid = g.D.Disk.state c.loop-key.disk in
+    let new = g.D.Disk.state c.next.new.disk in
+    let inv = c.loop-key.invariant in
+    let next = c.next.ensures in
+    let took = c.take.ensures in
+    let key = c.in-Some.key in
+    let rec = c.in-Some.rec in
+    let writes = inv.given.0 in
+    let found : c.next.result ≡ Ok (Some (key, rec)) = search in
+    let moved : c.next.new.self.end ≡ c.loop-key.replay.end + 1 + weight key rec = ap (λ (r : ReplayState). r.end) (next.moved ∙ ap (λ a. replay_after a c.loop-key.replay) found) in
+    let charge : c.take.new.self.charge ≡ c.loop-key.opened.charge + weight key rec = c.in_ok-take.ensures.charge in
+    record {
+      sizes = next.sizes ∙ inv.sizes ∙ sym took.same;
+      lane = next.same_lane ∙ inv.lane;
+      same = took.same ∙ inv.same;
+      fit = took.fit;
+      short = omega (arith, moved, charge, inv.short);
+      goes_on = goes_on_run inv.goes_on next.passes.goes_on;
+      long = λ tells. next.length (inv.goes_on.tells_bytes ∙ tells) ∙ inv.long tells;
+      bytes = λ honest. next.same.same.bytes (inv.goes_on.is_honest ∙ honest) ∙ inv.bytes honest;
+      each = λ honest. leaves_only_kept (g.met.D.Disk.timed c.loop-key.disk) (inv.each honest) (next.each (inv.goes_on.is_honest ∙ honest));
+      no_sync = no_sync_run inv.no_sync next.no_sync;
+      stands = next.stands (λ wrong. cc (sym found ∙ wrong)) ∙ inv.stands;
+      given = (
+        writes ++ write_of key rec ∷ [],
+        c.in_ok-take.ensures.taken writes inv.given.1,
+        ends_push writes key rec c.loop-key.replay.end inv.given.2 ∙ sym moved,
+        λ honest.
+            let honest' : IsTrue mid.is_honest = inv.goes_on.is_honest ∙ honest in
+            let bytes : new.bytes ≡ first.bytes = next.same.same.bytes honest' ∙ inv.bytes honest in
+            subst (λ (es : List (Key × Rec)). HasGiven c.next.new.self es first.bytes) (sym (entries_of-push writes key rec))
+            (subst (λ b. HasGiven c.next.new.self (entries_of writes ++ (key, rec) ∷ []) b) bytes
+            (subst (λ r. IfOk r (λ given. IfSome given (λ e. HasGiven c.next.new.self (entries_of writes ++ e ∷ []) new.bytes))) found
+            (next.entry (entries_of writes) (g.met.D.Disk.honest_tells c.loop-key.disk honest') (subst (λ b. HasGiven c.loop-key.replay (entries_of writes) b) (sym bytes) (inv.given.3 honest))))),
+      );
+    }
+
+pub returns-in_err-take-clause-replays : goal.returns-in_err-take-clause-replays
+returns-in_err-take-clause-replays g c =
+    let first = g.D.Disk.state c.args.disk.now in
+    let mid = g.D.Disk.state c.loop-key.disk in
+    let new = g.D.Disk.state c.next.new.disk in
+    let inv = c.loop-key.invariant in
+    let next = c.next.ensures in
+    let key = c.in-Some.key in
+    let rec = c.in-Some.rec in
+    let writes = inv.given.0 in
+    let sizes = c.loop-key.opened.geometry in
+    let found : c.next.result ≡ Ok (Some (key, rec)) = search in
+    let told = err_from_is_err_and c.from_residual-in_err-take.result c.from_residual-in_err-take.ensures.1 in
+    let broken : c.in_err-take.field-0.0 ≡ Damaged log_lane = same_error _ _ c.in_err-take.ensures.lane in
+    subst (λ r. Replays first new c.take.new.self r) (sym (told.1 ∙ ap Err (told.2 ∙ broken))) (
+      refl,
+      λ honest.
+          let honest' : IsTrue mid.is_honest = inv.goes_on.is_honest ∙ honest in
+          let bytes : new.bytes ≡ first.bytes = next.same.same.bytes honest' ∙ inv.bytes honest in
+          let given : HasGiven c.next.new.self (entries_of writes ++ (key, rec) ∷ []) new.bytes =
+          subst (λ r. IfOk r (λ given. IfSome given (λ e. HasGiven c.next.new.self (entries_of writes ++ e ∷ []) new.bytes))) found
+          (next.entry (entries_of writes) (g.met.D.Disk.honest_tells c.loop-key.disk honest') (subst (λ b. HasGiven c.loop-key.replay (entries_of writes) b) (sym bytes) (inv.given.3 honest))) in
+          let weighs : sizes.half < total_weight writes + weight key rec = subst (λ n. sizes.half < n + weight key rec) inv.given.1.charge c.in_err-take.ensures.heavy in
+          subst (λ (s : Sizes). IsBroken s first.bytes) (sym c.take.ensures.same)
+          (inr (too_heavy sizes writes key rec first.bytes weighs
+          (subst (λ b. HasFront sizes log_lane (entries_of writes ++ (key, rec) ∷ []) b) bytes
+          (subst (λ n. HasFront sizes n (entries_of writes ++ (key, rec) ∷ []) new.bytes) (next.same_lane ∙ inv.lane)
+          (subst (λ (s : Sizes). HasFront s c.next.new.self.lane (entries_of writes ++ (key, rec) ∷ []) new.bytes) (next.sizes ∙ inv.sizes) given.front))))),
+      next.stands (λ wrong. cc (sym found ∙ wrong)) ∙ inv.stands,
+    )
+
+pub returns-in_err-take-clause-each : goal.returns-in_err-take-clause-each
+returns-in_err-take-clause-each g c =
+    λ honest. leaves_only_kept (g.met.D.Disk.timed c.loop-key.disk) (c.loop-key.invariant.each honest)
+    (c.next.ensures.each (c.loop-key.invariant.goes_on.is_honest ∙ honest))

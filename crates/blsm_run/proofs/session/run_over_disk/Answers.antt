@@ -1,0 +1,26 @@
+use Rattle.std.proofs.Common.{◌∙◌}
+use Rattle.blsm_run.proofs.ShownLemmas.{shown_behind}
+use Rattle.blsm_run.proofs.session.run_over_disk.Goals as goal
+
+pub returns-in-Ok-clause-runs : goal.returns-in-Ok-clause-runs
+returns-in-Ok-clause-runs g c =
+    let state = g.D.Disk.state in
+    let opened = c.in-Ok.opened in
+    let prepared = c.in-Ok.ensures.opens in
+    let log = prepared.0 in
+    let has = prepared.1 in
+    let run = c.run_store-disk.ensures in
+    let mid = c.prepare.new.disk in
+    let last = c.run_store-disk.result.0 in (
+      opened.geometry,
+      log,
+      run.finished log has.replayed.taken,
+      λ honest.
+          shown_behind state log opened c.run_store-disk.result.1.annals.entries c.args.disk mid last (g.met.D.Disk.timed mid) (g.met.D.Disk.timed last) c.prepare.ensures.goes_on has run.syncs honest
+          (run.shows log has.replayed.taken (record {
+            honest = c.prepare.ensures.goes_on.is_honest ∙ honest;
+            ends = has.replayed.end;
+            holds = has.holds honest;
+            durable = has.durable honest;
+          })),
+    )

@@ -1,0 +1,72 @@
+use Rattle.std.proofs.Common.{◌≡◌, ◌≤◌, ◌+◌, max, Some, refl, ap, subst, ◌∙◌, arith}
+use Rattle.blsm_model.specs.declared.history.Why.TheVariants.{Faulted}
+use Rattle.blsm_model.specs.declared.history.Reply.TheVariants.{Done, FaultUnsure}
+use Rattle.blsm_model.specs.Sizes.{Sizes}
+use Rattle.record_delta.specs.Records.{weight}
+use Rattle.mem_table.specs.Entries.{with_record, total_weight}
+use Rattle.gated_log.specs.Lanes.{end_of}
+use Rattle.blsm_run.specs.Holding.{log_lane}
+use Rattle.blsm_run.specs.StoreState.{StoreState}
+use Rattle.blsm_run.specs.Run.{AnsweredWrite, Appends, HasAppended}
+use Rattle.blsm_run.proofs.store.Store.write.Goals as goal
+
+pub returns-in-Ok : goal.returns-in-Ok
+returns-in-Ok g c =
+    let state = g.D.Disk.state in
+    let inside = c.self.inside in
+    let key = c.args.key.now in
+    let rec = c.args.rec.now in
+    let did = c.in-Ok.ensures in
+    let weighs = c.weight-weight.ensures.weight in
+    let below : inside.charge + weight key rec ≤ inside.geometry.half = omega (arith, c.if-half-self.false, c.half.ensures.value, weighs, c.self.invariant.charge_within) in
+    let entries : c.fold_in.new.self.entries ≡ with_record key rec inside.table.entries = c.fold_in.ensures.entries in
+    let charge : inside.charge + c.weight-weight.result ≡ inside.charge + weight key rec = ap (λ n. inside.charge + n) weighs in
+    let peak : c.max-self-inside.result ≡ max inside.peak (total_weight (with_record key rec inside.table.entries)) =
+    c.max-self-inside.ensures ∙ ap (λ n. max inside.peak n) (c.weight.ensures.weight ∙ ap total_weight entries) in
+    let ended : end_of c.append.new.self log_lane ≡ end_of inside.lanes log_lane + (weight key rec + 1) = did.ended in
+    let after : StoreState g.row.D.Denot = record {
+      disk = c.append.new.disk;
+      sizes = inside.geometry;
+      log_end = end_of c.append.new.self log_lane;
+      memory = record {
+        table = c.fold_in.new.self.entries;
+        book = inside.annals;
+        charge = inside.charge + c.weight-weight.result;
+        limit = inside.geometry.half;
+        peak = c.max-self-inside.result;
+        stopped = inside.stopped;
+      };
+    } in
+    subst (λ (s : StoreState g.row.D.Denot). AnsweredWrite state key rec s after Done) c.self.view_is (record {
+      answers = (below, λ i. record { table = entries i; book = inside.annals; charge = charge i; limit = inside.geometry.half; peak = peak i; stopped = inside.stopped });
+      disk = (
+        ended,
+        subst (λ (s : Sizes). HasAppended s (end_of inside.lanes log_lane) (key, rec) (state inside.disk) (state c.append.new.disk)) c.self.invariant.same_sizes (record {
+          each = did.each;
+          acknowledged = λ es honest ends each. did.acknowledged es refl honest ends each;
+          reads = λ es honest ends has. did.reads es refl honest ends has;
+          outside = did.outside;
+        }),
+      );
+      along = record { disk = did.goes_on; length = did.length; syncs = did.syncs; sizes = refl; limit = refl };
+    })
+
+pub returns-in-Err : goal.returns-in-Err
+returns-in-Err g c =
+    let state = g.D.Disk.state in
+    let inside = c.self.inside in
+    let key = c.args.key.now in
+    let rec = c.args.rec.now in
+    let did = c.in-Err.ensures in
+    let below : inside.charge + weight key rec ≤ inside.geometry.half = omega (arith, c.if-half-self.false, c.half.ensures.value, c.weight-weight.ensures.weight, c.self.invariant.charge_within) in
+    let after : StoreState g.row.D.Denot = record {
+      disk = c.append.new.disk;
+      sizes = inside.geometry;
+      log_end = end_of c.append.new.self log_lane;
+      memory = record { table = inside.table.entries; book = inside.annals; charge = inside.charge; limit = inside.geometry.half; peak = inside.peak; stopped = Some (Faulted c.faults.result) };
+    } in
+    subst (λ (s : StoreState g.row.D.Denot). AnsweredWrite state key rec s after FaultUnsure) c.self.view_is (record {
+      answers = (below, c.faults.result, refl);
+      disk = subst (λ (s : Sizes). Appends s (end_of inside.lanes log_lane) (key, rec) (state inside.disk) (state c.append.new.disk)) c.self.invariant.same_sizes did.each;
+      along = record { disk = did.goes_on; length = did.length; syncs = did.syncs; sizes = refl; limit = refl };
+    })
