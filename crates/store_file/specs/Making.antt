@@ -1,5 +1,5 @@
 -- What making leaves of a disk.
-use Rattle.std.specs.Prelude.{◌⊎◌, ◌≤◌, ℕ, List, length}
+use Rattle.std.specs.Prelude.{◌⊎◌, ◌≤◌, ℕ, List, length, ◌+◌, ◌-◌, ◌/◌}
 use Rattle.std.proofs.Common.{inl, inr, ⊎_elim, arith}
 use Rattle.disk_trait.specs.Disk.{DiskState}
 use Rattle.disk_trait.specs.Moments.{IsTimed, LeavesOnly, leaves_only_kept, leaves_only_now, leaves_only_run, leaves_only_weaken}
@@ -22,6 +22,10 @@ pub record IsShut (end : ℕ) (file : List ℕ) : Type 0 where
 pub record IsHalfMade (sizes : Sizes) (file : List ℕ) : Type 0 where
   pub store : (¬ (IsStore file)) ⊎ IsMade sizes file
   pub no_longer : length file ≤ file_length sizes
+
+-- how many calls of the disk making takes at most: eight, and one for each block that begins behind the first
+abbrev pub making_calls : Sizes → ℕ
+making_calls sizes = 8 + (file_length sizes - 1) / head_length
 
 -- a file from before, or one that has P
 abbrev pub IsOldOr : (List ℕ → Type 0) → (List ℕ → Type 0) → List ℕ → Type 0

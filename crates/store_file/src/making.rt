@@ -1,12 +1,12 @@
 //! Making: a disk of length 0 becomes a store that has no keys.
-ghost use Rattle.std.specs.Prelude.{◌≡◌, ◌⊎◌, ◌≤◌, ◌<◌, ◌+◌, ◌∷◌, [], List, ℕ, length, IsTrue, IsErr, OnOk};
+ghost use Rattle.std.specs.Prelude.{◌≡◌, ◌⊎◌, ◌≤◌, ◌<◌, ◌+◌, ◌∷◌, [], List, ℕ, length, IsTrue, IsErr, OnOk, ◌-◌, ◌/◌};
 ghost use Rattle.refusal.specs.Count.{HasRisen};
 ghost use Rattle.disk_trait.specs.Disk.{GoesOn, IsSure, MarksSync, Only, Torn, overwritten};
 ghost use Rattle.disk_trait.specs.Moments.{LeavesOnly, LeavesOnlyOnceSynced, SyncsLater};
 ghost use Rattle.gated_write.specs.Gated.{open_byte};
 ghost use Rattle.blsm_model.specs.Geometry.{file_length};
 ghost use Rattle.store_file.specs.Layout.{zeros, first_catalogue, superblock_text, first_file, IsMade};
-ghost use Rattle.store_file.specs.Making.{IsShort, IsShut, IsHalfMade, IsOldOr, HasSynced, IsUnwritten};
+ghost use Rattle.store_file.specs.Making.{IsShort, IsShut, IsHalfMade, IsOldOr, HasSynced, IsUnwritten, making_calls};
 
 use crate::layout::{BLOCK, FIRST_CATALOGUE, ODD_SLOT, SLOT_LEN, length_of, superblock_text};
 use blsm_model::Geometry;
@@ -45,6 +45,7 @@ fn write_first_block<D: Disk>(disk: &mut D) -> Result<(), Failed>
     ensures durable { OnOk result (IsTrue (D.state disk.old).is_honest → Only (D.state disk.new).bytes (D.state disk.new).images) }
     ensures length { OnOk result (IsTrue (D.state disk.old).tells_bytes → length (D.state disk.new).bytes ≡ BLOCK) }
     ensures syncs { SyncsLater (D.state disk.old) (D.state disk.new) }
+    ensures calls { (D.state disk.new).clock ≤ (D.state disk.old).clock + 3 }
     ensures goes_on { GoesOn (D.state disk.old) (D.state disk.new) }
     ensures sure { IsSure BLOCK (D.state disk.old) (D.state disk.new) }
     ensures stands { OnOk result ((D.state disk.new).faults ≡ (D.state disk.old).faults) }
@@ -66,6 +67,7 @@ fn write_zeros<D: Disk>(disk: &mut D, end: u64) -> Result<(), Failed>
         → (D.state disk.new).bytes ≡ zeros end) }
     ensures length { OnOk result (IsTrue (D.state disk.old).tells_bytes → length (D.state disk.new).bytes ≡ end) }
     ensures no_sync { MarksSync ⊥ (D.state disk.old) (D.state disk.new) }
+    ensures calls { (D.state disk.new).clock ≤ (D.state disk.old).clock + (end - 1) / BLOCK }
     ensures goes_on { GoesOn (D.state disk.old) (D.state disk.new) }
     ensures sure { IsSure end (D.state disk.old) (D.state disk.new) }
     ensures stands { OnOk result ((D.state disk.new).faults ≡ (D.state disk.old).faults) }
@@ -92,6 +94,7 @@ fn write_parts<D: Disk>(disk: &mut D, geometry: &Geometry) -> Result<(), Failed>
     ensures length { OnOk result (IsTrue (D.state disk.old).tells_bytes
         → length (D.state disk.new).bytes ≡ file_length geometry.now) }
     ensures no_sync { MarksSync ⊥ (D.state disk.old) (D.state disk.new) }
+    ensures calls { (D.state disk.new).clock ≤ (D.state disk.old).clock + 2 }
     ensures goes_on { GoesOn (D.state disk.old) (D.state disk.new) }
     ensures sure { IsSure (ODD_SLOT + SLOT_LEN) (D.state disk.old) (D.state disk.new) }
     ensures stands { OnOk result ((D.state disk.new).faults ≡ (D.state disk.old).faults) }
@@ -113,6 +116,7 @@ fn open_gate<D: Disk>(disk: &mut D) -> Result<(), Failed>
     ensures length { OnOk result (IsTrue (D.state disk.old).tells_bytes
         → length (D.state disk.new).bytes ≡ length (D.state disk.old).bytes) }
     ensures syncs { SyncsLater (D.state disk.old) (D.state disk.new) }
+    ensures calls { (D.state disk.new).clock ≤ (D.state disk.old).clock + 3 }
     ensures goes_on { GoesOn (D.state disk.old) (D.state disk.new) }
     ensures sure { IsSure 1 (D.state disk.old) (D.state disk.new) }
     ensures stands { OnOk result ((D.state disk.new).faults ≡ (D.state disk.old).faults) }
@@ -143,6 +147,7 @@ pub fn make_store<D: Disk>(disk: &mut D, geometry: &Geometry) -> Result<(), Fail
     ensures length { OnOk result (IsTrue (D.state disk.old).tells_bytes
         → length (D.state disk.new).bytes ≡ file_length geometry.now) }
     ensures syncs { SyncsLater (D.state disk.old) (D.state disk.new) }
+    ensures calls { (D.state disk.new).clock ≤ (D.state disk.old).clock + making_calls geometry.now }
     ensures goes_on { GoesOn (D.state disk.old) (D.state disk.new) }
     ensures sure { IsSure (file_length geometry.now) (D.state disk.old) (D.state disk.new) }
     ensures stands { OnOk result ((D.state disk.new).faults ≡ (D.state disk.old).faults) }

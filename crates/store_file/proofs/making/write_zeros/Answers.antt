@@ -26,6 +26,8 @@ loop-at-preserved g c =
     record {
       from_block = search rules;
       in_range = search rules;
+      few = λ below. omega (arith, c.write.ensures.passes.at_most_one, c.loop-at.invariant.few (omega arith), below);
+      calls = omega (arith, c.write.ensures.passes.at_most_one, c.loop-at.invariant.few (omega arith));
       goes_on = search rules;
       stands = search rules;
       length = search rules;

@@ -1,4 +1,4 @@
-use Rattle.std.proofs.Common.{◌≡◌, ◌≤◌, ◌-◌, IsTrue, length, List, ℕ}
+use Rattle.std.proofs.Common.{◌≡◌, ◌≤◌, ◌<◌, ◌+◌, ◌*◌, ◌-◌, IsTrue, length, List, ℕ}
 use Rattle.disk_trait.specs.Disk.{GoesOn, MarksSync}
 use Rattle.disk_trait.specs.Moments.{LeavesOnly}
 use Rattle.store_file.specs.Layout.{zeros}
@@ -12,6 +12,9 @@ invariant-loop-at g l =
     record {
       from_block : 4096 ≤ l.at;
       in_range : l.at ≤ l.end;
+      -- a call for each block so far
+      few : l.at < l.end → 4096 * now.clock + 4096 ≤ 4096 * start.clock + l.at;
+      calls : 4096 * now.clock + 4096 ≤ 4096 * start.clock + l.at + 4095;
       goes_on : GoesOn start now;
       stands : now.faults ≡ start.faults;
       length : IsTrue now.tells_bytes → length now.bytes ≡ l.at;
