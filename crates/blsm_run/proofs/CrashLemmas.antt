@@ -194,7 +194,7 @@ module _ {D : Type 0} (state : D → DiskState) (log : List Write) (old new : St
       let stopped : answered.stopped ≡ Some (Faulted a.1) = ap (λ (k : Memory). k.stopped) a.2 in
       let told : StopIsTold None history = subst (λ o. StopIsTold o history) runs m.stop in
       subst (λ w. Kept old.sizes log history (state old.disk) (history ++ entry ∷ []) w new.log_end (state new.disk)) (sym stopped)
-      (kept_unsure old.sizes log history entry write (Faulted a.1) old.log_end new.log_end (state old.disk) (state new.disk) timed' goes.is_honest asks refl told.1 (fits_more write weighs m limit a.0) disk
+      (kept_unsure old.sizes log history entry write (Faulted a.1) old.log_end new.log_end (state old.disk) (state new.disk) timed' goes.is_honest asks refl told.1 (fits_more write weighs m limit a.0) disk.1
       (subst (λ w. StandsOnDisk old.sizes log history w old.log_end (state old.disk)) runs stands))
   by_write answered seat op write _ asks weighs runs limit a disk m stands = absurd a
 

@@ -8,6 +8,7 @@ pub mod CrashLemmas
 pub mod SessionLemmas
 pub mod ShownLemmas
 pub mod ShelfLemmas
+pub mod CauseLemmas
 pub mod AnswerLemmas
 pub mod WordLemmas
 pub mod WordExamples

@@ -24,7 +24,7 @@ use Rattle.blsm_run.specs.declared.outcome.Refusal.{Refusal}
 use Rattle.blsm_run.specs.declared.outcome.Refusal.TheVariants as refusal
 use Rattle.blsm_run.specs.MemoryTable.{table_of}
 use Rattle.store_file.specs.Layout.{IsStoreOf, IsStore, HasFirstSlots, IsMade}
-use Rattle.store_file.specs.Making.{IsHalfMade, IsOldOr, old_or_behind}
+use Rattle.store_file.specs.Making.{making_calls, IsHalfMade, IsOldOr, old_or_behind}
 use Rattle.blsm_run.specs.Holding.{log_lane, entry_of, entries_of, HoldsWrites, IsFound, IsYet}
 use Rattle.blsm_model.specs.Geometry.{file_length, high_mark}
 use Rattle.blsm_run.specs.Opening.{HasTaken, IsFit, IsTooHeavy, IsBroken, HasReplayed, HasOpened, IsLeft, IsHalfOpened, Refuses, IsCounted, Opens, Replays}
@@ -134,11 +134,11 @@ pub made_opened : (old new : DiskState) (opened : Opened) (sizes : Sizes) → si
     → (IsTrue old.is_honest → LeavesOnly old new (IsOldOr old.images (IsHalfMade sizes)))
     → (IsTrue old.is_honest → LeavesOnlyOnceSynced old new (IsHalfMade sizes))
     → (IsTrue old.is_honest → IsMade sizes new.bytes) → (IsTrue old.is_honest → Only new.bytes new.images)
-    → (IsTrue old.tells_bytes → length new.bytes ≡ file_length sizes) → new.faults ≡ old.faults → new.is_honest ≡ old.is_honest → HasOpened old new [] opened
-made_opened old new opened sizes named is tells none each once made durable long stands still =
+    → (IsTrue old.tells_bytes → length new.bytes ≡ file_length sizes) → new.faults ≡ old.faults → new.is_honest ≡ old.is_honest → new.clock ≤ old.clock + making_calls sizes → HasOpened (making_calls default_sizes) old new [] opened
+made_opened old new opened sizes named is tells none each once made durable long stands still calls =
     let fits : IsGeometry sizes = subst IsGeometry (sym named) default_fits in
     let half : 17408 ≤ sizes.half = fits.half.0 in
-    subst (HasOpened old new []) (sym is) (record {
+    subst (HasOpened (making_calls default_sizes) old new []) (sym is) (record {
       replayed = record {
         taken = record { table = refl; values = λ key. refl; charge = refl };
         fit = record { reserved = refl; table_weight = omega arith; charge_within = omega arith };
@@ -155,6 +155,7 @@ made_opened old new opened sizes named is tells none each once made durable long
       durable = durable;
       each = λ honest. leaves_only_weaken (λ c. ⊎_elim (λ before. inl before) (λ half. inr (made_yet sizes old.bytes c (empty_is old.bytes (none (tells honest))) half))) (each honest);
       once_synced = λ honest. once_synced_weaken (λ c half. made_yet sizes old.bytes c (empty_is old.bytes (none (tells honest))) half) (once honest);
+      soon = λ honest empty. subst (λ (z : Sizes). new.clock ≤ old.clock + making_calls z) named calls;
       kept = λ some. record {
         bytes = λ honest. absurd (some (empty_is old.bytes (none (tells honest))));
         images = λ honest. absurd (some (empty_is old.bytes (none (tells honest))));
@@ -196,8 +197,8 @@ pub read_opened : (ended : Type 0) (old synced read new : DiskState) (sizes : Si
     → GoesOn read new → (IsTrue read.is_honest → new.bytes ≡ read.bytes) → (IsTrue read.is_honest → LeavesOnly read new read.images) → MarksSync ⊥ read new
     → (IsTrue read.tells_bytes → length new.bytes ≡ length read.bytes)
     → opened.geometry ≡ sizes → IsGeometry sizes → (IsTrue synced.tells_bytes → length synced.bytes ≡ file_length sizes) → (IsTrue synced.is_honest → IsStoreOf sizes synced.bytes × HasFirstSlots synced.bytes)
-    → HasReplayed read writes opened → synced.faults ≡ old.faults → read.faults ≡ synced.faults → new.faults ≡ read.faults → HasOpened old new writes opened
-read_opened ended old synced read new sizes writes opened t0 t1 t2 t3 passes marks same only goes changes each none goes' bytes' each' none' long' geometry fits long told replayed f1 f2 f3 =
+    → HasReplayed read writes opened → synced.faults ≡ old.faults → read.faults ≡ synced.faults → new.faults ≡ read.faults → (IsTrue old.is_honest → old.bytes ≡ [] → ⊥) → (calls : ℕ) → HasOpened calls old new writes opened
+read_opened ended old synced read new sizes writes opened t0 t1 t2 t3 passes marks same only goes changes each none goes' bytes' each' none' long' geometry fits long told replayed f1 f2 f3 some calls =
     let h1 : IsTrue old.is_honest → IsTrue synced.is_honest = λ honest. passes.goes_on.is_honest ∙ honest in
     let h2 : IsTrue old.is_honest → IsTrue read.is_honest = λ honest. goes.is_honest ∙ h1 honest in
     let tells1 : IsTrue old.tells_bytes → IsTrue synced.tells_bytes = λ tells. passes.goes_on.tells_bytes ∙ tells in
@@ -233,7 +234,8 @@ read_opened ended old synced read new sizes writes opened t0 t1 t2 t3 passes mar
           once_synced_kept t1
           (once_synced_first ended t0 t0 t1 (omega arith) (no_sync_start old) passes marks (λ _ c left. inl (here honest c left)))
           (tail honest) (no_sync_run none none');
-      kept = λ some. record { bytes = λ honest. b3 honest ∙ b2 honest ∙ b1 honest; images = kept };
+      soon = λ honest empty. absurd (some honest empty);
+      kept = λ has. record { bytes = λ honest. b3 honest ∙ b2 honest ∙ b1 honest; images = kept };
     }
 
 -- ---- behind calls that write nothing
@@ -250,9 +252,9 @@ half_behind : {old mid new : DiskState} → IsTimed mid → mid.is_honest ≡ ol
 half_behind timed still same first (inl left) = inl (left_behind timed still same first left)
 half_behind timed still same first (inr half) = inr (λ honest. (sym (same honest) ∙ (half (still ∙ honest)).0, old_or_behind timed (first honest) (half (still ∙ honest)).1))
 
-opened_behind : {old mid new : DiskState} (writes : List Write) (opened : Opened) → IsTimed old → IsTimed mid → GoesOn old mid → mid.faults ≡ old.faults → (IsTrue old.is_honest → mid.bytes ≡ old.bytes)
-    → (IsTrue old.is_honest → LeavesOnly old mid old.images) → MarksSync ⊥ old mid → HasOpened mid new writes opened → HasOpened old new writes opened
-opened_behind {old} {mid} {new} writes opened timed timed' goes stands same first none has = record {
+opened_behind : {old mid new : DiskState} (calls : ℕ) (writes : List Write) (opened : Opened) → IsTimed old → IsTimed mid → GoesOn old mid → mid.faults ≡ old.faults → (IsTrue old.is_honest → mid.bytes ≡ old.bytes)
+    → (IsTrue old.is_honest → LeavesOnly old mid old.images) → MarksSync ⊥ old mid → mid.clock ≤ old.clock + 1 → HasOpened calls mid new writes opened → HasOpened (calls + 1) old new writes opened
+opened_behind {old} {mid} {new} calls writes opened timed timed' goes stands same first none one has = record {
   replayed = has.replayed;
   geometry = has.geometry;
   length = λ tells. has.length (goes.tells_bytes ∙ tells);
@@ -264,6 +266,7 @@ opened_behind {old} {mid} {new} writes opened timed timed' goes stands same firs
       (subst (λ b. LeavesOnly mid new (IsOldOr mid.images (IsYet b (HoldsWrites opened.geometry writes)))) (same honest) (has.each (goes.is_honest ∙ honest)));
   once_synced = λ honest. once_synced_behind timed goes.clock none
       (subst (λ b. LeavesOnlyOnceSynced mid new (IsYet b (HoldsWrites opened.geometry writes))) (same honest) (has.once_synced (goes.is_honest ∙ honest)));
+  soon = λ honest empty. omega (arith, one, has.soon (goes.is_honest ∙ honest) (same honest ∙ empty));
   kept = λ some. record {
     bytes = λ honest. (left_of some honest).bytes (goes.is_honest ∙ honest) ∙ same honest;
     images = λ honest. leaves_only_kept timed' (first honest) ((left_of some honest).images (goes.is_honest ∙ honest));
@@ -295,6 +298,6 @@ module _ (old mid new : DiskState) (timed : IsTimed old) (timed' : IsTimed mid) 
   counted_behind r counted = subst (λ n. IsCounted n new.faults r) stands counted
 
   -- an opening behind a look at the disk
-  pub opens_behind : (result : Result Opened Refusal) → Opens mid new result → Opens old new result
-  opens_behind (Ok opened) has = (has.0, opened_behind has.0 opened timed timed' goes stands same first none has.1)
-  opens_behind (Err r) has = (refuses_behind r has.0, counted_behind r has.1)
+  pub opens_behind : (calls : ℕ) → mid.clock ≤ old.clock + 1 → (result : Result Opened Refusal) → Opens calls mid new result → Opens (calls + 1) old new result
+  opens_behind calls one (Ok opened) has = (has.0, opened_behind calls has.0 opened timed timed' goes stands same first none one has.1)
+  opens_behind calls one (Err r) has = (refuses_behind r has.0, counted_behind r has.1)

@@ -51,6 +51,14 @@ stays old new op reply a = by_stop old.stopped a
     by_stop None b = stays_running old new op reply b
     by_stop (Some why) b = (ap (λ (m : Memory). m.book) b.1, ap (λ (m : Memory). m.limit) b.1)
 
+-- a store that runs on has run before
+pub ran_before : (old new : Memory) (op : Op) (reply : Reply) → Answers old op new reply → new.stopped ≡ None → old.stopped ≡ None
+ran_before old new op reply a runs = by_stop old.stopped refl a
+  where
+    by_stop : (stopped : Option Why) → old.stopped ≡ stopped → AnswersWhere stopped old op new reply → old.stopped ≡ None
+    by_stop None is b = is
+    by_stop (Some why) is b = sym (ap (λ (m : Memory). m.stopped) b.1) ∙ runs
+
 -- no answer has rows
 no_rows_write : (old new : Memory) (w : Write) (reply : Reply) → AnswersWrite old w new reply → rows_given reply ≡ []
 no_rows_write old new w Done a = refl

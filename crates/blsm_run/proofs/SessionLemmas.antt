@@ -22,6 +22,7 @@ use Rattle.blsm_run.specs.Memory.{Memory, StandsFor, StopIsTold, FitFrom, fault_
 use Rattle.blsm_run.specs.StoreState.{IsStoppedByFault}
 use Rattle.blsm_run.specs.Outcome.{Run}
 use Rattle.blsm_run.proofs.MemoryLemmas.{stands_start, names_none}
+use Rattle.blsm_run.proofs.ShowingLemmas.{calm_runs}
 use Rattle.blsm_run.specs.Run.{asked, asked_in}
 use Rattle.blsm_run.specs.Cause.{HasFinished}
 
@@ -51,9 +52,9 @@ stops_name (Some (Faulted n)) history faults told stop = subst (λ k. AllByRecur
 stops_name (Some (BadPage page)) history faults told stop = absurd stop
 
 finished_by : (sizes : Sizes) (log : List Write) (lines : List Line) (m : Memory) (charge : ℕ) (totals : Totals) (faulted : Bool) (last : DiskState) → StandsFor log m → asked_in m.book.entries ≡ asked lines → m.limit ≡ sizes.half
-    → charge ≡ total_weight log → totals ≡ totals_of m → IsStoppedByFault m.stopped last.faults → m.peak ≤ m.limit → faulted ≡ nat_lt 0 last.faults
+    → charge ≡ total_weight log → totals ≡ totals_of m → IsStoppedByFault m.stopped last.faults → m.peak ≤ m.limit → faulted ≡ nat_lt 0 last.faults → (m.stopped ≡ None → last.faults ≡ 0)
     → HasFinished sizes log lines (run_with charge m.book totals) (IsTrue faulted) last
-finished_by sizes log lines m charge totals faulted last s same limit begins is stop within test = record {
+finished_by sizes log lines m charge totals faulted last s same limit begins is stop within test quiet = record {
   run_of = record {
     of_script = of_script lines m.book.entries same;
     legal = subst (λ (n : ℕ). IsLegal (record { opening = total_weight log; dels = n; others = n }) (map_of log) m.book.entries) limit s.legal;
@@ -76,6 +77,8 @@ finished_by sizes log lines m charge totals faulted last s same limit begins is 
   stops = stops_name m.stopped m.book.entries last.faults s.stop stop;
   counted = grind (arith, common_steps, nat_tests);
   calm = grind (arith, common_steps, nat_tests);
+  told = λ trouble. let some : 0 < last.faults = troubles_counted m.stopped m.book.entries last.faults s.stop stop trouble in grind (arith, common_steps, nat_tests);
+  untold = λ calm is_faulted. let none : last.faults ≡ 0 = quiet (calm_runs m.stopped m.book.entries s.faults calm) in grind (arith, common_steps, nat_tests);
 }
 
 -- a history that has no entries yet
@@ -99,10 +102,10 @@ opened_stands log opened book entries quanta taken =
 pub finished : (log : List Write) (lines : List Line) (opened : Opened) (start m : Memory) (first book : Book) (totals : Totals) (faulted : Bool) (last : DiskState)
     → first.entries ≡ [] → first.quanta ≡ [] → HasTaken log opened → start ≡ memory_at opened first
     → (StandsFor log start → StandsFor log m) → asked_in m.book.entries ≡ asked_in start.book.entries ++ asked lines → m.limit ≡ start.limit
-    → book ≡ m.book → totals ≡ totals_of m → IsStoppedByFault m.stopped last.faults → m.peak ≤ m.limit → faulted ≡ nat_lt 0 last.faults
+    → book ≡ m.book → totals ≡ totals_of m → IsStoppedByFault m.stopped last.faults → m.peak ≤ m.limit → faulted ≡ nat_lt 0 last.faults → (m.stopped ≡ None → last.faults ≡ 0)
     → HasFinished opened.geometry log lines (run_with opened.charge book totals) (IsTrue faulted) last
-finished log lines opened start m first book totals faulted last entries quanta taken begins keeps same kept is_book is stop within test =
+finished log lines opened start m first book totals faulted last entries quanta taken begins keeps same kept is_book is stop within test quiet =
     subst (λ b. HasFinished opened.geometry log lines (run_with opened.charge b totals) (IsTrue faulted) last) (sym is_book)
     (finished_by opened.geometry log lines m opened.charge totals faulted last (keeps (subst (StandsFor log) (sym begins) (opened_stands log opened first entries quanta taken)))
     (same ∙ ap (λ (k : Memory). asked_in k.book.entries ++ asked lines) begins ∙ ap (λ es. asked_in es ++ asked lines) entries)
-    (kept ∙ ap (λ (k : Memory). k.limit) begins) taken.charge is stop within test)
+    (kept ∙ ap (λ (k : Memory). k.limit) begins) taken.charge is stop within test quiet)

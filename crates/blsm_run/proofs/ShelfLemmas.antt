@@ -5,7 +5,8 @@ use Rattle.disk_trait.specs.Disk.{DiskState}
 use Rattle.disk_trait.specs.Shelf.{ShelfState, TakesOut, PutsBack, IsFreshCount}
 use Rattle.blsm_model.specs.declared.history.Line.{Line}
 use Rattle.blsm_model.specs.declared.op.Write.{Write}
-use Rattle.blsm_model.specs.Sizes.{Sizes}
+use Rattle.blsm_model.specs.Sizes.{Sizes, IsGeometry}
+use Rattle.blsm_model.specs.Legal.{total_weight}
 use Rattle.blsm_run.specs.declared.outcome.Finished.{Finished}
 use Rattle.blsm_run.specs.declared.outcome.Refusal.{Refusal}
 use Rattle.blsm_run.specs.declared.outcome.Refusal.TheVariants as refusal
@@ -25,20 +26,28 @@ module _ {D : Type 0} (state : D → DiskState) (name : List ℕ) (lines : List 
       subst (λ (o : Option D). IfSome o (λ first. (d : D) × (new.disk_at name ≡ Some d) × P (state first) (state d))) (sym took.stood.1)
       (last, (put (told ∙ tells) took.out).stands, says took.stood.0 took.stood.2)
 
+  stood : IsTrue old.tells_disks → IsSome (old.disk_at name)
+  stood tells = subst (λ (o : Option D). IsSome o) (sym (taken tells).stood.1) refl
+
   rises_by : (n : ℕ) → n ≤ (state last).faults → HasRisenBy n old.faults new.faults
   rises_by n few = grind (arith, stands, faults, few)
 
   rises : 0 < (state last).faults → HasRisen old.faults new.faults
   rises some = grind (arith, stands, faults, some)
 
-  finished_on_shelf : (finished : Finished) (sizes : Sizes) (log : List Write) → HasFinished sizes log lines (run_of finished) (IsTrue finished.is_faulted) (state last)
-      → (IsTrue (state disk).is_honest → HasShown state sizes log finished.annals.entries (state disk) (state last)) → IsRunOnShelf state name lines (run_of finished) (IsTrue finished.is_faulted) old new
-  finished_on_shelf finished sizes log has shown = record {
+  stays : (state last).faults ≡ 0 → new.faults ≤ old.faults
+  stays none = grind (arith, stands, faults, none)
+
+  finished_on_shelf : (finished : Finished) (sizes : Sizes) (log : List Write) → IsGeometry sizes → total_weight log ≤ sizes.half → HasFinished sizes log lines (run_of finished) (IsTrue finished.is_faulted) (state last)
+      → (IsTrue (state disk).is_honest → HasShown sizes log finished.annals.entries (state disk) (state last)) → IsRunOnShelf state name lines (run_of finished) (IsTrue finished.is_faulted) old new
+  finished_on_shelf finished sizes log geometry fits has shown = record {
     sizes = sizes;
     log = log;
+    geometry = geometry;
+    log_fits = fits;
     run_of = has.run_of;
-    stood = λ tells. subst (λ (o : Option D). IsSome o) (sym (taken tells).stood.1) refl;
-    shown = of_the_disk (λ a b. IsTrue a.is_honest → HasShown state sizes log finished.annals.entries a b) (λ before fresh honest. fresh_shown fresh state sizes log finished.annals.entries (state last) shown honest);
+    stood = stood;
+    shown = of_the_disk (λ a b. IsTrue a.is_honest → HasShown sizes log finished.annals.entries a b) (λ before fresh honest. fresh_shown fresh sizes log finished.annals.entries (state last) shown honest);
     faults = rises_by (fault_count finished.annals.entries) has.faults;
     troubles = λ trouble. rises (has.troubles trouble);
     one_fault = has.one_fault;
@@ -46,19 +55,22 @@ module _ {D : Type 0} (state : D → DiskState) (name : List ℕ) (lines : List 
     rose = λ faulted. rises (has.counted faulted);
     counted = of_the_disk (λ a b. IsTrue finished.is_faulted → 0 < b.faults) (λ before fresh. has.counted);
     calm = of_the_disk (λ a b. (¬ (IsTrue finished.is_faulted)) → b.faults ≡ 0) (λ before fresh. has.calm);
+    told = has.told;
+    untold = has.untold;
+    quiet = λ still. stays (has.calm still);
   }
 
   refused : (r : Refusal) → Refuses (state disk) (state last) r → IsRefusedOnShelf state name old new r
   refused r says = of_the_disk (λ a b. Refuses a b r) (λ before fresh. fresh_refuses fresh (state last) r says)
 
   found : (r : Refusal) → Refuses (state disk) (state last) r → (state last).faults ≡ (state disk).faults → IsFoundOnShelf state name old new r
-  found r says calm = (refused r says, of_the_disk (λ a b. b.faults ≡ 0) (λ before fresh. calm ∙ count))
+  found r says calm = (refused r says, stood, of_the_disk (λ a b. b.faults ≡ 0) (λ before fresh. calm ∙ count), stays (calm ∙ count))
 
-  pub on_shelf : (result : Result Finished Refusal) → RunsOverDisk state lines (state disk) (state last) result → RunsOnShelf state name lines old new result
-  on_shelf (Ok finished) runs = finished_on_shelf finished runs.0 runs.1 runs.2 runs.3
+  pub on_shelf : (result : Result Finished Refusal) → RunsOverDisk lines (state disk) (state last) result → RunsOnShelf state name lines old new result
+  on_shelf (Ok finished) runs = finished_on_shelf finished runs.0 runs.1 runs.2 runs.3 runs.4 runs.5
   on_shelf (Err refusal.DiskFault) runs = (refused refusal.DiskFault runs.0, grind (arith, stands, faults, count, runs.1))
   on_shelf (Err refusal.NotAStore) runs = found refusal.NotAStore runs.0 runs.1
   on_shelf (Err refusal.DamagedSlots) runs = found refusal.DamagedSlots runs.0 runs.1
   on_shelf (Err refusal.DamagedLane) runs = found refusal.DamagedLane runs.0 runs.1
-  on_shelf (Err refusal.NoMemory) runs = refused refusal.NoMemory runs.0
+  on_shelf (Err refusal.NoMemory) runs = found refusal.NoMemory runs.0 runs.1
   on_shelf (Err _) runs = absurd runs.0

@@ -1,7 +1,7 @@
 -- What a run over a disk leaves of it: behind the opening, and on a shelf.
-use Rattle.std.proofs.Common.{◌≡◌, ℕ, ◌≤◌, List, [], Option, Some, None, IfSome, IsTrue, length, refl, ap, sym, subst, ◌∙◌, append-nil, arith, inl, inr, ⊎_elim, true}
+use Rattle.std.proofs.Common.{◌≡◌, ℕ, ◌≤◌, List, [], Option, Some, None, IfSome, IsTrue, length, refl, ap, sym, subst, ◌∙◌, append-nil, arith, inl, inr, ⊎_elim, true, ◌+◌}
 use Rattle.disk_trait.specs.Disk.{DiskState, GoesOn}
-use Rattle.disk_trait.specs.Moments.{IsTimed, LeavesOnly, LeavesOnlyOnceSynced, SyncsLater, leaves_only_start, leaves_only_run, leaves_only_weaken, once_synced_weaken, once_synced_more}
+use Rattle.disk_trait.specs.Moments.{IsTimed, LeavesOnly, LeavesOnlyOnceSynced, SyncsLater, leaves_only_start, leaves_only_run, leaves_only_weaken, once_synced_weaken, once_synced_more, has_since_start}
 use Rattle.disk_trait.specs.Shelf.{ShelfState, IsFreshCount, KeepsDisks}
 use Rattle.blsm_model.specs.declared.op.Write.{Write}
 use Rattle.blsm_model.specs.declared.history.Entry.{Entry}
@@ -16,7 +16,7 @@ use Rattle.blsm_run.specs.declared.outcome.Refusal.{Refusal}
 use Rattle.blsm_run.specs.declared.outcome.Refusal.TheVariants as refusal
 use Rattle.blsm_run.specs.Outside.{OfTheDisk}
 use Rattle.blsm_run.specs.Memory.{Memory, is_untroubled}
-use Rattle.blsm_run.specs.Holding.{entries_of, HoldsWrites, IsYet, IsFound}
+use Rattle.blsm_run.specs.Holding.{entries_of, HoldsWrites, IsYet, IsFound, opening_calls}
 use Rattle.blsm_run.specs.Opening.{memory_at, IsLeft, IsHalfOpened, IsBroken, HasOpened, Refuses}
 use Rattle.blsm_run.specs.Showing.{ShowsWhole, ShowsPrefix, HasShown}
 use Rattle.blsm_run.specs.Crashes.{StandsOnDisk, KeepsShowing}
@@ -68,8 +68,8 @@ store_shows state log opened disk last before history stopped end s e is_disk is
 
 -- an opening, and a run behind it
 pub shown_behind : {D : Type 0} (state : D → DiskState) (log : List Write) (opened : Opened) (history : List Entry) (first mid last : D) → IsTimed (state mid) → IsTimed (state last) → GoesOn (state first) (state mid)
-    → HasOpened (state first) (state mid) log opened → SyncsLater (state mid) (state last) → IsTrue (state first).is_honest → KeepsWhole opened.geometry log history (state mid) (state last)
-    → HasShown state opened.geometry log history (state first) (state last)
+    → HasOpened opening_calls (state first) (state mid) log opened → SyncsLater (state mid) (state last) → IsTrue (state first).is_honest → KeepsWhole opened.geometry log history (state mid) (state last)
+    → HasShown opened.geometry log history (state first) (state last)
 shown_behind state log opened history first mid last timed timed' goes has syncs honest kept =
     let sizes = opened.geometry in
     let begun : (c : List ℕ) → HoldsWrites sizes log c → ShowsPrefix sizes log history 0 c = λ c holds. shows_front sizes log [] history 0 c (history, refl) (omega arith) (shows_none sizes log c holds) in
@@ -81,11 +81,9 @@ shown_behind state log opened history first mid last timed timed' goes has syncs
           (leaves_only_weaken (λ c. ⊎_elim (λ before. inl before) (λ y. inr (yet c y))) (has.each honest))
           (leaves_only_weaken (λ c shows. inr (inl shows)) kept.leaves);
       once_synced = once_synced_more timed timed' (once_synced_weaken yet (has.once_synced honest)) (leaves_only_weaken (λ c shows. inl shows) kept.leaves) syncs;
-      opened = mid;
-      later = goes.clock;
-      holds = has.holds honest;
-      durable = has.durable honest;
-      since_opened = kept.leaves;
+      opened = (state mid).clock;
+      soon = has.soon honest;
+      since_opened = has_since_start kept.leaves;
       whole = kept.whole;
       reads = kept.reads;
     }
@@ -128,8 +126,8 @@ module _ {a b : DiskState} (fresh : IsFreshCount a b) where
   fresh_refuses c refusal.NoMemory left = fresh_left left
   fresh_refuses c _ never = absurd never
 
-  pub fresh_shown : {D : Type 0} (state : D → DiskState) (sizes : Sizes) (log : List Write) (history : List Entry) (c : DiskState) → (IsTrue b.is_honest → HasShown state sizes log history b c) → IsTrue a.is_honest → HasShown state sizes log history a c
-  fresh_shown state sizes log history c shown honest =
+  pub fresh_shown : (sizes : Sizes) (log : List Write) (history : List Entry) (c : DiskState) → (IsTrue b.is_honest → HasShown sizes log history b c) → IsTrue a.is_honest → HasShown sizes log history a c
+  fresh_shown sizes log history c shown honest =
       let s = shown (still honest) in
       let yet : (f : List ℕ) → IsYet b.bytes (ShowsPrefix sizes log history 0) f → IsYet a.bytes (ShowsPrefix sizes log history 0) f = λ f. subst (λ x. IsYet x (ShowsPrefix sizes log history 0) f) fresh.bytes in
       record {
@@ -137,9 +135,7 @@ module _ {a b : DiskState} (fresh : IsFreshCount a b) where
         each = fresh_old (leaves_only_weaken (λ f. ⊎_elim (λ was. inl was) (λ y. inr (yet f y))) s.each);
         once_synced = fresh_once (once_synced_weaken yet s.once_synced);
         opened = s.opened;
-        later = subst (λ n. n ≤ (state s.opened).clock) fresh.clock s.later;
-        holds = s.holds;
-        durable = s.durable;
+        soon = λ empty. subst (λ n. s.opened ≤ n + opening_calls) fresh.clock (s.soon (fresh.bytes ∙ empty));
         since_opened = s.since_opened;
         whole = s.whole;
         reads = s.reads;

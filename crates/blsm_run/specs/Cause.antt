@@ -1,5 +1,5 @@
 -- Why a call ended as it did. Each cause has those of the earlier steps come through, so of two that exclude each other one holds.
-use Rattle.std.specs.Prelude.{◌≡◌, ◌⊎◌, ◌<◌, ◌≤◌, ◌+◌, ℕ, false, IsTrue, Some, List, [], length, map, IfSome, IsSome}
+use Rattle.std.specs.Prelude.{◌≡◌, ◌⊎◌, ◌<◌, ◌≤◌, ◌+◌, ℕ, true, false, IsTrue, Some, List, [], length, map, IfSome, IsSome}
 use Rattle.std.specs.List.{AllByRecursion}
 use Rattle.refusal.specs.Count.{HasRisen, HasRisenBy}
 use Rattle.disk_trait.specs.Disk.{DiskState}
@@ -7,7 +7,7 @@ use Rattle.disk_trait.specs.Shelf.{ShelfState}
 use Rattle.blsm_model.specs.declared.history.Line.{Line}
 use Rattle.blsm_model.specs.Scripts.{IsOfScript}
 use Rattle.blsm_model.specs.declared.op.Write.{Write}
-use Rattle.blsm_model.specs.Sizes.{Sizes}
+use Rattle.blsm_model.specs.Sizes.{Sizes, IsGeometry}
 use Rattle.blsm_model.specs.Geometry.{high_mark}
 use Rattle.blsm_model.specs.Rows.{map_of}
 use Rattle.blsm_model.specs.Histories.{counted_writes}
@@ -67,16 +67,21 @@ pub record HasFinished (sizes : Sizes) (log : List Write) (lines : List Line) (r
   pub stops : StopsName last.faults run
   pub counted : faulted → 0 < last.faults
   pub calm : (¬ faulted) → last.faults ≡ 0
+  -- just where the history shows it
+  pub told : is_untroubled run.entries ≡ false → faulted
+  pub untold : is_untroubled run.entries ≡ true → faulted → ⊥
 
 -- the same over the disk of this name of a shelf
 pub record IsRunOnShelf {D : Type 0} (state : D → DiskState) (disk : List ℕ) (lines : List Line) (run : Run) (faulted : Type 0) (old new : ShelfState D) : Type 0 where
   -- the sizes of the store, and the writes that its log had at the opening
   pub sizes : Sizes
   pub log : List Write
+  pub geometry : IsGeometry sizes
+  pub log_fits : total_weight log ≤ sizes.half
   pub run_of : IsRunOf sizes log lines run
   -- a disk stood under the name; it had such a store or no bytes, and of each crash since then something of this history is left
   pub stood : IsTrue old.tells_disks → IsSome (old.disk_at disk)
-  pub shown : OfTheDisk state disk old new (λ first last. IsTrue first.is_honest → HasShown state sizes log run.entries first last)
+  pub shown : OfTheDisk state disk old new (λ first last. IsTrue first.is_honest → HasShown sizes log run.entries first last)
   -- faults are told only as often as the shelf's count rose, and without a rise there is neither a fault nor a stop
   pub faults : HasRisenBy (fault_count run.entries) old.faults new.faults
   pub troubles : is_untroubled run.entries ≡ false → HasRisen old.faults new.faults
@@ -87,11 +92,16 @@ pub record IsRunOnShelf {D : Type 0} (state : D → DiskState) (disk : List ℕ)
   pub rose : faulted → HasRisen old.faults new.faults
   pub counted : OfTheDisk state disk old new (λ first last. faulted → 0 < last.faults)
   pub calm : OfTheDisk state disk old new (λ first last. (¬ faulted) → last.faults ≡ 0)
+  -- just where the history shows trouble
+  pub told : is_untroubled run.entries ≡ false → faulted
+  pub untold : is_untroubled run.entries ≡ true → faulted → ⊥
+  pub quiet : (faulted → ⊥) → new.faults ≤ old.faults
 
 -- the words are accepted, and the source was read to its end
 pub record HasRead {D : Type 0} (o : Outside D) : Type 0 where
   pub words : AreAccepted o.words
   pub left : IfSome o.left (λ input. (length input ≤ script_limit) × (o.left_after ≡ Some []))
+  pub calm : o.source_faults_after ≡ o.source_faults
 
 -- what was read is this script, and the disk was fetched for it
 pub record HasScript {D : Type 0} (o : Outside D) (lines : List Line) : Type 0 where
@@ -119,9 +129,13 @@ pub record WasNotRead {D : Type 0} (o : Outside D) : Type 0 where
 abbrev pub WasRefused : {D : Type 0} → (D → DiskState) → Outside D → Refusal → Type 0
 WasRefused state o refusal = HasRefused o × OfTheDisk state (name o) o.shelf o.shelf_after (λ first last. Refuses first last refusal)
 
--- and no call of it failed
+-- which stood there, and no call of it failed
 abbrev pub WasFound : {D : Type 0} → (D → DiskState) → Outside D → Refusal → Type 0
-WasFound state o refusal = WasRefused state o refusal × OfTheDisk state (name o) o.shelf o.shelf_after (λ first last. last.faults ≡ 0)
+WasFound state o refusal =
+    WasRefused state o refusal
+    × (IsTrue o.shelf.tells_disks → IsSome (o.shelf.disk_at (name o)))
+    × OfTheDisk state (name o) o.shelf o.shelf_after (λ first last. last.faults ≡ 0)
+    × (o.shelf_after.faults ≤ o.shelf.faults)
 
 abbrev pub Cause : {D : Type 0} → (D → DiskState) → Outside D → Outcome → Type 0
 Cause state o usage = (¬ AreAccepted o.words) × WasNotRead o × HasNotFetched o.shelf o.shelf_after
@@ -132,5 +146,5 @@ Cause state o disk_fault = WasRefused state o refusal.DiskFault × HasRisen o.sh
 Cause state o not_a_store = WasFound state o refusal.NotAStore
 Cause state o damaged_slots = WasFound state o refusal.DamagedSlots
 Cause state o damaged_lane = WasFound state o refusal.DamagedLane
-Cause state o no_memory = HasNotFetched o.shelf o.shelf_after ⊎ WasRefused state o refusal.NoMemory
+Cause state o no_memory = (o.source_faults_after ≡ o.source_faults) × (HasNotFetched o.shelf o.shelf_after ⊎ WasFound state o refusal.NoMemory)
 Cause state o (ran run faulted) = HasRun state o run (IsTrue faulted)

@@ -1,5 +1,5 @@
 -- Which writes the log of a store's file holds.
-use Rattle.std.specs.Prelude.{◌≡◌, ◌⊎◌, ◌≤◌, ℕ, List, [], map}
+use Rattle.std.specs.Prelude.{◌≡◌, ◌⊎◌, ◌≤◌, ℕ, List, [], map, ◌+◌}
 use Rattle.blsm_model.specs.declared.key.Key.{Key}
 use Rattle.blsm_model.specs.declared.op.Write.{Write}
 use Rattle.blsm_model.specs.Sizes.{Sizes, default_sizes}
@@ -9,6 +9,7 @@ use Rattle.record_delta.specs.declared.record.Rec.{Rec}
 use Rattle.record_delta.specs.Records.{record_of}
 use Rattle.gated_log.specs.Lane.{HasEntries}
 use Rattle.store_file.specs.Layout.{IsStoreOf, IsStore, HasFirstSlots}
+use Rattle.store_file.specs.Making.{making_calls}
 
 -- the lane of the log that has the writes
 abbrev pub log_lane : ℕ
@@ -35,3 +36,7 @@ IsFound sizes writes file = ((file ≡ []) × (sizes ≡ default_sizes) × (writ
 -- a file that has P; or, where there were no bytes at first, one that is no store yet
 abbrev pub IsYet : List ℕ → (List ℕ → Type 0) → List ℕ → Type 0
 IsYet first P file = P file ⊎ ((first ≡ []) × ¬ (IsStore file))
+
+-- How many calls of the disk an opening that makes the store takes at most: a look at the length, and those of making.
+abbrev pub opening_calls : ℕ
+opening_calls = making_calls default_sizes + 1

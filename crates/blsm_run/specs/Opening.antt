@@ -1,5 +1,5 @@
 -- What the opening of a store answers.
-use Rattle.std.specs.Prelude.{◌≡◌, ◌⊎◌, ◌<◌, ◌≤◌, ◌*◌, ℕ, ⊤, IsTrue, List, [], length, None, Result, Ok, Err}
+use Rattle.std.specs.Prelude.{◌≡◌, ◌⊎◌, ◌<◌, ◌≤◌, ◌*◌, ℕ, IsTrue, List, [], length, None, Result, Ok, Err, ◌+◌}
 use Rattle.refusal.specs.Count.{HasRisen}
 use Rattle.disk_trait.specs.Disk.{DiskState, Only}
 use Rattle.disk_trait.specs.Moments.{LeavesOnly, LeavesOnlyOnceSynced}
@@ -83,7 +83,7 @@ IsHalfOpened old new =
     IsLeft old new ⊎ (IsTrue old.is_honest → (old.bytes ≡ []) × LeavesOnly old new (IsOldOr old.images (IsHalfMade default_sizes)))
 
 -- The disk was opened as a store whose log has these writes. Since the first sync each crash leaves such a store; or none yet, where it had to be made.
-pub record HasOpened (old new : DiskState) (writes : List Write) (opened : Opened) : Type 0 where
+pub record HasOpened (calls : ℕ) (old new : DiskState) (writes : List Write) (opened : Opened) : Type 0 where
   pub replayed : HasReplayed new writes opened
   pub geometry : IsGeometry opened.geometry
   pub length : IsTrue old.tells_bytes → length new.bytes ≡ file_length opened.geometry
@@ -93,7 +93,8 @@ pub record HasOpened (old new : DiskState) (writes : List Write) (opened : Opene
   pub durable : IsTrue old.is_honest → Only new.bytes new.images
   pub each : IsTrue old.is_honest → LeavesOnly old new (IsOldOr old.images (IsYet old.bytes (HoldsWrites opened.geometry writes)))
   pub once_synced : IsTrue old.is_honest → LeavesOnlyOnceSynced old new (IsYet old.bytes (HoldsWrites opened.geometry writes))
-  -- nothing is written to a disk that has bytes
+  -- a disk without bytes takes at most so many calls, and nothing is written to any other
+  pub soon : IsTrue old.is_honest → old.bytes ≡ [] → new.clock ≤ old.clock + calls
   pub kept : ((old.bytes ≡ []) → ⊥) → IsLeft old new
 
 -- why a disk was not opened, and what it has then: exactly its first failing place, or a fault, or want of memory
@@ -106,12 +107,11 @@ Refuses old new refusal.DamagedLane =
 Refuses old new refusal.NoMemory = IsLeft old new
 Refuses old new refusal = ⊥
 
--- a fault is answered where the count rose, and what was found where it stands
+-- a fault is answered where the count rose, and all else where it stands
 abbrev pub IsCounted : ℕ → ℕ → Refusal → Type 0
 IsCounted old new refusal.DiskFault = HasRisen old new
-IsCounted old new refusal.NoMemory = ⊤
 IsCounted old new refusal = new ≡ old
 
-abbrev pub Opens : DiskState → DiskState → Result Opened Refusal → Type 0
-Opens old new (Ok opened) = (writes : List Write) × HasOpened old new writes opened
-Opens old new (Err refusal) = Refuses old new refusal × IsCounted old.faults new.faults refusal
+abbrev pub Opens : ℕ → DiskState → DiskState → Result Opened Refusal → Type 0
+Opens calls old new (Ok opened) = (writes : List Write) × HasOpened calls old new writes opened
+Opens calls old new (Err refusal) = Refuses old new refusal × IsCounted old.faults new.faults refusal

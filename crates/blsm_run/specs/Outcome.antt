@@ -76,8 +76,8 @@ pub record Written : Type 0 where
   pub faults : ℕ
   pub faults_after : ℕ
 
--- The text is written and the status answered; where the sink's count rose, a front of the text, and the sink's status.
+-- The text is written and the status answered, and the sink's count stands; or the sink failed, and a front of the text is written, and its status answered.
 abbrev pub Tells : Written → Outcome → Status → Type 0
 Tells w outcome status =
-    ((status ≡ status_of outcome) × Adds (text_of outcome) w.held w.held_after)
+    ((status ≡ status_of outcome) × Adds (text_of outcome) w.held w.held_after × (w.faults_after ≡ w.faults))
     ⊎ ((status ≡ SinkFault) × HasRisen w.faults w.faults_after × AddsFront (text_of outcome) w.held w.held_after)

@@ -1,5 +1,5 @@
 -- What reading the source as a script answers.
-use Rattle.std.specs.Prelude.{◌≡◌, ◌<◌, ◌≤◌, ⊤, ℕ, Option, Some, List, [], length, IfSome, Result, Ok, Err}
+use Rattle.std.specs.Prelude.{◌≡◌, ◌<◌, ◌≤◌, ℕ, Option, Some, List, [], length, IfSome, Result, Ok, Err}
 use Rattle.refusal.specs.Count.{HasRisen}
 use Rattle.script_text.specs.Grammar.{IsScript, IsBadLine}
 use Rattle.blsm_model.specs.declared.history.Line.{Line}
@@ -12,9 +12,9 @@ abbrev pub WasReadWhole : Option (List ℕ) → Option (List ℕ) → Type 0
 WasReadWhole left left_after = IfSome left (λ input. (length input ≤ script_limit) × (left_after ≡ Some []))
 
 abbrev pub ReadsScript : Option (List ℕ) → Option (List ℕ) → ℕ → ℕ → Result (List Line) Refusal → Type 0
-ReadsScript left left_after faults faults_after (Ok script) = WasReadWhole left left_after × IfSome left (λ input. IsScript input script)
+ReadsScript left left_after faults faults_after (Ok script) = WasReadWhole left left_after × IfSome left (λ input. IsScript input script) × (faults_after ≡ faults)
 ReadsScript left left_after faults faults_after (Err refusal.SourceFault) = HasRisen faults faults_after
 ReadsScript left left_after faults faults_after (Err refusal.TooBig) = IfSome left (λ input. script_limit < length input)
-ReadsScript left left_after faults faults_after (Err (refusal.BadLine n)) = WasReadWhole left left_after × IfSome left (λ input. IsBadLine input n)
-ReadsScript left left_after faults faults_after (Err refusal.NoMemory) = ⊤
+ReadsScript left left_after faults faults_after (Err (refusal.BadLine n)) = WasReadWhole left left_after × IfSome left (λ input. IsBadLine input n) × (faults_after ≡ faults)
+ReadsScript left left_after faults faults_after (Err refusal.NoMemory) = faults_after ≡ faults
 ReadsScript left left_after faults faults_after (Err refusal) = ⊥

@@ -1,5 +1,6 @@
 -- What one command does to the store, and what a whole script does.
-use Rattle.std.specs.Prelude.{◌≡◌, ◌≤◌, ◌*◌, ◌+◌, ℕ, IsTrue, List, [], ◌∷◌, ◌++◌, length, map}
+use Rattle.std.specs.Prelude.{◌≡◌, ◌≤◌, ◌*◌, ◌+◌, ℕ, IsTrue, List, [], ◌∷◌, ◌++◌, length, map, None}
+use Rattle.refusal.specs.Count.{HasRisen}
 use Rattle.disk_trait.specs.Disk.{DiskState, GoesOn, Torn}
 use Rattle.disk_trait.specs.Moments.{LeavesOnly, SyncsLater}
 use Rattle.blsm_model.specs.declared.key.Key.{Key}
@@ -60,7 +61,8 @@ pub record HasAppended (sizes : Sizes) (end : ℕ) (entry : Key × Rec) (old new
 abbrev pub WritesOnDisk : {D : Type 0} → (D → DiskState) → Key → Rec → StoreState D → StoreState D → Reply → Type 0
 WritesOnDisk state key rec old new Done =
     (new.log_end ≡ old.log_end + (weight key rec + 1)) × HasAppended old.sizes old.log_end (key, rec) (state old.disk) (state new.disk)
-WritesOnDisk state key rec old new FaultUnsure = Appends old.sizes old.log_end (key, rec) (state old.disk) (state new.disk)
+WritesOnDisk state key rec old new FaultUnsure =
+    HasRisen (state old.disk).faults (state new.disk).faults × Appends old.sizes old.log_end (key, rec) (state old.disk) (state new.disk)
 WritesOnDisk state key rec old new reply = HasSameDisk old new
 
 -- what a reply to a command says of it
@@ -74,12 +76,15 @@ ChangesDisk state op old new reply = HasSameDisk old new
 pub record Answered {D : Type 0} (state : D → DiskState) (op : Op) (old new : StoreState D) (reply : Reply) : Type 0 where
   pub answers : Answers old.memory op new.memory reply
   pub disk : ChangesDisk state op old new reply
+  -- a store that runs on has seen no fault
+  pub calm : new.memory.stopped ≡ None → (state new.disk).faults ≡ (state old.disk).faults
   pub along : GoesAlong state old new
 
 -- A write of this key and record was taken or refused.
 pub record AnsweredWrite {D : Type 0} (state : D → DiskState) (key : Key) (rec : Rec) (old new : StoreState D) (reply : Reply) : Type 0 where
   pub answers : AnswersRecord old.memory key rec new.memory reply
   pub disk : WritesOnDisk state key rec old new reply
+  pub calm : new.memory.stopped ≡ None → (state new.disk).faults ≡ (state old.disk).faults
   pub along : GoesAlong state old new
 
 -- One command was answered, and noted with its reply.
@@ -90,6 +95,7 @@ pub record Executes {D : Type 0} (state : D → DiskState) (seat : ℕ) (op : Op
   pub noted : new.memory ≡ with_entry answered (record { seat = seat; op = op; reply = reply })
   pub limit : old.memory.limit ≡ old.sizes.half
   pub disk : ChangesDisk state op old new reply
+  pub calm : answered.stopped ≡ None → (state new.disk).faults ≡ (state old.disk).faults
   pub along : GoesAlong state old new
 
 -- A script was run: whatever the store stood for, it stands for now, in memory and on the disk, and the history has gained the script's lines, in order.
@@ -100,6 +106,7 @@ pub record Runs {D : Type 0} (state : D → DiskState) (lines : List Line) (old 
       → KeepsShowing old.sizes log old.memory.book.entries new.memory.book.entries (state old.disk) (state new.disk)
       × StandsOnDisk old.sizes log new.memory.book.entries new.memory.stopped new.log_end (state new.disk)
   pub asked : asked_in new.memory.book.entries ≡ asked_in old.memory.book.entries ++ asked lines
+  pub calm : new.memory.stopped ≡ None → (state new.disk).faults ≡ (state old.disk).faults
   pub along : GoesAlong state old new
 
 -- A run ended with this disk, this history and these totals.

@@ -1,5 +1,5 @@
 -- What the run of a script over a disk, and over a shelf, answers.
-use Rattle.std.specs.Prelude.{◌≡◌, ℕ, true, IsTrue, List, length, Result, Ok, Err}
+use Rattle.std.specs.Prelude.{◌≡◌, ℕ, true, IsTrue, List, length, Result, Ok, Err, ◌≤◌, IsSome}
 use Rattle.refusal.specs.Count.{HasRisen}
 use Rattle.disk_trait.specs.Disk.{DiskState, Only}
 use Rattle.disk_trait.specs.Moments.{LeavesOnly}
@@ -10,14 +10,15 @@ use Rattle.blsm_run.specs.declared.outcome.Refusal.{Refusal}
 use Rattle.blsm_run.specs.declared.outcome.Refusal.TheVariants as refusal
 use Rattle.blsm_run.specs.Outcome.{Run, Outcome, usage, source_fault, too_big, bad_line, disk_fault, not_a_store, damaged_slots, damaged_lane, no_memory, ran}
 use Rattle.blsm_model.specs.declared.op.Write.{Write}
-use Rattle.blsm_model.specs.Sizes.{Sizes}
+use Rattle.blsm_model.specs.Sizes.{Sizes, IsGeometry}
+use Rattle.blsm_model.specs.Legal.{total_weight}
 use Rattle.blsm_run.specs.Outside.{OfTheDisk}
 use Rattle.blsm_model.specs.Book.{Book}
 use Rattle.blsm_model.specs.declared.history.Entry.{Entry}
 use Rattle.gated_log.specs.Lane.{blocks}
 use Rattle.blsm_run.specs.declared.opening.Opened.{Opened}
 use Rattle.blsm_run.specs.Memory.{is_untroubled, log_after}
-use Rattle.blsm_run.specs.Holding.{entries_of, HoldsWrites}
+use Rattle.blsm_run.specs.Holding.{entries_of, HoldsWrites, opening_calls}
 use Rattle.blsm_run.specs.Opening.{HasOpened, Refuses, IsCounted}
 use Rattle.blsm_run.specs.Showing.{ShowsWhole, ShowsPrefix, HasShown}
 use Rattle.blsm_run.specs.Cause.{HasFinished, IsRunOnShelf}
@@ -39,7 +40,7 @@ outcome_of (Err refusal.NoMemory) = no_memory
 
 -- the store was opened, or why it was not
 abbrev pub Prepares : DiskState → DiskState → Result (Book × Opened) Refusal → Type 0
-Prepares old new (Ok prepared) = (writes : List Write) × HasOpened old new writes prepared.1
+Prepares old new (Ok prepared) = (writes : List Write) × HasOpened opening_calls old new writes prepared.1
 Prepares old new (Err refusal) = Refuses old new refusal × IsCounted old.faults new.faults refusal
 
 -- an honest disk has these writes in its log, whatever a crash leaves, and the log ends where the opening says
@@ -56,20 +57,26 @@ pub record KeepsWhole (sizes : Sizes) (log : List Write) (history : List Entry) 
   pub reads : is_untroubled history ≡ true → HoldsWrites sizes (log_after log history) new.bytes
 
 -- A run over a disk that was this and is that, whose log had some writes; or why there was none.
-abbrev pub RunsOverDisk : {D : Type 0} → (D → DiskState) → List Line → DiskState → DiskState → Result Finished Refusal → Type 0
-RunsOverDisk state lines first last (Ok finished) =
+abbrev pub RunsOverDisk : List Line → DiskState → DiskState → Result Finished Refusal → Type 0
+RunsOverDisk lines first last (Ok finished) =
     (sizes : Sizes) × (log : List Write)
+    × IsGeometry sizes
+    × (total_weight log ≤ sizes.half)
     × HasFinished sizes log lines (run_of finished) (IsTrue finished.is_faulted) last
-    × (IsTrue first.is_honest → HasShown state sizes log finished.annals.entries first last)
-RunsOverDisk state lines first last (Err refusal) = Refuses first last refusal × IsCounted first.faults last.faults refusal
+    × (IsTrue first.is_honest → HasShown sizes log finished.annals.entries first last)
+RunsOverDisk lines first last (Err refusal) = Refuses first last refusal × IsCounted first.faults last.faults refusal
 
 -- the disk of this name of a shelf was refused for this
 abbrev pub IsRefusedOnShelf : {D : Type 0} → (D → DiskState) → List ℕ → ShelfState D → ShelfState D → Refusal → Type 0
 IsRefusedOnShelf state disk old new refusal = OfTheDisk state disk old new (λ first last. Refuses first last refusal)
 
--- and no call of it failed
+-- which stood there, and no call of it failed
 abbrev pub IsFoundOnShelf : {D : Type 0} → (D → DiskState) → List ℕ → ShelfState D → ShelfState D → Refusal → Type 0
-IsFoundOnShelf state disk old new refusal = IsRefusedOnShelf state disk old new refusal × OfTheDisk state disk old new (λ first last. last.faults ≡ 0)
+IsFoundOnShelf state disk old new refusal =
+    IsRefusedOnShelf state disk old new refusal
+    × (IsTrue old.tells_disks → IsSome (old.disk_at disk))
+    × OfTheDisk state disk old new (λ first last. last.faults ≡ 0)
+    × (new.faults ≤ old.faults)
 
 -- over the disk of this name of a shelf
 abbrev pub RunsOnShelf : {D : Type 0} → (D → DiskState) → List ℕ → List Line → ShelfState D → ShelfState D → Result Finished Refusal → Type 0
@@ -78,5 +85,5 @@ RunsOnShelf state disk lines old new (Err refusal.DiskFault) = IsRefusedOnShelf 
 RunsOnShelf state disk lines old new (Err refusal.NotAStore) = IsFoundOnShelf state disk old new refusal.NotAStore
 RunsOnShelf state disk lines old new (Err refusal.DamagedSlots) = IsFoundOnShelf state disk old new refusal.DamagedSlots
 RunsOnShelf state disk lines old new (Err refusal.DamagedLane) = IsFoundOnShelf state disk old new refusal.DamagedLane
-RunsOnShelf state disk lines old new (Err refusal.NoMemory) = IsRefusedOnShelf state disk old new refusal.NoMemory
+RunsOnShelf state disk lines old new (Err refusal.NoMemory) = IsFoundOnShelf state disk old new refusal.NoMemory
 RunsOnShelf state disk lines old new (Err refusal) = ⊥

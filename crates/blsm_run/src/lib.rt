@@ -1,5 +1,5 @@
 //! The program's one call: it reads the words and the script, runs the script over one store, and prints the history.
-//! `main` calls it, and does nothing else.
+//! `main` makes the real ends, calls it, and ends with its status.
 #![tactic(auto)]
 
 mod answer;

@@ -7,6 +7,8 @@ ghost use Rattle.blsm_model.specs.declared.op.Write.{Write};
 ghost use Rattle.blsm_model.specs.Sizes.{default_sizes};
 ghost use Rattle.blsm_model.specs.Geometry.{file_length, high_mark};
 ghost use Rattle.record_delta.specs.Records.{write_of, weight as weight_with};
+ghost use Rattle.store_file.specs.Making.{making_calls};
+ghost use Rattle.blsm_run.specs.Holding.{opening_calls};
 ghost use Rattle.blsm_run.specs.Opening.{HasTaken, IsFit, Replays, Opens};
 
 use crate::outcome::Refusal;
@@ -102,7 +104,7 @@ fn replay_lane<D: Disk>(disk: &mut D, opened: &mut Opened) -> Result<(), LaneBro
 fn make<D: Disk>(alloc: Global, disk: &mut D) -> Result<Opened, Refusal>
     requires { IsTrue (D.state disk.old).tells_bytes → length (D.state disk.old).bytes ≡ 0 }
     ensures goes_on { GoesOn (D.state disk.old) (D.state disk.new) }
-    ensures opens { Opens (D.state disk.old) (D.state disk.new) result }
+    ensures opens { Opens (making_calls default_sizes) (D.state disk.old) (D.state disk.new) result }
 {
     let geometry = Geometry::default();
     let Ok(opened) = Opened::reserve(alloc, geometry) else {
@@ -118,7 +120,7 @@ fn make<D: Disk>(alloc: Global, disk: &mut D) -> Result<Opened, Refusal>
 fn read<D: Disk>(alloc: Global, disk: &mut D) -> Result<Opened, Refusal>
     requires { IsTrue (D.state disk.old).tells_bytes → 0 < length (D.state disk.old).bytes }
     ensures goes_on { GoesOn (D.state disk.old) (D.state disk.new) }
-    ensures opens { Opens (D.state disk.old) (D.state disk.new) result }
+    ensures opens { Opens (making_calls default_sizes) (D.state disk.old) (D.state disk.new) result }
 {
     let Ok(()) = disk.sync() else {
         return Err(Refusal::DiskFault);
@@ -144,7 +146,7 @@ fn read<D: Disk>(alloc: Global, disk: &mut D) -> Result<Opened, Refusal>
 /// that fails is answered, and then the disk has what it had. Nothing is written to a disk that has bytes.
 pub(crate) fn open<D: Disk>(alloc: Global, disk: &mut D) -> Result<Opened, Refusal>
     ensures goes_on { GoesOn (D.state disk.old) (D.state disk.new) }
-    ensures opens { Opens (D.state disk.old) (D.state disk.new) result }
+    ensures opens { Opens opening_calls (D.state disk.old) (D.state disk.new) result }
 {
     let Ok(length) = disk.len() else {
         return Err(Refusal::DiskFault);

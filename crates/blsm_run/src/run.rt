@@ -12,7 +12,8 @@ use std::sync::Wait;
 use std::thread::Threads;
 use text_io::{Sink, Source};
 
-/// Reads the words and the script, makes a store of the disk that the words name, runs the script over it, and prints its history.
+/// Reads the words and the script, opens the store on the disk that the words name, or makes one where the disk has no bytes, runs the
+/// script over it, and prints its history.
 pub fn blsm_run<R: Threads + Wait + Sync, S: Source, K: Sink, H: Shelf, G: Gate + Sync>(
     _rt: &R,
     alloc: Global,

@@ -50,7 +50,7 @@ fn run_store<D: Disk + Drop>(
     requires room { HasRoomFor annals.room lines.now }
     ensures goes_on { GoesOn (D.state disk) (D.state result.0) }
     ensures syncs { SyncsLater (D.state disk) (D.state result.0) }
-    ensures finished { (log : List Write) → HasTaken log opened
+    ensures finished { (log : List Write) → (D.state disk).faults ≡ 0 → HasTaken log opened
         → HasFinished opened.geometry log lines.now (run_of result.1) (IsTrue result.1.is_faulted) (D.state result.0) }
     ensures shows { (log : List Write) → HasTaken log opened → IsDurable opened log (D.state disk)
         → KeepsWhole opened.geometry log result.1.annals.entries (D.state disk) (D.state result.0) }
@@ -81,7 +81,7 @@ pub(crate) fn run_over_disk<D: Disk + Drop>(
     requires runnable { AreRunnable lines.now }
     requires room { HasRoomFor room lines.now }
     ensures goes_on { GoesOn (D.state disk) (D.state result.0) }
-    ensures runs { RunsOverDisk D.state lines.now (D.state disk) (D.state result.0) result.1 }
+    ensures runs { (D.state disk).faults ≡ 0 → RunsOverDisk lines.now (D.state disk) (D.state result.0) result.1 }
 {
     let mut disk = disk;
     match prepare(alloc, &mut disk, room) {

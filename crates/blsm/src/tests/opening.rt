@@ -294,3 +294,29 @@ fn a_log_that_is_too_heavy_is_damaged(rt: HostRuntime) -> Result<(), Fail> {
     )?;
     Ok(())
 }
+
+// An opening looks at the length, syncs, looks at the length again, reads the superblock, two slots and, behind two writes, three
+// gates of the log.
+const OPENING: u64 = 9;
+
+#[test]
+fn a_fault_in_an_opening_leaves_the_store(rt: HostRuntime) -> Result<(), Fail> {
+    let alloc = rt.alloc();
+    // The last call is one past the opening.
+    for call in 1..OPENING + 2 {
+        let mut disk = empty_disk(alloc)?;
+        disk.fail(MAKING + 8 + call)?;
+        let (status, _text, disk) = run(&rt, alloc, SCRIPT, disk)?;
+        assert_eq!(rt; status, Status::Done);
+        let wanted = if call <= OPENING {
+            (Status::DiskFault, "disk fault\n")
+        } else {
+            (Status::Done, SHOWN[2])
+        };
+        let disk = check(&rt, alloc, &RUN, GETS, disk, wanted)?;
+        if call <= OPENING {
+            check(&rt, alloc, &RUN, GETS, disk, (Status::Done, SHOWN[2]))?;
+        }
+    }
+    Ok(())
+}

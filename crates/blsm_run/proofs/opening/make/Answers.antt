@@ -7,5 +7,5 @@ returns-in-Ok-make_store-clause-opens g c =
     let made = c.in-Ok-make_store.ensures in (
       [],
       made_opened (g.D.Disk.state c.args.disk.now) (g.D.Disk.state c.make_store.new.disk) c.in-Ok.opened c.default-geometry.result c.default-geometry.ensures c.in-Ok.ensures
-          (g.met.D.Disk.honest_tells c.args.disk.now) c.requires made.each made.once_synced made.made made.durable made.length made.stands made.goes_on.is_honest,
+          (g.met.D.Disk.honest_tells c.args.disk.now) c.requires made.each made.once_synced made.made made.durable made.length made.stands made.goes_on.is_honest made.calls,
     )

@@ -1,9 +1,9 @@
-use Rattle.std.proofs.Common.{◌∙◌}
+use Rattle.std.proofs.Common.{◌∙◌, arith}
 use Rattle.blsm_run.proofs.ShownLemmas.{shown_behind}
 use Rattle.blsm_run.proofs.session.run_over_disk.Goals as goal
 
 pub returns-in-Ok-clause-runs : goal.returns-in-Ok-clause-runs
-returns-in-Ok-clause-runs g c =
+returns-in-Ok-clause-runs g c = λ fresh.
     let state = g.D.Disk.state in
     let opened = c.in-Ok.opened in
     let prepared = c.in-Ok.ensures.opens in
@@ -14,7 +14,9 @@ returns-in-Ok-clause-runs g c =
     let last = c.run_store-disk.result.0 in (
       opened.geometry,
       log,
-      run.finished log has.replayed.taken,
+      has.geometry,
+      omega (arith, has.replayed.taken.charge, has.replayed.fit.charge_within),
+      run.finished log (has.calm ∙ fresh) has.replayed.taken,
       λ honest.
           shown_behind state log opened c.run_store-disk.result.1.annals.entries c.args.disk mid last (g.met.D.Disk.timed mid) (g.met.D.Disk.timed last) c.prepare.ensures.goes_on has run.syncs honest
           (run.shows log has.replayed.taken (record {

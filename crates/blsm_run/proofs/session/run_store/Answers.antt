@@ -1,4 +1,4 @@
-use Rattle.std.proofs.Common.{ap, sym, subst, nat_lt}
+use Rattle.std.proofs.Common.{ap, sym, subst, nat_lt, ◌∙◌}
 use Rattle.blsm_run.specs.Memory.{StandsFor}
 use Rattle.blsm_run.specs.StoreState.{IsStoppedByFault}
 use Rattle.blsm_run.specs.Session.{KeepsWhole}
@@ -9,7 +9,7 @@ use Rattle.blsm_run.proofs.ShownLemmas.{store_stands, store_shows}
 use Rattle.blsm_run.proofs.session.run_store.Goals as goal
 
 pub returns-clause-finished : goal.returns-clause-finished
-returns-clause-finished g c = λ log taken.
+returns-clause-finished g c = λ log fresh taken.
     let state = g.D.Disk.state in
     let ends = c.end-disk.ensures in
     let last = state c.end-disk.result.0 in
@@ -17,6 +17,7 @@ returns-clause-finished g c = λ log taken.
     c.new-store.ensures.memory (c.run.ensures.stands log) c.run.ensures.asked c.run.ensures.along.limit ends.same_book ends.tells
     (subst (λ d. IsStoppedByFault c.run.new.self.memory.stopped (state d).faults) (sym ends.same_disk) ends.stopped) ends.within
     (ap (λ n. nat_lt 0 n) c.faults-is_faulted.ensures)
+    (λ runs. ap (λ d. (state d).faults) ends.same_disk ∙ c.run.ensures.calm runs ∙ ap (λ d. (state d).faults) c.new-store.ensures.disk ∙ fresh)
 
 pub returns-clause-shows : goal.returns-clause-shows
 returns-clause-shows g c = λ log taken on.

@@ -1,4 +1,4 @@
-use Rattle.std.proofs.Common.{◌≡◌, ◌+◌, ◌<◌, ◌∷◌, [], ◌++◌, refl, ap, sym, subst, ◌∙◌, take, drop, length, append-nil, arith}
+use Rattle.std.proofs.Common.{◌≡◌, ◌+◌, ◌<◌, ◌∷◌, [], ◌++◌, refl, ap, sym, subst, ◌∙◌, take, drop, length, append-nil, arith, None}
 use Rattle.std.proofs.lemmas.List.{take_more, drop_more}
 use Rattle.blsm_model.specs.Book.{Book}
 use Rattle.blsm_run.specs.Memory.{Memory, StandsFor}
@@ -9,7 +9,7 @@ use Rattle.blsm_model.specs.declared.history.Entry.{Entry}
 use Rattle.blsm_run.specs.Crashes.{StandsOnDisk}
 use Rattle.blsm_run.proofs.CrashLemmas.{Kept, kept_start, kept_push, kept_then}
 use Rattle.blsm_run.proofs.MemoryLemmas.{stands_push}
-use Rattle.blsm_run.proofs.RunLemmas.{stays, room_then, asked_then, along_then, along_start}
+use Rattle.blsm_run.proofs.RunLemmas.{ran_before, stays, room_then, asked_then, along_then, along_start}
 use Rattle.blsm_run.proofs.store.Store.run.Goals as goal
 
 pub loop-line-init : goal.loop-line-init
@@ -17,6 +17,7 @@ loop-line-init g c = record {
   stands = λ log stood. stood;
   shows = λ log stood on. (kept_start c.args.self.now.sizes log c.args.self.now.memory.book.entries (g.D.Disk.state c.args.self.now.disk) (g.met.D.Disk.timed c.args.self.now.disk) on.whole, on);
   asked = sym (append-nil (asked_in c.args.self.now.memory.book.entries));
+  calm = λ runs. refl;
   along = along_start g.D.Disk.state c.args.self.now;
   room = c.requires.room;
 }
@@ -58,6 +59,9 @@ loop-line-preserved g c =
           asked_then old.book.entries new.book.entries (take i lines) line (record { seat = line.seat; op = line.op; reply = did.reply }) c.args.self.now.memory.book.entries refl refl
           (ap (λ (b : Book). b.entries) book ∙ ap (λ (b : Book). b.entries ++ (record { seat = line.seat; op = line.op; reply = did.reply }) ∷ []) kept.0) c.loop-line.invariant.asked
           ∙ ap (λ ls. asked_in c.args.self.now.memory.book.entries ++ asked ls) (ap (λ l. take i lines ++ l ∷ []) c.line-item.is ∙ sym (take_more lines i line below));
+      calm = λ runs.
+          let answered : did.answered.stopped ≡ None = sym (ap (λ (m : Memory). m.stopped) did.noted) ∙ runs in
+          did.calm answered ∙ c.loop-line.invariant.calm (ran_before old did.answered line.op did.reply did.answers answered);
       along = along_then g.D.Disk.state c.args.self.now c.loop-line.self c.execute.new.self c.loop-line.invariant.along did.along;
       room =
           subst (λ r. HasRoomFor r (drop (i + 1) lines))

@@ -1,4 +1,4 @@
-use Rattle.std.proofs.Common.{◌≡◌, List, ◌++◌, take, drop}
+use Rattle.std.proofs.Common.{◌≡◌, List, ◌++◌, take, drop, None}
 use Rattle.blsm_model.specs.declared.op.Write.{Write}
 use Rattle.blsm_run.specs.Rooms.{HasRoomFor}
 use Rattle.blsm_run.specs.Memory.{StandsFor}
@@ -14,6 +14,7 @@ invariant-loop-line g l = record {
       → StandsOnDisk l.fn.self.sizes log l.fn.self.memory.book.entries l.fn.self.memory.stopped l.fn.self.log_end (g.D.Disk.state l.fn.self.disk)
       → Kept l.fn.self.sizes log l.fn.self.memory.book.entries (g.D.Disk.state l.fn.self.disk) l.self.memory.book.entries l.self.memory.stopped l.self.log_end (g.D.Disk.state l.self.disk);
   asked : asked_in l.self.memory.book.entries ≡ asked_in l.fn.self.memory.book.entries ++ asked (take l.line-index l.lines);
+  calm : l.self.memory.stopped ≡ None → (g.D.Disk.state l.self.disk).faults ≡ (g.D.Disk.state l.fn.self.disk).faults;
   along : GoesAlong g.D.Disk.state l.fn.self l.self;
   room : HasRoomFor l.self.memory.book.room (drop l.line-index l.lines);
 }

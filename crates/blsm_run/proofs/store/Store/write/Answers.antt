@@ -1,4 +1,4 @@
-use Rattle.std.proofs.Common.{◌≡◌, ◌≤◌, ◌+◌, max, Some, refl, ap, subst, ◌∙◌, arith}
+use Rattle.std.proofs.Common.{◌≡◌, ◌≤◌, ◌+◌, max, Some, refl, ap, subst, ◌∙◌, arith, None}
 use Rattle.blsm_model.specs.declared.history.Why.TheVariants.{Faulted}
 use Rattle.blsm_model.specs.declared.history.Reply.TheVariants.{Done, FaultUnsure}
 use Rattle.blsm_model.specs.Sizes.{Sizes}
@@ -48,6 +48,7 @@ returns-in-Ok g c =
           outside = did.outside;
         }),
       );
+      calm = λ runs. did.stands;
       along = record { disk = did.goes_on; length = did.length; syncs = did.syncs; sizes = refl; limit = refl };
     })
 
@@ -67,6 +68,7 @@ returns-in-Err g c =
     } in
     subst (λ (s : StoreState g.row.D.Denot). AnsweredWrite state key rec s after FaultUnsure) c.self.view_is (record {
       answers = (below, c.faults.result, refl);
-      disk = subst (λ (s : Sizes). Appends s (end_of inside.lanes log_lane) (key, rec) (state inside.disk) (state c.append.new.disk)) c.self.invariant.same_sizes did.each;
+      disk = (did.failed refl, subst (λ (s : Sizes). Appends s (end_of inside.lanes log_lane) (key, rec) (state inside.disk) (state c.append.new.disk)) c.self.invariant.same_sizes did.each);
+      calm = λ runs. let wrong : Some (Faulted c.faults.result) ≡ None = runs in cc;
       along = record { disk = did.goes_on; length = did.length; syncs = did.syncs; sizes = refl; limit = refl };
     })
