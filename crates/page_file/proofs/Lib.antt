@@ -1,3 +1,4 @@
 mod Examples
 pub mod EntryLemmas
 pub mod PageLemmas
+pub mod ComponentLemmas

@@ -44,7 +44,7 @@ number_fits : (next : Option ℕ) → IsNumber next → page_number next < 2 ^ 3
 number_fits (Some n) below = omega (arith, below)
 number_fits None below = omega arith
 
-number_same : (m n : Option ℕ) → IsNumber m → IsNumber n → page_number m ≡ page_number n → m ≡ n
+pub number_same : (m n : Option ℕ) → IsNumber m → IsNumber n → page_number m ≡ page_number n → m ≡ n
 number_same (Some m) (Some n) below below' same = ap Some same
 number_same (Some m) None below below' same = absurd (omega (arith, below, same))
 number_same None (Some n) below below' same = absurd (omega (arith, below', same))

@@ -1,3 +1,4 @@
 pub mod Entry
 pub mod Page
 pub mod File
+pub mod Component

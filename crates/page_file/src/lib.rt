@@ -2,14 +2,18 @@
 //! pages by it.
 #![tactic(auto)]
 
+mod component;
 mod entry;
 mod file;
 mod laws;
 mod number;
 mod page;
 
+pub use component::no_component;
 pub use file::{Broken, read_page, write_page};
-pub use laws::{one_page, other_pages, where_entries_stand};
+pub use laws::{
+    chains, one_component, one_page, other_components, other_pages, where_entries_stand,
+};
 pub use page::{LEAST_FULL, MOST_USED, PAGE_HEAD_LEN, PAGE_LEN, PageHead};
 
 #[cfg(test)]

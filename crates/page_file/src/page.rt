@@ -30,7 +30,7 @@ pub const MOST_USED: u16 = 4_088;
 pub const LEAST_FULL: u16 = MOST_USED - Op::MAX_WEIGHT as u16 + 1;
 
 // What stands for no next page.
-const NO_PAGE: u32 = u32::MAX;
+pub const NO_PAGE: u32 = u32::MAX;
 
 /// What a page says before its entries.
 #[derive(Clone, Copy, PartialEq, Eq, Debug)]
