@@ -1,11 +1,16 @@
 -- The bytes of a page, worked, and what is no page.
-use Rattle.std.proofs.Common.{◌≡◌, ℕ, ◌≤◌, List, [], ◌∷◌, length, take, Some, None, refl, ap, codes, lit≤, lit<, arith}
+use Rattle.std.proofs.Common.{◌≡◌, ℕ, ◌≤◌, List, [], ◌∷◌, length, take, Some, None, refl, ap, sym, subst, codes, lit≤, lit<, arith}
+use Rattle.std.specs.List.{IsDistinct}
 use Rattle.std.specs.List.Sorted.{IsStrictlySortedBy}
 use Rattle.std.specs.Ordering.{is_lt}
 use Rattle.std.proofs.lemmas.Bool.{false≢true}
 use Rattle.std.proofs.lemmas.List.Elements.{All-nil, All-cons}
 use Rattle.page_file.specs.Entry.{PageEntry, IsEntry, entry_head, entry_bytes, AreRising}
-use Rattle.page_file.specs.Page.{page_head, page_bytes, IsContent, IsPage}
+use Rattle.blsm_model.specs.declared.component.Component.{Component}
+use Rattle.blsm_model.specs.Sizes.{Sizes}
+use Rattle.page_file.specs.Page.{page_head, page_bytes, IsContent, IsPageOf, IsPage}
+use Rattle.page_file.specs.File.{page_at}
+use Rattle.page_file.specs.Component.{RunPage, ReadsAs}
 
 -- x, a base of count 100 and text "old"
 base_x : PageEntry
@@ -35,20 +40,19 @@ is_entry_x = record {
 }
 
 -- it is valid
-valid_x : IsPage 798 (page_bytes None (base_x ∷ []))
+page_x : IsPageOf 798 None (base_x ∷ []) (page_bytes None (base_x ∷ []))
 unfolding entry_bytes entry_head base_x IsStrictlySortedBy
-valid_x = (
-  None,
-  base_x ∷ [],
-  record {
-    content = record {
-      head = record { some = lit≤ tt; fits = lit≤ tt; next_is = tt; full = λ none. absurd (false≢true none) };
-      each = All-cons IsEntry base_x [] is_entry_x (All-nil IsEntry);
-      rise = (tt, tt);
-    };
-    spelled = refl;
-  },
-)
+page_x = record {
+  content = record {
+    head = record { some = lit≤ tt; fits = lit≤ tt; next_is = tt; full = λ none. absurd (false≢true none) };
+    each = All-cons IsEntry base_x [] is_entry_x (All-nil IsEntry);
+    rise = (tt, tt);
+  };
+  spelled = refl;
+}
+
+valid_x : IsPage 798 (page_bytes None (base_x ∷ []))
+valid_x = (None, base_x ∷ [], page_x)
 
 -- but with a next page it is not full enough
 not_full_x : (next : ℕ) → IsContent 798 (Some next) (base_x ∷ []) → ⊥
@@ -74,3 +78,39 @@ falling rise = false≢true (ap is_lt rise.0.0)
 twice : AreRising (named (codes "a") ∷ named (codes "a") ∷ []) → ⊥
 unfolding named IsStrictlySortedBy
 twice rise = false≢true (ap is_lt rise.0.0)
+
+-- In a file of the smallest store whose page 0 is that of x, the component of this page alone reads as x, which weighs 17.
+smallest : Sizes
+smallest = record { half = 17408; ratio = 2; low = 16384; quantum = 4096 }
+
+component_of_x : ℕ → Component
+component_of_x weight = record { first = 0; pages = 1; entries = 1; weight = weight }
+
+pages_of_x : List RunPage
+pages_of_x = record { number = 0; entries = base_x ∷ [] } ∷ []
+
+reads_x : (file : List ℕ) → page_at smallest 0 file ≡ page_bytes None (base_x ∷ []) → ReadsAs smallest (component_of_x 17) pages_of_x file
+unfolding smallest component_of_x pages_of_x base_x IsStrictlySortedBy IsDistinct
+reads_x file there = record {
+  first_is = refl;
+  chained = (lit< tt, subst (IsPageOf 798 None (base_x ∷ [])) (sym there) page_x, tt);
+  rise = (tt, tt);
+  apart = (tt, tt);
+  pages_is = refl;
+  entries_is = refl;
+  weight_is = refl;
+}
+
+-- but not where it is said to weigh 18
+wrong_weight_x : (file : List ℕ) → ReadsAs smallest (component_of_x 18) pages_of_x file → ⊥
+unfolding component_of_x pages_of_x base_x
+wrong_weight_x file reads = let weight : 17 ≡ 18 = reads.weight_is in omega (arith, weight)
+
+-- nor do two pages with the same key, nor the same page twice
+twice_x : (component : Component) (file : List ℕ) → ReadsAs smallest component (record { number = 0; entries = base_x ∷ [] } ∷ record { number = 1; entries = base_x ∷ [] } ∷ []) file → ⊥
+unfolding base_x IsStrictlySortedBy
+twice_x component file reads = false≢true (ap is_lt reads.rise.0.0)
+
+again_x : (component : Component) (es fs : List PageEntry) (file : List ℕ) → ReadsAs smallest component (record { number = 0; entries = es } ∷ record { number = 0; entries = fs } ∷ []) file → ⊥
+unfolding IsDistinct
+again_x component es fs file reads = false≢true (sym reads.apart.0.0)
