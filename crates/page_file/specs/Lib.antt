@@ -2,3 +2,4 @@ pub mod Entry
 pub mod Page
 pub mod File
 pub mod Component
+pub mod Records

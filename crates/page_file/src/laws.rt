@@ -5,9 +5,13 @@ ghost use Rattle.disk_trait.specs.Disk.{Torn};
 ghost use Rattle.blsm_model.specs.declared.component.Component.{Component};
 ghost use Rattle.blsm_model.specs.Sizes.{Sizes, IsGeometry};
 ghost use Rattle.blsm_model.specs.Geometry.{page_count};
-ghost use Rattle.page_file.specs.Entry.{PageEntry, entry_bytes, AreRising};
+ghost use Rattle.page_file.specs.Entry.{PageEntry, IsEntry, entry_bytes, AreEntries, AreRising};
 ghost use Rattle.page_file.specs.Page.{page_length, no_page, used_by, page_bytes, IsContent, IsPageOf, IsPage};
 ghost use Rattle.page_file.specs.File.{page_start, page_at};
+ghost use Rattle.blsm_model.specs.declared.key.Key.{Key};
+ghost use Rattle.record_delta.specs.declared.record.Rec.{Rec};
+ghost use Rattle.entry_codec.specs.Spelling.{spelling, IsEntry as IsSpelled};
+ghost use Rattle.page_file.specs.Records.{page_entry, page_entries, weights, HasList};
 ghost use Rattle.page_file.specs.Component.{RunPage, numbers_of, entries_of, weight_of, first_of, AreChained, ReadsAs};
 
 /// Bytes are one page at most: they have one list of entries and one next page. Each content that a page may have is that of
@@ -59,4 +63,16 @@ pub fn other_components()
     ensures besides { (sizes : Sizes) (component : Component) (pages : List RunPage) (n : ℕ) (old new : List ℕ)
         → Torn (page_start sizes n) page_length old new → (Contains (numbers_of pages) n → ⊥)
         → ReadsAs sizes component pages old → ReadsAs sizes component pages new }
+{}
+
+/// The entries of pages are those of keys with records, with the same bytes and weights; a list of entries is that of one list
+/// of keys with records, and a component reads as one such list at most.
+pub fn records_of_pages()
+    ensures bytes { (e : Key × Rec) → entry_bytes (page_entry e) ≡ spelling e.0 e.1 }
+    ensures entry { (key : Key) (rec : Rec) → IsEntry (page_entry (key, rec)) ↔ IsSpelled key rec }
+    ensures weights { (es : List (Key × Rec)) → weight_of (page_entries es) ≡ weights es }
+    ensures some { (entries : List PageEntry) → AreEntries entries → (es : List (Key × Rec)) × (page_entries es ≡ entries) }
+    ensures one { (es fs : List (Key × Rec)) → page_entries es ≡ page_entries fs → es ≡ fs }
+    ensures list { (sizes : Sizes) (component : Component) (es fs : List (Key × Rec)) (file : List ℕ) → page_count sizes ≤ no_page
+        → HasList sizes component es file → HasList sizes component fs file → es ≡ fs }
 {}
