@@ -6,6 +6,7 @@ use Rattle.std.specs.Prelude.{nat_eq}
 use Rattle.std.specs.declared.cmp.Ordering.TheVariants.{Less}
 use Rattle.std.proofs.lemmas.Bool.{ne_eqb}
 use Rattle.std.proofs.lemmas.Cmp.{nat_list_cmp_total}
+use Rattle.std.proofs.lemmas.List.Sums.{sum_by-cons, sum_by-append}
 use Rattle.std.proofs.lemmas.List.Elements.{Contains-append_left, Contains-append_right}
 use Rattle.disk_trait.specs.Disk.{Torn}
 use Rattle.blsm_model.specs.declared.component.Component.{Component}
@@ -16,7 +17,7 @@ use Rattle.blsm_model.specs.Geometry.{page_count}
 use Rattle.page_file.specs.Entry.{PageEntry, entries_bytes, keys_of, AreRising}
 use Rattle.page_file.specs.Page.{page_length, no_page, page_number, IsPageOf}
 use Rattle.page_file.specs.File.{page_start, page_at}
-use Rattle.page_file.specs.Component.{RunPage, numbers_of, entries_of, weight_of, first_of, AreChained, ReadsAs}
+use Rattle.page_file.specs.Component.{RunPage, numbers_of, entries_of, entry_weight, weight_of, first_of, AreChained, ReadsAs}
 use Rattle.page_file.proofs.EntryLemmas.{length-entry_bytes}
 use Rattle.page_file.proofs.PageLemmas.{page_same, other_page, number_below, number_same, IsNumber}
 
@@ -104,13 +105,12 @@ entries_join (p ∷ ps) qs = ap (λ (l : List PageEntry). p.entries ++ l) (entri
 -- ---- weights
 
 pub weight_join : (es fs : List PageEntry) → weight_of (es ++ fs) ≡ weight_of es + weight_of fs
-weight_join [] fs = omega arith
-weight_join (e ∷ es) fs = omega (arith, weight_join es fs)
+weight_join es fs = sum_by-append entry_weight es fs
 
 -- the entries' weights are the lengths of their bytes
 pub weight_is_length : (es : List PageEntry) → weight_of es ≡ length (entries_bytes es)
 weight_is_length [] = refl
-weight_is_length (e ∷ es) = omega (arith, weight_is_length es, length-entry_bytes e, length-append {A = ℕ})
+weight_is_length (e ∷ es) = omega (arith, sum_by-cons entry_weight e es, weight_is_length es, length-entry_bytes e, length-append {A = ℕ})
 
 -- ---- rising keys
 

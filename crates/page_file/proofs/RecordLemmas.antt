@@ -1,6 +1,7 @@
 -- Entries of pages and keys with their records are the same, with the same bytes.
 use Rattle.std.proofs.Common.{◌≡◌, ◌≢◌, inl, inr, ℕ, ◌+◌, ◌<◌, ◌≤◌, List, [], ◌∷◌, ◌++◌, length, map, refl, ap, sym, subst, ◌∙◌, arith}
 use Rattle.std.proofs.lemmas.Bool.{cases_lt}
+use Rattle.std.proofs.lemmas.List.Sums.{sum_by-cons}
 use Rattle.std.proofs.lemmas.List.Elements.{All-nil, All-cons, All-head, All-tail}
 use Rattle.blsm_model.specs.declared.component.Component.{Component}
 use Rattle.blsm_model.specs.declared.key.Key.{Key}
@@ -8,12 +9,12 @@ use Rattle.blsm_model.specs.Sizes.{Sizes}
 use Rattle.blsm_model.specs.Geometry.{page_count}
 use Rattle.record_delta.specs.declared.record.Rec.{Rec}
 use Rattle.record_delta.specs.declared.record.Rec.TheVariants.{Base, Delta, Tomb}
-use Rattle.record_delta.specs.Records.{count_of, text_of}
+use Rattle.record_delta.specs.Records.{count_of, text_of, weight}
 use Rattle.entry_codec.specs.Spelling.{head, spelling, IsEntry as IsSpelled}
 use Rattle.entry_codec.proofs.SpellingLemmas.{rec_same}
 use Rattle.page_file.specs.Entry.{PageEntry, IsEntry, entry_head, entry_bytes, AreEntries}
 use Rattle.page_file.specs.Page.{no_page}
-use Rattle.page_file.specs.Component.{RunPage, entries_of, weight_of}
+use Rattle.page_file.specs.Component.{RunPage, entries_of, entry_weight, weight_of}
 use Rattle.page_file.specs.Records.{page_entry, page_entries, weights, HasList}
 use Rattle.page_file.proofs.ComponentLemmas.{one_component}
 
@@ -23,7 +24,7 @@ same_bytes e = refl
 
 pub same_weights : (es : List (Key × Rec)) → weight_of (page_entries es) ≡ weights es
 same_weights [] = refl
-same_weights (e ∷ es) = omega (arith, same_weights es)
+same_weights (e ∷ es) = omega (arith, sum_by-cons entry_weight (page_entry e) (page_entries es), sum_by-cons (λ (f : Key × Rec). weight f.0 f.1) e es, same_weights es)
 
 -- what has a spelling is an entry
 pub is_entry : (key : Key) (rec : Rec) → IsSpelled key rec → IsEntry (page_entry (key, rec))

@@ -1,5 +1,5 @@
 -- A component: a sorted run of entries on pages, each of which names the next one.
-use Rattle.std.specs.Prelude.{◌≡◌, ℕ, ◌+◌, ◌<◌, List, [], ◌∷◌, ◌++◌, length, map, nat_eq, Option, Some, None, ⊤}
+use Rattle.std.specs.Prelude.{◌≡◌, ℕ, ◌+◌, ◌<◌, List, [], ◌∷◌, ◌++◌, length, map, sum_by, nat_eq, Option, Some, None, ⊤}
 use Rattle.std.specs.List.{IsDistinct}
 use Rattle.blsm_model.specs.declared.component.Component.{Component}
 use Rattle.blsm_model.specs.Sizes.{Sizes}
@@ -22,10 +22,13 @@ abbrev pub entries_of : List RunPage → List PageEntry
 entries_of [] = []
 entries_of (p ∷ ps) = p.entries ++ entries_of ps
 
+-- in bytes
+abbrev pub entry_weight : PageEntry → ℕ
+entry_weight entry = overhead + length entry.key + length entry.text
+
 -- the weights together, in bytes
 abbrev pub weight_of : List PageEntry → ℕ
-weight_of [] = 0
-weight_of (e ∷ es) = overhead + length e.key + length e.text + weight_of es
+weight_of entries = sum_by entry_weight entries
 
 -- the number of the first page; where there are no pages, the one that comes behind them
 abbrev pub first_of : List RunPage → Option ℕ → Option ℕ

@@ -1,5 +1,5 @@
 -- The entries of pages as keys with their records.
-use Rattle.std.specs.Prelude.{◌≡◌, ℕ, ◌+◌, List, [], ◌∷◌, map}
+use Rattle.std.specs.Prelude.{◌≡◌, ℕ, List, map, sum_by}
 use Rattle.blsm_model.specs.declared.component.Component.{Component}
 use Rattle.blsm_model.specs.declared.key.Key.{Key}
 use Rattle.blsm_model.specs.Sizes.{Sizes}
@@ -18,8 +18,7 @@ page_entries entries = map page_entry entries
 
 -- the weights together, in bytes
 abbrev pub weights : List (Key × Rec) → ℕ
-weights [] = 0
-weights (e ∷ es) = weight e.0 e.1 + weights es
+weights entries = sum_by (λ e. weight e.0 e.1) entries
 
 -- In this file the component reads as this list of keys with their records.
 pub record HasList (sizes : Sizes) (component : Component) (entries : List (Key × Rec)) (file : List ℕ) : Type 0 where
