@@ -1,0 +1,47 @@
+use Rattle.std.proofs.Common.{◌≡◌, ◌<◌, ◌∙◌, [], Err, refl, ap, sym, subst, arith}
+use Rattle.std.proofs.lemmas.Result.{err_from_is_err_and}
+use Rattle.run_cursor.specs.Cursor.{CursorState, HasAhead}
+use Rattle.run_cursor.proofs.CursorLemmas.{seen, stepped_ahead, ended_ahead, ended, through, turned_ahead, not_broken}
+use Rattle.run_cursor.proofs.cursor.Cursor.advance.Goals as goal
+
+pub returns-then-self-clause-list : goal.returns-then-self-clause-list
+returns-then-self-clause-list g c = λ rest tells ahead other.
+    let s = c.step.ensures.stepped in
+    (refl, stepped_ahead c.args.geo.now c.args.self.now c.step.new.self s.0 rest _ ahead s.1)
+
+pub invariant_of-self : goal.invariant_of-self
+invariant_of-self g c =
+    let f = c.self.inside in
+    (ended f.head f.page f.at f.end f.next f.pages f.entries f.weight c.self.invariant c.if-self.false c.if-self-eq0.true).kept
+
+pub returns-then-self-eq0-clause-list : goal.returns-then-self-eq0-clause-list
+returns-then-self-eq0-clause-list g c = λ rest tells ahead other.
+    let f = c.self.inside in
+    let old = seen f.head f.page f.at f.end f.next f.pages f.entries f.weight in
+    let end = ended f.head f.page f.at f.end f.next f.pages f.entries f.weight c.self.invariant c.if-self.false c.if-self-eq0.true in
+    (refl, ended_ahead c.args.geo.now old rest (g.D.Disk.state c.args.disk.now).bytes (subst (λ (s : CursorState). HasAhead c.args.geo.now s rest (g.D.Disk.state c.args.disk.now).bytes) (sym c.self.view_is) ahead) end.none_left c.if-self-eq0.true)
+
+pub returns-then-self-eq0-clause-ended : goal.returns-then-self-eq0-clause-ended
+returns-then-self-eq0-clause-ended g c =
+    let f = c.self.inside in
+    let end = ended f.head f.page f.at f.end f.next f.pages f.entries f.weight c.self.invariant c.if-self.false c.if-self-eq0.true in
+    (end.no_entries, end.no_weight, c.if-self-eq0.true)
+
+pub returns-in_err-turn-clause-list : goal.returns-in_err-turn-clause-list
+returns-in_err-turn-clause-list g c = λ rest tells ahead other.
+    let f = c.self.inside in
+    let none : c.args.self.now.behind ≡ [] = ap (λ (s : CursorState). s.behind) (sym c.self.view_is) ∙ through f.page f.at f.end c.self.invariant.0 c.if-self.false in
+    let more : 0 < c.args.self.now.pages = subst (λ (s : CursorState). 0 < s.pages) c.self.view_is (omega (arith, c.if-self-eq0.false)) in
+    let p = err_from_is_err_and c.from_residual.result c.from_residual.ensures.1 in
+    absurd (not_broken c.args.geo.now c.args.self.now rest (g.D.Disk.state c.turn.new.disk).bytes c.in_err-turn.field-0.0 ahead none more (λ same. other (p.1 ∙ ap Err (p.2 ∙ same)))
+    (λ n is. c.turn.ensures.damaged n (c.in_err-turn.was ∙ ap Err is) tells))
+
+pub returns-clause-list : goal.returns-clause-list
+returns-clause-list g c = λ rest tells ahead other.
+    let f = c.self.inside in
+    let none : c.args.self.now.behind ≡ [] = ap (λ (s : CursorState). s.behind) (sym c.self.view_is) ∙ through f.page f.at f.end c.self.invariant.0 c.if-self.false in
+    let more : 0 < c.args.self.now.pages = subst (λ (s : CursorState). 0 < s.pages) c.self.view_is (omega (arith, c.if-self-eq0.false)) in
+    let t = c.in_ok-turn.ensures.turned in
+    let s = c.step-2.ensures.stepped in
+    let there = turned_ahead c.args.geo.now c.args.self.now rest (g.D.Disk.state c.turn.new.disk).bytes t.0 t.1 c.turn.ensures.few ahead none more (t.5 tells) in
+    (refl, stepped_ahead c.args.geo.now c.turn.new.self c.step-2.new.self s.0 rest (g.D.Disk.state c.turn.new.disk).bytes (subst (λ (w : CursorState). HasAhead c.args.geo.now w rest (g.D.Disk.state c.turn.new.disk).bytes) (sym t.4) there) s.1)

@@ -1,0 +1,18 @@
+use Rattle.std.proofs.Common.{◌<◌, ◌∙◌, length, ap, sym, subst, arith}
+use Rattle.run_cursor.specs.Cursor.{CursorState}
+use Rattle.run_cursor.proofs.CursorLemmas.{first_of_bytes, begins, found_first}
+use Rattle.run_cursor.proofs.cursor.Cursor.behind.Goals as goal
+
+pub unreachable-requires : goal.unreachable-requires
+unreachable-requires c =
+    let kept = c.self.invariant.2 in
+    let first = first_of_bytes _ kept.here kept.each kept.behind_is (subst (λ (s : CursorState). 0 < length s.behind) (sym c.self.view_is) c.requires) in
+    c.in-None.ensures.none first.entry.0 first.entry.1 (begins _ kept.here first)
+
+pub returns-clause-entry : goal.returns-clause-entry
+returns-clause-entry c =
+    let first = found_first _ c.in-Some.entry.0 c.in-Some.entry.1 c.in-Some.ensures.found.0 in
+    (first.rest, ap (λ (s : CursorState). s.behind) (sym c.self.view_is) ∙ first.parts)
+
+pub returns-clause-right : goal.returns-clause-right
+returns-clause-right c = (found_first _ c.in-Some.entry.0 c.in-Some.entry.1 c.in-Some.ensures.found.0).right

@@ -1,0 +1,141 @@
+-- What contracts see of a cursor, and where it stands in its component.
+use Rattle.std.specs.Prelude.{◌≡◌, ◌↔◌, ◌⊎◌, ℕ, ◌+◌, ◌-◌, ◌<◌, ◌≤◌, List, [], ◌∷◌, ◌++◌, length, Option, Some, None, IsSome, ⊤}
+use Rattle.std.specs.declared.cmp.Ordering.TheVariants.{Less}
+use Rattle.blsm_model.specs.declared.component.Component.{Component}
+use Rattle.blsm_model.specs.declared.key.Key.{Key}
+use Rattle.blsm_model.specs.Keys.{key_cmp}
+use Rattle.blsm_model.specs.Sizes.{Sizes}
+use Rattle.blsm_model.specs.Geometry.{page_count}
+use Rattle.record_delta.specs.declared.record.Rec.{Rec}
+use Rattle.record_delta.specs.Records.{weight}
+use Rattle.page_file.specs.Entry.{PageEntry, IsEntry, entry_bytes, entries_bytes, AreEntries, AreRising}
+use Rattle.page_file.specs.Page.{page_number, IsPageOf}
+use Rattle.page_file.specs.File.{page_at}
+use Rattle.page_file.specs.Component.{RunPage, entries_of, weight_of, first_of, AreChained}
+use Rattle.page_file.specs.Records.{page_entry, page_entries, weights}
+
+-- The head; the bytes of the entries behind it on its page; the number of the page behind; and, by the component's numbers,
+-- how many pages aren't read yet, and how many entries come after the head, of which weight.
+pub record CursorState : Type 0 where
+  pub head : Option (Key × Rec)
+  pub behind : List ℕ
+  pub next : ℕ
+  pub pages : ℕ
+  pub entries : ℕ
+  pub weight : ℕ
+
+-- before the first entry of a component
+abbrev pub started : Component → CursorState
+started run = record { head = None; behind = []; next = run.first; pages = run.pages; entries = run.entries; weight = run.weight }
+
+-- the head, if there is one, and then these entries
+abbrev pub from_head : Option (Key × Rec) → List PageEntry → List PageEntry
+from_head None entries = entries
+from_head (Some head) entries = page_entry head ∷ entries
+
+-- the first of these entries, which has this key
+abbrev pub HasFirst : List PageEntry → Option Key → Type 0
+HasFirst entries key = (first : PageEntry) × (more : List PageEntry) × (entries ≡ first ∷ more) × (key ≡ Some first.key)
+
+-- What each cursor keeps: there are entries behind the head on its page, which rise from the head on, and no more of them than the
+-- component's numbers say; on its last page just as many.
+pub record IsCursor (cursor : CursorState) : Type 0 where
+  pub here : List (Key × Rec)
+  pub each : AreEntries (page_entries here)
+  pub behind_is : cursor.behind ≡ entries_bytes (page_entries here)
+  pub rise : AreRising (from_head cursor.head (page_entries here))
+  pub few : length here ≤ cursor.entries
+  pub light : weights here ≤ cursor.weight
+  pub all : cursor.pages ≡ 0 → (length here ≡ cursor.entries) × (weights here ≡ cursor.weight)
+
+-- ---- on a page's end
+
+-- The numbers of a page are those of the component's next one: it has a next page where it isn't the last one, and no more entries
+-- and weight than are left; the last one has just that.
+pub record AreInNumber (cursor : CursorState) (next : Option ℕ) (count weight : ℕ) : Type 0 where
+  pub follows : IsSome next ↔ (1 < cursor.pages)
+  pub few : count ≤ cursor.entries
+  pub light : weight ≤ cursor.weight
+  pub all : cursor.pages ≡ 1 → (count ≡ cursor.entries) × (weight ≡ cursor.weight)
+
+-- a page with these entries and this next page goes on behind the cursor: its keys rise over the page's end, and its numbers are right
+pub record PageGoesOn (cursor : CursorState) (next : Option ℕ) (entries : List PageEntry) : Type 0 where
+  pub rise : AreRising (from_head cursor.head entries)
+  pub numbers : AreInNumber cursor next (length entries) (weight_of entries)
+
+-- in this file the cursor's next page is a valid one that has these entries and this next page, and goes on
+pub record GoesOnAt (sizes : Sizes) (cursor : CursorState) (next : Option ℕ) (entries : List PageEntry) (file : List ℕ) : Type 0 where
+  pub inside : cursor.next < page_count sizes
+  pub valid : IsPageOf (page_count sizes) next entries (page_at sizes cursor.next file)
+  pub goes_on : PageGoesOn cursor next entries
+
+-- the page of this number is the cursor's next one, and it isn't valid or doesn't go on
+pub record IsDamageAt (sizes : Sizes) (cursor : CursorState) (n : ℕ) (file : List ℕ) : Type 0 where
+  pub is_next : n ≡ cursor.next
+  pub none_left : cursor.behind ≡ []
+  pub more_pages : 0 < cursor.pages
+  pub damaged : (next : Option ℕ) (entries : List PageEntry) → GoesOnAt sizes cursor next entries file → ⊥
+
+-- the cursor before the entries of its next page
+abbrev pub turned : Option ℕ → List PageEntry → CursorState → CursorState
+turned next entries cursor = record cursor { behind = entries_bytes entries; next = page_number next; pages = cursor.pages - 1 }
+
+-- ---- one entry further
+
+-- the cursor went on to the next entry of its page
+pub record IsStepped (old new : CursorState) (head : Key × Rec) : Type 0 where
+  pub right : IsEntry (page_entry head)
+  pub head_is : new.head ≡ Some head
+  pub behind_is : old.behind ≡ entry_bytes (page_entry head) ++ new.behind
+  pub next_is : new.next ≡ old.next
+  pub pages_is : new.pages ≡ old.pages
+  pub entries_is : old.entries ≡ new.entries + 1
+  pub weight_is : old.weight ≡ weight head.0 head.1 + new.weight
+
+-- no entry is left: the cursor is at the end
+pub record IsEnded (old new : CursorState) : Type 0 where
+  pub none_left : old.behind ≡ []
+  pub no_page : old.pages ≡ 0
+  pub new_is : new ≡ record old { head = None }
+
+-- the cursor went on to the first entry of its next page, of which this is known
+pub record IsOnNext (IsKnown : Option ℕ → List PageEntry → Type 0) (old new : CursorState) : Type 0 where
+  pub none_left : old.behind ≡ []
+  pub more_pages : 0 < old.pages
+  pub next : Option ℕ
+  pub entries : List PageEntry
+  pub known : IsKnown next entries
+  pub head : Key × Rec
+  pub stepped : IsStepped (turned next entries old) new head
+
+-- the cursor went on
+abbrev pub IsMoved : (Option ℕ → List PageEntry → Type 0) → CursorState → CursorState → Type 0
+IsMoved IsKnown old new = ((head : Key × Rec) × IsStepped old new head) ⊎ IsEnded old new ⊎ IsOnNext IsKnown old new
+
+-- the head's key is above that of the head before it
+abbrev pub Rises : Option (Key × Rec) → Option (Key × Rec) → Type 0
+Rises (Some old) (Some new) = key_cmp old.0 new.0 ≡ Less
+Rises (Some old) None = ⊤
+Rises None new = ⊤
+
+-- ---- the list
+
+-- In this file these are the entries that come after the cursor's head: those behind it on its page, and those of the pages that
+-- aren't read yet.
+pub record HasAhead (sizes : Sizes) (cursor : CursorState) (rest : List (Key × Rec)) (file : List ℕ) : Type 0 where
+  pub here : List (Key × Rec)
+  pub coming : List RunPage
+  pub each : AreEntries (page_entries here)
+  pub behind_is : cursor.behind ≡ entries_bytes (page_entries here)
+  pub first_is : page_number (first_of coming None) ≡ cursor.next
+  pub chained : AreChained sizes coming None file
+  pub rest_is : page_entries rest ≡ page_entries here ++ entries_of coming
+  pub rise : AreRising (from_head cursor.head (page_entries rest))
+  pub pages_is : length coming ≡ cursor.pages
+  pub entries_is : length rest ≡ cursor.entries
+  pub weight_is : weights rest ≡ cursor.weight
+
+-- the cursor went on to the first of these entries and has the others ahead; where there are none, it is at the end
+abbrev pub IsAdvanced : Sizes → CursorState → List (Key × Rec) → List ℕ → Type 0
+IsAdvanced sizes new [] file = (new.head ≡ None) × HasAhead sizes new [] file
+IsAdvanced sizes new (e ∷ es) file = (new.head ≡ Some e) × HasAhead sizes new es file

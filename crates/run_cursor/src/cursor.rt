@@ -1,0 +1,275 @@
+//! A cursor over a component.
+ghost use Rattle.std.specs.Prelude.{◌≡◌, ◌≢◌, ◌↔◌, ◌+◌, ◌<◌, ◌≤◌, ◌++◌, [], ℕ, List, Option, Ok, Err, length, IsTrue, IsErr, OnOk, IfSome, IfNone};
+ghost use Rattle.refusal.specs.Count.{HasRisen};
+ghost use Rattle.blsm_model.specs.declared.key.Key.{Key};
+ghost use Rattle.blsm_model.specs.Sizes.{Sizes};
+ghost use Rattle.blsm_model.specs.Geometry.{page_count, file_length};
+ghost use Rattle.record_delta.specs.declared.record.Rec.{Rec};
+ghost use Rattle.record_delta.specs.Records.{weight as weight_with};
+ghost use Rattle.page_file.specs.Entry.{PageEntry, IsEntry, entry_bytes, entries_bytes, AreRising};
+ghost use Rattle.page_file.specs.Page.{no_page, page_number, IsPageOf};
+ghost use Rattle.page_file.specs.Records.{page_entry, HasList};
+ghost use Rattle.run_cursor.specs.Reads.{OnlyReads};
+ghost use Rattle.run_cursor.specs.Cursor.{started, from_head, HasFirst, HasAhead, IsAdvanced, AreInNumber, PageGoesOn, GoesOnAt, IsMoved, IsStepped, IsDamageAt, Rises, turned};
+
+use blsm_model::{Component, Geometry, Key};
+use disk_trait::Disk;
+use entry_codec::decode;
+use page_file::{Broken, PAGE_HEAD_LEN, PAGE_LEN, PageHead, read_page};
+use record_delta::Rec;
+use std::marker::Model;
+
+// What stands for no next page.
+const NO_PAGE: u32 = u32::MAX;
+
+/// A place among the entries of a component: at one of them, its head, before the first one, or at the end. It keeps the page
+/// that has the head.
+#[derive(Debug, Drop)]
+pub struct Cursor {
+    head: Option<(Key, Rec)>,
+    page: [u8; PAGE_LEN],
+    // Where in the page the entries that come after the head begin, and where they end.
+    at: usize,
+    end: usize,
+    // The page that comes behind it.
+    next: u32,
+    // How many pages aren't read yet, and how many entries, of which weight, come after the head, by the component's numbers.
+    pages: u32,
+    entries: u64,
+    weight: u64,
+}
+
+impl Model for Cursor {
+    ghost use Rattle.std.specs.Prelude.{◌≤◌};
+    ghost use Rattle.std.specs.List.{between};
+    ghost use Rattle.run_cursor.specs.Cursor.{CursorState, IsCursor};
+
+    ghost Value = { CursorState };
+
+    ghost view = { λ c. record {
+      head = c.head;
+      behind = between c.at c.end c.page;
+      next = c.next;
+      pages = c.pages;
+      entries = c.entries;
+      weight = c.weight;
+    } };
+
+    ghost invariant = { λ c. (c.at ≤ c.end) × (c.end ≤ 4096) × IsCursor (record {
+      head = c.head;
+      behind = between c.at c.end c.page;
+      next = c.next;
+      pages = c.pages;
+      entries = c.entries;
+      weight = c.weight;
+    }) };
+}
+
+impl Cursor {
+    /// A cursor before the first entry of a component. It calls no device.
+    pub fn start(run: &Component) -> Cursor
+        requires { run.now.pages ≡ 0 → (run.now.entries ≡ 0) × (run.now.weight ≡ 0) }
+        ensures start { result ≡ started run.now }
+        ensures list { (sizes : Sizes) (entries : List (Key × Rec)) (file : List ℕ) → HasList sizes run.now entries file
+            → HasAhead sizes result entries file }
+    {
+        Cursor {
+            head: None,
+            page: [0; PAGE_LEN],
+            at: 0,
+            end: 0,
+            next: run.first,
+            pages: run.pages,
+            entries: run.entries,
+            weight: run.weight,
+        }
+    }
+
+    /// The entry that the cursor is at; `None` before the first `advance`, and at the end. It takes no memory.
+    pub fn head(&self) -> Option<(Key, Rec)>
+        ensures { result ≡ self.now.head }
+    {
+        match &self.head {
+            Some((key, rec)) => Some((key.copy(), rec.copy())),
+            None => None,
+        }
+    }
+
+    /// How many entries come after the head, by the component's number; before the first `advance` all of them.
+    pub fn left(&self) -> u64
+        ensures { result ≡ self.now.entries }
+    {
+        self.entries
+    }
+
+    // The entry behind the head on its page, and its length in bytes.
+    fn behind(&self) -> (Key, Rec, usize)
+        requires { 0 < length self.now.behind }
+        ensures entry { (rest : List ℕ) × (self.now.behind ≡ entry_bytes (page_entry (result.0, result.1)) ++ rest) }
+        ensures right { IsEntry (page_entry (result.0, result.1)) }
+        ensures length { result.2 ≡ weight_with result.0 result.1 }
+    {
+        match decode(&self.page[self.at..self.end]) {
+            Some(entry) => entry,
+            None => unreachable!(),
+        }
+    }
+
+    // Goes on to the entry behind the head on its page.
+    fn step(&mut self)
+        requires { 0 < length self.old.behind }
+        ensures stepped { (head : Key × Rec) × IsStepped self.old self.new head }
+        ensures rises { Rises self.old.head self.new.head }
+    {
+        let (key, rec, length) = self.behind();
+        self.head = Some((key, rec));
+        self.at += length;
+        self.entries -= 1;
+        self.weight -= length as u64;
+    }
+
+    // Whether the first key of a valid page is above the head's.
+    fn rises_to(&self, page: &[u8; PAGE_LEN]) -> bool
+        ensures { (pages : ℕ) (next : Option ℕ) (entries : List PageEntry) → IsPageOf pages next entries page.now
+            → (IsTrue result ↔ AreRising (from_head self.now.head entries)) }
+    {
+        let Some((last, _)) = &self.head else {
+            return true;
+        };
+        match first_key(page) {
+            Some(first) => *last < first,
+            None => true,
+        }
+    }
+
+    // Whether the numbers of a page are those of the next one.
+    fn is_in_number(&self, page: PageHead) -> bool
+        requires { 0 < self.now.pages }
+        ensures { IsTrue result ↔ AreInNumber self.now page.next page.count page.used }
+    {
+        let entries = u64::from(page.count);
+        let weight = u64::from(page.used);
+        match page.next {
+            None => self.pages == 1 && entries == self.entries && weight == self.weight,
+            Some(_) => self.pages > 1 && entries <= self.entries && weight <= self.weight,
+        }
+    }
+
+    // Whether a valid page goes on behind the head.
+    fn goes_on(&self, page: &[u8; PAGE_LEN]) -> bool
+        requires { 0 < self.now.pages }
+        ensures { (pages : ℕ) (next : Option ℕ) (entries : List PageEntry) → pages ≤ no_page → IsPageOf pages next entries page.now
+            → (IsTrue result ↔ PageGoesOn self.now next entries) }
+    {
+        self.is_in_number(PageHead::read(page)) && self.rises_to(page)
+    }
+
+    // Goes to the front of a page's entries.
+    fn take(&mut self, page: &[u8; PAGE_LEN])
+        requires more_pages { 0 < self.old.pages }
+        requires goes_on { (pages : ℕ) × (next : Option ℕ) × (entries : List PageEntry) × (pages ≤ no_page)
+            × IsPageOf pages next entries page.now × PageGoesOn self.old next entries }
+        ensures { (pages : ℕ) (next : Option ℕ) (entries : List PageEntry) → pages ≤ no_page → IsPageOf pages next entries page.now
+            → self.new ≡ turned next entries self.old }
+    {
+        let head = PageHead::read(page);
+        self.page = *page;
+        self.at = PAGE_HEAD_LEN;
+        self.end = PAGE_HEAD_LEN + head.used as usize;
+        self.next = number_of(head.next);
+        self.pages -= 1;
+    }
+
+    // Reads the next page, and goes to the front of its entries.
+    fn turn<D: Disk>(&mut self, disk: &mut D, geo: &Geometry) -> Result<(), Broken>
+        requires none_left { self.old.behind ≡ [] }
+        requires more_pages { 0 < self.old.pages }
+        requires length { IsTrue (D.state disk.old).tells_bytes → length (D.state disk.old).bytes ≡ file_length geo.now }
+        ensures kept { IsErr result → self.new ≡ self.old }
+        ensures few { page_count geo.now ≤ no_page }
+        ensures turned { OnOk result ((next : Option ℕ) × (entries : List PageEntry) × PageGoesOn self.old next entries
+            × (0 < length (entries_bytes entries))
+            × (self.new ≡ turned next entries self.old)
+            × (IsTrue (D.state disk.old).tells_bytes → GoesOnAt geo.now self.old next entries (D.state disk.new).bytes)) }
+        ensures damaged { (n : ℕ) → result ≡ Err (Broken.Damaged n) → IsTrue (D.state disk.old).tells_bytes
+            → IsDamageAt geo.now self.old n (D.state disk.new).bytes }
+        ensures only_reads { OnlyReads (file_length geo.now) (D.state disk.old) (D.state disk.new) }
+        ensures one_call { (D.state disk.new).clock ≤ (D.state disk.old).clock + 1 }
+        ensures stands { result ≢ Err Broken.Fault → (D.state disk.new).faults ≡ (D.state disk.old).faults }
+        ensures failed { result ≡ Err Broken.Fault → HasRisen (D.state disk.old).faults (D.state disk.new).faults }
+    {
+        let n = self.next;
+        if u64::from(n) >= geo.pages() {
+            return Err(Broken::Damaged(n));
+        }
+        let mut page = [0; PAGE_LEN];
+        read_page(disk, geo, n, &mut page)?;
+        if !self.goes_on(&page) {
+            return Err(Broken::Damaged(n));
+        }
+        self.take(&page);
+        Ok(())
+    }
+
+    /// Goes on to the next entry, or to the end where there is none, and stays there. Where the entries of a page are through, it
+    /// reads the next one, with one call of the disk; it takes no memory. After an `Err` the cursor is where it was.
+    ///
+    /// `Damaged` names the page that was to be read next: it is answered exactly where that isn't a valid page of the store, has a next
+    /// page though it is the last one by the component's number or none though it isn't, has a first key that isn't above the
+    /// head's, or has more entries or weight than are left by the component's numbers, or, as the last page, fewer. `Fault`
+    /// comes only where the disk's count of faults rose.
+    pub fn advance<D: Disk>(&mut self, disk: &mut D, geo: &Geometry) -> Result<(), Broken>
+        requires { IsTrue (D.state disk.old).tells_bytes → length (D.state disk.old).bytes ≡ file_length geo.now }
+
+        // Where these entries come after the head, the cursor goes on to the first of them, and has the others ahead.
+        ensures list { (rest : List (Key × Rec)) → IsTrue (D.state disk.old).tells_bytes → HasAhead geo.now self.old rest (D.state disk.new).bytes
+            → result ≢ Err Broken.Fault → (result ≡ Ok tt) × IsAdvanced geo.now self.new rest (D.state disk.new).bytes }
+
+        // Whatever comes, it went on as the page's bytes say; and what is damaged, they show.
+        ensures moved { OnOk result (IsMoved (PageGoesOn self.old) self.old self.new) }
+        ensures read { OnOk result (IsTrue (D.state disk.old).tells_bytes
+            → IsMoved (λ next entries. GoesOnAt geo.now self.old next entries (D.state disk.new).bytes) self.old self.new) }
+        ensures damaged { (n : ℕ) → result ≡ Err (Broken.Damaged n) → IsTrue (D.state disk.old).tells_bytes
+            → IsDamageAt geo.now self.old n (D.state disk.new).bytes }
+        ensures kept { IsErr result → self.new ≡ self.old }
+
+        // On any disk the keys rise, and what is left falls by each entry, to nothing at the end.
+        ensures rises { OnOk result (Rises self.old.head self.new.head) }
+        ensures falls { OnOk result (IfSome self.new.head (λ e. (self.old.entries ≡ self.new.entries + 1) × (self.old.weight ≡ weight_with e.0 e.1 + self.new.weight))) }
+        ensures ended { OnOk result (IfNone self.new.head ((self.new.entries ≡ 0) × (self.new.weight ≡ 0) × (self.new.pages ≡ 0))) }
+
+        // One call of the disk at most, which reads, and one for each page.
+        ensures only_reads { OnlyReads (file_length geo.now) (D.state disk.old) (D.state disk.new) }
+        ensures one_call { (D.state disk.new).clock ≤ (D.state disk.old).clock + 1 }
+        ensures one_a_page { OnOk result ((D.state disk.new).clock + self.new.pages ≤ (D.state disk.old).clock + self.old.pages) }
+        ensures stands { result ≢ Err Broken.Fault → (D.state disk.new).faults ≡ (D.state disk.old).faults }
+        ensures failed { result ≡ Err Broken.Fault → HasRisen (D.state disk.old).faults (D.state disk.new).faults }
+    {
+        if self.at < self.end {
+            self.step();
+            return Ok(());
+        }
+        if self.pages == 0 {
+            self.head = None;
+            return Ok(());
+        }
+        self.turn(disk, geo)?;
+        self.step();
+        Ok(())
+    }
+}
+
+// The first key of a valid page.
+fn first_key(page: &[u8; PAGE_LEN]) -> Option<Key>
+    ensures { (pages : ℕ) (next : Option ℕ) (entries : List PageEntry) → IsPageOf pages next entries page.now → HasFirst entries result }
+{
+    let (key, _, _) = decode(&page[PAGE_HEAD_LEN..])?;
+    Some(key)
+}
+
+// The number that a page has for its next one.
+fn number_of(next: Option<u32>) -> u32
+    ensures { result ≡ page_number next }
+{
+    next.unwrap_or(NO_PAGE)
+}
