@@ -238,9 +238,10 @@ impl Cursor {
         ensures falls { OnOk result (IfSome self.new.head (λ e. (self.old.entries ≡ self.new.entries + 1) × (self.old.weight ≡ weight_with e.0 e.1 + self.new.weight))) }
         ensures ended { OnOk result (IfNone self.new.head ((self.new.entries ≡ 0) × (self.new.weight ≡ 0) × (self.new.pages ≡ 0))) }
 
-        // One call of the disk at most, which reads, and one for each page.
+        // One call of the disk at most, which reads, and one for each page: none after the last one.
         ensures only_reads { OnlyReads (file_length geo.now) (D.state disk.old) (D.state disk.new) }
         ensures one_call { (D.state disk.new).clock ≤ (D.state disk.old).clock + 1 }
+        ensures no_call { self.old.pages ≡ 0 → (D.state disk.new).clock ≡ (D.state disk.old).clock }
         ensures one_a_page { OnOk result ((D.state disk.new).clock + self.new.pages ≤ (D.state disk.old).clock + self.old.pages) }
         ensures stands { result ≢ Err Broken.Fault → (D.state disk.new).faults ≡ (D.state disk.old).faults }
         ensures failed { result ≡ Err Broken.Fault → HasRisen (D.state disk.old).faults (D.state disk.new).faults }

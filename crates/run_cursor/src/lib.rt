@@ -3,8 +3,10 @@
 #![tactic(auto)]
 
 mod cursor;
+mod lookup;
 
 pub use cursor::Cursor;
+pub use lookup::find;
 
 #[cfg(test)]
 mod tests;

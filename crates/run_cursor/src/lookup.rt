@@ -1,0 +1,56 @@
+//! The record of a key among a component's entries.
+ghost use Rattle.std.specs.Prelude.{◌≡◌, ◌≢◌, ◌+◌, ◌≤◌, List, Ok, Err, length, IsTrue};
+ghost use Rattle.std.specs.FinMap.{find as find_in};
+ghost use Rattle.refusal.specs.Count.{HasRisen};
+ghost use Rattle.blsm_model.specs.declared.key.Key.{Key};
+ghost use Rattle.blsm_model.specs.Keys.{key_cmp};
+ghost use Rattle.blsm_model.specs.Geometry.{file_length};
+ghost use Rattle.record_delta.specs.declared.record.Rec.{Rec};
+ghost use Rattle.page_file.specs.Records.{HasList};
+ghost use Rattle.run_cursor.specs.Reads.{OnlyReads};
+
+use crate::Cursor;
+use blsm_model::{Component, Geometry, Key};
+use disk_trait::Disk;
+use page_file::Broken;
+use record_delta::Rec;
+use std::cmp::Ordering;
+
+/// The record of a key in a component, if it has one. It reads the component's pages from the first up to the one where the key
+/// is or would be, with one call of the disk for each, and takes no memory.
+///
+/// `Damaged` names the first of these pages that isn't a valid one or doesn't go on as the component's order and numbers say; it never
+/// comes where the component reads as a list. `Fault` comes only where the disk's count of faults rose.
+pub fn find<D: Disk>(
+    disk: &mut D,
+    geo: &Geometry,
+    run: &Component,
+    key: &Key,
+) -> Result<Option<Rec>, Broken>
+    requires numbers { run.now.pages ≡ 0 → (run.now.entries ≡ 0) × (run.now.weight ≡ 0) }
+    requires length { IsTrue (D.state disk.old).tells_bytes → length (D.state disk.old).bytes ≡ file_length geo.now }
+
+    // The answer is the list's.
+    ensures list { (entries : List (Key × Rec)) → IsTrue (D.state disk.old).is_honest → HasList geo.now run.now entries (D.state disk.old).bytes
+        → result ≢ Err Broken.Fault → result ≡ Ok (find_in key_cmp key.now entries) }
+
+    // It only reads, one page after another.
+    ensures only_reads { OnlyReads (file_length geo.now) (D.state disk.old) (D.state disk.new) }
+    ensures one_a_page { (D.state disk.new).clock ≤ (D.state disk.old).clock + run.now.pages }
+    ensures stands { result ≢ Err Broken.Fault → (D.state disk.new).faults ≡ (D.state disk.old).faults }
+    ensures failed { result ≡ Err Broken.Fault → HasRisen (D.state disk.old).faults (D.state disk.new).faults }
+{
+    let mut cursor = Cursor::start(run);
+    while cursor.left() > 0 {
+        cursor.advance(disk, geo)?;
+        let Some((found, rec)) = cursor.head() else {
+            return Ok(None);
+        };
+        match key.cmp(&found) {
+            Ordering::Less => return Ok(None),
+            Ordering::Equal => return Ok(Some(rec)),
+            Ordering::Greater => {}
+        }
+    }
+    Ok(None)
+}
