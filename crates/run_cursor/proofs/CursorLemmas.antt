@@ -34,10 +34,10 @@ use Rattle.page_file.proofs.ComponentLemmas.{rise_back, weight_join, weight_is_l
 use Rattle.page_file.proofs.RecordLemmas.{same_bytes, same_weights, is_entry, is_spelled, record_of_entry, records_of_entries, one_record}
 use Rattle.run_cursor.specs.Cursor.{CursorState, started, from_head, HasFirst, IsCursor, AreInNumber, PageGoesOn, GoesOnAt, turned, IsStepped, IsEnded, IsOnNext, IsMoved, Rises, HasAhead, IsAdvanced, IsDamageAt}
 
-length-page_entries : (es : List (Key × Rec)) → length (page_entries es) ≡ length es
+pub length-page_entries : (es : List (Key × Rec)) → length (page_entries es) ≡ length es
 length-page_entries es = length-map es page_entry
 
-weights-cons : (e : Key × Rec) (es : List (Key × Rec)) → weights (e ∷ es) ≡ weight e.0 e.1 + weights es
+pub weights-cons : (e : Key × Rec) (es : List (Key × Rec)) → weights (e ∷ es) ≡ weight e.0 e.1 + weights es
 weights-cons e es = sum_by-cons (λ (f : Key × Rec). weight f.0 f.1) e es
 
 -- ---- the start
@@ -109,12 +109,12 @@ found_first bytes key rec b = record {
 }
 
 -- the first entry is one
-record SameFirst (here : List (Key × Rec)) (entry : Key × Rec) (rest : List ℕ) : Type 0 where
+pub record SameFirst (here : List (Key × Rec)) (entry : Key × Rec) (rest : List ℕ) : Type 0 where
   pub more : List (Key × Rec)
   pub here_is : here ≡ entry ∷ more
   pub rest_is : rest ≡ entries_bytes (page_entries more)
 
-same_first : (here : List (Key × Rec)) (entry : Key × Rec) (rest : List ℕ) → AreEntries (page_entries here) → IsEntry (page_entry entry)
+pub same_first : (here : List (Key × Rec)) (entry : Key × Rec) (rest : List ℕ) → AreEntries (page_entries here) → IsEntry (page_entry entry)
     → entries_bytes (page_entries here) ≡ entry_bytes (page_entry entry) ++ rest → SameFirst here entry rest
 same_first [] entry rest each right is =
     let least = right.key_least in
@@ -124,7 +124,7 @@ same_first (e ∷ es) entry rest each right is =
     record { more = es; here_is = ap (λ (f : Key × Rec). f ∷ es) (one_record e entry one.0); rest_is = sym one.1 }
 
 -- the cursor after a step, and what it had before
-rise_from : (head : Option (Key × Rec)) (es : List PageEntry) → AreRising (from_head head es) → AreRising es
+pub rise_from : (head : Option (Key × Rec)) (es : List PageEntry) → AreRising (from_head head es) → AreRising es
 unfolding IsStrictlySortedBy
 rise_from None es rise = rise
 rise_from (Some h) es rise = rise.1
@@ -381,7 +381,7 @@ damage_shown sizes cursor n page file goes few is_next none more read wrong tell
 -- ---- what is ahead
 
 -- no entries are in no bytes
-none_in_none : (here : List (Key × Rec)) → [] ≡ entries_bytes (page_entries here) → here ≡ []
+pub none_in_none : (here : List (Key × Rec)) → [] ≡ entries_bytes (page_entries here) → here ≡ []
 none_in_none [] empty = refl
 none_in_none (e ∷ es) empty =
     absurd (omega (arith, ap (length {A = ℕ}) empty, length-append (entry_bytes (page_entry e)) (entries_bytes (page_entries es)), length-entry_bytes (page_entry e)))

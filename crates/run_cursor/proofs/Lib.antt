@@ -1,2 +1,3 @@
 pub mod CursorLemmas
 pub mod FindLemmas
+pub mod GivenLemmas

@@ -1,6 +1,7 @@
 //! A cursor over a component.
 ghost use Rattle.std.specs.Prelude.{◌≡◌, ◌≢◌, ◌↔◌, ◌+◌, ◌<◌, ◌≤◌, ◌++◌, [], ℕ, List, Option, Ok, Err, length, IsTrue, IsErr, OnOk, IfSome, IfNone};
 ghost use Rattle.refusal.specs.Count.{HasRisen};
+ghost use Rattle.blsm_model.specs.declared.component.Component.{Component};
 ghost use Rattle.blsm_model.specs.declared.key.Key.{Key};
 ghost use Rattle.blsm_model.specs.Sizes.{Sizes};
 ghost use Rattle.blsm_model.specs.Geometry.{page_count, file_length};
@@ -8,9 +9,11 @@ ghost use Rattle.record_delta.specs.declared.record.Rec.{Rec};
 ghost use Rattle.record_delta.specs.Records.{weight as weight_with};
 ghost use Rattle.page_file.specs.Entry.{PageEntry, IsEntry, entry_bytes, entries_bytes, AreRising};
 ghost use Rattle.page_file.specs.Page.{no_page, page_number, IsPageOf};
+ghost use Rattle.page_file.specs.Component.{empty_component};
 ghost use Rattle.page_file.specs.Records.{page_entry, HasList};
 ghost use Rattle.run_cursor.specs.Reads.{OnlyReads};
 ghost use Rattle.run_cursor.specs.Cursor.{started, from_head, HasFirst, HasAhead, IsAdvanced, AreInNumber, PageGoesOn, GoesOnAt, IsMoved, IsStepped, IsDamageAt, Rises, turned};
+ghost use Rattle.run_cursor.specs.Given.{HasGiven, HasGivenMore};
 
 use blsm_model::{Component, Geometry, Key};
 use disk_trait::Disk;
@@ -68,10 +71,11 @@ impl Model for Cursor {
 impl Cursor {
     /// A cursor before the first entry of a component. It calls no device.
     pub fn start(run: &Component) -> Cursor
-        requires { run.now.pages ≡ 0 → (run.now.entries ≡ 0) × (run.now.weight ≡ 0) }
+        requires { run.now.pages ≡ 0 → run.now ≡ empty_component }
         ensures start { result ≡ started run.now }
         ensures list { (sizes : Sizes) (entries : List (Key × Rec)) (file : List ℕ) → HasList sizes run.now entries file
             → HasAhead sizes result entries file }
+        ensures given { (sizes : Sizes) (file : List ℕ) → HasGiven sizes run.now result [] file }
     {
         Cursor {
             head: None,
@@ -225,6 +229,11 @@ impl Cursor {
         ensures list { (rest : List (Key × Rec)) → IsTrue (D.state disk.old).tells_bytes → HasAhead geo.now self.old rest (D.state disk.new).bytes
             → result ≢ Err Broken.Fault → (result ≡ Ok tt) × IsAdvanced geo.now self.new rest (D.state disk.new).bytes }
 
+        // Where the component begins with the entries that were given so far, it begins with one more; at the end it reads as them.
+        ensures given { (run : Component) (given : List (Key × Rec)) → IsTrue (D.state disk.old).tells_bytes
+            → HasGiven geo.now run self.old given (D.state disk.new).bytes
+            → OnOk result (HasGivenMore geo.now run self.new self.new.head given (D.state disk.new).bytes) }
+
         // Whatever comes, it went on as the page's bytes say; and what is damaged, they show.
         ensures moved { OnOk result (IsMoved (PageGoesOn self.old) self.old self.new) }
         ensures read { OnOk result (IsTrue (D.state disk.old).tells_bytes
@@ -251,6 +260,7 @@ impl Cursor {
             return Ok(());
         }
         if self.pages == 0 {
+            let _pages = geo.pages();
             self.head = None;
             return Ok(());
         }

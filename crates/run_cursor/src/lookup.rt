@@ -1,13 +1,15 @@
 //! The record of a key among a component's entries.
-ghost use Rattle.std.specs.Prelude.{◌≡◌, ◌≢◌, ◌+◌, ◌≤◌, List, Ok, Err, length, IsTrue};
+ghost use Rattle.std.specs.Prelude.{◌≡◌, ◌≢◌, ◌+◌, ◌≤◌, ℕ, List, Ok, Err, length, IsTrue};
 ghost use Rattle.std.specs.FinMap.{find as find_in};
 ghost use Rattle.refusal.specs.Count.{HasRisen};
 ghost use Rattle.blsm_model.specs.declared.key.Key.{Key};
 ghost use Rattle.blsm_model.specs.Keys.{key_cmp};
 ghost use Rattle.blsm_model.specs.Geometry.{file_length};
 ghost use Rattle.record_delta.specs.declared.record.Rec.{Rec};
+ghost use Rattle.page_file.specs.Component.{empty_component};
 ghost use Rattle.page_file.specs.Records.{HasList};
 ghost use Rattle.run_cursor.specs.Reads.{OnlyReads};
+ghost use Rattle.run_cursor.specs.Given.{IsFirstDamage};
 
 use crate::Cursor;
 use blsm_model::{Component, Geometry, Key};
@@ -27,12 +29,15 @@ pub fn find<D: Disk>(
     run: &Component,
     key: &Key,
 ) -> Result<Option<Rec>, Broken>
-    requires numbers { run.now.pages ≡ 0 → (run.now.entries ≡ 0) × (run.now.weight ≡ 0) }
+    requires empty { run.now.pages ≡ 0 → run.now ≡ empty_component }
     requires length { IsTrue (D.state disk.old).tells_bytes → length (D.state disk.old).bytes ≡ file_length geo.now }
 
     // The answer is the list's.
     ensures list { (entries : List (Key × Rec)) → IsTrue (D.state disk.old).is_honest → HasList geo.now run.now entries (D.state disk.old).bytes
         → result ≢ Err Broken.Fault → result ≡ Ok (find_in key_cmp key.now entries) }
+    // Damage is shown by the bytes: behind pages that are the component's, the one that is named isn't its next page.
+    ensures damaged { (n : ℕ) → result ≡ Err (Broken.Damaged n) → IsTrue (D.state disk.old).is_honest
+        → IsFirstDamage geo.now run.now n (D.state disk.old).bytes }
 
     // It only reads, one page after another.
     ensures only_reads { OnlyReads (file_length geo.now) (D.state disk.old) (D.state disk.new) }

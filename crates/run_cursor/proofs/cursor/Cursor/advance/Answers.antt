@@ -1,6 +1,13 @@
-use Rattle.std.proofs.Common.{◌≡◌, ◌<◌, ◌∙◌, [], Err, refl, ap, sym, subst, arith}
+use Rattle.std.proofs.Common.{◌≡◌, ◌<◌, ◌≤◌, ◌∙◌, [], Err, refl, ap, sym, subst, arith}
 use Rattle.std.proofs.lemmas.Result.{err_from_is_err_and}
+use Rattle.blsm_model.specs.Geometry.{page_count}
+use Rattle.page_file.specs.Page.{no_page}
 use Rattle.run_cursor.specs.Cursor.{CursorState, HasAhead}
+use Rattle.std.specs.Prelude.{Option}
+use Rattle.blsm_model.specs.declared.key.Key.{Key}
+use Rattle.record_delta.specs.declared.record.Rec.{Rec}
+use Rattle.run_cursor.specs.Given.{HasGiven, HasGivenMore}
+use Rattle.run_cursor.proofs.GivenLemmas.{given_step, given_turn, given_end}
 use Rattle.run_cursor.proofs.CursorLemmas.{seen, stepped_ahead, ended_ahead, ended, through, turned_ahead, not_broken}
 use Rattle.run_cursor.proofs.cursor.Cursor.advance.Goals as goal
 
@@ -45,3 +52,31 @@ returns-clause-list g c = λ rest tells ahead other.
     let s = c.step-2.ensures.stepped in
     let there = turned_ahead c.args.geo.now c.args.self.now rest (g.D.Disk.state c.turn.new.disk).bytes t.0 t.1 c.turn.ensures.few ahead none more (t.5 tells) in
     (refl, stepped_ahead c.args.geo.now c.turn.new.self c.step-2.new.self s.0 rest (g.D.Disk.state c.turn.new.disk).bytes (subst (λ (w : CursorState). HasAhead c.args.geo.now w rest (g.D.Disk.state c.turn.new.disk).bytes) (sym t.4) there) s.1)
+
+pub returns-then-self-clause-given : goal.returns-then-self-clause-given
+returns-then-self-clause-given g c = λ run given tells has.
+    let s = c.step.ensures.stepped in
+    let file = (g.D.Disk.state c.args.disk.now).bytes in
+    subst (λ (h : Option (Key × Rec)). HasGivenMore c.args.geo.now run c.step.new.self h given file) (sym s.1.head_is)
+    (given_step c.args.geo.now run c.args.self.now c.step.new.self given s.0 file has s.1)
+
+pub returns-then-self-eq0-clause-given : goal.returns-then-self-eq0-clause-given
+returns-then-self-eq0-clause-given g c = λ run given tells has.
+    let f = c.self.inside in
+    let file = (g.D.Disk.state c.args.disk.now).bytes in
+    let old = seen f.head f.page f.at f.end f.next f.pages f.entries f.weight in
+    let end = ended f.head f.page f.at f.end f.next f.pages f.entries f.weight c.self.invariant c.if-self.false c.if-self-eq0.true in
+    let few : page_count c.args.geo.now ≤ no_page = omega (arith, c.pages-pages.ensures.pages, c.pages-pages.ensures.bound) in
+    given_end c.args.geo.now run old given file few (subst (λ (s : CursorState). HasGiven c.args.geo.now run s given file) (sym c.self.view_is) has) end.none_left c.if-self-eq0.true end.no_entries end.no_weight
+
+pub returns-clause-given : goal.returns-clause-given
+returns-clause-given g c = λ run given tells has.
+    let f = c.self.inside in
+    let file = (g.D.Disk.state c.turn.new.disk).bytes in
+    let none : c.args.self.now.behind ≡ [] = ap (λ (s : CursorState). s.behind) (sym c.self.view_is) ∙ through f.page f.at f.end c.self.invariant.0 c.if-self.false in
+    let more : 0 < c.args.self.now.pages = subst (λ (s : CursorState). 0 < s.pages) c.self.view_is (omega (arith, c.if-self-eq0.false)) in
+    let t = c.in_ok-turn.ensures.turned in
+    let s = c.step-2.ensures.stepped in
+    let there = given_turn c.args.geo.now run c.args.self.now given t.0 t.1 file c.turn.ensures.few has none more (t.5 tells) in
+    subst (λ (h : Option (Key × Rec)). HasGivenMore c.args.geo.now run c.step-2.new.self h given file) (sym s.1.head_is)
+    (given_step c.args.geo.now run c.turn.new.self c.step-2.new.self given s.0 file (subst (λ (w : CursorState). HasGiven c.args.geo.now run w given file) (sym t.4) there) s.1)

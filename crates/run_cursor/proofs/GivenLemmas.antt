@@ -1,0 +1,205 @@
+-- What a cursor has given, as it goes on.
+use Rattle.std.proofs.Common.{◌≡◌, ◌⊎◌, inl, inr, ⊎_elim, ℕ, ◌+◌, ◌<◌, ◌≤◌, List, [], ◌∷◌, ◌++◌, length, Option, Some, None, refl, ap, sym, subst, ◌∙◌, append_assoc, length-append, arith}
+use Rattle.std.specs.Prelude.{IsSome}
+use Rattle.std.specs.List.{last_or}
+use Rattle.std.specs.List.Sorted.{IsStrictlySortedBy}
+use Rattle.std.proofs.lemmas.Bool.{cases_lt}
+use Rattle.std.proofs.lemmas.List.{append-nil}
+use Rattle.std.proofs.lemmas.List.Elements.{All-nil, All-tail}
+use Rattle.std.proofs.lemmas.List.Sums.{sum_by-append}
+use Rattle.blsm_model.specs.declared.component.Component.{Component}
+use Rattle.blsm_model.specs.declared.key.Key.{Key}
+use Rattle.blsm_model.specs.Sizes.{Sizes}
+use Rattle.blsm_model.specs.Geometry.{page_count}
+use Rattle.record_delta.specs.declared.record.Rec.{Rec}
+use Rattle.record_delta.specs.Records.{weight}
+use Rattle.page_file.specs.Entry.{PageEntry, IsEntry, AreEntries, AreRising, entries_bytes}
+use Rattle.page_file.specs.Page.{no_page, page_number}
+use Rattle.page_file.specs.Component.{RunPage, entries_of, weight_of, first_of, AreChained, empty_component}
+use Rattle.page_file.specs.Records.{page_entry, page_entries, weights, HasList}
+use Rattle.page_file.proofs.ComponentLemmas.{first_join, chain_join, entries_join, rising_apart}
+use Rattle.page_file.proofs.RecordLemmas.{same_weights, records_of_entries}
+use Rattle.run_cursor.specs.Cursor.{CursorState, started, from_head, GoesOnAt, turned, IsStepped, IsEnded}
+use Rattle.run_cursor.specs.Given.{HasGiven, HasGivenMore}
+use Rattle.run_cursor.proofs.CursorLemmas.{length-page_entries, weights-cons, same_first, none_in_none, rise_over, rise_from}
+
+-- ---- lists
+
+last_push : (o : Option (Key × Rec)) (es : List (Key × Rec)) (e : Key × Rec) → last_or o (es ++ e ∷ []) ≡ Some e
+last_push o [] e = refl
+last_push o (f ∷ es) e = last_push (Some f) es e
+
+entries_push : (given : List (Key × Rec)) (e : Key × Rec) (rest : List PageEntry) → page_entries given ++ (page_entry e ∷ rest) ≡ page_entries (given ++ e ∷ []) ++ rest
+entries_push [] e rest = refl
+entries_push (g ∷ given) e rest = ap (λ (l : List PageEntry). page_entry g ∷ l) (entries_push given e rest)
+
+weights_push : (given : List (Key × Rec)) (e : Key × Rec) → weights (given ++ e ∷ []) ≡ weights given + weight e.0 e.1
+weights_push given e = sum_by-append (λ (f : Key × Rec). weight f.0 f.1) given (e ∷ []) ∙ omega arith
+
+-- what rises up to its last one, and on from there, rises
+rise_join : (head : Option (Key × Rec)) (given : List (Key × Rec)) (es : List PageEntry) → AreRising (from_head head (page_entries given)) → AreRising (from_head (last_or head given) es)
+    → AreRising (from_head head (page_entries given ++ es))
+unfolding IsStrictlySortedBy
+rise_join head [] es rise on = on
+rise_join None (g ∷ given) es rise on = rise_join (Some g) given es rise on
+rise_join (Some h) (g ∷ given) es rise on =
+    let more = rise_join (Some g) given es rise.1 on in
+    (rise_over h (page_entry g) (page_entries given ++ es) more).0 rise.0.0
+
+-- ---- the start
+
+pub given_start : (sizes : Sizes) (run : Component) (file : List ℕ) → (run.pages ≡ 0 → run ≡ empty_component) → HasGiven sizes run (started run) [] file
+unfolding IsStrictlySortedBy
+given_start sizes run file none =
+    elim (cases_lt 0 run.pages) [
+      | inl some ↦ record {
+        pages = [];
+        end = Some run.first;
+        here = [];
+        first_is = refl;
+        chained = tt;
+        end_is = refl;
+        none_next = λ last. absurd (omega (arith, last, some));
+        each = All-nil IsEntry;
+        behind_is = refl;
+        entries_are = refl;
+        rise = tt;
+        head_is = inl refl;
+        pages_is = omega arith;
+        entries_is = omega arith;
+        weight_is = omega arith;
+      }
+      | inr bare ↦ record {
+        pages = [];
+        end = None;
+        here = [];
+        first_is = sym (ap (λ (r : Component). r.first) (none (omega (arith, bare))));
+        chained = tt;
+        end_is = sym (ap (λ (r : Component). r.first) (none (omega (arith, bare))));
+        none_next = λ last. refl;
+        each = All-nil IsEntry;
+        behind_is = refl;
+        entries_are = refl;
+        rise = tt;
+        head_is = inl refl;
+        pages_is = omega arith;
+        entries_is = omega arith;
+        weight_is = omega arith;
+      }
+    ]
+
+-- ---- one entry further
+
+pub given_step : (sizes : Sizes) (run : Component) (old new : CursorState) (given : List (Key × Rec)) (e : Key × Rec) (file : List ℕ) → HasGiven sizes run old given file → IsStepped old new e
+    → HasGiven sizes run new (given ++ e ∷ []) file
+given_step sizes run old new given e file g stepped =
+    let first = same_first g.here e new.behind g.each stepped.right (sym g.behind_is ∙ stepped.behind_is) in
+    let moved : page_entries given ++ page_entries g.here ≡ page_entries (given ++ e ∷ []) ++ page_entries first.more =
+    ap (λ (l : List (Key × Rec)). page_entries given ++ page_entries l) first.here_is ∙ entries_push given e (page_entries first.more) in
+    let count = g.entries_is in
+    let weighs = g.weight_is in
+    record {
+      pages = g.pages;
+      end = g.end;
+      here = first.more;
+      first_is = g.first_is;
+      chained = g.chained;
+      end_is = g.end_is ∙ sym stepped.next_is;
+      none_next = λ last. g.none_next (sym stepped.pages_is ∙ last);
+      each = All-tail IsEntry (page_entry e) (page_entries first.more) (subst (λ (l : List (Key × Rec)). AreEntries (page_entries l)) first.here_is g.each);
+      behind_is = first.rest_is;
+      entries_are = g.entries_are ∙ moved;
+      rise = subst AreRising moved g.rise;
+      head_is = inl (stepped.head_is ∙ sym (last_push None given e));
+      pages_is = ap (λ n. length g.pages + n) stepped.pages_is ∙ g.pages_is;
+      entries_is = omega (arith, count, stepped.entries_is, length-append given (e ∷ []));
+      weight_is = omega (arith, weighs, stepped.weight_is, weights_push given e);
+    }
+
+-- ---- the next page
+
+end_some : (end : Option ℕ) (n count : ℕ) → page_number end ≡ n → n < count → count ≤ no_page → end ≡ Some n
+end_some (Some m) n count is inside few = ap Some is
+end_some None n count is inside few = absurd (omega (arith, is, inside, few))
+
+not_some : (next : Option ℕ) (n : ℕ) → (IsSome next → 1 < n) → n ≡ 1 → next ≡ None
+not_some (Some m) n more one = absurd (omega (arith, more refl, one))
+not_some None n more one = refl
+
+pub given_turn : (sizes : Sizes) (run : Component) (old : CursorState) (given : List (Key × Rec)) (next : Option ℕ) (es : List PageEntry) (file : List ℕ) → page_count sizes ≤ no_page
+    → HasGiven sizes run old given file → old.behind ≡ [] → 0 < old.pages → GoesOnAt sizes old next es file → HasGiven sizes run (turned next es old) given file
+given_turn sizes run old given next es file few g none more at =
+    let found = records_of_entries es at.valid.content.each in
+    let here : g.here ≡ [] = none_in_none g.here (sym none ∙ g.behind_is) in
+    let p : RunPage = record { number = old.next; entries = es } in
+    let end : g.end ≡ Some old.next = end_some g.end old.next (page_count sizes) g.end_is at.inside few in
+    let so_far : entries_of g.pages ≡ page_entries given = g.entries_are ∙ ap (λ (l : List (Key × Rec)). page_entries given ++ page_entries l) here ∙ append-nil (page_entries given) in
+    let rises : AreRising (page_entries given) =
+    subst AreRising (ap (λ (l : List (Key × Rec)). page_entries given ++ page_entries l) here ∙ append-nil (page_entries given)) g.rise in
+    let head : old.head ≡ last_or None given = ⊎_elim (λ is. is) (λ last. absurd (omega (arith, last, more))) g.head_is in
+    let whole : AreRising (page_entries given ++ es) = rise_join None given es rises (subst (λ (h : Option (Key × Rec)). AreRising (from_head h es)) head at.goes_on.rise) in
+    let entries : page_entries given ++ es ≡ page_entries given ++ page_entries found.0 = ap (λ (l : List PageEntry). page_entries given ++ l) (sym found.1) in
+    let count = g.pages_is in
+    record {
+      pages = g.pages ++ p ∷ [];
+      end = next;
+      here = found.0;
+      first_is = ap page_number (first_join g.pages (p ∷ []) next) ∙ ap (λ (o : Option ℕ). page_number (first_of g.pages o)) (sym end) ∙ g.first_is;
+      chained = chain_join sizes g.pages (p ∷ []) next file (subst (λ (o : Option ℕ). AreChained sizes g.pages o file) end g.chained) (at.inside, at.valid, tt);
+      end_is = refl;
+      none_next = λ last. not_some next old.pages at.goes_on.numbers.follows.0 (omega (arith, last, more));
+      each = subst AreEntries (sym found.1) at.valid.content.each;
+      behind_is = ap entries_bytes (sym found.1);
+      entries_are = entries_join g.pages (p ∷ []) ∙ (λ i. so_far i ++ append-nil es i) ∙ entries;
+      rise = subst AreRising entries whole;
+      head_is = inl head;
+      pages_is = omega (arith, count, more, length-append g.pages (p ∷ []));
+      entries_is = g.entries_is;
+      weight_is = g.weight_is;
+    }
+
+-- ---- the end
+
+pub given_end : (sizes : Sizes) (run : Component) (old : CursorState) (given : List (Key × Rec)) (file : List ℕ) → page_count sizes ≤ no_page → HasGiven sizes run old given file
+    → old.behind ≡ [] → old.pages ≡ 0 → old.entries ≡ 0 → old.weight ≡ 0 → HasList sizes run given file × HasGiven sizes run (record old { head = None }) given file
+given_end sizes run old given file few g none last no_entries no_weight =
+    let here : g.here ≡ [] = none_in_none g.here (sym none ∙ g.behind_is) in
+    let end : g.end ≡ None = g.none_next last in
+    let so_far : page_entries given ++ page_entries g.here ≡ page_entries given = ap (λ (l : List (Key × Rec)). page_entries given ++ page_entries l) here ∙ append-nil (page_entries given) in
+    let are : entries_of g.pages ≡ page_entries given = g.entries_are ∙ so_far in
+    let chained : AreChained sizes g.pages None file = subst (λ (o : Option ℕ). AreChained sizes g.pages o file) end g.chained in
+    let rises : AreRising (entries_of g.pages) = subst AreRising (sym g.entries_are) g.rise in
+    let pages = g.pages_is in
+    let count = g.entries_is in
+    let weighs = g.weight_is in (
+      record {
+        pages = g.pages;
+        reads = record {
+          first_is = ap (λ (o : Option ℕ). page_number (first_of g.pages o)) (sym end) ∙ g.first_is;
+          chained = chained;
+          rise = rises;
+          apart = rising_apart sizes g.pages None file few chained rises;
+          pages_is = omega (arith, pages, last);
+          entries_is = ap (length {A = PageEntry}) are ∙ length-page_entries given ∙ omega (arith, count, no_entries);
+          weight_is = ap weight_of are ∙ same_weights given ∙ omega (arith, weighs, no_weight);
+        };
+        entries_are = are;
+      },
+      record {
+        pages = g.pages;
+        end = g.end;
+        here = g.here;
+        first_is = g.first_is;
+        chained = g.chained;
+        end_is = g.end_is;
+        none_next = g.none_next;
+        each = g.each;
+        behind_is = g.behind_is;
+        entries_are = g.entries_are;
+        rise = g.rise;
+        head_is = inr last;
+        pages_is = g.pages_is;
+        entries_is = g.entries_is;
+        weight_is = g.weight_is;
+      },
+    )

@@ -1,0 +1,41 @@
+-- What a cursor has given of its component.
+use Rattle.std.specs.Prelude.{◌≡◌, ◌⊎◌, ℕ, ◌+◌, List, [], ◌∷◌, ◌++◌, length, Option, Some, None}
+use Rattle.std.specs.List.{last_or}
+use Rattle.blsm_model.specs.declared.component.Component.{Component}
+use Rattle.blsm_model.specs.declared.key.Key.{Key}
+use Rattle.blsm_model.specs.Sizes.{Sizes}
+use Rattle.record_delta.specs.declared.record.Rec.{Rec}
+use Rattle.page_file.specs.Entry.{entries_bytes, AreEntries, AreRising}
+use Rattle.page_file.specs.Page.{page_number}
+use Rattle.page_file.specs.Component.{RunPage, entries_of, first_of, AreChained}
+use Rattle.page_file.specs.Records.{page_entries, weights, HasList}
+use Rattle.run_cursor.specs.Cursor.{CursorState, IsDamageAt}
+
+-- In this file the component begins with these entries, which the cursor has given, and with those behind the cursor's head on its
+-- page: they are those of the pages that were read, from the first on.
+pub record HasGiven (sizes : Sizes) (run : Component) (cursor : CursorState) (given : List (Key × Rec)) (file : List ℕ) : Type 0 where
+  pub pages : List RunPage
+  pub end : Option ℕ
+  pub here : List (Key × Rec)
+  pub first_is : page_number (first_of pages end) ≡ run.first
+  pub chained : AreChained sizes pages end file
+  pub end_is : page_number end ≡ cursor.next
+  pub none_next : cursor.pages ≡ 0 → end ≡ None
+  pub each : AreEntries (page_entries here)
+  pub behind_is : cursor.behind ≡ entries_bytes (page_entries here)
+  pub entries_are : entries_of pages ≡ page_entries given ++ page_entries here
+  pub rise : AreRising (page_entries given ++ page_entries here)
+  -- the head is the last of them, but at the end
+  pub head_is : (cursor.head ≡ last_or None given) ⊎ (cursor.pages ≡ 0)
+  pub pages_is : length pages + cursor.pages ≡ run.pages
+  pub entries_is : length given + cursor.entries ≡ run.entries
+  pub weight_is : weights given + cursor.weight ≡ run.weight
+
+-- one entry more was given; at the end the component reads as those that were
+abbrev pub HasGivenMore : Sizes → Component → CursorState → Option (Key × Rec) → List (Key × Rec) → List ℕ → Type 0
+HasGivenMore sizes run new (Some e) given file = HasGiven sizes run new (given ++ e ∷ []) file
+HasGivenMore sizes run new None given file = HasList sizes run given file × HasGiven sizes run new given file
+
+-- Behind the entries of the component's pages before it, the page of this number isn't a valid one, or doesn't go on.
+abbrev pub IsFirstDamage : Sizes → Component → ℕ → List ℕ → Type 0
+IsFirstDamage sizes run n file = (cursor : CursorState) × (given : List (Key × Rec)) × HasGiven sizes run cursor given file × IsDamageAt sizes cursor n file
