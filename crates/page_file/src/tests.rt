@@ -4,7 +4,7 @@ ghost use Rattle.blsm_model.specs.Geometry.{page_count, file_length};
 ghost use Rattle.disk_mem.specs.Recorded.{told};
 
 use super::*;
-use blsm_model::Geometry;
+use blsm_model::{Component, Geometry};
 use disk_mem::{FaultlessDisk, MemDisk};
 use disk_trait::Disk;
 use refusal::Failed;
@@ -329,6 +329,19 @@ fn a_page_is_written_at_its_place(rt: HostRuntime) -> Result<(), Fail> {
     one_page();
     where_entries_stand();
     other_pages();
+    one_component();
+    chains();
+    other_components();
+    records_of_pages();
+    assert_eq!(rt;
+        no_component(),
+        Component {
+            first: NO_PAGE,
+            pages: 0,
+            entries: 0,
+            weight: 0
+        }
+    );
     Ok(())
 }
 

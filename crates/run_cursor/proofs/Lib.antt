@@ -1,3 +1,4 @@
+mod Examples
 pub mod CursorLemmas
 pub mod FindLemmas
 pub mod GivenLemmas
