@@ -1,5 +1,5 @@
 -- What a cursor keeps as it goes on.
-use Rattle.std.proofs.Common.{◌≡◌, ◌≢◌, ◌↔◌, Bool, true, false, ℕ, suc, ◌+◌, ◌*◌, ◌-◌, ◌<◌, ◌≤◌, List, [], ◌∷◌, ◌++◌, length, map, take, drop, Option, Some, None, refl, ap, sym, subst, ◌∙◌, append_assoc, length-append, arith}
+use Rattle.std.proofs.Common.{◌≡◌, ◌≢◌, ◌↔◌, Bool, true, false, ℕ, suc, ◌+◌, ◌-◌, ◌<◌, ◌≤◌, List, [], ◌∷◌, ◌++◌, length, take, drop, Option, Some, None, refl, ap, sym, subst, ◌∙◌, append_assoc, length-append, arith}
 use Rattle.std.specs.Prelude.{replicate, IsTrue, IsSome}
 use Rattle.std.specs.List.{between, AllByRecursion}
 use Rattle.std.specs.List.Sorted.{IsStrictlySortedBy}
@@ -8,9 +8,9 @@ use Rattle.std.specs.declared.cmp.Ordering.{Ordering}
 use Rattle.std.specs.declared.cmp.Ordering.TheVariants.{Less, Equal, Greater}
 use Rattle.std.proofs.lemmas.Bool.{false≢true}
 use Rattle.std.proofs.lemmas.Cmp.{nat_list_cmp_total}
-use Rattle.std.proofs.lemmas.List.{length-map, drop-drop, drop_at, take_at, append-nil}
+use Rattle.std.proofs.lemmas.List.{length-map, drop-drop, drop_at, take_at}
 use Rattle.std.proofs.lemmas.List.Edits.{between_none, length-between}
-use Rattle.std.proofs.lemmas.List.Elements.{All-nil, All-cons, All-head, All-tail}
+use Rattle.std.proofs.lemmas.List.Elements.{All-nil, All-head, All-tail}
 use Rattle.std.proofs.lemmas.List.Sums.{sum_by-cons}
 use Rattle.std.proofs.lemmas.Slice.{between_is}
 use Rattle.blsm_model.specs.declared.component.Component.{Component}
@@ -20,19 +20,19 @@ use Rattle.blsm_model.specs.Sizes.{Sizes}
 use Rattle.blsm_model.specs.Geometry.{page_count}
 use Rattle.record_delta.specs.declared.record.Rec.{Rec}
 use Rattle.record_delta.specs.Records.{weight}
-use Rattle.entry_codec.specs.Spelling.{spelling, BeginsWith}
+use Rattle.entry_codec.specs.Spelling.{BeginsWith}
 use Rattle.page_file.specs.Entry.{PageEntry, IsEntry, entry_bytes, entries_bytes, AreEntries, keys_of, AreRising}
 use Rattle.page_file.specs.Page.{most_used, no_page, page_number, used_by, page_head, IsPageOf}
 use Rattle.page_file.specs.declared.file.Broken.{Broken}
 use Rattle.page_file.specs.declared.file.Broken.TheVariants.{Fault, Damaged}
 use Rattle.page_file.specs.File.{page_at}
-use Rattle.page_file.specs.Component.{RunPage, entries_of, entry_weight, weight_of, first_of, AreChained, ReadsAs}
+use Rattle.page_file.specs.Component.{RunPage, entries_of, weight_of, first_of, AreChained}
 use Rattle.page_file.specs.Records.{page_entry, page_entries, weights, HasList}
 use Rattle.page_file.proofs.EntryLemmas.{length-entry_bytes, few_entries, entry_same}
 use Rattle.page_file.proofs.PageLemmas.{spelled, length-page_head, page_same, entry_at}
-use Rattle.page_file.proofs.ComponentLemmas.{rise_back, weight_join, weight_is_length}
+use Rattle.page_file.proofs.ComponentLemmas.{weight_join, weight_is_length}
 use Rattle.page_file.proofs.RecordLemmas.{same_bytes, same_weights, is_entry, is_spelled, record_of_entry, records_of_entries, one_record}
-use Rattle.run_cursor.specs.Cursor.{CursorState, started, from_head, HasFirst, IsCursor, AreInNumber, PageGoesOn, GoesOnAt, turned, IsStepped, IsEnded, IsOnNext, IsMoved, Rises, HasAhead, IsAdvanced, IsDamageAt}
+use Rattle.run_cursor.specs.Cursor.{CursorState, started, from_head, HasFirst, IsCursor, AreInNumber, PageGoesOn, GoesOnAt, turned, IsStepped, Rises, HasAhead, IsAdvanced, IsDamageAt}
 
 pub length-page_entries : (es : List (Key × Rec)) → length (page_entries es) ≡ length es
 length-page_entries es = length-map es page_entry

@@ -1,5 +1,5 @@
 -- A page that goes on behind a cursor, and pages that don't.
-use Rattle.std.proofs.Common.{ℕ, ◌<◌, List, [], ◌∷◌, Option, Some, None, refl, ap, codes, lit≤, lit<, arith}
+use Rattle.std.proofs.Common.{ℕ, ◌<◌, [], ◌∷◌, Option, Some, None, refl, ap, codes, lit≤, arith}
 use Rattle.std.specs.List.Sorted.{IsStrictlySortedBy}
 use Rattle.std.specs.Ordering.{is_lt}
 use Rattle.std.proofs.lemmas.Bool.{false≢true}

@@ -1,5 +1,5 @@
 -- What a cursor's head says of a key among the entries that were ahead.
-use Rattle.std.proofs.Common.{◌≡◌, List, [], ◌∷◌, length, Option, Some, None, refl, ap, sym, subst, ◌∙◌, arith}
+use Rattle.std.proofs.Common.{◌≡◌, List, [], ◌∷◌, length, Option, Some, None, refl, ap, ◌∙◌, arith}
 use Rattle.std.specs.Prelude.{cond, ℕ}
 use Rattle.std.specs.FinMap.{find as find_in}
 use Rattle.std.specs.List.{AllByRecursion}
@@ -12,7 +12,7 @@ use Rattle.blsm_model.specs.Keys.{key_cmp}
 use Rattle.blsm_model.specs.Sizes.{Sizes}
 use Rattle.record_delta.specs.declared.record.Rec.{Rec}
 use Rattle.page_file.specs.Entry.{keys_of, AreRising}
-use Rattle.page_file.specs.Records.{page_entry, page_entries}
+use Rattle.page_file.specs.Records.{page_entries}
 use Rattle.run_cursor.specs.Cursor.{CursorState, from_head, HasAhead, IsAdvanced}
 
 -- a key that is below all of a list's isn't among them

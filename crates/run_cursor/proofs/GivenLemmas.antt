@@ -1,5 +1,5 @@
 -- What a cursor has given, as it goes on.
-use Rattle.std.proofs.Common.{◌≡◌, ◌⊎◌, inl, inr, ⊎_elim, ℕ, ◌+◌, ◌<◌, ◌≤◌, List, [], ◌∷◌, ◌++◌, length, Option, Some, None, refl, ap, sym, subst, ◌∙◌, append_assoc, length-append, arith}
+use Rattle.std.proofs.Common.{◌≡◌, inl, inr, ⊎_elim, ℕ, ◌+◌, ◌<◌, ◌≤◌, List, [], ◌∷◌, ◌++◌, length, Option, Some, None, refl, ap, sym, subst, ◌∙◌, length-append, arith}
 use Rattle.std.specs.Prelude.{IsSome}
 use Rattle.std.specs.List.{last_or}
 use Rattle.std.specs.List.Sorted.{IsStrictlySortedBy}
@@ -19,9 +19,9 @@ use Rattle.page_file.specs.Component.{RunPage, entries_of, weight_of, first_of, 
 use Rattle.page_file.specs.Records.{page_entry, page_entries, weights, HasList}
 use Rattle.page_file.proofs.ComponentLemmas.{first_join, chain_join, entries_join, rising_apart}
 use Rattle.page_file.proofs.RecordLemmas.{same_weights, records_of_entries}
-use Rattle.run_cursor.specs.Cursor.{CursorState, started, from_head, GoesOnAt, turned, IsStepped, IsEnded}
-use Rattle.run_cursor.specs.Given.{HasGiven, HasGivenMore}
-use Rattle.run_cursor.proofs.CursorLemmas.{length-page_entries, weights-cons, same_first, none_in_none, rise_over, rise_from}
+use Rattle.run_cursor.specs.Cursor.{CursorState, started, from_head, GoesOnAt, turned, IsStepped}
+use Rattle.run_cursor.specs.Given.{HasGiven}
+use Rattle.run_cursor.proofs.CursorLemmas.{length-page_entries, same_first, none_in_none, rise_over}
 
 -- ---- lists
 

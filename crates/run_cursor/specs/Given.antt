@@ -25,7 +25,7 @@ pub record HasGiven (sizes : Sizes) (run : Component) (cursor : CursorState) (gi
   pub behind_is : cursor.behind ≡ entries_bytes (page_entries here)
   pub entries_are : entries_of pages ≡ page_entries given ++ page_entries here
   pub rise : AreRising (page_entries given ++ page_entries here)
-  -- the head is the last of them, but at the end
+  -- the head is the last of them; once no page is left to read it may be none
   pub head_is : (cursor.head ≡ last_or None given) ⊎ (cursor.pages ≡ 0)
   pub pages_is : length pages + cursor.pages ≡ run.pages
   pub entries_is : length given + cursor.entries ≡ run.entries

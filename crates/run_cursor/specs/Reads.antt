@@ -1,7 +1,7 @@
 -- Runs of calls of a disk that only read.
-use Rattle.std.specs.Prelude.{◌≡◌, ◌<◌, ℕ, ◌≤◌, List, IsTrue, refl}
-use Rattle.std.proofs.Common.{sym, subst, ◌∙◌, arith}
-use Rattle.disk_trait.specs.Disk.{DiskState, GoesOn, Passes, MarksSync, ChangesNothing, IsSure}
+use Rattle.std.specs.Prelude.{◌<◌, ℕ, ◌≤◌, IsTrue, refl}
+use Rattle.std.proofs.Common.{sym, subst, ◌∙◌}
+use Rattle.disk_trait.specs.Disk.{DiskState, GoesOn, MarksSync, ChangesNothing, IsSure}
 use Rattle.disk_trait.specs.Moments.{IsTimed, LeavesOnly, goes_on_run, goes_on_start, no_sync_start, no_sync_run, leaves_only_start, leaves_only_run, leaves_only_weaken}
 
 -- Nothing is written and nothing synced, each crash leaves a file that one before might have left, and no call ends behind this offset.

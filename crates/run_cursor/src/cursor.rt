@@ -220,8 +220,8 @@ impl Cursor {
     ///
     /// `Damaged` names the page that was to be read next: it is answered exactly where that isn't a valid page of the store, has a next
     /// page though it is the last one by the component's number or none though it isn't, has a first key that isn't above the
-    /// head's, or has more entries or weight than are left by the component's numbers, or, as the last page, fewer. `Fault`
-    /// comes only where the disk's count of faults rose.
+    /// head's, or has more entries or weight than are left by the component's numbers, or, as the last page, fewer. A page that
+    /// is met again is such a one, since its keys don't rise. `Fault` comes only where the disk's count of faults rose.
     pub fn advance<D: Disk>(&mut self, disk: &mut D, geo: &Geometry) -> Result<(), Broken>
         requires { IsTrue (D.state disk.old).tells_bytes → length (D.state disk.old).bytes ≡ file_length geo.now }
 
@@ -260,6 +260,7 @@ impl Cursor {
             return Ok(());
         }
         if self.pages == 0 {
+            // A store has fewer pages than there are numbers, so its last page's next one is told apart from each page.
             let _pages = geo.pages();
             self.head = None;
             return Ok(());

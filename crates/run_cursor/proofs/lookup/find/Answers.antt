@@ -1,8 +1,6 @@
-use Rattle.std.proofs.Common.{◌≡◌, ◌∙◌, ◌∷◌, ◌++◌, ℕ, List, [], Option, Result, Ok, Err, None, IsTrue, refl, ap, sym, subst, arith}
-use Rattle.std.specs.FinMap.{find as find_in}
+use Rattle.std.proofs.Common.{◌≡◌, ◌∙◌, ◌∷◌, ◌++◌, ℕ, List, [], Option, Result, Ok, Err, IsTrue, refl, ap, sym, subst, arith}
 use Rattle.std.proofs.lemmas.Result.{err_from_is_err_and}
 use Rattle.blsm_model.specs.declared.key.Key.{Key}
-use Rattle.blsm_model.specs.Keys.{key_cmp}
 use Rattle.blsm_model.specs.Geometry.{file_length}
 use Rattle.record_delta.specs.declared.record.Rec.{Rec}
 use Rattle.page_file.specs.declared.file.Broken.{Broken}

@@ -1,4 +1,4 @@
-use Rattle.std.proofs.Common.{◌<◌, ◌∙◌, length, ap, sym, subst, arith}
+use Rattle.std.proofs.Common.{◌<◌, ◌∙◌, length, ap, sym, subst}
 use Rattle.run_cursor.specs.Cursor.{CursorState}
 use Rattle.run_cursor.proofs.CursorLemmas.{first_of_bytes, begins, found_first}
 use Rattle.run_cursor.proofs.cursor.Cursor.behind.Goals as goal

@@ -1,7 +1,6 @@
-use Rattle.std.proofs.Common.{◌≡◌, ◌∙◌, ap, sym}
+use Rattle.std.proofs.Common.{◌∙◌, ap}
 use Rattle.page_file.specs.Page.{page_number}
 use Rattle.page_file.specs.declared.page.PageHead.{PageHead}
-use Rattle.run_cursor.specs.Cursor.{CursorState}
 use Rattle.run_cursor.proofs.CursorLemmas.{taken_is, taken_kept}
 use Rattle.run_cursor.proofs.cursor.Cursor.take.Goals as goal
 
