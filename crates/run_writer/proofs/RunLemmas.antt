@@ -1,0 +1,129 @@
+-- A run with one entry more: what the writer holds then, and what stands on the disk.
+use Rattle.std.proofs.Common.{◌≡◌, ◌≢◌, Bool, true, false, ℕ, zero, suc, ◌+◌, ◌-◌, ◌*◌, ◌<◌, ◌≤◌, List, [], ◌∷◌, ◌++◌, length, map, Option, Some, None, refl, ap, sym, subst, ◌∙◌, inl, inr, append_assoc, length-append, arith}
+use Rattle.std.specs.List.{AllByRecursion, IsDistinct}
+use Rattle.std.specs.Prelude.{nat_eq, nat_lt, nat_le, IsTrue, if◌then◌else◌}
+use Rattle.std.proofs.lemmas.Bool.{ne_eqb}
+use Rattle.std.proofs.lemmas.List.{append-nil}
+use Rattle.std.proofs.lemmas.List.Elements.{All-nil, All-cons, All-append}
+use Rattle.std.proofs.lemmas.List.Sums.{sum_by-cons}
+use Rattle.disk_trait.specs.Disk.{Torn}
+use Rattle.blsm_model.specs.declared.key.Key.{Key}
+use Rattle.blsm_model.specs.Sizes.{Sizes}
+use Rattle.blsm_model.specs.Geometry.{page_count}
+use Rattle.record_delta.specs.declared.record.Rec.{Rec}
+use Rattle.record_delta.specs.Records.{weight}
+use Rattle.entry_codec.specs.Spelling.{spelling, IsEntry as IsSpelled}
+use Rattle.entry_codec.proofs.SpellingLemmas.{length-spelling}
+use Rattle.page_file.specs.Entry.{PageEntry, IsEntry, entry_bytes, entries_bytes, AreEntries, AreRising}
+use Rattle.page_file.specs.Page.{page_length, most_used, page_number, page_bytes, IsPageOf}
+use Rattle.page_file.specs.File.{page_start, page_at}
+use Rattle.page_file.specs.Component.{RunPage, numbers_of, entries_of, entry_weight, weight_of, first_of, AreChained, ReadsAs}
+use Rattle.page_file.specs.Records.{page_entry}
+use Rattle.page_file.proofs.EntryLemmas.{entries_bytes-append}
+use Rattle.page_file.proofs.PageLemmas.{other_page}
+use Rattle.page_file.proofs.ComponentLemmas.{first_join, chain_join, entries_join, weight_join, rise_back}
+use Rattle.page_file.proofs.RecordLemmas.{same_bytes, is_entry}
+use Rattle.run_writer.specs.Buffer.{BufferState, with_entry, empty_buffer, sealed, HasEntries}
+use Rattle.run_writer.specs.Run.{Run, page_of, pages_of, pushed_here, pushed_on, IsRun}
+use Rattle.run_writer.specs.Writer.{WriterState, has_place, put_in, turned, Holds, Stands}
+use Rattle.run_writer.proofs.BufferLemmas.{sealed-bytes}
+
+-- ---- the buffer
+
+has_none : HasEntries empty_buffer []
+has_none = record { each = All-nil IsEntry; count_is = refl; spelled = refl }
+
+one_entry : (key : Key) (rec : Rec) → entries_bytes (page_entry (key, rec) ∷ []) ≡ spelling key rec
+one_entry key rec = append-nil (entry_bytes (page_entry (key, rec))) ∙ same_bytes (key, rec)
+
+has_more : (buffer : BufferState) (entries : List PageEntry) (key : Key) (rec : Rec) → HasEntries buffer entries → IsSpelled key rec
+    → HasEntries (with_entry key rec buffer) (entries ++ page_entry (key, rec) ∷ [])
+has_more buffer entries key rec has entry = record {
+  each = All-append IsEntry entries (page_entry (key, rec) ∷ []) has.each (All-cons IsEntry (page_entry (key, rec)) [] (is_entry key rec entry) (All-nil IsEntry));
+  count_is = omega (arith, has.count_is, length-append entries (page_entry (key, rec) ∷ []));
+  spelled =
+      ap (λ (l : List ℕ). l ++ spelling key rec) has.spelled ∙ ap (λ (l : List ℕ). entries_bytes entries ++ l) (sym (one_entry key rec))
+      ∙ sym (entries_bytes-append entries (page_entry (key, rec) ∷ []));
+}
+
+-- ---- the run's entries and numbers
+
+pub of_page : (number : ℕ) (es : List PageEntry) → entries_of (page_of number es) ≡ es
+of_page number [] = refl
+of_page number (e ∷ es) = append-nil (e ∷ es)
+
+run_entries : (closed : List RunPage) (number : ℕ) (es : List PageEntry) → entries_of (closed ++ page_of number es) ≡ entries_of closed ++ es
+run_entries closed number es = entries_join closed (page_of number es) ∙ ap (λ (l : List PageEntry). entries_of closed ++ l) (of_page number es)
+
+-- an entry more is one more in the list, wherever it stands
+pub entries_here : (key : Key) (rec : Rec) (run : Run) → entries_of (pages_of (pushed_here key rec run)) ≡ entries_of (pages_of run) ++ page_entry (key, rec) ∷ []
+entries_here key rec run =
+    run_entries run.closed run.number (run.entries ++ page_entry (key, rec) ∷ []) ∙ sym (append_assoc (entries_of run.closed) run.entries (page_entry (key, rec) ∷ []))
+    ∙ ap (λ (l : List PageEntry). l ++ page_entry (key, rec) ∷ []) (sym (run_entries run.closed run.number run.entries))
+
+pub entries_on : (page : ℕ) (key : Key) (rec : Rec) (run : Run) → entries_of (pages_of (pushed_on page key rec run)) ≡ entries_of (pages_of run) ++ page_entry (key, rec) ∷ []
+entries_on page key rec run = run_entries (pages_of run) page (page_entry (key, rec) ∷ [])
+
+one_weight : (key : Key) (rec : Rec) → weight_of (page_entry (key, rec) ∷ []) ≡ weight key rec
+one_weight key rec = omega (arith, sum_by-cons entry_weight (page_entry (key, rec)) [])
+
+-- the numbers of the component after one entry more
+counted_more : (more es : List PageEntry) (key : Key) (rec : Rec) (n : ℕ) → more ≡ es ++ page_entry (key, rec) ∷ [] → length es ≡ n → length more ≡ n + 1
+counted_more more es key rec n is count = ap (length {A = PageEntry}) is ∙ omega (arith, length-append es (page_entry (key, rec) ∷ []), count)
+
+weighed_more : (more es : List PageEntry) (key : Key) (rec : Rec) (n : ℕ) → more ≡ es ++ page_entry (key, rec) ∷ [] → weight_of es ≡ n → weight_of more ≡ n + weight key rec
+weighed_more more es key rec n is weighs =
+    ap weight_of is ∙ weight_join es (page_entry (key, rec) ∷ []) ∙ omega (arith, weighs, one_weight key rec)
+
+-- ---- in the open page
+
+-- the open page stays one page, of the same number
+same_length : (closed : List RunPage) (number : ℕ) (e : PageEntry) (es fs : List PageEntry) → length (closed ++ page_of number (e ∷ (es ++ fs))) ≡ length (closed ++ page_of number (e ∷ es))
+same_length closed number e es fs =
+    omega (arith, length-append closed (page_of number (e ∷ (es ++ fs))), length-append closed (page_of number (e ∷ es)))
+
+same_first : (closed : List RunPage) (number : ℕ) (e : PageEntry) (es fs : List PageEntry) → first_of (closed ++ page_of number (e ∷ (es ++ fs))) None ≡ first_of (closed ++ page_of number (e ∷ es)) None
+same_first closed number e es fs = first_join closed (page_of number (e ∷ (es ++ fs))) None ∙ sym (first_join closed (page_of number (e ∷ es)) None)
+
+no_pages : (closed : List RunPage) (number : ℕ) → closed ≡ [] → length (closed ++ page_of number []) ≡ 0
+no_pages closed number none = ap (λ (l : List RunPage). length (l ++ [])) none
+
+pub holds_here : (writer : WriterState) (key : Key) (rec : Rec) (closed : List RunPage) (number : ℕ) (es : List PageEntry) → IsSpelled key rec → 0 < writer.component.pages
+    → length writer.buffer.text + weight key rec ≤ most_used
+    → Holds writer (record { closed = closed; number = number; entries = es }) → Holds (put_in key rec writer) (pushed_here key rec (record { closed = closed; number = number; entries = es }))
+holds_here writer key rec closed number [] entry some fits held = absurd (omega (arith, some, held.pages_is, no_pages closed number (held.some refl)))
+holds_here writer key rec closed number (e ∷ es) entry some fits held =
+    let run : Run = record { closed = closed; number = number; entries = e ∷ es } in
+    let more = entries_here key rec run in
+    record {
+      buffer = has_more writer.buffer (e ∷ es) key rec held.buffer entry;
+      fits = omega (arith, fits, length-append writer.buffer.text (spelling key rec), length-spelling key rec);
+      some = λ none. absurd (cc);
+      number = held.number;
+      first_is = ap page_number (same_first closed number e es (page_entry (key, rec) ∷ [])) ∙ held.first_is;
+      pages_is = same_length closed number e es (page_entry (key, rec) ∷ []) ∙ held.pages_is;
+      entries_is = counted_more _ _ key rec _ more held.entries_is;
+      weight_is = weighed_more _ _ key rec _ more held.weight_is;
+    }
+
+-- ---- in a new page
+
+first_pushed : (ps : List RunPage) (page : ℕ) (e : PageEntry) (pages first : ℕ) → length ps ≡ pages → page_number (first_of ps None) ≡ first
+    → page_number (first_of (ps ++ page_of page (e ∷ [])) None) ≡ (if nat_eq pages 0 then page else first)
+first_pushed [] page e pages first long is = ap (λ n. if nat_eq n 0 then page else first) long
+first_pushed (p ∷ ps) page e pages first long is = is ∙ ap (λ b. if b then page else first) (sym (ne_eqb pages 0 (λ none. omega (arith, none, long))))
+
+pub holds_on : (writer : WriterState) (page : ℕ) (key : Key) (rec : Rec) (run : Run) → IsSpelled key rec → weight key rec ≤ most_used
+    → Holds writer run → Holds (put_in key rec (turned page writer)) (pushed_on page key rec run)
+holds_on writer page key rec run entry light held =
+    let more = entries_on page key rec run in
+    record {
+      buffer = has_more empty_buffer [] key rec has_none entry;
+      fits = omega (arith, light, length-spelling key rec);
+      some = λ none. absurd (cc);
+      number = refl;
+      first_is = first_pushed (pages_of run) page (page_entry (key, rec)) writer.component.pages writer.component.first held.pages_is held.first_is;
+      pages_is = length-append (pages_of run) (page_of page (page_entry (key, rec) ∷ [])) ∙ omega (arith, held.pages_is);
+      entries_is = counted_more _ _ key rec _ more held.entries_is;
+      weight_is = weighed_more _ _ key rec _ more held.weight_is;
+    }

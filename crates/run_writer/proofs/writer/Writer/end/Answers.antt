@@ -1,0 +1,16 @@
+use Rattle.std.proofs.Common.{◌≡◌, ℕ, sym, ap, subst}
+use Rattle.page_file.specs.Component.{ReadsAs}
+use Rattle.blsm_model.specs.declared.component.Component.{Component}
+use Rattle.run_writer.specs.Run.{pages_of}
+use Rattle.run_writer.specs.Writer.{WriterState}
+use Rattle.run_writer.proofs.WriterLemmas.{ended, IsWritten}
+use Rattle.run_writer.proofs.writer.Writer.end.Goals as goal
+
+pub returns-clause-reads : goal.returns-clause-reads
+returns-clause-reads g c = λ run honest held is_run stands.
+    let old = (g.D.Disk.state c.args.disk.now).bytes in
+    let new = (g.D.Disk.state c.write_open.new.disk).bytes in
+    let component_is = ap (λ (w : WriterState). w.component) c.self.view_is in
+    subst (λ (component : Component). ReadsAs c.args.geo.now component (pages_of run) new) (sym component_is)
+    (ended c.args.geo.now c.args.self.now run old new
+    (record { torn = c.write_open.ensures.within.bytes honest; inside = c.requires.inside; reads = c.in_ok-write_open.ensures.reads honest; below = tt; full = λ some names. absurd (cc) }) held is_run stands)

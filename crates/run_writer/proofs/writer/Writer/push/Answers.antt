@@ -1,0 +1,40 @@
+use Rattle.std.proofs.Common.{◌≡◌, ◌∙◌, ◌+◌, ◌≤◌, ℕ, sym, ap, subst, Some, arith}
+use Rattle.blsm_model.specs.Geometry.{page_count}
+use Rattle.record_delta.specs.Records.{weight}
+use Rattle.run_writer.specs.Run.{pushed_here, pushed_on}
+use Rattle.run_writer.specs.Writer.{WriterState, put_in, turned, Holds}
+use Rattle.run_writer.proofs.RunLemmas.{holds_here, holds_on}
+use Rattle.run_writer.proofs.WriterLemmas.{place_parts, no_place, chained, IsWritten}
+use Rattle.run_writer.proofs.writer.Writer.push.Goals as goal
+
+pub returns-clause-here : goal.returns-clause-here
+returns-clause-here g c = λ run place held.
+    let key = c.args.key.now in
+    let rec = c.args.rec.now in
+    let parts = place_parts c.args.self.now (weight key rec) place in
+    let is : c.put.new.self ≡ put_in key rec c.args.self.now = c.put.ensures.put ∙ ap (put_in key rec) (c.make_place.ensures.here place) in
+    subst (λ (w : WriterState). Holds w (pushed_here key rec run)) (sym is)
+    (holds_here c.args.self.now key rec run.closed run.number run.entries c.put.ensures.entry parts.0 parts.1 held)
+
+pub returns-clause-on : goal.returns-clause-on
+returns-clause-on g c = λ run page none least held.
+    let key = c.args.key.now in
+    let rec = c.args.rec.now in
+    let is : c.put.new.self ≡ put_in key rec (turned page c.args.self.now) = c.put.ensures.put ∙ ap (put_in key rec) (c.in_ok-make_place.ensures.turned page none least) in
+    let light : weight key rec ≤ 4088 = omega (arith, c.make_place.ensures.light) in
+    subst (λ (w : WriterState). Holds w (pushed_on page key rec run)) (sym is) (holds_on c.args.self.now page key rec run c.put.ensures.entry light held)
+
+pub returns-clause-closed : goal.returns-clause-closed
+returns-clause-closed g c = λ run page none least held is_run honest stands.
+    let w = weight c.args.key.now c.args.rec.now in
+    let old = (g.D.Disk.state c.args.disk.now).bytes in
+    let new = (g.D.Disk.state c.make_place.new.disk).bytes in
+    let light : w ≤ 512 = c.make_place.ensures.light in
+    chained c.args.geo.now c.args.self.now (Some page) old new run.closed run.number run.entries
+    (record {
+      torn = c.make_place.ensures.within.bytes honest;
+      inside = c.requires.inside;
+      reads = c.in_ok-make_place.ensures.reads page none least honest;
+      below = omega (arith, least.free.in_range, c.requires.pages);
+      full = λ some names. omega (arith, light, no_place c.args.self.now w none some);
+    }) held is_run stands

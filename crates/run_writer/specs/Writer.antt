@@ -1,0 +1,77 @@
+-- What contracts see of a writer, and which run it holds.
+use Rattle.std.specs.Prelude.{◌≡◌, ℕ, ◌+◌, ◌-◌, ◌*◌, ◌<◌, ◌≤◌, Bool, ◌&&◌, nat_lt, nat_le, nat_eq, if◌then◌else◌, List, [], length, Option, Some, None}
+use Rattle.blsm_model.specs.declared.key.Key.{Key}
+use Rattle.blsm_model.specs.declared.component.Component.{Component}
+use Rattle.blsm_model.specs.Sizes.{Sizes}
+use Rattle.record_delta.specs.declared.record.Rec.{Rec}
+use Rattle.record_delta.specs.Records.{weight}
+use Rattle.page_space.specs.PageSet.{with_page}
+use Rattle.page_space.specs.Space.{SpaceState, pages_of as pages_with, KeepsOtherRoles}
+use Rattle.page_file.specs.Page.{no_page, most_used, page_number}
+use Rattle.page_file.specs.Component.{RunPage, first_of, entries_of, weight_of, AreChained, empty_component}
+use Rattle.run_writer.specs.Buffer.{BufferState, empty_buffer, with_entry, HasEntries}
+use Rattle.run_writer.specs.Run.{Run, pages_of}
+
+-- The role of the run's pages, the component that the run is so far, the number of the open page, and its buffer.
+pub record WriterState : Type 0 where
+  pub role : ℕ
+  pub component : Component
+  pub number : ℕ
+  pub buffer : BufferState
+
+-- the writer of the empty run
+abbrev pub started : ℕ → WriterState
+started role = record { role = role; component = empty_component; number = no_page; buffer = empty_buffer }
+
+-- there is an open page, and an entry of this weight fits into it
+abbrev pub has_place : WriterState → ℕ → Bool
+has_place writer weight = nat_lt 0 writer.component.pages && nat_le (length writer.buffer.text + weight) most_used
+
+-- the open page, if there is one, is below this number
+abbrev pub IsInside : ℕ → WriterState → Type 0
+IsInside pages writer = 0 < writer.component.pages → writer.number < pages
+
+-- the writer with one entry more in its open page
+abbrev pub put_in : Key → Rec → WriterState → WriterState
+put_in key rec writer = record writer {
+  component = record writer.component { entries = writer.component.entries + 1; weight = writer.component.weight + weight key rec };
+  buffer = with_entry key rec writer.buffer;
+}
+
+-- the writer with a new open page, which is empty
+abbrev pub turned : ℕ → WriterState → WriterState
+turned page writer = record writer {
+  component = record writer.component { first = if nat_eq writer.component.pages 0 then page else writer.component.first; pages = writer.component.pages + 1 };
+  number = page;
+  buffer = empty_buffer;
+}
+
+-- what always holds of a writer's numbers
+pub record IsCounted (writer : WriterState) : Type 0 where
+  pub none : writer.component.pages ≡ 0 → length writer.buffer.text ≡ 0
+  pub fits : length writer.buffer.text ≤ most_used
+  pub weight : writer.component.weight ≤ most_used * (writer.component.pages - 1) + length writer.buffer.text
+  pub entries : writer.component.entries ≤ writer.component.weight
+
+-- The writer holds this run: the open page's entries are in its buffer, and the component has the run's numbers.
+pub record Holds (writer : WriterState) (run : Run) : Type 0 where
+  pub buffer : HasEntries writer.buffer run.entries
+  pub fits : length writer.buffer.text ≤ most_used
+  -- there is no closed page without an open one, and that has an entry at least
+  pub some : run.entries ≡ [] → run.closed ≡ []
+  pub number : writer.number ≡ run.number
+  pub first_is : page_number (first_of (pages_of run) None) ≡ writer.component.first
+  pub pages_is : length (pages_of run) ≡ writer.component.pages
+  pub entries_is : length (entries_of (pages_of run)) ≡ writer.component.entries
+  pub weight_is : weight_of (entries_of (pages_of run)) ≡ writer.component.weight
+
+-- The run's closed pages stand in this file: each reads as its entries and names the one behind it, the last one names the open page.
+abbrev pub Stands : Sizes → Run → List ℕ → Type 0
+Stands sizes run file = AreChained sizes run.closed (Some run.number) file
+
+-- one page gets a role's tag, and nothing else changes
+pub record Claims (role page : ℕ) (old new : SpaceState) : Type 0 where
+  pub this : pages_with new role ≡ with_page page (pages_with old role)
+  pub others : KeepsOtherRoles role old new
+  pub pins : new.pins ≡ old.pins
+  pub pages : new.pages ≡ old.pages
