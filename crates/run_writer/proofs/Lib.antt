@@ -1,3 +1,4 @@
 mod BufferLemmas
 mod RunLemmas
 mod WriterLemmas
+mod GrowthLemmas

@@ -1,6 +1,7 @@
 -- A run with one entry more: what the writer holds then, and what stands on the disk.
 use Rattle.std.proofs.Common.{◌≡◌, ◌≢◌, Bool, true, false, ℕ, zero, suc, ◌+◌, ◌-◌, ◌*◌, ◌<◌, ◌≤◌, List, [], ◌∷◌, ◌++◌, length, map, Option, Some, None, refl, ap, sym, subst, ◌∙◌, inl, inr, append_assoc, length-append, arith}
 use Rattle.std.specs.List.{AllByRecursion, IsDistinct}
+use Rattle.std.specs.List.Sorted.{IsStrictlySortedBy}
 use Rattle.std.specs.Prelude.{nat_eq, nat_lt, nat_le, IsTrue, if◌then◌else◌}
 use Rattle.std.proofs.lemmas.Bool.{ne_eqb}
 use Rattle.std.proofs.lemmas.List.{append-nil}
@@ -24,8 +25,8 @@ use Rattle.page_file.proofs.PageLemmas.{other_page}
 use Rattle.page_file.proofs.ComponentLemmas.{first_join, chain_join, entries_join, weight_join, rise_back}
 use Rattle.page_file.proofs.RecordLemmas.{same_bytes, is_entry}
 use Rattle.run_writer.specs.Buffer.{BufferState, with_entry, empty_buffer, sealed, HasEntries}
-use Rattle.run_writer.specs.Run.{Run, page_of, pages_of, pushed_here, pushed_on, IsRun}
-use Rattle.run_writer.specs.Writer.{WriterState, has_place, put_in, turned, Holds, Stands}
+use Rattle.run_writer.specs.Run.{Run, empty_run, page_of, pages_of, pushed_here, pushed_on, IsRun}
+use Rattle.run_writer.specs.Writer.{WriterState, started, has_place, put_in, turned, Holds, Stands}
 use Rattle.run_writer.proofs.BufferLemmas.{sealed-bytes}
 
 -- ---- the buffer
@@ -75,6 +76,15 @@ weighed_more : (more es : List PageEntry) (key : Key) (rec : Rec) (n : ℕ) → 
 weighed_more more es key rec n is weighs =
     ap weight_of is ∙ weight_join es (page_entry (key, rec) ∷ []) ∙ omega (arith, weighs, one_weight key rec)
 
+-- ---- the empty run
+
+pub holds_none : (role : ℕ) → Holds (started role) empty_run × IsRun empty_run
+unfolding IsStrictlySortedBy IsDistinct
+holds_none role = (
+  record { buffer = has_none; fits = omega arith; some = λ none. refl; number = refl; first_is = refl; pages_is = refl; entries_is = refl; weight_is = refl },
+  record { rise = tt; apart = tt },
+)
+
 -- ---- in the open page
 
 -- the open page stays one page, of the same number
@@ -85,7 +95,7 @@ same_length closed number e es fs =
 same_first : (closed : List RunPage) (number : ℕ) (e : PageEntry) (es fs : List PageEntry) → first_of (closed ++ page_of number (e ∷ (es ++ fs))) None ≡ first_of (closed ++ page_of number (e ∷ es)) None
 same_first closed number e es fs = first_join closed (page_of number (e ∷ (es ++ fs))) None ∙ sym (first_join closed (page_of number (e ∷ es)) None)
 
-no_pages : (closed : List RunPage) (number : ℕ) → closed ≡ [] → length (closed ++ page_of number []) ≡ 0
+pub no_pages : (closed : List RunPage) (number : ℕ) → closed ≡ [] → length (closed ++ page_of number []) ≡ 0
 no_pages closed number none = ap (λ (l : List RunPage). length (l ++ [])) none
 
 pub holds_here : (writer : WriterState) (key : Key) (rec : Rec) (closed : List RunPage) (number : ℕ) (es : List PageEntry) → IsSpelled key rec → 0 < writer.component.pages

@@ -11,8 +11,7 @@ use Rattle.record_delta.specs.declared.record.Rec.{Rec}
 use Rattle.record_delta.specs.Records.{weight}
 use Rattle.entry_codec.specs.Spelling.{spelling, IsEntry as IsSpelled}
 use Rattle.entry_codec.proofs.SpellingLemmas.{length-spelling}
-use Rattle.page_space.specs.PageSet.{with_page}
-use Rattle.page_space.specs.Space.{SpaceState, pages_of as pages_with, KeepsOtherRoles, IsLeastFree}
+use Rattle.page_space.specs.Space.{SpaceState, HasRole, IsLeastFree}
 use Rattle.page_file.specs.Entry.{PageEntry, entries_bytes, AreRising}
 use Rattle.page_file.specs.Page.{page_length, most_used, page_bytes, IsContent, IsPageOf}
 use Rattle.page_file.specs.File.{page_start, page_at}
@@ -37,11 +36,12 @@ least_one space a b least other =
       ]
     ]
 
-pub claims : (role page next : ℕ) (old taken new : SpaceState) → IsLeastFree old page → IsLeastFree old next → taken ≡ old → pages_with new role ≡ with_page next (pages_with taken role)
-    → KeepsOtherRoles role taken new → new.pins ≡ taken.pins → new.pages ≡ taken.pages → Claims role page old new
-claims role page next old taken new least taken_least same this others pins pages =
-    subst (λ (s : SpaceState). Claims role page s new) same
-    (record { this = this ∙ ap (λ p. with_page p (pages_with taken role)) (least_one old next page taken_least least); others = others; pins = pins; pages = pages })
+pub claims : (role page next : ℕ) (old taken new : SpaceState) → IsLeastFree old page → IsLeastFree old next → taken ≡ old
+    → ((HasRole taken role next → ⊥) → Claims role next taken new) → Claims role page old new
+claims role page next old taken new least taken_least same claimed =
+    subst (λ n. Claims role n old new) (least_one old next page taken_least least)
+    (subst (λ (s : SpaceState). Claims role next s new) same
+    (claimed (subst (λ (s : SpaceState). HasRole s role next → ⊥) (sym same) (taken_least.free.no_role role))))
 
 -- ---- the writer's numbers
 
@@ -128,6 +128,14 @@ chained sizes writer next old new closed number (e ∷ es) written held is_run c
     let of : IsPageOf (page_count sizes) next (e ∷ es) (page_at sizes number new) = record { content = content; spelled = reads } in
     chain_join sizes closed (page ∷ []) next new (closed_kept sizes closed page (Some number) old new torn is_run.apart chain)
     (subst (λ n. n < page_count sizes) held.number (written.inside some), of, tt)
+
+-- Whatever becomes of the open page, the closed ones stand.
+pub still_stands : (sizes : Sizes) (writer : WriterState) (old new : List ℕ) (closed : List RunPage) (number : ℕ) (es : List PageEntry) → Torn (page_start sizes writer.number) page_length old new
+    → Holds writer (record { closed = closed; number = number; entries = es }) → IsRun (record { closed = closed; number = number; entries = es })
+    → AreChained sizes closed (Some number) old → AreChained sizes closed (Some number) new
+still_stands sizes writer old new closed number [] torn held is_run chain = subst (λ (l : List RunPage). AreChained sizes l (Some number) new) (sym (held.some refl)) tt
+still_stands sizes writer old new closed number (e ∷ es) torn held is_run chain =
+    closed_kept sizes closed (record { number = number; entries = e ∷ es }) (Some number) old new (subst (λ n. Torn (page_start sizes n) page_length old new) held.number torn) is_run.apart chain
 
 -- the run that has ended
 pub ended : (sizes : Sizes) (writer : WriterState) (run : Run) (old new : List ℕ) → IsWritten sizes writer None old new → Holds writer run → IsRun run → Stands sizes run old

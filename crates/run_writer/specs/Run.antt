@@ -1,8 +1,9 @@
 -- A run that is being written: pages that are closed, and one that takes entries.
 use Rattle.std.specs.Prelude.{◌≡◌, ℕ, List, [], ◌∷◌, ◌++◌, nat_eq}
-use Rattle.std.specs.List.{IsDistinct}
+use Rattle.std.specs.List.{Contains, IsDistinct}
 use Rattle.blsm_model.specs.declared.key.Key.{Key}
 use Rattle.record_delta.specs.declared.record.Rec.{Rec}
+use Rattle.page_space.specs.Space.{SpaceState, HasRole}
 use Rattle.page_file.specs.Entry.{PageEntry, AreRising}
 use Rattle.page_file.specs.Page.{no_page}
 use Rattle.page_file.specs.Component.{RunPage, numbers_of, entries_of}
@@ -38,3 +39,7 @@ pushed_on page key rec run = record { closed = pages_of run; number = page; entr
 pub record IsRun (run : Run) : Type 0 where
   pub rise : AreRising (entries_of (pages_of run))
   pub apart : IsDistinct nat_eq (numbers_of (pages_of run))
+
+-- each page of the run has this role's tag
+abbrev pub AreTagged : SpaceState → ℕ → Run → Type 0
+AreTagged space role run = (n : ℕ) → Contains (numbers_of (pages_of run)) n → HasRole space role n

@@ -1,12 +1,12 @@
 -- What contracts see of a writer, and which run it holds.
-use Rattle.std.specs.Prelude.{◌≡◌, ℕ, ◌+◌, ◌-◌, ◌*◌, ◌<◌, ◌≤◌, Bool, ◌&&◌, nat_lt, nat_le, nat_eq, if◌then◌else◌, List, [], length, Option, Some, None}
+use Rattle.std.specs.Prelude.{◌≡◌, ◌≢◌, ◌↔◌, ◌⊎◌, ℕ, ◌+◌, ◌-◌, ◌*◌, ◌<◌, ◌≤◌, Bool, ◌&&◌, nat_lt, nat_le, nat_eq, if◌then◌else◌, List, [], length, Option, Some, None}
 use Rattle.blsm_model.specs.declared.key.Key.{Key}
 use Rattle.blsm_model.specs.declared.component.Component.{Component}
 use Rattle.blsm_model.specs.Sizes.{Sizes}
 use Rattle.record_delta.specs.declared.record.Rec.{Rec}
 use Rattle.record_delta.specs.Records.{weight}
 use Rattle.page_space.specs.PageSet.{with_page}
-use Rattle.page_space.specs.Space.{SpaceState, pages_of as pages_with, KeepsOtherRoles}
+use Rattle.page_space.specs.Space.{SpaceState, pages_of as pages_with, KeepsOtherRoles, HasRole, IsFree, IsSpace, role_size}
 use Rattle.page_file.specs.Page.{no_page, most_used, page_number}
 use Rattle.page_file.specs.Component.{RunPage, first_of, entries_of, weight_of, AreChained, empty_component}
 use Rattle.run_writer.specs.Buffer.{BufferState, empty_buffer, with_entry, HasEntries}
@@ -69,9 +69,13 @@ pub record Holds (writer : WriterState) (run : Run) : Type 0 where
 abbrev pub Stands : Sizes → Run → List ℕ → Type 0
 Stands sizes run file = AreChained sizes run.closed (Some run.number) file
 
--- one page gets a role's tag, and nothing else changes
+-- one page, which was free, gets a role's tag, and nothing else changes
 pub record Claims (role page : ℕ) (old new : SpaceState) : Type 0 where
   pub this : pages_with new role ≡ with_page page (pages_with old role)
   pub others : KeepsOtherRoles role old new
   pub pins : new.pins ≡ old.pins
   pub pages : new.pages ≡ old.pages
+  pub shape : IsSpace new
+  pub tags : (tag k : ℕ) → HasRole new tag k ↔ (HasRole old tag k ⊎ ((tag ≡ role) × (k ≡ page)))
+  pub free : (other : ℕ) → IsFree new other ↔ (IsFree old other × (other ≢ page))
+  pub size : role_size new role ≡ role_size old role + 1

@@ -5,7 +5,11 @@
 #![tactic(auto)]
 
 mod buffer;
+mod laws;
 mod writer;
 
-pub use buffer::PageBuffer;
+pub use laws::{a_run_grows, a_run_has_room, besides_pages};
 pub use writer::Writer;
+
+#[cfg(test)]
+mod tests;

@@ -4,27 +4,27 @@ ghost use Rattle.refusal.specs.Count.{HasRisen};
 ghost use Rattle.disk_trait.specs.Disk.{GoesOn, MarksSync, WritesWithin, IsSure};
 ghost use Rattle.disk_trait.specs.Moments.{LeavesOnly};
 ghost use Rattle.blsm_model.specs.Geometry.{page_count, file_length};
+ghost use Rattle.blsm_model.specs.declared.key.Key.{Key};
+ghost use Rattle.record_delta.specs.declared.record.Rec.{Rec};
 ghost use Rattle.record_delta.specs.Records.{weight};
 ghost use Rattle.entry_codec.specs.Spelling.{IsEntry};
 ghost use Rattle.page_space.specs.Space.{HasFree, IsLeastFree};
 ghost use Rattle.page_file.specs.Page.{page_length, most_used};
 ghost use Rattle.page_file.specs.File.{page_start, page_at, IsOldOutside};
-ghost use Rattle.page_file.specs.Component.{ReadsAs};
+ghost use Rattle.page_file.specs.Component.{entries_of, ReadsAs};
+ghost use Rattle.page_file.specs.Records.{page_entries, HasList};
 ghost use Rattle.run_writer.specs.Buffer.{sealed};
-ghost use Rattle.run_writer.specs.Run.{Run, pages_of, pushed_here, pushed_on, IsRun};
+ghost use Rattle.run_writer.specs.Run.{Run, empty_run, pages_of, pushed_here, pushed_on, IsRun};
 ghost use Rattle.run_writer.specs.Writer.{started, has_place, IsInside, put_in, turned, Holds, Stands, Claims};
 
-use crate::PageBuffer;
+use crate::buffer::PageBuffer;
 use blsm_model::{Component, Geometry, Key, Op};
 use disk_trait::Disk;
-use page_file::{MOST_USED, write_page};
+use page_file::{MOST_USED, no_component, write_page};
 use page_space::{Role, Space};
 use record_delta::{Rec, weight};
 use refusal::Failed;
 use std::marker::Model;
-
-// What stands for no page.
-const NO_PAGE: u32 = u32::MAX;
 
 /// A run that is being written.
 ///
@@ -62,19 +62,23 @@ fn first_page(component: &Component, page: u32) -> u32
 impl Writer {
     /// The writer of the empty run. The pages that it takes get this tag.
     pub fn start(role: Role) -> Writer
-        ensures { result ≡ started role }
+        ensures started { result ≡ started role }
+        ensures empty { Holds result empty_run × IsRun empty_run }
     {
+        let component = no_component();
         Writer {
             role,
-            component: Component {
-                first: NO_PAGE,
-                pages: 0,
-                entries: 0,
-                weight: 0,
-            },
-            number: NO_PAGE,
+            component,
+            number: component.first,
             buffer: PageBuffer::new(),
         }
+    }
+
+    /// The component that the run is so far: what `end` would give.
+    pub fn component(&self) -> Component
+        ensures { result ≡ self.now.component }
+    {
+        self.component
     }
 
     // Whether there is an open page, and this entry fits into it.
@@ -160,6 +164,7 @@ impl Writer {
     {
         let next = space.take();
         space.claim(self.role, next);
+        // There are fewer than 2^32 pages, so the run's count of them can rise.
         let _pages = space.pages();
         self.write_open(disk, geo, Some(next))?;
         self.open(next);
@@ -260,6 +265,10 @@ impl Writer {
         ensures inside { IsInside (page_count geo.now) self.new }
         ensures kept { OnErr result (self.new ≡ self.old) }
 
+        // Whatever is answered, the closed pages stand.
+        ensures stay { (run : Run) → IsTrue (D.state disk.old).is_honest → Holds self.old run → IsRun run → Stands geo.now run (D.state disk.old).bytes
+            → Stands geo.now run (D.state disk.new).bytes }
+
         // No byte outside the page that was open changes, in no image of any moment.
         ensures within { WritesWithin (page_start geo.now self.old.number) page_length (D.state disk.old) (D.state disk.new) }
         ensures each { IsTrue (D.state disk.old).is_honest
@@ -288,7 +297,14 @@ impl Writer {
         ensures component { IfOk result (λ c. c ≡ self.old.component) }
         ensures reads { (run : Run) → IsTrue (D.state disk.old).is_honest → Holds self.old run → IsRun run → Stands geo.now run (D.state disk.old).bytes
             → IfOk result (λ c. ReadsAs geo.now c (pages_of run) (D.state disk.new).bytes) }
+        ensures list { (run : Run) (entries : List (Key × Rec)) → IsTrue (D.state disk.old).is_honest → Holds self.old run → IsRun run
+            → Stands geo.now run (D.state disk.old).bytes → entries_of (pages_of run) ≡ page_entries entries
+            → IfOk result (λ c. HasList geo.now c entries (D.state disk.new).bytes) }
         ensures same { self.new ≡ self.old }
+
+        // Whatever is answered, the closed pages stand.
+        ensures stay { (run : Run) → IsTrue (D.state disk.old).is_honest → Holds self.old run → IsRun run → Stands geo.now run (D.state disk.old).bytes
+            → Stands geo.now run (D.state disk.new).bytes }
 
         // No byte outside the page that was open changes, in no image of any moment.
         ensures within { WritesWithin (page_start geo.now self.old.number) page_length (D.state disk.old) (D.state disk.new) }

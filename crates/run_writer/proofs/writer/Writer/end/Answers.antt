@@ -3,7 +3,7 @@ use Rattle.page_file.specs.Component.{ReadsAs}
 use Rattle.blsm_model.specs.declared.component.Component.{Component}
 use Rattle.run_writer.specs.Run.{pages_of}
 use Rattle.run_writer.specs.Writer.{WriterState}
-use Rattle.run_writer.proofs.WriterLemmas.{ended, IsWritten}
+use Rattle.run_writer.proofs.WriterLemmas.{ended, still_stands, IsWritten}
 use Rattle.run_writer.proofs.writer.Writer.end.Goals as goal
 
 pub returns-clause-reads : goal.returns-clause-reads
@@ -14,3 +14,15 @@ returns-clause-reads g c = λ run honest held is_run stands.
     subst (λ (component : Component). ReadsAs c.args.geo.now component (pages_of run) new) (sym component_is)
     (ended c.args.geo.now c.args.self.now run old new
     (record { torn = c.write_open.ensures.within.bytes honest; inside = c.requires.inside; reads = c.in_ok-write_open.ensures.reads honest; below = tt; full = λ some names. absurd (cc) }) held is_run stands)
+
+pub returns-clause-list : goal.returns-clause-list
+returns-clause-list g c = λ run entries honest held is_run stands are.
+    record { pages = pages_of run; reads = returns-clause-reads g c run honest held is_run stands; entries_are = are }
+
+pub returns-clause-stay : goal.returns-clause-stay
+returns-clause-stay g c = λ run honest held is_run stands.
+    still_stands c.args.geo.now c.args.self.now _ _ run.closed run.number run.entries (c.write_open.ensures.within.bytes honest) held is_run stands
+
+pub returns-in_err-write_open-clause-stay : goal.returns-in_err-write_open-clause-stay
+returns-in_err-write_open-clause-stay g c = λ run honest held is_run stands.
+    still_stands c.args.geo.now c.args.self.now _ _ run.closed run.number run.entries (c.write_open.ensures.within.bytes honest) held is_run stands

@@ -4,7 +4,7 @@ use Rattle.record_delta.specs.Records.{weight}
 use Rattle.run_writer.specs.Run.{pushed_here, pushed_on}
 use Rattle.run_writer.specs.Writer.{WriterState, put_in, turned, Holds}
 use Rattle.run_writer.proofs.RunLemmas.{holds_here, holds_on}
-use Rattle.run_writer.proofs.WriterLemmas.{place_parts, no_place, chained, IsWritten}
+use Rattle.run_writer.proofs.WriterLemmas.{place_parts, no_place, chained, still_stands, IsWritten}
 use Rattle.run_writer.proofs.writer.Writer.push.Goals as goal
 
 pub returns-clause-here : goal.returns-clause-here
@@ -38,3 +38,11 @@ returns-clause-closed g c = λ run page none least held is_run honest stands.
       below = omega (arith, least.free.in_range, c.requires.pages);
       full = λ some names. omega (arith, light, no_place c.args.self.now w none some);
     }) held is_run stands
+
+pub returns-clause-stay : goal.returns-clause-stay
+returns-clause-stay g c = λ run honest held is_run stands.
+    still_stands c.args.geo.now c.args.self.now _ _ run.closed run.number run.entries (c.make_place.ensures.within.bytes honest) held is_run stands
+
+pub returns-in_err-make_place-clause-stay : goal.returns-in_err-make_place-clause-stay
+returns-in_err-make_place-clause-stay g c = λ run honest held is_run stands.
+    still_stands c.args.geo.now c.args.self.now _ _ run.closed run.number run.entries (c.make_place.ensures.within.bytes honest) held is_run stands

@@ -9,13 +9,33 @@ pub returns-in_err-write_open-clause-claimed : goal.returns-in_err-write_open-cl
 returns-in_err-write_open-clause-claimed g c = λ page least.
     let role_is = ap (λ (w : WriterState). w.role) c.self.view_is in
     subst (λ role. Claims role page c.args.space.now c.claim.new.self) role_is
-    (claims c.self.inside.role page c.take-next.result c.args.space.now c.take-next.new.self c.claim.new.self least c.take-next.ensures.least c.take-next.ensures.same c.claim.ensures.this c.claim.ensures.others c.claim.ensures.pins c.claim.ensures.pages)
+    (claims c.self.inside.role page c.take-next.result c.args.space.now c.take-next.new.self c.claim.new.self least c.take-next.ensures.least c.take-next.ensures.same
+    (λ untagged. record {
+      this = c.claim.ensures.this;
+      others = c.claim.ensures.others;
+      pins = c.claim.ensures.pins;
+      pages = c.claim.ensures.pages;
+      shape = c.claim.ensures.shape;
+      tags = c.claim.ensures.tags;
+      free = c.claim.ensures.free;
+      size = c.claim.ensures.size untagged;
+    }))
 
 pub returns-clause-claimed : goal.returns-clause-claimed
 returns-clause-claimed g c = λ page least.
     let role_is = ap (λ (w : WriterState). w.role) c.self.view_is in
     subst (λ role. Claims role page c.args.space.now c.claim.new.self) role_is
-    (claims c.self.inside.role page c.take-next.result c.args.space.now c.take-next.new.self c.claim.new.self least c.take-next.ensures.least c.take-next.ensures.same c.claim.ensures.this c.claim.ensures.others c.claim.ensures.pins c.claim.ensures.pages)
+    (claims c.self.inside.role page c.take-next.result c.args.space.now c.take-next.new.self c.claim.new.self least c.take-next.ensures.least c.take-next.ensures.same
+    (λ untagged. record {
+      this = c.claim.ensures.this;
+      others = c.claim.ensures.others;
+      pins = c.claim.ensures.pins;
+      pages = c.claim.ensures.pages;
+      shape = c.claim.ensures.shape;
+      tags = c.claim.ensures.tags;
+      free = c.claim.ensures.free;
+      size = c.claim.ensures.size untagged;
+    }))
 
 pub returns-clause-turned : goal.returns-clause-turned
 returns-clause-turned g c = λ page least.
