@@ -7,23 +7,15 @@ use Rattle.std.proofs.lemmas.List.{get_or_past, length-map}
 use Rattle.std.proofs.lemmas.List.Elements.{Contains-append_left, Contains-append_right, Contains-append_cases}
 use Rattle.std.proofs.lemmas.Map.Views.{Contains-from_any}
 use Rattle.std.proofs.lemmas.Map.Steps.{length-le_from_distinct_below}
-use Rattle.disk_trait.specs.Disk.{Torn}
-use Rattle.disk_trait.specs.Parts.{torn_widen}
 use Rattle.blsm_model.specs.declared.key.Key.{Key}
-use Rattle.blsm_model.specs.Sizes.{Sizes}
-use Rattle.blsm_model.specs.Geometry.{page_count}
 use Rattle.record_delta.specs.declared.record.Rec.{Rec}
 use Rattle.page_space.specs.PageSet.{Members, IsIn}
 use Rattle.page_space.specs.Space.{SpaceState, HasRole, IsFree, HasFree, IsSpace, role_count}
 use Rattle.page_file.specs.Entry.{PageEntry, AreRising}
-use Rattle.page_file.specs.Page.{page_length}
-use Rattle.page_file.specs.File.{page_start, page_at}
 use Rattle.page_file.specs.Component.{RunPage, numbers_of, entries_of}
 use Rattle.page_file.specs.Records.{page_entry}
-use Rattle.page_file.proofs.PageLemmas.{other_page}
 use Rattle.run_writer.specs.Run.{Run, page_of, pages_of, pushed_here, pushed_on, IsRun, AreTagged}
 use Rattle.run_writer.specs.Writer.{WriterState, Holds, Claims}
-use Rattle.run_writer.specs.Besides.{IsSameBesides}
 use Rattle.run_writer.proofs.RunLemmas.{entries_here, entries_on, no_pages}
 
 -- a run with pages has an entry in its open page
@@ -53,10 +45,10 @@ numbers_on : (pages : List RunPage) (page : ℕ) (e : PageEntry) → numbers_of 
 numbers_on [] page e = refl
 numbers_on (p ∷ ps) page e = ap (λ (l : List ℕ). p.number ∷ l) (numbers_on ps page e)
 
-here : (n : ℕ) (ns : List ℕ) → Contains (n ∷ ns) n
+pub here : (n : ℕ) (ns : List ℕ) → Contains (n ∷ ns) n
 here n ns = Contains-append_left (n ∷ []) ns n (0, omega arith, refl)
 
-further : (m : ℕ) (ns : List ℕ) (n : ℕ) → Contains ns n → Contains (m ∷ ns) n
+pub further : (m : ℕ) (ns : List ℕ) (n : ℕ) → Contains ns n → Contains (m ∷ ns) n
 further m ns n has = Contains-append_right (m ∷ []) ns n has
 
 all_more : (P : ℕ → Type 0) (ns : List ℕ) (n : ℕ) → AllByRecursion P ns → P n → AllByRecursion P (ns ++ n ∷ [])
@@ -115,30 +107,3 @@ has_room space role run shape within free tagged is_run =
     below : (q : ℕ) → Contains (free.0 ∷ []) q ⊎ Contains (numbers_of (pages_of run)) q → q < space.pages
     below q (inl is_free) = let first = free.1.in_range in omega (arith, first, only_one free.0 q is_free)
     below q (inr is_run) = omega (arith, in_range _ q (tagged q is_run), shape.of_role role within)
-
--- ---- files that are the same but for some pages
-
-pub besides_one : (sizes : Sizes) (n : ℕ) (pages : List ℕ) (old new : List ℕ) → n < page_count sizes → Contains pages n → Torn (page_start sizes n) page_length old new → IsSameBesides sizes pages old new
-besides_one sizes n pages old new within has torn =
-    let all : ℕ = page_length * page_count sizes in
-    let wide : Torn (page_start sizes 0) all old new = torn_widen (page_start sizes n) page_length (page_start sizes 0) all old new torn (omega arith) (omega (arith, within)) in
-    let end : page_start sizes 0 + all ≡ page_start sizes (page_count sizes) = omega arith in
-    record {
-      before = wide.before;
-      others = λ m below other. other_page sizes m n old new torn (λ same. other (subst (Contains pages) (sym same) has));
-      behind = subst (λ k. drop k new ≡ drop k old) end wide.after;
-    }
-
-pub besides_more : (sizes : Sizes) (few pages : List ℕ) (old new : List ℕ) → ((n : ℕ) → Contains few n → Contains pages n) → IsSameBesides sizes few old new → IsSameBesides sizes pages old new
-besides_more sizes few pages old new within same = record {
-  before = same.before;
-  others = λ n below other. same.others n below (λ has. other (within n has));
-  behind = same.behind;
-}
-
-pub besides_run : (sizes : Sizes) (pages : List ℕ) (old mid new : List ℕ) → IsSameBesides sizes pages old mid → IsSameBesides sizes pages mid new → IsSameBesides sizes pages old new
-besides_run sizes pages old mid new first second = record {
-  before = second.before ∙ first.before;
-  others = λ n below other. second.others n below other ∙ first.others n below other;
-  behind = second.behind ∙ first.behind;
-}

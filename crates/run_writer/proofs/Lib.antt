@@ -2,3 +2,5 @@ mod BufferLemmas
 mod RunLemmas
 mod WriterLemmas
 mod GrowthLemmas
+mod BesidesLemmas
+mod Examples

@@ -11,10 +11,11 @@ ghost use Rattle.entry_codec.specs.Spelling.{IsEntry};
 ghost use Rattle.page_space.specs.Space.{HasFree, IsLeastFree};
 ghost use Rattle.page_file.specs.Page.{page_length, most_used};
 ghost use Rattle.page_file.specs.File.{page_start, page_at, IsOldOutside};
-ghost use Rattle.page_file.specs.Component.{entries_of, ReadsAs};
+ghost use Rattle.page_file.specs.Component.{numbers_of, entries_of, ReadsAs};
 ghost use Rattle.page_file.specs.Records.{page_entries, HasList};
 ghost use Rattle.run_writer.specs.Buffer.{sealed};
 ghost use Rattle.run_writer.specs.Run.{Run, empty_run, pages_of, pushed_here, pushed_on, IsRun};
+ghost use Rattle.run_writer.specs.Besides.{IsSameBesides, IsOldBesides};
 ghost use Rattle.run_writer.specs.Writer.{started, has_place, IsInside, put_in, turned, Holds, Stands, Claims};
 
 use crate::buffer::PageBuffer;
@@ -269,7 +270,12 @@ impl Writer {
         ensures stay { (run : Run) → IsTrue (D.state disk.old).is_honest → Holds self.old run → IsRun run → Stands geo.now run (D.state disk.old).bytes
             → Stands geo.now run (D.state disk.new).bytes }
 
-        // No byte outside the page that was open changes, in no image of any moment.
+        // No byte outside the run's pages changes, in no image of any moment; of these only the page that was open.
+        ensures besides { (run : Run) → IsTrue (D.state disk.old).is_honest → Holds self.old run
+            → IsSameBesides geo.now (numbers_of (pages_of run)) (D.state disk.old).bytes (D.state disk.new).bytes }
+        ensures each_besides { (run : Run) → IsTrue (D.state disk.old).is_honest → Holds self.old run
+            → LeavesOnly (D.state disk.old) (D.state disk.new) (IsOldBesides geo.now (numbers_of (pages_of run)) (D.state disk.old).images) }
+        ensures none { self.old.component.pages ≡ 0 → disk.new ≡ disk.old }
         ensures within { WritesWithin (page_start geo.now self.old.number) page_length (D.state disk.old) (D.state disk.new) }
         ensures each { IsTrue (D.state disk.old).is_honest
             → LeavesOnly (D.state disk.old) (D.state disk.new) (IsOldOutside geo.now self.old.number (D.state disk.old).images) }
@@ -306,7 +312,12 @@ impl Writer {
         ensures stay { (run : Run) → IsTrue (D.state disk.old).is_honest → Holds self.old run → IsRun run → Stands geo.now run (D.state disk.old).bytes
             → Stands geo.now run (D.state disk.new).bytes }
 
-        // No byte outside the page that was open changes, in no image of any moment.
+        // No byte outside the run's pages changes, in no image of any moment; of these only the page that was open.
+        ensures besides { (run : Run) → IsTrue (D.state disk.old).is_honest → Holds self.old run
+            → IsSameBesides geo.now (numbers_of (pages_of run)) (D.state disk.old).bytes (D.state disk.new).bytes }
+        ensures each_besides { (run : Run) → IsTrue (D.state disk.old).is_honest → Holds self.old run
+            → LeavesOnly (D.state disk.old) (D.state disk.new) (IsOldBesides geo.now (numbers_of (pages_of run)) (D.state disk.old).images) }
+        ensures none { self.old.component.pages ≡ 0 → disk.new ≡ disk.old }
         ensures within { WritesWithin (page_start geo.now self.old.number) page_length (D.state disk.old) (D.state disk.new) }
         ensures each { IsTrue (D.state disk.old).is_honest
             → LeavesOnly (D.state disk.old) (D.state disk.new) (IsOldOutside geo.now self.old.number (D.state disk.old).images) }

@@ -1,4 +1,4 @@
-use Rattle.run_writer.proofs.GrowthLemmas.{besides_one, besides_more, besides_run}
+use Rattle.run_writer.proofs.BesidesLemmas.{besides_one, besides_more, besides_run}
 use Rattle.run_writer.proofs.laws.besides_pages.Goals as goal
 
 pub returns-clause-one : goal.returns-clause-one

@@ -1,10 +1,14 @@
 use Rattle.std.proofs.Common.{◌≡◌, ◌∙◌, ◌+◌, ◌≤◌, ℕ, sym, ap, subst, Some, arith}
 use Rattle.blsm_model.specs.Geometry.{page_count}
 use Rattle.record_delta.specs.Records.{weight}
-use Rattle.run_writer.specs.Run.{pushed_here, pushed_on}
+use Rattle.run_writer.specs.Run.{pages_of, pushed_here, pushed_on}
 use Rattle.run_writer.specs.Writer.{WriterState, put_in, turned, Holds}
 use Rattle.run_writer.proofs.RunLemmas.{holds_here, holds_on}
 use Rattle.run_writer.proofs.WriterLemmas.{place_parts, no_place, chained, still_stands, IsWritten}
+use Rattle.disk_trait.specs.Moments.{LeavesOnly}
+use Rattle.page_file.specs.Component.{numbers_of}
+use Rattle.run_writer.specs.Besides.{IsOldBesides}
+use Rattle.run_writer.proofs.BesidesLemmas.{besides_run_pages, images_besides}
 use Rattle.run_writer.proofs.writer.Writer.push.Goals as goal
 
 pub returns-clause-here : goal.returns-clause-here
@@ -46,3 +50,23 @@ returns-clause-stay g c = λ run honest held is_run stands.
 pub returns-in_err-make_place-clause-stay : goal.returns-in_err-make_place-clause-stay
 returns-in_err-make_place-clause-stay g c = λ run honest held is_run stands.
     still_stands c.args.geo.now c.args.self.now _ _ run.closed run.number run.entries (c.make_place.ensures.within.bytes honest) held is_run stands
+
+pub returns-clause-besides : goal.returns-clause-besides
+returns-clause-besides g c = λ run honest held.
+    besides_run_pages c.args.geo.now c.args.self.now run _ _ held c.requires.inside (λ none. ap (λ d. (g.D.Disk.state d).bytes) (c.make_place.ensures.none none)) (c.make_place.ensures.within.bytes honest)
+
+pub returns-clause-each_besides : goal.returns-clause-each_besides
+returns-clause-each_besides g c = λ run honest held.
+    images_besides c.args.geo.now c.args.self.now run _ _ held c.requires.inside (g.met.D.Disk.timed c.args.disk.now)
+    (λ none same. subst (λ d. LeavesOnly (g.D.Disk.state c.args.disk.now) (g.D.Disk.state d) (IsOldBesides c.args.geo.now (numbers_of (pages_of run)) (g.D.Disk.state c.args.disk.now).images)) (sym (c.make_place.ensures.none none)) same)
+    (c.make_place.ensures.each honest)
+
+pub returns-in_err-make_place-clause-besides : goal.returns-in_err-make_place-clause-besides
+returns-in_err-make_place-clause-besides g c = λ run honest held.
+    besides_run_pages c.args.geo.now c.args.self.now run _ _ held c.requires.inside (λ none. ap (λ d. (g.D.Disk.state d).bytes) (c.make_place.ensures.none none)) (c.make_place.ensures.within.bytes honest)
+
+pub returns-in_err-make_place-clause-each_besides : goal.returns-in_err-make_place-clause-each_besides
+returns-in_err-make_place-clause-each_besides g c = λ run honest held.
+    images_besides c.args.geo.now c.args.self.now run _ _ held c.requires.inside (g.met.D.Disk.timed c.args.disk.now)
+    (λ none same. subst (λ d. LeavesOnly (g.D.Disk.state c.args.disk.now) (g.D.Disk.state d) (IsOldBesides c.args.geo.now (numbers_of (pages_of run)) (g.D.Disk.state c.args.disk.now).images)) (sym (c.make_place.ensures.none none)) same)
+    (c.make_place.ensures.each honest)
