@@ -1,21 +1,25 @@
 -- Runs that grow: their keys rise, no page is there twice, and they don't have all pages.
 use Rattle.std.proofs.Common.{◌≡◌, Bool, true, false, ℕ, zero, suc, ◌+◌, ◌<◌, ◌≤◌, List, [], ◌∷◌, ◌++◌, length, get_or, map, take, drop, refl, ap, sym, subst, ◌∙◌, ◌*◌, ◌⊎◌, ⊎_elim, inl, inr, append_assoc, length-append, arith}
 use Rattle.std.specs.List.{Contains, AllByRecursion, IsDistinct, list_any}
-use Rattle.std.specs.Prelude.{nat_eq}
+use Rattle.std.specs.List.Sorted.{IsStrictlySortedBy}
+use Rattle.std.specs.declared.cmp.Ordering.TheVariants.{Less}
+use Rattle.std.specs.Prelude.{nat_eq, IsTrue}
 use Rattle.std.proofs.lemmas.Bool.{cases_lt, cases_Bool, false≢true, eqb-true, eq-eqb, ne_eqb}
-use Rattle.std.proofs.lemmas.List.{get_or_past, length-map}
+use Rattle.std.proofs.lemmas.List.{get_or_past, length-map, map-append, take-append-drop}
 use Rattle.std.proofs.lemmas.List.Elements.{Contains-append_left, Contains-append_right, Contains-append_cases}
 use Rattle.std.proofs.lemmas.Map.Views.{Contains-from_any}
 use Rattle.std.proofs.lemmas.Map.Steps.{length-le_from_distinct_below}
 use Rattle.blsm_model.specs.declared.key.Key.{Key}
+use Rattle.blsm_model.specs.Keys.{key_cmp}
+use Rattle.blsm_model.specs.Sizes.{Sizes}
 use Rattle.record_delta.specs.declared.record.Rec.{Rec}
 use Rattle.page_space.specs.PageSet.{Members, IsIn}
 use Rattle.page_space.specs.Space.{SpaceState, HasRole, IsFree, HasFree, IsSpace, role_count}
-use Rattle.page_file.specs.Entry.{PageEntry, AreRising}
+use Rattle.page_file.specs.Entry.{PageEntry, keys_of, AreRising}
 use Rattle.page_file.specs.Component.{RunPage, numbers_of, entries_of}
-use Rattle.page_file.specs.Records.{page_entry}
-use Rattle.run_writer.specs.Run.{Run, page_of, pages_of, pushed_here, pushed_on, IsRun, AreTagged}
-use Rattle.run_writer.specs.Writer.{WriterState, Holds, Claims}
+use Rattle.page_file.specs.Records.{page_entry, page_entries}
+use Rattle.run_writer.specs.Run.{Run, empty_run, page_of, pages_of, pushed_here, pushed_on, IsRun, AreTagged}
+use Rattle.run_writer.specs.Writer.{WriterState, Holds, Claims, Stands, HasPushed}
 use Rattle.run_writer.proofs.RunLemmas.{entries_here, entries_on, no_pages}
 
 -- a run with pages has an entry in its open page
@@ -107,3 +111,76 @@ has_room space role run shape within free tagged is_run =
     below : (q : ℕ) → Contains (free.0 ∷ []) q ⊎ Contains (numbers_of (pages_of run)) q → q < space.pages
     below q (inl is_free) = let first = free.1.in_range in omega (arith, first, only_one free.0 q is_free)
     below q (inr is_run) = omega (arith, in_range _ q (tagged q is_run), shape.of_role role within)
+
+-- ---- the list that was pushed
+
+pub nothing_pushed : (sizes : Sizes) (honest : Bool) (file : List ℕ) (space : SpaceState) (writer : WriterState) → Holds writer empty_run → IsRun empty_run
+    → HasPushed sizes honest file space writer []
+nothing_pushed sizes honest file space writer held is_run = record {
+  run = empty_run;
+  held = held;
+  is_run = is_run;
+  tagged = λ n has. absurd (none n has);
+  entries_are = refl;
+  stands = λ told. tt;
+}
+  where
+    none : (n : ℕ) → Contains {X = ℕ} [] n → ⊥
+    none n (k, within, is) = omega (arith, within)
+
+pub room_for_more : (sizes : Sizes) (honest : Bool) (file : List ℕ) (space : SpaceState) (writer : WriterState) (entries : List (Key × Rec)) → HasPushed sizes honest file space writer entries
+    → IsSpace space → writer.role < role_count → HasFree space → writer.component.pages < space.pages
+room_for_more sizes honest file space writer entries has shape within free =
+    omega (arith, has_room space writer.role has.run shape within free has.tagged has.is_run, has.held.pages_is)
+
+-- the list with one entry more
+list_more : (key : Key) (rec : Rec) (es : List PageEntry) (entries : List (Key × Rec)) → es ≡ page_entries entries → es ++ page_entry (key, rec) ∷ [] ≡ page_entries (entries ++ (key, rec) ∷ [])
+list_more key rec es entries are = ap (λ (l : List PageEntry). l ++ page_entry (key, rec) ∷ []) are ∙ sym (map-append page_entry entries ((key, rec) ∷ []))
+
+pub more_here : (sizes : Sizes) (honest : Bool) (file : List ℕ) (space : SpaceState) (writer new : WriterState) (key : Key) (rec : Rec) (entries : List (Key × Rec))
+    → AreRising (page_entries (entries ++ (key, rec) ∷ [])) → 0 < writer.component.pages → ((run : Run) → Holds writer run → Holds new (pushed_here key rec run)) → new.role ≡ writer.role
+    → HasPushed sizes honest file space writer entries → HasPushed sizes honest file space new (entries ++ (key, rec) ∷ [])
+more_here sizes honest file space writer new key rec entries rise some holds role has =
+    let run = has.run in
+    let open_one = has_open writer run has.held some in
+    let is = list_more key rec (entries_of (pages_of run)) entries has.entries_are in
+    record {
+      run = pushed_here key rec run;
+      held = holds run has.held;
+      is_run = grows_here key rec run has.is_run open_one (subst AreRising (sym is) rise);
+      tagged = subst (λ r. AreTagged space r (pushed_here key rec run)) (sym role) (tagged_here space writer.role key rec run has.tagged open_one);
+      entries_are = entries_here key rec run ∙ is;
+      stands = has.stands;
+    }
+
+pub more_on : (sizes : Sizes) (honest : Bool) (old_file file : List ℕ) (old space : SpaceState) (writer new : WriterState) (page : ℕ) (key : Key) (rec : Rec) (entries : List (Key × Rec))
+    → AreRising (page_entries (entries ++ (key, rec) ∷ [])) → IsFree old page → Claims writer.role page old space → ((run : Run) → Holds writer run → Holds new (pushed_on page key rec run))
+    → ((run : Run) → Holds writer run → IsRun run → IsTrue honest → Stands sizes run old_file → Stands sizes (pushed_on page key rec run) file) → new.role ≡ writer.role
+    → HasPushed sizes honest old_file old writer entries → HasPushed sizes honest file space new (entries ++ (key, rec) ∷ [])
+more_on sizes honest old_file file old space writer new page key rec entries rise free claims holds closed role has =
+    let run = has.run in
+    let is = list_more key rec (entries_of (pages_of run)) entries has.entries_are in
+    record {
+      run = pushed_on page key rec run;
+      held = holds run has.held;
+      is_run = grows_on old writer.role page key rec run has.is_run has.tagged free (subst AreRising (sym is) rise);
+      tagged = subst (λ r. AreTagged space r (pushed_on page key rec run)) (sym role) (tagged_on old space writer.role page key rec run has.tagged claims);
+      entries_are = entries_on page key rec run ∙ is;
+      stands = λ told. closed run has.held has.is_run told (has.stands told);
+    }
+
+-- ---- the front of a list whose keys rise
+
+all_front : (P : Key → Type 0) (es fs : List PageEntry) → AllByRecursion P (keys_of (es ++ fs)) → AllByRecursion P (keys_of es)
+all_front P [] fs all = tt
+all_front P (e ∷ es) fs all = (all.0, all_front P es fs all.1)
+
+rise_front : (es fs : List PageEntry) → AreRising (es ++ fs) → AreRising es
+unfolding IsStrictlySortedBy
+rise_front [] fs rise = tt
+rise_front (e ∷ es) fs rise = (all_front (λ (k : Key). key_cmp e.key k ≡ Less) es fs rise.0, rise_front es fs rise.1)
+
+pub front_rises : (entries : List (Key × Rec)) (n : ℕ) → AreRising (page_entries entries) → AreRising (page_entries (take n entries))
+front_rises entries n rise =
+    rise_front (page_entries (take n entries)) (page_entries (drop n entries))
+    (subst AreRising (ap page_entries (sym (take-append-drop n entries)) ∙ map-append page_entry (take n entries) (drop n entries)) rise)

@@ -1,5 +1,5 @@
 -- What contracts see of a writer, and which run it holds.
-use Rattle.std.specs.Prelude.{◌≡◌, ◌≢◌, ◌↔◌, ◌⊎◌, ℕ, ◌+◌, ◌-◌, ◌*◌, ◌<◌, ◌≤◌, Bool, ◌&&◌, nat_lt, nat_le, nat_eq, if◌then◌else◌, List, [], length, Option, Some, None}
+use Rattle.std.specs.Prelude.{◌≡◌, ◌≢◌, ◌↔◌, ◌⊎◌, ℕ, ◌+◌, ◌-◌, ◌*◌, ◌<◌, ◌≤◌, Bool, ◌&&◌, nat_lt, nat_le, nat_eq, if◌then◌else◌, IsTrue, List, [], length, Option, Some, None}
 use Rattle.blsm_model.specs.declared.key.Key.{Key}
 use Rattle.blsm_model.specs.declared.component.Component.{Component}
 use Rattle.blsm_model.specs.Sizes.{Sizes}
@@ -9,8 +9,9 @@ use Rattle.page_space.specs.PageSet.{with_page}
 use Rattle.page_space.specs.Space.{SpaceState, pages_of as pages_with, KeepsOtherRoles, HasRole, IsFree, IsSpace, role_size}
 use Rattle.page_file.specs.Page.{no_page, most_used, page_number}
 use Rattle.page_file.specs.Component.{RunPage, first_of, entries_of, weight_of, AreChained, empty_component}
+use Rattle.page_file.specs.Records.{page_entries}
 use Rattle.run_writer.specs.Buffer.{BufferState, empty_buffer, with_entry, HasEntries}
-use Rattle.run_writer.specs.Run.{Run, pages_of}
+use Rattle.run_writer.specs.Run.{Run, pages_of, IsRun, AreTagged}
 
 -- The role of the run's pages, the component that the run is so far, the number of the open page, and its buffer.
 pub record WriterState : Type 0 where
@@ -79,3 +80,13 @@ pub record Claims (role page : ℕ) (old new : SpaceState) : Type 0 where
   pub tags : (tag k : ℕ) → HasRole new tag k ↔ (HasRole old tag k ⊎ ((tag ≡ role) × (k ≡ page)))
   pub free : (other : ℕ) → IsFree new other ↔ (IsFree old other × (other ≢ page))
   pub size : role_size new role ≡ role_size old role + 1
+
+-- This list was pushed so far: the writer holds a run whose entries these are, each page of the run has the writer's tag, and where
+-- nobody else changes the file the closed pages stand in it.
+pub record HasPushed (sizes : Sizes) (honest : Bool) (file : List ℕ) (space : SpaceState) (writer : WriterState) (entries : List (Key × Rec)) : Type 0 where
+  pub run : Run
+  pub held : Holds writer run
+  pub is_run : IsRun run
+  pub tagged : AreTagged space writer.role run
+  pub entries_are : entries_of (pages_of run) ≡ page_entries entries
+  pub stands : IsTrue honest → Stands sizes run file

@@ -1,5 +1,5 @@
 //! What holds of runs that grow. The functions do nothing: each stands for the laws that its clauses name.
-ghost use Rattle.std.specs.Prelude.{◌≡◌, ◌+◌, ◌<◌, ◌∷◌, ◌++◌, [], ℕ, List, length};
+ghost use Rattle.std.specs.Prelude.{◌≡◌, ◌+◌, ◌<◌, ◌∷◌, ◌++◌, [], ℕ, Bool, List, length};
 ghost use Rattle.std.specs.List.{Contains};
 ghost use Rattle.disk_trait.specs.Disk.{Torn};
 ghost use Rattle.blsm_model.specs.declared.key.Key.{Key};
@@ -13,7 +13,7 @@ ghost use Rattle.page_file.specs.File.{page_start};
 ghost use Rattle.page_file.specs.Component.{numbers_of, entries_of};
 ghost use Rattle.page_file.specs.Records.{page_entry};
 ghost use Rattle.run_writer.specs.Run.{Run, pages_of, pushed_here, pushed_on, IsRun, AreTagged};
-ghost use Rattle.run_writer.specs.Writer.{WriterState, Holds, Claims};
+ghost use Rattle.run_writer.specs.Writer.{WriterState, Holds, Claims, HasPushed};
 ghost use Rattle.run_writer.specs.Besides.{IsSameBesides};
 
 /// A pushed entry is the last of the run's entries. Where its key is above the others', and the page that was taken was free, while
@@ -38,6 +38,9 @@ pub fn a_run_has_room()
         → AreTagged new role (pushed_on page key rec run) }
     ensures room { (space : SpaceState) (role : ℕ) (run : Run) → IsSpace space → role < role_count → HasFree space → AreTagged space role run → IsRun run
         → length (pages_of run) < space.pages }
+    ensures pushed { (sizes : Sizes) (honest : Bool) (file : List ℕ) (space : SpaceState) (writer : WriterState) (entries : List (Key × Rec))
+        → HasPushed sizes honest file space writer entries → IsSpace space → writer.role < role_count → HasFree space
+        → writer.component.pages < space.pages }
 {}
 
 /// Where one page of several was written, the file is the same but for these; and so it is after a write of another of them.

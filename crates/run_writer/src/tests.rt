@@ -1,7 +1,9 @@
 // Runs of the smallest store, over disks in memory, read back page by page.
-ghost use Rattle.std.specs.Prelude.{◌≡◌, ◌<◌, ◌≤◌, length, IfOk};
+ghost use Rattle.std.specs.Prelude.{◌≡◌, ◌<◌, ◌≤◌, length, IfOk, IsTrue};
 ghost use Rattle.blsm_model.specs.Geometry.{page_count, file_length};
 ghost use Rattle.disk_mem.specs.Recorded.{told};
+ghost use Rattle.page_file.specs.Entry.{AreRising};
+ghost use Rattle.page_file.specs.Records.{page_entries, HasList};
 ghost use Rattle.run_writer.specs.Writer.{IsInside};
 
 use super::*;
@@ -109,6 +111,32 @@ fn push_all(
     for n in 0..count {
         assert!(rt; push(rt, writer, disk, geo, space, n, lengths).is_ok());
     }
+}
+
+// Writes a list as a run: what the clauses say of one push, and of the end, makes the component that reads as the list. It gives
+// up where no page is free.
+fn write_all<D: Disk>(
+    disk: &mut D,
+    geo: &Geometry,
+    space: &mut Space,
+    role: Role,
+    entries: &[(Key, Rec)],
+) -> Result<Component, Failed>
+    requires pages { space.old.pages ≡ page_count geo.now }
+    requires rise { AreRising (page_entries entries.now) }
+    requires length { IsTrue (D.state disk.old).tells_bytes → length (D.state disk.old).bytes ≡ file_length geo.now }
+    ensures list { IfOk result (λ c. IsTrue (D.state disk.old).is_honest → HasList geo.now c entries.now (D.state disk.new).bytes) }
+{
+    let _number = role.number();
+    let mut writer = Writer::start(role);
+    for entry in entries {
+        let _pages = space.pages();
+        if !space.has_free() {
+            return Err(Failed);
+        }
+        writer.push(disk, geo, space, &entry.0, &entry.1)?;
+    }
+    writer.end(disk, geo)
 }
 
 // Whether page n is the page of the entries of these numbers, with this next page.
@@ -325,5 +353,28 @@ fn a_write_that_fails_is_told(rt: HostRuntime) -> Result<(), Fail> {
     assert!(rt; writer.end(&mut disk, &geo).is_ok());
     assert!(rt; is_page_of(&rt, &mut disk, &geo, 0, 0, 9, lengths, Some(2)));
     assert!(rt; is_page_of(&rt, &mut disk, &geo, 2, 9, 10, lengths, None));
+    Ok(())
+}
+
+#[test]
+fn a_list_of_one_entry(rt: HostRuntime) -> Result<(), Fail> {
+    let geo = smallest()?;
+    let mut disk = blank(rt.alloc(), &geo, 20_000)?;
+    let mut space = Space::reserve(rt.alloc(), geo.pages() as u32)?;
+    assert!(rt; u64::from(space.pages()) == geo.pages());
+    let entries = [(key(&rt, 1, 4), base(&rt, 1, 400))];
+    let one = Component {
+        first: 0,
+        pages: 1,
+        entries: 1,
+        weight: 417,
+    };
+    assert_eq!(rt;
+        write_all(&mut disk, &geo, &mut space, Role::new(2), &entries),
+        Ok(one)
+    );
+    a_run_grows();
+    a_run_has_room();
+    besides_pages();
     Ok(())
 }

@@ -1,22 +1,24 @@
 //! The writer of a run.
-ghost use Rattle.std.specs.Prelude.{◌≡◌, ◌+◌, ◌-◌, ◌^◌, ◌<◌, ◌≤◌, nat_eq, if◌then◌else◌, ℕ, List, length, false, Some, None, IsTrue, IsErr, IfOk, OnOk, OnErr};
+ghost use Rattle.std.specs.Prelude.{◌≡◌, ◌+◌, ◌-◌, ◌^◌, ◌<◌, ◌≤◌, ◌∷◌, ◌++◌, nat_eq, if◌then◌else◌, ℕ, Bool, List, [], length, false, Some, None, IsTrue, IsErr, IfOk, OnOk, OnErr};
 ghost use Rattle.refusal.specs.Count.{HasRisen};
 ghost use Rattle.disk_trait.specs.Disk.{GoesOn, MarksSync, WritesWithin, IsSure};
 ghost use Rattle.disk_trait.specs.Moments.{LeavesOnly};
+ghost use Rattle.blsm_model.specs.Sizes.{Sizes};
 ghost use Rattle.blsm_model.specs.Geometry.{page_count, file_length};
 ghost use Rattle.blsm_model.specs.declared.key.Key.{Key};
 ghost use Rattle.record_delta.specs.declared.record.Rec.{Rec};
 ghost use Rattle.record_delta.specs.Records.{weight};
 ghost use Rattle.entry_codec.specs.Spelling.{IsEntry};
-ghost use Rattle.page_space.specs.Space.{HasFree, IsLeastFree};
+ghost use Rattle.page_space.specs.Space.{SpaceState, HasFree, IsLeastFree};
+ghost use Rattle.page_file.specs.Entry.{AreRising};
 ghost use Rattle.page_file.specs.Page.{page_length, most_used};
 ghost use Rattle.page_file.specs.File.{page_start, page_at, IsOldOutside};
-ghost use Rattle.page_file.specs.Component.{numbers_of, entries_of, ReadsAs};
+ghost use Rattle.page_file.specs.Component.{numbers_of, ReadsAs};
 ghost use Rattle.page_file.specs.Records.{page_entries, HasList};
 ghost use Rattle.run_writer.specs.Buffer.{sealed};
 ghost use Rattle.run_writer.specs.Run.{Run, empty_run, pages_of, pushed_here, pushed_on, IsRun};
 ghost use Rattle.run_writer.specs.Besides.{IsSameBesides, IsOldBesides};
-ghost use Rattle.run_writer.specs.Writer.{started, has_place, IsInside, put_in, turned, Holds, Stands, Claims};
+ghost use Rattle.run_writer.specs.Writer.{started, has_place, IsInside, put_in, turned, Holds, Stands, Claims, HasPushed};
 
 use crate::buffer::PageBuffer;
 use blsm_model::{Component, Geometry, Key, Op};
@@ -64,7 +66,8 @@ impl Writer {
     /// The writer of the empty run. The pages that it takes get this tag.
     pub fn start(role: Role) -> Writer
         ensures started { result ≡ started role }
-        ensures empty { Holds result empty_run × IsRun empty_run }
+        ensures holds { Holds result empty_run × IsRun empty_run }
+        ensures pushed { (sizes : Sizes) (honest : Bool) (file : List ℕ) (space : SpaceState) → HasPushed sizes honest file space result [] }
     {
         let component = no_component();
         Writer {
@@ -143,6 +146,8 @@ impl Writer {
         requires room { self.old.component.pages < page_count geo.now }
         requires inside { IsInside (page_count geo.now) self.old }
         requires length { IsTrue (D.state disk.old).tells_bytes → length (D.state disk.old).bytes ≡ file_length geo.now }
+        ensures pages { space.new.pages ≡ space.old.pages }
+        ensures least { (page : ℕ) × IsLeastFree space.old page }
         ensures turned { (page : ℕ) → IsLeastFree space.old page → OnOk result (self.new ≡ turned page self.old) }
         ensures place { (weight : ℕ) → weight ≤ most_used → OnOk result (IsTrue (has_place self.new weight)) }
         ensures role { self.new.role ≡ self.old.role }
@@ -191,6 +196,8 @@ impl Writer {
         ensures here { IsTrue (has_place self.old (weight key.now rec.now)) → self.new ≡ self.old }
         ensures quiet { IsTrue (has_place self.old (weight key.now rec.now)) → disk.new ≡ disk.old }
         ensures unclaimed { IsTrue (has_place self.old (weight key.now rec.now)) → space.new ≡ space.old }
+        ensures pages { space.new.pages ≡ space.old.pages }
+        ensures least { has_place self.old (weight key.now rec.now) ≡ false → (page : ℕ) × IsLeastFree space.old page }
         ensures turned { (page : ℕ) → has_place self.old (weight key.now rec.now) ≡ false → IsLeastFree space.old page → OnOk result (self.new ≡ turned page self.old) }
         ensures kept { OnErr result (self.new ≡ self.old) }
         ensures role { self.new.role ≡ self.old.role }
@@ -247,13 +254,20 @@ impl Writer {
         requires inside { IsInside (page_count geo.now) self.old }
         requires length { IsTrue (D.state disk.old).tells_bytes → length (D.state disk.old).bytes ≡ file_length geo.now }
 
+        // The list that was pushed so far has one entry more.
+        ensures pushed { (entries : List (Key × Rec)) → AreRising (page_entries (entries ++ (key.now, rec.now) ∷ []))
+            → HasPushed geo.now (D.state disk.old).is_honest (D.state disk.old).bytes space.old self.old entries
+            → OnOk result (HasPushed geo.now (D.state disk.new).is_honest (D.state disk.new).bytes space.new self.new (entries ++ (key.now, rec.now) ∷ [])) }
+
         // An entry that fits goes into the open page.
         ensures here { (run : Run) → IsTrue (has_place self.old (weight key.now rec.now)) → Holds self.old run
             → OnOk result (Holds self.new (pushed_here key.now rec.now run)) }
         ensures quiet { IsTrue (has_place self.old (weight key.now rec.now)) → disk.new ≡ disk.old }
         ensures unclaimed { IsTrue (has_place self.old (weight key.now rec.now)) → space.new ≡ space.old }
 
-        // One that doesn't goes into a new page, and the closed one reads as its entries, with the new one's number.
+        // One that doesn't goes into a new page, the least free one, and the closed one reads as its entries, with the new one's number.
+        ensures pages { space.new.pages ≡ space.old.pages }
+        ensures least { has_place self.old (weight key.now rec.now) ≡ false → (page : ℕ) × IsLeastFree space.old page }
         ensures on { (run : Run) (page : ℕ) → has_place self.old (weight key.now rec.now) ≡ false → IsLeastFree space.old page → Holds self.old run
             → OnOk result (Holds self.new (pushed_on page key.now rec.now run)) }
         ensures closed { (run : Run) (page : ℕ) → has_place self.old (weight key.now rec.now) ≡ false → IsLeastFree space.old page → Holds self.old run
@@ -303,8 +317,8 @@ impl Writer {
         ensures component { IfOk result (λ c. c ≡ self.old.component) }
         ensures reads { (run : Run) → IsTrue (D.state disk.old).is_honest → Holds self.old run → IsRun run → Stands geo.now run (D.state disk.old).bytes
             → IfOk result (λ c. ReadsAs geo.now c (pages_of run) (D.state disk.new).bytes) }
-        ensures list { (run : Run) (entries : List (Key × Rec)) → IsTrue (D.state disk.old).is_honest → Holds self.old run → IsRun run
-            → Stands geo.now run (D.state disk.old).bytes → entries_of (pages_of run) ≡ page_entries entries
+        ensures list { (space : SpaceState) (entries : List (Key × Rec)) → IsTrue (D.state disk.old).is_honest
+            → HasPushed geo.now (D.state disk.old).is_honest (D.state disk.old).bytes space self.old entries
             → IfOk result (λ c. HasList geo.now c entries (D.state disk.new).bytes) }
         ensures same { self.new ≡ self.old }
 

@@ -1,4 +1,4 @@
-use Rattle.run_writer.proofs.GrowthLemmas.{tagged_here, tagged_on, has_room}
+use Rattle.run_writer.proofs.GrowthLemmas.{tagged_here, tagged_on, has_room, room_for_more}
 use Rattle.run_writer.proofs.laws.a_run_has_room.Goals as goal
 
 pub returns-clause-here : goal.returns-clause-here
@@ -9,3 +9,6 @@ returns-clause-on c = tagged_on
 
 pub returns-clause-room : goal.returns-clause-room
 returns-clause-room c = has_room
+
+pub returns-clause-pushed : goal.returns-clause-pushed
+returns-clause-pushed c = room_for_more

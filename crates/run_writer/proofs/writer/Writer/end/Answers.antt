@@ -20,8 +20,8 @@ returns-clause-reads g c = λ run honest held is_run stands.
     (record { torn = c.write_open.ensures.within.bytes honest; inside = c.requires.inside; reads = c.in_ok-write_open.ensures.reads honest; below = tt; full = λ some names. absurd (cc) }) held is_run stands)
 
 pub returns-clause-list : goal.returns-clause-list
-returns-clause-list g c = λ run entries honest held is_run stands are.
-    record { pages = pages_of run; reads = returns-clause-reads g c run honest held is_run stands; entries_are = are }
+returns-clause-list g c = λ space entries honest has.
+    record { pages = pages_of has.run; reads = returns-clause-reads g c has.run honest has.held has.is_run (has.stands honest); entries_are = has.entries_are }
 
 pub returns-clause-stay : goal.returns-clause-stay
 returns-clause-stay g c = λ run honest held is_run stands.

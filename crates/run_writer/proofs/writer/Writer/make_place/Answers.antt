@@ -8,3 +8,6 @@ returns-clause-claimed g c = λ page none least. c.turn.ensures.claimed page lea
 
 pub returns-clause-reads : goal.returns-clause-reads
 returns-clause-reads g c = λ page none least. c.turn.ensures.reads page least
+
+pub returns-clause-least : goal.returns-clause-least
+returns-clause-least g c = λ none. c.turn.ensures.least

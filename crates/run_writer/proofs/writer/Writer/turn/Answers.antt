@@ -46,3 +46,9 @@ pub returns-clause-reads : goal.returns-clause-reads
 returns-clause-reads g c = λ page least honest some.
     let one = least_one c.args.space.now c.take-next.result page c.take-next.ensures.least least in
     c.in_ok-write_open.ensures.reads honest some ∙ ap (λ n. sealed (Some n) c.args.self.now.buffer) one
+
+pub returns-clause-least : goal.returns-clause-least
+returns-clause-least g c = (c.take-next.result, c.take-next.ensures.least)
+
+pub returns-in_err-write_open-clause-least : goal.returns-in_err-write_open-clause-least
+returns-in_err-write_open-clause-least g c = (c.take-next.result, c.take-next.ensures.least)
