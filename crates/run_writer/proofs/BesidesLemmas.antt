@@ -1,7 +1,6 @@
 -- What a writer leaves as it was: each page but the run's, and the bytes around the pages.
-use Rattle.std.proofs.Common.{◌≡◌, ℕ, ◌+◌, ◌*◌, ◌<◌, List, [], ◌∷◌, ◌++◌, length, take, drop, refl, ap, sym, subst, ◌∙◌, inl, inr, length-append, arith}
+use Rattle.std.proofs.Common.{◌≡◌, ℕ, ◌+◌, ◌*◌, ◌<◌, List, [], ◌∷◌, ◌++◌, drop, refl, sym, subst, ◌∙◌, inl, inr, arith}
 use Rattle.std.specs.List.{Contains}
-use Rattle.std.specs.Prelude.{IsTrue}
 use Rattle.std.proofs.lemmas.Bool.{cases_lt}
 use Rattle.disk_trait.specs.Disk.{DiskState, Torn}
 use Rattle.disk_trait.specs.Moments.{LeavesOnly, IsTimed, leaves_only_start, leaves_only_weaken}
@@ -10,7 +9,7 @@ use Rattle.blsm_model.specs.Sizes.{Sizes}
 use Rattle.blsm_model.specs.Geometry.{page_count}
 use Rattle.page_file.specs.Entry.{PageEntry}
 use Rattle.page_file.specs.Page.{page_length}
-use Rattle.page_file.specs.File.{page_start, page_at, IsOldOutside}
+use Rattle.page_file.specs.File.{page_start, IsOldOutside}
 use Rattle.page_file.specs.Component.{RunPage, numbers_of}
 use Rattle.page_file.proofs.PageLemmas.{other_page}
 use Rattle.run_writer.specs.Run.{Run, page_of, pages_of}

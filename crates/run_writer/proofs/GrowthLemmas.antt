@@ -1,10 +1,10 @@
 -- Runs that grow: their keys rise, no page is there twice, and they don't have all pages.
-use Rattle.std.proofs.Common.{◌≡◌, Bool, true, false, ℕ, zero, suc, ◌+◌, ◌<◌, ◌≤◌, List, [], ◌∷◌, ◌++◌, length, get_or, map, take, drop, refl, ap, sym, subst, ◌∙◌, ◌*◌, ◌⊎◌, ⊎_elim, inl, inr, append_assoc, length-append, arith}
-use Rattle.std.specs.List.{Contains, AllByRecursion, IsDistinct, list_any}
+use Rattle.std.proofs.Common.{◌≡◌, Bool, false, ℕ, zero, suc, ◌<◌, ◌≤◌, List, [], ◌∷◌, ◌++◌, length, take, drop, refl, ap, sym, subst, ◌∙◌, ◌⊎◌, ⊎_elim, inl, inr, arith}
+use Rattle.std.specs.List.{Contains, AllByRecursion, IsDistinct}
 use Rattle.std.specs.List.Sorted.{IsStrictlySortedBy}
 use Rattle.std.specs.declared.cmp.Ordering.TheVariants.{Less}
 use Rattle.std.specs.Prelude.{nat_eq, IsTrue}
-use Rattle.std.proofs.lemmas.Bool.{cases_lt, cases_Bool, false≢true, eqb-true, eq-eqb, ne_eqb}
+use Rattle.std.proofs.lemmas.Bool.{cases_lt, false≢true, eqb-true, ne_eqb}
 use Rattle.std.proofs.lemmas.List.{get_or_past, length-map, map-append, take-append-drop}
 use Rattle.std.proofs.lemmas.List.Elements.{Contains-append_left, Contains-append_right, Contains-append_cases}
 use Rattle.std.proofs.lemmas.Map.Views.{Contains-from_any}
@@ -14,7 +14,7 @@ use Rattle.blsm_model.specs.Keys.{key_cmp}
 use Rattle.blsm_model.specs.Sizes.{Sizes}
 use Rattle.record_delta.specs.declared.record.Rec.{Rec}
 use Rattle.page_space.specs.PageSet.{Members, IsIn}
-use Rattle.page_space.specs.Space.{SpaceState, HasRole, IsFree, HasFree, IsSpace, role_count}
+use Rattle.page_space.specs.Space.{SpaceState, IsFree, HasFree, IsSpace, role_count}
 use Rattle.page_file.specs.Entry.{PageEntry, keys_of, AreRising}
 use Rattle.page_file.specs.Component.{RunPage, numbers_of, entries_of}
 use Rattle.page_file.specs.Records.{page_entry, page_entries}

@@ -1,33 +1,27 @@
 -- A run with one entry more: what the writer holds then, and what stands on the disk.
-use Rattle.std.proofs.Common.{◌≡◌, ◌≢◌, Bool, true, false, ℕ, zero, suc, ◌+◌, ◌-◌, ◌*◌, ◌<◌, ◌≤◌, List, [], ◌∷◌, ◌++◌, length, map, Option, Some, None, refl, ap, sym, subst, ◌∙◌, inl, inr, append_assoc, length-append, arith}
-use Rattle.std.specs.List.{AllByRecursion, IsDistinct}
+use Rattle.std.proofs.Common.{◌≡◌, ℕ, ◌+◌, ◌<◌, ◌≤◌, List, [], ◌∷◌, ◌++◌, length, None, refl, ap, sym, ◌∙◌, append_assoc, length-append, arith}
+use Rattle.std.specs.List.{IsDistinct}
 use Rattle.std.specs.List.Sorted.{IsStrictlySortedBy}
-use Rattle.std.specs.Prelude.{nat_eq, nat_lt, nat_le, IsTrue, if◌then◌else◌}
+use Rattle.std.specs.Prelude.{nat_eq, if◌then◌else◌}
 use Rattle.std.proofs.lemmas.Bool.{ne_eqb}
 use Rattle.std.proofs.lemmas.List.{append-nil}
 use Rattle.std.proofs.lemmas.List.Elements.{All-nil, All-cons, All-append}
 use Rattle.std.proofs.lemmas.List.Sums.{sum_by-cons}
-use Rattle.disk_trait.specs.Disk.{Torn}
 use Rattle.blsm_model.specs.declared.key.Key.{Key}
-use Rattle.blsm_model.specs.Sizes.{Sizes}
-use Rattle.blsm_model.specs.Geometry.{page_count}
 use Rattle.record_delta.specs.declared.record.Rec.{Rec}
 use Rattle.record_delta.specs.Records.{weight}
 use Rattle.entry_codec.specs.Spelling.{spelling, IsEntry as IsSpelled}
 use Rattle.entry_codec.proofs.SpellingLemmas.{length-spelling}
-use Rattle.page_file.specs.Entry.{PageEntry, IsEntry, entry_bytes, entries_bytes, AreEntries, AreRising}
-use Rattle.page_file.specs.Page.{page_length, most_used, page_number, page_bytes, IsPageOf}
-use Rattle.page_file.specs.File.{page_start, page_at}
-use Rattle.page_file.specs.Component.{RunPage, numbers_of, entries_of, entry_weight, weight_of, first_of, AreChained, ReadsAs}
+use Rattle.page_file.specs.Entry.{PageEntry, IsEntry, entry_bytes, entries_bytes}
+use Rattle.page_file.specs.Page.{most_used, page_number}
+use Rattle.page_file.specs.Component.{RunPage, entries_of, entry_weight, weight_of, first_of}
 use Rattle.page_file.specs.Records.{page_entry}
 use Rattle.page_file.proofs.EntryLemmas.{entries_bytes-append}
-use Rattle.page_file.proofs.PageLemmas.{other_page}
-use Rattle.page_file.proofs.ComponentLemmas.{first_join, chain_join, entries_join, weight_join, rise_back}
+use Rattle.page_file.proofs.ComponentLemmas.{first_join, entries_join, weight_join}
 use Rattle.page_file.proofs.RecordLemmas.{same_bytes, is_entry}
-use Rattle.run_writer.specs.Buffer.{BufferState, with_entry, empty_buffer, sealed, HasEntries}
+use Rattle.run_writer.specs.Buffer.{BufferState, with_entry, empty_buffer, HasEntries}
 use Rattle.run_writer.specs.Run.{Run, empty_run, page_of, pages_of, pushed_here, pushed_on, IsRun}
-use Rattle.run_writer.specs.Writer.{WriterState, started, has_place, put_in, turned, Holds, Stands}
-use Rattle.run_writer.proofs.BufferLemmas.{sealed-bytes}
+use Rattle.run_writer.specs.Writer.{WriterState, started, put_in, turned, Holds}
 
 -- ---- the buffer
 

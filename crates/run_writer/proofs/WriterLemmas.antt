@@ -1,5 +1,5 @@
 -- A writer's numbers, and what it leaves on the disk.
-use Rattle.std.proofs.Common.{◌≡◌, Bool, true, false, ◌&&◌, ℕ, ◌+◌, ◌-◌, ◌*◌, ◌<◌, ◌≤◌, List, [], ◌∷◌, ◌++◌, length, Option, Some, None, refl, ap, sym, subst, ◌∙◌, inl, inr, append_assoc, length-append, arith}
+use Rattle.std.proofs.Common.{◌≡◌, Bool, true, false, ◌&&◌, ℕ, ◌+◌, ◌<◌, ◌≤◌, List, [], ◌∷◌, ◌++◌, length, Option, Some, None, refl, ap, sym, subst, ◌∙◌, inl, inr, length-append, arith}
 use Rattle.std.specs.List.{AllByRecursion, IsDistinct}
 use Rattle.std.specs.Prelude.{nat_eq, nat_lt, nat_le, IsTrue, IfSome, IsSome}
 use Rattle.std.proofs.lemmas.Bool.{cases_lt, false≢true, ltb-true, leb-true, lt-ltb, le-leb, eq-eqb}
@@ -9,7 +9,7 @@ use Rattle.blsm_model.specs.Sizes.{Sizes}
 use Rattle.blsm_model.specs.Geometry.{page_count}
 use Rattle.record_delta.specs.declared.record.Rec.{Rec}
 use Rattle.record_delta.specs.Records.{weight}
-use Rattle.entry_codec.specs.Spelling.{spelling, IsEntry as IsSpelled}
+use Rattle.entry_codec.specs.Spelling.{spelling}
 use Rattle.entry_codec.proofs.SpellingLemmas.{length-spelling}
 use Rattle.page_space.specs.Space.{SpaceState, HasRole, IsLeastFree}
 use Rattle.page_file.specs.Entry.{PageEntry, entries_bytes, AreRising}
@@ -19,10 +19,10 @@ use Rattle.page_file.specs.Component.{RunPage, numbers_of, entries_of, first_of,
 use Rattle.page_file.proofs.PageLemmas.{other_page}
 use Rattle.page_file.proofs.ComponentLemmas.{chain_join, entries_join, rise_back}
 use Rattle.run_writer.specs.Buffer.{BufferState, with_entry, sealed}
-use Rattle.run_writer.specs.Run.{Run, page_of, pages_of, pushed_on, IsRun}
-use Rattle.run_writer.specs.Writer.{WriterState, has_place, put_in, turned, IsInside, IsCounted, Holds, Stands, Claims}
+use Rattle.run_writer.specs.Run.{Run, page_of, pages_of, IsRun}
+use Rattle.run_writer.specs.Writer.{WriterState, has_place, turned, IsInside, IsCounted, Holds, Stands, Claims}
 use Rattle.run_writer.proofs.BufferLemmas.{sealed-bytes}
-use Rattle.run_writer.proofs.RunLemmas.{of_page, holds_here}
+use Rattle.run_writer.proofs.RunLemmas.{of_page}
 
 -- ---- the page that is taken
 

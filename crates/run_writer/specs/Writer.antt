@@ -1,5 +1,5 @@
 -- What contracts see of a writer, and which run it holds.
-use Rattle.std.specs.Prelude.{◌≡◌, ◌≢◌, ◌↔◌, ◌⊎◌, ℕ, ◌+◌, ◌-◌, ◌*◌, ◌<◌, ◌≤◌, Bool, ◌&&◌, nat_lt, nat_le, nat_eq, if◌then◌else◌, IsTrue, List, [], length, Option, Some, None}
+use Rattle.std.specs.Prelude.{◌≡◌, ◌≢◌, ◌↔◌, ◌⊎◌, ℕ, ◌+◌, ◌-◌, ◌*◌, ◌<◌, ◌≤◌, Bool, ◌&&◌, nat_lt, nat_le, nat_eq, if◌then◌else◌, IsTrue, List, [], length, Some, None}
 use Rattle.blsm_model.specs.declared.key.Key.{Key}
 use Rattle.blsm_model.specs.declared.component.Component.{Component}
 use Rattle.blsm_model.specs.Sizes.{Sizes}
@@ -8,7 +8,7 @@ use Rattle.record_delta.specs.Records.{weight}
 use Rattle.page_space.specs.PageSet.{with_page}
 use Rattle.page_space.specs.Space.{SpaceState, pages_of as pages_with, KeepsOtherRoles, HasRole, IsFree, IsSpace, role_size}
 use Rattle.page_file.specs.Page.{no_page, most_used, page_number}
-use Rattle.page_file.specs.Component.{RunPage, first_of, entries_of, weight_of, AreChained, empty_component}
+use Rattle.page_file.specs.Component.{first_of, entries_of, weight_of, AreChained, empty_component}
 use Rattle.page_file.specs.Records.{page_entries}
 use Rattle.run_writer.specs.Buffer.{BufferState, empty_buffer, with_entry, HasEntries}
 use Rattle.run_writer.specs.Run.{Run, pages_of, IsRun, AreTagged}

@@ -29,10 +29,12 @@ use record_delta::{Rec, weight};
 use refusal::Failed;
 use std::marker::Model;
 
-/// A run that is being written.
+/// A run that is being written. Between two calls its closed pages are written, each with the number of the next one, and the
+/// entries of the open page, whose number is taken, are in the writer's buffer.
 ///
-/// Contracts see the component that it is so far, the number of the open page and the open page's buffer. Which entries and
-/// pages these are, the clauses say for each run that the writer may hold (`Holds`), since the closed pages are on the disk.
+/// Contracts see the component that the run is so far, the number of the open page, and the buffer. Which entries and pages
+/// these are the clauses say for each run that the writer may hold (`Holds`), or for the list that was pushed so far
+/// (`HasPushed`), since the closed pages are on the disk alone.
 #[derive(Debug, Drop)]
 pub struct Writer {
     role: Role,
@@ -235,8 +237,10 @@ impl Writer {
         self.component.weight += weight(key, rec);
     }
 
-    /// Pushes one entry more. Where it doesn't fit into the open page, or there is none, the least free page is taken and gets the
-    /// role's tag, the open page is written with its number, and it is the open page.
+    /// Pushes one entry more. Where it doesn't fit into the 4,088 bytes of the open page, or there is none, the least free page is
+    /// taken and gets the role's tag, the open page is written with its number, and that page is the open one.
+    ///
+    /// A page must be free then. While the run's pages keep their tag the run doesn't have all pages (`a_run_has_room`).
     ///
     /// After an `Err`, whose cause is a fault of the disk, the writer is as it was; the page that was taken keeps its tag, and
     /// nobody knows what the open page's place on the disk has.

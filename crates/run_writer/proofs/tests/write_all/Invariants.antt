@@ -1,4 +1,4 @@
-use Rattle.std.proofs.Common.{◌≡◌, ◌<◌, List, length, take}
+use Rattle.std.proofs.Common.{◌≡◌, ◌<◌, length, take}
 use Rattle.std.specs.Prelude.{IsTrue}
 use Rattle.blsm_model.specs.Geometry.{page_count, file_length}
 use Rattle.disk_trait.specs.Disk.{GoesOn}

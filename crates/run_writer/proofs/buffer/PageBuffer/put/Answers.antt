@@ -1,8 +1,6 @@
-use Rattle.std.proofs.Common.{◌≡◌, ◌∙◌, ◌+◌, ◌++◌, List, ℕ, length, take, drop, sym, ap, arith}
+use Rattle.std.proofs.Common.{◌≡◌, ◌∙◌, ◌+◌, length, take, sym, ap, arith}
 use Rattle.std.proofs.lemmas.List.{take_at}
-use Rattle.record_delta.specs.Records.{weight}
 use Rattle.entry_codec.specs.Spelling.{spelling}
-use Rattle.entry_codec.proofs.SpellingLemmas.{length-spelling}
 use Rattle.run_writer.specs.Buffer.{BufferState, with_entry}
 use Rattle.run_writer.proofs.BufferLemmas.{taken_more}
 use Rattle.run_writer.proofs.buffer.PageBuffer.put.Goals as goal

@@ -1,9 +1,9 @@
-use Rattle.std.proofs.Common.{◌≡◌, ◌∙◌, ◌+◌, ◌-◌, ◌++◌, List, [], ℕ, zero, length, take, drop, refl, sym, ap, length-append, arith}
+use Rattle.std.proofs.Common.{◌≡◌, ◌∙◌, ◌-◌, ◌++◌, List, [], ℕ, zero, length, take, drop, refl, sym, ap, length-append, arith}
 use Rattle.std.specs.Prelude.{replicate}
 use Rattle.std.specs.Int.{w16, w32, to_be_bytes}
 use Rattle.std.proofs.lemmas.List.{length-take-le}
 use Rattle.page_file.specs.Page.{page_head, page_number}
-use Rattle.run_writer.specs.Buffer.{BufferState, sealed}
+use Rattle.run_writer.specs.Buffer.{sealed}
 use Rattle.run_writer.proofs.BufferLemmas.{zeros_left}
 use Rattle.run_writer.proofs.buffer.PageBuffer.seal.Goals as goal
 

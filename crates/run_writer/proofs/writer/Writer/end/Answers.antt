@@ -1,9 +1,9 @@
-use Rattle.std.proofs.Common.{◌≡◌, ℕ, sym, ap, subst}
+use Rattle.std.proofs.Common.{sym, ap, subst}
 use Rattle.page_file.specs.Component.{ReadsAs}
 use Rattle.blsm_model.specs.declared.component.Component.{Component}
 use Rattle.run_writer.specs.Run.{pages_of}
 use Rattle.run_writer.specs.Writer.{WriterState}
-use Rattle.run_writer.proofs.WriterLemmas.{ended, still_stands, IsWritten}
+use Rattle.run_writer.proofs.WriterLemmas.{ended, still_stands}
 use Rattle.disk_trait.specs.Moments.{LeavesOnly}
 use Rattle.page_file.specs.Component.{numbers_of}
 use Rattle.run_writer.specs.Besides.{IsOldBesides}

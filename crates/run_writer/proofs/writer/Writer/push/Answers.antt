@@ -1,14 +1,13 @@
-use Rattle.std.proofs.Common.{◌≡◌, ◌∙◌, ◌+◌, ◌≤◌, ℕ, sym, ap, subst, Some, true, false, Bool, List, [], ◌∷◌, ◌++◌, inl, inr, arith}
+use Rattle.std.proofs.Common.{◌≡◌, ◌∙◌, ◌≤◌, sym, ap, subst, Some, Bool, List, [], ◌∷◌, ◌++◌, inl, inr, arith}
 use Rattle.std.proofs.lemmas.Bool.{cases_Bool}
 use Rattle.page_space.specs.Space.{SpaceState}
-use Rattle.blsm_model.specs.Geometry.{page_count}
 use Rattle.blsm_model.specs.declared.key.Key.{Key}
 use Rattle.record_delta.specs.declared.record.Rec.{Rec}
 use Rattle.record_delta.specs.Records.{weight}
 use Rattle.run_writer.specs.Run.{pages_of, pushed_here, pushed_on}
 use Rattle.run_writer.specs.Writer.{WriterState, put_in, turned, has_place, Holds, HasPushed}
 use Rattle.run_writer.proofs.RunLemmas.{holds_here, holds_on}
-use Rattle.run_writer.proofs.WriterLemmas.{place_parts, no_place, chained, still_stands, IsWritten}
+use Rattle.run_writer.proofs.WriterLemmas.{place_parts, no_place, chained, still_stands}
 use Rattle.disk_trait.specs.Moments.{LeavesOnly}
 use Rattle.page_file.specs.Component.{numbers_of}
 use Rattle.run_writer.specs.Besides.{IsOldBesides}

@@ -3,7 +3,6 @@ use Rattle.std.specs.Prelude.{IsTrue}
 use Rattle.record_delta.specs.Records.{weight}
 use Rattle.run_writer.specs.Writer.{WriterState, has_place}
 use Rattle.run_writer.proofs.WriterLemmas.{counted_put}
-use Rattle.run_writer.proofs.RunLemmas.{holds_here}
 use Rattle.run_writer.proofs.writer.Writer.put.Goals as goal
 
 pub invariant_of-self : goal.invariant_of-self

@@ -1,6 +1,4 @@
 use Rattle.std.proofs.Common.{◌≡◌, sym, subst}
-use Rattle.blsm_model.specs.declared.component.Component.{Component}
-use Rattle.run_writer.specs.Buffer.{BufferState}
 use Rattle.run_writer.specs.Run.{empty_run, IsRun}
 use Rattle.run_writer.specs.Writer.{WriterState, started, Holds}
 use Rattle.run_writer.proofs.RunLemmas.{holds_none}

@@ -1,8 +1,7 @@
-use Rattle.std.proofs.Common.{◌≡◌, ◌∙◌, ℕ, sym, ap, subst, Some}
-use Rattle.page_space.specs.Space.{IsLeastFree}
+use Rattle.std.proofs.Common.{◌∙◌, ap, subst, Some}
 use Rattle.run_writer.specs.Buffer.{sealed}
 use Rattle.run_writer.specs.Writer.{WriterState, turned, Claims}
-use Rattle.run_writer.proofs.WriterLemmas.{least_one, claims, place_in_new}
+use Rattle.run_writer.proofs.WriterLemmas.{least_one, claims}
 use Rattle.run_writer.proofs.writer.Writer.turn.Goals as goal
 
 pub returns-in_err-write_open-clause-claimed : goal.returns-in_err-write_open-clause-claimed
