@@ -12,7 +12,8 @@ mod page;
 pub use component::no_component;
 pub use file::{Broken, read_page, write_page};
 pub use laws::{
-    chains, one_component, one_page, other_components, other_pages, where_entries_stand,
+    chains, one_component, one_page, other_components, other_pages, records_of_pages,
+    where_entries_stand,
 };
 pub use page::{LEAST_FULL, MOST_USED, PAGE_HEAD_LEN, PAGE_LEN, PageHead};
 
