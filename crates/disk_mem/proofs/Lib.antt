@@ -1,5 +1,6 @@
 mod Noted
 mod Patches
+mod Picking
 mod Pieces
 mod Results
 mod Steps

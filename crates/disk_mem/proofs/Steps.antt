@@ -18,11 +18,12 @@ module _ (first : List ℕ) (es : List Event) (honest : Bool) (bytes bytes' : Li
   abbrev before : DiskState
   before = disk_state first es bytes past faults honest
 
-  pub passes_noted : (e : Event) → faults ≤ faults' → Passes before (noted e)
-  passes_noted e le = record {
+  pub passes_noted : (e : Event) → faults ≤ faults' → faults' ≤ faults + 1 → Passes before (noted e)
+  passes_noted e le one_fault = record {
     goes_on = record { tells_bytes = refl; tells_images = refl; is_honest = refl; sure_up_to = refl; clock = omega (arith, length-push es e); faults = le };
     at_most_one = omega (arith, length-push es e);
     one = λ _. omega (arith, length-push es e);
+    one_fault = one_fault;
     none_else = λ t c early left. left_push (fresh first) es e t c (omega (arith, early, none)) left;
     none_lost = λ t c early left. left_keeps (fresh first) es e t c (omega (arith, early, none)) left;
   }
@@ -32,6 +33,7 @@ module _ (first : List ℕ) (es : List Event) (honest : Bool) (bytes bytes' : Li
     none_else = λ t at. ⊎_elim (λ l. inl l) (λ r. inr (to r.0, omega (arith, r.1, none), omega (arith, r.1, none, length-push es e))) (sync_push es e t at);
     none_lost = λ t at. sync_keeps es e t at;
     now = λ _ p. let same : length es + 1 ≡ length (es ++ e ∷ []) + past = omega (arith, none, length-push es e) in subst (IsSyncAt (es ++ e ∷ [])) same (sync_now es e (from p));
+    later = λ _ _. omega (arith, none, length-push es e);
   }
 
   image_before : (e : Event) (c : List ℕ) → IsImage (replay (fresh first) (es ++ e ∷ [])) c → IsImage (after e (replay (fresh first) es)) c
@@ -49,7 +51,7 @@ module _ (first : List ℕ) (es : List Event) (honest : Bool) (bytes bytes' : Li
     where
       leaves : (m : Medium) → at ≤ length m.bytes → (d c : List ℕ) → IsImage m d → Torn at (length text) d c → IsImage (after (wrote at text) m) c
       leaves m le d c left torn =
-          let is : after (wrote at text) m ≡ record { bytes = overwritten m.bytes at text; base = m.base; ranges = (at, length text) ∷ m.ranges } = grind (arith, nat_tests) in
+          let is : after (wrote at text) m ≡ record { bytes = overwritten m.bytes at text; base = m.base; writes = (at, text) ∷ m.writes } = grind (arith, nat_tests) in
           subst (λ (k : Medium). IsImage k c) (sym is) (d, left, torn)
 
   -- A write that failed may have written anything of its range.
@@ -90,7 +92,7 @@ module _ (first : List ℕ) (es : List Event) (honest : Bool) (bytes bytes' : Li
     where
       tears : (m : Medium) (c : List ℕ) → IsImage (after (wrote at text) m) c → (d : List ℕ) × IsImage m d × Torn at (length text) d c
       tears m c left =
-          elim (nat_le at (length m.bytes)) as (λ b. IsImage (if b then record { bytes = overwritten m.bytes at text; base = m.base; ranges = (at, length text) ∷ m.ranges } else m) c
+          elim (nat_le at (length m.bytes)) as (λ b. IsImage (if b then record { bytes = overwritten m.bytes at text; base = m.base; writes = (at, text) ∷ m.writes } else m) c
           → (d : List ℕ) × IsImage m d × Torn at (length text) d c) [
             | true ↦ λ torn. torn
             | false ↦ λ here. (c, here, torn_same at (length text) c)
@@ -108,17 +110,18 @@ module _ (first : List ℕ) (es : List Event) (honest : Bool) (bytes bytes' : Li
   abbrev old_state : DiskState
   old_state = disk_state first es bytes past faults honest
 
-  pub passes_missed : past ≤ 2 ^ 64 - 1 → faults ≤ faults' → Passes old_state missed
-  passes_missed fits le = record {
+  pub passes_missed : past ≤ 2 ^ 64 - 1 → faults ≤ faults' → faults' ≤ faults + 1 → Passes old_state missed
+  passes_missed fits le one_fault = record {
     goes_on = record { tells_bytes = refl; tells_images = refl; is_honest = refl; sure_up_to = refl; clock = omega (arith, fits); faults = le };
     at_most_one = omega arith;
     one = λ early. omega (arith, early);
+    one_fault = one_fault;
     none_else = λ t c early left. inl left;
     none_lost = λ t c early left. left;
   }
 
   pub marks_missed : (P : Type 0) → ¬ P → MarksSync P old_state missed
-  marks_missed P none = record { none_else = λ t at. inl at; none_lost = λ t at. at; now = λ _ p. absurd (none p) }
+  marks_missed P none = record { none_else = λ t at. inl at; none_lost = λ t at. at; now = λ _ p. absurd (none p); later = λ _ p. absurd (none p) }
 
   pub nothing_missed : (IsTrue honest → bytes' ≡ bytes) → length bytes' ≡ length bytes → ChangesNothing old_state missed
   nothing_missed stays long = record {

@@ -73,23 +73,23 @@ module _ (d e : Recorded) (before : IsConsistent d) (after : IsConsistent e) (fa
 
   -- What holds of each way in which the call may end, as the record tells them, holds of what the disk tells.
   pub by_outcome : (R : DiskState → DiskState → Type 0) (k : Kind) (ok : Bool) → Outcome k d e ok
-      → ((faults : ℕ) → d.faults ≤ faults → HasNoRecord k.size d → ok ≡ false → R old (missed_as faults))
+      → ((faults : ℕ) → (d.faults ≤ faults) × (faults ≤ d.faults + 1) → HasNoRecord k.size d → ok ≡ false → R old (missed_as faults))
       → (HasRecord k.size d → length d.bytes < k.needs → ok ≡ false → R old (noted_as passed found d.faults))
       → (HasRecord k.size d → k.needs ≤ length d.bytes → ok ≡ false → R old (noted_as k.failed found (next_count d.faults)))
       → (HasRecord k.size d → k.needs ≤ length d.bytes → ok ≡ true → R old (noted_as k.done (written_by k.done found) d.faults))
       → R (told d) (told e)
-  by_outcome R k ok (unrecorded full fits is bad) missed beyond failed did = land R _ is refl (missed (next_count d.faults) (omega (arith, faults_fit)) full bad)
-  by_outcome R k ok (unrecorded_past_end full lt is bad) missed beyond failed did = land R _ is refl (missed d.faults (omega arith) full bad)
+  by_outcome R k ok (unrecorded full fits is bad) missed beyond failed did = land R _ is refl (missed (next_count d.faults) (omega (arith, faults_fit), omega arith) full bad)
+  by_outcome R k ok (unrecorded_past_end full lt is bad) missed beyond failed did = land R _ is refl (missed d.faults (omega arith, omega (arith, faults_fit)) full bad)
   by_outcome R k ok (past_end has lt is bad) missed beyond failed did = land R _ is refl (beyond has lt bad)
   by_outcome R k ok (refused has fits cause is bad) missed beyond failed did = land R _ is refl (failed has fits bad)
   by_outcome R k ok (done has fits free limit is good) missed beyond failed did = land R _ is refl (did has fits good)
 
   pub told_passes : (k : Kind) (ok : Bool) → Outcome k d e ok → d.past < 2 ^ 64 → Passes (told d) (told e)
   told_passes k ok outcome past_fits = by_outcome Passes k ok outcome
-      (λ faults le full bad. passes_missed d.first d.events h d.bytes found d.past d.faults faults (omega (arith, past_fits)) le)
-      (λ has lt bad. passes_noted d.first d.events h d.bytes found d.past has.0 d.faults d.faults passed (omega arith))
-      (λ has fits bad. passes_noted d.first d.events h d.bytes found d.past has.0 d.faults (next_count d.faults) k.failed (omega (arith, faults_fit)))
-      (λ has fits good. passes_noted d.first d.events h d.bytes (written_by k.done found) d.past has.0 d.faults d.faults k.done (omega arith))
+      (λ faults le full bad. passes_missed d.first d.events h d.bytes found d.past d.faults faults (omega (arith, past_fits)) le.0 le.1)
+      (λ has lt bad. passes_noted d.first d.events h d.bytes found d.past has.0 d.faults d.faults passed (omega arith) (omega (arith, faults_fit)))
+      (λ has fits bad. passes_noted d.first d.events h d.bytes found d.past has.0 d.faults (next_count d.faults) k.failed (omega (arith, faults_fit)) (omega arith))
+      (λ has fits good. passes_noted d.first d.events h d.bytes (written_by k.done found) d.past has.0 d.faults d.faults k.done (omega arith) (omega (arith, faults_fit)))
 
   -- a call that is no sync
   pub told_no_sync : (k : Kind) (ok : Bool) → Outcome k d e ok → ¬ IsSync k.done → ¬ IsSync k.failed → MarksSync ⊥ (told d) (told e)

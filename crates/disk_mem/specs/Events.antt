@@ -12,19 +12,19 @@ pub data Event : Type 0 where
   synced : Event
   passed : Event
 
--- the bytes as they read, the bytes at the last sync that ended well, and the ranges written since, the newest first
+-- the bytes as they read, the bytes at the last sync that ended well, and the writes since, each with its offset, those that failed too, the newest first
 pub record Medium : Type 0 where
   pub bytes : List ℕ
   pub base : List ℕ
-  pub ranges : List (ℕ × ℕ)
+  pub writes : List (ℕ × List ℕ)
 
 -- a medium that holds these bytes, all of them synced
 abbrev pub fresh : List ℕ → Medium
-fresh bytes = record { bytes = bytes; base = bytes; ranges = [] }
+fresh bytes = record { bytes = bytes; base = bytes; writes = [] }
 
 abbrev pub after : Event → Medium → Medium
-after (wrote at bytes) m = if nat_le at (length m.bytes) then record { bytes = overwritten m.bytes at bytes; base = m.base; ranges = (at, length bytes) ∷ m.ranges } else m
-after (tore at bytes) m = record { bytes = m.bytes; base = m.base; ranges = (at, length bytes) ∷ m.ranges }
+after (wrote at bytes) m = if nat_le at (length m.bytes) then record { bytes = overwritten m.bytes at bytes; base = m.base; writes = (at, bytes) ∷ m.writes } else m
+after (tore at bytes) m = record { bytes = m.bytes; base = m.base; writes = (at, bytes) ∷ m.writes }
 after synced m = fresh m.bytes
 after passed m = m
 
@@ -32,13 +32,13 @@ abbrev pub replay : Medium → List Event → Medium
 replay m [] = m
 replay m (e ∷ es) = replay (after e m) es
 
--- what a crash may leave: the base, torn by each range that was written since
-abbrev pub MayLeave : List ℕ → List (ℕ × ℕ) → List ℕ → Type 0
+-- what a crash may leave: the base, torn by each write since
+abbrev pub MayLeave : List ℕ → List (ℕ × List ℕ) → List ℕ → Type 0
 MayLeave base [] c = c ≡ base
-MayLeave base (r ∷ ranges) c = (d : List ℕ) × MayLeave base ranges d × Torn r.0 r.1 d c
+MayLeave base (w ∷ writes) c = (d : List ℕ) × MayLeave base writes d × Torn w.0 (length w.1) d c
 
 abbrev pub IsImage : Medium → List ℕ → Type 0
-IsImage m c = MayLeave m.base m.ranges c
+IsImage m c = MayLeave m.base m.writes c
 
 -- What a crash after t of the events or more might have left.
 abbrev pub LeftSince : Medium → List Event → ℕ → List ℕ → Type 0
@@ -132,8 +132,8 @@ sync_now es e is = sync_last es e (length es + 1) is refl
 keeps_as_read : (e : Event) (m : Medium) → IsImage m m.bytes → IsImage (after e m) (after e m).bytes
 keeps_as_read (wrote at bytes) m here =
     elim (nat_le at (length m.bytes)) as (λ b. nat_le at (length m.bytes) ≡ b
-    → IsImage (if b then record { bytes = overwritten m.bytes at bytes; base = m.base; ranges = (at, length bytes) ∷ m.ranges } else m)
-    (if b then record { bytes = overwritten m.bytes at bytes; base = m.base; ranges = (at, length bytes) ∷ m.ranges } else m).bytes) [
+    → IsImage (if b then record { bytes = overwritten m.bytes at bytes; base = m.base; writes = (at, bytes) ∷ m.writes } else m)
+    (if b then record { bytes = overwritten m.bytes at bytes; base = m.base; writes = (at, bytes) ∷ m.writes } else m).bytes) [
       | true ↦ λ fits. (m.bytes, here, torn_overwritten m.bytes at bytes (grind (arith, nat_tests)))
       | false ↦ λ _. here
     ] refl

@@ -3,6 +3,7 @@ ghost use Rattle.std.specs.Prelude.{◌≡◌, ◌⊎◌, ◌<◌, ◌≤◌, �
 ghost use Rattle.refusal.specs.Count.{HasRisen};
 ghost use Rattle.disk_trait.specs.Disk.{Passes, MarksSync, WritesNothing, WritesWithin, ChangesNothing, KeepsImages, LeavesAnyBytes, Only, IsSure, part, overwritten};
 ghost use Rattle.disk_mem.specs.Recorded.{new_disk, told, look, sync_call, write_call, Fails, Outcome};
+ghost use Rattle.disk_mem.specs.Images.{IsPicked};
 ghost use Rattle.disk_mem.specs.Start.{StartsAs};
 ghost use Rattle.disk_mem.specs.Laws.{told_timed, told_as_read};
 
@@ -74,15 +75,16 @@ impl MemDisk {
     /// A disk of the same limit and record size that holds one of the images which a crash now may leave, with no call answered
     /// yet and none that is to fail.
     ///
-    /// The number picks the image. It has one digit for each write since the last sync that ended well, failed writes too, the
-    /// first write's digit lowest. A write of n bytes has a digit below 2 * (n + 1): up to n, so many bytes of the write from its
-    /// beginning stand in the image; from n + 1 on, after digit - n - 1 of them one byte follows that is neither the old nor the
-    /// new one; the greatest digit writes zeros over the whole range. Over all numbers the images are those where each write
-    /// stands not at all, in part, or in whole, whatever the others do. An image may be longer than the limit, where a write past it
-    /// had failed.
+    /// The number picks the image. It has two digits for each write since the last sync that ended well, failed writes too, the
+    /// first write's lowest. Of a write of n bytes the lower digit, below n + 1, says how many of its bytes, from its beginning,
+    /// stand in the image. The other is 0 or 1: where it is 1, one byte follows them that is neither the old nor the new one, or,
+    /// where all bytes would stand, there are zeros in their place. Where the image ends before the write begins, nothing of it
+    /// stands. Over all numbers the images are those where each write stands not at all, in part, or in whole, whatever the others
+    /// do. An image may be longer than the limit, where a write past it had failed.
     pub fn image(&self, pick: u64) -> Result<MemDisk, NoMemory>
         ensures image { IfOk result (λ d. (image : List ℕ) × (told self.now).images image
             × (d ≡ new_disk image self.now.limit self.now.kept)) }
+        ensures picked { IfOk result (λ d. IsPicked pick self.now d.bytes) }
         ensures starts { IfOk result (λ d. StartsAs d.bytes (told d)) }
     {
         Ok(MemDisk {

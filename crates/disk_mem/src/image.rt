@@ -1,13 +1,13 @@
 // One image that a crash may leave, picked by a number.
 //
-// The number has one digit for each write since the last sync that ended well, failed writes too, the first write's digit lowest.
-// A write of n bytes has a digit below 2 * (n + 1). Up to n it says how many bytes of the write, from its beginning, stand in the
-// image: none, some or all. From n + 1 on it says after how many of them one byte follows that is neither the old nor the new
-// one; the greatest digit writes zeros over the whole range.
-ghost use Rattle.std.specs.Prelude.{◌≡◌, ◌≢◌, ◌≤◌, ◌+◌, OnOk, IfOk, length};
-ghost use Rattle.disk_trait.specs.Disk.{Torn};
+// The number has two digits for each write since the last sync that ended well, failed writes too, the first write's lowest. Of a
+// write of n bytes the lower digit, below n + 1, says how many of its bytes, from its beginning, stand in the image: none, some or
+// all. The other is 0 or 1. Where it is 1 one byte follows them that is neither the old nor the new one, or, where all bytes would
+// stand, there are zeros in their place. Where the image ends before the write begins, nothing of it stands.
+ghost use Rattle.std.specs.Prelude.{◌≡◌, ◌≢◌, ◌≤◌, Some, IfOk, length, slice_get};
 ghost use Rattle.disk_mem.specs.Events.{replay, fresh, IsImage};
 ghost use Rattle.disk_mem.specs.Calls.{events, written_len};
+ghost use Rattle.disk_mem.specs.Images.{IsPiece, IsTornOn, IsPickedOf};
 
 use crate::bytes::overwrite;
 use crate::call::Call;
@@ -15,7 +15,7 @@ use refusal::NoMemory;
 use std::alloc::Global;
 
 // A byte that is neither of two.
-fn neither(old: u8, new: u8) -> u8
+fn other_than(old: u8, new: u8) -> u8
     ensures not_old { result ≢ old }
     ensures not_new { result ≢ new }
 {
@@ -28,26 +28,40 @@ fn neither(old: u8, new: u8) -> u8
     }
 }
 
-// What stands in the image of a write, by its digit. `old` is what stood there before.
-fn piece_of(alloc: Global, old: &[u8], text: &[u8], digit: u64) -> Result<Vec<u8>, NoMemory>
-    ensures { IfOk result (λ piece. length piece.items ≤ length text.now) }
+// A byte that is neither the new one nor, where one stood at the place, the old one.
+fn neither(old: &[u8], place: usize, new: u8) -> u8
+    ensures not_old { slice_get old.now place ≢ Some result }
+    ensures not_new { result ≢ new }
 {
-    let whole = text.len() as u64;
-    if digit <= whole {
-        return Ok(text[..digit as usize].to_vec(alloc)?);
+    if place < old.len() {
+        return other_than(old[place], new);
     }
-    let kept = (digit - whole - 1) as usize;
-    if kept >= text.len() {
+    other_than(new, new)
+}
+
+// What stands in the image of a write of which so many bytes are kept. `old` is what stood there before.
+fn piece_of(
+    alloc: Global,
+    old: &[u8],
+    text: &[u8],
+    kept: usize,
+    garbled: bool,
+) -> Result<Vec<u8>, NoMemory>
+    requires { kept ≤ length text.now }
+    ensures { IfOk result (λ piece. IsPiece old.now text.now kept garbled piece.items) }
+{
+    if !garbled {
+        return Ok(text[..kept].to_vec(alloc)?);
+    }
+    if kept == text.len() {
         return Ok(vec![in alloc; 0; text.len()]?);
     }
-    let new = text[kept];
-    let garbled = neither(old.get(kept).copied().unwrap_or(new), new);
     let mut piece = text[..kept].to_vec(alloc)?;
-    piece.push(garbled)?;
+    piece.push(neither(old, kept, text[kept]))?;
     Ok(piece)
 }
 
-// Tears a write into the image as its digit says, and answers the number's other digits.
+// Tears a write into the image as its two digits say, and answers the number's other digits.
 fn tear(
     alloc: Global,
     image: &mut Vec<u8>,
@@ -55,19 +69,22 @@ fn tear(
     text: &[u8],
     pick: u64,
 ) -> Result<u64, NoMemory>
-    ensures { IfOk result (λ _. Torn at (length text.now) image.old.items image.new.items) }
+    ensures { IfOk result (λ others. IsTornOn at text.now pick others image.old.items image.new.items) }
 {
-    let digits = (text.len() as u64 + 1).saturating_mul(2);
+    let places = text.len() as u64 + 1;
+    let others = pick / places / 2;
     let place = at as usize;
     if place > image.len() {
-        return Ok(pick / digits);
+        return Ok(others);
     }
-    let piece = piece_of(alloc, &image[place..], text, pick % digits)?;
+    let kept = (pick % places) as usize;
+    let garbled = pick / places % 2 == 1;
+    let piece = piece_of(alloc, &image[place..], text, kept, garbled)?;
     overwrite(image, place, &piece)?;
-    Ok(pick / digits)
+    Ok(others)
 }
 
-/// An image that a crash may leave of a disk that began with the bytes `first` and had these calls.
+/// The image that the number picks of a disk that began with the bytes `first` and had these calls.
 pub(crate) fn image_of(
     alloc: Global,
     first: &[u8],
@@ -76,7 +93,8 @@ pub(crate) fn image_of(
     pick: u64,
 ) -> Result<Vec<u8>, NoMemory>
     requires { written_len calls.now ≡ length written.now }
-    ensures { IfOk result (λ image. IsImage (replay (fresh first.now) (events calls.now written.now)) image.items) }
+    ensures image { IfOk result (λ image. IsImage (replay (fresh first.now) (events calls.now written.now)) image.items) }
+    ensures picked { IfOk result (λ image. IsPickedOf pick (replay (fresh first.now) (events calls.now written.now)) image.items) }
 {
     let mut bytes = first.to_vec(alloc)?;
     let mut image = first.to_vec(alloc)?;

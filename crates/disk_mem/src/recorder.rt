@@ -182,13 +182,15 @@ impl Recorder {
 // Crash images, and what is set beforehand.
 impl Recorder {
     ghost use Rattle.disk_mem.specs.Events.{replay, fresh, IsImage};
+    ghost use Rattle.disk_mem.specs.Images.{IsPicked};
     ghost use Rattle.disk_mem.specs.Recorded.{new_disk};
     ghost use Rattle.disk_mem.specs.Recorder.{recorded};
 
-    /// A disk that holds one of the images which a crash now may leave.
+    /// A disk that holds the image which the number picks of those that a crash now may leave.
     pub(crate) fn image(&self, pick: u64) -> Result<Recorder, NoMemory>
-        ensures { IfOk result (λ d. (image : List ℕ) × IsImage (replay (fresh (recorded self.now).first) (recorded self.now).events) image
+        ensures image { IfOk result (λ d. (image : List ℕ) × IsImage (replay (fresh (recorded self.now).first) (recorded self.now).events) image
             × (recorded d ≡ new_disk image self.now.limit self.now.kept)) }
+        ensures picked { IfOk result (λ d. IsPicked pick (recorded self.now) (recorded d).bytes) }
     {
         let image = image_of(self.alloc, &self.first, &self.calls, &self.written, pick)?;
         Recorder::new(self.alloc, &image, self.limit, self.kept)

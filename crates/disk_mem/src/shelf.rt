@@ -71,6 +71,7 @@ impl Shelf for MemShelf {
         ensures no_fall { (shelf_state self.old).faults ≤ (shelf_state self.new).faults }
         ensures stands { OnOk result ((shelf_state self.new).faults ≡ (shelf_state self.old).faults) }
         ensures failed { IsErr result → HasRisen (shelf_state self.old).faults (shelf_state self.new).faults }
+        ensures one_fault { (shelf_state self.new).faults ≤ (shelf_state self.old).faults + 1 }
 
         // It fails exactly where no disk stands under the name, and past the room for fetches. Such a fetch is noted without its name.
         ensures cause { OnErr result (FailsToFetch name.now self.old) }

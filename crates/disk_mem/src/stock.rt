@@ -141,6 +141,7 @@ impl Stock {
             → (shelf_state (shelved self.new)).fetches ≡ (shelf_state (shelved self.old)).fetches ++ None ∷ [] }
         ensures faults { self.new.faults ≡ next_count self.old.faults }
         ensures no_fall { self.old.faults ≤ self.new.faults }
+        ensures one_fault { self.new.faults ≤ self.old.faults + 1 }
         ensures room { self.new.room ≡ self.old.room }
     {
         self.note_unnamed();
@@ -159,6 +160,7 @@ impl Stock {
         ensures stands { OnOk result (self.new.faults ≡ self.old.faults) }
         ensures failed { OnErr result (self.new.faults ≡ next_count self.old.faults) }
         ensures no_fall { self.old.faults ≤ self.new.faults }
+        ensures one_fault { self.new.faults ≤ self.old.faults + 1 }
         ensures room { self.new.room ≡ self.old.room }
         ensures cause { OnErr result (FailsToFetch name.now (shelved self.old)) }
         ensures fails { FailsToFetch name.now (shelved self.old) → IsErr result }

@@ -107,7 +107,7 @@ fn a_faultless_disk_fails_past_its_bytes_and_its_limit(rt: HostRuntime) -> Resul
     Ok(())
 }
 
-// What stands of a write over "ab" of "xy", and over "cd" of "zw", by its digit.
+// What stands of a write over "ab" of "xy", and over "cd" of "zw", by its two digits as one number.
 const FRONTS: [[u8; 2]; 6] = [*b"ab", *b"xb", *b"xy", [0, b'b'], [b'x', 0], [0, 0]];
 
 const BACKS: [[u8; 2]; 6] = [*b"cd", *b"zd", *b"zw", [0, b'd'], [b'z', 0], [0, 0]];

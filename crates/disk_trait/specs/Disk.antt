@@ -37,9 +37,13 @@ pub record Torn (at n : ℕ) (old new : List ℕ) : Type 0 where
   pub no_shorter : length old ≤ length new
   pub no_longer : length new ≤ max (length old) (at + n)
 
+-- one of the files from before, but for a range of n bytes and what lies past its old end
+abbrev pub IsOldOutside : ℕ → ℕ → (List ℕ → Type 0) → List ℕ → Type 0
+IsOldOutside at n before file = (old : List ℕ) × before old × Torn at n old file
+
 -- each image now is an image before the write, torn
 abbrev pub Tears : ℕ → ℕ → (List ℕ → Type 0) → (List ℕ → Type 0) → Type 0
-Tears at n old new = (c : List ℕ) → new c → (d : List ℕ) × old d × Torn at n d c
+Tears at n old new = (c : List ℕ) → new c → IsOldOutside at n old c
 
 -- a crash leaves this file and no other
 abbrev pub Only : List ℕ → (List ℕ → Type 0) → Type 0
@@ -58,11 +62,12 @@ pub record GoesOn (old new : DiskState) : Type 0 where
 abbrev pub IsSure : ℕ → DiskState → DiskState → Type 0
 IsSure end old new = 0 < old.sure_up_to → end ≤ old.sure_up_to → new.faults ≡ old.faults
 
--- One call: the clock moves by one (at 2 ^ 64 - 1 it may stand), and the images since a moment are those from before the call and those of now.
+-- One call: the clock moves by one (at 2 ^ 64 - 1 it may stand), the count of faults by one at most, and the images since a moment are those from before the call and those of now.
 pub record Passes (old new : DiskState) : Type 0 where
   pub goes_on : GoesOn old new
   pub at_most_one : new.clock ≤ old.clock + 1
   pub one : old.clock < 2 ^ 64 - 1 → new.clock ≡ old.clock + 1
+  pub one_fault : new.faults ≤ old.faults + 1
   pub none_else : (t : ℕ) (c : List ℕ) → t ≤ old.clock → new.images_since t c → old.images_since t c ⊎ new.images c
   pub none_lost : (t : ℕ) (c : List ℕ) → t ≤ old.clock → old.images_since t c → new.images_since t c
 
@@ -71,6 +76,7 @@ pub record MarksSync (ended_well : Type 0) (old new : DiskState) : Type 0 where
   pub none_else : (t : ℕ) → new.synced_at t → old.synced_at t ⊎ (ended_well × (old.clock < t) × (t ≡ new.clock))
   pub none_lost : (t : ℕ) → old.synced_at t → new.synced_at t
   pub now : IsTrue old.tells_images → ended_well → new.synced_at new.clock
+  pub later : IsTrue old.tells_images → ended_well → old.clock < new.clock
 
 -- a call that writes nothing
 pub record WritesNothing (old new : DiskState) : Type 0 where

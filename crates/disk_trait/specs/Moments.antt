@@ -33,11 +33,6 @@ pub record SyncsLater (old new : DiskState) : Type 0 where
   pub none_else : (t : ℕ) → new.synced_at t → old.synced_at t ⊎ (old.clock < t)
   pub none_lost : (t : ℕ) → old.synced_at t → new.synced_at t
 
--- a crash at any moment from t on leaves a file that has P
-pub record HasSince (t : ℕ) (d : DiskState) (P : List ℕ → Type 0) : Type 0 where
-  pub later : t ≤ d.clock
-  pub each : (c : List ℕ) → d.images_since t c → P c
-
 -- what goes on through two runs
 pub goes_on_start : (d : DiskState) → GoesOn d d
 goes_on_start d = record { tells_bytes = refl; tells_images = refl; is_honest = refl; sure_up_to = refl; clock = omega arith; faults = omega arith }
@@ -84,24 +79,9 @@ leaves_only_now {old} {new} timed run c here = run.each c (timed.counts_now old.
 pub leaves_only_kept : {old mid new : DiskState} {P : List ℕ → Type 0} → IsTimed mid → LeavesOnly old mid P → LeavesOnly mid new mid.images → LeavesOnly old new P
 leaves_only_kept timed so_far run = leaves_only_run so_far (leaves_only_weaken (leaves_only_now timed so_far) run)
 
--- what held since a moment before a run holds after it
-pub has_since_run : {old new : DiskState} {P : List ℕ → Type 0} (t : ℕ) → HasSince t old P → LeavesOnly old new P → HasSince t new P
-has_since_run {old} {new} {P} t held run = record {
-  later = omega (arith, held.later, run.later);
-  each = λ c left. ⊎_elim (held.each c) (λ p. p) (run.before t c held.later left);
-}
-
--- what holds over a run holds since its start
-pub has_since_start : {old new : DiskState} {P : List ℕ → Type 0} → LeavesOnly old new P → HasSince old.clock new P
-has_since_start run = record { later = run.later; each = run.each }
-
--- Each image now is one since any moment so far.
-pub has_since_now : {d : DiskState} {P : List ℕ → Type 0} (t : ℕ) → IsTimed d → HasSince t d P → (c : List ℕ) → d.images c → P c
-has_since_now {d} t timed held c here = held.each c (timed.counts_now t c held.later here)
-
 -- no sync before the first call
 pub no_sync_start : (d : DiskState) → MarksSync ⊥ d d
-no_sync_start d = record { none_else = λ t at. inl at; none_lost = λ t at. at; now = λ tells never. absurd never }
+no_sync_start d = record { none_else = λ t at. inl at; none_lost = λ t at. at; now = λ tells never. absurd never; later = λ tells never. absurd never }
 
 -- none in a run after a run, where there is none in either
 pub no_sync_run : {old mid new : DiskState} → MarksSync ⊥ old mid → MarksSync ⊥ mid new → MarksSync ⊥ old new
@@ -109,6 +89,7 @@ no_sync_run {old} {mid} {new} first second = record {
   none_else = λ t at. ⊎_elim (λ mid. ⊎_elim (λ before. inl before) (λ ended. absurd ended.0) (first.none_else t mid)) (λ ended. absurd ended.0) (second.none_else t at);
   none_lost = λ t at. second.none_lost t (first.none_lost t at);
   now = λ tells never. absurd never;
+  later = λ tells never. absurd never;
 }
 
 -- before the first call
@@ -213,7 +194,3 @@ once_synced_kept {start} {old} {new} timed so_far run marks = record {
 -- what has P has Q
 pub once_synced_weaken : {old new : DiskState} {P Q : List ℕ → Type 0} → ((c : List ℕ) → P c → Q c) → LeavesOnlyOnceSynced old new P → LeavesOnlyOnceSynced old new Q
 once_synced_weaken so run = record { later = run.later; each = λ t c after at left. so c (run.each t c after at left); before = run.before }
-
--- Where a sync ended well in a run, what it leaves has P since then.
-pub once_synced_since : {old new : DiskState} {P : List ℕ → Type 0} (t : ℕ) → LeavesOnlyOnceSynced old new P → IsTimed new → old.clock < t → new.synced_at t → HasSince t new P
-once_synced_since {old} {new} {P} t run timed after at = record { later = timed.synced_by_now t at; each = λ c left. run.each t c after at left }

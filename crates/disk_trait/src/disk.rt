@@ -8,8 +8,8 @@ use refusal::Failed;
 
 /// A disk of bytes at offsets from 0 on. All numbers are bytes.
 ///
-/// Each call that fails raises the count of faults, but for the range rule: a disk that tells its bytes refuses a read that
-/// ends past their end and a write that begins past it, and its count stands.
+/// Each call that fails raises the count of faults by one, but for the range rule: a disk that tells its bytes refuses a read
+/// that ends past their end and a write that begins past it, and its count stands.
 pub trait Disk {
     /// What the disk tells: its bytes, its images, its clock, its count.
     ghost state: { Self → DiskState };

@@ -14,8 +14,11 @@ pub trait Shelf {
     /// What the shelf tells: its disks, its fetches, its count.
     ghost state: { Self → ShelfState Self.D };
 
-    /// Takes out the disk of a name, with its count of faults at 0. Where `fresh`, a missing one may be made. A fetch that
-    /// fails changes no disk.
+    /// Takes out the disk of a name, with its count of faults at 0. A fetch that fails changes no disk, and raises the shelf's
+    /// count by one.
+    ///
+    /// Where `fresh`, a shelf of files may make a missing one. A shelf that tells its disks makes none: it gives the one that
+    /// stood under the name, all but its count as it stood.
     fn fetch(&mut self, name: &str, fresh: bool) -> Result<Self::D, Failed>
         ensures count { IfOk result (λ disk. (Self.D.state disk).faults ≡ 0) }
         ensures taken { IfOk result (λ disk. IsTrue (state self.old).tells_disks
@@ -26,7 +29,8 @@ pub trait Shelf {
         ensures told { KeepsTold (state self.old) (state self.new) }
         ensures no_fall { (state self.old).faults ≤ (state self.new).faults }
         ensures stands { OnOk result ((state self.new).faults ≡ (state self.old).faults) }
-        ensures failed { IsErr result → HasRisen (state self.old).faults (state self.new).faults };
+        ensures failed { IsErr result → HasRisen (state self.old).faults (state self.new).faults }
+        ensures one_fault { (state self.new).faults ≤ (state self.old).faults + 1 };
 
     /// Puts a disk back under its name. The shelf's count of faults rises by the disk's, up to 2^64 - 1. Where no disk of that
     /// name is out, the one that is given is dropped, and what the shelf holds stays.

@@ -1,6 +1,6 @@
 -- A text behind a gate: one byte that is open only once the text stands.
 use Rattle.std.specs.Prelude.{◌≡◌, ◌≢◌, ℕ, ◌+◌, List, [], ◌∷◌, length}
-use Rattle.disk_trait.specs.Disk.{Torn, part}
+use Rattle.disk_trait.specs.Disk.{IsOldOutside, part}
 
 -- the value of an open gate; any other is closed
 abbrev pub open_byte : ℕ
@@ -14,12 +14,8 @@ IsClosed at file = part file at 1 ≢ open_byte ∷ []
 abbrev pub IsWhole : ℕ → List ℕ → List ℕ → Type 0
 IsWhole at text file = part file at (1 + length text) ≡ open_byte ∷ text
 
--- a file from before, in which only the gate and the text may differ
-abbrev pub HasRangeTorn : ℕ → List ℕ → (List ℕ → Type 0) → List ℕ → Type 0
-HasRangeTorn at text before file = (old : List ℕ) × before old × Torn at (1 + length text) old file
-
 -- A file is one of those from before, or one of them with the range torn behind a closed gate, or one of them with the text whole behind an open gate.
 pub data IsGated (before : List ℕ → Type 0) (at : ℕ) (text file : List ℕ) : Type 0 where
   untouched : before file → IsGated before at text file
-  behind_gate : HasRangeTorn at text before file → IsClosed at file → IsGated before at text file
-  whole : HasRangeTorn at text before file → IsWhole at text file → IsGated before at text file
+  behind_gate : IsOldOutside at (1 + length text) before file → IsClosed at file → IsGated before at text file
+  whole : IsOldOutside at (1 + length text) before file → IsWhole at text file → IsGated before at text file

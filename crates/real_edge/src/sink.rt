@@ -1,5 +1,8 @@
 //! A writer as a sink.
-ghost use Rattle.std.specs.Prelude.{None};
+ghost use Rattle.std.specs.Prelude.{◌≡◌, None, IfOk, OnOk, OnErr};
+ghost use Rattle.std.specs.Io.KnownBytes.{WriteAppends};
+ghost use Rattle.refusal.specs.Count.{CountsFault};
+ghost use Rattle.text_io.specs.Text.{Takes};
 
 use refusal::Failed;
 use std::io::Write;
@@ -13,7 +16,11 @@ pub struct StdSink<W: Write> {
 }
 
 impl<W: Write> StdSink<W> {
-    pub fn new(writer: W) -> StdSink<W> {
+    /// A sink whose bytes go to this writer, with no fault yet.
+    pub fn new(writer: W) -> StdSink<W>
+        ensures writer { result.writer ≡ writer }
+        ensures faults { result.faults ≡ 0 }
+    {
         StdSink { writer, faults: 0 }
     }
 }
@@ -23,7 +30,14 @@ impl<W: Write> Sink for StdSink<W> {
 
     ghost faults = { λ s. s.faults };
 
-    fn write(&mut self, from: &[u8]) -> Result<usize, Failed> {
+    fn write(&mut self, from: &[u8]) -> Result<usize, Failed>
+        ensures takes { IfOk result (Takes None None from.now) }
+        ensures calm { OnOk result (self.new.faults ≡ self.old.faults) }
+        ensures cause { CountsFault result self.old.faults self.new.faults }
+
+        // A writer that tells its bytes gets those that were taken, and no others.
+        ensures bytes { WriteAppends (W.contents self.old.writer) (W.contents self.new.writer) result from.now }
+    {
         if from.is_empty() {
             return Ok(0);
         }

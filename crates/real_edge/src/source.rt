@@ -1,5 +1,8 @@
 //! A reader as a source.
-ghost use Rattle.std.specs.Prelude.{None};
+ghost use Rattle.std.specs.Prelude.{◌≡◌, None, length, IfOk, OnOk, OnErr};
+ghost use Rattle.std.specs.Io.KnownBytes.{ReadConsumes};
+ghost use Rattle.refusal.specs.Count.{CountsFault};
+ghost use Rattle.text_io.specs.Text.{Gives};
 
 use refusal::Failed;
 use std::io::Read;
@@ -13,7 +16,11 @@ pub struct StdSource<R: Read> {
 }
 
 impl<R: Read> StdSource<R> {
-    pub fn new(reader: R) -> StdSource<R> {
+    /// A source of what this reader gives, with no fault yet.
+    pub fn new(reader: R) -> StdSource<R>
+        ensures reader { result.reader ≡ reader }
+        ensures faults { result.faults ≡ 0 }
+    {
         StdSource { reader, faults: 0 }
     }
 }
@@ -23,7 +30,14 @@ impl<R: Read> Source for StdSource<R> {
 
     ghost faults = { λ s. s.faults };
 
-    fn read(&mut self, into: &mut [u8]) -> Result<usize, Failed> {
+    fn read(&mut self, into: &mut [u8]) -> Result<usize, Failed>
+        ensures gives { IfOk result (Gives None None (length into.old) into.new) }
+        ensures calm { OnOk result (self.new.faults ≡ self.old.faults) }
+        ensures cause { CountsFault result self.old.faults self.new.faults }
+
+        // A reader that tells its bytes loses those that were given, and no others.
+        ensures bytes { ReadConsumes (R.remaining self.old.reader) (R.remaining self.new.reader) result into.new }
+    {
         match self.reader.read(into) {
             Ok(count) => Ok(count),
             Err(_) => {

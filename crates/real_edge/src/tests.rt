@@ -1,6 +1,6 @@
 use super::*;
 use std::io;
-use std::io::{Cursor, Read, Write};
+use std::io::Read;
 use std::test::Fail;
 use text_io::{Sink, Source};
 
@@ -36,8 +36,23 @@ fn a_reader_is_a_source(rt: HostRuntime) -> Result<(), Fail> {
 
 #[test]
 fn a_writer_is_a_sink(rt: HostRuntime) -> Result<(), Fail> {
-    let mut sink = StdSink::new(Vec::new(rt.alloc()));
-    assert_eq!(rt; sink.write(b"ab"), Ok(2));
-    assert_eq!(rt; sink.write(b""), Ok(0));
+    let mut bytes = Vec::new(rt.alloc());
+    {
+        let mut sink = StdSink::new(&mut bytes);
+        assert_eq!(rt; sink.write(b"ab"), Ok(2));
+        assert_eq!(rt; sink.write(b""), Ok(0));
+        assert_eq!(rt; sink.write(b"c"), Ok(1));
+    }
+    assert_eq!(rt; bytes.as_slice(), b"abc".as_slice());
+
+    // A writer that takes a part of a piece, and then nothing more.
+    let mut two = [0; 2];
+    {
+        let mut sink = StdSink::new(two.as_mut_slice());
+        assert_eq!(rt; sink.write(b"abc"), Ok(2));
+        assert!(rt; sink.write(b"c").is_err());
+        assert_eq!(rt; sink.write(b""), Ok(0));
+    }
+    assert_eq!(rt; two, *b"ab");
     Ok(())
 }

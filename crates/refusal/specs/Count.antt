@@ -13,7 +13,8 @@ HasRisen old new = next_count old ≤ new
 abbrev pub HasRisenBy : ℕ → ℕ → ℕ → Type 0
 HasRisenBy n old new = min (old + n) (2 ^ 64 - 1) ≤ new
 
--- it doesn't fall, and a call that failed has raised it
+-- It doesn't fall, a call that failed has raised it, and no call raises it by more than one.
 pub record CountsFault {T E : Type 0} (result : Result T E) (old new : ℕ) : Type 0 where
   pub no_fall : old ≤ new
   pub failed : IsErr result → HasRisen old new
+  pub one_fault : new ≤ old + 1

@@ -8,7 +8,8 @@ ghost use Rattle.refusal.specs.Count.{next_count};
 use std::alloc::{AllocError, AllocFailed};
 use thiserror::Error;
 
-/// A call to a disk, a shelf, a source or a sink failed. Whoever answers it has raised its count of faults in that call.
+/// A call to a disk, a shelf, a source or a sink failed. Whoever answers it has raised its count of faults by one in that call,
+/// but for a disk that refuses a range outside its bytes.
 #[derive(Clone, Copy, PartialEq, Eq, Debug, Error)]
 #[error("a call to the outside failed")]
 pub struct Failed;

@@ -1,5 +1,5 @@
 -- What is left in a source, what a sink holds, and what a call moves.
-use Rattle.std.specs.Prelude.{◌≡◌, ◌≤◌, ◌<◌, ℕ, Option, Some, List, [], ◌++◌, length, take, drop, IfSome, Result, OnOk, OnErr}
+use Rattle.std.specs.Prelude.{◌≡◌, ◌≤◌, ◌<◌, ◌+◌, ℕ, Option, Some, List, [], ◌++◌, length, take, drop, IfSome, Result, OnOk, OnErr}
 use Rattle.refusal.specs.Count.{CountsFault}
 
 -- n bytes that were left went to the front of the slice; none went only at the end, or to no room
@@ -37,6 +37,10 @@ WasRead bytes old new = IfSome old (λ left. (bytes ≡ left) × (new ≡ Some [
 -- a front of what was left is gone
 abbrev pub LosesFront : Option (List ℕ) → Option (List ℕ) → Type 0
 LosesFront old new = IfSome old (λ left. (front : List ℕ) × (rest : List ℕ) × (left ≡ front ++ rest) × (new ≡ Some rest))
+
+-- so many bytes are gone at most
+abbrev pub LosesAtMost : ℕ → Option (List ℕ) → Option (List ℕ) → Type 0
+LosesAtMost limit old new = IfSome old (λ left. (rest : List ℕ) × (new ≡ Some rest) × (length left ≤ length rest + limit))
 
 -- a front of more than so many bytes is gone
 abbrev pub LosesMoreThan : ℕ → Option (List ℕ) → Option (List ℕ) → Type 0

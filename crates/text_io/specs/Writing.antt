@@ -1,6 +1,6 @@
 -- The laws of writing one text after another.
-use Rattle.std.specs.Prelude.{ℕ, ◌+◌, Option, Some, None, List, [], ◌++◌, length, take, Result, Ok, Err, IsErr, OnOk, OnErr, refl}
-use Rattle.std.proofs.Common.{ap, sym, ◌∙◌, subst, append_assoc, append-nil, arith, length-append}
+use Rattle.std.specs.Prelude.{ℕ, ◌+◌, Option, Some, None, List, ◌++◌, length, take, Result, Ok, Err, IsErr, OnOk, OnErr, refl}
+use Rattle.std.proofs.Common.{ap, sym, ◌∙◌, subst, append_assoc, arith, length-append}
 use Rattle.std.proofs.lemmas.List.{take-append-le}
 use Rattle.std.proofs.Math.Seq.{take-append-add}
 use Rattle.refusal.specs.Count.{HasRisen}
@@ -40,6 +40,7 @@ writes_then a b {result = result} {old = old} {mid = mid} {new = new} {second = 
   cause = record {
     no_fall = omega (arith, one.cause.no_fall, two.cause.no_fall);
     failed = λ is_err. let risen : HasRisen second third = two.cause.failed is_err in omega (arith, risen, one.cause.no_fall);
+    one_fault = omega (arith, two.cause.one_fault, one.calm);
   };
 }
 
@@ -58,7 +59,7 @@ writes_stopped a b {result = result} {old = old} {new = new} one failed = record
   ok = on_ok_never result _ failed;
   err = on_err_always result _ (front_of_first a b old new one.err);
   calm = on_ok_never result _ failed;
-  cause = record { no_fall = one.cause.no_fall; failed = λ _. one.cause.failed refl };
+  cause = record { no_fall = one.cause.no_fall; failed = λ _. one.cause.failed refl; one_fault = one.cause.one_fault };
 }
 
 -- the first of two texts failed

@@ -1,6 +1,6 @@
 // A whole text, in as many calls as it takes.
-ghost use Rattle.std.specs.Prelude.{◌≡◌, ◌≤◌, IfOk, OnErr, length};
-ghost use Rattle.text_io.specs.Text.{LosesFront, LosesMoreThan, WasRead, Writes};
+ghost use Rattle.std.specs.Prelude.{◌≡◌, ◌≤◌, ◌+◌, IfOk, OnErr, length};
+ghost use Rattle.text_io.specs.Text.{LosesAtMost, LosesFront, LosesMoreThan, WasRead, Writes};
 ghost use Rattle.text_io.specs.Reading.{CountsRead, IfTooLong};
 ghost use Rattle.text_io.specs.declared.whole.ReadFault.TheVariants.{Failed, NoMemory};
 
@@ -53,7 +53,8 @@ impl From<AllocError> for ReadFault {
 // How many bytes one call reads at most.
 const PIECE: usize = 4096;
 
-/// Reads to the end, at most `limit` bytes. An answer that isn't `Ok` leaves the source behind the bytes that were read.
+/// Reads to the end, at most `limit` bytes. An answer that isn't `Ok` leaves the source behind the bytes that were read, of which
+/// there are at most 4,096 more than the limit.
 pub fn read_all<S: Source>(
     alloc: Global,
     source: &mut S,
@@ -63,6 +64,7 @@ pub fn read_all<S: Source>(
     ensures within { IfOk result (λ bytes. length bytes.items ≤ limit) }
     ensures too_long { IfTooLong result (LosesMoreThan limit (S.left source.old) (S.left source.new)) }
     ensures err { OnErr result (LosesFront (S.left source.old) (S.left source.new)) }
+    ensures soon { OnErr result (LosesAtMost (limit + 4096) (S.left source.old) (S.left source.new)) }
     ensures cause { CountsRead result (S.faults source.old) (S.faults source.new) }
 {
     let mut bytes = Vec::new(alloc);
