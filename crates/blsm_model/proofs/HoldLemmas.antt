@@ -7,10 +7,9 @@ use Rattle.blsm_model.specs.declared.row.Row.{Row}
 use Rattle.blsm_model.specs.declared.row.Value.{Value}
 use Rattle.blsm_model.specs.declared.op.Op.{Op}
 use Rattle.blsm_model.specs.declared.op.Op.TheVariants.{Hold, Next, Release}
-use Rattle.blsm_model.specs.declared.history.Reply.TheVariants.{Held}
 use Rattle.blsm_model.specs.declared.history.Entry.{Entry}
 use Rattle.blsm_model.specs.Rows.{rows}
-use Rattle.blsm_model.specs.Histories.{Object, held_after, is_refusal, fresh_object, after, object_after, written}
+use Rattle.blsm_model.specs.Histories.{Object, held_after, is_refusal, moves_rows, leaves_rows, hold_by, fresh_object, after, object_after, written}
 use Rattle.blsm_model.proofs.HistoryLemmas.{writes-object_after}
 
 -- a refusal changes no caller's rows
@@ -27,13 +26,6 @@ held-other object entry seat other =
     ap (λ b. cond (is_refusal entry.reply) (object.held seat) (cond b (held_after entry.op object.writes (object.held seat)) (object.held seat))) other
     ∙ either (is_refusal entry.reply) (object.held seat)
 
--- a command that holds, takes or drops rows
-abbrev pub moves_rows : Op → Bool
-moves_rows (Hold low high) = true
-moves_rows (Next n) = true
-moves_rows Release = true
-moves_rows _ = false
-
 held_after-still : (op : Op) (object : Object) (seat : ℕ) → moves_rows op ≡ false → held_after op object.writes (object.held seat) ≡ object.held seat
 held_after-still (Hold low high) object seat still = cc
 held_after-still (Next n) object seat still = cc
@@ -46,10 +38,6 @@ held-still object entry seat still =
     ap (λ held. cond (is_refusal entry.reply) (object.held seat) (cond (seat == entry.seat) held (object.held seat))) (held_after-still entry.op object seat still)
     ∙ ap (λ held. cond (is_refusal entry.reply) (object.held seat) held) (either (seat == entry.seat) (object.held seat))
     ∙ either (is_refusal entry.reply) (object.held seat)
-
--- an entry that leaves the caller's rows: another caller's, a refusal, or no command on rows
-abbrev pub leaves_rows : ℕ → Entry → Bool
-leaves_rows seat entry = not (seat == entry.seat) || is_refusal entry.reply || not (moves_rows entry.op)
 
 held-leaves : (object : Object) (entry : Entry) (seat : ℕ) → leaves_rows seat entry ≡ true → (after object entry).held seat ≡ object.held seat
 held-leaves object entry seat leaves = by_parts (seat == entry.seat) (is_refusal entry.reply) (moves_rows entry.op) refl refl refl
@@ -70,9 +58,6 @@ held-all_leave object (e ∷ es) seat leave = both (leaves_rows seat e) refl lea
         (list_all (leaves_rows seat) es ≡ true → (fold after (after object e) es).held seat ≡ (after object e).held seat) → (fold after (after object e) es).held seat ≡ object.held seat
     both true is rest later = later rest ∙ held-leaves object e seat is
     both false is rest later = cc
-
-abbrev hold_by : ℕ → Key → Key → Entry
-hold_by seat low high = record { seat = seat; op = Hold low high; reply = Held }
 
 -- a hold is a snapshot: until the caller's next hold, next or drop it has the rows of what was written before the hold
 pub held-snapshot : (opening : List (Key × Value)) (history later : List Entry) (seat : ℕ) (low high : Key) → list_all (leaves_rows seat) later ≡ true →

@@ -1,6 +1,6 @@
 -- What a legal history keeps: each entry may follow on those before it, one entry at most stops the store, and a stopped
 -- store answers nothing else, with one why.
-use Rattle.std.proofs.Common.{◌≡◌, ℕ, ◌++◌, List, [], ◌∷◌, Bool, true, false, not, ◌||◌, ◌&&◌, ◌⊎◌, inl, inr, refl, ap, sym, subst, ◌∙◌, append_assoc, append-nil}
+use Rattle.std.proofs.Common.{◌≡◌, ℕ, ◌++◌, List, [], ◌∷◌, Bool, true, false, not, ◌||◌, ◌&&◌, inl, inr, refl, ap, sym, subst, ◌∙◌, append_assoc, append-nil}
 use Rattle.std.specs.List.{list_all, AllByRecursion}
 use Rattle.std.proofs.lemmas.List.Folds.{list_all-append}
 use Rattle.blsm_model.specs.declared.row.Value.{Value}
@@ -10,7 +10,7 @@ use Rattle.blsm_model.specs.declared.history.Why.{Why}
 use Rattle.blsm_model.specs.declared.history.Reply.{Reply}
 use Rattle.blsm_model.specs.declared.history.Reply.TheVariants.{Fault, Damaged, Stopped}
 use Rattle.blsm_model.specs.declared.history.Entry.{Entry}
-use Rattle.blsm_model.specs.Legal.{Limits, MayReply, MayFail, NamesNoOther, FollowsOn, IsLegal, is_running, none_stopping, is_stopping, is_stopped, is_work}
+use Rattle.blsm_model.specs.Legal.{Limits, MayReply, MayFail, NamesNoOther, FollowsOn, IsLegal, is_running, none_stopping, is_stopping, is_stopped, is_work, FollowsStop}
 
 abbrev Pairs : Type 0
 Pairs = List (List ℕ × Value)
@@ -36,10 +36,6 @@ one_fails p before e more fails all =
 -- not running, where an entry before shows a stop
 not_running : (before : List Entry) (e : Entry) (more : List Entry) → (is_stopping e.op e.reply || is_stopped e.reply) ≡ true → is_running (before ++ e ∷ more) ≡ true → ⊥
 not_running before e more stop running = one_fails (λ k. not (is_stopping k.op k.reply || is_stopped k.reply)) before e more (ap not stop) running
-
--- what may follow a stop: the stopped reply, and a work that ends in a fault
-abbrev pub FollowsStop : Op → Reply → Type 0
-FollowsStop op reply = (is_stopped reply ≡ true) ⊎ ((is_stopping op reply ≡ true) × (is_work op ≡ true))
 
 may_fail_stopped : (before : List Entry) (op : Op) (reply : Reply) → is_stopping op reply ≡ is_work op → (is_running before ≡ true → ⊥) → MayFail before op → FollowsStop op reply
 may_fail_stopped before (Get key) reply same stop may = absurd (stop may)

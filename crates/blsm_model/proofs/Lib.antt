@@ -4,6 +4,8 @@ mod HoldExamples
 mod RefusalExamples
 mod PrintedExamples
 mod SizeExamples
+mod ImageExamples
+mod ScriptExamples
 pub mod ValueLemmas
 pub mod HistoryLemmas
 pub mod HoldLemmas

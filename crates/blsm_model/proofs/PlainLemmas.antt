@@ -13,7 +13,7 @@ use Rattle.blsm_model.specs.Kept.{Kept}
 use Rattle.blsm_model.specs.Values.{weight_of, value_at}
 use Rattle.blsm_model.specs.Histories.{Object, writes_of, counted_writes, counted, written, object_after, answer_to_get, IsAnswer}
 use Rattle.blsm_model.specs.Legal.{MayReply, is_running, is_write, limit_for, total_weight}
-use Rattle.blsm_model.specs.Plain.{Answers, StandsFor, plain_limits, is_plain_reply}
+use Rattle.blsm_model.specs.Plain.{IsPlainStep, StandsAfter, plain_limits, is_plain_reply}
 use Rattle.blsm_model.proofs.HistoryLemmas.{written_push, counted_writes_push, legal_push, running_push, writes-object_after}
 
 abbrev by : ℕ → Op → Reply → Entry
@@ -36,8 +36,8 @@ charge_push at c history entry is =
     omega arith
 
 -- after a write that is done
-stands_done : (old : Kept) (opening : List (List ℕ × Value)) (at : ℕ) (history : List Entry) (seat : ℕ) (op : Op) → is_write op ≡ true → StandsFor old opening at history →
-    StandsFor (record { writes = old.writes ++ writes_of op; charge = old.charge + total_weight (writes_of op); limit = old.limit }) opening at (history ++ by seat op Done ∷ [])
+stands_done : (old : Kept) (opening : List (List ℕ × Value)) (at : ℕ) (history : List Entry) (seat : ℕ) (op : Op) → is_write op ≡ true → StandsAfter old opening at history →
+    StandsAfter (record { writes = old.writes ++ writes_of op; charge = old.charge + total_weight (writes_of op); limit = old.limit }) opening at (history ++ by seat op Done ∷ [])
 stands_done old opening at history seat op w s = record {
   writes = ap (λ ws. ws ++ writes_of op) s.writes ∙ sym (written_push opening history (by seat op Done));
   charge = charge_push at old.charge history (by seat op Done) s.charge;
@@ -46,8 +46,8 @@ stands_done old opening at history seat op w s = record {
 }
 
 -- after an entry that writes nothing and stops nothing
-stands_same : (old : Kept) (opening : List (List ℕ × Value)) (at : ℕ) (history : List Entry) (entry : Entry) → StandsFor old opening at history →
-    counted entry ≡ [] → MayReply (plain_limits old at) opening history entry.seat entry.op entry.reply → is_running (history ++ entry ∷ []) ≡ true → StandsFor old opening at (history ++ entry ∷ [])
+stands_same : (old : Kept) (opening : List (List ℕ × Value)) (at : ℕ) (history : List Entry) (entry : Entry) → StandsAfter old opening at history →
+    counted entry ≡ [] → MayReply (plain_limits old at) opening history entry.seat entry.op entry.reply → is_running (history ++ entry ∷ []) ≡ true → StandsAfter old opening at (history ++ entry ∷ [])
 stands_same old opening at history entry s none may running = record {
   writes = s.writes ∙ sym (written_push opening history entry ∙ ap (λ ws. written opening history ++ ws) none ∙ append-nil (written opening history));
   charge = let e : old.charge + total_weight (counted entry) ≡ at + total_weight (counted_writes (history ++ entry ∷ [])) = charge_push at old.charge history entry s.charge in
@@ -56,25 +56,25 @@ stands_same old opening at history entry s none may running = record {
   running = running;
 }
 
-stands_full : (old : Kept) (opening : List (List ℕ × Value)) (at : ℕ) (history : List Entry) (seat : ℕ) (op : Op) → is_write op ≡ true → old.limit < old.charge + total_weight (writes_of op) → StandsFor old opening at history →
-    StandsFor old opening at (history ++ by seat op (Full old.charge) ∷ [])
+stands_full : (old : Kept) (opening : List (List ℕ × Value)) (at : ℕ) (history : List Entry) (seat : ℕ) (op : Op) → is_write op ≡ true → old.limit < old.charge + total_weight (writes_of op) → StandsAfter old opening at history →
+    StandsAfter old opening at (history ++ by seat op (Full old.charge) ∷ [])
 stands_full old opening at history seat op w past s =
     let l : limit_for (plain_limits old at) op ≡ old.limit = same_limit old at op in
     stands_same old opening at history (by seat op (Full old.charge)) s refl (s.running, record { write = w; past = omega arith; made = omega (arith, s.charge) }) (running_push history (by seat op (Full old.charge)) s.running refl refl)
 
-stands_get : (old : Kept) (opening : List (List ℕ × Value)) (at : ℕ) (history : List Entry) (seat : ℕ) (key : List ℕ) (found : Option Value) → value_at old.writes key ≡ found → StandsFor old opening at history →
-    StandsFor old opening at (history ++ by seat (Get key) (answer_to_get found) ∷ [])
+stands_get : (old : Kept) (opening : List (List ℕ × Value)) (at : ℕ) (history : List Entry) (seat : ℕ) (key : List ℕ) (found : Option Value) → value_at old.writes key ≡ found → StandsAfter old opening at history →
+    StandsAfter old opening at (history ++ by seat (Get key) (answer_to_get found) ∷ [])
 stands_get old opening at history seat key found is s =
     let told : answer_to_get found ≡ answer_to_get (value_at (object_after opening history).writes key) =
     ap answer_to_get (sym is ∙ ap (λ ws. value_at ws key) (s.writes ∙ sym (writes-object_after opening history))) in
     at_found found told
   where
-    at_found : (o : Option Value) → answer_to_get o ≡ answer_to_get (value_at (object_after opening history).writes key) → StandsFor old opening at (history ++ by seat (Get key) (answer_to_get o) ∷ [])
+    at_found : (o : Option Value) → answer_to_get o ≡ answer_to_get (value_at (object_after opening history).writes key) → StandsAfter old opening at (history ++ by seat (Get key) (answer_to_get o) ∷ [])
     at_found None told = stands_same old opening at history (by seat (Get key) Absent) s refl (s.running, told) (running_push history (by seat (Get key) Absent) s.running refl refl)
     at_found (Some value) told = stands_same old opening at history (by seat (Get key) (Is value)) s refl (s.running, told) (running_push history (by seat (Get key) (Is value)) s.running refl refl)
 
 -- what an answer to a write may be
-write_answers : (old new : Kept) (op : Op) (reply : Reply) → is_write op ≡ true → Answers old op new reply →
+write_answers : (old new : Kept) (op : Op) (reply : Reply) → is_write op ≡ true → IsPlainStep old op new reply →
     ((reply ≡ Done) × (old.charge + total_weight (writes_of op) ≤ old.limit) × (new ≡ record { writes = old.writes ++ writes_of op; charge = old.charge + total_weight (writes_of op); limit = old.limit }))
     ⊎ ((reply ≡ Full old.charge) × (old.limit < old.charge + total_weight (writes_of op)) × (new ≡ old))
 write_answers old new (Put key value) (Full charge) w a = inr (ap Full a.1, a.2, a.3)
@@ -85,17 +85,17 @@ write_answers old new (Del key) (Full charge) w a = inr (ap Full a.1, a.2, a.3)
 write_answers old new (Del key) _ w a = inl (a.1, a.2, a.3)
 write_answers old new _ reply w a = cc
 
-stands_write : (old new : Kept) (opening : List (List ℕ × Value)) (at : ℕ) (history : List Entry) (seat : ℕ) (op : Op) (reply : Reply) → is_write op ≡ true → Answers old op new reply → StandsFor old opening at history → StandsFor new opening at (history ++ by seat op reply ∷ [])
+stands_write : (old new : Kept) (opening : List (List ℕ × Value)) (at : ℕ) (history : List Entry) (seat : ℕ) (op : Op) (reply : Reply) → is_write op ≡ true → IsPlainStep old op new reply → StandsAfter old opening at history → StandsAfter new opening at (history ++ by seat op reply ∷ [])
 stands_write old new opening at history seat op reply w a s =
     elim (write_answers old new op reply w a) [
-      | inl d ↦ subst (λ r. StandsFor new opening at (history ++ by seat op r ∷ [])) (sym d.0) (subst (λ k. StandsFor k opening at (history ++ by seat op Done ∷ [])) (sym d.2) (stands_done old opening at history seat op w s))
-      | inr f ↦ subst (λ r. StandsFor new opening at (history ++ by seat op r ∷ [])) (sym f.0) (subst (λ k. StandsFor k opening at (history ++ by seat op (Full old.charge) ∷ [])) (sym f.2) (stands_full old opening at history seat op w f.1 s))
+      | inl d ↦ subst (λ r. StandsAfter new opening at (history ++ by seat op r ∷ [])) (sym d.0) (subst (λ k. StandsAfter k opening at (history ++ by seat op Done ∷ [])) (sym d.2) (stands_done old opening at history seat op w s))
+      | inr f ↦ subst (λ r. StandsAfter new opening at (history ++ by seat op r ∷ [])) (sym f.0) (subst (λ k. StandsAfter k opening at (history ++ by seat op (Full old.charge) ∷ [])) (sym f.2) (stands_full old opening at history seat op w f.1 s))
     ]
 
 -- after any answer of the plain store
-pub stands_push : (old new : Kept) (opening : List (List ℕ × Value)) (at : ℕ) (history : List Entry) (seat : ℕ) (op : Op) (reply : Reply) → Answers old op new reply → StandsFor old opening at history → StandsFor new opening at (history ++ by seat op reply ∷ [])
+pub stands_push : (old new : Kept) (opening : List (List ℕ × Value)) (at : ℕ) (history : List Entry) (seat : ℕ) (op : Op) (reply : Reply) → IsPlainStep old op new reply → StandsAfter old opening at history → StandsAfter new opening at (history ++ by seat op reply ∷ [])
 stands_push old new opening at history seat (Get key) reply a s =
-    subst (λ r. StandsFor new opening at (history ++ by seat (Get key) r ∷ [])) (sym a.0) (subst (λ k. StandsFor k opening at (history ++ by seat (Get key) (answer_to_get (value_at old.writes key)) ∷ [])) (sym a.1) (stands_get old opening at history seat key _ refl s))
+    subst (λ r. StandsAfter new opening at (history ++ by seat (Get key) r ∷ [])) (sym a.0) (subst (λ k. StandsAfter k opening at (history ++ by seat (Get key) (answer_to_get (value_at old.writes key)) ∷ [])) (sym a.1) (stands_get old opening at history seat key _ refl s))
 stands_push old new opening at history seat (Put key value) reply a s = stands_write old new opening at history seat (Put key value) reply refl a s
 stands_push old new opening at history seat (Add key count) reply a s = stands_write old new opening at history seat (Add key count) reply refl a s
 stands_push old new opening at history seat (Del key) reply a s = stands_write old new opening at history seat (Del key) reply refl a s
@@ -109,7 +109,7 @@ limit_by old new op reply (inl d) = ap (λ k. k.limit) d.2
 limit_by old new op reply (inr f) = ap (λ k. k.limit) f.2
 
 -- no answer changes the limit
-pub limit_kept : (old new : Kept) (op : Op) (reply : Reply) → Answers old op new reply → new.limit ≡ old.limit
+pub limit_kept : (old new : Kept) (op : Op) (reply : Reply) → IsPlainStep old op new reply → new.limit ≡ old.limit
 limit_kept old new (Get key) reply a = ap (λ k. k.limit) a.1
 limit_kept old new (Put key value) reply a = limit_by old new (Put key value) reply (write_answers old new (Put key value) reply refl a)
 limit_kept old new (Add key count) reply a = limit_by old new (Add key count) reply (write_answers old new (Add key count) reply refl a)
@@ -124,7 +124,7 @@ charge_by old new op reply (inl d) fits = let charge = ap (λ (k : Kept). k.char
 charge_by old new op reply (inr f) fits = let charge = ap (λ (k : Kept). k.charge) f.2 in let limit = ap (λ (k : Kept). k.limit) f.2 in omega arith
 
 -- the charge stays within the limit
-pub charge_kept : (old new : Kept) (op : Op) (reply : Reply) → Answers old op new reply → old.charge ≤ old.limit → new.charge ≤ new.limit
+pub charge_kept : (old new : Kept) (op : Op) (reply : Reply) → IsPlainStep old op new reply → old.charge ≤ old.limit → new.charge ≤ new.limit
 charge_kept old new (Get key) reply a fits = let charge = ap (λ (k : Kept). k.charge) a.1 in let limit = ap (λ (k : Kept). k.limit) a.1 in omega arith
 charge_kept old new (Put key value) reply a fits = charge_by old new (Put key value) reply (write_answers old new (Put key value) reply refl a) fits
 charge_kept old new (Add key count) reply a fits = charge_by old new (Add key count) reply (write_answers old new (Add key count) reply refl a) fits
@@ -137,7 +137,7 @@ got_plain None = refl
 got_plain (Some value) = refl
 
 -- each reply is one of those that the plain store gives
-pub answered : (old new : Kept) (op : Op) (reply : Reply) → Answers old op new reply → is_plain_reply reply ≡ true
+pub answered : (old new : Kept) (op : Op) (reply : Reply) → IsPlainStep old op new reply → is_plain_reply reply ≡ true
 answered old new (Get key) reply a = ap is_plain_reply a.0 ∙ got_plain (value_at old.writes key)
 answered old new op (Full charge) a = refl
 answered old new (Put key value) reply a = ap is_plain_reply (a.1)

@@ -1,12 +1,8 @@
--- The sizes of three geometries, and the images after a write that is unsure, worked out.
-use Rattle.std.proofs.Common.{◌≡◌, ℕ, List, [], ◌∷◌, refl, true, false, lit≤, arith}
-use Rattle.blsm_model.specs.declared.op.Op.TheVariants.{Put}
-use Rattle.blsm_model.specs.declared.history.Reply.TheVariants.{Done, FaultUnsure}
-use Rattle.blsm_model.specs.declared.history.Entry.{Entry}
+-- The sizes of three geometries, and the numbers of the format that follow from others, worked out.
+use Rattle.std.proofs.Common.{◌≡◌, ℕ, ◌+◌, ◌-◌, ◌*◌, List, [], ◌∷◌, refl, false, arith}
+use Rattle.blsm_model.specs.Format.{callers, most_key, most_text, overhead, least_weight, most_weight, most_lines, most_entries, least_full}
 use Rattle.blsm_model.specs.Sizes.{Sizes, default_sizes}
-use Rattle.blsm_model.specs.Geometry.{work_bound, capacity, c1_mark, high_mark, page_count, file_length, c1_way, first_gear, second_gear, charge_limit}
-use Rattle.blsm_model.specs.Images.{Shows}
-use Rattle.blsm_model.proofs.ExampleWords.{a, b, by, of}
+use Rattle.blsm_model.specs.Geometry.{work_bound, capacity, c1_mark, high_mark, page_count, file_length, c1_way, first_gear, second_gear, charge_limit, page_shares}
 
 abbrev sizes_of : Sizes → List ℕ
 sizes_of sizes =
@@ -26,12 +22,8 @@ steepest_are = refl
 bound_rounded_down : work_bound default_sizes 14 ≡ 0 → ⊥
 bound_rounded_down wrong = absurd (omega (arith, wrong))
 
--- a write that was answered FaultUnsure stands in an image, or does not
-abbrev unsure_put : List Entry
-unsure_put = by 0 (Put a (of 1 [])) Done ∷ by 0 (Put b (of 2 [])) FaultUnsure ∷ []
-
-unsure_is_out : Shows ((a, of 1 []) ∷ []) [] unsure_put 2
-unsure_is_out = record { front = unsure_put; unsure = false; begins = ([], refl); enough = lit≤ tt; map = refl }
-
-unsure_is_in : Shows ((a, of 1 []) ∷ (b, of 2 []) ∷ []) [] unsure_put 2
-unsure_is_in = record { front = unsure_put; unsure = true; begins = ([], refl); enough = lit≤ tt; map = refl }
+-- the lightest and the heaviest entry; a full page, whose entries have 4,088 bytes of room; one entry more than lines; the
+-- least half spring, twice the heaviest entry of each caller and of one more; the shares of the pages, three besides holds
+numbers_follow : least_weight ∷ most_weight ∷ least_full ∷ most_entries ∷ 17408 ∷ page_shares ∷ []
+    ≡ (overhead + 1) ∷ (overhead + most_key + most_text) ∷ (4088 + 1 - most_weight) ∷ (most_lines + 1) ∷ (2 * (callers + 1) * most_weight) ∷ (callers + 3) ∷ []
+numbers_follow = refl

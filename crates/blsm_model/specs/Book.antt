@@ -1,5 +1,6 @@
 -- What annals hold: the history, the quanta of each entry, and the room left at each seat.
 use Rattle.std.specs.Prelude.{ℕ, ◌+◌, ◌-◌, ◌<◌, ◌≤◌, List, [], ◌∷◌, ◌++◌, length, slice_index, slice_index_or, slice_set}
+use Rattle.blsm_model.specs.Format.{callers}
 use Rattle.blsm_model.specs.declared.row.Row.{Row}
 use Rattle.blsm_model.specs.declared.room.Room.{Room}
 use Rattle.blsm_model.specs.declared.op.Op.TheVariants.{Release}
@@ -28,7 +29,7 @@ rows_given _ = []
 
 -- the seat of the entry has room for it
 pub record HasRoom (room : Room) (entry : Entry) : Type 0 where
-  pub seat : entry.seat < 16
+  pub seat : entry.seat < callers
   pub entries : 0 < slice_index room.entries entry.seat
   pub rows : length (rows_given entry.reply) ≤ slice_index room.rows entry.seat
 

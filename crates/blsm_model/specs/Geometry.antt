@@ -1,6 +1,7 @@
 -- The sizes of a store, which follow from the four numbers of its geometry. Marks, limits and lengths are in bytes.
-use Rattle.std.specs.Prelude.{ℕ, ◌+◌, ◌-◌, ◌*◌, Bool, if◌then◌else◌}
+use Rattle.std.specs.Prelude.{ℕ, ◌+◌, ◌-◌, ◌*◌, Bool, true, false, if◌then◌else◌}
 use Rattle.std.specs.Int.{div_ceil}
+use Rattle.blsm_model.specs.Format.{head_length, page_length, least_full}
 use Rattle.blsm_model.specs.Sizes.{Sizes, HalfFits, RatioFits, LowFits, QuantumFits}
 use Rattle.blsm_model.specs.declared.geometry.GeometryFault.{GeometryFault}
 use Rattle.blsm_model.specs.declared.geometry.GeometryFault.TheVariants.{Half, Ratio, Low, Quantum}
@@ -40,14 +41,17 @@ second_gear sizes = sizes.ratio + 2
 abbrev pub work_bound : Sizes → ℕ → ℕ
 work_bound sizes weight = div_ceil (first_gear sizes * weight) sizes.quantum + div_ceil (second_gear sizes * weight) sizes.quantum
 
--- Nineteen shares of the pages of three components at capacity: each full page of a component holds entries of at least
--- 3,577 bytes, and each component may end with a page that is nearly empty.
+-- one share for each caller's hold, one for the components, one for the two runs being written, and one to spare
+abbrev pub page_shares : ℕ
+page_shares = 19
+
+-- A share has the pages of three components at capacity, of which each may end with a page that is nearly empty.
 abbrev pub page_count : Sizes → ℕ
-page_count sizes = 19 * (div_ceil (capacity sizes) 3577 + 3)
+page_count sizes = page_shares * (div_ceil (capacity sizes) least_full + 3)
 
 -- the head, three lanes of four halves each, and the pages
 abbrev pub file_length : Sizes → ℕ
-file_length sizes = 4096 + 12 * sizes.half + 4096 * page_count sizes
+file_length sizes = head_length + 12 * sizes.half + page_length * page_count sizes
 
 -- the charge up to which a del is taken, and any other write: these leave half a spring of room
 abbrev pub charge_limit : Sizes → Bool → ℕ
@@ -55,4 +59,4 @@ charge_limit sizes is_del = if is_del then capacity sizes else capacity sizes - 
 
 -- the limits of a store that is opened at this charge
 abbrev pub limits_of : Sizes → ℕ → Limits
-limits_of sizes charge = record { opening = charge; dels = capacity sizes; others = capacity sizes - sizes.half }
+limits_of sizes charge = record { opening = charge; dels = charge_limit sizes true; others = charge_limit sizes false }

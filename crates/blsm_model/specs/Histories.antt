@@ -1,5 +1,5 @@
 -- Histories: their counted writes, the map after them, and the sequential map, which answers one command at a time.
-use Rattle.std.specs.Prelude.{◌≡◌, ℕ, ◌≤◌, Bool, true, false, List, [], ◌∷◌, ◌++◌, take, drop, Option, Some, None, option_map, if◌then◌else◌, ◌==◌, fold, flat_map}
+use Rattle.std.specs.Prelude.{◌≡◌, ℕ, ◌≤◌, Bool, true, false, not, ◌||◌, List, [], ◌∷◌, ◌++◌, take, drop, Option, Some, None, option_map, if◌then◌else◌, ◌==◌, fold, flat_map}
 use Rattle.blsm_model.specs.declared.key.Key.{Key}
 use Rattle.blsm_model.specs.declared.row.Value.{Value}
 use Rattle.blsm_model.specs.declared.row.Row.{Row}
@@ -100,6 +100,20 @@ after object entry =
           if is_refusal entry.reply then object.held seat
           else (if seat == entry.seat then held_after entry.op object.writes (object.held seat) else object.held seat);
     }
+
+-- a command that holds, takes or drops rows
+abbrev pub moves_rows : Op → Bool
+moves_rows (Hold low high) = true
+moves_rows (Next n) = true
+moves_rows Release = true
+moves_rows _ = false
+
+-- an entry that leaves a caller's rows: another caller's, a refusal, or no command on rows
+abbrev pub leaves_rows : ℕ → Entry → Bool
+leaves_rows seat entry = not (seat == entry.seat) || is_refusal entry.reply || not (moves_rows entry.op)
+
+abbrev pub hold_by : ℕ → Key → Key → Entry
+hold_by seat low high = record { seat = seat; op = Hold low high; reply = Held }
 
 abbrev pub object_after : List (Key × Value) → List Entry → Object
 object_after opening history = fold after (fresh_object opening) history

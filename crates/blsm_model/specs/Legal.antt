@@ -6,7 +6,7 @@
 --     any command of a stopped store: Stopped, with one why for all
 -- At most one entry stops the store. After it, and after the first Stopped, each entry is Stopped, but for a work that
 -- stops the store: its entry is noted at its end, when others may have been told already.
-use Rattle.std.specs.Prelude.{◌≡◌, ℕ, ◌+◌, ◌<◌, ◌≤◌, ⊤, Bool, true, false, not, ◌||◌, List, [], ◌∷◌, ◌++◌, IsTrue, sum_by}
+use Rattle.std.specs.Prelude.{◌≡◌, ℕ, ◌+◌, ◌<◌, ◌≤◌, ⊤, ◌⊎◌, Bool, true, false, not, ◌||◌, List, [], ◌∷◌, ◌++◌, IsTrue, sum_by}
 use Rattle.std.specs.List.{list_all, AllByRecursion}
 use Rattle.blsm_model.specs.declared.key.Key.{Key}
 use Rattle.blsm_model.specs.declared.row.Value.{Value}
@@ -67,6 +67,10 @@ is_stopping op _ = false
 abbrev pub is_stopped : Reply → Bool
 is_stopped (Stopped why) = true
 is_stopped _ = false
+
+-- what may follow a stop: the stopped reply, and a work that stops the store itself
+abbrev pub FollowsStop : Op → Reply → Type 0
+FollowsStop op reply = IsTrue (is_stopped reply) ⊎ (IsTrue (is_stopping op reply) × IsTrue (is_work op))
 
 -- no entry shows that the store is stopped
 abbrev pub is_running : List Entry → Bool

@@ -1,3 +1,4 @@
+pub mod Format
 pub mod Keys
 pub mod Values
 pub mod Rows

@@ -24,10 +24,10 @@ AllPlain script = All (λ l. IsTrue (is_plain l.op)) script
 
 -- what the plain store answers to a command, and has then: a write is done where the charge stays within the limit, and
 -- refused as full where it wouldn't
-abbrev pub Answers : Kept → Op → Kept → Reply → Type 0
-Answers old (Get key) new reply = (reply ≡ answer_to_get (value_at old.writes key)) × (new ≡ old)
-Answers old op new (Full charge) = IsTrue (is_write op) × (charge ≡ old.charge) × (old.limit < old.charge + total_weight (writes_of op)) × (new ≡ old)
-Answers old op new reply = IsTrue (is_write op) × (reply ≡ Done) × (old.charge + total_weight (writes_of op) ≤ old.limit) × (new ≡ record { writes = old.writes ++ writes_of op; charge = old.charge + total_weight (writes_of op); limit = old.limit })
+abbrev pub IsPlainStep : Kept → Op → Kept → Reply → Type 0
+IsPlainStep old (Get key) new reply = (reply ≡ answer_to_get (value_at old.writes key)) × (new ≡ old)
+IsPlainStep old op new (Full charge) = IsTrue (is_write op) × (charge ≡ old.charge) × (old.limit < old.charge + total_weight (writes_of op)) × (new ≡ old)
+IsPlainStep old op new reply = IsTrue (is_write op) × (reply ≡ Done) × (old.charge + total_weight (writes_of op) ≤ old.limit) × (new ≡ record { writes = old.writes ++ writes_of op; charge = old.charge + total_weight (writes_of op); limit = old.limit })
 
 -- the replies that the plain store gives
 abbrev pub is_plain_reply : Reply → Bool
@@ -45,7 +45,7 @@ abbrev pub plain_limits : Kept → ℕ → Limits
 plain_limits kept charge = record { opening = charge; dels = kept.limit; others = kept.limit }
 
 -- the plain store stands where this legal history leads, from an opening with these pairs and this charge
-pub record StandsFor (kept : Kept) (opening : List (Key × Value)) (at_opening : ℕ) (history : List Entry) : Type 0 where
+pub record StandsAfter (kept : Kept) (opening : List (Key × Value)) (at_opening : ℕ) (history : List Entry) : Type 0 where
   pub writes : kept.writes ≡ written opening history
   pub charge : kept.charge ≡ at_opening + total_weight (counted_writes history)
   pub legal : IsLegal (plain_limits kept at_opening) opening history
@@ -54,5 +54,5 @@ pub record StandsFor (kept : Kept) (opening : List (Key × Value)) (at_opening :
 -- whatever history the store stood for, it stands for that history with one entry more
 abbrev pub KeepsHistory : Kept → Op → Kept → Reply → Type 0
 KeepsHistory old op new reply =
-    (opening : List (Key × Value)) (at_opening : ℕ) (history : List Entry) (seat : ℕ) → StandsFor old opening at_opening history
-    → StandsFor new opening at_opening (history ++ (record { seat = seat; op = op; reply = reply }) ∷ [])
+    (opening : List (Key × Value)) (at_opening : ℕ) (history : List Entry) (seat : ℕ) → StandsAfter old opening at_opening history
+    → StandsAfter new opening at_opening (history ++ (record { seat = seat; op = op; reply = reply }) ∷ [])

@@ -1,5 +1,5 @@
 -- The map that a list of writes leaves, and its rows in a range of keys.
-use Rattle.std.specs.Prelude.{List, [], ◌∷◌, map, filter, Option, Some, None}
+use Rattle.std.specs.Prelude.{List, [], ◌∷◌, codes, map, filter, Option, Some, None}
 use Rattle.std.specs.FinMap.{put}
 use Rattle.blsm_model.specs.declared.key.Key.{Key}
 use Rattle.blsm_model.specs.declared.row.Value.{Value}
@@ -26,6 +26,10 @@ map_of writes = pairs_at writes (map key_of writes)
 -- its rows from low on, without high
 abbrev pub rows : List Write → Key → Key → List Row
 rows writes low high = map (λ p. record { key = p.0; value = p.1 }) (filter (λ p. in_range low high p.0) (map_of writes))
+
+-- what stands in the unused places of a list of rows, where no contract sees it
+abbrev pub unused_row : Row
+unused_row = record { key = codes "-"; value = record { count = 0; text = [] } }
 
 -- one put for each pair
 abbrev pub puts_of : List (Key × Value) → List Write

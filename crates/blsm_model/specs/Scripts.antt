@@ -12,6 +12,13 @@ lines_of seat script = map (λ l. l.op) (filter (λ l. l.seat == seat) script)
 abbrev pub ops_of : ℕ → List Entry → List Op
 ops_of seat history = map (λ e. e.op) (filter (λ e. e.seat == seat) history)
 
+-- who asks for what, in order
+abbrev pub asked : List Line → List (ℕ × Op)
+asked script = map (λ l. (l.seat, l.op)) script
+
+abbrev pub asked_in : List Entry → List (ℕ × Op)
+asked_in history = map (λ e. (e.seat, e.op)) history
+
 -- each caller's entries are its lines, in order, each once; and there are no others
 abbrev pub IsOfScript : List Line → List Entry → Type 0
 IsOfScript script history = (seat : ℕ) → ops_of seat history ≡ lines_of seat script

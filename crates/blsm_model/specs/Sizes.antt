@@ -8,6 +8,7 @@ pub record Sizes : Type 0 where
   pub low : ℕ
   pub quantum : ℕ
 
+-- at least twice the heaviest entry of each caller and of one more
 abbrev pub HalfFits : Sizes → Type 0
 HalfFits sizes = (17408 ≤ sizes.half) × (sizes.half ≤ 67108864)
 

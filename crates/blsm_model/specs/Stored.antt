@@ -1,6 +1,7 @@
 -- What the annals' own fields stand for.
 use Rattle.std.specs.Prelude.{◌≡◌, ℕ, ◌+◌, ◌≤◌, ⊤, List, length, sum, slice_range}
 use Rattle.std.specs.List.{AllByRecursion}
+use Rattle.blsm_model.specs.Format.{most_rows, most_entries}
 use Rattle.blsm_model.specs.declared.row.Row.{Row}
 use Rattle.blsm_model.specs.declared.room.Room.{Room}
 use Rattle.blsm_model.specs.declared.annals.StoredReply.{StoredReply}
@@ -32,14 +33,14 @@ stored_entry rows entry = record { seat = entry.seat; op = entry.op; reply = sto
 
 -- the places of the reply's rows are among the list's, and no more than a reply may give
 abbrev pub FitsRows : List Row → StoredReply → Type 0
-FitsRows rows (stored.Rows first end) = (first ≤ end) × (end ≤ length rows) × (end ≤ first + 32)
+FitsRows rows (stored.Rows first end) = (first ≤ end) × (end ≤ length rows) × (end ≤ first + most_rows)
 FitsRows rows _ = ⊤
 
 -- the annals' fields agree, and their lists have room for all that the seats may still note
 pub record IsStored (entries : List StoredEntry) (rows : List Row) (quanta : List ℕ) (room : Room) (entries_capacity rows_capacity quanta_capacity : ℕ) : Type 0 where
   pub within : AllByRecursion (λ e. FitsRows rows e.reply) entries
   pub as_long : length quanta ≡ length entries
-  pub few : length entries + sum room.entries ≤ 65537
+  pub few : length entries + sum room.entries ≤ most_entries
   pub entries_room : length entries + sum room.entries ≤ entries_capacity
   pub rows_room : length rows + sum room.rows ≤ rows_capacity
   pub quanta_room : length quanta + sum room.entries ≤ quanta_capacity

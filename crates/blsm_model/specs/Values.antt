@@ -8,16 +8,13 @@ use Rattle.blsm_model.specs.declared.key.Key.{Key}
 use Rattle.blsm_model.specs.declared.row.Value.{Value}
 use Rattle.blsm_model.specs.declared.op.Write.{Write}
 use Rattle.blsm_model.specs.declared.op.Write.TheVariants.{Put, Add, Del}
+use Rattle.blsm_model.specs.Format.{overhead}
 use Rattle.blsm_model.specs.Keys.{same_key}
 
 abbrev pub key_of : Write → Key
 key_of (Put key value) = key
 key_of (Add key count) = key
 key_of (Del key) = key
-
--- how many bytes a write has besides its key and its text
-abbrev pub overhead : ℕ
-overhead = 13
 
 -- the text that a write has: an add and a del have none
 abbrev pub text_written : Write → List ℕ

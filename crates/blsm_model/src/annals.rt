@@ -1,5 +1,6 @@
 //! The history of a run, in memory that is reserved before it.
-ghost use Rattle.std.specs.Prelude.{◌≡◌, ◌+◌, ◌<◌, ◌≤◌, ◌^◌, ◌++◌, [], ◌==◌, length, sum, slice_index, slice_set, vec_capacity, IfOk};
+ghost use Rattle.std.specs.Prelude.{◌≡◌, ◌+◌, ◌<◌, ◌≤◌, ◌^◌, ◌++◌, [], ◌==◌, length, sum, slice_index, vec_capacity, IfOk};
+ghost use Rattle.blsm_model.specs.Format.{most_entries, most_rows, most_rows_asked};
 ghost use Rattle.blsm_model.specs.Book.{HasRoom, noted, counted_up, entry_at, rows_given};
 ghost use Rattle.blsm_model.specs.Stored.{stored_reply, FitsRows};
 
@@ -48,6 +49,7 @@ pub struct Annals {
 
 impl Model for Annals {
     ghost use Rattle.std.specs.Prelude.{map, vec_capacity};
+    ghost use Rattle.blsm_model.specs.Format.{most_entries, most_rows, most_rows_asked};
     ghost use Rattle.blsm_model.specs.Book.{Book};
 
     ghost Value = { Book };
@@ -62,8 +64,8 @@ impl Model for Annals {
 impl Annals {
     /// Annals with this room, and nothing noted. `NoMemory` where memory is refused.
     pub fn reserve(alloc: Global, room: Room) -> Result<Annals, NoMemory>
-        requires entries { sum room.entries ≤ Room.MAX_ENTRIES }
-        requires rows { sum room.rows ≤ Room.MAX_ROWS }
+        requires entries { sum room.entries ≤ most_entries }
+        requires rows { sum room.rows ≤ most_rows_asked }
         ensures { IfOk result (λ annals. annals ≡ record { entries = []; quanta = []; room = room }) }
     {
         Ok(Annals {
@@ -101,7 +103,7 @@ impl Annals {
     pub fn len(&self) -> usize
         ensures entries { result ≡ length self.now.entries }
         ensures quanta { result ≡ length self.now.quanta }
-        ensures few { result ≤ 65537 }
+        ensures few { result ≤ most_entries }
     {
         self.stored.len()
     }
@@ -221,7 +223,7 @@ fn append(rows: &mut Vec<Row>, list: &RowList)
     requires { length rows.old.items + length list.now ≤ vec_capacity rows.old }
     ensures rows { rows.new.items ≡ rows.old.items ++ list.now }
     ensures capacity { vec_capacity rows.new ≡ vec_capacity rows.old }
-    ensures fits { length list.now ≤ RowList.MAX_LEN }
+    ensures fits { length list.now ≤ most_rows }
 {
     let more = list.as_slice();
     for row in more {
@@ -231,7 +233,7 @@ fn append(rows: &mut Vec<Row>, list: &RowList)
 
 // The room of all seats together.
 fn total(room: &[u32]) -> usize
-    requires { sum room.now ≤ Room.MAX_ROWS }
+    requires { sum room.now ≤ most_rows_asked }
     ensures { result ≡ sum room.now }
 {
     let mut all = 0usize;

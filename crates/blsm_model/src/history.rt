@@ -85,7 +85,9 @@ impl Reply {
 pub struct Entry {
     /// The seat of the caller, from 0.
     pub seat: u32,
+    /// What it asked for.
     pub op: Op,
+    /// What it was answered.
     pub reply: Reply,
 }
 
@@ -117,6 +119,7 @@ impl Entry {
 pub struct Line {
     /// The seat of the caller, from 0.
     pub seat: u32,
+    /// What it is to ask for.
     pub op: Op,
 }
 
@@ -142,7 +145,7 @@ impl Line {
     }
 }
 
-/// The numbers of a whole run, from the opening of the store to its end.
+/// The numbers of a whole run, from the opening of the store to its end. The last line of a history has all but the last two.
 #[derive(Clone, Copy, PartialEq, Eq, Debug)]
 pub struct Totals {
     /// The greatest weight of the memory table at the end of any step, in bytes.

@@ -1,5 +1,6 @@
 //! Keys.
 ghost use Rattle.std.specs.Prelude.{◌≡◌, ◌<◌, ◌≤◌, ◌↔◌, ◌⊎◌, ⊤, length, IsNone, IfSome};
+ghost use Rattle.blsm_model.specs.Format.{most_key};
 
 use arrayvec::ArrayVec;
 use std::alloc::AllocError;
@@ -14,12 +15,13 @@ pub struct Key {
 
 impl Model for Key {
     ghost use Rattle.std.specs.Prelude.{ℕ, List, ◌≤◌, length};
+    ghost use Rattle.blsm_model.specs.Format.{most_key};
 
     ghost Value = { List ℕ };
 
     ghost view = { λ k. k.bytes.items };
 
-    ghost invariant = { λ k. (1 ≤ length k.bytes.items) × (length k.bytes.items ≤ 64) };
+    ghost invariant = { λ k. (1 ≤ length k.bytes.items) × (length k.bytes.items ≤ most_key) };
 
     ghost inverse = { λ bytes. record { bytes = record { items = bytes } } };
 }
@@ -74,7 +76,7 @@ impl Key {
 
     /// The key of these bytes; `None` for no bytes and for more than 64.
     pub fn from_bytes(bytes: &[u8]) -> Option<Key>
-        ensures none { IsNone result ↔ ((length bytes.now ≡ 0) ⊎ (Key.MAX_LEN < length bytes.now)) }
+        ensures none { IsNone result ↔ ((length bytes.now ≡ 0) ⊎ (most_key < length bytes.now)) }
         ensures some { IfSome result (λ key. key ≡ bytes.now) }
     {
         if bytes.is_empty() {
@@ -90,7 +92,7 @@ impl Key {
     pub fn as_bytes(&self) -> &[u8]
         ensures bytes { result.now ≡ self.now }
         ensures not_empty { 1 ≤ length result.now }
-        ensures fits { length result.now ≤ Key.MAX_LEN }
+        ensures fits { length result.now ≤ most_key }
     {
         self.bytes.as_slice()
     }

@@ -1,6 +1,6 @@
 //! Writes and commands.
-ghost use Rattle.std.specs.Prelude.{◌≡◌, ◌∷◌, ◌≤◌, [], ⊤, IsTrue, length};
-ghost use Rattle.blsm_model.specs.Values.{text_written, weight_of};
+ghost use Rattle.std.specs.Prelude.{◌≡◌, ◌∷◌, ◌≤◌, [], ⊤, IsTrue};
+ghost use Rattle.blsm_model.specs.Format.{least_weight, most_weight};
 ghost use Rattle.blsm_model.specs.Histories.{writes_of};
 ghost use Rattle.blsm_model.specs.Legal.{is_write, total_weight};
 
@@ -106,8 +106,8 @@ impl Op {
     pub fn weight(&self) -> u64
         requires { IsTrue (is_write self.now) }
         ensures weight { result ≡ total_weight (writes_of self.now) }
-        ensures least { 14 ≤ result }
-        ensures bound { result ≤ Op.MAX_WEIGHT }
+        ensures least { least_weight ≤ result }
+        ensures bound { result ≤ most_weight }
     {
         match self {
             Op::Put(key, value) => {

@@ -1,11 +1,11 @@
 //! The plain store: the sequential map over a list of writes, which it scans.
-ghost use Rattle.std.specs.Prelude.{◌≡◌, ◌+◌, ◌<◌, ◌≤◌, ◌↔◌, ◌++◌, ◌∷◌, [], List, IsTrue, IfOk, OnOk, OnErr};
+ghost use Rattle.std.specs.Prelude.{◌≡◌, ◌+◌, ◌<◌, ◌≤◌, ◌↔◌, ◌++◌, ◌∷◌, [], List, IsTrue, IfOk, OnErr};
 ghost use Rattle.blsm_model.specs.declared.op.Write.{Write};
 ghost use Rattle.blsm_model.specs.Values.{value_at};
 ghost use Rattle.blsm_model.specs.Histories.{counted_writes};
 ghost use Rattle.blsm_model.specs.Legal.{is_write, total_weight, IsLegal};
-ghost use Rattle.blsm_model.specs.Scripts.{IsOfScript};
-ghost use Rattle.blsm_model.specs.Plain.{is_plain, Answers, AllPlain, AllAnswered, KeepsHistory};
+ghost use Rattle.blsm_model.specs.Scripts.{IsOfScript, asked, asked_in};
+ghost use Rattle.blsm_model.specs.Plain.{is_plain, IsPlainStep, AllPlain, AllAnswered, KeepsHistory};
 
 use crate::{Entry, Key, Line, Op, Reply, Text, Value, Write};
 use refusal::NoMemory;
@@ -100,7 +100,7 @@ impl Plain {
     /// where its weight would bring the charge past the limit. After `NoMemory` the store is as before.
     pub fn answer(&mut self, op: &Op) -> Result<Reply, NoMemory>
         requires { IsTrue (is_plain op.now) }
-        ensures ok { IfOk result (Answers self.old op.now self.new) }
+        ensures ok { IfOk result (IsPlainStep self.old op.now self.new) }
         // Where it stood for a legal history, it stands for that history with this entry.
         ensures stands { IfOk result (KeepsHistory self.old op.now self.new) }
         ensures err { OnErr result (self.new ≡ self.old) }
@@ -112,7 +112,7 @@ impl Plain {
     // Looks a key up, or takes a write.
     fn reply_to(&mut self, op: &Op) -> Result<Reply, NoMemory>
         requires { IsTrue (is_plain op.now) }
-        ensures ok { IfOk result (Answers self.old op.now self.new) }
+        ensures ok { IfOk result (IsPlainStep self.old op.now self.new) }
         ensures err { OnErr result (self.new ≡ self.old) }
     {
         if let Op::Get(key) = op {
@@ -127,7 +127,7 @@ impl Plain {
     // Takes a write, or refuses it for its size.
     fn take(&mut self, op: &Op) -> Result<Reply, NoMemory>
         requires { IsTrue (is_write op.now) }
-        ensures ok { IfOk result (Answers self.old op.now self.new) }
+        ensures ok { IfOk result (IsPlainStep self.old op.now self.new) }
         ensures err { OnErr result (self.new ≡ self.old) }
     {
         let weight = op.weight();
@@ -146,6 +146,9 @@ impl Plain {
 pub fn run(alloc: Global, script: &[Line], limit: u64) -> Result<Vec<Entry>, NoMemory>
     requires { AllPlain script.now }
     ensures legal { IfOk result (λ history. IsLegal (record { opening = 0; dels = limit; others = limit }) [] history.items) }
+    // Its entries are the lines, in order.
+    ensures in_order { IfOk result (λ history. asked_in history.items ≡ asked script.now) }
+    // So each caller's entries are its lines, which alone is asked of a run with several callers at once.
     ensures script { IfOk result (λ history. IsOfScript script.now history.items) }
     // With the legal replies this says that a write is refused exactly where it would pass the limit.
     ensures fits { IfOk result (λ history. total_weight (counted_writes history.items) ≤ limit) }

@@ -9,14 +9,8 @@ const SEATS: usize = CALLERS as usize;
 /// 131,072 rows: those of the longest script, and one entry.
 #[derive(Clone, Copy, PartialEq, Eq, Debug)]
 pub struct Room {
+    /// The entries that each seat may still note.
     pub entries: [u32; SEATS],
+    /// The rows that the replies to each seat may still give, together.
     pub rows: [u32; SEATS],
-}
-
-impl Room {
-    /// How many entries all seats together may note at most.
-    pub const MAX_ENTRIES: u32 = 65_537;
-
-    /// How many rows all seats together may note at most.
-    pub const MAX_ROWS: u32 = 131_072;
 }

@@ -1,5 +1,7 @@
 //! Values, and rows of a key and its value.
 ghost use Rattle.std.specs.Prelude.{◌≡◌, ◌<◌, ◌≤◌, ◌++◌, ◌∷◌, [], ⊤, length};
+ghost use Rattle.blsm_model.specs.Format.{most_rows};
+ghost use Rattle.blsm_model.specs.Rows.{unused_row};
 
 use crate::{Key, Text};
 use arrayvec::ArrayVec;
@@ -10,7 +12,9 @@ use std::marker::Model;
 /// What a present key has: a count and a text. Sums of counts are modulo 2^64.
 #[derive(PartialEq, Eq, Debug, Drop)]
 pub struct Value {
+    /// What adds change, and a put sets.
     pub count: u64,
+    /// What a put sets; empty where there was none.
     pub text: Text,
 }
 
@@ -39,7 +43,9 @@ impl Value {
 /// A key and its value.
 #[derive(PartialEq, Eq, Debug, Drop)]
 pub struct Row {
+    /// The key, which the rows of a list rise by.
     pub key: Key,
+    /// What the key had when the rows were held.
     pub value: Value,
 }
 
@@ -67,6 +73,8 @@ impl Row {
 
 // What an unused place of a row list holds.
 impl MadeWith<()> for Row {
+    ghost is_made_with = { λ row. row ≡ unused_row };
+
     fn made_with(_alloc: ()) -> Row {
         match Key::from_bytes(b"-") {
             Some(key) => Row {
@@ -90,12 +98,13 @@ pub struct RowList {
 impl Model for RowList {
     ghost use Rattle.std.specs.Prelude.{List, ◌≤◌, length};
     ghost use Rattle.blsm_model.specs.declared.row.Row.{Row};
+    ghost use Rattle.blsm_model.specs.Format.{most_rows};
 
     ghost Value = { List Row };
 
     ghost view = { λ r. r.rows.items };
 
-    ghost invariant = { λ r. length r.rows.items ≤ 32 };
+    ghost invariant = { λ r. length r.rows.items ≤ most_rows };
 
     ghost inverse = { λ rows. record { rows = record { items = rows } } };
 }
@@ -125,7 +134,7 @@ impl RowList {
 
     /// A list of copies of these rows. It takes no memory.
     pub fn from_slice(rows: &[Row]) -> RowList
-        requires { length rows.now ≤ RowList.MAX_LEN }
+        requires { length rows.now ≤ most_rows }
         ensures { result ≡ rows.now }
     {
         let mut list = RowList::new();
@@ -137,7 +146,7 @@ impl RowList {
 
     /// Puts a row at the end.
     pub fn push(&mut self, row: Row)
-        requires { length self.old < RowList.MAX_LEN }
+        requires { length self.old < most_rows }
         ensures { self.new ≡ self.old ++ row ∷ [] }
     {
         self.rows.push(row);
@@ -146,7 +155,7 @@ impl RowList {
     /// Its rows, at most 32 of them.
     pub fn as_slice(&self) -> &[Row]
         ensures rows { result.now ≡ self.now }
-        ensures fits { length result.now ≤ RowList.MAX_LEN }
+        ensures fits { length result.now ≤ most_rows }
     {
         self.rows.as_slice()
     }

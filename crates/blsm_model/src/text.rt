@@ -1,5 +1,6 @@
 //! Texts.
 ghost use Rattle.std.specs.Prelude.{◌≡◌, ◌<◌, ◌≤◌, ◌↔◌, ⊤, length, IsNone, IfSome, []};
+ghost use Rattle.blsm_model.specs.Format.{most_text};
 
 use arrayvec::ArrayVec;
 use std::alloc::AllocError;
@@ -13,12 +14,13 @@ pub struct Text {
 
 impl Model for Text {
     ghost use Rattle.std.specs.Prelude.{ℕ, List, ◌≤◌, length};
+    ghost use Rattle.blsm_model.specs.Format.{most_text};
 
     ghost Value = { List ℕ };
 
     ghost view = { λ t. t.bytes.items };
 
-    ghost invariant = { λ t. length t.bytes.items ≤ 435 };
+    ghost invariant = { λ t. length t.bytes.items ≤ most_text };
 
     ghost inverse = { λ bytes. record { bytes = record { items = bytes } } };
 }
@@ -47,7 +49,7 @@ impl Text {
 
     /// The text of these bytes; `None` for more than 435.
     pub fn from_bytes(bytes: &[u8]) -> Option<Text>
-        ensures none { IsNone result ↔ (Text.MAX_LEN < length bytes.now) }
+        ensures none { IsNone result ↔ (most_text < length bytes.now) }
         ensures some { IfSome result (λ text. text ≡ bytes.now) }
     {
         match ArrayVec::try_from(bytes) {
@@ -68,7 +70,7 @@ impl Text {
     /// Its bytes, at most 435 of them.
     pub fn as_bytes(&self) -> &[u8]
         ensures bytes { result.now ≡ self.now }
-        ensures fits { length result.now ≤ Text.MAX_LEN }
+        ensures fits { length result.now ≤ most_text }
     {
         self.bytes.as_slice()
     }

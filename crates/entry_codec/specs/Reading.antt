@@ -1,8 +1,7 @@
 -- An entry at the front of bytes, part by part.
 use Rattle.std.specs.Prelude.{◌≡◌, ℕ, ◌<◌, ◌≤◌, ◌^◌, List, ◌++◌, length}
 use Rattle.blsm_model.specs.declared.key.Key.{Key}
-use Rattle.blsm_model.specs.declared.key.TheConstants.Key.{MAX_LEN as max_key_len}
-use Rattle.blsm_model.specs.declared.text.TheConstants.Text.{MAX_LEN as max_text_len}
+use Rattle.blsm_model.specs.Format.{most_key, most_text}
 use Rattle.record_delta.specs.declared.record.Rec.{Rec}
 use Rattle.record_delta.specs.Records.{count_of, text_of}
 use Rattle.entry_codec.specs.declared.decoding.Head.{Head}
@@ -19,8 +18,8 @@ pub record AreAt (bytes : List ℕ) (key_len text_len : ℕ) (key text : List �
   pub key_len_is : length key ≡ key_len
   pub text_len_is : length text ≡ text_len
   pub key_least : 1 ≤ length key
-  pub key_most : length key ≤ max_key_len
-  pub text_most : length text ≤ max_text_len
+  pub key_most : length key ≤ most_key
+  pub text_most : length text ≤ most_text
   pub rest : List ℕ
   pub parts : bytes ≡ key ++ text ++ rest
 

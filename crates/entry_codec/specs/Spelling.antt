@@ -2,7 +2,7 @@
 use Rattle.std.specs.Prelude.{◌≡◌, ℕ, ◌≤◌, List, ◌∷◌, ◌++◌, length, drop}
 use Rattle.std.specs.Int.{w16, w64, to_be_bytes}
 use Rattle.blsm_model.specs.declared.key.Key.{Key}
-use Rattle.blsm_model.specs.declared.key.TheConstants.Key.{MAX_LEN as max_key_len}
+use Rattle.blsm_model.specs.Format.{most_key}
 use Rattle.record_delta.specs.declared.record.Rec.{Rec}
 use Rattle.record_delta.specs.declared.record.Rec.TheVariants.{Base, Delta, Tomb}
 use Rattle.record_delta.specs.Records.{count_of, text_of, IsRecord}
@@ -31,10 +31,10 @@ head_of key rec = head (kind_of rec) (length key) (length (text_of rec)) (count_
 unfoldable pub spelling : Key → Rec → List ℕ
 spelling key rec = head_of key rec ++ key ++ text_of rec
 
--- what has a spelling: a key of 1 to 64 bytes, and a record of the program
+-- what has a spelling: a key, and a record whose parts fit their fields
 pub record IsEntry (key : Key) (rec : Rec) : Type 0 where
   pub key_least : 1 ≤ length key
-  pub key_most : length key ≤ max_key_len
+  pub key_most : length key ≤ most_key
   pub in_range : IsRecord rec
 
 -- bytes that begin with the spelling of an entry

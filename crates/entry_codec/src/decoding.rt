@@ -3,7 +3,7 @@ ghost use Rattle.std.specs.Prelude.{◌≡◌, ◌+◌, ◌≤◌, ◌<◌, ◌+
 ghost use Rattle.blsm_model.specs.declared.key.Key.{Key};
 ghost use Rattle.record_delta.specs.declared.record.Rec.{Rec};
 ghost use Rattle.record_delta.specs.Records.{weight};
-ghost use Rattle.entry_codec.specs.Spelling.{head, spelling, IsEntry, BeginsWith};
+ghost use Rattle.entry_codec.specs.Spelling.{head, BeginsWith};
 ghost use Rattle.entry_codec.specs.Reading.{InRange, AreAt, IsOf, HasParts};
 
 use crate::format::{BASE, DELTA, HEAD_LEN, TOMB};

@@ -1,10 +1,11 @@
 //! Writing an entry.
 ghost use Rattle.std.specs.Prelude.{◌≡◌, ◌+◌, ◌≤◌, ◌++◌, List, ℕ, length, drop};
+ghost use Rattle.blsm_model.specs.Format.{most_text, most_weight};
 ghost use Rattle.record_delta.specs.Records.{weight, count_of, text_of};
 ghost use Rattle.entry_codec.specs.Spelling.{kind_of, head, spelling, over_front, IsEntry};
 
 use crate::format::{BASE, DELTA, HEAD_LEN, TOMB};
-use blsm_model::{Key, Op, Text};
+use blsm_model::Key;
 use record_delta::Rec;
 
 fn kind(rec: &Rec) -> u8
@@ -29,7 +30,7 @@ fn count(rec: &Rec) -> u64
 
 fn text(rec: &Rec) -> &[u8]
     ensures text { result.now ≡ text_of rec.now }
-    ensures fits { length result.now ≤ Text.MAX_LEN }
+    ensures fits { length result.now ≤ most_text }
 {
     match rec {
         Rec::Base(value) => value.text.as_bytes(),
@@ -64,7 +65,7 @@ fn put(out: &mut [u8], at: usize, bytes: &[u8]) -> usize
 /// Writes an entry at the front of `out`, which has room for the longest, 512 bytes. The answer is the entry's length in
 /// bytes, its weight. The bytes behind the entry stay as they were.
 pub fn encode(key: &Key, rec: &Rec, out: &mut [u8]) -> usize
-    requires { Op.MAX_WEIGHT ≤ length out.old }
+    requires { most_weight ≤ length out.old }
     ensures spelled { out.new ≡ spelling key.now rec.now ++ drop (weight key.now rec.now) out.old }
     ensures entry { IsEntry key.now rec.now }
     ensures weight { result ≡ weight key.now rec.now }

@@ -8,8 +8,10 @@
 //! | 5 | count u64; 0 for a tombstone |
 //! | 13 | the key, then the text |
 
+use blsm_model::Op;
+
 /// How many bytes stand before the key.
-pub const HEAD_LEN: usize = 13;
+pub const HEAD_LEN: usize = Op::OVERHEAD as usize;
 
 /// The kind of a base.
 pub const BASE: u8 = 1;

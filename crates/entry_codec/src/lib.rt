@@ -1,5 +1,5 @@
 //! Entries: a key and its record as bytes, in a log and in a page. Each has one spelling, whose length is its weight, and
-//! no spelling begins another. The log and the pages use it.
+//! no spelling begins another. The log and the sorted runs use it.
 #![tactic(auto)]
 
 mod decoding;

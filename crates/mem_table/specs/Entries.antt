@@ -1,10 +1,9 @@
 -- The entries of a memory table: keys and their records, sorted by key.
-use Rattle.std.specs.Prelude.{ℕ, ◌+◌, List, sum_by, Option, IsTrue}
+use Rattle.std.specs.Prelude.{ℕ, List, sum_by, Option, IsTrue}
 use Rattle.std.specs.FinMap.{find, put, is_sorted}
 use Rattle.blsm_model.specs.declared.key.Key.{Key}
 use Rattle.blsm_model.specs.declared.op.Write.{Write}
 use Rattle.blsm_model.specs.Keys.{key_cmp}
-use Rattle.blsm_model.specs.Values.{overhead}
 use Rattle.record_delta.specs.declared.record.Rec.{Rec}
 use Rattle.record_delta.specs.Records.{weight}
 use Rattle.record_delta.specs.Folding.{over, StandsFor}
@@ -19,10 +18,6 @@ record_of_key key entries = find key_cmp key entries
 -- the keys strictly rise
 abbrev pub AreSorted : Entries → Type 0
 AreSorted entries = IsTrue (is_sorted key_cmp entries)
-
--- an entry weighs no less, since no key is empty
-abbrev pub least_weight : ℕ
-least_weight = overhead + 1
 
 -- the weight of all keys and records, in bytes
 abbrev pub total_weight : Entries → ℕ

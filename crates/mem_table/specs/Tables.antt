@@ -1,9 +1,10 @@
 -- What contracts see of a memory table.
 use Rattle.std.specs.Prelude.{◌≡◌, ℕ, ◌≤◌, ◌<◌, ◌+◌, ◌*◌, length}
 use Rattle.std.specs.List.{AllByRecursion}
+use Rattle.blsm_model.specs.Format.{least_weight}
 use Rattle.blsm_model.specs.declared.key.Key.{Key}
 use Rattle.record_delta.specs.declared.record.Rec.{Rec}
-use Rattle.mem_table.specs.Entries.{Entries, AreSorted, least_weight, total_weight, with_record}
+use Rattle.mem_table.specs.Entries.{Entries, AreSorted, total_weight, with_record}
 
 pub record Contents : Type 0 where
   pub entries : Entries
@@ -16,7 +17,7 @@ pub record IsTable (entries : Entries) (weight reserved places : ℕ) : Type 0 w
   pub weight_is : weight ≡ total_weight entries
   pub fits : weight ≤ reserved
   pub keys : AllByRecursion (λ e. 1 ≤ length e.0) entries
-  -- so that there is a place for one entry more wherever its weight fits
+  -- so that there is a place for one entry more wherever its weight fits, since no key is empty
   pub room : reserved < least_weight * (places + 1)
 
 -- the record is folded into the entries, and the reserve stays

@@ -1,5 +1,5 @@
 //! The memory table: the record of each key that was written, in key order, with room reserved for all that it may hold.
-//! Contracts see a sorted list of keys and records. The log's owner and the merges use it.
+//! Contracts see a sorted list of keys and records. Whoever owns the log uses it.
 #![tactic(auto)]
 
 mod table;

@@ -2,7 +2,7 @@ ghost use Rattle.std.specs.Prelude.{◌≡◌, ◌<◌};
 
 use super::*;
 use blsm_model::{Key, Text, Value, Write, value_of};
-use record_delta::{Rec, settle, weight};
+use record_delta::{Rec, fold_writes, settle, weight};
 use std::process::Abort;
 use std::test::Fail;
 
@@ -88,7 +88,7 @@ fn two_thousand_writes_beside_their_list(rt: HostRuntime) -> Result<(), Fail> {
         };
         fold_in(&rt, &mut table, &written, &Rec::of_write(&write));
         writes.push(write)?;
-        assert_eq!(rt; settled(&table, &written), value_of(&writes, &written));
+        assert_eq!(rt; table.get(&written), fold_writes(&writes, &written));
         let other = any_key(&mut draws)?;
         assert_eq!(rt; settled(&table, &other), value_of(&writes, &other));
     }

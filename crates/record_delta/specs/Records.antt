@@ -4,8 +4,7 @@ use Rattle.blsm_model.specs.declared.key.Key.{Key}
 use Rattle.blsm_model.specs.declared.row.Value.{Value}
 use Rattle.blsm_model.specs.declared.op.Write.{Write}
 use Rattle.blsm_model.specs.declared.op.Write.TheVariants.{Put, Add, Del}
-use Rattle.blsm_model.specs.declared.text.TheConstants.Text.{MAX_LEN as max_text_len}
-use Rattle.blsm_model.specs.Values.{overhead}
+use Rattle.blsm_model.specs.Format.{most_text, overhead}
 use Rattle.record_delta.specs.declared.record.Rec.{Rec}
 use Rattle.record_delta.specs.declared.record.Rec.TheVariants.{Base, Delta, Tomb}
 
@@ -36,7 +35,7 @@ text_of Tomb = []
 -- what holds of each record of a program, since its parts have their types' ranges
 pub record IsRecord (rec : Rec) : Type 0 where
   pub count_fits : count_of rec < 2 ^ 64
-  pub text_fits : length (text_of rec) ≤ max_text_len
+  pub text_fits : length (text_of rec) ≤ most_text
 
 -- the weight of a record with its key, in bytes
 abbrev pub weight : Key → Rec → ℕ

@@ -1,6 +1,6 @@
 //! Records: what a table keeps of the writes of a key. A base is a value, a delta an amount to add to what is older, a
 //! tombstone a removal. A newer record is folded over an older one, and what is left in the end is settled as a value.
-//! The tables, the log and the merges use it.
+//! The memory table, the log and the sorted runs use it.
 #![tactic(auto)]
 
 mod folding;

@@ -1,5 +1,6 @@
 //! Records and their weight.
 ghost use Rattle.std.specs.Prelude.{◌≡◌, ◌≤◌, ⊤, length};
+ghost use Rattle.blsm_model.specs.Format.{least_weight, most_weight};
 ghost use Rattle.blsm_model.specs.Values.{key_of, weight_of};
 ghost use Rattle.record_delta.specs.Records.{record_of, write_of, IsRecord, weight as weight_with};
 ghost use Rattle.record_delta.specs.Folding.{StandsForMore};
@@ -63,8 +64,8 @@ impl Rec {
 pub fn weight(key: &Key, rec: &Rec) -> u64
     ensures weight { result ≡ weight_with key.now rec.now }
     ensures not_empty { 1 ≤ length key.now }
-    ensures least { 14 ≤ result }
-    ensures most { result ≤ Op.MAX_WEIGHT }
+    ensures least { least_weight ≤ result }
+    ensures most { result ≤ most_weight }
 {
     let text = match rec {
         Rec::Base(value) => value.text.as_bytes().len() as u64,

@@ -1,11 +1,16 @@
 -- Worked lines, and what is none.
-use Rattle.std.proofs.Common.{ℕ, [], ◌∷◌, ◌++◌, inl, inr, replicate, codes, refl, arith}
+use Rattle.std.proofs.Common.{◌≡◌, ◌≢◌, ℕ, ◌+◌, [], ◌∷◌, ◌++◌, inl, inr, length, replicate, codes, decimal, refl, ap, sym, subst, arith}
 use Rattle.std.specs.List.{All}
 use Rattle.std.specs.Fmt.{digits}
 use Rattle.std.proofs.lemmas.List.Elements.{All-from_recursion}
-use Rattle.blsm_model.specs.declared.op.Op.TheVariants.{Put, Get, Next}
+use Rattle.blsm_model.specs.declared.op.Op.{Op}
+use Rattle.blsm_model.specs.declared.op.Op.TheVariants.{Put, Add, Del, Get, Hold, Next, Release, Work}
 use Rattle.blsm_model.specs.declared.history.Line.{Line}
-use Rattle.script_text.specs.Grammar.{IsAllowed, IsCommand, IsKey, IsLine, IsScript, IsText, IsVisible}
+use Rattle.blsm_model.specs.Printed.{command_text}
+use Rattle.script_text.specs.Grammar.{IsAllowed, IsBadLine, IsCommand, IsKey, IsLine, IsScript, IsText, IsVisible}
+use Rattle.script_text.specs.Reading.{BeginsAsNumber, Lacks}
+use Rattle.script_text.proofs.GrammarLaws.{line_some}
+use Rattle.script_text.proofs.ReadLemmas.{decimal_begins, decimal_lacks, heads, one_cut}
 
 one_byte : (byte : ℕ) → IsVisible byte → All IsVisible (byte ∷ [])
 one_byte byte visible = All-from_recursion IsVisible (byte ∷ []) (visible, tt)
@@ -51,3 +56,48 @@ dash is_text = is_text.no_dash refl
 
 next_one : IsCommand (Next 1) → ⊥
 next_one allowed = allowed
+
+-- no line has a number that begins with 0
+one_digit : Lacks 32 (49 ∷ [])
+one_digit = All-from_recursion (λ byte. byte ≢ 32) (49 ∷ []) ((λ same. absurd (omega (arith, same))), tt)
+
+two_digits : Lacks 32 (48 ∷ 49 ∷ [])
+two_digits = All-from_recursion (λ byte. byte ≢ 32) (48 ∷ 49 ∷ []) ((λ same. absurd (omega (arith, same))), ((λ same. absurd (omega (arith, same))), tt))
+
+caller_lacks : (line : Line) → IsAllowed line → Lacks 32 (decimal (line.seat + 1))
+caller_lacks line allowed = decimal_lacks 32 (line.seat + 1) (omega (arith, allowed.seat)) (omega arith)
+
+leading_zero : (line : Line) → IsLine (codes "01 get a") line → ⊥
+leading_zero line is =
+    let parts = one_cut 32 (codes "01") (decimal (line.seat + 1)) (codes "get a") (command_text line.op) two_digits (caller_lacks line is.allowed) is.spelled in
+    let begins : BeginsAsNumber (codes "01") = subst BeginsAsNumber (sym parts.0) (decimal_begins (line.seat + 1) (omega (arith, is.allowed.seat))) in
+    absurd (omega (arith, begins.alone refl))
+
+-- no command is called so
+no_frob : (op : Op) → codes "frob a" ≡ command_text op → ⊥
+no_frob (Put key value) is = absurd (omega (arith, heads is))
+no_frob (Add key count) is = absurd (omega (arith, heads is))
+no_frob (Del key) is = absurd (omega (arith, heads is))
+no_frob (Get key) is = absurd (omega (arith, heads is))
+no_frob (Hold low high) is = absurd (omega (arith, heads is))
+no_frob (Next n) is = absurd (omega (arith, heads is))
+no_frob Release is = absurd (omega (arith, heads is))
+no_frob (Work n) is = absurd (omega (arith, heads is))
+
+frob : (line : Line) → IsLine (codes "1 frob a") line → ⊥
+frob line is = no_frob line.op (one_cut 32 (codes "1") (decimal (line.seat + 1)) (codes "frob a") (command_text line.op) one_digit (caller_lacks line is.allowed) is.spelled).1
+
+allowed_first : All IsAllowed (get_a ∷ [])
+allowed_first = All-from_recursion IsAllowed (get_a ∷ []) (a_get.allowed, tt)
+
+second_bad : IsBadLine (codes "1 get a" ++ 10 ∷ codes "1 frob a") 2
+unfolding digits get_a
+second_bad = record { before = get_a ∷ []; rest = codes "1 frob a"; split = refl; allowed = allowed_first; few = omega arith; place = refl; there = omega arith; bad = inl frob }
+
+-- an empty line is bad, and not the line behind it
+nothing : (line : Line) → IsLine [] line → ⊥
+nothing line is = absurd (omega (arith, line_some line is.allowed, ap (λ bytes. length bytes) is.spelled))
+
+empty_bad : IsBadLine (codes "1 get a" ++ 10 ∷ 10 ∷ codes "1 get a") 2
+unfolding digits get_a
+empty_bad = record { before = get_a ∷ []; rest = 10 ∷ codes "1 get a"; split = refl; allowed = allowed_first; few = omega arith; place = refl; there = omega arith; bad = inl nothing }

@@ -141,7 +141,7 @@ line_lacks line allowed =
     All-append (λ byte. byte ≢ 10) (decimal (line.seat + 1)) (and_word (command_text line.op)) (decimal_lacks 10 (line.seat + 1) (seat_small line allowed) (omega arith))
     (All-cons (λ byte. byte ≢ 10) 32 (command_text line.op) (λ same. absurd (omega arith)) (command_lacks line.op allowed.command))
 
-line_some : (line : Line) → IsAllowed line → 0 < length (line_text line)
+pub line_some : (line : Line) → IsAllowed line → 0 < length (line_text line)
 line_some line allowed = omega (arith, decimal_nonempty (line.seat + 1) (seat_small line allowed), length-append (decimal (line.seat + 1)) (and_word (command_text line.op)))
 
 -- the first line, its end, and the rest

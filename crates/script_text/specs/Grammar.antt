@@ -1,6 +1,7 @@
 -- The grammar of scripts: which lines there are, how each is spelled, and which line of a text is the first that is wrong.
 use Rattle.std.specs.Prelude.{◌≡◌, ◌≢◌, ℕ, ◌+◌, ◌^◌, ◌<◌, ◌≤◌, ◌⊎◌, ◌==◌, List, [], ◌∷◌, ◌++◌, length, decimal, flat_map}
 use Rattle.std.specs.List.{All, before_first}
+use Rattle.blsm_model.specs.Format.{callers, most_key, most_lines, most_text}
 use Rattle.blsm_model.specs.declared.op.Op.{Op}
 use Rattle.blsm_model.specs.declared.op.Op.TheVariants.{Put, Add, Del, Get, Hold, Next, Release, Work}
 use Rattle.blsm_model.specs.declared.history.Line.{Line}
@@ -12,12 +13,12 @@ IsVisible byte = (33 ≤ byte) × (byte ≤ 126)
 
 pub record IsKey (key : List ℕ) : Type 0 where
   pub some : 1 ≤ length key
-  pub fits : length key ≤ 64
+  pub fits : length key ≤ most_key
   pub visible : All IsVisible key
 
 -- a dash alone spells the empty text, so it is no text
 pub record IsText (text : List ℕ) : Type 0 where
-  pub fits : length text ≤ 435
+  pub fits : length text ≤ most_text
   pub visible : All IsVisible text
   pub no_dash : text ≢ 45 ∷ []
 
@@ -34,7 +35,7 @@ IsCommand (Work n) = ⊥
 
 -- a line that a script may have
 pub record IsAllowed (line : Line) : Type 0 where
-  pub seat : line.seat < 16
+  pub seat : line.seat < callers
   pub command : IsCommand line.op
 
 -- the caller, counted from 1, and the command as the history prints it
@@ -53,7 +54,7 @@ lines_text lines = flat_map (λ line. line_text line ++ 10 ∷ []) lines
 -- the bytes are these lines, each with its end, which the last may lack
 pub record IsScript (bytes : List ℕ) (lines : List Line) : Type 0 where
   pub allowed : All IsAllowed lines
-  pub few : length lines ≤ 65536
+  pub few : length lines ≤ most_lines
   pub spelled : (bytes ≡ lines_text lines) ⊎ (bytes ++ 10 ∷ [] ≡ lines_text lines)
 
 -- what stands before the first end of a line
@@ -66,10 +67,10 @@ pub record IsBadLine (bytes : List ℕ) (n : ℕ) : Type 0 where
   pub rest : List ℕ
   pub split : bytes ≡ lines_text before ++ rest
   pub allowed : All IsAllowed before
-  pub few : length before ≤ 65536
+  pub few : length before ≤ most_lines
   pub place : n ≡ length before + 1
   pub there : 0 < length rest
-  pub bad : ((line : Line) → IsLine (first_line rest) line → ⊥) ⊎ (length before ≡ 65536)
+  pub bad : ((line : Line) → IsLine (first_line rest) line → ⊥) ⊎ (length before ≡ most_lines)
 
 -- no other lines are the bytes' script, and no line of theirs is bad
 pub record IsOnlyReading (bytes : List ℕ) (lines : List Line) : Type 0 where

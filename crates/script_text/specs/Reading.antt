@@ -1,6 +1,7 @@
 -- What the parts of a line spell, and what a reader of one answers.
 use Rattle.std.specs.Prelude.{◌≡◌, ◌≢◌, ℕ, ◌+◌, ◌^◌, ◌<◌, ◌≤◌, List, ◌∷◌, ◌++◌, codes, decimal, length, slice_index, Option, Some, None, MatchOption}
 use Rattle.std.specs.List.{All}
+use Rattle.blsm_model.specs.Format.{callers}
 use Rattle.blsm_model.specs.declared.row.Value.{Value}
 use Rattle.blsm_model.specs.declared.op.Op.{Op}
 use Rattle.script_text.specs.declared.read_line.Verb.{Verb}
@@ -31,7 +32,7 @@ abbrev pub SpellsNumber : List ℕ → ℕ → Type 0
 SpellsNumber bytes n = (bytes ≡ decimal n) × (n < 2 ^ 64)
 
 abbrev pub SpellsSeat : List ℕ → ℕ → Type 0
-SpellsSeat bytes seat = (bytes ≡ decimal (seat + 1)) × (seat < 16)
+SpellsSeat bytes seat = (bytes ≡ decimal (seat + 1)) × (seat < callers)
 
 abbrev pub SpellsKey : List ℕ → List ℕ → Type 0
 SpellsKey bytes key = (bytes ≡ key) × IsKey key

@@ -1,6 +1,7 @@
 -- What a script is, and what is wrong with one.
 use Rattle.std.specs.Prelude.{ℕ, ◌≤◌, List, length, sum_by, Result, Ok, Err}
 use Rattle.std.specs.List.{All}
+use Rattle.blsm_model.specs.Format.{most_lines}
 use Rattle.blsm_model.specs.declared.op.Op.{Op}
 use Rattle.blsm_model.specs.declared.op.Op.TheVariants.{Next}
 use Rattle.blsm_model.specs.declared.history.Line.{Line}
@@ -12,7 +13,7 @@ use Rattle.script_text.specs.Grammar.{IsAllowed}
 -- the lines of a script
 pub record AreLines (lines : List Line) : Type 0 where
   pub allowed : All IsAllowed lines
-  pub few : length lines ≤ 65536
+  pub few : length lines ≤ most_lines
 
 -- P of the number of the line that is bad
 abbrev pub IfBad : {T : Type 0} → Result T ScriptFault → (ℕ → Type 0) → Type 0

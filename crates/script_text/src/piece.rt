@@ -1,5 +1,6 @@
 // A piece of text that is gathered before it is written, so that a line is one call of the sink.
 ghost use Rattle.std.specs.Prelude.{◌≡◌, ◌+◌, ◌≤◌, ◌++◌, [], decimal, length};
+ghost use Rattle.blsm_model.specs.Format.{most_text};
 ghost use Rattle.blsm_model.specs.Printed.{and_number, and_value, and_word, spelled};
 
 use arrayvec::ArrayVec;
@@ -143,7 +144,7 @@ impl Piece {
 // The bytes of a text, or a dash for none.
 fn spelling(text: &Text) -> &[u8]
     ensures bytes { result.now ≡ spelled text.now }
-    ensures fits { length result.now ≤ Text.MAX_LEN }
+    ensures fits { length result.now ≤ most_text }
 {
     let bytes = text.as_bytes();
     if bytes.is_empty() { b"-" } else { bytes }

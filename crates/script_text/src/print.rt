@@ -1,4 +1,5 @@
-// The text of a whole history. Each line is one call of the sink, or a few where it gives rows.
+// The text of a whole history. Each line is one call of the sink; one that gives rows is a call for each row, one for what
+// stands before them and one for what stands behind.
 ghost use Rattle.std.specs.Prelude.{◌≡◌, ◌+◌, ◌<◌, ◌≤◌, ◌++◌, ◌∷◌, [], codes, decimal, flat_map, length, slice_index};
 ghost use Rattle.text_io.specs.Text.{Writes};
 ghost use Rattle.blsm_model.specs.Book.{entry_at};

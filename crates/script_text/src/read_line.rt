@@ -1,5 +1,4 @@
 // One line of a script.
-ghost use Rattle.std.specs.Prelude.{◌≡◌};
 ghost use Rattle.std.specs.Option.{option_copied};
 ghost use Rattle.script_text.specs.Grammar.{IsLine};
 ghost use Rattle.script_text.specs.Reading.{IsJoined, Lacks, Reads, SpellsArguments, SpellsCommand, SpellsKeyAndNumber, SpellsKeyAndValue, SpellsValue, SpellsVerb};

@@ -1,5 +1,5 @@
 // The words of a line. A reader answers what its word spells, and nothing exactly where that is nothing.
-ghost use Rattle.std.specs.Prelude.{◌≡◌, ◌↔◌, IsTrue};
+ghost use Rattle.std.specs.Prelude.{◌↔◌, IsTrue};
 ghost use Rattle.std.specs.List.{All};
 ghost use Rattle.script_text.specs.Grammar.{IsVisible};
 ghost use Rattle.script_text.specs.Reading.{BeginsAsNumber, Reads, SpellsKey, SpellsNumber, SpellsSeat, SpellsText};

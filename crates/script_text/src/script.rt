@@ -2,6 +2,7 @@
 ghost use Rattle.std.specs.Prelude.{◌≡◌, ℕ, ◌<◌, ◌≤◌, [], IfOk, length, slice_index, sum};
 ghost use Rattle.std.specs.Option.{option_copied, unwrap_or};
 ghost use Rattle.std.specs.List.{All};
+ghost use Rattle.blsm_model.specs.Format.{callers, most_lines, most_rows_asked};
 ghost use Rattle.blsm_model.specs.Scripts.{lines_of};
 ghost use Rattle.script_text.specs.Grammar.{IsAllowed, IsBadLine, IsOnlyBadLine, IsOnlyReading, IsScript};
 ghost use Rattle.script_text.specs.Script.{IfBad, rows_asked};
@@ -60,18 +61,18 @@ impl Script {
     pub fn lines(&self) -> &[Line]
         ensures lines { result.now ≡ self.now }
         ensures allowed { All IsAllowed result.now }
-        ensures few { length result.now ≤ 65536 }
+        ensures few { length result.now ≤ most_lines }
     {
         &self.lines
     }
 
     /// How many lines each caller's seat has, and how many rows these ask for.
     pub fn room(&self) -> Room
-        ensures entries { (seat : ℕ) → seat < 16 → slice_index result.entries seat ≡ length (lines_of seat self.now) }
-        ensures rows { (seat : ℕ) → seat < 16 → slice_index result.rows seat ≡ rows_asked seat self.now }
+        ensures entries { (seat : ℕ) → seat < callers → slice_index result.entries seat ≡ length (lines_of seat self.now) }
+        ensures rows { (seat : ℕ) → seat < callers → slice_index result.rows seat ≡ rows_asked seat self.now }
         ensures all_entries { sum result.entries ≡ length self.now }
-        ensures few_entries { sum result.entries ≤ 65536 }
-        ensures few_rows { sum result.rows ≤ 131072 }
+        ensures few_entries { sum result.entries ≤ most_lines }
+        ensures few_rows { sum result.rows ≤ most_rows_asked }
     {
         let lines = self.lines();
         let mut entries = [0u32; SEATS];

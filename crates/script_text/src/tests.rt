@@ -6,6 +6,8 @@ use blsm_model::{
     Annals, Entry, Key, Line, Op, Reply, Room, Row, RowList, Text, Totals, Value, Why,
 };
 use refusal::Failed;
+use std::alloc::Global;
+use std::process::Abort;
 use std::test::Fail;
 use text_io::MemSink;
 
@@ -153,6 +155,19 @@ fn note(annals: &mut Annals, seat: u32, op: Op, reply: Reply) -> Result<(), &'st
     Ok(())
 }
 
+fn two_rows() -> Result<RowList, &'static str> {
+    let mut rows = RowList::new();
+    rows.push(Row {
+        key: key(b"a")?,
+        value: value(1, b"")?,
+    });
+    rows.push(Row {
+        key: key(b"b")?,
+        value: value(2, b"t")?,
+    });
+    Ok(rows)
+}
+
 // Annals with room for 40 entries and 32 rows of one caller.
 fn roomy(rt: &HostRuntime, seat: u32) -> Result<Annals, Fail> {
     let mut room = Room {
@@ -211,36 +226,59 @@ fn four_entries(rt: &HostRuntime) -> Result<Annals, Fail> {
     Ok(annals)
 }
 
-const FOUR: &[u8] =
-    b"open charge 0\n1 1 put a 5 hi => ok q0\n2 1 get a => is 5 hi q0\n3 1 del a => ok q0\n4 1 get a => none q0\nend c0 16 of 65536 callers 0 workers 0 swaps 0 0\n";
-
-#[test]
-fn a_history_is_printed(rt: HostRuntime) -> Result<(), Fail> {
-    let annals = four_entries(&rt)?;
-    let mut sink = MemSink::new(rt.alloc(), 1000, &[])?;
-    let answer = print_history(&mut sink, 0, &annals, &totals(16));
+// The history is printed in calls of these parts: a sink that fails at a call holds the parts before it, and there is no
+// call after the last.
+fn is_printed_in(
+    rt: &impl Abort,
+    alloc: Global,
+    annals: &Annals,
+    parts: &[&[u8]],
+) -> Result<(), Fail> {
+    let mut before = Vec::new(alloc);
+    let mut call = 1u64;
+    for part in parts {
+        let mut sink = MemSink::new(alloc, 1000, &[call])?;
+        let answer = print_history(&mut sink, 0, annals, &totals(16));
+        assert_eq!(rt; answer, Err(Failed));
+        assert_eq!(rt; sink.bytes(), before.as_slice());
+        assert_eq!(rt; sink.faults(), 1);
+        before.extend_from_slice(part)?;
+        call = call.wrapping_add(1);
+    }
+    let mut sink = MemSink::new(alloc, 1000, &[call])?;
+    let answer = print_history(&mut sink, 0, annals, &totals(16));
     assert_eq!(rt; answer, Ok(()));
-    assert_eq!(rt; sink.bytes(), FOUR);
+    assert_eq!(rt; sink.bytes(), before.as_slice());
+    assert_eq!(rt; sink.faults(), 0);
     Ok(())
 }
 
 #[test]
-fn a_sink_that_fails_holds_a_front(rt: HostRuntime) -> Result<(), Fail> {
-    let annals = four_entries(&rt)?;
-    for call in 1..500u64 {
-        let mut sink = MemSink::new(rt.alloc(), 1000, &[call])?;
-        let answer = print_history(&mut sink, 0, &annals, &totals(16));
-        assert!(rt; FOUR.starts_with(sink.bytes()));
-        if answer == Ok(()) {
-            assert_eq!(rt; sink.bytes(), FOUR);
-            assert_eq!(rt; sink.faults(), 0);
-            return Ok(());
-        }
-        assert_eq!(rt; answer, Err(Failed));
-        assert!(rt; sink.bytes().len() < FOUR.len());
-        assert_eq!(rt; sink.faults(), 1);
-    }
-    Err("it failed at each call")?
+fn a_line_is_one_call_of_the_sink(rt: HostRuntime) -> Result<(), Fail> {
+    let lines: [&[u8]; 6] = [
+        b"open charge 0\n",
+        b"1 1 put a 5 hi => ok q0\n",
+        b"2 1 get a => is 5 hi q0\n",
+        b"3 1 del a => ok q0\n",
+        b"4 1 get a => none q0\n",
+        b"end c0 16 of 65536 callers 0 workers 0 swaps 0 0\n",
+    ];
+    is_printed_in(&rt, rt.alloc(), &four_entries(&rt)?, &lines)
+}
+
+#[test]
+fn a_row_is_one_call_of_the_sink(rt: HostRuntime) -> Result<(), Fail> {
+    let mut annals = roomy(&rt, 0)?;
+    note(&mut annals, 0, Op::Next(32), Reply::Rows(two_rows()?))?;
+    let parts: [&[u8]; 6] = [
+        b"open charge 0\n",
+        b"1 1 next 32 => rows 2",
+        b" a 1 -",
+        b" b 2 t",
+        b" q0\n",
+        b"end c0 16 of 65536 callers 0 workers 0 swaps 0 0\n",
+    ];
+    is_printed_in(&rt, rt.alloc(), &annals, &parts)
 }
 
 #[test]
@@ -249,7 +287,10 @@ fn a_sink_with_too_little_room_holds_a_front(rt: HostRuntime) -> Result<(), Fail
     let mut sink = MemSink::new(rt.alloc(), 40, &[])?;
     let answer = print_history(&mut sink, 0, &annals, &totals(16));
     assert_eq!(rt; answer, Err(Failed));
-    assert!(rt; FOUR.starts_with(sink.bytes()));
+    assert_eq!(rt;
+        sink.bytes(),
+        b"open charge 0\n1 1 put a 5 hi => ok q0\n".as_slice()
+    );
     Ok(())
 }
 
@@ -257,22 +298,13 @@ fn a_sink_with_too_little_room_holds_a_front(rt: HostRuntime) -> Result<(), Fail
 fn each_command_and_reply_has_its_words(rt: HostRuntime) -> Result<(), Fail> {
     let mut annals = roomy(&rt, 15)?;
     let (a, c) = (key(b"a")?, key(b"c")?);
-    let mut rows = RowList::new();
-    rows.push(Row {
-        key: key(b"a")?,
-        value: value(1, b"")?,
-    });
-    rows.push(Row {
-        key: key(b"b")?,
-        value: value(2, b"t")?,
-    });
     let entries = [
         (Op::Add(a.copy(), 7), Reply::Full(121856)),
         (Op::Add(a.copy(), 18446744073709551615), Reply::FaultLost),
         (Op::Put(a.copy(), value(0, b"")?), Reply::FaultUnsure),
         (Op::Hold(a.copy(), c), Reply::Held),
         (Op::Hold(a.copy(), a.copy()), Reply::NoMemory),
-        (Op::Next(32), Reply::Rows(rows)),
+        (Op::Next(32), Reply::Rows(two_rows()?)),
         (Op::Next(1), Reply::Rows(RowList::new())),
         (Op::Next(1), Reply::NoHold),
         (Op::Release, Reply::Done),

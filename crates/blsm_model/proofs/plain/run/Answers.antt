@@ -1,7 +1,8 @@
 use Rattle.std.proofs.Common.{refl, ap, [], ◌∙◌, arith}
 use Rattle.std.proofs.lemmas.List.{take_all}
 use Rattle.blsm_model.proofs.PlainLemmas.{limit_kept, charge_kept, answered, answered_push}
-use Rattle.blsm_model.proofs.ScriptLemmas.{of_script, asked_more, asked}
+use Rattle.blsm_model.specs.Scripts.{asked}
+use Rattle.blsm_model.proofs.ScriptLemmas.{of_script, asked_more}
 use Rattle.blsm_model.proofs.plain.run.Goals as goal
 
 pub loop-line-preserved : goal.loop-line-preserved
@@ -16,6 +17,9 @@ loop-line-preserved c = record {
       (asked_more c.args.script.now c.loop-line.history.items c.loop-line.line-index c.line-item.result _ (omega arith) c.line-item.is refl c.copy.ensures
       c.loop-line.invariant.lines);
 }
+
+pub returns-clause-in_order : goal.returns-clause-in_order
+returns-clause-in_order c = c.loop-line.invariant.lines ∙ ap asked (take_all c.loop-line.line-index c.args.script.now c.loop-line-test.false)
 
 pub returns-clause-script : goal.returns-clause-script
 returns-clause-script c = of_script c.args.script.now c.loop-line.history.items
