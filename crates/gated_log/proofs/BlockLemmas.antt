@@ -1,12 +1,12 @@
--- What the bytes from a gate on say of the lane.
-use Rattle.std.proofs.Common.{◌≡◌, ◌≢◌, ℕ, ◌+◌, ◌-◌, ◌≤◌, List, [], ◌∷◌, ◌++◌, length, get_or, take, drop, refl, ap, sym, ◌∙◌, arith, append-nil, length-append}
+-- What a gate and the bytes behind it say of the lane.
+use Rattle.std.proofs.Common.{◌≡◌, ◌≢◌, ℕ, ◌+◌, ◌-◌, ◌≤◌, List, [], ◌∷◌, ◌++◌, length, get_or, take, drop, Some, None, Ok, Err, refl, ap, sym, ◌∙◌, arith, append-nil, length-append}
 use Rattle.std.specs.List.{between}
 use Rattle.std.proofs.lemmas.List.{take_at, drop_at, take-take, take-append-drop, length-take}
 use Rattle.std.proofs.lemmas.List.Elements.{All-push, All-head, All-tail}
 use Rattle.std.proofs.lemmas.Slice.{between_to_end}
 use Rattle.disk_trait.specs.Disk.{part}
 use Rattle.disk_trait.specs.Parts.{part-split}
-use Rattle.gated_write.specs.Gated.{open_byte}
+use Rattle.gated_write.specs.Gated.{open_byte, IsClosed}
 use Rattle.blsm_model.specs.declared.key.Key.{Key}
 use Rattle.blsm_model.specs.Sizes.{Sizes}
 use Rattle.record_delta.specs.declared.record.Rec.{Rec}
@@ -14,7 +14,9 @@ use Rattle.record_delta.specs.Records.{weight}
 use Rattle.entry_codec.specs.Spelling.{spelling, IsEntry, BeginsWith}
 use Rattle.entry_codec.proofs.SpellingLemmas.{length-spelling}
 use Rattle.gated_log.specs.Lane.{region_start, region_length, blocks, AreEntries, HasEntries, HasFront, IsDamagedBehind}
-use Rattle.gated_log.specs.Block.{IsOpenBlock, IsBrokenBlock}
+use Rattle.gated_log.specs.declared.replay.LaneBroken.TheVariants.{Fault, Damaged}
+use Rattle.gated_log.specs.Replay.{ReplayState, Answer, HasEntryAt, IsReadFrom, next_gate}
+use Rattle.gated_log.specs.Block.{IsOpenBlock, IsBrokenBlock, IsReadAs, room_of}
 use Rattle.gated_log.proofs.LaneLemmas.{blocks-append, one_byte}
 
 -- ---- the bytes that were read
@@ -67,38 +69,35 @@ open_front own room e block =
           ∙ take_at (open_byte ∷ spelling e.0 e.1) block.rest (1 + weight e.0 e.1) long,
     )
 
--- an open gate with an entry: the lane begins with one entry more
-pub one_more_given : (sizes : Sizes) (lane room : ℕ) (es : List (Key × Rec)) (e : Key × Rec) (file : List ℕ) → HasFront sizes lane es file
-    → room ≤ region_length sizes - (length (blocks es) + 2) → IsOpenBlock (part file (region_start sizes lane + length (blocks es)) (1 + room)) e
-    → HasFront sizes lane (es ++ e ∷ []) file
-one_more_given sizes lane room es e file front small block =
+-- an entry at the place behind the front: the lane begins with one entry more
+pub one_more_given : (sizes : Sizes) (lane : ℕ) (es : List (Key × Rec)) (e : Key × Rec) (file : List ℕ) → HasFront sizes lane es file
+    → HasEntryAt sizes lane (length (blocks es)) e file → HasFront sizes lane (es ++ e ∷ []) file
+one_more_given sizes lane es e file front entry =
     let start = region_start sizes lane in
     let n = length (blocks es) in
-    let parts = open_front (drop (start + n) file) room e block in
     let long = length-blocks-push es e in
     record {
-      each = All-push (λ x. IsEntry x.0 x.1) es e front.each block.fields;
-      inside = omega (arith, long, small, parts.0, block.fields.key_least);
+      each = All-push (λ x. IsEntry x.0 x.1) es e front.each entry.fields;
+      inside = omega (arith, long, entry.inside);
       begins =
           ap (λ (m : ℕ). part file start m) long
           ∙ part-split file start n (1 + weight e.0 e.1)
           ∙ ap (λ (l : List ℕ). l ++ part file (start + n) (1 + weight e.0 e.1)) front.begins
-          ∙ ap (λ (l : List ℕ). blocks es ++ l) parts.1
+          ∙ ap (λ (l : List ℕ). blocks es ++ l) entry.begins
           ∙ sym (blocks-push es e);
     }
 
--- a closed gate: the lane has no more entries
-pub none_more : (sizes : Sizes) (lane room : ℕ) (es : List (Key × Rec)) (file : List ℕ) → HasFront sizes lane es file → region_start sizes lane + region_length sizes ≤ length file
-    → take 1 (part file (region_start sizes lane + length (blocks es)) (1 + room)) ≢ open_byte ∷ [] → HasEntries sizes lane es file
-none_more sizes lane room es file front long closed =
+-- a closed gate there: the lane has no more entries
+pub none_more : (sizes : Sizes) (lane : ℕ) (es : List (Key × Rec)) (file : List ℕ) → HasFront sizes lane es file → region_start sizes lane + region_length sizes ≤ length file
+    → IsClosed (region_start sizes lane + length (blocks es)) file → HasEntries sizes lane es file
+none_more sizes lane es file front long closed =
     let start = region_start sizes lane in
     let n = length (blocks es) in
     let byte = one_byte file (start + n) (omega (arith, front.inside, long)) in
-    let short : 1 ≤ 1 + room = omega arith in
     record {
       each = front.each;
       gate = byte.0;
-      closed = λ same. closed (take-take 1 (1 + room) (drop (start + n) file) short ∙ byte.1 ∙ ap (λ (g : ℕ). g ∷ []) same);
+      closed = λ same. closed (byte.1 ∙ ap (λ (g : ℕ). g ∷ []) same);
       inside = front.inside;
       begins =
           part-split file start n 1
@@ -126,24 +125,50 @@ last_entry (x ∷ es) e each = last_entry es e (All-tail (λ y. IsEntry y.0 y.1)
 heaviest : (e : Key × Rec) → IsEntry e.0 e.1 → weight e.0 e.1 ≤ 512
 heaviest e entry = omega (arith, entry.key_most, entry.in_range.text_fits)
 
--- an open gate with no entry: the lane is damaged there
-pub damaged_here : (sizes : Sizes) (lane room : ℕ) (es : List (Key × Rec)) (file : List ℕ) → HasFront sizes lane es file
-    → ((w : ℕ) → w ≤ 512 → length (blocks es) + (1 + w) + 1 ≤ region_length sizes → w ≤ room) → IsBrokenBlock (part file (region_start sizes lane + length (blocks es)) (1 + room))
+-- an open gate there and no entry: the lane is damaged
+pub damaged_here : (sizes : Sizes) (lane : ℕ) (es : List (Key × Rec)) (file : List ℕ) → HasFront sizes lane es file
+    → part file (region_start sizes lane + length (blocks es)) 1 ≡ open_byte ∷ [] → ((e : Key × Rec) → HasEntryAt sizes lane (length (blocks es)) e file → ⊥)
     → IsDamagedBehind sizes lane es file
-damaged_here sizes lane room es file front wide broken =
-    let start = region_start sizes lane in
-    let n = length (blocks es) in
-    let own : List ℕ = drop (start + n) file in
-    let block : List ℕ = take (1 + room) own in
-    let short : 1 ≤ 1 + room = omega arith in
-    record {
-      front = front;
-      opened = sym (take-take 1 (1 + room) own short) ∙ broken.opened;
-      no_entry = λ e more.
-          let entry : IsEntry e.0 e.1 = last_entry es e more.each in
-          let fits : 1 + weight e.0 e.1 ≤ 1 + room = omega (arith, wide (weight e.0 e.1) (heaviest e entry) (omega (arith, more.inside, length-blocks-push es e))) in
-          let here : take (1 + weight e.0 e.1) block ≡ open_byte ∷ spelling e.0 e.1 = take-take (1 + weight e.0 e.1) (1 + room) own fits ∙ last_part sizes lane es e file more in
-          let parts : block ≡ open_byte ∷ (spelling e.0 e.1 ++ drop (1 + weight e.0 e.1) block) =
-          sym (take-append-drop (1 + weight e.0 e.1) block) ∙ ap (λ (l : List ℕ). l ++ drop (1 + weight e.0 e.1) block) here in
-          broken.no_entry e.0 e.1 (record { entry = entry; rest = drop (1 + weight e.0 e.1) block; parts = ap (λ (l : List ℕ). drop 1 l) parts });
-    }
+damaged_here sizes lane es file front opened none = record {
+  front = front;
+  opened = opened;
+  no_entry = λ e more.
+      none e (record {
+        fields = last_entry es e more.each;
+        inside = omega (arith, more.inside, length-blocks-push es e);
+        begins = last_part sizes lane es e file more;
+      });
+}
+
+-- ---- what the bytes that were read say of the place
+
+module _ (replay : ReplayState) (file : List ℕ) where
+  -- the gate, and what an entry may take behind it
+  abbrev block : List ℕ
+  block = part file (next_gate replay) (1 + room_of replay)
+
+  entry_read : (e : Key × Rec) → IsOpenBlock block e → HasEntryAt replay.sizes replay.lane replay.end e file
+  entry_read e opened =
+      let parts = open_front (drop (next_gate replay) file) (room_of replay) e opened in
+      record { fields = opened.fields; inside = omega (arith, parts.0, opened.fields.key_least); begins = parts.1 }
+
+  closed_read : take 1 block ≢ open_byte ∷ [] → IsClosed (next_gate replay) file
+  closed_read closed = λ opened. let short : 1 ≤ 1 + room_of replay = omega arith in closed (take-take 1 (1 + room_of replay) (drop (next_gate replay) file) short ∙ opened)
+
+  opened_read : IsBrokenBlock block → part file (next_gate replay) 1 ≡ open_byte ∷ []
+  opened_read broken = let short : 1 ≤ 1 + room_of replay = omega arith in sym (take-take 1 (1 + room_of replay) (drop (next_gate replay) file) short) ∙ broken.opened
+
+  no_entry_read : IsBrokenBlock block → (e : Key × Rec) → HasEntryAt replay.sizes replay.lane replay.end e file → ⊥
+  no_entry_read broken e entry =
+      let light = heaviest e entry.fields in
+      let fits : 1 + weight e.0 e.1 ≤ 1 + room_of replay = omega (arith, light, entry.inside) in
+      let here : take (1 + weight e.0 e.1) block ≡ open_byte ∷ spelling e.0 e.1 = take-take (1 + weight e.0 e.1) (1 + room_of replay) (drop (next_gate replay) file) fits ∙ entry.begins in
+      let parts : block ≡ open_byte ∷ (spelling e.0 e.1 ++ drop (1 + weight e.0 e.1) block) =
+      sym (take-append-drop (1 + weight e.0 e.1) block) ∙ ap (λ (l : List ℕ). l ++ drop (1 + weight e.0 e.1) block) here in
+      broken.no_entry e.0 e.1 (record { entry = entry.fields; rest = drop (1 + weight e.0 e.1) block; parts = ap (λ (l : List ℕ). drop 1 l) parts })
+
+  pub read_there : (answer : Answer) → IsReadAs block replay.lane answer → IsReadFrom replay file answer
+  read_there (Ok (Some e)) read = entry_read e read
+  read_there (Ok None) read = closed_read read
+  read_there (Err (Damaged lane)) read = (read.0, opened_read read.1, no_entry_read read.1)
+  read_there (Err Fault) read = absurd read

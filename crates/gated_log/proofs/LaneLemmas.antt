@@ -11,7 +11,7 @@ use Rattle.blsm_model.specs.Sizes.{Sizes}
 use Rattle.record_delta.specs.declared.record.Rec.{Rec}
 use Rattle.std.proofs.lemmas.List.Elements.{All-push}
 use Rattle.entry_codec.specs.Spelling.{spelling, IsEntry}
-use Rattle.gated_log.specs.Lane.{region_start, region_length, blocks, HasEntries, EachHasEntries, IsOldOutside, IsAppended}
+use Rattle.gated_log.specs.Lane.{region_start, region_length, blocks, HasEntries, EachHasEntries, IsOldOutsideLane, IsAppended}
 
 pub blocks-append : (es fs : List (Key × Rec)) → blocks (es ++ fs) ≡ blocks es ++ blocks fs
 blocks-append [] fs = refl
@@ -103,7 +103,7 @@ has_more sizes lane entries key rec n old file has torn stands fits entry =
     }
 
 -- what is torn in the lane's region is old outside it
-old_outside : (sizes : Sizes) (lane : ℕ) (at n : ℕ) (before : List ℕ → Type 0) (old file : List ℕ) → before old → Torn at n old file → region_start sizes lane ≤ at → at + n ≤ region_start sizes lane + region_length sizes → IsOldOutside sizes lane before file
+old_outside : (sizes : Sizes) (lane : ℕ) (at n : ℕ) (before : List ℕ → Type 0) (old file : List ℕ) → before old → Torn at n old file → region_start sizes lane ≤ at → at + n ≤ region_start sizes lane + region_length sizes → IsOldOutsideLane sizes lane before file
 old_outside sizes lane at n before old file was torn begins ends = (old, was, torn_widen at n (region_start sizes lane) (region_length sizes) old file torn begins ends)
 
 -- each file that a gated write may leave

@@ -1,16 +1,13 @@
 -- A lane of the log on a disk: entries, each behind an open gate, and then a gate that is closed.
 use Rattle.std.specs.Prelude.{◌≡◌, ◌≢◌, ◌⊎◌, ℕ, ◌+◌, ◌*◌, ◌≤◌, List, [], ◌∷◌, ◌++◌, length}
 use Rattle.std.specs.List.{All}
-use Rattle.disk_trait.specs.Disk.{Torn, part}
+use Rattle.disk_trait.specs.Disk.{IsOldOutside, part}
 use Rattle.gated_write.specs.Gated.{open_byte}
+use Rattle.blsm_model.specs.Format.{head_length}
 use Rattle.blsm_model.specs.declared.key.Key.{Key}
 use Rattle.blsm_model.specs.Sizes.{Sizes}
 use Rattle.record_delta.specs.declared.record.Rec.{Rec}
 use Rattle.entry_codec.specs.Spelling.{spelling, IsEntry}
-
--- how many bytes stand before the first region
-abbrev pub head_length : ℕ
-head_length = 4096
 
 -- how many bytes a region has, and where a region begins, by its number
 abbrev pub region_length : Sizes → ℕ
@@ -41,13 +38,13 @@ abbrev pub EachHasEntries : Sizes → ℕ → List (Key × Rec) → (List ℕ �
 EachHasEntries sizes lane entries images = (c : List ℕ) → images c → HasEntries sizes lane entries c
 
 -- outside the lane's region the file is one of those from before
-abbrev pub IsOldOutside : Sizes → ℕ → (List ℕ → Type 0) → List ℕ → Type 0
-IsOldOutside sizes lane before file = (old : List ℕ) × before old × Torn (region_start sizes lane) (region_length sizes) old file
+abbrev pub IsOldOutsideLane : Sizes → ℕ → (List ℕ → Type 0) → List ℕ → Type 0
+IsOldOutsideLane sizes lane before file = IsOldOutside (region_start sizes lane) (region_length sizes) before file
 
 -- the lane has its entries, with one more or without it, and the rest of the file is as it was
 pub record IsAppended (sizes : Sizes) (lane : ℕ) (entries : List (Key × Rec)) (entry : Key × Rec) (before : List ℕ → Type 0) (file : List ℕ) : Type 0 where
   pub has : HasEntries sizes lane entries file ⊎ HasEntries sizes lane (entries ++ entry ∷ []) file
-  pub outside : IsOldOutside sizes lane before file
+  pub outside : IsOldOutsideLane sizes lane before file
 
 -- The lane begins with these entries: their blocks stand from its region's start on, and the place behind them, where the next gate is, lies inside the region.
 pub record HasFront (sizes : Sizes) (lane : ℕ) (entries : List (Key × Rec)) (file : List ℕ) : Type 0 where

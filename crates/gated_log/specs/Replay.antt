@@ -1,11 +1,15 @@
 -- What contracts see of a replay.
-use Rattle.std.specs.Prelude.{◌≡◌, ℕ, ◌+◌, List, length, Option, Some, None, Result, Ok, Err}
+use Rattle.std.specs.Prelude.{◌≡◌, ℕ, ◌+◌, ◌<◌, List, [], ◌∷◌, length, Option, Some, None, Result, Ok, Err, ⊤}
+use Rattle.disk_trait.specs.Disk.{part}
+use Rattle.gated_write.specs.Gated.{open_byte, IsClosed}
 use Rattle.blsm_model.specs.declared.key.Key.{Key}
 use Rattle.blsm_model.specs.Sizes.{Sizes}
 use Rattle.record_delta.specs.declared.record.Rec.{Rec}
 use Rattle.record_delta.specs.Records.{weight}
+use Rattle.entry_codec.specs.Spelling.{spelling, IsEntry}
 use Rattle.gated_log.specs.declared.replay.LaneBroken.{LaneBroken}
-use Rattle.gated_log.specs.Lane.{blocks, HasFront}
+use Rattle.gated_log.specs.declared.replay.LaneBroken.TheVariants.{Fault, Damaged}
+use Rattle.gated_log.specs.Lane.{region_length, region_start, blocks, HasFront}
 
 -- The store's sizes, the number of the lane's region, and where in it the next gate stands.
 pub record ReplayState : Type 0 where
@@ -18,6 +22,12 @@ pub record HasGiven (replay : ReplayState) (entries : List (Key × Rec)) (file :
   pub place : length (blocks entries) ≡ replay.end
   pub front : HasFront replay.sizes replay.lane entries file
 
+-- At this place of the lane, in bytes from its region's start, there is an open gate with this entry behind it, and the entry's own next gate lies inside the region.
+pub record HasEntryAt (sizes : Sizes) (lane place : ℕ) (entry : Key × Rec) (file : List ℕ) : Type 0 where
+  pub fields : IsEntry entry.0 entry.1
+  pub inside : place + 1 + weight entry.0 entry.1 < region_length sizes
+  pub begins : part file (region_start sizes lane + place) (1 + weight entry.0 entry.1) ≡ open_byte ∷ spelling entry.0 entry.1
+
 -- what a step of a replay answers: an entry, or that there is none; or why it can't
 abbrev pub Answer : Type 0
 Answer = Result (Option (Key × Rec)) LaneBroken
@@ -27,3 +37,15 @@ abbrev pub replay_after : Answer → ReplayState → ReplayState
 replay_after (Ok (Some e)) replay = record replay { end = replay.end + 1 + weight e.0 e.1 }
 replay_after (Ok None) replay = replay
 replay_after (Err broken) replay = replay
+
+-- where in the file the next gate stands
+abbrev pub next_gate : ReplayState → ℕ
+next_gate replay = region_start replay.sizes replay.lane + replay.end
+
+-- What an answer says of the place of the next gate: there is this entry; or the gate is closed; or it is open, and there is no entry. After a fault nobody knows.
+abbrev pub IsReadFrom : ReplayState → List ℕ → Answer → Type 0
+IsReadFrom replay file (Ok (Some e)) = HasEntryAt replay.sizes replay.lane replay.end e file
+IsReadFrom replay file (Ok None) = IsClosed (next_gate replay) file
+IsReadFrom replay file (Err (Damaged lane)) =
+    (lane ≡ replay.lane) × (part file (next_gate replay) 1 ≡ open_byte ∷ []) × ((entry : Key × Rec) → HasEntryAt replay.sizes replay.lane replay.end entry file → ⊥)
+IsReadFrom replay file (Err Fault) = ⊤

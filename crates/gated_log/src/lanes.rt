@@ -1,14 +1,14 @@
 //! The lanes that are written, and where each ends.
 ghost use Rattle.std.specs.Prelude.{◌≡◌, ◌≤◌, ◌<◌, ◌+◌, ◌*◌, ◌^◌, ◌∷◌, ◌++◌, [], List, ℕ, length, IsTrue, IsErr, OnOk, IsOk, is_ok, if◌then◌else◌, slice_index, take};
 ghost use Rattle.refusal.specs.Count.{HasRisen};
-ghost use Rattle.disk_trait.specs.Disk.{GoesOn, IsSure, Torn};
+ghost use Rattle.disk_trait.specs.Disk.{GoesOn, IsSure, Only, WritesWithin};
 ghost use Rattle.disk_trait.specs.Moments.{LeavesOnly, SyncsLater};
 ghost use Rattle.blsm_model.specs.declared.key.Key.{Key};
 ghost use Rattle.blsm_model.specs.Geometry.{file_length};
 ghost use Rattle.record_delta.specs.declared.record.Rec.{Rec};
 ghost use Rattle.record_delta.specs.Records.{weight};
 ghost use Rattle.entry_codec.specs.Spelling.{spelling, IsEntry};
-ghost use Rattle.gated_log.specs.Lane.{region_length, region_start, HasEntries, EachHasEntries, IsAppended};
+ghost use Rattle.gated_log.specs.Lane.{region_length, region_start, HasEntries, EachHasEntries, IsOldOutsideLane, IsAppended};
 ghost use Rattle.gated_log.specs.Lanes.{a_of, b_of, spare_of, AreRoles, end_of, moved, turned, IsEnd};
 
 use crate::region::place_in_file;
@@ -39,21 +39,22 @@ pub struct Lanes {
 }
 
 impl Model for Lanes {
-    ghost use Rattle.std.specs.Prelude.{◌≤◌, ◌<◌, ◌*◌, ℕ, slice_index};
+    ghost use Rattle.std.specs.Prelude.{◌<◌, ℕ, slice_index};
+    ghost use Rattle.gated_log.specs.Lane.{region_length};
     ghost use Rattle.gated_log.specs.Lanes.{LanesState, AreRoles};
 
     ghost Value = { LanesState };
 
     ghost view = { λ l. record { sizes = l.geometry; roles = l.roles; ends = l.ends } };
 
-    ghost invariant = { λ l. AreRoles l.roles × ((lane : ℕ) → lane < 3 → slice_index l.ends lane < 4 * l.geometry.half) };
+    ghost invariant = { λ l. AreRoles l.roles × ((lane : ℕ) → lane < 3 → slice_index l.ends lane < region_length l.geometry) };
 }
 
 // Puts the entry and the next gate, closed, at the front of the buffer, and answers their length in bytes.
 fn put_entry(key: &Key, rec: &Rec, buffer: &mut [u8; LONGEST]) -> usize
     ensures text { take result buffer.new ≡ spelling key.now rec.now ++ 0 ∷ [] }
     ensures len { result ≡ weight key.now rec.now + 1 }
-    ensures fits { result ≤ 513 }
+    ensures fits { result ≤ LONGEST }
     ensures entry { IsEntry key.now rec.now }
 {
     let length = weight(key, rec) as usize;
@@ -150,8 +151,10 @@ impl Lanes {
         ensures reads { (entries : List (Key × Rec)) → IsOk result → IsTrue (D.state disk.old).is_honest → IsEnd self.now lane entries
             → HasEntries self.now.sizes lane entries (D.state disk.old).bytes
             → HasEntries self.now.sizes lane (entries ++ (key.now, rec.now) ∷ []) (D.state disk.new).bytes }
+        ensures durable { OnOk result (IsTrue (D.state disk.old).is_honest → Only (D.state disk.new).bytes (D.state disk.new).images) }
         ensures outside { IsTrue (D.state disk.old).is_honest
-            → Torn (region_start self.now.sizes lane) (region_length self.now.sizes) (D.state disk.old).bytes (D.state disk.new).bytes }
+            → LeavesOnly (D.state disk.old) (D.state disk.new) (IsOldOutsideLane self.now.sizes lane (D.state disk.old).images) }
+        ensures within { WritesWithin (region_start self.now.sizes lane) (region_length self.now.sizes) (D.state disk.old) (D.state disk.new) }
         ensures length { IsTrue (D.state disk.old).tells_bytes → length (D.state disk.new).bytes ≡ length (D.state disk.old).bytes }
         ensures syncs { SyncsLater (D.state disk.old) (D.state disk.new) }
         ensures sure { IsSure (file_length self.now.sizes) (D.state disk.old) (D.state disk.new) }
@@ -159,6 +162,7 @@ impl Lanes {
         ensures four_calls { (D.state disk.new).clock ≤ (D.state disk.old).clock + 4 }
         ensures stands { OnOk result ((D.state disk.new).faults ≡ (D.state disk.old).faults) }
         ensures failed { IsErr result → HasRisen (D.state disk.old).faults (D.state disk.new).faults }
+        ensures one_fault { (D.state disk.new).faults ≤ (D.state disk.old).faults + 1 }
     {
         let mut buffer = [0; LONGEST];
         let length = put_entry(key, rec, &mut buffer);
@@ -196,9 +200,12 @@ impl Lanes {
             → HasEntries self.old.sizes lane entries (D.state disk.old).bytes
             → HasEntries self.old.sizes lane (entries ++ (key.now, rec.now) ∷ []) (D.state disk.new).bytes }
 
-        // No byte outside the region changes.
+        ensures durable { OnOk result (IsTrue (D.state disk.old).is_honest → Only (D.state disk.new).bytes (D.state disk.new).images) }
+
+        // Whatever the images have, no byte outside the region changes, in none of any moment.
         ensures outside { IsTrue (D.state disk.old).is_honest
-            → Torn (region_start self.old.sizes lane) (region_length self.old.sizes) (D.state disk.old).bytes (D.state disk.new).bytes }
+            → LeavesOnly (D.state disk.old) (D.state disk.new) (IsOldOutsideLane self.old.sizes lane (D.state disk.old).images) }
+        ensures within { WritesWithin (region_start self.old.sizes lane) (region_length self.old.sizes) (D.state disk.old) (D.state disk.new) }
         ensures length { IsTrue (D.state disk.old).tells_bytes → length (D.state disk.new).bytes ≡ length (D.state disk.old).bytes }
         ensures syncs { SyncsLater (D.state disk.old) (D.state disk.new) }
         ensures sure { IsSure (file_length self.old.sizes) (D.state disk.old) (D.state disk.new) }
@@ -206,6 +213,7 @@ impl Lanes {
         ensures four_calls { (D.state disk.new).clock ≤ (D.state disk.old).clock + 4 }
         ensures stands { OnOk result ((D.state disk.new).faults ≡ (D.state disk.old).faults) }
         ensures failed { IsErr result → HasRisen (D.state disk.old).faults (D.state disk.new).faults }
+        ensures one_fault { (D.state disk.new).faults ≤ (D.state disk.old).faults + 1 }
     {
         self.write_entry(disk, lane, key, rec)?;
         self.ends[lane as usize] += weight(key, rec) + 1;

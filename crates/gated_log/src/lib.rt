@@ -8,6 +8,7 @@ mod region;
 mod replay;
 
 pub use lanes::Lanes;
+pub use region::HEAD_LEN;
 pub use replay::{LaneBroken, Replay, one_list};
 
 #[cfg(test)]

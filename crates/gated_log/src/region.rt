@@ -6,8 +6,8 @@ ghost use Rattle.gated_log.specs.Lane.{region_length, region_start};
 
 use blsm_model::Geometry;
 
-// The bytes before the first region.
-const HEAD_LEN: u64 = 4_096;
+/// The bytes of a store's file before the first region.
+pub const HEAD_LEN: u64 = 4_096;
 
 // How many halves of the spring a region has.
 const REGION_HALVES: u64 = 4;

@@ -5,12 +5,13 @@ ghost use Rattle.disk_trait.specs.Disk.{Passes, MarksSync, ChangesNothing, IsSur
 ghost use Rattle.disk_trait.specs.Moments.{LeavesOnly};
 ghost use Rattle.blsm_model.specs.declared.key.Key.{Key};
 ghost use Rattle.blsm_model.specs.Sizes.{Sizes};
+ghost use Rattle.blsm_model.specs.Format.{least_weight};
 ghost use Rattle.blsm_model.specs.Geometry.{file_length};
 ghost use Rattle.record_delta.specs.declared.record.Rec.{Rec};
 ghost use Rattle.record_delta.specs.Records.{weight};
 ghost use Rattle.gated_log.specs.Lane.{region_length, region_start, HasEntries, IsDamaged, IsDamagedBehind, blocks};
-ghost use Rattle.gated_log.specs.Replay.{HasGiven, replay_after};
-ghost use Rattle.gated_log.specs.Block.{IsReadAs, IsReadFrom, room_of};
+ghost use Rattle.gated_log.specs.Replay.{HasGiven, IsReadFrom, replay_after};
+ghost use Rattle.gated_log.specs.Block.{IsReadAs, room_of};
 
 use crate::region::{length_of, place_in_file};
 use blsm_model::{Geometry, Key, Op};
@@ -55,7 +56,7 @@ fn entry_behind(bytes: &[u8], lane: u8) -> Result<Option<(Key, Rec)>, LaneBroken
     requires { 1 ≤ length bytes.now }
     ensures read { IsReadAs bytes.now lane result }
     ensures fits { IfOk result (λ given. IfSome given (λ e. 1 + weight e.0 e.1 ≤ length bytes.now)) }
-    ensures least { IfOk result (λ given. IfSome given (λ e. 14 ≤ weight e.0 e.1)) }
+    ensures least { IfOk result (λ given. IfSome given (λ e. least_weight ≤ weight e.0 e.1)) }
 {
     if bytes[0] != OPEN {
         return Ok(None);
@@ -75,14 +76,15 @@ pub struct Replay {
 }
 
 impl Model for Replay {
-    ghost use Rattle.std.specs.Prelude.{◌<◌, ◌*◌};
+    ghost use Rattle.std.specs.Prelude.{◌<◌};
+    ghost use Rattle.gated_log.specs.Lane.{region_length};
     ghost use Rattle.gated_log.specs.Replay.{ReplayState};
 
     ghost Value = { ReplayState };
 
     ghost view = { λ r. record { sizes = r.geometry; lane = r.lane; end = r.end } };
 
-    ghost invariant = { λ r. (r.lane < 3) × (r.end < 4 * r.geometry.half) };
+    ghost invariant = { λ r. (r.lane < 3) × (r.end < region_length r.geometry) };
 }
 
 impl Replay {
@@ -122,6 +124,7 @@ impl Replay {
         requires { IsTrue (D.state disk.old).tells_bytes → length (D.state disk.old).bytes ≡ file_length self.now.sizes }
         ensures read { IsTrue (D.state disk.old).tells_bytes → IsReadFrom self.now (D.state disk.new).bytes result }
         ensures fits { IfOk result (λ given. IfSome given (λ e. self.now.end + 1 + weight e.0 e.1 < region_length self.now.sizes)) }
+        ensures least { IfOk result (λ given. IfSome given (λ e. least_weight ≤ weight e.0 e.1)) }
         ensures inside { region_start self.now.sizes self.now.lane + region_length self.now.sizes ≤ file_length self.now.sizes }
         ensures lane { (lane : ℕ) → result ≡ Err (LaneBroken.Damaged lane) → lane ≡ self.now.lane }
         ensures passes { Passes (D.state disk.old) (D.state disk.new) }
@@ -143,14 +146,15 @@ impl Replay {
 
     /// The lane's next entry: the record and its key, or `None` at the lane's closed gate, now and from then on.
     ///
-    /// Each call reads the disk once, at most 513 bytes, and takes no memory. `Damaged` comes exactly where the next gate is open
-    /// and no entry follows with its own next gate inside the region; `Fault` only where the disk's count of faults rose. After an
-    /// `Err` the replay stands where it stood.
+    /// Each call reads the disk once and takes no memory. An entry moves the next gate by its weight and one, 15 bytes at least.
+    /// `Damaged` comes exactly where the next gate is open and no entry follows with its own next gate inside the region; `Fault`
+    /// only where the disk's count of faults rose. After an `Err` the replay stands where it stood.
     pub fn next<D: Disk>(&mut self, disk: &mut D) -> Result<Option<(Key, Rec)>, LaneBroken>
         requires { IsTrue (D.state disk.old).tells_bytes → length (D.state disk.old).bytes ≡ file_length self.old.sizes }
 
         ensures moved { self.new ≡ replay_after result self.old }
         ensures inside { self.new.end < region_length self.new.sizes }
+        ensures least { IfOk result (λ given. IfSome given (λ e. least_weight ≤ weight e.0 e.1)) }
         ensures sizes { self.new.sizes ≡ self.old.sizes }
         ensures same_lane { self.new.lane ≡ self.old.lane }
 

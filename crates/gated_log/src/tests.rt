@@ -1,10 +1,10 @@
 // A store's lanes on a disk in memory: what is appended is read back, byte by byte and entry by entry.
-ghost use Rattle.std.specs.Prelude.{◌≡◌, ◌<◌, ◌≤◌, ◌+◌, ℕ, List, length, IfOk, OnOk, IsTrue, Err};
+ghost use Rattle.std.specs.Prelude.{◌≡◌, ◌<◌, ◌≤◌, ◌+◌, ◌-◌, ◌/◌, ℕ, List, length, IfOk, OnOk, IsTrue, Err};
 ghost use Rattle.blsm_model.specs.declared.key.Key.{Key};
 ghost use Rattle.blsm_model.specs.Geometry.{file_length};
 ghost use Rattle.disk_mem.specs.Recorded.{told};
 ghost use Rattle.record_delta.specs.declared.record.Rec.{Rec};
-ghost use Rattle.gated_log.specs.Lane.{HasEntries, IsDamaged};
+ghost use Rattle.gated_log.specs.Lane.{region_length, HasEntries, IsDamaged};
 
 use crate::region::{length_of, place_in_file};
 use crate::{LaneBroken, Lanes, Replay};
@@ -25,6 +25,9 @@ fn count<D: Disk>(disk: &mut D, geometry: &Geometry, lane: u8) -> Result<u64, La
     ensures damaged { (place : ℕ) → result ≡ Err (LaneBroken.Damaged place) → IsTrue (D.state disk.old).is_honest
         → IsDamaged geometry.now lane (D.state disk.old).bytes }
     ensures length { IsTrue (D.state disk.old).tells_bytes → length (D.state disk.new).bytes ≡ length (D.state disk.old).bytes }
+
+    // An entry and its gate take 15 bytes at least, and the last gate one.
+    ensures calls { (D.state disk.new).clock ≤ (D.state disk.old).clock + (region_length geometry.now - 1) / 15 + 1 }
 {
     let _half = geometry.half();
     let mut replay = Replay::new(geometry, lane);

@@ -33,6 +33,10 @@ length-first_catalogue = refl
 
 -- ---- files that are no store
 
+-- a file has room for its first block
+pub head_inside : (sizes : Sizes) → 4096 ≤ file_length sizes
+head_inside sizes = omega arith
+
 -- a store is longer than its first block
 pub store_length : (sizes : Sizes) → IsGeometry sizes → 4096 + 12 * 17408 ≤ file_length sizes
 store_length sizes geometry =
@@ -59,9 +63,9 @@ block_shut end file fits blank = record {
   no_longer = omega (arith, ap (length {A = ℕ}) blank, length-replicate {A = ℕ} 4096 0);
 }
 
-pub short_half : (sizes : Sizes) → IsGeometry sizes → (file : List ℕ) → IsShort file → IsHalfMade sizes file
-short_half sizes geometry file short =
-    let least = store_length sizes geometry in
+pub short_half : (sizes : Sizes) (file : List ℕ) → IsShort file → IsHalfMade sizes file
+short_half sizes file short =
+    let least = head_inside sizes in
     let no_longer = short.no_longer in
     record { store = inl (short_no_store file short); no_longer = omega (arith, least, no_longer) }
 

@@ -6,7 +6,7 @@ use Rattle.std.proofs.lemmas.Nat.{from_be_bytes-to_be_bytes_4}
 use Rattle.disk_trait.specs.Disk.{Torn}
 use Rattle.disk_trait.specs.Parts.{torn_below}
 use Rattle.gated_write.specs.Gated.{open_byte}
-use Rattle.gated_log.specs.Lane.{head_length}
+use Rattle.blsm_model.specs.Format.{head_length}
 use Rattle.blsm_model.specs.Sizes.{Sizes, IsGeometry}
 use Rattle.blsm_model.specs.Geometry.{file_length}
 use Rattle.store_file.specs.Layout.{superblock_text, superblock, superblock_length, odd_slot, even_slot, slot_length, IsStoreOf, HasFirstSlots}

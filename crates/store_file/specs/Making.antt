@@ -1,10 +1,10 @@
 -- What making leaves of a disk.
-use Rattle.std.specs.Prelude.{◌⊎◌, ◌≤◌, ℕ, List, length, ◌+◌, ◌-◌, ◌/◌}
-use Rattle.std.proofs.Common.{inl, inr, ⊎_elim, arith}
+use Rattle.std.specs.Prelude.{◌⊎◌, ◌≤◌, ◌<◌, ℕ, List, length, ◌+◌, ◌-◌, ◌/◌}
+use Rattle.std.proofs.Common.{inl, inr, ⊎_elim}
 use Rattle.disk_trait.specs.Disk.{DiskState}
-use Rattle.disk_trait.specs.Moments.{IsTimed, LeavesOnly, leaves_only_kept, leaves_only_now, leaves_only_run, leaves_only_weaken}
+use Rattle.disk_trait.specs.Moments.{IsTimed, LeavesOnly, leaves_only_now, leaves_only_run, leaves_only_weaken}
 use Rattle.gated_write.specs.Gated.{IsClosed}
-use Rattle.gated_log.specs.Lane.{head_length}
+use Rattle.blsm_model.specs.Format.{head_length}
 use Rattle.blsm_model.specs.Sizes.{Sizes}
 use Rattle.blsm_model.specs.Geometry.{file_length}
 use Rattle.store_file.specs.Layout.{IsStore, IsMade}
@@ -33,7 +33,7 @@ IsOldOr before P file = before file ⊎ P file
 
 -- a sync has ended well since then
 abbrev pub HasSynced : DiskState → DiskState → Type 0
-HasSynced old new = (t : ℕ) × (old.clock ≤ t) × new.synced_at t
+HasSynced old new = (t : ℕ) × (old.clock < t) × new.synced_at t
 
 -- As long as no sync has ended well, a crash leaves what it might have left before.
 abbrev pub IsUnwritten : DiskState → DiskState → Type 0
@@ -46,8 +46,3 @@ old_or_behind {old} {mid} {new} timed first second =
     leaves_only_run
     (leaves_only_weaken (λ c before. inl before) first)
     (leaves_only_weaken (λ c. ⊎_elim (λ before. inl (leaves_only_now timed first c before)) (λ has. inr has)) second)
-
--- nothing is written before a sync, behind a run that leaves only old files
-pub unwritten_behind : {old mid new : DiskState} → IsTimed mid → LeavesOnly old mid old.images → IsUnwritten mid new → IsUnwritten old new
-unwritten_behind {old} {mid} {new} timed first second =
-    ⊎_elim (λ run. inl (leaves_only_kept timed first run)) (λ synced. inr (synced.0, omega (arith, first.later, synced.1), synced.2)) second

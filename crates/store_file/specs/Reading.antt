@@ -8,11 +8,11 @@ use Rattle.store_file.specs.declared.reading.StoreBroken.TheVariants.{Fault, Not
 use Rattle.store_file.specs.Layout.{IsStoreOf, IsStore, HasFirstSlots}
 
 -- What an answer says of the file: it is a store of these sizes whose slots are as at making; or it is no store; or it is one, and its slots aren't. After a fault nobody knows.
-abbrev pub Tells : List ℕ → Result Sizes StoreBroken → Type 0
-Tells file (Ok sizes) = IsStoreOf sizes file × HasFirstSlots file
-Tells file (Err NotAStore) = ¬ (IsStore file)
-Tells file (Err DamagedSlots) = IsStore file × ¬ (HasFirstSlots file)
-Tells file (Err Fault) = ⊤
+abbrev pub TellsStore : List ℕ → Result Sizes StoreBroken → Type 0
+TellsStore file (Ok sizes) = IsStoreOf sizes file × HasFirstSlots file
+TellsStore file (Err NotAStore) = ¬ (IsStore file)
+TellsStore file (Err DamagedSlots) = IsStore file × ¬ (HasFirstSlots file)
+TellsStore file (Err Fault) = ⊤
 
 -- A fault is answered where the count rose, and any other answer where it stands.
 abbrev pub HasReadCause : {T : Type 0} → DiskState → DiskState → Result T StoreBroken → Type 0

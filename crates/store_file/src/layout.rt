@@ -10,21 +10,22 @@
 //!
 //! The superblock is a gate u8 (1 is open), 8 bytes of magic, the format u16, and the half, the ratio, the low mark and the
 //! quantum of the geometry, each u32.
-ghost use Rattle.std.specs.Prelude.{◌≡◌, ◌<◌, ◌^◌};
+ghost use Rattle.std.specs.Prelude.{◌≡◌};
 ghost use Rattle.blsm_model.specs.Sizes.{IsGeometry};
 ghost use Rattle.blsm_model.specs.Geometry.{file_length};
 ghost use Rattle.store_file.specs.Layout.{superblock_text, superblock};
 
 use blsm_model::Geometry;
+use gated_log::HEAD_LEN;
 
 /// How many bytes a block has: what stands before the lanes, and each page.
-pub const BLOCK: u64 = 4_096;
+pub const BLOCK: u64 = HEAD_LEN;
 
 /// The length of the superblock behind its gate, in bytes.
 pub const TEXT_LEN: usize = 26;
 
 /// The length of the superblock, in bytes.
-pub const SUPERBLOCK_LEN: usize = 27;
+pub const SUPERBLOCK_LEN: usize = TEXT_LEN + 1;
 
 /// Where in the superblock the numbers of the geometry stand.
 pub const HALF_AT: usize = 11;

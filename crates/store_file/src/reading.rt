@@ -6,8 +6,8 @@ ghost use Rattle.disk_trait.specs.Moments.{LeavesOnly};
 ghost use Rattle.gated_write.specs.Gated.{open_byte};
 ghost use Rattle.blsm_model.specs.Sizes.{Sizes, IsGeometry};
 ghost use Rattle.blsm_model.specs.Geometry.{file_length};
-ghost use Rattle.store_file.specs.Layout.{superblock, HasFirstSlots, IsStoreOf};
-ghost use Rattle.store_file.specs.Reading.{Tells, TellsGeometry, TellsSlots, HasReadCause};
+ghost use Rattle.store_file.specs.Layout.{superblock, IsStoreOf};
+ghost use Rattle.store_file.specs.Reading.{TellsStore, TellsGeometry, TellsSlots, HasReadCause};
 
 use crate::layout::{
     EVEN_SLOT, FIRST_CATALOGUE, HALF_AT, LOW_AT, NO_CATALOGUE, ODD_SLOT, QUANTUM_AT, RATIO_AT,
@@ -79,11 +79,13 @@ fn read_geometry<D: Disk>(disk: &mut D) -> Result<Geometry, StoreBroken>
         → length (D.state disk.old).bytes ≡ file_length sizes) }
     ensures fits { IfOk result IsGeometry }
     ensures cause { HasReadCause (D.state disk.old) (D.state disk.new) result }
+    ensures one_fault { (D.state disk.new).faults ≤ (D.state disk.old).faults + 1 }
     ensures same { ChangesNothing (D.state disk.old) (D.state disk.new) }
     ensures each { IsTrue (D.state disk.old).is_honest
         → LeavesOnly (D.state disk.old) (D.state disk.new) (D.state disk.old).images }
     ensures no_sync { MarksSync ⊥ (D.state disk.old) (D.state disk.new) }
     ensures goes_on { GoesOn (D.state disk.old) (D.state disk.new) }
+    ensures calls { (D.state disk.new).clock ≤ (D.state disk.old).clock + 2 }
     ensures sure { IsSure SUPERBLOCK_LEN (D.state disk.old) (D.state disk.new) }
 {
     let length = disk.len()?;
@@ -107,11 +109,13 @@ fn check_slots<D: Disk>(disk: &mut D) -> Result<(), StoreBroken>
     requires { IsTrue (D.state disk.old).tells_bytes → EVEN_SLOT + SLOT_LEN ≤ length (D.state disk.old).bytes }
     ensures tells { IsTrue (D.state disk.old).is_honest → TellsSlots (D.state disk.old).bytes result }
     ensures cause { HasReadCause (D.state disk.old) (D.state disk.new) result }
+    ensures one_fault { (D.state disk.new).faults ≤ (D.state disk.old).faults + 1 }
     ensures same { ChangesNothing (D.state disk.old) (D.state disk.new) }
     ensures each { IsTrue (D.state disk.old).is_honest
         → LeavesOnly (D.state disk.old) (D.state disk.new) (D.state disk.old).images }
     ensures no_sync { MarksSync ⊥ (D.state disk.old) (D.state disk.new) }
     ensures goes_on { GoesOn (D.state disk.old) (D.state disk.new) }
+    ensures calls { (D.state disk.new).clock ≤ (D.state disk.old).clock + 2 }
     ensures sure { IsSure (EVEN_SLOT + SLOT_LEN) (D.state disk.old) (D.state disk.new) }
 {
     let mut odd = [0; SLOT_LEN];
@@ -128,20 +132,22 @@ fn check_slots<D: Disk>(disk: &mut D) -> Result<(), StoreBroken>
 }
 
 /// Reads which geometry the store on a disk has. Its superblock and its length are looked at first, then its catalogue slots,
-/// of which each of the 84 bytes must be as at making. Nothing is read past the end.
+/// of which each of the 84 bytes must be as at making.
 ///
-/// No answer changes what the disk holds.
+/// It takes at most four calls of the disk: its length, and three reads. No answer changes what the disk holds.
 pub fn read_store<D: Disk>(disk: &mut D) -> Result<Geometry, StoreBroken>
-    ensures tells { IsTrue (D.state disk.old).is_honest → Tells (D.state disk.old).bytes result }
+    ensures tells { IsTrue (D.state disk.old).is_honest → TellsStore (D.state disk.old).bytes result }
     ensures length { IfOk result (λ sizes. IsTrue (D.state disk.old).tells_bytes
         → length (D.state disk.old).bytes ≡ file_length sizes) }
     ensures fits { IfOk result IsGeometry }
     ensures cause { HasReadCause (D.state disk.old) (D.state disk.new) result }
+    ensures one_fault { (D.state disk.new).faults ≤ (D.state disk.old).faults + 1 }
     ensures same { ChangesNothing (D.state disk.old) (D.state disk.new) }
     ensures each { IsTrue (D.state disk.old).is_honest
         → LeavesOnly (D.state disk.old) (D.state disk.new) (D.state disk.old).images }
     ensures no_sync { MarksSync ⊥ (D.state disk.old) (D.state disk.new) }
     ensures goes_on { GoesOn (D.state disk.old) (D.state disk.new) }
+    ensures calls { (D.state disk.new).clock ≤ (D.state disk.old).clock + 4 }
     ensures sure { IsSure (EVEN_SLOT + SLOT_LEN) (D.state disk.old) (D.state disk.new) }
 {
     let geometry = read_geometry(disk)?;

@@ -3,7 +3,6 @@ use super::*;
 use blsm_model::Geometry;
 use disk_mem::{FaultlessDisk, MemDisk};
 use disk_trait::Disk;
-use std::alloc::Global;
 use std::test::Fail;
 
 // The superblock and the first catalogue of the default geometry, byte by byte.

@@ -1,8 +1,10 @@
-use Rattle.std.proofs.Common.{◌≡◌, ◌+◌, ◌++◌, ◌∷◌, [], List, ℕ, length, Option, Some, Result, Ok, Err, IsTrue, ap, sym, subst, ◌∙◌, arith, length-append}
-use Rattle.std.specs.Prelude.{IfSome}
+use Rattle.std.proofs.Common.{◌≡◌, ◌+◌, ◌≤◌, ◌++◌, ◌∷◌, [], List, ℕ, length, Option, Some, Result, Ok, Err, IsTrue, ap, sym, subst, ◌∙◌, arith, length-append}
+use Rattle.std.specs.Prelude.{IfOk, IfSome}
 use Rattle.std.proofs.lemmas.Result.{err_from_is_err_and}
 use Rattle.blsm_model.specs.declared.key.Key.{Key}
 use Rattle.record_delta.specs.declared.record.Rec.{Rec}
+use Rattle.record_delta.specs.Records.{weight}
+use Rattle.blsm_model.specs.Format.{least_weight}
 use Rattle.disk_trait.specs.Moments.{goes_on_run}
 use Rattle.gated_log.specs.declared.replay.LaneBroken.{LaneBroken}
 use Rattle.blsm_model.specs.Sizes.{Sizes}
@@ -29,6 +31,7 @@ loop-entries-preserved g c =
     let inv = c.loop-entries.invariant in
     let answered : c.next.result ≡ Ok (Some c.in-Some.field-0) = c.in_ok-next.was ∙ ap Ok c.in-Some.is in
     let moved : c.next.new.self ≡ replay_after (Ok (Some c.in-Some.field-0)) c.loop-entries.replay = c.next.ensures.moved ∙ ap (λ (a : Answer). replay_after a c.loop-entries.replay) answered in
+    let least = subst (λ (a : Answer). IfOk a (λ given. IfSome given (λ e. least_weight ≤ weight e.0 e.1))) answered c.next.ensures.least in
     record {
       sizes = ap (λ (r : ReplayState). r.sizes) moved ∙ inv.sizes;
       lane = ap (λ (r : ReplayState). r.lane) moved ∙ inv.lane;
@@ -37,6 +40,7 @@ loop-entries-preserved g c =
       goes_on = goes_on_run inv.goes_on c.next.ensures.passes.goes_on;
       long = λ tells. c.next.ensures.same.same.length (subst IsTrue (sym inv.goes_on.tells_bytes) tells) ∙ inv.long tells;
       bytes = λ honest. c.next.ensures.same.same.bytes (subst IsTrue (sym inv.goes_on.is_honest) honest) ∙ inv.bytes honest;
+      calls = omega (arith, c.next.ensures.passes.at_most_one, inv.calls, least, ap (λ (r : ReplayState). r.end) moved);
       given = λ honest.
           let was = inv.given honest in
           let still = subst IsTrue (sym inv.goes_on.is_honest) honest in

@@ -1,4 +1,4 @@
-use Rattle.std.proofs.Common.{◌≡◌, ◌<◌, ◌≤◌, List, length, IsTrue, ◌-◌}
+use Rattle.std.proofs.Common.{◌≡◌, ◌<◌, ◌≤◌, ◌+◌, ◌*◌, List, length, IsTrue, ◌-◌}
 use Rattle.blsm_model.specs.declared.key.Key.{Key}
 use Rattle.blsm_model.specs.Geometry.{file_length}
 use Rattle.record_delta.specs.declared.record.Rec.{Rec}
@@ -16,6 +16,8 @@ invariant-loop-entries g l = record {
   goes_on : GoesOn (g.D.Disk.state l.fn.disk) (g.D.Disk.state l.disk);
   long : IsTrue (g.D.Disk.state l.fn.disk).tells_bytes → length (g.D.Disk.state l.disk).bytes ≡ file_length l.geometry;
   bytes : IsTrue (g.D.Disk.state l.fn.disk).is_honest → (g.D.Disk.state l.disk).bytes ≡ (g.D.Disk.state l.fn.disk).bytes;
+  -- a read for each entry so far, and an entry and its gate take 15 bytes at least
+  calls : 15 * (g.D.Disk.state l.disk).clock ≤ 15 * (g.D.Disk.state l.fn.disk).clock + l.replay.end;
   given : IsTrue (g.D.Disk.state l.fn.disk).is_honest → (es : List (Key × Rec)) × HasGiven l.replay es (g.D.Disk.state l.disk).bytes × (length es ≡ l.entries);
 }
 

@@ -1,314 +1,219 @@
-use Rattle.std.proofs.Common.{◌∙◌, ◌≤◌, subst, sym, ap, arith, List, [], ◌∷◌, ℕ}
+use Rattle.std.proofs.Common.{◌∙◌, ◌-◌, IsTrue, List, [], ◌∷◌, ℕ, length, sym, ap, subst, arith, inr}
 use Rattle.gated_write.specs.Gated.{open_byte}
 use Rattle.disk_trait.specs.Disk.{overwritten}
+use Rattle.disk_trait.specs.Moments.{goes_on_run}
 use Rattle.blsm_model.specs.Geometry.{file_length}
-use Rattle.store_file.specs.Layout.{zeros, IsMade}
-use Rattle.disk_trait.specs.Moments.{LeavesOnly}
-use Rattle.store_file.specs.Making.{IsShut}
-use Rattle.store_file.proofs.LayoutLemmas.{store_length, short_half, gate_opened, first_file_made}
-use Rattle.store_file.proofs.MakingLemmas.{making_first, behind_block, behind_more, making_opened}
+use Rattle.store_file.specs.Layout.{IsMade}
+use Rattle.store_file.proofs.LayoutLemmas.{head_inside, gate_opened, first_file_made}
+use Rattle.store_file.proofs.MakingLemmas.{making_first, making_behind, blank_block, making_opened, within_first, within_more}
 use Rattle.store_file.proofs.making.make_store.Goals as goal
 
-pub returns-in_err-write_first_block-clause-each : goal.returns-in_err-write_first_block-clause-each
-returns-in_err-write_first_block-clause-each g c = λ honest.
-    let state = g.D.Disk.state in
-    let timed = g.met.D.Disk.timed in
-    let sizes = c.args.geometry.now in
-    let start = state c.args.disk.now in
-    let geometry = c.length_of-length.ensures.fits in
-    let least : 4096 ≤ file_length sizes = omega (arith, store_length sizes geometry) in
-    let block = c.write_first_block.new.disk in
-    let first = making_first sizes start (state block) (short_half sizes geometry) honest c.write_first_block.ensures.goes_on (c.write_first_block.ensures.each honest)
-    (c.write_first_block.ensures.once_synced honest) in
-    first.run
+pub returns-in_err-write_between_syncs-clause-each : goal.returns-in_err-write_between_syncs-clause-each
+returns-in_err-write_between_syncs-clause-each g c = λ honest.
+    let wrote = c.write_between_syncs.ensures in
+    let none = λ (honest : IsTrue (g.D.Disk.state c.args.disk.now).is_honest). c.requires (g.met.D.Disk.honest_tells c.args.disk.now honest) in
+    let first = making_first c.args.geometry.now _ _ c.zero_bytes.result.now c.zero_bytes.ensures.len none wrote.goes_on wrote.each wrote.once_synced wrote.within in
+    (first honest).run
 
-pub returns-in_err-write_zeros-clause-each : goal.returns-in_err-write_zeros-clause-each
-returns-in_err-write_zeros-clause-each g c = λ honest.
-    let state = g.D.Disk.state in
+pub returns-in_err-write_behind_gate-clause-each : goal.returns-in_err-write_behind_gate-clause-each
+returns-in_err-write_behind_gate-clause-each g c = λ honest.
+    let wrote = c.write_between_syncs.ensures in
+    let none = λ (honest : IsTrue (g.D.Disk.state c.args.disk.now).is_honest). c.requires (g.met.D.Disk.honest_tells c.args.disk.now honest) in
+    let first = making_first c.args.geometry.now _ _ c.zero_bytes.result.now c.zero_bytes.ensures.len none wrote.goes_on wrote.each wrote.once_synced wrote.within in
+    let more = c.write_behind_gate.ensures in
     let timed = g.met.D.Disk.timed in
-    let sizes = c.args.geometry.now in
-    let start = state c.args.disk.now in
-    let geometry = c.length_of-length.ensures.fits in
-    let least : 4096 ≤ file_length sizes = omega (arith, store_length sizes geometry) in
-    let block = c.write_first_block.new.disk in
-    let first = making_first sizes start (state block) (short_half sizes geometry) honest c.write_first_block.ensures.goes_on (c.write_first_block.ensures.each honest)
-    (c.write_first_block.ensures.once_synced honest) in
-    let blank = c.in_ok-write_first_block.ensures.written honest in
-    let behind = behind_block sizes start (state block) least first (c.in_ok-write_first_block.ensures.durable honest) blank in
-    let wide = c.write_zeros.new.disk in
-    let end = c.length_of-length.ensures.length in
-    let shut = subst (λ (n : ℕ). (c' : List ℕ) → (state block).images c' → IsShut n c') (sym end) behind.shut in
-    let filled = behind_more sizes start (state block) (state wide) (timed block) (timed wide) behind c.write_zeros.ensures.goes_on
-    (subst (λ (n : ℕ). LeavesOnly (state block) (state wide) (IsShut n)) end (c.write_zeros.ensures.each first.honest shut)) c.write_zeros.ensures.no_sync in
-    filled.making.run
+    let behind = making_behind c.args.geometry.now _ _ _ c.zero_bytes.result.now c.zero_bytes.ensures.value (timed c.write_between_syncs.new.disk) (timed c.write_behind_gate.new.disk) first none
+    c.in_ok-write_between_syncs.ensures.written c.in_ok-write_between_syncs.ensures.durable more.goes_on more.each more.no_sync more.within in
+    (behind honest).making.run
 
-pub returns-in_err-write_parts-clause-each : goal.returns-in_err-write_parts-clause-each
-returns-in_err-write_parts-clause-each g c = λ honest.
-    let state = g.D.Disk.state in
+pub returns-in_err-write_between_syncs-2-clause-each : goal.returns-in_err-write_between_syncs-2-clause-each
+returns-in_err-write_between_syncs-2-clause-each g c = λ honest.
+    let wrote = c.write_between_syncs.ensures in
+    let none = λ (honest : IsTrue (g.D.Disk.state c.args.disk.now).is_honest). c.requires (g.met.D.Disk.honest_tells c.args.disk.now honest) in
+    let first = making_first c.args.geometry.now _ _ c.zero_bytes.result.now c.zero_bytes.ensures.len none wrote.goes_on wrote.each wrote.once_synced wrote.within in
+    let more = c.write_behind_gate.ensures in
     let timed = g.met.D.Disk.timed in
-    let sizes = c.args.geometry.now in
-    let start = state c.args.disk.now in
-    let geometry = c.length_of-length.ensures.fits in
-    let least : 4096 ≤ file_length sizes = omega (arith, store_length sizes geometry) in
-    let block = c.write_first_block.new.disk in
-    let first = making_first sizes start (state block) (short_half sizes geometry) honest c.write_first_block.ensures.goes_on (c.write_first_block.ensures.each honest)
-    (c.write_first_block.ensures.once_synced honest) in
-    let blank = c.in_ok-write_first_block.ensures.written honest in
-    let behind = behind_block sizes start (state block) least first (c.in_ok-write_first_block.ensures.durable honest) blank in
-    let wide = c.write_zeros.new.disk in
-    let end = c.length_of-length.ensures.length in
-    let shut = subst (λ (n : ℕ). (c' : List ℕ) → (state block).images c' → IsShut n c') (sym end) behind.shut in
-    let filled = behind_more sizes start (state block) (state wide) (timed block) (timed wide) behind c.write_zeros.ensures.goes_on
-    (subst (λ (n : ℕ). LeavesOnly (state block) (state wide) (IsShut n)) end (c.write_zeros.ensures.each first.honest shut)) c.write_zeros.ensures.no_sync in
-    let parted = c.write_parts.new.disk in
-    let told = behind_more sizes start (state wide) (state parted) (timed wide) (timed parted) filled c.write_parts.ensures.goes_on
-    (c.write_parts.ensures.each filled.making.honest filled.shut) c.write_parts.ensures.no_sync in
-    told.making.run
-
-pub returns-in_err-open_gate-clause-each : goal.returns-in_err-open_gate-clause-each
-returns-in_err-open_gate-clause-each g c = λ honest.
-    let state = g.D.Disk.state in
-    let timed = g.met.D.Disk.timed in
-    let sizes = c.args.geometry.now in
-    let start = state c.args.disk.now in
-    let geometry = c.length_of-length.ensures.fits in
-    let least : 4096 ≤ file_length sizes = omega (arith, store_length sizes geometry) in
-    let block = c.write_first_block.new.disk in
-    let first = making_first sizes start (state block) (short_half sizes geometry) honest c.write_first_block.ensures.goes_on (c.write_first_block.ensures.each honest)
-    (c.write_first_block.ensures.once_synced honest) in
-    let blank = c.in_ok-write_first_block.ensures.written honest in
-    let behind = behind_block sizes start (state block) least first (c.in_ok-write_first_block.ensures.durable honest) blank in
-    let wide = c.write_zeros.new.disk in
-    let end = c.length_of-length.ensures.length in
-    let shut = subst (λ (n : ℕ). (c' : List ℕ) → (state block).images c' → IsShut n c') (sym end) behind.shut in
-    let filled = behind_more sizes start (state block) (state wide) (timed block) (timed wide) behind c.write_zeros.ensures.goes_on
-    (subst (λ (n : ℕ). LeavesOnly (state block) (state wide) (IsShut n)) end (c.write_zeros.ensures.each first.honest shut)) c.write_zeros.ensures.no_sync in
-    let parted = c.write_parts.new.disk in
-    let told = behind_more sizes start (state wide) (state parted) (timed wide) (timed parted) filled c.write_parts.ensures.goes_on
-    (c.write_parts.ensures.each filled.making.honest filled.shut) c.write_parts.ensures.no_sync in
-    let zeroed = c.in_ok-write_zeros.ensures.written first.honest blank ∙ ap zeros end in
-    let written = c.in_ok-write_parts.ensures.written filled.making.honest zeroed in
-    let opened = c.open_gate.new.disk in
-    let last = making_opened sizes start (state parted) (state opened) geometry (timed parted) (timed opened) told c.open_gate.ensures.goes_on written
-    (c.open_gate.ensures.each told.making.honest) c.open_gate.ensures.syncs in
+    let behind = making_behind c.args.geometry.now _ _ _ c.zero_bytes.result.now c.zero_bytes.ensures.value (timed c.write_between_syncs.new.disk) (timed c.write_behind_gate.new.disk) first none
+    c.in_ok-write_between_syncs.ensures.written c.in_ok-write_between_syncs.ensures.durable more.goes_on more.each more.no_sync more.within in
+    let opens = c.write_between_syncs-2.ensures in
+    let blank = blank_block c.args.geometry.now (g.D.Disk.state c.args.disk.now) (g.D.Disk.state c.write_between_syncs.new.disk) c.zero_bytes.result.now c.zero_bytes.ensures.value none c.in_ok-write_between_syncs.ensures.written honest in
+    let shut = c.in_ok-write_behind_gate.ensures.written (subst IsTrue (sym wrote.goes_on.is_honest) honest) blank in
+    let last = making_opened c.args.geometry.now _ _ _ c.in_ok-write_behind_gate.ensures.fits (timed c.write_behind_gate.new.disk) (timed c.write_between_syncs-2.new.disk) (behind honest)
+    opens.goes_on shut opens.each opens.syncs opens.within in
     last.run
 
 pub returns-clause-each : goal.returns-clause-each
 returns-clause-each g c = λ honest.
-    let state = g.D.Disk.state in
+    let wrote = c.write_between_syncs.ensures in
+    let none = λ (honest : IsTrue (g.D.Disk.state c.args.disk.now).is_honest). c.requires (g.met.D.Disk.honest_tells c.args.disk.now honest) in
+    let first = making_first c.args.geometry.now _ _ c.zero_bytes.result.now c.zero_bytes.ensures.len none wrote.goes_on wrote.each wrote.once_synced wrote.within in
+    let more = c.write_behind_gate.ensures in
     let timed = g.met.D.Disk.timed in
-    let sizes = c.args.geometry.now in
-    let start = state c.args.disk.now in
-    let geometry = c.length_of-length.ensures.fits in
-    let least : 4096 ≤ file_length sizes = omega (arith, store_length sizes geometry) in
-    let block = c.write_first_block.new.disk in
-    let first = making_first sizes start (state block) (short_half sizes geometry) honest c.write_first_block.ensures.goes_on (c.write_first_block.ensures.each honest)
-    (c.write_first_block.ensures.once_synced honest) in
-    let blank = c.in_ok-write_first_block.ensures.written honest in
-    let behind = behind_block sizes start (state block) least first (c.in_ok-write_first_block.ensures.durable honest) blank in
-    let wide = c.write_zeros.new.disk in
-    let end = c.length_of-length.ensures.length in
-    let shut = subst (λ (n : ℕ). (c' : List ℕ) → (state block).images c' → IsShut n c') (sym end) behind.shut in
-    let filled = behind_more sizes start (state block) (state wide) (timed block) (timed wide) behind c.write_zeros.ensures.goes_on
-    (subst (λ (n : ℕ). LeavesOnly (state block) (state wide) (IsShut n)) end (c.write_zeros.ensures.each first.honest shut)) c.write_zeros.ensures.no_sync in
-    let parted = c.write_parts.new.disk in
-    let told = behind_more sizes start (state wide) (state parted) (timed wide) (timed parted) filled c.write_parts.ensures.goes_on
-    (c.write_parts.ensures.each filled.making.honest filled.shut) c.write_parts.ensures.no_sync in
-    let zeroed = c.in_ok-write_zeros.ensures.written first.honest blank ∙ ap zeros end in
-    let written = c.in_ok-write_parts.ensures.written filled.making.honest zeroed in
-    let opened = c.open_gate.new.disk in
-    let last = making_opened sizes start (state parted) (state opened) geometry (timed parted) (timed opened) told c.open_gate.ensures.goes_on written
-    (c.open_gate.ensures.each told.making.honest) c.open_gate.ensures.syncs in
+    let behind = making_behind c.args.geometry.now _ _ _ c.zero_bytes.result.now c.zero_bytes.ensures.value (timed c.write_between_syncs.new.disk) (timed c.write_behind_gate.new.disk) first none
+    c.in_ok-write_between_syncs.ensures.written c.in_ok-write_between_syncs.ensures.durable more.goes_on more.each more.no_sync more.within in
+    let opens = c.write_between_syncs-2.ensures in
+    let blank = blank_block c.args.geometry.now (g.D.Disk.state c.args.disk.now) (g.D.Disk.state c.write_between_syncs.new.disk) c.zero_bytes.result.now c.zero_bytes.ensures.value none c.in_ok-write_between_syncs.ensures.written honest in
+    let shut = c.in_ok-write_behind_gate.ensures.written (subst IsTrue (sym wrote.goes_on.is_honest) honest) blank in
+    let last = making_opened c.args.geometry.now _ _ _ c.in_ok-write_behind_gate.ensures.fits (timed c.write_behind_gate.new.disk) (timed c.write_between_syncs-2.new.disk) (behind honest)
+    opens.goes_on shut opens.each opens.syncs opens.within in
     last.run
 
-pub returns-in_err-write_first_block-clause-once_synced : goal.returns-in_err-write_first_block-clause-once_synced
-returns-in_err-write_first_block-clause-once_synced g c = λ honest.
-    let state = g.D.Disk.state in
-    let timed = g.met.D.Disk.timed in
-    let sizes = c.args.geometry.now in
-    let start = state c.args.disk.now in
-    let geometry = c.length_of-length.ensures.fits in
-    let least : 4096 ≤ file_length sizes = omega (arith, store_length sizes geometry) in
-    let block = c.write_first_block.new.disk in
-    let first = making_first sizes start (state block) (short_half sizes geometry) honest c.write_first_block.ensures.goes_on (c.write_first_block.ensures.each honest)
-    (c.write_first_block.ensures.once_synced honest) in
-    first.synced
+pub returns-in_err-write_between_syncs-clause-once_synced : goal.returns-in_err-write_between_syncs-clause-once_synced
+returns-in_err-write_between_syncs-clause-once_synced g c = λ honest.
+    let wrote = c.write_between_syncs.ensures in
+    let none = λ (honest : IsTrue (g.D.Disk.state c.args.disk.now).is_honest). c.requires (g.met.D.Disk.honest_tells c.args.disk.now honest) in
+    let first = making_first c.args.geometry.now _ _ c.zero_bytes.result.now c.zero_bytes.ensures.len none wrote.goes_on wrote.each wrote.once_synced wrote.within in
+    (first honest).synced
 
-pub returns-in_err-write_zeros-clause-once_synced : goal.returns-in_err-write_zeros-clause-once_synced
-returns-in_err-write_zeros-clause-once_synced g c = λ honest.
-    let state = g.D.Disk.state in
+pub returns-in_err-write_behind_gate-clause-once_synced : goal.returns-in_err-write_behind_gate-clause-once_synced
+returns-in_err-write_behind_gate-clause-once_synced g c = λ honest.
+    let wrote = c.write_between_syncs.ensures in
+    let none = λ (honest : IsTrue (g.D.Disk.state c.args.disk.now).is_honest). c.requires (g.met.D.Disk.honest_tells c.args.disk.now honest) in
+    let first = making_first c.args.geometry.now _ _ c.zero_bytes.result.now c.zero_bytes.ensures.len none wrote.goes_on wrote.each wrote.once_synced wrote.within in
+    let more = c.write_behind_gate.ensures in
     let timed = g.met.D.Disk.timed in
-    let sizes = c.args.geometry.now in
-    let start = state c.args.disk.now in
-    let geometry = c.length_of-length.ensures.fits in
-    let least : 4096 ≤ file_length sizes = omega (arith, store_length sizes geometry) in
-    let block = c.write_first_block.new.disk in
-    let first = making_first sizes start (state block) (short_half sizes geometry) honest c.write_first_block.ensures.goes_on (c.write_first_block.ensures.each honest)
-    (c.write_first_block.ensures.once_synced honest) in
-    let blank = c.in_ok-write_first_block.ensures.written honest in
-    let behind = behind_block sizes start (state block) least first (c.in_ok-write_first_block.ensures.durable honest) blank in
-    let wide = c.write_zeros.new.disk in
-    let end = c.length_of-length.ensures.length in
-    let shut = subst (λ (n : ℕ). (c' : List ℕ) → (state block).images c' → IsShut n c') (sym end) behind.shut in
-    let filled = behind_more sizes start (state block) (state wide) (timed block) (timed wide) behind c.write_zeros.ensures.goes_on
-    (subst (λ (n : ℕ). LeavesOnly (state block) (state wide) (IsShut n)) end (c.write_zeros.ensures.each first.honest shut)) c.write_zeros.ensures.no_sync in
-    filled.making.synced
+    let behind = making_behind c.args.geometry.now _ _ _ c.zero_bytes.result.now c.zero_bytes.ensures.value (timed c.write_between_syncs.new.disk) (timed c.write_behind_gate.new.disk) first none
+    c.in_ok-write_between_syncs.ensures.written c.in_ok-write_between_syncs.ensures.durable more.goes_on more.each more.no_sync more.within in
+    (behind honest).making.synced
 
-pub returns-in_err-write_parts-clause-once_synced : goal.returns-in_err-write_parts-clause-once_synced
-returns-in_err-write_parts-clause-once_synced g c = λ honest.
-    let state = g.D.Disk.state in
+pub returns-in_err-write_between_syncs-2-clause-once_synced : goal.returns-in_err-write_between_syncs-2-clause-once_synced
+returns-in_err-write_between_syncs-2-clause-once_synced g c = λ honest.
+    let wrote = c.write_between_syncs.ensures in
+    let none = λ (honest : IsTrue (g.D.Disk.state c.args.disk.now).is_honest). c.requires (g.met.D.Disk.honest_tells c.args.disk.now honest) in
+    let first = making_first c.args.geometry.now _ _ c.zero_bytes.result.now c.zero_bytes.ensures.len none wrote.goes_on wrote.each wrote.once_synced wrote.within in
+    let more = c.write_behind_gate.ensures in
     let timed = g.met.D.Disk.timed in
-    let sizes = c.args.geometry.now in
-    let start = state c.args.disk.now in
-    let geometry = c.length_of-length.ensures.fits in
-    let least : 4096 ≤ file_length sizes = omega (arith, store_length sizes geometry) in
-    let block = c.write_first_block.new.disk in
-    let first = making_first sizes start (state block) (short_half sizes geometry) honest c.write_first_block.ensures.goes_on (c.write_first_block.ensures.each honest)
-    (c.write_first_block.ensures.once_synced honest) in
-    let blank = c.in_ok-write_first_block.ensures.written honest in
-    let behind = behind_block sizes start (state block) least first (c.in_ok-write_first_block.ensures.durable honest) blank in
-    let wide = c.write_zeros.new.disk in
-    let end = c.length_of-length.ensures.length in
-    let shut = subst (λ (n : ℕ). (c' : List ℕ) → (state block).images c' → IsShut n c') (sym end) behind.shut in
-    let filled = behind_more sizes start (state block) (state wide) (timed block) (timed wide) behind c.write_zeros.ensures.goes_on
-    (subst (λ (n : ℕ). LeavesOnly (state block) (state wide) (IsShut n)) end (c.write_zeros.ensures.each first.honest shut)) c.write_zeros.ensures.no_sync in
-    let parted = c.write_parts.new.disk in
-    let told = behind_more sizes start (state wide) (state parted) (timed wide) (timed parted) filled c.write_parts.ensures.goes_on
-    (c.write_parts.ensures.each filled.making.honest filled.shut) c.write_parts.ensures.no_sync in
-    told.making.synced
-
-pub returns-in_err-open_gate-clause-once_synced : goal.returns-in_err-open_gate-clause-once_synced
-returns-in_err-open_gate-clause-once_synced g c = λ honest.
-    let state = g.D.Disk.state in
-    let timed = g.met.D.Disk.timed in
-    let sizes = c.args.geometry.now in
-    let start = state c.args.disk.now in
-    let geometry = c.length_of-length.ensures.fits in
-    let least : 4096 ≤ file_length sizes = omega (arith, store_length sizes geometry) in
-    let block = c.write_first_block.new.disk in
-    let first = making_first sizes start (state block) (short_half sizes geometry) honest c.write_first_block.ensures.goes_on (c.write_first_block.ensures.each honest)
-    (c.write_first_block.ensures.once_synced honest) in
-    let blank = c.in_ok-write_first_block.ensures.written honest in
-    let behind = behind_block sizes start (state block) least first (c.in_ok-write_first_block.ensures.durable honest) blank in
-    let wide = c.write_zeros.new.disk in
-    let end = c.length_of-length.ensures.length in
-    let shut = subst (λ (n : ℕ). (c' : List ℕ) → (state block).images c' → IsShut n c') (sym end) behind.shut in
-    let filled = behind_more sizes start (state block) (state wide) (timed block) (timed wide) behind c.write_zeros.ensures.goes_on
-    (subst (λ (n : ℕ). LeavesOnly (state block) (state wide) (IsShut n)) end (c.write_zeros.ensures.each first.honest shut)) c.write_zeros.ensures.no_sync in
-    let parted = c.write_parts.new.disk in
-    let told = behind_more sizes start (state wide) (state parted) (timed wide) (timed parted) filled c.write_parts.ensures.goes_on
-    (c.write_parts.ensures.each filled.making.honest filled.shut) c.write_parts.ensures.no_sync in
-    let zeroed = c.in_ok-write_zeros.ensures.written first.honest blank ∙ ap zeros end in
-    let written = c.in_ok-write_parts.ensures.written filled.making.honest zeroed in
-    let opened = c.open_gate.new.disk in
-    let last = making_opened sizes start (state parted) (state opened) geometry (timed parted) (timed opened) told c.open_gate.ensures.goes_on written
-    (c.open_gate.ensures.each told.making.honest) c.open_gate.ensures.syncs in
+    let behind = making_behind c.args.geometry.now _ _ _ c.zero_bytes.result.now c.zero_bytes.ensures.value (timed c.write_between_syncs.new.disk) (timed c.write_behind_gate.new.disk) first none
+    c.in_ok-write_between_syncs.ensures.written c.in_ok-write_between_syncs.ensures.durable more.goes_on more.each more.no_sync more.within in
+    let opens = c.write_between_syncs-2.ensures in
+    let blank = blank_block c.args.geometry.now (g.D.Disk.state c.args.disk.now) (g.D.Disk.state c.write_between_syncs.new.disk) c.zero_bytes.result.now c.zero_bytes.ensures.value none c.in_ok-write_between_syncs.ensures.written honest in
+    let shut = c.in_ok-write_behind_gate.ensures.written (subst IsTrue (sym wrote.goes_on.is_honest) honest) blank in
+    let last = making_opened c.args.geometry.now _ _ _ c.in_ok-write_behind_gate.ensures.fits (timed c.write_behind_gate.new.disk) (timed c.write_between_syncs-2.new.disk) (behind honest)
+    opens.goes_on shut opens.each opens.syncs opens.within in
     last.synced
 
 pub returns-clause-once_synced : goal.returns-clause-once_synced
 returns-clause-once_synced g c = λ honest.
-    let state = g.D.Disk.state in
+    let wrote = c.write_between_syncs.ensures in
+    let none = λ (honest : IsTrue (g.D.Disk.state c.args.disk.now).is_honest). c.requires (g.met.D.Disk.honest_tells c.args.disk.now honest) in
+    let first = making_first c.args.geometry.now _ _ c.zero_bytes.result.now c.zero_bytes.ensures.len none wrote.goes_on wrote.each wrote.once_synced wrote.within in
+    let more = c.write_behind_gate.ensures in
     let timed = g.met.D.Disk.timed in
-    let sizes = c.args.geometry.now in
-    let start = state c.args.disk.now in
-    let geometry = c.length_of-length.ensures.fits in
-    let least : 4096 ≤ file_length sizes = omega (arith, store_length sizes geometry) in
-    let block = c.write_first_block.new.disk in
-    let first = making_first sizes start (state block) (short_half sizes geometry) honest c.write_first_block.ensures.goes_on (c.write_first_block.ensures.each honest)
-    (c.write_first_block.ensures.once_synced honest) in
-    let blank = c.in_ok-write_first_block.ensures.written honest in
-    let behind = behind_block sizes start (state block) least first (c.in_ok-write_first_block.ensures.durable honest) blank in
-    let wide = c.write_zeros.new.disk in
-    let end = c.length_of-length.ensures.length in
-    let shut = subst (λ (n : ℕ). (c' : List ℕ) → (state block).images c' → IsShut n c') (sym end) behind.shut in
-    let filled = behind_more sizes start (state block) (state wide) (timed block) (timed wide) behind c.write_zeros.ensures.goes_on
-    (subst (λ (n : ℕ). LeavesOnly (state block) (state wide) (IsShut n)) end (c.write_zeros.ensures.each first.honest shut)) c.write_zeros.ensures.no_sync in
-    let parted = c.write_parts.new.disk in
-    let told = behind_more sizes start (state wide) (state parted) (timed wide) (timed parted) filled c.write_parts.ensures.goes_on
-    (c.write_parts.ensures.each filled.making.honest filled.shut) c.write_parts.ensures.no_sync in
-    let zeroed = c.in_ok-write_zeros.ensures.written first.honest blank ∙ ap zeros end in
-    let written = c.in_ok-write_parts.ensures.written filled.making.honest zeroed in
-    let opened = c.open_gate.new.disk in
-    let last = making_opened sizes start (state parted) (state opened) geometry (timed parted) (timed opened) told c.open_gate.ensures.goes_on written
-    (c.open_gate.ensures.each told.making.honest) c.open_gate.ensures.syncs in
+    let behind = making_behind c.args.geometry.now _ _ _ c.zero_bytes.result.now c.zero_bytes.ensures.value (timed c.write_between_syncs.new.disk) (timed c.write_behind_gate.new.disk) first none
+    c.in_ok-write_between_syncs.ensures.written c.in_ok-write_between_syncs.ensures.durable more.goes_on more.each more.no_sync more.within in
+    let opens = c.write_between_syncs-2.ensures in
+    let blank = blank_block c.args.geometry.now (g.D.Disk.state c.args.disk.now) (g.D.Disk.state c.write_between_syncs.new.disk) c.zero_bytes.result.now c.zero_bytes.ensures.value none c.in_ok-write_between_syncs.ensures.written honest in
+    let shut = c.in_ok-write_behind_gate.ensures.written (subst IsTrue (sym wrote.goes_on.is_honest) honest) blank in
+    let last = making_opened c.args.geometry.now _ _ _ c.in_ok-write_behind_gate.ensures.fits (timed c.write_behind_gate.new.disk) (timed c.write_between_syncs-2.new.disk) (behind honest)
+    opens.goes_on shut opens.each opens.syncs opens.within in
     last.synced
+
+pub returns-in_err-write_between_syncs-clause-reads : goal.returns-in_err-write_between_syncs-clause-reads
+returns-in_err-write_between_syncs-clause-reads g c = λ honest.
+    let wrote = c.write_between_syncs.ensures in
+    let none = λ (honest : IsTrue (g.D.Disk.state c.args.disk.now).is_honest). c.requires (g.met.D.Disk.honest_tells c.args.disk.now honest) in
+    let first = making_first c.args.geometry.now _ _ c.zero_bytes.result.now c.zero_bytes.ensures.len none wrote.goes_on wrote.each wrote.once_synced wrote.within in
+    (first honest).reads
+
+pub returns-in_err-write_behind_gate-clause-reads : goal.returns-in_err-write_behind_gate-clause-reads
+returns-in_err-write_behind_gate-clause-reads g c = λ honest.
+    let wrote = c.write_between_syncs.ensures in
+    let none = λ (honest : IsTrue (g.D.Disk.state c.args.disk.now).is_honest). c.requires (g.met.D.Disk.honest_tells c.args.disk.now honest) in
+    let first = making_first c.args.geometry.now _ _ c.zero_bytes.result.now c.zero_bytes.ensures.len none wrote.goes_on wrote.each wrote.once_synced wrote.within in
+    let more = c.write_behind_gate.ensures in
+    let timed = g.met.D.Disk.timed in
+    let behind = making_behind c.args.geometry.now _ _ _ c.zero_bytes.result.now c.zero_bytes.ensures.value (timed c.write_between_syncs.new.disk) (timed c.write_behind_gate.new.disk) first none
+    c.in_ok-write_between_syncs.ensures.written c.in_ok-write_between_syncs.ensures.durable more.goes_on more.each more.no_sync more.within in
+    (behind honest).making.reads
+
+pub returns-in_err-write_between_syncs-2-clause-reads : goal.returns-in_err-write_between_syncs-2-clause-reads
+returns-in_err-write_between_syncs-2-clause-reads g c = λ honest.
+    let wrote = c.write_between_syncs.ensures in
+    let none = λ (honest : IsTrue (g.D.Disk.state c.args.disk.now).is_honest). c.requires (g.met.D.Disk.honest_tells c.args.disk.now honest) in
+    let first = making_first c.args.geometry.now _ _ c.zero_bytes.result.now c.zero_bytes.ensures.len none wrote.goes_on wrote.each wrote.once_synced wrote.within in
+    let more = c.write_behind_gate.ensures in
+    let timed = g.met.D.Disk.timed in
+    let behind = making_behind c.args.geometry.now _ _ _ c.zero_bytes.result.now c.zero_bytes.ensures.value (timed c.write_between_syncs.new.disk) (timed c.write_behind_gate.new.disk) first none
+    c.in_ok-write_between_syncs.ensures.written c.in_ok-write_between_syncs.ensures.durable more.goes_on more.each more.no_sync more.within in
+    let opens = c.write_between_syncs-2.ensures in
+    let blank = blank_block c.args.geometry.now (g.D.Disk.state c.args.disk.now) (g.D.Disk.state c.write_between_syncs.new.disk) c.zero_bytes.result.now c.zero_bytes.ensures.value none c.in_ok-write_between_syncs.ensures.written honest in
+    let shut = c.in_ok-write_behind_gate.ensures.written (subst IsTrue (sym wrote.goes_on.is_honest) honest) blank in
+    let last = making_opened c.args.geometry.now _ _ _ c.in_ok-write_behind_gate.ensures.fits (timed c.write_behind_gate.new.disk) (timed c.write_between_syncs-2.new.disk) (behind honest)
+    opens.goes_on shut opens.each opens.syncs opens.within in
+    last.reads
+
+pub returns-clause-reads : goal.returns-clause-reads
+returns-clause-reads g c = λ honest.
+    let wrote = c.write_between_syncs.ensures in
+    let none = λ (honest : IsTrue (g.D.Disk.state c.args.disk.now).is_honest). c.requires (g.met.D.Disk.honest_tells c.args.disk.now honest) in
+    let first = making_first c.args.geometry.now _ _ c.zero_bytes.result.now c.zero_bytes.ensures.len none wrote.goes_on wrote.each wrote.once_synced wrote.within in
+    let more = c.write_behind_gate.ensures in
+    let timed = g.met.D.Disk.timed in
+    let behind = making_behind c.args.geometry.now _ _ _ c.zero_bytes.result.now c.zero_bytes.ensures.value (timed c.write_between_syncs.new.disk) (timed c.write_behind_gate.new.disk) first none
+    c.in_ok-write_between_syncs.ensures.written c.in_ok-write_between_syncs.ensures.durable more.goes_on more.each more.no_sync more.within in
+    let opens = c.write_between_syncs-2.ensures in
+    let blank = blank_block c.args.geometry.now (g.D.Disk.state c.args.disk.now) (g.D.Disk.state c.write_between_syncs.new.disk) c.zero_bytes.result.now c.zero_bytes.ensures.value none c.in_ok-write_between_syncs.ensures.written honest in
+    let shut = c.in_ok-write_behind_gate.ensures.written (subst IsTrue (sym wrote.goes_on.is_honest) honest) blank in
+    let last = making_opened c.args.geometry.now _ _ _ c.in_ok-write_behind_gate.ensures.fits (timed c.write_behind_gate.new.disk) (timed c.write_between_syncs-2.new.disk) (behind honest)
+    opens.goes_on shut opens.each opens.syncs opens.within in
+    last.reads
+
+pub returns-in_err-write_between_syncs-clause-within : goal.returns-in_err-write_between_syncs-clause-within
+returns-in_err-write_between_syncs-clause-within g c =
+    within_first c.args.geometry.now _ _ (length c.zero_bytes.result.now) c.zero_bytes.ensures.len c.write_between_syncs.ensures.within
+
+pub returns-in_err-write_behind_gate-clause-within : goal.returns-in_err-write_behind_gate-clause-within
+returns-in_err-write_behind_gate-clause-within g c =
+    let first = within_first c.args.geometry.now _ _ (length c.zero_bytes.result.now) c.zero_bytes.ensures.len c.write_between_syncs.ensures.within in
+    within_more c.args.geometry.now _ _ _ 1 (file_length c.args.geometry.now - 1) c.write_between_syncs.ensures.goes_on first c.write_behind_gate.ensures.within (omega (arith, head_inside c.args.geometry.now))
+
+pub returns-in_err-write_between_syncs-2-clause-within : goal.returns-in_err-write_between_syncs-2-clause-within
+returns-in_err-write_between_syncs-2-clause-within g c =
+    let first = within_first c.args.geometry.now _ _ (length c.zero_bytes.result.now) c.zero_bytes.ensures.len c.write_between_syncs.ensures.within in
+    let behind = within_more c.args.geometry.now _ _ _ 1 (file_length c.args.geometry.now - 1) c.write_between_syncs.ensures.goes_on first c.write_behind_gate.ensures.within
+    (omega (arith, head_inside c.args.geometry.now)) in
+    within_more c.args.geometry.now _ _ _ 0 1 (goes_on_run c.write_between_syncs.ensures.goes_on c.write_behind_gate.ensures.goes_on) behind c.write_between_syncs-2.ensures.within
+    (omega (arith, head_inside c.args.geometry.now))
+
+pub returns-clause-within : goal.returns-clause-within
+returns-clause-within g c =
+    let first = within_first c.args.geometry.now _ _ (length c.zero_bytes.result.now) c.zero_bytes.ensures.len c.write_between_syncs.ensures.within in
+    let behind = within_more c.args.geometry.now _ _ _ 1 (file_length c.args.geometry.now - 1) c.write_between_syncs.ensures.goes_on first c.write_behind_gate.ensures.within
+    (omega (arith, head_inside c.args.geometry.now)) in
+    within_more c.args.geometry.now _ _ _ 0 1 (goes_on_run c.write_between_syncs.ensures.goes_on c.write_behind_gate.ensures.goes_on) behind c.write_between_syncs-2.ensures.within
+    (omega (arith, head_inside c.args.geometry.now))
+
+pub returns-in_err-write_behind_gate-clause-unsynced : goal.returns-in_err-write_behind_gate-clause-unsynced
+returns-in_err-write_behind_gate-clause-unsynced g c = λ honest tells.
+    let synced = c.in_ok-write_between_syncs.ensures.synced tells in
+    inr (synced.0, synced.1, c.write_behind_gate.ensures.no_sync.none_lost synced.0 synced.2)
+
+pub returns-in_err-write_between_syncs-2-clause-unsynced : goal.returns-in_err-write_between_syncs-2-clause-unsynced
+returns-in_err-write_between_syncs-2-clause-unsynced g c = λ honest tells.
+    let synced = c.in_ok-write_between_syncs.ensures.synced tells in
+    inr (synced.0, synced.1, c.write_between_syncs-2.ensures.syncs.none_lost synced.0 (c.write_behind_gate.ensures.no_sync.none_lost synced.0 synced.2))
+
+pub returns-clause-unsynced : goal.returns-clause-unsynced
+returns-clause-unsynced g c = λ honest tells.
+    let synced = c.in_ok-write_between_syncs.ensures.synced tells in
+    inr (synced.0, synced.1, c.write_between_syncs-2.ensures.syncs.none_lost synced.0 (c.write_behind_gate.ensures.no_sync.none_lost synced.0 synced.2))
 
 pub returns-clause-written : goal.returns-clause-written
 returns-clause-written g c = λ honest.
-    let state = g.D.Disk.state in
-    let timed = g.met.D.Disk.timed in
-    let sizes = c.args.geometry.now in
-    let start = state c.args.disk.now in
-    let geometry = c.length_of-length.ensures.fits in
-    let least : 4096 ≤ file_length sizes = omega (arith, store_length sizes geometry) in
-    let block = c.write_first_block.new.disk in
-    let first = making_first sizes start (state block) (short_half sizes geometry) honest c.write_first_block.ensures.goes_on (c.write_first_block.ensures.each honest)
-    (c.write_first_block.ensures.once_synced honest) in
-    let blank = c.in_ok-write_first_block.ensures.written honest in
-    let behind = behind_block sizes start (state block) least first (c.in_ok-write_first_block.ensures.durable honest) blank in
-    let wide = c.write_zeros.new.disk in
-    let end = c.length_of-length.ensures.length in
-    let shut = subst (λ (n : ℕ). (c' : List ℕ) → (state block).images c' → IsShut n c') (sym end) behind.shut in
-    let filled = behind_more sizes start (state block) (state wide) (timed block) (timed wide) behind c.write_zeros.ensures.goes_on
-    (subst (λ (n : ℕ). LeavesOnly (state block) (state wide) (IsShut n)) end (c.write_zeros.ensures.each first.honest shut)) c.write_zeros.ensures.no_sync in
-    let parted = c.write_parts.new.disk in
-    let told = behind_more sizes start (state wide) (state parted) (timed wide) (timed parted) filled c.write_parts.ensures.goes_on
-    (c.write_parts.ensures.each filled.making.honest filled.shut) c.write_parts.ensures.no_sync in
-    let zeroed = c.in_ok-write_zeros.ensures.written first.honest blank ∙ ap zeros end in
-    let written = c.in_ok-write_parts.ensures.written filled.making.honest zeroed in
-    let opened = c.open_gate.new.disk in
-    let last = making_opened sizes start (state parted) (state opened) geometry (timed parted) (timed opened) told c.open_gate.ensures.goes_on written
-    (c.open_gate.ensures.each told.making.honest) c.open_gate.ensures.syncs in
-    c.in_ok-open_gate.ensures.written told.making.honest ∙ ap (λ (l : List ℕ). overwritten l 0 (open_byte ∷ [])) written ∙ gate_opened sizes
+    let wrote = c.write_between_syncs.ensures in
+    let none = λ (honest : IsTrue (g.D.Disk.state c.args.disk.now).is_honest). c.requires (g.met.D.Disk.honest_tells c.args.disk.now honest) in
+    let blank = blank_block c.args.geometry.now (g.D.Disk.state c.args.disk.now) (g.D.Disk.state c.write_between_syncs.new.disk) c.zero_bytes.result.now c.zero_bytes.ensures.value none c.in_ok-write_between_syncs.ensures.written honest in
+    let shut = c.in_ok-write_behind_gate.ensures.written (subst IsTrue (sym wrote.goes_on.is_honest) honest) blank in
+    let opened = subst IsTrue (sym (goes_on_run wrote.goes_on c.write_behind_gate.ensures.goes_on).is_honest) honest in
+    let whole = c.in_ok-write_between_syncs-2.ensures.written opened ∙ ap (λ (l : List ℕ). overwritten l 0 (open_byte ∷ [])) shut ∙ gate_opened c.args.geometry.now in
+    whole
 
 pub returns-clause-made : goal.returns-clause-made
 returns-clause-made g c = λ honest.
-    let state = g.D.Disk.state in
-    let timed = g.met.D.Disk.timed in
-    let sizes = c.args.geometry.now in
-    let start = state c.args.disk.now in
-    let geometry = c.length_of-length.ensures.fits in
-    let least : 4096 ≤ file_length sizes = omega (arith, store_length sizes geometry) in
-    let block = c.write_first_block.new.disk in
-    let first = making_first sizes start (state block) (short_half sizes geometry) honest c.write_first_block.ensures.goes_on (c.write_first_block.ensures.each honest)
-    (c.write_first_block.ensures.once_synced honest) in
-    let blank = c.in_ok-write_first_block.ensures.written honest in
-    let behind = behind_block sizes start (state block) least first (c.in_ok-write_first_block.ensures.durable honest) blank in
-    let wide = c.write_zeros.new.disk in
-    let end = c.length_of-length.ensures.length in
-    let shut = subst (λ (n : ℕ). (c' : List ℕ) → (state block).images c' → IsShut n c') (sym end) behind.shut in
-    let filled = behind_more sizes start (state block) (state wide) (timed block) (timed wide) behind c.write_zeros.ensures.goes_on
-    (subst (λ (n : ℕ). LeavesOnly (state block) (state wide) (IsShut n)) end (c.write_zeros.ensures.each first.honest shut)) c.write_zeros.ensures.no_sync in
-    let parted = c.write_parts.new.disk in
-    let told = behind_more sizes start (state wide) (state parted) (timed wide) (timed parted) filled c.write_parts.ensures.goes_on
-    (c.write_parts.ensures.each filled.making.honest filled.shut) c.write_parts.ensures.no_sync in
-    let zeroed = c.in_ok-write_zeros.ensures.written first.honest blank ∙ ap zeros end in
-    let written = c.in_ok-write_parts.ensures.written filled.making.honest zeroed in
-    let opened = c.open_gate.new.disk in
-    let last = making_opened sizes start (state parted) (state opened) geometry (timed parted) (timed opened) told c.open_gate.ensures.goes_on written
-    (c.open_gate.ensures.each told.making.honest) c.open_gate.ensures.syncs in
-    let whole = c.in_ok-open_gate.ensures.written told.making.honest ∙ ap (λ (l : List ℕ). overwritten l 0 (open_byte ∷ [])) written ∙ gate_opened sizes in
-    subst (IsMade sizes) (sym whole) (first_file_made sizes geometry)
-
-pub returns-clause-durable : goal.returns-clause-durable
-returns-clause-durable g c = λ honest.
-    let state = g.D.Disk.state in
-    let timed = g.met.D.Disk.timed in
-    let sizes = c.args.geometry.now in
-    let start = state c.args.disk.now in
-    let geometry = c.length_of-length.ensures.fits in
-    let least : 4096 ≤ file_length sizes = omega (arith, store_length sizes geometry) in
-    let block = c.write_first_block.new.disk in
-    let first = making_first sizes start (state block) (short_half sizes geometry) honest c.write_first_block.ensures.goes_on (c.write_first_block.ensures.each honest)
-    (c.write_first_block.ensures.once_synced honest) in
-    let blank = c.in_ok-write_first_block.ensures.written honest in
-    let behind = behind_block sizes start (state block) least first (c.in_ok-write_first_block.ensures.durable honest) blank in
-    let wide = c.write_zeros.new.disk in
-    let end = c.length_of-length.ensures.length in
-    let shut = subst (λ (n : ℕ). (c' : List ℕ) → (state block).images c' → IsShut n c') (sym end) behind.shut in
-    let filled = behind_more sizes start (state block) (state wide) (timed block) (timed wide) behind c.write_zeros.ensures.goes_on
-    (subst (λ (n : ℕ). LeavesOnly (state block) (state wide) (IsShut n)) end (c.write_zeros.ensures.each first.honest shut)) c.write_zeros.ensures.no_sync in
-    let parted = c.write_parts.new.disk in
-    let told = behind_more sizes start (state wide) (state parted) (timed wide) (timed parted) filled c.write_parts.ensures.goes_on
-    (c.write_parts.ensures.each filled.making.honest filled.shut) c.write_parts.ensures.no_sync in
-    c.in_ok-open_gate.ensures.durable told.making.honest
+    let wrote = c.write_between_syncs.ensures in
+    let none = λ (honest : IsTrue (g.D.Disk.state c.args.disk.now).is_honest). c.requires (g.met.D.Disk.honest_tells c.args.disk.now honest) in
+    let blank = blank_block c.args.geometry.now (g.D.Disk.state c.args.disk.now) (g.D.Disk.state c.write_between_syncs.new.disk) c.zero_bytes.result.now c.zero_bytes.ensures.value none c.in_ok-write_between_syncs.ensures.written honest in
+    let shut = c.in_ok-write_behind_gate.ensures.written (subst IsTrue (sym wrote.goes_on.is_honest) honest) blank in
+    let opened = subst IsTrue (sym (goes_on_run wrote.goes_on c.write_behind_gate.ensures.goes_on).is_honest) honest in
+    let whole = c.in_ok-write_between_syncs-2.ensures.written opened ∙ ap (λ (l : List ℕ). overwritten l 0 (open_byte ∷ [])) shut ∙ gate_opened c.args.geometry.now in
+    subst (IsMade c.args.geometry.now) (sym whole) (first_file_made c.args.geometry.now c.in_ok-write_behind_gate.ensures.fits)

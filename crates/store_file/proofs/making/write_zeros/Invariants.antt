@@ -1,5 +1,5 @@
 use Rattle.std.proofs.Common.{◌≡◌, ◌≤◌, ◌<◌, ◌+◌, ◌*◌, ◌-◌, IsTrue, length, List, ℕ}
-use Rattle.disk_trait.specs.Disk.{GoesOn, MarksSync}
+use Rattle.disk_trait.specs.Disk.{GoesOn, MarksSync, WritesWithin}
 use Rattle.disk_trait.specs.Moments.{LeavesOnly}
 use Rattle.store_file.specs.Layout.{zeros}
 use Rattle.store_file.specs.Making.{IsShut}
@@ -20,6 +20,7 @@ invariant-loop-at g l =
       length : IsTrue now.tells_bytes → length now.bytes ≡ l.at;
       no_sync : MarksSync ⊥ start now;
       written : IsTrue start.is_honest → start.bytes ≡ zeros 4096 → now.bytes ≡ zeros l.at;
+      within : WritesWithin 4096 (l.end - 4096) start now;
       each : IsTrue start.is_honest → ((c : List ℕ) → start.images c → IsShut l.end c) → LeavesOnly start now (IsShut l.end);
     }
 

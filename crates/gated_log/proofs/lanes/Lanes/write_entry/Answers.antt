@@ -1,6 +1,7 @@
 use Rattle.std.proofs.Common.{ℕ, ◌+◌, List, [], ◌∷◌, length, ap, sym, ◌∙◌, arith, length-append, Result, Ok, Err, OnOk, IsOk}
-use Rattle.disk_trait.specs.Moments.{IsTimed}
+use Rattle.disk_trait.specs.Moments.{IsTimed, leaves_only_weaken}
 use Rattle.disk_trait.specs.Parts.{torn_widen}
+use Rattle.disk_trait.specs.Writes.{within_widen}
 use Rattle.entry_codec.specs.Spelling.{spelling}
 use Rattle.entry_codec.proofs.SpellingLemmas.{length-spelling}
 use Rattle.gated_log.specs.Lane.{region_start}
@@ -52,9 +53,22 @@ returns-clause-reads g c = λ entries ok honest is_end has.
     (omega (arith, c.requires.length tells, c.gate-at.ensures.place, c.gate-at.ensures.inside, c.requires.fits))
     (on_ok c.write_gated.result _ c.write_gated.ensures.written ok honest)
 
+pub returns-clause-within : goal.returns-clause-within
+returns-clause-within g c =
+    let long = length-spelling c.args.key.now c.args.rec.now in
+    let text = ap (λ (l : List ℕ). length l) c.put_entry-length.ensures.text in
+    within_widen _ _ _ _ c.write_gated.ensures.within (omega (arith, c.gate-at.ensures.place))
+    (omega (arith, c.gate-at.ensures.place, c.requires.fits, text, long, length-append (spelling c.args.key.now c.args.rec.now) (0 ∷ [])))
+
 pub returns-clause-outside : goal.returns-clause-outside
 returns-clause-outside g c = λ honest.
     let long = length-spelling c.args.key.now c.args.rec.now in
     let text = ap (λ (l : List ℕ). length l) c.put_entry-length.ensures.text in
-    torn_widen _ _ _ _ _ _ (c.write_gated.ensures.within.bytes honest) (omega (arith, c.gate-at.ensures.place))
-    (omega (arith, c.gate-at.ensures.place, c.requires.fits, text, long, length-append (spelling c.args.key.now c.args.rec.now) (0 ∷ [])))
+    leaves_only_weaken
+    (λ f torn. (
+      torn.0,
+      torn.1,
+      torn_widen _ _ _ _ torn.0 f torn.2 (omega (arith, c.gate-at.ensures.place))
+          (omega (arith, c.gate-at.ensures.place, c.requires.fits, text, long, length-append (spelling c.args.key.now c.args.rec.now) (0 ∷ []))),
+    ))
+    (c.write_gated.ensures.outside honest)
