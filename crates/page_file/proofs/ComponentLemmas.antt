@@ -1,5 +1,5 @@
 -- Components: the pages of one are of one list at most, stay where others are written, and are apart where their keys rise.
-use Rattle.std.proofs.Common.{◌≡◌, ◌≢◌, Bool, true, false, ℕ, ◌+◌, ◌<◌, ◌≤◌, List, [], ◌∷◌, ◌++◌, length, map, Option, Some, None, refl, ap, sym, subst, ◌∙◌, append_assoc, length-append, arith}
+use Rattle.std.proofs.Common.{◌≡◌, false, ℕ, ◌+◌, ◌≤◌, List, [], ◌∷◌, ◌++◌, length, Option, None, refl, ap, sym, subst, ◌∙◌, append_assoc, length-append, arith}
 use Rattle.std.specs.List.{Contains, AllByRecursion, IsDistinct}
 use Rattle.std.specs.List.Sorted.{IsStrictlySortedBy}
 use Rattle.std.specs.Prelude.{nat_eq}
@@ -9,17 +9,18 @@ use Rattle.std.proofs.lemmas.Cmp.{nat_list_cmp_total}
 use Rattle.std.proofs.lemmas.List.Sums.{sum_by-cons, sum_by-append}
 use Rattle.std.proofs.lemmas.List.Elements.{Contains-append_left, Contains-append_right}
 use Rattle.disk_trait.specs.Disk.{Torn}
+use Rattle.blsm_model.specs.Format.{page_length}
 use Rattle.blsm_model.specs.declared.component.Component.{Component}
 use Rattle.blsm_model.specs.declared.key.Key.{Key}
 use Rattle.blsm_model.specs.Keys.{key_cmp}
 use Rattle.blsm_model.specs.Sizes.{Sizes}
 use Rattle.blsm_model.specs.Geometry.{page_count}
 use Rattle.page_file.specs.Entry.{PageEntry, entries_bytes, keys_of, AreRising}
-use Rattle.page_file.specs.Page.{page_length, no_page, page_number, IsPageOf}
+use Rattle.page_file.specs.Page.{no_page, IsPageOf}
 use Rattle.page_file.specs.File.{page_start, page_at}
 use Rattle.page_file.specs.Component.{RunPage, numbers_of, entries_of, entry_weight, weight_of, first_of, AreChained, ReadsAs}
 use Rattle.page_file.proofs.EntryLemmas.{length-entry_bytes}
-use Rattle.page_file.proofs.PageLemmas.{page_same, other_page, number_below, number_same, IsNumber}
+use Rattle.page_file.proofs.PageLemmas.{page_same, other_page, number_same, IsNumber}
 
 -- ---- one list at most
 

@@ -15,7 +15,7 @@ use Rattle.std.proofs.lemmas.Nat.{from_be_bytes-to_be_bytes_2, from_be_bytes-to_
 use Rattle.disk_trait.specs.Disk.{part}
 use Rattle.blsm_model.specs.declared.key.Key.{Key}
 use Rattle.blsm_model.specs.Keys.{key_cmp}
-use Rattle.page_file.specs.Entry.{PageEntry, AreNumbers, IsEntry, entry_head, head_of, entry_bytes, entries_bytes, AreEntries, keys_of, AreRising, BeginsWith, HasEntries, AreInBytes}
+use Rattle.page_file.specs.Entry.{PageEntry, AreNumbers, IsPageEntry, entry_head, head_of, entry_bytes, least_entry, entries_bytes, AreEntries, keys_of, AreRising, HasFirstEntry, AreEntriesIn, AreInBytes}
 
 -- ---- lengths
 
@@ -32,13 +32,12 @@ pub entries_bytes-append : (es fs : List PageEntry) → entries_bytes (es ++ fs)
 entries_bytes-append [] fs = refl
 entries_bytes-append (e ∷ es) fs = ap (λ (l : List ℕ). entry_bytes e ++ l) (entries_bytes-append es fs) ∙ sym (append_assoc (entry_bytes e) (entries_bytes es) (entries_bytes fs))
 
--- an entry has 14 bytes at least
-pub few_entries : (es : List PageEntry) → AreEntries es → 14 * length es ≤ length (entries_bytes es)
+pub few_entries : (es : List PageEntry) → AreEntries es → least_entry * length es ≤ length (entries_bytes es)
 few_entries [] each = omega arith
 few_entries (e ∷ es) each =
-    let first = All-head IsEntry e es each in
+    let first = All-head IsPageEntry e es each in
     let key_least = first.key_least in
-    let more = few_entries es (All-tail IsEntry e es each) in
+    let more = few_entries es (All-tail IsPageEntry e es each) in
     omega (arith, key_least, more, length-entry_bytes e, length-append (entry_bytes e) (entries_bytes es))
 
 -- ---- the head
@@ -102,7 +101,7 @@ same_entry : (e f : PageEntry) → e.kind ≡ f.kind → e.key ≡ f.key → e.t
 same_entry e f kind key text count = λ i. record { kind = kind i; key = key i; text = text i; count = count i }
 
 -- where two entries begin the same bytes, they are one
-pub entry_same : (e f : PageEntry) (x y : List ℕ) → IsEntry e → IsEntry f → entry_bytes e ++ x ≡ entry_bytes f ++ y → (e ≡ f) × (x ≡ y)
+pub entry_same : (e f : PageEntry) (x y : List ℕ) → IsPageEntry e → IsPageEntry f → entry_bytes e ++ x ≡ entry_bytes f ++ y → (e ≡ f) × (x ≡ y)
 entry_same e f x y re rf same =
     let ke = re.key_most in
     let kf = rf.key_most in
@@ -116,7 +115,7 @@ entry_same e f x y re rf same =
 
 -- the numbers of an entry are those that are read at the front of its bytes, and it has room there
 pub numbers_read : (bytes tail : List ℕ) (kind key_len text_len count : ℕ) (key rest : List ℕ) → key_len < 2 ^ 16 → text_len < 2 ^ 16 → count < 2 ^ 64
-    → bytes ≡ entry_head kind key_len text_len count ++ tail → BeginsWith bytes key rest → AreNumbers kind key_len text_len count × (key_len + text_len ≤ length tail)
+    → bytes ≡ entry_head kind key_len text_len count ++ tail → HasFirstEntry bytes key rest → AreNumbers kind key_len text_len count × (key_len + text_len ≤ length tail)
 numbers_read bytes tail kind key_len text_len count key rest k t c read b =
     let e = b.entry in
     let right = b.right in
@@ -133,13 +132,13 @@ numbers_read bytes tail kind key_len text_len count key rest k t c read b =
     )
 
 -- too few bytes for any entry
-pub too_short : (bytes key rest : List ℕ) → length bytes < 13 → BeginsWith bytes key rest → ⊥
+pub too_short : (bytes key rest : List ℕ) → length bytes < 13 → HasFirstEntry bytes key rest → ⊥
 too_short bytes key rest short b = omega (arith, ap (length {A = ℕ}) b.parts, length-append (entry_bytes b.entry) rest, length-entry_bytes b.entry)
 
 -- bytes that have a right head, and room for a key and a text behind it, begin with an entry
 pub first_found : (bytes behind back key rest : List ℕ) (kind key_len text_len count : ℕ) → bytes ≡ entry_head kind key_len text_len count ++ behind
     → AreNumbers kind key_len text_len count → key_len + text_len ≤ length behind → key ≡ take key_len behind → back ≡ drop key_len behind → rest ≡ drop text_len back
-    → length back + key_len ≡ length behind → BeginsWith bytes key rest
+    → length back + key_len ≡ length behind → HasFirstEntry bytes key rest
 unfolding entry_bytes
 first_found bytes behind back key rest kind key_len text_len count read right long key_is back_is rest_is back_long =
     let text : List ℕ = take text_len back in
@@ -184,15 +183,15 @@ below_more low key [] less below = tt
 below_more low key (k ∷ keys) less below = (nat_list_cmp_total.trans low key k less below.0, below_more low key keys less below.1)
 
 -- one entry fewer
-pub rest_has : (last bytes key rest : List ℕ) (n : ℕ) → BeginsWith bytes key rest → AreInBytes last (suc n) bytes → (key_cmp last key ≡ Less) × AreInBytes key n rest
+pub rest_has : (last bytes key rest : List ℕ) (n : ℕ) → HasFirstEntry bytes key rest → AreInBytes last (suc n) bytes → (key_cmp last key ≡ Less) × AreInBytes key n rest
 unfolding IsStrictlySortedBy
 rest_has last bytes key rest n b ([], has) = absurd (omega (arith, has.count_is))
 rest_has last bytes key rest n b (e ∷ es, has) =
-    let one = entry_same e b.entry (entries_bytes es) rest (All-head IsEntry e es has.each) b.right (sym has.spelled ∙ b.parts) in
+    let one = entry_same e b.entry (entries_bytes es) rest (All-head IsPageEntry e es has.each) b.right (sym has.spelled ∙ b.parts) in
     let key_is : e.key ≡ key = ap (λ (f : PageEntry). f.key) one.0 ∙ b.key_is in
     let count_is = has.count_is in
-    let more : HasEntries key n rest es = record {
-      each = All-tail IsEntry e es has.each;
+    let more : AreEntriesIn key n rest es = record {
+      each = All-tail IsPageEntry e es has.each;
       count_is = omega (arith, count_is);
       rise = subst (λ (k : Key). IsStrictlySortedBy key_cmp (k ∷ keys_of es)) key_is has.rise.1;
       spelled = sym one.1;
@@ -200,7 +199,7 @@ rest_has last bytes key rest n b (e ∷ es, has) =
     (subst (λ (k : Key). key_cmp last k ≡ Less) key_is has.rise.0.0, (es, more))
 
 -- one entry more
-pub more_has : (last bytes key rest : List ℕ) (n : ℕ) → BeginsWith bytes key rest → key_cmp last key ≡ Less → AreInBytes key n rest → AreInBytes last (suc n) bytes
+pub more_has : (last bytes key rest : List ℕ) (n : ℕ) → HasFirstEntry bytes key rest → key_cmp last key ≡ Less → AreInBytes key n rest → AreInBytes last (suc n) bytes
 unfolding IsStrictlySortedBy
 more_has last bytes key rest n b less (es, has) =
     let e = b.entry in
@@ -209,7 +208,7 @@ more_has last bytes key rest n b less (es, has) =
     let above : key_cmp last e.key ≡ Less = subst (λ (k : Key). key_cmp last k ≡ Less) (sym b.key_is) less in (
       e ∷ es,
       record {
-        each = All-cons IsEntry e es b.right has.each;
+        each = All-cons IsPageEntry e es b.right has.each;
         count_is = omega arith;
         rise = ((above, below_more last e.key (keys_of es) above rise.0), rise);
         spelled = b.parts ∙ ap (λ l. entry_bytes e ++ l) has.spelled;
@@ -217,15 +216,15 @@ more_has last bytes key rest n b less (es, has) =
     )
 
 -- where no entry begins the bytes, none are in them
-pub none_first : (last bytes : List ℕ) (n : ℕ) → ((key rest : List ℕ) → BeginsWith bytes key rest → ⊥) → AreInBytes last (suc n) bytes → ⊥
+pub none_first : (last bytes : List ℕ) (n : ℕ) → ((key rest : List ℕ) → HasFirstEntry bytes key rest → ⊥) → AreInBytes last (suc n) bytes → ⊥
 none_first last bytes n none ([], has) = omega (arith, has.count_is)
 none_first last bytes n none (e ∷ es, has) =
-    none e.key (entries_bytes es) (record { entry = e; right = All-head IsEntry e es has.each; key_is = refl; parts = has.spelled })
+    none e.key (entries_bytes es) (record { entry = e; right = All-head IsPageEntry e es has.each; key_is = refl; parts = has.spelled })
 
 -- no entries are in no bytes
 pub none_left : (last bytes : List ℕ) → length bytes ≡ 0 → AreInBytes last 0 bytes
 unfolding IsStrictlySortedBy
-none_left last [] empty = ([], record { each = All-nil IsEntry; count_is = refl; rise = (tt, tt); spelled = refl })
+none_left last [] empty = ([], record { each = All-nil IsPageEntry; count_is = refl; rise = (tt, tt); spelled = refl })
 none_left last (b ∷ bytes) empty = absurd (omega (arith, empty))
 
 pub left_none : (last bytes : List ℕ) → AreInBytes last 0 bytes → length bytes ≡ 0
@@ -236,16 +235,16 @@ left_none last bytes (e ∷ es, has) = absurd (omega (arith, has.count_is))
 pub entries_same : (es fs : List PageEntry) (x y : List ℕ) → AreEntries es → AreEntries fs → length es ≡ length fs → entries_bytes es ++ x ≡ entries_bytes fs ++ y → (es ≡ fs) × (x ≡ y)
 entries_same [] [] x y each_e each_f count same = (refl, same)
 entries_same (e ∷ es) (f ∷ fs) x y each_e each_f count same =
-    let first = entry_same e f (entries_bytes es ++ x) (entries_bytes fs ++ y) (All-head IsEntry e es each_e) (All-head IsEntry f fs each_f)
+    let first = entry_same e f (entries_bytes es ++ x) (entries_bytes fs ++ y) (All-head IsPageEntry e es each_e) (All-head IsPageEntry f fs each_f)
     (sym (append_assoc (entry_bytes e) (entries_bytes es) x) ∙ same ∙ append_assoc (entry_bytes f) (entries_bytes fs) y) in
-    let more = entries_same es fs x y (All-tail IsEntry e es each_e) (All-tail IsEntry f fs each_f) (omega (arith, count)) first.1 in
+    let more = entries_same es fs x y (All-tail IsPageEntry e es each_e) (All-tail IsPageEntry f fs each_f) (omega (arith, count)) first.1 in
     ((λ i. first.0 i ∷ more.0 i), more.1)
 entries_same _ _ x y each_e each_f count same = absurd (omega (arith, count))
 
 -- no key is empty, so each is above no bytes
 below_all : (es : List PageEntry) → AreEntries es → AllByRecursion (λ (k : Key). key_cmp [] k ≡ Less) (keys_of es)
 below_all [] each = tt
-below_all (e ∷ es) each = (over_none e.key (All-head IsEntry e es each).key_least, below_all es (All-tail IsEntry e es each))
+below_all (e ∷ es) each = (over_none e.key (All-head IsPageEntry e es each).key_least, below_all es (All-tail IsPageEntry e es each))
   where
     over_none : (key : Key) → 1 ≤ length key → key_cmp [] key ≡ Less
     over_none [] least = absurd (omega arith)

@@ -5,7 +5,7 @@ use Rattle.std.specs.List.Sorted.{IsStrictlySortedBy}
 use Rattle.std.specs.Ordering.{is_lt}
 use Rattle.std.proofs.lemmas.Bool.{false≢true}
 use Rattle.std.proofs.lemmas.List.Elements.{All-nil, All-cons}
-use Rattle.page_file.specs.Entry.{PageEntry, IsEntry, entry_head, entry_bytes, AreRising}
+use Rattle.page_file.specs.Entry.{PageEntry, IsPageEntry, entry_head, entry_bytes, AreRising}
 use Rattle.blsm_model.specs.declared.component.Component.{Component}
 use Rattle.blsm_model.specs.Sizes.{Sizes}
 use Rattle.page_file.specs.Page.{page_head, page_bytes, IsContent, IsPageOf, IsPage}
@@ -26,7 +26,7 @@ page_of_x_long : length (page_bytes None (base_x ∷ [])) ≡ 4096
 unfolding page_bytes page_head entry_bytes entry_head base_x
 page_of_x_long = refl
 
-is_entry_x : IsEntry base_x
+is_entry_x : IsPageEntry base_x
 unfolding base_x
 is_entry_x = record {
   kind_least = lit≤ tt;
@@ -45,7 +45,7 @@ unfolding entry_bytes entry_head base_x IsStrictlySortedBy
 page_x = record {
   content = record {
     head = record { some = lit≤ tt; fits = lit≤ tt; next_is = tt; full = λ none. absurd (false≢true none) };
-    each = All-cons IsEntry base_x [] is_entry_x (All-nil IsEntry);
+    each = All-cons IsPageEntry base_x [] is_entry_x (All-nil IsPageEntry);
     rise = (tt, tt);
   };
   spelled = refl;
@@ -60,7 +60,7 @@ unfolding entry_bytes entry_head base_x
 not_full_x next content = let full : 3577 ≤ 17 = content.head.full refl in omega (arith, full)
 
 -- nor is it a page whose entry is a delta, since that has no text
-delta_with_text : (key : List ℕ) → IsEntry (record { kind = 2; key = key; text = codes "old"; count = 100 }) → ⊥
+delta_with_text : (key : List ℕ) → IsPageEntry (record { kind = 2; key = key; text = codes "old"; count = 100 }) → ⊥
 delta_with_text key entry = let none : 3 ≡ 0 = entry.bare (λ base. omega (arith, base)) in omega (arith, none)
 
 -- keys that fall, and keys that are the same, don't rise

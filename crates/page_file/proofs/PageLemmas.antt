@@ -7,12 +7,13 @@ use Rattle.std.proofs.lemmas.List.{take_at, drop_at, take-append-drop, length-re
 use Rattle.std.proofs.lemmas.Nat.{from_be_bytes-to_be_bytes_4}
 use Rattle.disk_trait.specs.Disk.{Torn, part, overwritten}
 use Rattle.disk_trait.specs.Parts.{torn_below, torn_above, part-overwritten}
+use Rattle.blsm_model.specs.Format.{page_length}
 use Rattle.blsm_model.specs.Sizes.{Sizes, IsGeometry}
 use Rattle.blsm_model.specs.Geometry.{page_count}
 use Rattle.blsm_model.proofs.GeometryLemmas.{by_half, by_ratio}
 use Rattle.page_file.specs.File.{page_start, page_at}
-use Rattle.page_file.specs.Entry.{PageEntry, entry_bytes, entries_bytes, HasEntries, AreInBytes}
-use Rattle.page_file.specs.Page.{page_length, most_used, no_page, page_number, used_by, page_head, IsHead, page_bytes, IsContent, IsPageOf, IsPage}
+use Rattle.page_file.specs.Entry.{PageEntry, entry_bytes, entries_bytes, AreEntriesIn, AreInBytes}
+use Rattle.page_file.specs.Page.{most_used, no_page, page_number, used_by, page_head, IsHead, page_bytes, IsContent, IsPageOf, IsPage}
 use Rattle.page_file.proofs.EntryLemmas.{entries_bytes-append, few_entries, front_same, same16, entries_same, rise_from_none, rise_of_page}
 
 -- ---- the head
@@ -124,7 +125,7 @@ page_read pages count used next page rest few c u n read (m, es, of) =
     let same = head_of_page pages count used next m es page rest few c u n read of in
     let front : take used rest ≡ entries_bytes es = ap (take used) (sym same.rest_is) ∙ take_at (entries_bytes es) zeros used same.used_is in
     let back : drop used rest ≡ zeros = ap (drop used) (sym same.rest_is) ∙ drop_at (entries_bytes es) zeros used same.used_is in
-    let has : HasEntries [] count (take used rest) es = record { each = content.each; count_is = same.count_is; rise = rise_from_none es content.each content.rise; spelled = front } in
+    let has : AreEntriesIn [] count (take used rest) es = record { each = content.each; count_is = same.count_is; rise = rise_from_none es content.each content.rise; spelled = front } in
     record {
       head = subst (λ k. IsHead pages k used next) same.count_is (subst (λ k. IsHead pages (length es) k next) same.used_is (subst (λ k. IsHead pages (length es) (used_by es) k) same.next_is content.head));
       entries = (es, has);

@@ -1,20 +1,20 @@
 -- Entries of pages and keys with their records are the same, with the same bytes.
-use Rattle.std.proofs.Common.{◌≡◌, ◌≢◌, inl, inr, ℕ, ◌+◌, ◌<◌, ◌≤◌, List, [], ◌∷◌, ◌++◌, length, map, refl, ap, sym, subst, ◌∙◌, arith}
+use Rattle.std.proofs.Common.{◌≡◌, ◌≢◌, inl, inr, ℕ, ◌<◌, ◌≤◌, List, [], ◌∷◌, length, refl, ap, sym, ◌∙◌, arith}
 use Rattle.std.proofs.lemmas.Bool.{cases_lt}
 use Rattle.std.proofs.lemmas.List.Sums.{sum_by-cons}
-use Rattle.std.proofs.lemmas.List.Elements.{All-nil, All-cons, All-head, All-tail}
+use Rattle.std.proofs.lemmas.List.Elements.{All-head, All-tail}
 use Rattle.blsm_model.specs.declared.component.Component.{Component}
 use Rattle.blsm_model.specs.declared.key.Key.{Key}
 use Rattle.blsm_model.specs.Sizes.{Sizes}
 use Rattle.blsm_model.specs.Geometry.{page_count}
 use Rattle.record_delta.specs.declared.record.Rec.{Rec}
 use Rattle.record_delta.specs.declared.record.Rec.TheVariants.{Base, Delta, Tomb}
-use Rattle.record_delta.specs.Records.{count_of, text_of, weight}
+use Rattle.record_delta.specs.Records.{weight}
 use Rattle.entry_codec.specs.Spelling.{head, spelling, IsEntry as IsSpelled}
 use Rattle.entry_codec.proofs.SpellingLemmas.{rec_same}
-use Rattle.page_file.specs.Entry.{PageEntry, IsEntry, entry_head, entry_bytes, AreEntries}
+use Rattle.page_file.specs.Entry.{PageEntry, IsPageEntry, entry_head, entry_bytes, AreEntries}
 use Rattle.page_file.specs.Page.{no_page}
-use Rattle.page_file.specs.Component.{RunPage, entries_of, entry_weight, weight_of}
+use Rattle.page_file.specs.Component.{entries_of, entry_weight, weight_of}
 use Rattle.page_file.specs.Records.{page_entry, page_entries, weights, HasList}
 use Rattle.page_file.proofs.ComponentLemmas.{one_component}
 
@@ -27,7 +27,7 @@ same_weights [] = refl
 same_weights (e ∷ es) = omega (arith, sum_by-cons entry_weight (page_entry e) (page_entries es), sum_by-cons (λ (f : Key × Rec). weight f.0 f.1) e es, same_weights es)
 
 -- what has a spelling is an entry
-pub is_entry : (key : Key) (rec : Rec) → IsSpelled key rec → IsEntry (page_entry (key, rec))
+pub is_entry : (key : Key) (rec : Rec) → IsSpelled key rec → IsPageEntry (page_entry (key, rec))
 is_entry key (Base value) s = record {
   kind_least = omega arith;
   kind_most = omega arith;
@@ -60,7 +60,7 @@ is_entry key Tomb s = record {
 }
 
 -- and an entry has one
-pub is_spelled : (key : Key) (rec : Rec) → IsEntry (page_entry (key, rec)) → IsSpelled key rec
+pub is_spelled : (key : Key) (rec : Rec) → IsPageEntry (page_entry (key, rec)) → IsSpelled key rec
 is_spelled key rec entry = record {
   key_least = entry.key_least;
   key_most = entry.key_most;
@@ -72,7 +72,7 @@ no_bytes [] empty = refl
 no_bytes (b ∷ bytes) empty = absurd (omega (arith, empty))
 
 -- each entry is that of a key with a record
-pub record_of_entry : (entry : PageEntry) → IsEntry entry → (rec : Rec) × (page_entry (entry.key, rec) ≡ entry)
+pub record_of_entry : (entry : PageEntry) → IsPageEntry entry → (rec : Rec) × (page_entry (entry.key, rec) ≡ entry)
 record_of_entry entry right =
     elim (cases_lt entry.kind 2) [
       | inl base ↦ (
@@ -109,8 +109,8 @@ record_of_entry entry right =
 pub records_of_entries : (entries : List PageEntry) → AreEntries entries → (es : List (Key × Rec)) × (page_entries es ≡ entries)
 records_of_entries [] each = ([], refl)
 records_of_entries (e ∷ entries) each =
-    let first = record_of_entry e (All-head IsEntry e entries each) in
-    let more = records_of_entries entries (All-tail IsEntry e entries each) in
+    let first = record_of_entry e (All-head IsPageEntry e entries each) in
+    let more = records_of_entries entries (All-tail IsPageEntry e entries each) in
     ((e.key, first.0) ∷ more.0, λ i. first.1 i ∷ more.1 i)
 
 -- an entry is that of one key and record

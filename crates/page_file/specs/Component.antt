@@ -4,7 +4,7 @@ use Rattle.std.specs.List.{IsDistinct}
 use Rattle.blsm_model.specs.declared.component.Component.{Component}
 use Rattle.blsm_model.specs.Sizes.{Sizes}
 use Rattle.blsm_model.specs.Geometry.{page_count}
-use Rattle.blsm_model.specs.Values.{overhead}
+use Rattle.blsm_model.specs.Format.{overhead}
 use Rattle.page_file.specs.Entry.{PageEntry, AreRising}
 use Rattle.page_file.specs.Page.{no_page, page_number, IsPageOf}
 use Rattle.page_file.specs.File.{page_at}

@@ -35,8 +35,8 @@ pub record AreNumbers (kind key_len text_len count : ℕ) : Type 0 where
   pub uncounted : kind ≡ tomb_kind → count ≡ 0
   pub count_fits : count < 2 ^ 64
 
-abbrev pub IsEntry : PageEntry → Type 0
-IsEntry entry = AreNumbers entry.kind (length entry.key) (length entry.text) entry.count
+abbrev pub IsPageEntry : PageEntry → Type 0
+IsPageEntry entry = AreNumbers entry.kind (length entry.key) (length entry.text) entry.count
 
 -- what stands before the key
 unfoldable pub entry_head : ℕ → ℕ → ℕ → ℕ → List ℕ
@@ -48,13 +48,17 @@ head_of entry = entry_head entry.kind (length entry.key) (length entry.text) ent
 unfoldable pub entry_bytes : PageEntry → List ℕ
 entry_bytes entry = head_of entry ++ entry.key ++ entry.text
 
+-- how many bytes an entry has at least
+abbrev pub least_entry : ℕ
+least_entry = 14
+
 -- one behind the other
 abbrev pub entries_bytes : List PageEntry → List ℕ
 entries_bytes [] = []
 entries_bytes (e ∷ es) = entry_bytes e ++ entries_bytes es
 
 abbrev pub AreEntries : List PageEntry → Type 0
-AreEntries entries = All IsEntry entries
+AreEntries entries = All IsPageEntry entries
 
 abbrev pub keys_of : List PageEntry → List Key
 keys_of entries = map (λ e. e.key) entries
@@ -64,18 +68,18 @@ abbrev pub AreRising : List PageEntry → Type 0
 AreRising entries = IsStrictlySortedBy key_cmp (keys_of entries)
 
 -- an entry with this key at the front of the bytes, and these bytes behind it
-pub record BeginsWith (bytes key rest : List ℕ) : Type 0 where
+pub record HasFirstEntry (bytes key rest : List ℕ) : Type 0 where
   pub entry : PageEntry
-  pub right : IsEntry entry
+  pub right : IsPageEntry entry
   pub key_is : entry.key ≡ key
   pub parts : bytes ≡ entry_bytes entry ++ rest
 
 -- These are so many entries in exactly these bytes. Their keys strictly rise from above this one on.
-pub record HasEntries (low : Key) (count : ℕ) (bytes : List ℕ) (entries : List PageEntry) : Type 0 where
+pub record AreEntriesIn (low : Key) (count : ℕ) (bytes : List ℕ) (entries : List PageEntry) : Type 0 where
   pub each : AreEntries entries
   pub count_is : length entries ≡ count
   pub rise : IsStrictlySortedBy key_cmp (low ∷ keys_of entries)
   pub spelled : bytes ≡ entries_bytes entries
 
 abbrev pub AreInBytes : Key → ℕ → List ℕ → Type 0
-AreInBytes low count bytes = (entries : List PageEntry) × HasEntries low count bytes entries
+AreInBytes low count bytes = (entries : List PageEntry) × AreEntriesIn low count bytes entries

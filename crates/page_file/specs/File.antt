@@ -2,24 +2,25 @@
 use Rattle.std.specs.Prelude.{◌≡◌, ℕ, ◌+◌, ◌*◌, List, Result, Ok, Err, ⊤}
 use Rattle.refusal.specs.Count.{HasRisen}
 use Rattle.disk_trait.specs.Disk.{DiskState, Torn, part}
+use Rattle.blsm_model.specs.Format.{head_length, page_length}
 use Rattle.blsm_model.specs.Sizes.{Sizes}
 use Rattle.page_file.specs.declared.file.Broken.{Broken}
 use Rattle.page_file.specs.declared.file.Broken.TheVariants.{Fault, Damaged}
-use Rattle.page_file.specs.Page.{page_length, IsPage}
+use Rattle.page_file.specs.Page.{IsPage}
 
--- where a page begins: behind the head of the file and three lanes of four halves each
+-- where a page begins: behind the head of the file, three lanes of four halves each, and the pages before it
 abbrev pub page_start : Sizes → ℕ → ℕ
-page_start sizes n = 4096 + 12 * sizes.half + page_length * n
+page_start sizes n = head_length + 12 * sizes.half + page_length * n
 
 -- the bytes of a page
 abbrev pub page_at : Sizes → ℕ → List ℕ → List ℕ
 page_at sizes n file = part file (page_start sizes n) page_length
 
 -- What an answer says of the bytes of page n: they are a valid page, or they aren't and it is named. After a fault nobody knows.
-abbrev pub Tells : ℕ → ℕ → List ℕ → Result (Unit {0}) Broken → Type 0
-Tells pages n page (Ok read) = IsPage pages page
-Tells pages n page (Err (Damaged named)) = (named ≡ n) × ¬ (IsPage pages page)
-Tells pages n page (Err Fault) = ⊤
+abbrev pub TellsPage : ℕ → ℕ → List ℕ → Result (Unit {0}) Broken → Type 0
+TellsPage pages n page (Ok read) = IsPage pages page
+TellsPage pages n page (Err (Damaged named)) = (named ≡ n) × ¬ (IsPage pages page)
+TellsPage pages n page (Err Fault) = ⊤
 
 -- A fault is answered where the count rose, and any other answer where it stands.
 abbrev pub HasReadCause : DiskState → DiskState → Result (Unit {0}) Broken → Type 0

@@ -1,17 +1,16 @@
 -- A page: its head, its entries, and zeros. Lengths are in bytes; numbers have their highest byte first.
 use Rattle.std.specs.Prelude.{◌≡◌, ℕ, ◌-◌, ◌≤◌, ◌<◌, ◌^◌, List, ◌++◌, length, replicate, Option, Some, None, IfSome, IsSome}
 use Rattle.std.specs.Int.{w16, w32, to_be_bytes}
+use Rattle.blsm_model.specs.Format.{least_full}
 use Rattle.page_file.specs.Entry.{PageEntry, entries_bytes, AreEntries, AreRising}
 
-abbrev pub page_length : ℕ
-page_length = 4096
+-- how many bytes stand before the entries
+abbrev pub page_head_length : ℕ
+page_head_length = 8
 
--- how many bytes the entries of a page may have, and how many a page with a next one has at least
+-- how many bytes the entries of a page may have
 abbrev pub most_used : ℕ
 most_used = 4088
-
-abbrev pub least_full : ℕ
-least_full = 3577
 
 -- what stands for no next page
 abbrev pub no_page : ℕ

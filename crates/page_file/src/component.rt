@@ -7,7 +7,7 @@ ghost use Rattle.std.specs.Prelude.{◌≡◌, ℕ, List, []};
 ghost use Rattle.blsm_model.specs.Sizes.{Sizes};
 ghost use Rattle.page_file.specs.Component.{empty_component, ReadsAs};
 
-use crate::page::NO_PAGE;
+use crate::page::number_of;
 use blsm_model::Component;
 
 /// The component without entries: it has no page, and its first one's number is 2^32 - 1.
@@ -17,7 +17,7 @@ pub fn no_component() -> Component
     ensures reads { (sizes : Sizes) (file : List ℕ) → ReadsAs sizes result [] file }
 {
     Component {
-        first: NO_PAGE,
+        first: number_of(None),
         pages: 0,
         entries: 0,
         weight: 0,

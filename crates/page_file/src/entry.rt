@@ -7,8 +7,8 @@
 //! | 3 | length of the text u16, 0 to 435; 0 unless it is a base |
 //! | 5 | count u64; 0 for a tombstone |
 //! | 13 | the key, then the text |
-ghost use Rattle.std.specs.Prelude.{◌≡◌, ◌≢◌, ◌↔◌, ◌+◌, ◌≤◌, ◌<◌, ◌++◌, ◌^◌, ℕ, List, [], length, drop, IsTrue, IfSome, IfNone};
-ghost use Rattle.page_file.specs.Entry.{AreNumbers, entry_head, BeginsWith, AreInBytes};
+ghost use Rattle.std.specs.Prelude.{◌≡◌, ◌↔◌, ◌+◌, ◌≤◌, ◌<◌, ◌++◌, ◌^◌, ℕ, List, [], length, drop, IsTrue, IfSome, IfNone};
+ghost use Rattle.page_file.specs.Entry.{AreNumbers, entry_head, HasFirstEntry, AreInBytes};
 
 use crate::number::{u16_at, u64_at};
 use blsm_model::{Key, Text};
@@ -64,8 +64,8 @@ impl Head {
 
 // The key of the entry at the front of these bytes, if there is one, and the bytes behind the entry.
 fn first_entry(bytes: &[u8]) -> Option<(&[u8], &[u8])>
-    ensures found { IfSome result (λ p. BeginsWith bytes.now p.0.now p.1.now) }
-    ensures none { IfNone result ((key rest : List ℕ) → BeginsWith bytes.now key rest → ⊥) }
+    ensures found { IfSome result (λ p. HasFirstEntry bytes.now p.0.now p.1.now) }
+    ensures none { IfNone result ((key rest : List ℕ) → HasFirstEntry bytes.now key rest → ⊥) }
 {
     if bytes.len() < HEAD_LEN {
         return None;

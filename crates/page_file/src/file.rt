@@ -1,11 +1,11 @@
 //! Reading and writing a page of a store's file.
-ghost use Rattle.std.specs.Prelude.{◌≡◌, ◌≢◌, ◌+◌, ◌*◌, ◌≤◌, ◌<◌, ◌^◌, ℕ, List, length, Err, IsTrue, IsErr, IsOk, OnOk};
+ghost use Rattle.std.specs.Prelude.{◌≡◌, ◌≢◌, ◌+◌, ◌≤◌, ◌<◌, ◌^◌, length, Err, IsTrue, IsErr, OnOk};
 ghost use Rattle.refusal.specs.Count.{HasRisen};
-ghost use Rattle.disk_trait.specs.Disk.{Passes, MarksSync, ChangesNothing, WritesWithin, IsSure, Torn, overwritten};
+ghost use Rattle.disk_trait.specs.Disk.{Passes, MarksSync, ChangesNothing, WritesWithin, IsSure, overwritten};
 ghost use Rattle.disk_trait.specs.Moments.{LeavesOnly};
+ghost use Rattle.blsm_model.specs.Format.{page_length};
 ghost use Rattle.blsm_model.specs.Geometry.{page_count, file_length};
-ghost use Rattle.page_file.specs.Page.{page_length, no_page};
-ghost use Rattle.page_file.specs.File.{page_start, page_at, Tells, HasReadCause, IsOldOutside};
+ghost use Rattle.page_file.specs.File.{page_start, page_at, TellsPage, HasReadCause, IsOldOutside};
 
 use crate::page::{PAGE_LEN, is_page};
 use blsm_model::Geometry;
@@ -35,8 +35,8 @@ impl From<Failed> for Broken {
     }
 }
 
-// The bytes before the lanes of the log, and how many halves of the spring the lanes have.
-const HEAD_LEN: u64 = 4_096;
+// How many bytes stand before the lanes of the log, and how many halves of the spring the lanes have.
+const FILE_HEAD_LEN: u64 = 4_096;
 
 const LANE_HALVES: u64 = 12;
 
@@ -48,7 +48,7 @@ fn place_of(geo: &Geometry, n: u32) -> u64
     ensures small { file_length geo.now < 2 ^ 63 }
 {
     let _pages = geo.pages();
-    HEAD_LEN + LANE_HALVES * geo.half() + PAGE_LEN as u64 * u64::from(n)
+    FILE_HEAD_LEN + LANE_HALVES * geo.half() + PAGE_LEN as u64 * u64::from(n)
 }
 
 /// Reads page n into a buffer and tells whether it is valid. The disk is read once, and no memory is taken.
@@ -66,9 +66,9 @@ pub fn read_page<D: Disk>(
     requires length { IsTrue (D.state disk.old).tells_bytes → length (D.state disk.old).bytes ≡ file_length geo.now }
 
     // Whatever the disk is, the answer is what the bytes in the buffer say; and they are those that the disk reads as.
-    ensures answer { Tells (page_count geo.now) n into.new result }
+    ensures answer { TellsPage (page_count geo.now) n into.new result }
     ensures bytes { result ≢ Err Broken.Fault → IsTrue (D.state disk.old).tells_bytes → into.new ≡ page_at geo.now n (D.state disk.new).bytes }
-    ensures tells { IsTrue (D.state disk.old).is_honest → Tells (page_count geo.now) n (page_at geo.now n (D.state disk.old).bytes) result }
+    ensures tells { IsTrue (D.state disk.old).is_honest → TellsPage (page_count geo.now) n (page_at geo.now n (D.state disk.old).bytes) result }
 
     // One call of the disk, which reads.
     ensures cause { HasReadCause (D.state disk.old) (D.state disk.new) result }

@@ -1,12 +1,13 @@
 //! What holds of pages. The functions do nothing: each stands for the laws that its clauses name.
-ghost use Rattle.std.specs.Prelude.{◌≡◌, ◌≢◌, ◌↔◌, ◌+◌, ◌≤◌, ◌∷◌, ◌++◌, ℕ, List, Option, None, length, drop, nat_eq};
+ghost use Rattle.std.specs.Prelude.{◌≡◌, ◌≢◌, ◌↔◌, ◌+◌, ◌≤◌, ◌∷◌, ◌++◌, ℕ, List, Option, length, drop, nat_eq};
 ghost use Rattle.std.specs.List.{Contains, IsDistinct};
 ghost use Rattle.disk_trait.specs.Disk.{Torn};
+ghost use Rattle.blsm_model.specs.Format.{page_length};
 ghost use Rattle.blsm_model.specs.declared.component.Component.{Component};
 ghost use Rattle.blsm_model.specs.Sizes.{Sizes, IsGeometry};
 ghost use Rattle.blsm_model.specs.Geometry.{page_count};
-ghost use Rattle.page_file.specs.Entry.{PageEntry, IsEntry, entry_bytes, AreEntries, AreRising};
-ghost use Rattle.page_file.specs.Page.{page_length, no_page, used_by, page_bytes, IsContent, IsPageOf, IsPage};
+ghost use Rattle.page_file.specs.Entry.{PageEntry, IsPageEntry, entry_bytes, AreEntries, AreRising};
+ghost use Rattle.page_file.specs.Page.{page_head_length, no_page, used_by, page_bytes, IsContent, IsPageOf, IsPage};
 ghost use Rattle.page_file.specs.File.{page_start, page_at};
 ghost use Rattle.blsm_model.specs.declared.key.Key.{Key};
 ghost use Rattle.record_delta.specs.declared.record.Rec.{Rec};
@@ -28,7 +29,7 @@ pub fn one_page()
 pub fn where_entries_stand()
     ensures { (pages : ℕ) (next : Option ℕ) (before after : List PageEntry) (entry : PageEntry) (page : List ℕ)
         → IsPageOf pages next (before ++ entry ∷ after) page
-        → (rest : List ℕ) × (drop (8 + used_by before) page ≡ entry_bytes entry ++ rest) }
+        → (rest : List ℕ) × (drop (page_head_length + used_by before) page ≡ entry_bytes entry ++ rest) }
 {}
 
 /// What is written in one page leaves each other page as it was.
@@ -69,7 +70,7 @@ pub fn other_components()
 /// of keys with records, and a component reads as one such list at most.
 pub fn records_of_pages()
     ensures bytes { (e : Key × Rec) → entry_bytes (page_entry e) ≡ spelling e.0 e.1 }
-    ensures entry { (key : Key) (rec : Rec) → IsEntry (page_entry (key, rec)) ↔ IsSpelled key rec }
+    ensures entry { (key : Key) (rec : Rec) → IsPageEntry (page_entry (key, rec)) ↔ IsSpelled key rec }
     ensures weights { (es : List (Key × Rec)) → weight_of (page_entries es) ≡ weights es }
     ensures some { (entries : List PageEntry) → AreEntries entries → (es : List (Key × Rec)) × (page_entries es ≡ entries) }
     ensures one { (es fs : List (Key × Rec)) → page_entries es ≡ page_entries fs → es ≡ fs }

@@ -15,7 +15,7 @@ pub use laws::{
     chains, one_component, one_page, other_components, other_pages, records_of_pages,
     where_entries_stand,
 };
-pub use page::{LEAST_FULL, MOST_USED, PAGE_HEAD_LEN, PAGE_LEN, PageHead};
+pub use page::{LEAST_FULL, MOST_USED, PAGE_HEAD_LEN, PAGE_LEN, PageHead, number_of};
 
 #[cfg(test)]
 mod tests;

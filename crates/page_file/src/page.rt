@@ -30,7 +30,7 @@ pub const MOST_USED: u16 = 4_088;
 pub const LEAST_FULL: u16 = MOST_USED - Op::MAX_WEIGHT as u16 + 1;
 
 // What stands for no next page.
-pub const NO_PAGE: u32 = u32::MAX;
+const NO_PAGE: u32 = u32::MAX;
 
 /// What a page says before its entries.
 #[derive(Clone, Copy, PartialEq, Eq, Debug)]
@@ -41,6 +41,13 @@ pub struct PageHead {
     pub used: u16,
     /// The number of the next page, if there is one.
     pub next: Option<u32>,
+}
+
+/// The number that names a page, or that there is none.
+pub fn number_of(page: Option<u32>) -> u32
+    ensures { result ≡ page_number page }
+{
+    page.unwrap_or(NO_PAGE)
 }
 
 // The page of this number, if it is one.

@@ -5,7 +5,7 @@ use Rattle.std.proofs.lemmas.List.{get_or-set_same, get_or-set_other}
 use Rattle.std.proofs.lemmas.List.Sums.{sum_by-cons, sum_by-le}
 use Rattle.std.proofs.lemmas.List.Elements.{All-from_get_or}
 use Rattle.page_space.specs.PageSet.{Members, IsIn, size, with_page, union}
-use Rattle.page_space.specs.Space.{SpaceState, pages_of, pins_of, IsFree, HasFree, IsSpace, HasRole, IsPinnedBy, KeepsOtherRoles, KeepsOtherPins, seat_count, IsWithin}
+use Rattle.page_space.specs.Space.{SpaceState, pages_with, pins_of, IsFree, HasFree, IsSpace, HasRole, IsPinnedBy, KeepsOtherRoles, KeepsOtherPins, seat_count, IsWithin}
 use Rattle.page_space.proofs.PageSetLemmas.{get_or-union}
 use Rattle.page_space.proofs.SpaceLemmas.{kept_with}
 use Rattle.page_space.proofs.SizeLemmas.{size-cons, or_le}
@@ -109,31 +109,31 @@ freed_of_seat old new seat pages roles others page free =
     ]
 
 -- the page that is claimed has the tag
-pub claimed_has : (old new : SpaceState) (role page : ℕ) → page < length (pages_of old role) → pages_of new role ≡ with_page page (pages_of old role) → HasRole new role page
-claimed_has old new role page within this = ap (λ (s : Members). get_or s page false) this ∙ get_or-set_same (pages_of old role) page true false within
+pub claimed_has : (old new : SpaceState) (role page : ℕ) → page < length (pages_with old role) → pages_with new role ≡ with_page page (pages_with old role) → HasRole new role page
+claimed_has old new role page within this = ap (λ (s : Members). get_or s page false) this ∙ get_or-set_same (pages_with old role) page true false within
 
 -- no page loses a tag by a claim
-has_kept : (old new : SpaceState) (role page : ℕ) → pages_of new role ≡ with_page page (pages_of old role) → KeepsOtherRoles role old new → (r k : ℕ) → HasRole old r k → HasRole new r k
+has_kept : (old new : SpaceState) (role page : ℕ) → pages_with new role ≡ with_page page (pages_with old role) → KeepsOtherRoles role old new → (r k : ℕ) → HasRole old r k → HasRole new r k
 has_kept old new role page this others r k has =
     elim (cases_eq r role) [
       | inl same ↦
-          let had : HasRole old role k = sym (ap (λ i. get_or (pages_of old i) k false) same) ∙ has in
-          ap (λ i. get_or (pages_of new i) k false) same ∙ ap (λ (s : Members). get_or s k false) this ∙ kept_with page k (pages_of old role) had
+          let had : HasRole old role k = sym (ap (λ i. get_or (pages_with old i) k false) same) ∙ has in
+          ap (λ i. get_or (pages_with new i) k false) same ∙ ap (λ (s : Members). get_or s k false) this ∙ kept_with page k (pages_with old role) had
       | inr differs ↦ ap (λ (s : Members). get_or s k false) (others r differs) ∙ has
     ]
 
 -- a tag of another page it had before
-had_before : (old new : SpaceState) (role page : ℕ) → pages_of new role ≡ with_page page (pages_of old role) → KeepsOtherRoles role old new → (r k : ℕ) → k ≢ page → HasRole new r k → HasRole old r k
+had_before : (old new : SpaceState) (role page : ℕ) → pages_with new role ≡ with_page page (pages_with old role) → KeepsOtherRoles role old new → (r k : ℕ) → k ≢ page → HasRole new r k → HasRole old r k
 had_before old new role page this others r k apart has =
     elim (cases_eq r role) [
       | inl same ↦
-          let has_role : HasRole new role k = sym (ap (λ i. get_or (pages_of new i) k false) same) ∙ has in
-          ap (λ i. get_or (pages_of old i) k false) same ∙ sym (get_or-set_other (pages_of old role) page k true false apart) ∙ sym (ap (λ (s : Members). get_or s k false) this) ∙ has_role
+          let has_role : HasRole new role k = sym (ap (λ i. get_or (pages_with new i) k false) same) ∙ has in
+          ap (λ i. get_or (pages_with old i) k false) same ∙ sym (get_or-set_other (pages_with old role) page k true false apart) ∙ sym (ap (λ (s : Members). get_or s k false) this) ∙ has_role
       | inr differs ↦ sym (ap (λ (s : Members). get_or s k false) (others r differs)) ∙ has
     ]
 
 -- so the tags after a claim are those before it, and the one
-pub tags_after : (old new : SpaceState) (role page : ℕ) → page < length (pages_of old role) → pages_of new role ≡ with_page page (pages_of old role) → KeepsOtherRoles role old new
+pub tags_after : (old new : SpaceState) (role page : ℕ) → page < length (pages_with old role) → pages_with new role ≡ with_page page (pages_with old role) → KeepsOtherRoles role old new
     → (tag k : ℕ) → HasRole new tag k ↔ (HasRole old tag k ⊎ ((tag ≡ role) × (k ≡ page)))
 tags_after old new role page within this others tag k = (to, from)
   where
@@ -150,10 +150,10 @@ tags_after old new role page within this others tag k = (to, from)
 
     from : HasRole old tag k ⊎ ((tag ≡ role) × (k ≡ page)) → HasRole new tag k
     from (inl had) = has_kept old new role page this others tag k had
-    from (inr given) = ap (λ t. get_or (pages_of new t) k false) given.0 ∙ ap (λ i. get_or (pages_of new role) i false) given.1 ∙ claimed_has old new role page within this
+    from (inr given) = ap (λ t. get_or (pages_with new t) k false) given.0 ∙ ap (λ i. get_or (pages_with new role) i false) given.1 ∙ claimed_has old new role page within this
 
 -- a claim uses up just the page that it is of
-pub free_after_claim : (old new : SpaceState) (role page : ℕ) → page < length (pages_of old role) → pages_of new role ≡ with_page page (pages_of old role) → KeepsOtherRoles role old new → new.pins ≡ old.pins → new.pages ≡ old.pages
+pub free_after_claim : (old new : SpaceState) (role page : ℕ) → page < length (pages_with old role) → pages_with new role ≡ with_page page (pages_with old role) → KeepsOtherRoles role old new → new.pins ≡ old.pins → new.pages ≡ old.pages
     → (other : ℕ) → IsFree new other ↔ (IsFree old other × (other ≢ page))
 free_after_claim old new role page within this others pins pages other = (before, λ both. after both.0 both.1)
   where
@@ -164,7 +164,7 @@ free_after_claim old new role page within this others pins pages other = (before
         no_role = λ r has. free.no_role r (has_kept old new role page this others r other has);
         no_pin = λ seat pinned. free.no_pin seat (ap (λ (sets : List Members). get_or (get_or sets seat []) other false) pins ∙ pinned);
       },
-      λ same. free.no_role role (ap (λ i. get_or (pages_of new role) i false) same ∙ claimed_has old new role page within this),
+      λ same. free.no_role role (ap (λ i. get_or (pages_with new role) i false) same ∙ claimed_has old new role page within this),
     )
 
     after : IsFree old other → other ≢ page → IsFree new other

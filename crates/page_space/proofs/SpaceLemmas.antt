@@ -3,7 +3,7 @@ use Rattle.std.proofs.Common.{◌≡◌, ℕ, ◌<◌, true, false, List, [], le
 use Rattle.std.proofs.lemmas.Bool.{cases_eq, cases_lt, false≢true}
 use Rattle.std.proofs.lemmas.List.{length-set, length-replicate, get_or-replicate, get_or-set_same, get_or-set_other, get_or_past}
 use Rattle.page_space.specs.PageSet.{Members, IsIn, none_of, with_page, union}
-use Rattle.page_space.specs.Space.{SpaceState, unused, pages_of, IsFree, IsSpace, role_count, seat_count}
+use Rattle.page_space.specs.Space.{SpaceState, unused, pages_with, IsFree, IsSpace, role_count, seat_count}
 use Rattle.page_space.proofs.PageSetLemmas.{length-union}
 
 -- a page that is in a set is below its number of pages, and only a set that there is has pages
@@ -44,7 +44,7 @@ kept_claimed sets role page r k is_in =
     ]
 
 -- what is free once a page is claimed was free before
-pub free_before_claim : (space : SpaceState) (role page k : ℕ) → IsFree (record space { roles = set space.roles role (with_page page (pages_of space role)) }) k → IsFree space k
+pub free_before_claim : (space : SpaceState) (role page k : ℕ) → IsFree (record space { roles = set space.roles role (with_page page (pages_with space role)) }) k → IsFree space k
 free_before_claim space role page k free =
     record {
       in_range = free.in_range;

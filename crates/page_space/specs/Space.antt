@@ -15,14 +15,14 @@ pub record SpaceState : Type 0 where
   pub roles : List Members
   pub pins : List Members
 
-abbrev pub pages_of : SpaceState → ℕ → Members
-pages_of space role = slice_index_or space.roles role []
+abbrev pub pages_with : SpaceState → ℕ → Members
+pages_with space role = slice_index_or space.roles role []
 
 abbrev pub pins_of : SpaceState → ℕ → Members
 pins_of space seat = slice_index_or space.pins seat []
 
 abbrev pub HasRole : SpaceState → ℕ → ℕ → Type 0
-HasRole space role page = IsIn (pages_of space role) page
+HasRole space role page = IsIn (pages_with space role) page
 
 abbrev pub IsPinnedBy : SpaceState → ℕ → ℕ → Type 0
 IsPinnedBy space seat page = IsIn (pins_of space seat) page
@@ -52,7 +52,7 @@ unused pages = record { pages = pages; roles = replicate role_count (none_of pag
 pub record IsSpace (space : SpaceState) : Type 0 where
   pub roles : length space.roles ≡ role_count
   pub pins : length space.pins ≡ seat_count
-  pub of_role : (role : ℕ) → role < role_count → length (pages_of space role) ≡ space.pages
+  pub of_role : (role : ℕ) → role < role_count → length (pages_with space role) ≡ space.pages
   pub of_seat : (seat : ℕ) → seat < seat_count → length (pins_of space seat) ≡ space.pages
 
 -- what a map keeps that was searched for free pages below this one
@@ -61,7 +61,7 @@ IsSearchedBelow space end = IsSpace space × NoneFreeBelow space end
 
 -- how many pages have the role's tag, and how many the seat pins
 abbrev pub role_size : SpaceState → ℕ → ℕ
-role_size space role = size (pages_of space role)
+role_size space role = size (pages_with space role)
 
 abbrev pub pin_size : SpaceState → ℕ → ℕ
 pin_size space seat = size (pins_of space seat)
@@ -73,7 +73,7 @@ pub record IsWithin (live share : ℕ) (space : SpaceState) : Type 0 where
 
 -- the same pages have the tag of each other role
 abbrev pub KeepsOtherRoles : ℕ → SpaceState → SpaceState → Type 0
-KeepsOtherRoles role old new = (other : ℕ) → other ≢ role → pages_of new other ≡ pages_of old other
+KeepsOtherRoles role old new = (other : ℕ) → other ≢ role → pages_with new other ≡ pages_with old other
 
 -- each other seat pins the same pages
 abbrev pub KeepsOtherPins : ℕ → SpaceState → SpaceState → Type 0

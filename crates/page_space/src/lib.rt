@@ -1,7 +1,6 @@
-//! The free-page map: which pages are in use, and the least one that isn't. A page is in use while it has a role's tag, as each
-//! page of a component or of a run that is being written has, or while a caller's hold pins it.
-//! Contracts see, for each of five roles and for each of sixteen seats, the set of its pages. Writers of runs take pages
-//! from it, holds pin them, and the tree releases them.
+//! The free-page map: which pages are in use, and the least one that isn't. A page is in use while it has the tag of one of five
+//! roles, or while one of sixteen seats pins it. Contracts see, for each role and for each seat, the set of its pages. The
+//! writers of runs take their pages from it.
 #![tactic(auto)]
 
 mod page_set;

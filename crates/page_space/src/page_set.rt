@@ -1,5 +1,5 @@
 //! A set of pages: a bit for each page of a store.
-ghost use Rattle.std.specs.Prelude.{◌≡◌, ◌<◌, ◌≤◌, ◌↔◌, length, IsTrue, IfOk};
+ghost use Rattle.std.specs.Prelude.{◌≡◌, ◌<◌, ◌↔◌, length, IsTrue, IfOk};
 ghost use Rattle.page_space.specs.PageSet.{IsIn, none_of, with_page, union};
 
 use refusal::NoMemory;

@@ -4,8 +4,8 @@ ghost use Rattle.page_space.specs.Space.{role_count};
 
 use std::marker::Model;
 
-/// One of five tags. Which of them stands for which component or run, its owner decides: a swap of components exchanges
-/// their tags, and no page changes. Contracts see the tag's number, 0 to 4.
+/// One of five tags. Which of them stands for which component or run, the map's owner decides. Contracts see the tag's number,
+/// 0 to 4.
 #[derive(Clone, Copy, PartialEq, Eq, Debug)]
 pub struct Role(u8);
 

@@ -1,7 +1,7 @@
 //! Which pages have which tag, which are pinned, and which are free.
 ghost use Rattle.std.specs.Prelude.{◌≡◌, ◌<◌, ◌≤◌, ◌+◌, ◌*◌, ◌↔◌, ◌⊎◌, ◌≢◌, ℕ, length, replicate, All, IsTrue, IfOk, IfSome, IfNone};
-ghost use Rattle.page_space.specs.PageSet.{Members, IsInSome, none_of, with_page, union};
-ghost use Rattle.page_space.specs.Space.{pages_of, pins_of, HasRole, IsPinnedBy, IsFree, HasFree, NoneFreeBelow, IsLeastFree, IsSpace, unused, role_size, pin_size, IsWithin, seat_count, KeepsOtherRoles, KeepsOtherPins};
+ghost use Rattle.page_space.specs.PageSet.{IsInSome, none_of, with_page, union};
+ghost use Rattle.page_space.specs.Space.{pages_with, pins_of, HasRole, IsPinnedBy, IsFree, HasFree, IsLeastFree, IsSpace, unused, role_size, pin_size, IsWithin, seat_count, KeepsOtherRoles, KeepsOtherPins};
 
 use crate::Role;
 use crate::page_set::PageSet;
@@ -83,7 +83,7 @@ impl Space {
     /// Gives a page a role's tag. It keeps the tags that it has.
     pub fn claim(&mut self, role: Role, page: u32)
         requires { page < self.old.pages }
-        ensures this { pages_of self.new role ≡ with_page page (pages_of self.old role) }
+        ensures this { pages_with self.new role ≡ with_page page (pages_with self.old role) }
         ensures others { KeepsOtherRoles role self.old self.new }
         ensures pins { self.new.pins ≡ self.old.pins }
         ensures pages { self.new.pages ≡ self.old.pages }
@@ -99,7 +99,7 @@ impl Space {
 
     /// Takes a role's tag from all its pages. Those that have no other tag and that no seat pins are free then.
     pub fn release(&mut self, role: Role)
-        ensures this { pages_of self.new role ≡ none_of self.old.pages }
+        ensures this { pages_with self.new role ≡ none_of self.old.pages }
         ensures others { KeepsOtherRoles role self.old self.new }
         ensures pins { self.new.pins ≡ self.old.pins }
         ensures pages { self.new.pages ≡ self.old.pages }
@@ -116,7 +116,7 @@ impl Space {
     /// Pins for a seat just the pages that have one of three tags now. What the seat pinned before it doesn't any more.
     pub fn pin(&mut self, seat: u32, c1: Role, c1x: Role, c2: Role)
         requires { seat < CALLERS }
-        ensures this { pins_of self.new seat ≡ union (pages_of self.old c1) (union (pages_of self.old c1x) (pages_of self.old c2)) }
+        ensures this { pins_of self.new seat ≡ union (pages_with self.old c1) (union (pages_with self.old c1x) (pages_with self.old c2)) }
         ensures others { KeepsOtherPins seat self.old self.new }
         ensures roles { self.new.roles ≡ self.old.roles }
         ensures pages { self.new.pages ≡ self.old.pages }

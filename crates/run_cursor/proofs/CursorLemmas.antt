@@ -13,6 +13,7 @@ use Rattle.std.proofs.lemmas.List.Edits.{between_none, length-between}
 use Rattle.std.proofs.lemmas.List.Elements.{All-nil, All-head, All-tail}
 use Rattle.std.proofs.lemmas.List.Sums.{sum_by-cons}
 use Rattle.std.proofs.lemmas.Slice.{between_is}
+use Rattle.blsm_model.specs.Format.{page_length}
 use Rattle.blsm_model.specs.declared.component.Component.{Component}
 use Rattle.blsm_model.specs.declared.key.Key.{Key}
 use Rattle.blsm_model.specs.Keys.{key_cmp}
@@ -21,7 +22,7 @@ use Rattle.blsm_model.specs.Geometry.{page_count}
 use Rattle.record_delta.specs.declared.record.Rec.{Rec}
 use Rattle.record_delta.specs.Records.{weight}
 use Rattle.entry_codec.specs.Spelling.{BeginsWith}
-use Rattle.page_file.specs.Entry.{PageEntry, IsEntry, entry_bytes, entries_bytes, AreEntries, keys_of, AreRising}
+use Rattle.page_file.specs.Entry.{PageEntry, IsPageEntry, entry_bytes, entries_bytes, AreEntries, keys_of, AreRising}
 use Rattle.page_file.specs.Page.{most_used, no_page, page_number, used_by, page_head, IsPageOf}
 use Rattle.page_file.specs.declared.file.Broken.{Broken}
 use Rattle.page_file.specs.declared.file.Broken.TheVariants.{Fault, Damaged}
@@ -32,7 +33,7 @@ use Rattle.page_file.proofs.EntryLemmas.{length-entry_bytes, few_entries, entry_
 use Rattle.page_file.proofs.PageLemmas.{spelled, length-page_head, page_same, entry_at}
 use Rattle.page_file.proofs.ComponentLemmas.{weight_join, weight_is_length}
 use Rattle.page_file.proofs.RecordLemmas.{same_bytes, same_weights, is_entry, is_spelled, record_of_entry, records_of_entries, one_record}
-use Rattle.run_cursor.specs.Cursor.{CursorState, started, from_head, HasFirst, IsCursor, AreInNumber, PageGoesOn, GoesOnAt, turned, IsStepped, Rises, HasAhead, IsAdvanced, IsDamageAt}
+use Rattle.run_cursor.specs.Cursor.{CursorState, started, from_head, IsFirstKey, IsCursor, AreInNumber, PageGoesOn, GoesOnAt, turned, IsStepped, Rises, HasAhead, IsAdvanced, IsDamageAt}
 
 pub length-page_entries : (es : List (Key × Rec)) → length (page_entries es) ≡ length es
 length-page_entries es = length-map es page_entry
@@ -48,7 +49,7 @@ started_ahead sizes run entries file has =
     record {
       here = [];
       coming = has.pages;
-      each = All-nil IsEntry;
+      each = All-nil IsPageEntry;
       behind_is = refl;
       first_is = reads.first_is;
       chained = reads.chained;
@@ -66,7 +67,7 @@ unfolding IsStrictlySortedBy
 bare_cursor behind next pages entries weight empty none =
     record {
       here = [];
-      each = All-nil IsEntry;
+      each = All-nil IsPageEntry;
       behind_is = empty;
       rise = tt;
       few = omega arith;
@@ -81,12 +82,12 @@ pub record First (bytes : List ℕ) (here : List (Key × Rec)) : Type 0 where
   pub entry : Key × Rec
   pub more : List (Key × Rec)
   pub here_is : here ≡ entry ∷ more
-  pub right : IsEntry (page_entry entry)
+  pub right : IsPageEntry (page_entry entry)
   pub parts : bytes ≡ entry_bytes (page_entry entry) ++ entries_bytes (page_entries more)
 
 pub first_of_bytes : (bytes : List ℕ) (here : List (Key × Rec)) → AreEntries (page_entries here) → bytes ≡ entries_bytes (page_entries here) → 0 < length bytes → First bytes here
 first_of_bytes bytes [] each is some = absurd (omega (arith, some, ap (length {A = ℕ}) is))
-first_of_bytes bytes (e ∷ es) each is some = record { entry = e; more = es; here_is = refl; right = All-head IsEntry (page_entry e) (page_entries es) each; parts = is }
+first_of_bytes bytes (e ∷ es) each is some = record { entry = e; more = es; here_is = refl; right = All-head IsPageEntry (page_entry e) (page_entries es) each; parts = is }
 
 pub begins : (bytes : List ℕ) (here : List (Key × Rec)) (first : First bytes here) → BeginsWith bytes first.entry.0 first.entry.1
 begins bytes here first = record {
@@ -97,7 +98,7 @@ begins bytes here first = record {
 
 -- what begins bytes is an entry
 pub record IsFirst (bytes : List ℕ) (entry : Key × Rec) : Type 0 where
-  pub right : IsEntry (page_entry entry)
+  pub right : IsPageEntry (page_entry entry)
   pub rest : List ℕ
   pub parts : bytes ≡ entry_bytes (page_entry entry) ++ rest
 
@@ -114,13 +115,13 @@ pub record SameFirst (here : List (Key × Rec)) (entry : Key × Rec) (rest : Lis
   pub here_is : here ≡ entry ∷ more
   pub rest_is : rest ≡ entries_bytes (page_entries more)
 
-pub same_first : (here : List (Key × Rec)) (entry : Key × Rec) (rest : List ℕ) → AreEntries (page_entries here) → IsEntry (page_entry entry)
+pub same_first : (here : List (Key × Rec)) (entry : Key × Rec) (rest : List ℕ) → AreEntries (page_entries here) → IsPageEntry (page_entry entry)
     → entries_bytes (page_entries here) ≡ entry_bytes (page_entry entry) ++ rest → SameFirst here entry rest
 same_first [] entry rest each right is =
     let least = right.key_least in
     absurd (omega (arith, least, ap (length {A = ℕ}) is, length-append (entry_bytes (page_entry entry)) rest, length-entry_bytes (page_entry entry)))
 same_first (e ∷ es) entry rest each right is =
-    let one = entry_same (page_entry e) (page_entry entry) (entries_bytes (page_entries es)) rest (All-head IsEntry (page_entry e) (page_entries es) each) right is in
+    let one = entry_same (page_entry e) (page_entry entry) (entries_bytes (page_entries es)) rest (All-head IsPageEntry (page_entry e) (page_entries es) each) right is in
     record { more = es; here_is = ap (λ (f : Key × Rec). f ∷ es) (one_record e entry one.0); rest_is = sym one.1 }
 
 -- the cursor after a step, and what it had before
@@ -150,7 +151,7 @@ after_step old new entry kept stepped =
     record {
       cursor = record {
         here = more;
-        each = All-tail IsEntry (page_entry entry) (page_entries more) (subst (λ (l : List (Key × Rec)). AreEntries (page_entries l)) first.here_is kept.each);
+        each = All-tail IsPageEntry (page_entry entry) (page_entries more) (subst (λ (l : List (Key × Rec)). AreEntries (page_entries l)) first.here_is kept.each);
         behind_is = first.rest_is;
         rise = subst (λ (h : Option (Key × Rec)). AreRising (from_head h (page_entries more))) (sym stepped.head_is) (rise_from old.head (page_entry entry ∷ page_entries more) rise);
         few = omega (arith, few, count, stepped.entries_is);
@@ -168,7 +169,7 @@ pub record StepFits (at end length_is entries weight_left : ℕ) : Type 0 where
   pub light : length_is ≤ weight_left
 
 pub step_fits : (page : List ℕ) (at end : ℕ) (old : CursorState) (entry : Key × Rec) (len : ℕ) → end ≤ length page → at ≤ end → IsCursor old → old.behind ≡ between at end page
-    → IsEntry (page_entry entry) → (rest : List ℕ) × (old.behind ≡ entry_bytes (page_entry entry) ++ rest) → len ≡ weight entry.0 entry.1 → StepFits at end len old.entries old.weight
+    → IsPageEntry (page_entry entry) → (rest : List ℕ) × (old.behind ≡ entry_bytes (page_entry entry) ++ rest) → len ≡ weight entry.0 entry.1 → StepFits at end len old.entries old.weight
 step_fits page at end old entry len inside order kept is right (rest, parts) len_is =
     let first = same_first kept.here entry rest kept.each right (sym kept.behind_is ∙ parts) in
     let few = kept.few in
@@ -200,7 +201,7 @@ seen head page at end next pages entries weight_left =
 
 -- what a cursor keeps of its fields
 abbrev pub IsKept : Option (Key × Rec) → List ℕ → ℕ → ℕ → ℕ → ℕ → ℕ → ℕ → Type 0
-IsKept head page at end next pages entries weight_left = (at ≤ end) × (end ≤ 4096) × IsCursor (seen head page at end next pages entries weight_left)
+IsKept head page at end next pages entries weight_left = (at ≤ end) × (end ≤ page_length) × IsCursor (seen head page at end next pages entries weight_left)
 
 pub record Step (head : Option (Key × Rec)) (page : List ℕ) (at end next pages entries weight_left : ℕ) (now : CursorState) (entry : Key × Rec) (len : ℕ) : Type 0 where
   pub light : len ≤ weight_left
@@ -209,9 +210,9 @@ pub record Step (head : Option (Key × Rec)) (page : List ℕ) (at end next page
   pub stepped : IsStepped now (seen (Some entry) page (at + len) end next pages (entries - 1) (weight_left - len)) entry
   pub rises : Rises now.head (Some entry)
 
-pub step : (head : Option (Key × Rec)) (page : List ℕ) (at end next pages entries weight_left : ℕ) (now : CursorState) (entry : Key × Rec) (len : ℕ) → length page ≡ 4096
+pub step : (head : Option (Key × Rec)) (page : List ℕ) (at end next pages entries weight_left : ℕ) (now : CursorState) (entry : Key × Rec) (len : ℕ) → length page ≡ page_length
     → IsKept head page at end next pages entries weight_left → seen head page at end next pages entries weight_left ≡ now
-    → IsEntry (page_entry entry) → (rest : List ℕ) × (now.behind ≡ entry_bytes (page_entry entry) ++ rest) → len ≡ weight entry.0 entry.1
+    → IsPageEntry (page_entry entry) → (rest : List ℕ) × (now.behind ≡ entry_bytes (page_entry entry) ++ rest) → len ≡ weight entry.0 entry.1
     → Step head page at end next pages entries weight_left now entry len
 step head page at end next pages entries weight_left now entry len long (order, inside, cursor) is right (rest, parts) len_is =
     let old : CursorState = seen head page at end next pages entries weight_left in
@@ -251,7 +252,7 @@ pub record PageFirst (entries : List PageEntry) (page : List ℕ) : Type 0 where
 pub page_first : (pages : ℕ) (next : Option ℕ) (entries : List PageEntry) (page : List ℕ) → IsPageOf pages next entries page → PageFirst entries page
 page_first pages next [] page of = let some = of.content.head.some in absurd (omega (arith, some))
 page_first pages next (e ∷ es) page of =
-    let found = record_of_entry e (All-head IsEntry e es of.content.each) in
+    let found = record_of_entry e (All-head IsPageEntry e es of.content.each) in
     let there = entry_at pages next [] es e page of in
     record {
       first = e;
@@ -259,7 +260,7 @@ page_first pages next (e ∷ es) page of =
       entries_are = refl;
       rec = found.0;
       begins = record {
-        entry = is_spelled e.key found.0 (subst IsEntry (sym found.1) (All-head IsEntry e es of.content.each));
+        entry = is_spelled e.key found.0 (subst IsPageEntry (sym found.1) (All-head IsPageEntry e es of.content.each));
         rest = there.0;
         parts = there.1 ∙ ap (λ (l : List ℕ). l ++ there.0) (ap entry_bytes (sym found.1) ∙ same_bytes (e.key, found.0));
       };
@@ -318,7 +319,7 @@ less_is Less h = refl
 less_is Equal h = absurd (cc)
 less_is Greater h = absurd (cc)
 
-pub rises_to : (head : Option (Key × Rec)) (last : Key × Rec) (entries : List PageEntry) (key : Option Key) (first : Key) (test : Bool) → head ≡ Some last → key ≡ Some first → HasFirst entries key → AreRising entries
+pub rises_to : (head : Option (Key × Rec)) (last : Key × Rec) (entries : List PageEntry) (key : Option Key) (first : Key) (test : Bool) → head ≡ Some last → key ≡ Some first → IsFirstKey entries key → AreRising entries
     → test ≡ is_lt (key_cmp last.0 first) → IsTrue test ↔ AreRising (from_head head entries)
 rises_to head last entries key first test head_is key_is (e, es, entries_are, has) rise tests =
     let same : first ≡ e.key = cc in
@@ -405,7 +406,7 @@ stepped_ahead sizes old new head (e ∷ es) file a stepped =
       record {
         here = first.more;
         coming = a.coming;
-        each = All-tail IsEntry (page_entry head) (page_entries first.more) (subst (λ (l : List (Key × Rec)). AreEntries (page_entries l)) first.here_is a.each);
+        each = All-tail IsPageEntry (page_entry head) (page_entries first.more) (subst (λ (l : List (Key × Rec)). AreEntries (page_entries l)) first.here_is a.each);
         behind_is = first.rest_is;
         first_is = a.first_is ∙ sym stepped.next_is;
         chained = a.chained;

@@ -1,12 +1,15 @@
--- What a cursor's head says of a key among the entries that were ahead.
-use Rattle.std.proofs.Common.{◌≡◌, List, [], ◌∷◌, length, Option, Some, None, refl, ap, ◌∙◌, arith}
+-- What a cursor's head says of a key among the entries that were ahead, and among those that were given.
+use Rattle.std.proofs.Common.{◌≡◌, List, [], ◌∷◌, ◌++◌, Option, Some, None, refl, ap, sym, ◌∙◌}
 use Rattle.std.specs.Prelude.{cond, ℕ}
 use Rattle.std.specs.FinMap.{find as find_in}
 use Rattle.std.specs.List.{AllByRecursion}
 use Rattle.std.specs.List.Sorted.{IsStrictlySortedBy}
 use Rattle.std.specs.Ordering.{is_eq}
+use Rattle.std.specs.declared.cmp.Ordering.{Ordering}
 use Rattle.std.specs.declared.cmp.Ordering.TheVariants.{Less, Equal, Greater}
 use Rattle.std.proofs.lemmas.Cmp.{nat_list_cmp_total}
+use Rattle.std.proofs.lemmas.List.{append-nil}
+use Rattle.std.proofs.lemmas.List.Elements.{All-nil, All-cons, All-head, All-tail, All-append}
 use Rattle.blsm_model.specs.declared.key.Key.{Key}
 use Rattle.blsm_model.specs.Keys.{key_cmp}
 use Rattle.blsm_model.specs.Sizes.{Sizes}
@@ -14,6 +17,7 @@ use Rattle.record_delta.specs.declared.record.Rec.{Rec}
 use Rattle.page_file.specs.Entry.{keys_of, AreRising}
 use Rattle.page_file.specs.Records.{page_entries}
 use Rattle.run_cursor.specs.Cursor.{CursorState, from_head, HasAhead, IsAdvanced}
+use Rattle.run_cursor.specs.Lookup.{IsAbove, IsReached}
 
 -- a key that is below all of a list's isn't among them
 none_below : (key : Key) (es : List (Key × Rec)) → AllByRecursion (λ (k : Key). key_cmp key k ≡ Less) (keys_of (page_entries es)) → find_in key_cmp key es ≡ None
@@ -54,6 +58,44 @@ came_to sizes old new (e ∷ es) key file head rise advanced is =
           ap (λ o. cond (is_eq o) (Some e.1) (find_in key_cmp key es)) less ∙ none_below key es (below_all key e.0 (keys_of (page_entries es)) less keys.0);
     }
 
-pub none_in_no_entries : (key : Key) (es : List (Key × Rec)) → length es ≡ 0 → find_in key_cmp key es ≡ None
-none_in_no_entries key [] none = refl
-none_in_no_entries key (e ∷ es) none = absurd (omega (arith, none))
+-- where the cursor came to the end, no entries were ahead
+pub none_ahead : (sizes : Sizes) (new : CursorState) (rest : List (Key × Rec)) (key : Key) (file : List ℕ) → IsAdvanced sizes new rest file → new.head ≡ None → find_in key_cmp key rest ≡ None
+none_ahead sizes new [] key file advanced is = refl
+none_ahead sizes new (e ∷ es) key file advanced is = absurd (let some = advanced.0 in cc)
+
+-- a key that is above some entries has the record that it has among those behind them
+past : (key : Key) (front back : List (Key × Rec)) → IsAbove key front → find_in key_cmp key (front ++ back) ≡ find_in key_cmp key back
+past key [] back above = refl
+past key (e ∷ es) back above =
+    ap (λ o. cond (is_eq o) (Some e.1) (find_in key_cmp key (es ++ back))) (All-head (λ (f : Key × Rec). key_cmp key f.0 ≡ Greater) e es above)
+    ∙ past key es back (All-tail (λ (f : Key × Rec). key_cmp key f.0 ≡ Greater) e es above)
+
+pub none_above : (key : Key) (given : List (Key × Rec)) → IsAbove key given → find_in key_cmp key given ≡ None
+none_above key given above = ap (find_in key_cmp key) (sym (append-nil given)) ∙ past key given [] above
+
+less_stops : (o : Ordering) → o ≡ Less → o ≡ Greater → ⊥
+less_stops o less greater = cc
+
+equal_stops : (o : Ordering) → o ≡ Equal → o ≡ Greater → ⊥
+equal_stops o equal greater = cc
+
+-- what one entry more says of a key that is above those before it
+pub record Says (key : Key) (given : List (Key × Rec)) (head : Key × Rec) : Type 0 where
+  pub further : key_cmp key head.0 ≡ Greater → IsAbove key (given ++ head ∷ [])
+  pub here : key_cmp key head.0 ≡ Equal → (Some head.1 ≡ find_in key_cmp key (given ++ head ∷ [])) × IsReached key (given ++ head ∷ [])
+  pub absent : key_cmp key head.0 ≡ Less → (None ≡ find_in key_cmp key (given ++ head ∷ [])) × IsReached key (given ++ head ∷ [])
+
+pub says : (key : Key) (given : List (Key × Rec)) (head : Key × Rec) → IsAbove key given → Says key given head
+says key given head above = record {
+  further = λ greater.
+      All-append (λ (e : Key × Rec). key_cmp key e.0 ≡ Greater) given (head ∷ []) above
+      (All-cons (λ (e : Key × Rec). key_cmp key e.0 ≡ Greater) head [] greater (All-nil (λ (e : Key × Rec). key_cmp key e.0 ≡ Greater)));
+  here = λ equal. (
+    sym (past key given (head ∷ []) above ∙ ap (λ o. cond (is_eq o) (Some head.1) None) equal),
+    record { below = given; last = head; entries_are = refl; above = above; not_above = equal_stops (key_cmp key head.0) equal },
+  );
+  absent = λ less. (
+    sym (past key given (head ∷ []) above ∙ ap (λ o. cond (is_eq o) (Some head.1) None) less),
+    record { below = given; last = head; entries_are = refl; above = above; not_above = less_stops (key_cmp key head.0) less },
+  );
+}

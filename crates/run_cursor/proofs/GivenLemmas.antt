@@ -13,7 +13,7 @@ use Rattle.blsm_model.specs.Sizes.{Sizes}
 use Rattle.blsm_model.specs.Geometry.{page_count}
 use Rattle.record_delta.specs.declared.record.Rec.{Rec}
 use Rattle.record_delta.specs.Records.{weight}
-use Rattle.page_file.specs.Entry.{PageEntry, IsEntry, AreEntries, AreRising, entries_bytes}
+use Rattle.page_file.specs.Entry.{PageEntry, IsPageEntry, AreEntries, AreRising, entries_bytes}
 use Rattle.page_file.specs.Page.{no_page, page_number}
 use Rattle.page_file.specs.Component.{RunPage, entries_of, weight_of, first_of, AreChained, empty_component}
 use Rattle.page_file.specs.Records.{page_entry, page_entries, weights, HasList}
@@ -25,7 +25,7 @@ use Rattle.run_cursor.proofs.CursorLemmas.{length-page_entries, same_first, none
 
 -- ---- lists
 
-last_push : (o : Option (Key × Rec)) (es : List (Key × Rec)) (e : Key × Rec) → last_or o (es ++ e ∷ []) ≡ Some e
+last_push : {X : Type 0} (o : Option X) (es : List X) (e : X) → last_or o (es ++ e ∷ []) ≡ Some e
 last_push o [] e = refl
 last_push o (f ∷ es) e = last_push (Some f) es e
 
@@ -60,9 +60,10 @@ given_start sizes run file none =
         chained = tt;
         end_is = refl;
         none_next = λ last. absurd (omega (arith, last, some));
-        each = All-nil IsEntry;
+        each = All-nil IsPageEntry;
         behind_is = refl;
         entries_are = refl;
+        on_last = λ last is. absurd (cc);
         rise = tt;
         head_is = inl refl;
         pages_is = omega arith;
@@ -77,9 +78,10 @@ given_start sizes run file none =
         chained = tt;
         end_is = sym (ap (λ (r : Component). r.first) (none (omega (arith, bare))));
         none_next = λ last. refl;
-        each = All-nil IsEntry;
+        each = All-nil IsPageEntry;
         behind_is = refl;
         entries_are = refl;
+        on_last = λ last is. absurd (cc);
         rise = tt;
         head_is = inl refl;
         pages_is = omega arith;
@@ -106,9 +108,10 @@ given_step sizes run old new given e file g stepped =
       chained = g.chained;
       end_is = g.end_is ∙ sym stepped.next_is;
       none_next = λ last. g.none_next (sym stepped.pages_is ∙ last);
-      each = All-tail IsEntry (page_entry e) (page_entries first.more) (subst (λ (l : List (Key × Rec)). AreEntries (page_entries l)) first.here_is g.each);
+      each = All-tail IsPageEntry (page_entry e) (page_entries first.more) (subst (λ (l : List (Key × Rec)). AreEntries (page_entries l)) first.here_is g.each);
       behind_is = first.rest_is;
       entries_are = g.entries_are ∙ moved;
+      on_last = λ last is. let few = g.on_last last is in omega (arith, few, ap (length {A = Key × Rec}) first.here_is);
       rise = subst AreRising moved g.rise;
       head_is = inl (stepped.head_is ∙ sym (last_push None given e));
       pages_is = ap (λ n. length g.pages + n) stepped.pages_is ∙ g.pages_is;
@@ -118,6 +121,9 @@ given_step sizes run old new given e file g stepped =
 
 -- ---- the next page
 
+one_some : {X : Type 0} {a b : X} → Some a ≡ Some b → a ≡ b
+one_some same = cc
+
 end_some : (end : Option ℕ) (n count : ℕ) → page_number end ≡ n → n < count → count ≤ no_page → end ≡ Some n
 end_some (Some m) n count is inside few = ap Some is
 end_some None n count is inside few = absurd (omega (arith, is, inside, few))
@@ -126,36 +132,46 @@ not_some : (next : Option ℕ) (n : ℕ) → (IsSome next → 1 < n) → n ≡ 1
 not_some (Some m) n more one = absurd (omega (arith, more refl, one))
 not_some None n more one = refl
 
-pub given_turn : (sizes : Sizes) (run : Component) (old : CursorState) (given : List (Key × Rec)) (next : Option ℕ) (es : List PageEntry) (file : List ℕ) → page_count sizes ≤ no_page
-    → HasGiven sizes run old given file → old.behind ≡ [] → 0 < old.pages → GoesOnAt sizes old next es file → HasGiven sizes run (turned next es old) given file
-given_turn sizes run old given next es file few g none more at =
+-- the cursor went on to the first entry of its next page
+pub given_on : (sizes : Sizes) (run : Component) (old new : CursorState) (given : List (Key × Rec)) (next : Option ℕ) (es : List PageEntry) (e : Key × Rec) (file : List ℕ) → page_count sizes ≤ no_page
+    → HasGiven sizes run old given file → old.behind ≡ [] → 0 < old.pages → GoesOnAt sizes old next es file → IsStepped (turned next es old) new e → HasGiven sizes run new (given ++ e ∷ []) file
+given_on sizes run old new given next es e file few g none more at stepped =
     let found = records_of_entries es at.valid.content.each in
+    let each : AreEntries (page_entries found.0) = subst AreEntries (sym found.1) at.valid.content.each in
+    let first = same_first found.0 e new.behind each stepped.right (ap entries_bytes found.1 ∙ stepped.behind_is) in
     let here : g.here ≡ [] = none_in_none g.here (sym none ∙ g.behind_is) in
     let p : RunPage = record { number = old.next; entries = es } in
     let end : g.end ≡ Some old.next = end_some g.end old.next (page_count sizes) g.end_is at.inside few in
-    let so_far : entries_of g.pages ≡ page_entries given = g.entries_are ∙ ap (λ (l : List (Key × Rec)). page_entries given ++ page_entries l) here ∙ append-nil (page_entries given) in
-    let rises : AreRising (page_entries given) =
-    subst AreRising (ap (λ (l : List (Key × Rec)). page_entries given ++ page_entries l) here ∙ append-nil (page_entries given)) g.rise in
+    let before : page_entries given ++ page_entries g.here ≡ page_entries given = ap (λ (l : List (Key × Rec)). page_entries given ++ page_entries l) here ∙ append-nil (page_entries given) in
+    let so_far : entries_of g.pages ≡ page_entries given = g.entries_are ∙ before in
     let head : old.head ≡ last_or None given = ⊎_elim (λ is. is) (λ last. absurd (omega (arith, last, more))) g.head_is in
-    let whole : AreRising (page_entries given ++ es) = rise_join None given es rises (subst (λ (h : Option (Key × Rec)). AreRising (from_head h es)) head at.goes_on.rise) in
-    let entries : page_entries given ++ es ≡ page_entries given ++ page_entries found.0 = ap (λ (l : List PageEntry). page_entries given ++ l) (sym found.1) in
-    let count = g.pages_is in
+    let whole : AreRising (page_entries given ++ es) = rise_join None given es (subst AreRising before g.rise) (subst (λ (h : Option (Key × Rec)). AreRising (from_head h es)) head at.goes_on.rise) in
+    let moved : page_entries given ++ es ≡ page_entries (given ++ e ∷ []) ++ page_entries first.more =
+    ap (λ (l : List PageEntry). page_entries given ++ l) (sym found.1) ∙ ap (λ (l : List (Key × Rec)). page_entries given ++ page_entries l) first.here_is
+    ∙ entries_push given e (page_entries first.more) in
+    let pages = g.pages_is in
+    let count = g.entries_is in
+    let weighs = g.weight_is in
+    let on_page : length es ≡ 1 + length first.more = ap (length {A = PageEntry}) (sym found.1) ∙ length-page_entries found.0 ∙ ap (length {A = Key × Rec}) first.here_is ∙ omega arith in
     record {
       pages = g.pages ++ p ∷ [];
       end = next;
-      here = found.0;
+      here = first.more;
       first_is = ap page_number (first_join g.pages (p ∷ []) next) ∙ ap (λ (o : Option ℕ). page_number (first_of g.pages o)) (sym end) ∙ g.first_is;
       chained = chain_join sizes g.pages (p ∷ []) next file (subst (λ (o : Option ℕ). AreChained sizes g.pages o file) end g.chained) (at.inside, at.valid, tt);
-      end_is = refl;
-      none_next = λ last. not_some next old.pages at.goes_on.numbers.follows.0 (omega (arith, last, more));
-      each = subst AreEntries (sym found.1) at.valid.content.each;
-      behind_is = ap entries_bytes (sym found.1);
-      entries_are = entries_join g.pages (p ∷ []) ∙ (λ i. so_far i ++ append-nil es i) ∙ entries;
-      rise = subst AreRising entries whole;
-      head_is = inl head;
-      pages_is = omega (arith, count, more, length-append g.pages (p ∷ []));
-      entries_is = g.entries_is;
-      weight_is = g.weight_is;
+      end_is = sym stepped.next_is;
+      none_next = λ last. not_some next old.pages at.goes_on.numbers.follows.0 (omega (arith, last, more, stepped.pages_is));
+      each = All-tail IsPageEntry (page_entry e) (page_entries first.more) (subst (λ (l : List (Key × Rec)). AreEntries (page_entries l)) first.here_is each);
+      behind_is = first.rest_is;
+      entries_are = entries_join g.pages (p ∷ []) ∙ (λ i. so_far i ++ append-nil es i) ∙ moved;
+      on_last = λ last is.
+          let same : p ≡ last = one_some (sym (last_push None g.pages p) ∙ is) in
+          omega (arith, on_page, ap (λ (q : RunPage). length q.entries) same);
+      rise = subst AreRising moved whole;
+      head_is = inl (stepped.head_is ∙ sym (last_push None given e));
+      pages_is = omega (arith, pages, more, stepped.pages_is, length-append g.pages (p ∷ []));
+      entries_is = omega (arith, count, stepped.entries_is, length-append given (e ∷ []));
+      weight_is = omega (arith, weighs, stepped.weight_is, weights_push given e);
     }
 
 -- ---- the end
@@ -196,6 +212,7 @@ given_end sizes run old given file few g none last no_entries no_weight =
         each = g.each;
         behind_is = g.behind_is;
         entries_are = g.entries_are;
+        on_last = g.on_last;
         rise = g.rise;
         head_is = inr last;
         pages_is = g.pages_is;

@@ -8,7 +8,7 @@ use Rattle.blsm_model.specs.Sizes.{Sizes}
 use Rattle.blsm_model.specs.Geometry.{page_count}
 use Rattle.record_delta.specs.declared.record.Rec.{Rec}
 use Rattle.record_delta.specs.Records.{weight}
-use Rattle.page_file.specs.Entry.{PageEntry, IsEntry, entry_bytes, entries_bytes, AreEntries, AreRising}
+use Rattle.page_file.specs.Entry.{PageEntry, IsPageEntry, entry_bytes, entries_bytes, AreEntries, AreRising}
 use Rattle.page_file.specs.Page.{page_number, IsPageOf}
 use Rattle.page_file.specs.File.{page_at}
 use Rattle.page_file.specs.Component.{RunPage, entries_of, weight_of, first_of, AreChained}
@@ -34,8 +34,8 @@ from_head None entries = entries
 from_head (Some head) entries = page_entry head ∷ entries
 
 -- the first of these entries, which has this key
-abbrev pub HasFirst : List PageEntry → Option Key → Type 0
-HasFirst entries key = (first : PageEntry) × (more : List PageEntry) × (entries ≡ first ∷ more) × (key ≡ Some first.key)
+abbrev pub IsFirstKey : List PageEntry → Option Key → Type 0
+IsFirstKey entries key = (first : PageEntry) × (more : List PageEntry) × (entries ≡ first ∷ more) × (key ≡ Some first.key)
 
 -- What each cursor keeps: there are entries behind the head on its page, which rise from the head on, and no more of them than the
 -- component's numbers say; on its last page just as many.
@@ -84,7 +84,7 @@ turned next entries cursor = record cursor { behind = entries_bytes entries; nex
 
 -- the cursor went on to the next entry of its page
 pub record IsStepped (old new : CursorState) (head : Key × Rec) : Type 0 where
-  pub right : IsEntry (page_entry head)
+  pub right : IsPageEntry (page_entry head)
   pub head_is : new.head ≡ Some head
   pub behind_is : old.behind ≡ entry_bytes (page_entry head) ++ new.behind
   pub next_is : new.next ≡ old.next

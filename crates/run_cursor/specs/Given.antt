@@ -1,5 +1,5 @@
 -- What a cursor has given of its component.
-use Rattle.std.specs.Prelude.{◌≡◌, ◌⊎◌, ℕ, ◌+◌, List, [], ◌∷◌, ◌++◌, length, Option, Some, None}
+use Rattle.std.specs.Prelude.{◌≡◌, ◌⊎◌, ℕ, ◌+◌, ◌<◌, List, [], ◌∷◌, ◌++◌, length, Option, Some, None}
 use Rattle.std.specs.List.{last_or}
 use Rattle.blsm_model.specs.declared.component.Component.{Component}
 use Rattle.blsm_model.specs.declared.key.Key.{Key}
@@ -9,7 +9,7 @@ use Rattle.page_file.specs.Entry.{entries_bytes, AreEntries, AreRising}
 use Rattle.page_file.specs.Page.{page_number}
 use Rattle.page_file.specs.Component.{RunPage, entries_of, first_of, AreChained}
 use Rattle.page_file.specs.Records.{page_entries, weights, HasList}
-use Rattle.run_cursor.specs.Cursor.{CursorState, IsDamageAt}
+use Rattle.run_cursor.specs.Cursor.{CursorState}
 
 -- In this file the component begins with these entries, which the cursor has given, and with those behind the cursor's head on its
 -- page: they are those of the pages that were read, from the first on.
@@ -24,6 +24,8 @@ pub record HasGiven (sizes : Sizes) (run : Component) (cursor : CursorState) (gi
   pub each : AreEntries (page_entries here)
   pub behind_is : cursor.behind ≡ entries_bytes (page_entries here)
   pub entries_are : entries_of pages ≡ page_entries given ++ page_entries here
+  -- those behind the head are on the last of these pages, and the head is too
+  pub on_last : (last : RunPage) → last_or None pages ≡ Some last → length here < length last.entries
   pub rise : AreRising (page_entries given ++ page_entries here)
   -- the head is the last of them; once no page is left to read it may be none
   pub head_is : (cursor.head ≡ last_or None given) ⊎ (cursor.pages ≡ 0)
@@ -35,7 +37,3 @@ pub record HasGiven (sizes : Sizes) (run : Component) (cursor : CursorState) (gi
 abbrev pub HasGivenMore : Sizes → Component → CursorState → Option (Key × Rec) → List (Key × Rec) → List ℕ → Type 0
 HasGivenMore sizes run new (Some e) given file = HasGiven sizes run new (given ++ e ∷ []) file
 HasGivenMore sizes run new None given file = HasList sizes run given file × HasGiven sizes run new given file
-
--- Behind the entries of the component's pages before it, the page of this number isn't a valid one, or doesn't go on.
-abbrev pub IsFirstDamage : Sizes → Component → ℕ → List ℕ → Type 0
-IsFirstDamage sizes run n file = (cursor : CursorState) × (given : List (Key × Rec)) × HasGiven sizes run cursor given file × IsDamageAt sizes cursor n file

@@ -7,23 +7,20 @@ ghost use Rattle.blsm_model.specs.Sizes.{Sizes};
 ghost use Rattle.blsm_model.specs.Geometry.{page_count, file_length};
 ghost use Rattle.record_delta.specs.declared.record.Rec.{Rec};
 ghost use Rattle.record_delta.specs.Records.{weight as weight_with};
-ghost use Rattle.page_file.specs.Entry.{PageEntry, IsEntry, entry_bytes, entries_bytes, AreRising};
-ghost use Rattle.page_file.specs.Page.{no_page, page_number, IsPageOf};
+ghost use Rattle.page_file.specs.Entry.{PageEntry, IsPageEntry, entry_bytes, entries_bytes, AreRising};
+ghost use Rattle.page_file.specs.Page.{no_page, IsPageOf};
 ghost use Rattle.page_file.specs.Component.{empty_component};
 ghost use Rattle.page_file.specs.Records.{page_entry, HasList};
 ghost use Rattle.run_cursor.specs.Reads.{OnlyReads};
-ghost use Rattle.run_cursor.specs.Cursor.{started, from_head, HasFirst, HasAhead, IsAdvanced, AreInNumber, PageGoesOn, GoesOnAt, IsMoved, IsStepped, IsDamageAt, Rises, turned};
+ghost use Rattle.run_cursor.specs.Cursor.{started, from_head, IsFirstKey, HasAhead, IsAdvanced, AreInNumber, PageGoesOn, GoesOnAt, IsMoved, IsStepped, IsDamageAt, Rises, turned};
 ghost use Rattle.run_cursor.specs.Given.{HasGiven, HasGivenMore};
 
 use blsm_model::{Component, Geometry, Key};
 use disk_trait::Disk;
 use entry_codec::decode;
-use page_file::{Broken, PAGE_HEAD_LEN, PAGE_LEN, PageHead, read_page};
+use page_file::{Broken, PAGE_HEAD_LEN, PAGE_LEN, PageHead, number_of, read_page};
 use record_delta::Rec;
 use std::marker::Model;
-
-// What stands for no next page.
-const NO_PAGE: u32 = u32::MAX;
 
 /// A place among the entries of a component: at one of them, its head, before the first one, or at the end. It keeps the page
 /// that has the head.
@@ -45,6 +42,7 @@ pub struct Cursor {
 impl Model for Cursor {
     ghost use Rattle.std.specs.Prelude.{◌≤◌};
     ghost use Rattle.std.specs.List.{between};
+    ghost use Rattle.blsm_model.specs.Format.{page_length};
     ghost use Rattle.run_cursor.specs.Cursor.{CursorState, IsCursor};
 
     ghost Value = { CursorState };
@@ -58,7 +56,7 @@ impl Model for Cursor {
       weight = c.weight;
     } };
 
-    ghost invariant = { λ c. (c.at ≤ c.end) × (c.end ≤ 4096) × IsCursor (record {
+    ghost invariant = { λ c. (c.at ≤ c.end) × (c.end ≤ page_length) × IsCursor (record {
       head = c.head;
       behind = between c.at c.end c.page;
       next = c.next;
@@ -110,7 +108,7 @@ impl Cursor {
     fn behind(&self) -> (Key, Rec, usize)
         requires { 0 < length self.now.behind }
         ensures entry { (rest : List ℕ) × (self.now.behind ≡ entry_bytes (page_entry (result.0, result.1)) ++ rest) }
-        ensures right { IsEntry (page_entry (result.0, result.1)) }
+        ensures right { IsPageEntry (page_entry (result.0, result.1)) }
         ensures length { result.2 ≡ weight_with result.0 result.1 }
     {
         match decode(&self.page[self.at..self.end]) {
@@ -273,15 +271,8 @@ impl Cursor {
 
 // The first key of a valid page.
 fn first_key(page: &[u8; PAGE_LEN]) -> Option<Key>
-    ensures { (pages : ℕ) (next : Option ℕ) (entries : List PageEntry) → IsPageOf pages next entries page.now → HasFirst entries result }
+    ensures { (pages : ℕ) (next : Option ℕ) (entries : List PageEntry) → IsPageOf pages next entries page.now → IsFirstKey entries result }
 {
     let (key, _, _) = decode(&page[PAGE_HEAD_LEN..])?;
     Some(key)
-}
-
-// The number that a page has for its next one.
-fn number_of(next: Option<u32>) -> u32
-    ensures { result ≡ page_number next }
-{
-    next.unwrap_or(NO_PAGE)
 }

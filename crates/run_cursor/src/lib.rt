@@ -1,5 +1,4 @@
-//! Sorted runs that are read: a cursor gives a component's entries in order, and a key's record is found among them. Lookups,
-//! merges and scans use it.
+//! Sorted runs that are read: a cursor gives a component's entries in order, and a key's record is found among them.
 #![tactic(auto)]
 
 mod cursor;

@@ -1,5 +1,5 @@
 //! The record of a key among a component's entries.
-ghost use Rattle.std.specs.Prelude.{◌≡◌, ◌≢◌, ◌+◌, ◌≤◌, ℕ, List, Ok, Err, length, IsTrue};
+ghost use Rattle.std.specs.Prelude.{◌≡◌, ◌≢◌, ◌+◌, ◌-◌, ◌≤◌, ℕ, List, Ok, Err, length, IsTrue, IfOk};
 ghost use Rattle.std.specs.FinMap.{find as find_in};
 ghost use Rattle.refusal.specs.Count.{HasRisen};
 ghost use Rattle.blsm_model.specs.declared.key.Key.{Key};
@@ -9,7 +9,7 @@ ghost use Rattle.record_delta.specs.declared.record.Rec.{Rec};
 ghost use Rattle.page_file.specs.Component.{empty_component};
 ghost use Rattle.page_file.specs.Records.{HasList};
 ghost use Rattle.run_cursor.specs.Reads.{OnlyReads};
-ghost use Rattle.run_cursor.specs.Given.{IsFirstDamage};
+ghost use Rattle.run_cursor.specs.Lookup.{IsFound, IsFirstDamage};
 
 use crate::Cursor;
 use blsm_model::{Component, Geometry, Key};
@@ -19,7 +19,7 @@ use record_delta::Rec;
 use std::cmp::Ordering;
 
 /// The record of a key in a component, if it has one. It reads the component's pages from the first up to the one where the key
-/// is or would be, with one call of the disk for each, and takes no memory.
+/// is or would be, with one call of the disk for each, and takes no memory. What the pages behind have it doesn't see.
 ///
 /// `Damaged` names the first of these pages that isn't a valid one or doesn't go on as the component's order and numbers say; it never
 /// comes where the component reads as a list. `Fault` comes only where the disk's count of faults rose.
@@ -32,12 +32,15 @@ pub fn find<D: Disk>(
     requires empty { run.now.pages ≡ 0 → run.now ≡ empty_component }
     requires length { IsTrue (D.state disk.old).tells_bytes → length (D.state disk.old).bytes ≡ file_length geo.now }
 
-    // The answer is the list's.
+    // Where the component reads as a list, the answer is the list's.
     ensures list { (entries : List (Key × Rec)) → IsTrue (D.state disk.old).is_honest → HasList geo.now run.now entries (D.state disk.old).bytes
         → result ≢ Err Broken.Fault → result ≡ Ok (find_in key_cmp key.now entries) }
-    // Damage is shown by the bytes: behind pages that are the component's, the one that is named isn't its next page.
+    // Whatever its pages have, the answer is what the entries say that it begins with, up to the key or to its end; and what is damaged,
+    // the bytes behind them show.
+    ensures told { IfOk result (λ found. IsTrue (D.state disk.old).is_honest
+        → IsFound geo.now run.now key.now found ((D.state disk.new).clock - (D.state disk.old).clock) (D.state disk.old).bytes) }
     ensures damaged { (n : ℕ) → result ≡ Err (Broken.Damaged n) → IsTrue (D.state disk.old).is_honest
-        → IsFirstDamage geo.now run.now n (D.state disk.old).bytes }
+        → IsFirstDamage geo.now run.now key.now n (D.state disk.old).bytes }
 
     // It only reads, one page after another.
     ensures only_reads { OnlyReads (file_length geo.now) (D.state disk.old) (D.state disk.new) }
@@ -46,7 +49,7 @@ pub fn find<D: Disk>(
     ensures failed { result ≡ Err Broken.Fault → HasRisen (D.state disk.old).faults (D.state disk.new).faults }
 {
     let mut cursor = Cursor::start(run);
-    while cursor.left() > 0 {
+    loop {
         cursor.advance(disk, geo)?;
         let Some((found, rec)) = cursor.head() else {
             return Ok(None);
@@ -57,5 +60,4 @@ pub fn find<D: Disk>(
             Ordering::Greater => {}
         }
     }
-    Ok(None)
 }

@@ -368,6 +368,8 @@ fn walk(
 #[test]
 fn damage_names_the_page(rt: HostRuntime) -> Result<(), Fail> {
     let geo = smallest()?;
+    let before_all = Key::from_bytes(b"a").ok_or("no key")?;
+    let behind_all = Key::from_bytes(b"z").ok_or("no key")?;
     for damage in &damages() {
         let mut disk = blank(rt.alloc(), &geo)?;
         write_three(&rt, &mut disk, &geo);
@@ -389,6 +391,18 @@ fn damage_names_the_page(rt: HostRuntime) -> Result<(), Fail> {
             damage.bytes,
             damage.run
         );
+        // A lookup tells of it where its key is behind, and doesn't see it where the key is before.
+        assert!(rt; damage.run.pages > 0);
+        assert_eq!(rt;
+            find(&mut disk, &geo, &damage.run, &behind_all),
+            Err(Broken::Damaged(damage.damaged))
+        );
+        let before = find(&mut disk, &geo, &damage.run, &before_all);
+        if damage.given == 0 {
+            assert_eq!(rt; before, Err(Broken::Damaged(damage.damaged)));
+        } else {
+            assert_eq!(rt; before, Ok(None));
+        }
     }
     Ok(())
 }

@@ -5,10 +5,10 @@ use Rattle.std.proofs.lemmas.Bool.{cases_lt}
 use Rattle.disk_trait.specs.Disk.{DiskState, Torn}
 use Rattle.disk_trait.specs.Moments.{LeavesOnly, IsTimed, leaves_only_start, leaves_only_weaken}
 use Rattle.disk_trait.specs.Parts.{torn_widen}
+use Rattle.blsm_model.specs.Format.{page_length}
 use Rattle.blsm_model.specs.Sizes.{Sizes}
 use Rattle.blsm_model.specs.Geometry.{page_count}
 use Rattle.page_file.specs.Entry.{PageEntry}
-use Rattle.page_file.specs.Page.{page_length}
 use Rattle.page_file.specs.File.{page_start, IsOldOutside}
 use Rattle.page_file.specs.Component.{RunPage, numbers_of}
 use Rattle.page_file.proofs.PageLemmas.{other_page}

@@ -4,7 +4,7 @@ use Rattle.std.specs.Prelude.{replicate, Option}
 use Rattle.std.proofs.lemmas.List.{take_at, take-append-drop, length-take-le, drop-replicate}
 use Rattle.page_file.specs.Entry.{PageEntry}
 use Rattle.page_file.specs.Page.{page_bytes}
-use Rattle.run_writer.specs.Buffer.{BufferState, sealed, HasEntries}
+use Rattle.run_writer.specs.Buffer.{BufferState, sealed, IsBufferOf}
 
 -- what bytes have in front of the place where others are put stays, and those stand behind it
 pub taken_more : (bytes out entry s : List ℕ) (used len : ℕ) → used ≤ length bytes
@@ -32,6 +32,6 @@ zeros_left a b c d n a_long b_long c_long =
     ∙ ap (λ k. replicate k zero) (omega (arith, a_long, b_long, c_long))
 
 -- the page of a buffer that has these entries
-pub sealed-bytes : (next : Option ℕ) (buffer : BufferState) (entries : List PageEntry) → HasEntries buffer entries → sealed next buffer ≡ page_bytes next entries
+pub sealed-bytes : (next : Option ℕ) (buffer : BufferState) (entries : List PageEntry) → IsBufferOf buffer entries → sealed next buffer ≡ page_bytes next entries
 unfolding page_bytes
 sealed-bytes next buffer entries has = λ i. sealed next (record { count = has.count_is i; text = has.spelled i })

@@ -12,29 +12,29 @@ use Rattle.record_delta.specs.declared.record.Rec.{Rec}
 use Rattle.record_delta.specs.Records.{weight}
 use Rattle.entry_codec.specs.Spelling.{spelling, IsEntry as IsSpelled}
 use Rattle.entry_codec.proofs.SpellingLemmas.{length-spelling}
-use Rattle.page_file.specs.Entry.{PageEntry, IsEntry, entry_bytes, entries_bytes}
+use Rattle.page_file.specs.Entry.{PageEntry, IsPageEntry, entry_bytes, entries_bytes}
 use Rattle.page_file.specs.Page.{most_used, page_number}
 use Rattle.page_file.specs.Component.{RunPage, entries_of, entry_weight, weight_of, first_of}
 use Rattle.page_file.specs.Records.{page_entry}
 use Rattle.page_file.proofs.EntryLemmas.{entries_bytes-append}
 use Rattle.page_file.proofs.ComponentLemmas.{first_join, entries_join, weight_join}
 use Rattle.page_file.proofs.RecordLemmas.{same_bytes, is_entry}
-use Rattle.run_writer.specs.Buffer.{BufferState, with_entry, empty_buffer, HasEntries}
+use Rattle.run_writer.specs.Buffer.{BufferState, with_entry, empty_buffer, IsBufferOf}
 use Rattle.run_writer.specs.Run.{Run, empty_run, page_of, pages_of, pushed_here, pushed_on, IsRun}
 use Rattle.run_writer.specs.Writer.{WriterState, started, put_in, turned, Holds}
 
 -- ---- the buffer
 
-has_none : HasEntries empty_buffer []
-has_none = record { each = All-nil IsEntry; count_is = refl; spelled = refl }
+has_none : IsBufferOf empty_buffer []
+has_none = record { each = All-nil IsPageEntry; count_is = refl; spelled = refl }
 
 one_entry : (key : Key) (rec : Rec) → entries_bytes (page_entry (key, rec) ∷ []) ≡ spelling key rec
 one_entry key rec = append-nil (entry_bytes (page_entry (key, rec))) ∙ same_bytes (key, rec)
 
-has_more : (buffer : BufferState) (entries : List PageEntry) (key : Key) (rec : Rec) → HasEntries buffer entries → IsSpelled key rec
-    → HasEntries (with_entry key rec buffer) (entries ++ page_entry (key, rec) ∷ [])
+has_more : (buffer : BufferState) (entries : List PageEntry) (key : Key) (rec : Rec) → IsBufferOf buffer entries → IsSpelled key rec
+    → IsBufferOf (with_entry key rec buffer) (entries ++ page_entry (key, rec) ∷ [])
 has_more buffer entries key rec has entry = record {
-  each = All-append IsEntry entries (page_entry (key, rec) ∷ []) has.each (All-cons IsEntry (page_entry (key, rec)) [] (is_entry key rec entry) (All-nil IsEntry));
+  each = All-append IsPageEntry entries (page_entry (key, rec) ∷ []) has.each (All-cons IsPageEntry (page_entry (key, rec)) [] (is_entry key rec entry) (All-nil IsPageEntry));
   count_is = omega (arith, has.count_is, length-append entries (page_entry (key, rec) ∷ []));
   spelled =
       ap (λ (l : List ℕ). l ++ spelling key rec) has.spelled ∙ ap (λ (l : List ℕ). entries_bytes entries ++ l) (sym (one_entry key rec))

@@ -4,6 +4,7 @@ use Rattle.std.specs.List.{AllByRecursion, IsDistinct}
 use Rattle.std.specs.Prelude.{nat_eq, nat_lt, nat_le, IsTrue, IfSome, IsSome}
 use Rattle.std.proofs.lemmas.Bool.{cases_lt, false≢true, ltb-true, leb-true, lt-ltb, le-leb, eq-eqb}
 use Rattle.disk_trait.specs.Disk.{Torn}
+use Rattle.blsm_model.specs.Format.{least_full, page_length}
 use Rattle.blsm_model.specs.declared.key.Key.{Key}
 use Rattle.blsm_model.specs.Sizes.{Sizes}
 use Rattle.blsm_model.specs.Geometry.{page_count}
@@ -13,14 +14,14 @@ use Rattle.entry_codec.specs.Spelling.{spelling}
 use Rattle.entry_codec.proofs.SpellingLemmas.{length-spelling}
 use Rattle.page_space.specs.Space.{SpaceState, HasRole, IsLeastFree}
 use Rattle.page_file.specs.Entry.{PageEntry, entries_bytes, AreRising}
-use Rattle.page_file.specs.Page.{page_length, most_used, page_bytes, IsContent, IsPageOf}
+use Rattle.page_file.specs.Page.{most_used, page_bytes, IsContent, IsPageOf}
 use Rattle.page_file.specs.File.{page_start, page_at}
 use Rattle.page_file.specs.Component.{RunPage, numbers_of, entries_of, first_of, AreChained, ReadsAs}
 use Rattle.page_file.proofs.PageLemmas.{other_page}
 use Rattle.page_file.proofs.ComponentLemmas.{chain_join, entries_join, rise_back}
 use Rattle.run_writer.specs.Buffer.{BufferState, with_entry, sealed}
 use Rattle.run_writer.specs.Run.{Run, page_of, pages_of, IsRun}
-use Rattle.run_writer.specs.Writer.{WriterState, has_place, turned, IsInside, IsCounted, Holds, Stands, Claims}
+use Rattle.run_writer.specs.Writer.{WriterState, has_place, IsInside, IsCounted, Holds, Stands, Claims}
 use Rattle.run_writer.proofs.BufferLemmas.{sealed-bytes}
 use Rattle.run_writer.proofs.RunLemmas.{of_page}
 
@@ -62,9 +63,6 @@ no_place writer n none some =
       | inr le ↦ absurd (false≢true (sym none ∙ λ i. lt-ltb 0 writer.component.pages some i && le-leb (length writer.buffer.text + n) most_used le i))
     ]
 
-pub place_in_new : (writer : WriterState) (page n : ℕ) → n ≤ most_used → IsTrue (has_place (turned page writer) n)
-place_in_new writer page n light = λ i. lt-ltb 0 (writer.component.pages + 1) (omega arith) i && le-leb (0 + n) most_used (omega (arith, light)) i
-
 pub counted_put : (writer : WriterState) (buffer : BufferState) (n : ℕ) (key : Key) (rec : Rec) → IsCounted writer → IsTrue (has_place writer (weight key rec))
     → buffer ≡ with_entry key rec writer.buffer → n ≡ weight key rec → IsCounted (record writer {
       component = record writer.component { entries = writer.component.entries + 1; weight = writer.component.weight + n };
@@ -105,7 +103,7 @@ pub record IsWritten (sizes : Sizes) (writer : WriterState) (next : Option ℕ) 
   pub inside : IsInside (page_count sizes) writer
   pub reads : 0 < writer.component.pages → page_at sizes writer.number new ≡ sealed next writer.buffer
   pub below : IfSome next (λ n. n < page_count sizes)
-  pub full : 0 < writer.component.pages → IsSome next → 3577 ≤ length writer.buffer.text
+  pub full : 0 < writer.component.pages → IsSome next → least_full ≤ length writer.buffer.text
 
 pub chained : (sizes : Sizes) (writer : WriterState) (next : Option ℕ) (old new : List ℕ) (closed : List RunPage) (number : ℕ) (es : List PageEntry) → IsWritten sizes writer next old new
     → Holds writer (record { closed = closed; number = number; entries = es }) → IsRun (record { closed = closed; number = number; entries = es })

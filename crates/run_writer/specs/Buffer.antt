@@ -3,7 +3,7 @@ use Rattle.std.specs.Prelude.{◌≡◌, ℕ, ◌+◌, ◌-◌, ◌*◌, ◌≤�
 use Rattle.blsm_model.specs.declared.key.Key.{Key}
 use Rattle.record_delta.specs.declared.record.Rec.{Rec}
 use Rattle.entry_codec.specs.Spelling.{spelling}
-use Rattle.page_file.specs.Entry.{PageEntry, entries_bytes, AreEntries}
+use Rattle.page_file.specs.Entry.{PageEntry, least_entry, entries_bytes, AreEntries}
 use Rattle.page_file.specs.Page.{most_used, page_head}
 
 -- How many entries there are, and their bytes, one behind the other.
@@ -22,13 +22,13 @@ with_entry key rec buffer = record { count = buffer.count + 1; text = buffer.tex
 abbrev pub sealed : Option ℕ → BufferState → List ℕ
 sealed next buffer = page_head buffer.count (length buffer.text) next ++ buffer.text ++ replicate (most_used - length buffer.text) 0
 
--- the bytes are so few that they fit a page, and each entry has 14 of them at least
+-- the bytes are so few that they fit a page, and each entry has its least number of them
 pub record IsSmall (count used : ℕ) : Type 0 where
   pub fits : used ≤ most_used
-  pub few : 14 * count ≤ used
+  pub few : least_entry * count ≤ used
 
 -- the buffer has these entries
-pub record HasEntries (buffer : BufferState) (entries : List PageEntry) : Type 0 where
+pub record IsBufferOf (buffer : BufferState) (entries : List PageEntry) : Type 0 where
   pub each : AreEntries entries
   pub count_is : buffer.count ≡ length entries
   pub spelled : buffer.text ≡ entries_bytes entries

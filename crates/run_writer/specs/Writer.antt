@@ -6,11 +6,11 @@ use Rattle.blsm_model.specs.Sizes.{Sizes}
 use Rattle.record_delta.specs.declared.record.Rec.{Rec}
 use Rattle.record_delta.specs.Records.{weight}
 use Rattle.page_space.specs.PageSet.{with_page}
-use Rattle.page_space.specs.Space.{SpaceState, pages_of as pages_with, KeepsOtherRoles, HasRole, IsFree, IsSpace, role_size}
+use Rattle.page_space.specs.Space.{SpaceState, pages_with, KeepsOtherRoles, HasRole, IsFree, IsSpace, role_size}
 use Rattle.page_file.specs.Page.{no_page, most_used, page_number}
 use Rattle.page_file.specs.Component.{first_of, entries_of, weight_of, AreChained, empty_component}
 use Rattle.page_file.specs.Records.{page_entries}
-use Rattle.run_writer.specs.Buffer.{BufferState, empty_buffer, with_entry, HasEntries}
+use Rattle.run_writer.specs.Buffer.{BufferState, empty_buffer, with_entry, IsBufferOf}
 use Rattle.run_writer.specs.Run.{Run, pages_of, IsRun, AreTagged}
 
 -- The role of the run's pages, the component that the run is so far, the number of the open page, and its buffer.
@@ -56,7 +56,7 @@ pub record IsCounted (writer : WriterState) : Type 0 where
 
 -- The writer holds this run: the open page's entries are in its buffer, and the component has the run's numbers.
 pub record Holds (writer : WriterState) (run : Run) : Type 0 where
-  pub buffer : HasEntries writer.buffer run.entries
+  pub buffer : IsBufferOf writer.buffer run.entries
   pub fits : length writer.buffer.text ≤ most_used
   -- there is no closed page without an open one, and that has an entry at least
   pub some : run.entries ≡ [] → run.closed ≡ []

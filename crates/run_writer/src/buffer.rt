@@ -1,21 +1,18 @@
 //! The page that takes entries.
-ghost use Rattle.std.specs.Prelude.{◌≡◌, ◌+◌, ◌-◌, ◌*◌, ◌≤◌, ◌++◌, List, ℕ, length, drop, take, replicate};
+ghost use Rattle.std.specs.Prelude.{◌≡◌, ◌+◌, ◌≤◌, ◌++◌, List, ℕ, length, drop};
 ghost use Rattle.record_delta.specs.Records.{weight};
-ghost use Rattle.entry_codec.specs.Spelling.{spelling, IsEntry};
-ghost use Rattle.page_file.specs.Page.{most_used, page_number};
+ghost use Rattle.entry_codec.specs.Spelling.{IsEntry};
+ghost use Rattle.page_file.specs.Page.{most_used};
 ghost use Rattle.run_writer.specs.Buffer.{empty_buffer, with_entry, sealed};
 
 use blsm_model::{Key, Op};
 use entry_codec::encode;
-use page_file::{PAGE_HEAD_LEN, PAGE_LEN};
+use page_file::{PAGE_HEAD_LEN, PAGE_LEN, number_of};
 use record_delta::Rec;
 use std::marker::Model;
 
 // How many bytes of entries a page has room for.
 const ROOM: usize = PAGE_LEN - PAGE_HEAD_LEN;
-
-// What stands for no next page.
-const NO_PAGE: u32 = u32::MAX;
 
 /// The entries of a page that isn't closed yet, at most 4,088 bytes of them. Contracts see their count and their bytes.
 #[derive(Debug, Drop)]
@@ -43,16 +40,6 @@ fn put(out: &mut [u8], at: usize, bytes: &[u8])
         → out.new ≡ (front ++ bytes.now) ++ drop (length bytes.now) behind }
 {
     out[at..at + bytes.len()].copy_from_slice(bytes);
-}
-
-// The number that names this next page.
-fn number_of(next: Option<u32>) -> u32
-    ensures { result ≡ page_number next }
-{
-    match next {
-        Some(number) => number,
-        None => NO_PAGE,
-    }
 }
 
 impl PageBuffer {

@@ -2,15 +2,15 @@
 ghost use Rattle.std.specs.Prelude.{◌≡◌, ◌+◌, ◌<◌, ◌∷◌, ◌++◌, [], ℕ, Bool, List, length};
 ghost use Rattle.std.specs.List.{Contains};
 ghost use Rattle.disk_trait.specs.Disk.{Torn};
+ghost use Rattle.blsm_model.specs.Format.{page_length};
 ghost use Rattle.blsm_model.specs.declared.key.Key.{Key};
 ghost use Rattle.blsm_model.specs.Sizes.{Sizes};
 ghost use Rattle.blsm_model.specs.Geometry.{page_count};
 ghost use Rattle.record_delta.specs.declared.record.Rec.{Rec};
 ghost use Rattle.page_space.specs.Space.{SpaceState, IsFree, HasFree, IsSpace, role_count};
 ghost use Rattle.page_file.specs.Entry.{AreRising};
-ghost use Rattle.page_file.specs.Page.{page_length};
 ghost use Rattle.page_file.specs.File.{page_start};
-ghost use Rattle.page_file.specs.Component.{numbers_of, entries_of};
+ghost use Rattle.page_file.specs.Component.{entries_of};
 ghost use Rattle.page_file.specs.Records.{page_entry};
 ghost use Rattle.run_writer.specs.Run.{Run, pages_of, pushed_here, pushed_on, IsRun, AreTagged};
 ghost use Rattle.run_writer.specs.Writer.{WriterState, Holds, Claims, HasPushed};

@@ -1,5 +1,5 @@
 // Runs of the smallest store, over disks in memory, read back page by page.
-ghost use Rattle.std.specs.Prelude.{◌≡◌, ◌<◌, ◌≤◌, length, IfOk, IsTrue};
+ghost use Rattle.std.specs.Prelude.{◌≡◌, ◌<◌, length, IfOk, IsTrue};
 ghost use Rattle.blsm_model.specs.Geometry.{page_count, file_length};
 ghost use Rattle.disk_mem.specs.Recorded.{told};
 ghost use Rattle.page_file.specs.Entry.{AreRising};

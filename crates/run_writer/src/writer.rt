@@ -3,6 +3,7 @@ ghost use Rattle.std.specs.Prelude.{◌≡◌, ◌+◌, ◌-◌, ◌^◌, ◌<�
 ghost use Rattle.refusal.specs.Count.{HasRisen};
 ghost use Rattle.disk_trait.specs.Disk.{GoesOn, MarksSync, WritesWithin, IsSure};
 ghost use Rattle.disk_trait.specs.Moments.{LeavesOnly};
+ghost use Rattle.blsm_model.specs.Format.{page_length};
 ghost use Rattle.blsm_model.specs.Sizes.{Sizes};
 ghost use Rattle.blsm_model.specs.Geometry.{page_count, file_length};
 ghost use Rattle.blsm_model.specs.declared.key.Key.{Key};
@@ -11,7 +12,7 @@ ghost use Rattle.record_delta.specs.Records.{weight};
 ghost use Rattle.entry_codec.specs.Spelling.{IsEntry};
 ghost use Rattle.page_space.specs.Space.{SpaceState, HasFree, IsLeastFree};
 ghost use Rattle.page_file.specs.Entry.{AreRising};
-ghost use Rattle.page_file.specs.Page.{page_length, most_used};
+ghost use Rattle.page_file.specs.Page.{most_used};
 ghost use Rattle.page_file.specs.File.{page_start, page_at, IsOldOutside};
 ghost use Rattle.page_file.specs.Component.{numbers_of, ReadsAs};
 ghost use Rattle.page_file.specs.Records.{page_entries, HasList};

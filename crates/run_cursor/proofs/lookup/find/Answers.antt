@@ -1,14 +1,19 @@
-use Rattle.std.proofs.Common.{◌≡◌, ◌∙◌, ◌∷◌, ◌++◌, ℕ, List, [], Option, Result, Ok, Err, IsTrue, refl, ap, sym, subst, arith}
+use Rattle.std.proofs.Common.{◌≡◌, ◌∙◌, ◌∷◌, ◌++◌, ℕ, List, [], Option, Some, None, Result, Ok, Err, IsTrue, inl, inr, refl, ap, sym, subst, arith}
+use Rattle.std.specs.declared.cmp.Ordering.TheVariants.{Greater}
+use Rattle.std.proofs.lemmas.List.Elements.{All-nil}
 use Rattle.std.proofs.lemmas.Result.{err_from_is_err_and}
 use Rattle.blsm_model.specs.declared.key.Key.{Key}
+use Rattle.blsm_model.specs.Keys.{key_cmp}
 use Rattle.blsm_model.specs.Geometry.{file_length}
 use Rattle.record_delta.specs.declared.record.Rec.{Rec}
 use Rattle.page_file.specs.declared.file.Broken.{Broken}
 use Rattle.page_file.specs.declared.file.Broken.TheVariants.{Fault, Damaged}
+use Rattle.page_file.specs.Records.{HasList}
 use Rattle.run_cursor.specs.Reads.{only_reads_start, only_reads_run}
 use Rattle.run_cursor.specs.Cursor.{CursorState, HasAhead, IsDamageAt}
-use Rattle.run_cursor.specs.Given.{HasGiven, HasGivenMore, IsFirstDamage}
-use Rattle.run_cursor.proofs.FindLemmas.{came_to, none_in_no_entries}
+use Rattle.run_cursor.specs.Given.{HasGiven, HasGivenMore}
+use Rattle.run_cursor.specs.Lookup.{IsFirstDamage}
+use Rattle.run_cursor.proofs.FindLemmas.{came_to, none_ahead, none_above, says}
 use Rattle.run_cursor.proofs.lookup.find.Goals as goal
 
 fault_is : (a : Result (Unit {0}) Broken) (broken : Broken) → a ≡ Err broken → a ≡ Err Fault → broken ≡ Fault
@@ -16,6 +21,10 @@ fault_is a broken was is = cc
 
 not_both : (a : Result (Unit {0}) Broken) (broken : Broken) → a ≡ Err broken → a ≡ Ok tt → ⊥
 not_both a broken was is = cc
+
+no_head : (head : Option (Key × Rec)) → ((e : Key × Rec) → head ≡ Some e → ⊥) → head ≡ None
+no_head None none = refl
+no_head (Some e) none = absurd (none e refl)
 
 same_error : (a b : Broken) → ◌≡◌ {A = Result (Option Rec) Broken} (Err a) (Err b) → a ≡ b
 same_error a b same = cc
@@ -74,13 +83,85 @@ loop-cursor-preserved g c =
             was.0 ++ head ∷ [],
             subst (λ (h : Option (Key × Rec)). HasGivenMore c.args.geo.now c.args.run.now c.advance.new.self h was.0 file) (sym c.head.ensures ∙ c.in-Some.is)
                 (c.in_ok-advance.ensures.given c.args.run.now was.0 (g.met.D.Disk.honest_tells c.loop-cursor.disk still) here),
+            (says c.args.key.now was.0 head was.2).further (sym c.cmp.ensures ∙ c.in-Greater.is),
           );
     }
 
-pub returns-clause-list : goal.returns-clause-list
-returns-clause-list g c = λ entries honest has other.
-    let was = c.loop-cursor.invariant.ahead entries honest has in
-    ap Ok (sym (was.2 ∙ none_in_no_entries c.args.key.now was.0 (omega (arith, was.1.entries_is, c.left.ensures, c.loop-cursor-test.false))))
+pub returns-in_default-clause-list : goal.returns-in_default-clause-list
+returns-in_default-clause-list g c = λ entries honest has other.
+    let inv = c.loop-cursor.invariant in
+    let was = inv.ahead entries honest has in
+    let still = subst IsTrue (sym inv.only_reads.goes_on.is_honest) honest in
+    let here = subst (λ (b : List _). HasAhead c.args.geo.now c.loop-cursor.cursor was.0 b) (sym (c.advance.ensures.only_reads.same.same.bytes still)) was.1 in
+    let advanced = c.advance.ensures.list was.0 (g.met.D.Disk.honest_tells c.loop-cursor.disk still) here (λ fault. not_both c.advance.result Fault fault c.in_ok-advance.was) in
+    ap Ok (sym (was.2 ∙ none_ahead c.args.geo.now c.advance.new.self was.0 c.args.key.now _ advanced.1 (sym c.head.ensures ∙ no_head c.head.result c.in_default.not-Some)))
+
+pub returns-in_default-clause-told : goal.returns-in_default-clause-told
+returns-in_default-clause-told g c = λ honest.
+    let inv = c.loop-cursor.invariant in
+    let was = inv.given honest in
+    let still = subst IsTrue (sym inv.only_reads.goes_on.is_honest) honest in
+    let same = c.advance.ensures.only_reads.same.same.bytes still in
+    let file = (g.D.Disk.state c.advance.new.disk).bytes in
+    let here = subst (λ (b : List ℕ). HasGiven c.args.geo.now c.args.run.now c.loop-cursor.cursor was.0 b) (sym same) was.1 in
+    let more = subst (λ (h : Option (Key × Rec)). HasGivenMore c.args.geo.now c.args.run.now c.advance.new.self h was.0 file) (sym c.head.ensures ∙ no_head c.head.result c.in_default.not-Some)
+    (c.in_ok-advance.ensures.given c.args.run.now was.0 (g.met.D.Disk.honest_tells c.loop-cursor.disk still) here) in
+    let back = same ∙ inv.only_reads.same.same.bytes honest in
+    let few = more.1.pages_is in
+    record {
+      cursor = c.advance.new.self;
+      given = was.0;
+      begins = subst (λ (b : List ℕ). HasGiven c.args.geo.now c.args.run.now c.advance.new.self was.0 b) back more.1;
+      found_is = sym (none_above c.args.key.now was.0 was.2);
+      enough = inr (subst (λ (b : List ℕ). HasList c.args.geo.now c.args.run.now was.0 b) back more.0, was.2);
+      calls_are = omega (arith, few, inv.one_a_page, c.in_ok-advance.ensures.one_a_page);
+    }
+
+pub returns-in-Less-clause-told : goal.returns-in-Less-clause-told
+returns-in-Less-clause-told g c = λ honest.
+    let inv = c.loop-cursor.invariant in
+    let was = inv.given honest in
+    let still = subst IsTrue (sym inv.only_reads.goes_on.is_honest) honest in
+    let same = c.advance.ensures.only_reads.same.same.bytes still in
+    let file = (g.D.Disk.state c.advance.new.disk).bytes in
+    let here = subst (λ (b : List ℕ). HasGiven c.args.geo.now c.args.run.now c.loop-cursor.cursor was.0 b) (sym same) was.1 in
+    let head : Key × Rec = (c.in-Some.found, c.in-Some.rec) in
+    let more : HasGiven c.args.geo.now c.args.run.now c.advance.new.self (was.0 ++ head ∷ []) file =
+    subst (λ (h : Option (Key × Rec)). HasGivenMore c.args.geo.now c.args.run.now c.advance.new.self h was.0 file) (sym c.head.ensures ∙ c.in-Some.is)
+    (c.in_ok-advance.ensures.given c.args.run.now was.0 (g.met.D.Disk.honest_tells c.loop-cursor.disk still) here) in
+    let says = (says c.args.key.now was.0 head was.2).absent (sym c.cmp.ensures ∙ c.in-Less.is) in
+    let few = more.pages_is in
+    record {
+      cursor = c.advance.new.self;
+      given = was.0 ++ head ∷ [];
+      begins = subst (λ (b : List ℕ). HasGiven c.args.geo.now c.args.run.now c.advance.new.self (was.0 ++ head ∷ []) b) (same ∙ inv.only_reads.same.same.bytes honest) more;
+      found_is = says.0;
+      enough = inl says.1;
+      calls_are = omega (arith, few, inv.one_a_page, c.in_ok-advance.ensures.one_a_page);
+    }
+
+pub returns-in-Equal-clause-told : goal.returns-in-Equal-clause-told
+returns-in-Equal-clause-told g c = λ honest.
+    let inv = c.loop-cursor.invariant in
+    let was = inv.given honest in
+    let still = subst IsTrue (sym inv.only_reads.goes_on.is_honest) honest in
+    let same = c.advance.ensures.only_reads.same.same.bytes still in
+    let file = (g.D.Disk.state c.advance.new.disk).bytes in
+    let here = subst (λ (b : List ℕ). HasGiven c.args.geo.now c.args.run.now c.loop-cursor.cursor was.0 b) (sym same) was.1 in
+    let head : Key × Rec = (c.in-Some.found, c.in-Some.rec) in
+    let more : HasGiven c.args.geo.now c.args.run.now c.advance.new.self (was.0 ++ head ∷ []) file =
+    subst (λ (h : Option (Key × Rec)). HasGivenMore c.args.geo.now c.args.run.now c.advance.new.self h was.0 file) (sym c.head.ensures ∙ c.in-Some.is)
+    (c.in_ok-advance.ensures.given c.args.run.now was.0 (g.met.D.Disk.honest_tells c.loop-cursor.disk still) here) in
+    let says = (says c.args.key.now was.0 head was.2).here (sym c.cmp.ensures ∙ c.in-Equal.is) in
+    let few = more.pages_is in
+    record {
+      cursor = c.advance.new.self;
+      given = was.0 ++ head ∷ [];
+      begins = subst (λ (b : List ℕ). HasGiven c.args.geo.now c.args.run.now c.advance.new.self (was.0 ++ head ∷ []) b) (same ∙ inv.only_reads.same.same.bytes honest) more;
+      found_is = says.0;
+      enough = inl says.1;
+      calls_are = omega (arith, few, inv.one_a_page, c.in_ok-advance.ensures.one_a_page);
+    }
 
 pub returns-in_err-advance-clause-damaged : goal.returns-in_err-advance-clause-damaged
 returns-in_err-advance-clause-damaged g c = λ n is honest.
@@ -91,8 +172,8 @@ returns-in_err-advance-clause-damaged g c = λ n is honest.
     let p = err_from_is_err_and c.from_residual.result c.from_residual.ensures.1 in
     let broken = same_error p.0 (Damaged n) (sym p.1 ∙ is) in
     let told = c.advance.ensures.damaged n (c.in_err-advance.was ∙ ap Err (sym p.2 ∙ broken)) (g.met.D.Disk.honest_tells c.loop-cursor.disk still) in
-    subst (IsFirstDamage c.args.geo.now c.args.run.now n) (inv.only_reads.same.same.bytes honest)
-    (c.loop-cursor.cursor, was.0, was.1, subst (λ (b : List ℕ). IsDamageAt c.args.geo.now c.loop-cursor.cursor n b) same told)
+    subst (IsFirstDamage c.args.geo.now c.args.run.now c.args.key.now n) (inv.only_reads.same.same.bytes honest)
+    (record { cursor = c.loop-cursor.cursor; given = was.0; begins = was.1; above = was.2; damage = subst (λ (b : List ℕ). IsDamageAt c.args.geo.now c.loop-cursor.cursor n b) same told })
 
 pub loop-cursor-init : goal.loop-cursor-init
 loop-cursor-init g c = record {
@@ -100,5 +181,5 @@ loop-cursor-init g c = record {
   one_a_page = omega (arith, ap (λ (s : CursorState). s.pages) c.start-cursor.ensures.start);
   stands = refl;
   ahead = λ entries honest has. (entries, c.start-cursor.ensures.list c.args.geo.now entries (g.D.Disk.state c.args.disk.now).bytes has, refl);
-  given = λ honest. ([], c.start-cursor.ensures.given c.args.geo.now (g.D.Disk.state c.args.disk.now).bytes);
+  given = λ honest. ([], c.start-cursor.ensures.given c.args.geo.now (g.D.Disk.state c.args.disk.now).bytes, All-nil (λ (e : Key × Rec). key_cmp c.args.key.now e.0 ≡ Greater));
 }

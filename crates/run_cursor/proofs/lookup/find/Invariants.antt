@@ -8,6 +8,7 @@ use Rattle.page_file.specs.Records.{HasList}
 use Rattle.run_cursor.specs.Reads.{OnlyReads}
 use Rattle.run_cursor.specs.Cursor.{HasAhead}
 use Rattle.run_cursor.specs.Given.{HasGiven}
+use Rattle.run_cursor.specs.Lookup.{IsAbove}
 use Rattle.run_cursor.proofs.lookup.find.Given as goal
 
 -- the key's record is the one that it has among the entries ahead
@@ -18,7 +19,7 @@ invariant-loop-cursor g l = record {
   stands : (g.D.Disk.state l.disk).faults ≡ (g.D.Disk.state l.fn.disk).faults;
   ahead : (entries : List (Key × Rec)) → IsTrue (g.D.Disk.state l.fn.disk).is_honest → HasList l.geo l.run entries (g.D.Disk.state l.fn.disk).bytes
       → (rest : List (Key × Rec)) × HasAhead l.geo l.cursor rest (g.D.Disk.state l.disk).bytes × (find_in key_cmp l.key entries ≡ find_in key_cmp l.key rest);
-  given : IsTrue (g.D.Disk.state l.fn.disk).is_honest → (entries : List (Key × Rec)) × HasGiven l.geo l.run l.cursor entries (g.D.Disk.state l.disk).bytes;
+  given : IsTrue (g.D.Disk.state l.fn.disk).is_honest → (entries : List (Key × Rec)) × HasGiven l.geo l.run l.cursor entries (g.D.Disk.state l.disk).bytes × IsAbove l.key entries;
 }
 
 abbrev pub decreases-loop-cursor : goal.decreases-loop-cursor

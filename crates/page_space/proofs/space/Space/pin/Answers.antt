@@ -1,7 +1,7 @@
 use Rattle.std.proofs.Common.{◌≡◌, ◌∙◌, ◌<◌, ℕ, false, [], slice_set, get_or, ap, sym, length, refl, arith}
 use Rattle.std.proofs.lemmas.List.{get_or_read, get_or-set_same, get_or-set_other}
 use Rattle.page_space.specs.PageSet.{Members, union}
-use Rattle.page_space.specs.Space.{SpaceState, IsSpace, pages_of, role_count}
+use Rattle.page_space.specs.Space.{SpaceState, IsSpace, pages_with, role_count}
 use Rattle.page_space.proofs.SpaceLemmas.{shape_with_pins, length_of_three}
 use Rattle.page_space.proofs.FreeLemmas.{freed_of_seat, pinned_just}
 use Rattle.page_space.proofs.SizeLemmas.{size-union_le}
@@ -31,12 +31,12 @@ pub returns-clause-shape : goal.returns-clause-shape
 returns-clause-shape c = shape_after (goal.at.returns-clause-shape c).After-set_to_union
 
 -- the set that was read at a role's number is the role's
-role_read : (space now : SpaceState) (role number : ℕ) (set : Members) → IsSpace space → space ≡ now → number ≡ role → number < role_count → set ≡ get_or space.roles number set → set ≡ pages_of now role
+role_read : (space now : SpaceState) (role number : ℕ) (set : Members) → IsSpace space → space ≡ now → number ≡ role → number < role_count → set ≡ get_or space.roles number set → set ≡ pages_with now role
 role_read space now role number set shape is same in_range read =
-    get_or_read space.roles number set (omega (arith, shape.roles)) read [] ∙ ap (pages_of space) same ∙ ap (λ (s : SpaceState). pages_of s role) is
+    get_or_read space.roles number set (omega (arith, shape.roles)) read [] ∙ ap (pages_with space) same ∙ ap (λ (s : SpaceState). pages_with s role) is
 
 pins_are : (c : After-set_to_union) → get_or (slice_set c.self.inside.pins.items c.args.seat c.set_to_union.new.self) c.args.seat []
-    ≡ union (pages_of c.args.self.now c.args.c1) (union (pages_of c.args.self.now c.args.c1x) (pages_of c.args.self.now c.args.c2))
+    ≡ union (pages_with c.args.self.now c.args.c1) (union (pages_with c.args.self.now c.args.c1x) (pages_with c.args.self.now c.args.c2))
 pins_are c =
     let inside = c.self.inside in
     let old : SpaceState = record { pages = inside.pages; roles = inside.roles.items; pins = inside.pins.items } in
@@ -48,13 +48,13 @@ pins_are c =
     get_or-set_same inside.pins.items c.args.seat c.set_to_union.new.self [] (omega (arith, shape.pins, c.requires))
     ∙ c.set_to_union.ensures
     ∙ ap (λ (s : Members). union s (union c.index-2.result.now c.index-3.result.now)) is_a
-    ∙ ap (λ (s : Members). union (pages_of now c.args.c1) (union s c.index-3.result.now)) is_b
-    ∙ ap (λ (s : Members). union (pages_of now c.args.c1) (union (pages_of now c.args.c1x) s)) is_c
+    ∙ ap (λ (s : Members). union (pages_with now c.args.c1) (union s c.index-3.result.now)) is_b
+    ∙ ap (λ (s : Members). union (pages_with now c.args.c1) (union (pages_with now c.args.c1x) s)) is_c
 
 pub returns-clause-pinned : goal.returns-clause-pinned
 returns-clause-pinned c = λ page.
     let now = c.args.self.now in
-    let just = pinned_just (pages_of now c.args.c1) (pages_of now c.args.c1x) (pages_of now c.args.c2) page in
+    let just = pinned_just (pages_with now c.args.c1) (pages_with now c.args.c1x) (pages_with now c.args.c2) page in
     let is = ap (λ (s : Members). get_or s page false) (pins_are (goal.at.returns-clause-pinned c).After-set_to_union) in
     (λ pinned. just.0 (sym is ∙ pinned), λ has. is ∙ just.1 has)
 
@@ -69,4 +69,4 @@ pub returns-clause-size : goal.returns-clause-size
 returns-clause-size c =
     let now = c.args.self.now in
     rw (pins_are (goal.at.returns-clause-size c).After-set_to_union)
-    (omega (arith, size-union_le (pages_of now c.args.c1) (union (pages_of now c.args.c1x) (pages_of now c.args.c2)), size-union_le (pages_of now c.args.c1x) (pages_of now c.args.c2)))
+    (omega (arith, size-union_le (pages_with now c.args.c1) (union (pages_with now c.args.c1x) (pages_with now c.args.c2)), size-union_le (pages_with now c.args.c1x) (pages_with now c.args.c2)))

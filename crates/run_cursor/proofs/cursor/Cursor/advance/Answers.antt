@@ -2,12 +2,12 @@ use Rattle.std.proofs.Common.{◌≡◌, ◌<◌, ◌≤◌, ◌∙◌, [], Err,
 use Rattle.std.proofs.lemmas.Result.{err_from_is_err_and}
 use Rattle.blsm_model.specs.Geometry.{page_count}
 use Rattle.page_file.specs.Page.{no_page}
-use Rattle.run_cursor.specs.Cursor.{CursorState, HasAhead}
+use Rattle.run_cursor.specs.Cursor.{CursorState, IsStepped, HasAhead}
 use Rattle.std.specs.Prelude.{Option}
 use Rattle.blsm_model.specs.declared.key.Key.{Key}
 use Rattle.record_delta.specs.declared.record.Rec.{Rec}
 use Rattle.run_cursor.specs.Given.{HasGiven, HasGivenMore}
-use Rattle.run_cursor.proofs.GivenLemmas.{given_step, given_turn, given_end}
+use Rattle.run_cursor.proofs.GivenLemmas.{given_step, given_on, given_end}
 use Rattle.run_cursor.proofs.CursorLemmas.{seen, stepped_ahead, ended_ahead, ended, through, turned_ahead, not_broken}
 use Rattle.run_cursor.proofs.cursor.Cursor.advance.Goals as goal
 
@@ -77,6 +77,6 @@ returns-clause-given g c = λ run given tells has.
     let more : 0 < c.args.self.now.pages = subst (λ (s : CursorState). 0 < s.pages) c.self.view_is (omega (arith, c.if-self-eq0.false)) in
     let t = c.in_ok-turn.ensures.turned in
     let s = c.step-2.ensures.stepped in
-    let there = given_turn c.args.geo.now run c.args.self.now given t.0 t.1 file c.turn.ensures.few has none more (t.5 tells) in
+    let onto = subst (λ (w : CursorState). IsStepped w c.step-2.new.self s.0) t.4 s.1 in
     subst (λ (h : Option (Key × Rec)). HasGivenMore c.args.geo.now run c.step-2.new.self h given file) (sym s.1.head_is)
-    (given_step c.args.geo.now run c.turn.new.self c.step-2.new.self given s.0 file (subst (λ (w : CursorState). HasGiven c.args.geo.now run w given file) (sym t.4) there) s.1)
+    (given_on c.args.geo.now run c.args.self.now c.step-2.new.self given t.0 t.1 s.0 file c.turn.ensures.few has none more (t.5 tells) onto)
