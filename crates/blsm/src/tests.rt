@@ -1,5 +1,6 @@
 //! The program's call, run over a source, a sink and a disk in memory.
 
+mod call;
 mod disks;
 mod full;
 mod long;

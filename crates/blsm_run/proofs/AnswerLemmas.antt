@@ -21,7 +21,7 @@ use Rattle.store_file.specs.Layout.{IsStoreOf, IsStore}
 use Rattle.store_file.specs.Laws.{only_sizes}
 use Rattle.blsm_run.specs.declared.outcome.Refusal.TheVariants as refusal
 use Rattle.blsm_run.specs.Holding.{log_lane, entries_of, HoldsWrites}
-use Rattle.blsm_run.specs.Opening.{IsTooHeavy, IsBroken, Refuses}
+use Rattle.blsm_run.specs.Opening.{IsTooHeavy, IsBroken, IsRefusedSoon}
 use Rattle.blsm_run.specs.Answer.{IsGranted, IsOpenable, IsQuietCount}
 use Rattle.blsm_run.proofs.OpeningLemmas.{weight-entries_of}
 
@@ -84,16 +84,16 @@ module _ {D : Type 0} (state : D → DiskState) where
   completes o w (bad_line n) status cause tells granted = absurd (script_not_bad granted.input granted.lines n granted.script (told o.left granted.input (λ input. IsBadLine input n) granted.told cause.1))
   completes o w disk_fault status cause tells granted = absurd (quiet_is_no_rise o.shelf.faults o.shelf_after.faults granted.shelf_quiet cause.1)
   completes o w not_a_store status cause tells granted =
-      let s = said o w (λ first last. Refuses first last refusal.NotAStore) granted cause.0.1 in
-      let says = s.2.0 (s.0).honest in
+      let s = said o w (λ first last. IsRefusedSoon first last refusal.NotAStore) granted cause.0.1 in
+      let says = s.2.0.0 (s.0).honest in
       absurd (no_store (state (s.0).disk).bytes (s.0).found says.0 says.1)
   completes o w damaged_slots status cause tells granted =
-      let s = said o w (λ first last. Refuses first last refusal.DamagedSlots) granted cause.0.1 in
-      let says = s.2.0 (s.0).honest in
+      let s = said o w (λ first last. IsRefusedSoon first last refusal.DamagedSlots) granted cause.0.1 in
+      let says = s.2.0.0 (s.0).honest in
       absurd (says.1 (store_found (state (s.0).disk).bytes (s.0).found says.0).2.slots)
   completes o w damaged_lane status cause tells granted =
-      let s = said o w (λ first last. Refuses first last refusal.DamagedLane) granted cause.0.1 in
-      let says = s.2.0 (s.0).honest in
+      let s = said o w (λ first last. IsRefusedSoon first last refusal.DamagedLane) granted cause.0.1 in
+      let says = s.2.0.0 (s.0).honest in
       let file = (state (s.0).disk).bytes in
       let holds = store_found file (s.0).found (says.0, says.1) in
       absurd (not_broken holds.0 holds.1 file holds.2 (subst (λ (z : Sizes). IsBroken z file) (only_sizes says.0 holds.0 file says.1 holds.2.store) says.3))

@@ -14,9 +14,6 @@ by_test : (b : Bool) → (b ≡ true) ⊎ (b ≡ false)
 by_test true = inl refl
 by_test false = inr refl
 
-other_same : (a b : List Write) (w : Write) (q at : Key) → same_key at q ≡ false → value_at (a ++ w ∷ []) q ≡ value_at a q → value_at (b ++ w ∷ []) q ≡ value_at b q → value_at a q ≡ value_at b q → value_at (a ++ w ∷ []) q ≡ value_at (b ++ w ∷ []) q
-other_same a b w q at apart one two same = one ∙ same ∙ sym two
-
 -- lists that leave the same values leave the same values with one write more
 one_more : (a b : List Write) (w : Write) → ((q : Key) → value_at a q ≡ value_at b q) → (q : Key) → value_at (a ++ w ∷ []) q ≡ value_at (b ++ w ∷ []) q
 one_more a b (Put at v) same q =

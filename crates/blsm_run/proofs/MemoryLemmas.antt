@@ -164,9 +164,6 @@ record Asks (op : Op) (write : Write) : Type 0 where
   fits : StandsForMore write (record_of write)
   weighs : weight (key_of write) (record_of write) ≡ weight_of write
 
-not_stopping : (op : Op) → is_stopping op Done ≡ false
-not_stopping op = refl
-
 stands_done : (log : List Write) (m : Memory) (seat : ℕ) (op : Op) (write : Write) → Asks op write → m.charge + weight (key_of write) (record_of write) ≤ m.limit → m.stopped ≡ None → StandsFor log m
     → StandsFor log (with_entry (taken m (key_of write) (record_of write)) (by seat op Done))
 stands_done log m seat op write asks below runs s =

@@ -25,7 +25,7 @@ use Rattle.blsm_run.specs.declared.outcome.Refusal.TheVariants as refusal
 use Rattle.blsm_run.specs.MemoryTable.{table_of}
 use Rattle.store_file.specs.Layout.{IsStoreOf, IsStore, HasFirstSlots, IsMade}
 use Rattle.store_file.specs.Making.{making_calls, IsHalfMade, IsOldOr, old_or_behind}
-use Rattle.blsm_run.specs.Holding.{log_lane, entry_of, entries_of, HoldsWrites, IsFound, IsYet}
+use Rattle.blsm_run.specs.Holding.{log_lane, entry_of, entries_of, HoldsWrites, IsFound, IsYet, opening_calls}
 use Rattle.blsm_model.specs.Geometry.{file_length, high_mark}
 use Rattle.blsm_run.specs.Opening.{HasTaken, IsFit, IsTooHeavy, IsBroken, HasReplayed, HasOpened, IsLeft, IsHalfOpened, Refuses, IsCounted, Opens, Replays}
 use Rattle.blsm_run.proofs.TableLemmas.{with_write, table_of-push}
@@ -128,23 +128,29 @@ made_holds sizes file made = record { store = made.store; slots = made.slots; la
 made_yet : (sizes : Sizes) (first file : List ℕ) → first ≡ [] → IsHalfMade sizes file → IsYet first (HoldsWrites sizes []) file
 made_yet sizes first file empty half = ⊎_elim (λ none. inr (empty, none)) (λ made. inl (made_holds sizes file made)) half.store
 
+-- An opening makes what it finds empty, and reads any other.
+reading_calls : (file : List ℕ) (writes : List Write) → (file ≡ [] → ⊥) → opening_calls file writes ≡ 7 + length writes
+reading_calls [] writes some = absurd (some refl)
+reading_calls (b ∷ bs) writes some = refl
+
 -- what making leaves is what an opening answers
 pub made_opened : (old new : DiskState) (opened : Opened) (sizes : Sizes) → sizes ≡ default_sizes → opened ≡ record { geometry = sizes; table = record { entries = []; reserved = high_mark sizes }; charge = 0; end = 0 }
     → (IsTrue old.is_honest → IsTrue old.tells_bytes) → (IsTrue old.tells_bytes → length old.bytes ≡ 0)
     → (IsTrue old.is_honest → LeavesOnly old new (IsOldOr old.images (IsHalfMade sizes)))
     → (IsTrue old.is_honest → LeavesOnlyOnceSynced old new (IsHalfMade sizes))
     → (IsTrue old.is_honest → IsMade sizes new.bytes) → (IsTrue old.is_honest → Only new.bytes new.images)
-    → (IsTrue old.tells_bytes → length new.bytes ≡ file_length sizes) → new.faults ≡ old.faults → new.is_honest ≡ old.is_honest → new.clock ≤ old.clock + making_calls sizes → HasOpened (making_calls default_sizes) old new [] opened
+    → (IsTrue old.tells_bytes → length new.bytes ≡ file_length sizes) → new.faults ≡ old.faults → new.is_honest ≡ old.is_honest → new.clock ≤ old.clock + making_calls sizes → HasOpened 1 old new [] opened
 made_opened old new opened sizes named is tells none each once made durable long stands still calls =
     let fits : IsGeometry sizes = subst IsGeometry (sym named) default_fits in
     let half : 17408 ≤ sizes.half = fits.half.0 in
-    subst (HasOpened (making_calls default_sizes) old new []) (sym is) (record {
+    subst (HasOpened 1 old new []) (sym is) (record {
       replayed = record {
         taken = record { table = refl; values = λ key. refl; charge = refl };
         fit = record { reserved = refl; table_weight = omega arith; charge_within = omega arith };
         end = refl;
         inside = omega arith;
         short = omega arith;
+        few = omega arith;
         lane = λ honest. (made (sym still ∙ honest)).lanes log_lane (omega arith);
       };
       geometry = fits;
@@ -155,12 +161,24 @@ made_opened old new opened sizes named is tells none each once made durable long
       durable = durable;
       each = λ honest. leaves_only_weaken (λ c. ⊎_elim (λ before. inl before) (λ half. inr (made_yet sizes old.bytes c (empty_is old.bytes (none (tells honest))) half))) (each honest);
       once_synced = λ honest. once_synced_weaken (λ c half. made_yet sizes old.bytes c (empty_is old.bytes (none (tells honest))) half) (once honest);
-      soon = λ honest empty. subst (λ (z : Sizes). new.clock ≤ old.clock + making_calls z) named calls;
+      soon = λ honest.
+          let count : opening_calls old.bytes [] ≡ opening_calls [] [] = ap (λ f. opening_calls f []) (empty_is old.bytes (none (tells honest))) in
+          let made : new.clock ≤ old.clock + making_calls default_sizes = subst (λ (z : Sizes). new.clock ≤ old.clock + making_calls z) named calls in
+          omega (arith, made, count);
       kept = λ some. record {
         bytes = λ honest. absurd (some (empty_is old.bytes (none (tells honest))));
         images = λ honest. absurd (some (empty_is old.bytes (none (tells honest))));
       };
     })
+
+-- and what a making leaves that failed
+pub half_made : (old new : DiskState) (sizes : Sizes) → sizes ≡ default_sizes → (IsTrue old.is_honest → IsTrue old.tells_bytes) → (IsTrue old.tells_bytes → length old.bytes ≡ 0)
+    → (IsTrue old.is_honest → IsHalfMade sizes new.bytes) → (IsTrue old.is_honest → LeavesOnly old new (IsOldOr old.images (IsHalfMade sizes))) → IsHalfOpened old new
+half_made old new sizes named tells none reads each = inr (λ honest. (
+  empty_is old.bytes (none (tells honest)),
+  subst (λ (z : Sizes). IsHalfMade z new.bytes) named (reads honest),
+  subst (λ (z : Sizes). LeavesOnly old new (IsOldOr old.images (IsHalfMade z))) named (each honest),
+))
 
 -- ---- a store that was read
 
@@ -197,8 +215,8 @@ pub read_opened : (ended : Type 0) (old synced read new : DiskState) (sizes : Si
     → GoesOn read new → (IsTrue read.is_honest → new.bytes ≡ read.bytes) → (IsTrue read.is_honest → LeavesOnly read new read.images) → MarksSync ⊥ read new
     → (IsTrue read.tells_bytes → length new.bytes ≡ length read.bytes)
     → opened.geometry ≡ sizes → IsGeometry sizes → (IsTrue synced.tells_bytes → length synced.bytes ≡ file_length sizes) → (IsTrue synced.is_honest → IsStoreOf sizes synced.bytes × HasFirstSlots synced.bytes)
-    → HasReplayed read writes opened → synced.faults ≡ old.faults → read.faults ≡ synced.faults → new.faults ≡ read.faults → (IsTrue old.is_honest → old.bytes ≡ [] → ⊥) → (calls : ℕ) → HasOpened calls old new writes opened
-read_opened ended old synced read new sizes writes opened t0 t1 t2 t3 passes marks same only goes changes each none goes' bytes' each' none' long' geometry fits long told replayed f1 f2 f3 some calls =
+    → HasReplayed read writes opened → synced.faults ≡ old.faults → read.faults ≡ synced.faults → new.faults ≡ read.faults → (IsTrue old.is_honest → old.bytes ≡ [] → ⊥) → read.clock ≤ synced.clock + 4 → new.clock ≤ read.clock + length writes + 1 → HasOpened 1 old new writes opened
+read_opened ended old synced read new sizes writes opened t0 t1 t2 t3 passes marks same only goes changes each none goes' bytes' each' none' long' geometry fits long told replayed f1 f2 f3 some four each_once =
     let h1 : IsTrue old.is_honest → IsTrue synced.is_honest = λ honest. passes.goes_on.is_honest ∙ honest in
     let h2 : IsTrue old.is_honest → IsTrue read.is_honest = λ honest. goes.is_honest ∙ h1 honest in
     let tells1 : IsTrue old.tells_bytes → IsTrue synced.tells_bytes = λ tells. passes.goes_on.tells_bytes ∙ tells in
@@ -220,6 +238,7 @@ read_opened ended old synced read new sizes writes opened t0 t1 t2 t3 passes mar
         end = replayed.end;
         inside = replayed.inside;
         short = replayed.short;
+        few = replayed.few;
         lane = λ honest. let honest' : IsTrue old.is_honest = sym (passes.goes_on.is_honest) ∙ sym goes.is_honest ∙ sym goes'.is_honest ∙ honest in
             subst (λ b. HasEntries opened.geometry log_lane (entries_of writes) b) (sym (b3 honest')) (replayed.lane (h2 honest'));
       };
@@ -234,7 +253,7 @@ read_opened ended old synced read new sizes writes opened t0 t1 t2 t3 passes mar
           once_synced_kept t1
           (once_synced_first ended t0 t0 t1 (omega arith) (no_sync_start old) passes marks (λ _ c left. inl (here honest c left)))
           (tail honest) (no_sync_run none none');
-      soon = λ honest empty. absurd (some honest empty);
+      soon = λ honest. omega (arith, passes.at_most_one, four, each_once, reading_calls old.bytes writes (some honest));
       kept = λ has. record { bytes = λ honest. b3 honest ∙ b2 honest ∙ b1 honest; images = kept };
     }
 
@@ -250,11 +269,11 @@ left_behind timed still same first left = record {
 half_behind : {old mid new : DiskState} → IsTimed mid → mid.is_honest ≡ old.is_honest → (IsTrue old.is_honest → mid.bytes ≡ old.bytes) → (IsTrue old.is_honest → LeavesOnly old mid old.images) → IsHalfOpened mid new
     → IsHalfOpened old new
 half_behind timed still same first (inl left) = inl (left_behind timed still same first left)
-half_behind timed still same first (inr half) = inr (λ honest. (sym (same honest) ∙ (half (still ∙ honest)).0, old_or_behind timed (first honest) (half (still ∙ honest)).1))
+half_behind timed still same first (inr half) = inr (λ honest. let h = half (still ∙ honest) in (sym (same honest) ∙ h.0, h.1, old_or_behind timed (first honest) h.2))
 
-opened_behind : {old mid new : DiskState} (calls : ℕ) (writes : List Write) (opened : Opened) → IsTimed old → IsTimed mid → GoesOn old mid → mid.faults ≡ old.faults → (IsTrue old.is_honest → mid.bytes ≡ old.bytes)
-    → (IsTrue old.is_honest → LeavesOnly old mid old.images) → MarksSync ⊥ old mid → mid.clock ≤ old.clock + 1 → HasOpened calls mid new writes opened → HasOpened (calls + 1) old new writes opened
-opened_behind {old} {mid} {new} calls writes opened timed timed' goes stands same first none one has = record {
+opened_behind : {old mid new : DiskState} (writes : List Write) (opened : Opened) → IsTimed old → IsTimed mid → GoesOn old mid → mid.faults ≡ old.faults → (IsTrue old.is_honest → mid.bytes ≡ old.bytes)
+    → (IsTrue old.is_honest → LeavesOnly old mid old.images) → MarksSync ⊥ old mid → mid.clock ≤ old.clock + 1 → HasOpened 1 mid new writes opened → HasOpened 0 old new writes opened
+opened_behind {old} {mid} {new} writes opened timed timed' goes stands same first none one has = record {
   replayed = has.replayed;
   geometry = has.geometry;
   length = λ tells. has.length (goes.tells_bytes ∙ tells);
@@ -266,7 +285,7 @@ opened_behind {old} {mid} {new} calls writes opened timed timed' goes stands sam
       (subst (λ b. LeavesOnly mid new (IsOldOr mid.images (IsYet b (HoldsWrites opened.geometry writes)))) (same honest) (has.each (goes.is_honest ∙ honest)));
   once_synced = λ honest. once_synced_behind timed goes.clock none
       (subst (λ b. LeavesOnlyOnceSynced mid new (IsYet b (HoldsWrites opened.geometry writes))) (same honest) (has.once_synced (goes.is_honest ∙ honest)));
-  soon = λ honest empty. omega (arith, one, has.soon (goes.is_honest ∙ honest) (same honest ∙ empty));
+  soon = λ honest. omega (arith, one, subst (λ f. 1 + new.clock ≤ mid.clock + opening_calls f writes) (same honest) (has.soon (goes.is_honest ∙ honest)));
   kept = λ some. record {
     bytes = λ honest. (left_of some honest).bytes (goes.is_honest ∙ honest) ∙ same honest;
     images = λ honest. leaves_only_kept timed' (first honest) ((left_of some honest).images (goes.is_honest ∙ honest));
@@ -298,6 +317,6 @@ module _ (old mid new : DiskState) (timed : IsTimed old) (timed' : IsTimed mid) 
   counted_behind r counted = subst (λ n. IsCounted n new.faults r) stands counted
 
   -- an opening behind a look at the disk
-  pub opens_behind : (calls : ℕ) → mid.clock ≤ old.clock + 1 → (result : Result Opened Refusal) → Opens calls mid new result → Opens (calls + 1) old new result
-  opens_behind calls one (Ok opened) has = (has.0, opened_behind calls has.0 opened timed timed' goes stands same first none one has.1)
-  opens_behind calls one (Err r) has = (refuses_behind r has.0, counted_behind r has.1)
+  pub opens_behind : mid.clock ≤ old.clock + 1 → (result : Result Opened Refusal) → Opens 1 mid new result → Opens 0 old new result
+  opens_behind one (Ok opened) has = (has.0, opened_behind has.0 opened timed timed' goes stands same first none one has.1)
+  opens_behind one (Err r) has = (refuses_behind r has.0, counted_behind r has.1)

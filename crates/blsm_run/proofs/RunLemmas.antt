@@ -1,5 +1,5 @@
 -- A script that is run: the room that is left, and who asked for what.
-use Rattle.std.proofs.Common.{◌≡◌, ◌+◌, ◌<◌, ◌++◌, List, [], ◌∷◌, Option, Some, None, refl, ap, sym, subst, ◌∙◌, length, slice_index, arith, IsTrue, append_assoc}
+use Rattle.std.proofs.Common.{◌≡◌, ◌++◌, List, [], ◌∷◌, Option, Some, None, refl, ap, sym, subst, ◌∙◌, arith, IsTrue, append_assoc}
 use Rattle.std.proofs.lemmas.List.{map-append}
 use Rattle.std.proofs.lemmas.Bool.Decides.{nat_tests}
 use Rattle.std.proofs.lemmas.Grind.{common_steps}
@@ -18,12 +18,12 @@ use Rattle.blsm_model.specs.declared.row.Value.{Value}
 use Rattle.blsm_model.specs.Histories.{answer_to_get}
 use Rattle.record_delta.specs.Records.{settled}
 use Rattle.mem_table.specs.Entries.{record_of_key}
-use Rattle.blsm_model.specs.Scripts.{lines_of}
 use Rattle.blsm_run.specs.Memory.{Memory, AnswersWrite, AnswersRunning, AnswersWhere, Answers}
 use Rattle.disk_trait.specs.Disk.{DiskState}
 use Rattle.disk_trait.specs.Moments.{goes_on_start, goes_on_run, syncs_later_start, syncs_later_run}
 use Rattle.blsm_run.specs.StoreState.{StoreState}
-use Rattle.blsm_run.specs.Run.{asked, asked_in, GoesAlong}
+use Rattle.blsm_model.specs.Scripts.{asked, asked_in}
+use Rattle.blsm_run.specs.Run.{GoesAlong}
 use Rattle.blsm_run.specs.Rooms.{HasRoomFor}
 
 -- what no answer changes
@@ -83,12 +83,6 @@ no_rows old new op reply a = by_stop old.stopped a
     by_stop : (stopped : Option Why) → AnswersWhere stopped old op new reply → rows_given reply ≡ []
     by_stop None b = no_rows_running old new op reply b
     by_stop (Some why) b = ap rows_given b.0
-
--- the first line's seat has room for it
-pub room_now : (room : Room) (line : Line) (lines : List Line) → line.seat < 16 → HasRoomFor room (line ∷ lines) → 0 < slice_index room.entries line.seat
-room_now room line lines seat has =
-    let own : length (lines_of line.seat (line ∷ lines)) ≡ 1 + length (lines_of line.seat lines) = grind (arith, common_steps, nat_tests) in
-    omega (arith, has line.seat seat)
 
 -- and when it is noted there is room for the rest
 pub room_then : (room : Room) (line : Line) (lines : List Line) (entry : Entry) → entry.seat ≡ line.seat → HasRoomFor room (line ∷ lines) → HasRoomFor (room_after room entry) lines

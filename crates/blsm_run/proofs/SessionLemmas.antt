@@ -23,7 +23,7 @@ use Rattle.blsm_run.specs.StoreState.{IsStoppedByFault}
 use Rattle.blsm_run.specs.Outcome.{Run}
 use Rattle.blsm_run.proofs.MemoryLemmas.{stands_start, names_none}
 use Rattle.blsm_run.proofs.ShowingLemmas.{calm_runs}
-use Rattle.blsm_run.specs.Run.{asked, asked_in}
+use Rattle.blsm_model.specs.Scripts.{asked, asked_in}
 use Rattle.blsm_run.specs.Cause.{HasFinished}
 
 abbrev pub totals_of : Memory → Totals
@@ -52,11 +52,12 @@ stops_name (Some (Faulted n)) history faults told stop = subst (λ k. AllByRecur
 stops_name (Some (BadPage page)) history faults told stop = absurd stop
 
 finished_by : (sizes : Sizes) (log : List Write) (lines : List Line) (m : Memory) (charge : ℕ) (totals : Totals) (faulted : Bool) (last : DiskState) → StandsFor log m → asked_in m.book.entries ≡ asked lines → m.limit ≡ sizes.half
-    → charge ≡ total_weight log → totals ≡ totals_of m → IsStoppedByFault m.stopped last.faults → m.peak ≤ m.limit → faulted ≡ nat_lt 0 last.faults → (m.stopped ≡ None → last.faults ≡ 0)
+    → charge ≡ total_weight log → totals ≡ totals_of m → IsStoppedByFault m.stopped last.faults → m.peak ≤ m.limit → faulted ≡ nat_lt 0 last.faults → (m.stopped ≡ None → last.faults ≡ 0) → last.faults ≤ 1
     → HasFinished sizes log lines (run_with charge m.book totals) (IsTrue faulted) last
-finished_by sizes log lines m charge totals faulted last s same limit begins is stop within test quiet = record {
+finished_by sizes log lines m charge totals faulted last s same limit begins is stop within test quiet one = record {
   run_of = record {
     of_script = of_script lines m.book.entries same;
+    in_order = same;
     legal = subst (λ (n : ℕ). IsLegal (record { opening = total_weight log; dels = n; others = n }) (map_of log) m.book.entries) limit s.legal;
     fit = subst (λ (n : ℕ). FitFrom n (total_weight log) [] m.book.entries) limit s.fit;
     no_page = s.no_page;
@@ -69,10 +70,9 @@ finished_by sizes log lines m charge totals faulted last s same limit begins is 
     workers = ap (λ (t : Totals). t.workers) is;
     passes = ap (λ (t : Totals). t.passes) is;
     deeps = ap (λ (t : Totals). t.deeps) is;
-    charge = let charge : totals.charge ≡ m.charge = ap (λ (t : Totals). t.charge) is in omega (arith, s.charge);
   };
   faults = faults_counted m.stopped (fault_count m.book.entries) last.faults s.faults stop;
-  troubles = troubles_counted m.stopped m.book.entries last.faults s.stop stop;
+  one_call = one;
   one_fault = one_fault_told m.stopped m.book.entries s.stop s.faults;
   stops = stops_name m.stopped m.book.entries last.faults s.stop stop;
   counted = grind (arith, common_steps, nat_tests);
@@ -102,10 +102,10 @@ opened_stands log opened book entries quanta taken =
 pub finished : (log : List Write) (lines : List Line) (opened : Opened) (start m : Memory) (first book : Book) (totals : Totals) (faulted : Bool) (last : DiskState)
     → first.entries ≡ [] → first.quanta ≡ [] → HasTaken log opened → start ≡ memory_at opened first
     → (StandsFor log start → StandsFor log m) → asked_in m.book.entries ≡ asked_in start.book.entries ++ asked lines → m.limit ≡ start.limit
-    → book ≡ m.book → totals ≡ totals_of m → IsStoppedByFault m.stopped last.faults → m.peak ≤ m.limit → faulted ≡ nat_lt 0 last.faults → (m.stopped ≡ None → last.faults ≡ 0)
+    → book ≡ m.book → totals ≡ totals_of m → IsStoppedByFault m.stopped last.faults → m.peak ≤ m.limit → faulted ≡ nat_lt 0 last.faults → (m.stopped ≡ None → last.faults ≡ 0) → last.faults ≤ 1
     → HasFinished opened.geometry log lines (run_with opened.charge book totals) (IsTrue faulted) last
-finished log lines opened start m first book totals faulted last entries quanta taken begins keeps same kept is_book is stop within test quiet =
+finished log lines opened start m first book totals faulted last entries quanta taken begins keeps same kept is_book is stop within test quiet one =
     subst (λ b. HasFinished opened.geometry log lines (run_with opened.charge b totals) (IsTrue faulted) last) (sym is_book)
     (finished_by opened.geometry log lines m opened.charge totals faulted last (keeps (subst (StandsFor log) (sym begins) (opened_stands log opened first entries quanta taken)))
     (same ∙ ap (λ (k : Memory). asked_in k.book.entries ++ asked lines) begins ∙ ap (λ es. asked_in es ++ asked lines) entries)
-    (kept ∙ ap (λ (k : Memory). k.limit) begins) taken.charge is stop within test quiet)
+    (kept ∙ ap (λ (k : Memory). k.limit) begins) taken.charge is stop within test quiet one)

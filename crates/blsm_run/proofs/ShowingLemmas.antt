@@ -1,8 +1,10 @@
 -- What a file shows of a history, with one entry more.
 use Rattle.std.proofs.Common.{◌≡◌, ℕ, ◌+◌, ◌≤◌, List, [], ◌∷◌, ◌++◌, Bool, true, false, cond, not, ◌||◌, flat_map, length, refl, ap, sym, subst, ◌∙◌, append_assoc, append-nil, length-append, arith, ◌⊎◌, inl, inr, ⊎_elim, Option, Some, None, option_to_list}
 use Rattle.std.proofs.lemmas.List.{map-append, flat_map_more}
+use Rattle.std.proofs.lemmas.Grind.{flat_map-append}
 use mathlib.Core.List.{IsPrefix}
 use Rattle.disk_trait.specs.Disk.{Torn}
+use Rattle.blsm_model.specs.Format.{head_length}
 use Rattle.blsm_model.specs.declared.op.Write.{Write}
 use Rattle.blsm_model.specs.declared.op.Op.{Op}
 use Rattle.blsm_model.specs.declared.history.Reply.{Reply}
@@ -13,14 +15,14 @@ use Rattle.blsm_model.specs.Geometry.{file_length}
 use Rattle.blsm_model.specs.Histories.{is_done, writes_of, counted, counted_writes}
 use Rattle.blsm_model.specs.Legal.{total_weight}
 use Rattle.blsm_model.specs.Images.{counted_with}
-use Rattle.gated_log.specs.Lane.{head_length, region_start, region_length, HasEntries, IsAppended}
+use Rattle.gated_log.specs.Lane.{region_start, region_length, HasEntries, IsAppended}
 use Rattle.gated_log.proofs.LaneLemmas.{region_inside}
 use Rattle.store_file.specs.Laws.{store_torn, slots_torn}
 use Rattle.blsm_model.specs.declared.history.Why.{Why}
 use Rattle.std.proofs.lemmas.List.Sums.{sum_by-cons}
 use Rattle.blsm_run.specs.Memory.{tells_fault, fault_count, is_troubled, is_untroubled, log_after}
 use Rattle.blsm_run.specs.Holding.{log_lane, entry_of, entries_of, HoldsWrites}
-use Rattle.blsm_run.specs.Showing.{ShowsWhole, ShowsPrefix}
+use Rattle.blsm_run.specs.Showing.{ShowsWhole, ShowsPrefix, calls_for}
 use Rattle.blsm_run.proofs.MemoryLemmas.{both_hold}
 
 -- ---- prefixes
@@ -36,6 +38,13 @@ prefix_then a b c first second = (first.0 ++ second.0, sym (append_assoc a first
 
 pub prefix_length : (a b : List Entry) → IsPrefix a b → length a ≤ length b
 prefix_length a b p = let same : length (a ++ p.0) ≡ length b = ap (λ (l : List Entry). length l) p.1 in omega (arith, same, length-append a p.0)
+
+-- ---- calls of the disk
+
+pub calls_more : (a b : List Entry) → calls_for (a ++ b) ≡ calls_for a + calls_for b
+calls_more a b =
+    let same : length (flat_map (counted_with true) (a ++ b)) ≡ length (flat_map (counted_with true) a ++ flat_map (counted_with true) b) = ap (λ (ws : List Write). length ws) (flat_map-append (counted_with true) a b) in
+    omega (arith, same, length-append (flat_map (counted_with true) a) (flat_map (counted_with true) b))
 
 -- ---- what counts
 

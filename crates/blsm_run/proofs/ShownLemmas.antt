@@ -1,8 +1,8 @@
--- What a run over a disk leaves of it: behind the opening, and on a shelf.
-use Rattle.std.proofs.Common.{◌≡◌, ℕ, ◌≤◌, List, [], Option, Some, None, IfSome, IsTrue, length, refl, ap, sym, subst, ◌∙◌, append-nil, arith, inl, inr, ⊎_elim, true, ◌+◌}
+-- What a run over a disk leaves of it: behind the opening, and for a disk whose count is set to 0.
+use Rattle.std.proofs.Common.{◌≡◌, ℕ, ◌≤◌, List, take, [], Option, None, IsTrue, length, refl, ap, sym, subst, ◌∙◌, append-nil, arith, inl, inr, ⊎_elim, true, ◌+◌}
 use Rattle.disk_trait.specs.Disk.{DiskState, GoesOn}
-use Rattle.disk_trait.specs.Moments.{IsTimed, LeavesOnly, LeavesOnlyOnceSynced, SyncsLater, leaves_only_start, leaves_only_run, leaves_only_weaken, once_synced_weaken, once_synced_more, has_since_start}
-use Rattle.disk_trait.specs.Shelf.{ShelfState, IsFreshCount, KeepsDisks}
+use Rattle.disk_trait.specs.Moments.{IsTimed, LeavesOnly, LeavesOnlyOnceSynced, SyncsLater, leaves_only_run, leaves_only_weaken, once_synced_weaken, once_synced_more}
+use Rattle.disk_trait.specs.Shelf.{IsFreshCount}
 use Rattle.blsm_model.specs.declared.op.Write.{Write}
 use Rattle.blsm_model.specs.declared.history.Entry.{Entry}
 use Rattle.blsm_model.specs.declared.history.Why.{Why}
@@ -14,11 +14,10 @@ use Rattle.store_file.specs.Making.{IsOldOr}
 use Rattle.blsm_run.specs.declared.opening.Opened.{Opened}
 use Rattle.blsm_run.specs.declared.outcome.Refusal.{Refusal}
 use Rattle.blsm_run.specs.declared.outcome.Refusal.TheVariants as refusal
-use Rattle.blsm_run.specs.Outside.{OfTheDisk}
 use Rattle.blsm_run.specs.Memory.{Memory, is_untroubled}
 use Rattle.blsm_run.specs.Holding.{entries_of, HoldsWrites, IsYet, IsFound, opening_calls}
-use Rattle.blsm_run.specs.Opening.{memory_at, IsLeft, IsHalfOpened, IsBroken, HasOpened, Refuses}
-use Rattle.blsm_run.specs.Showing.{ShowsWhole, ShowsPrefix, HasShown}
+use Rattle.blsm_run.specs.Opening.{memory_at, IsLeft, IsBroken, HasOpened, Refuses, IsRefusedSoon}
+use Rattle.blsm_run.specs.Showing.{ShowsWhole, ShowsPrefix, HasShown, calls_for}
 use Rattle.blsm_run.specs.Crashes.{StandsOnDisk, KeepsShowing}
 use Rattle.blsm_run.specs.StoreState.{StoreState}
 use Rattle.blsm_run.specs.Session.{IsDurable, KeepsWhole}
@@ -55,10 +54,14 @@ store_stands state log opened disk book s is_disk is_sizes is_end is_memory none
 
 -- and what it has shown in the end
 pub store_shows : {D : Type 0} (state : D → DiskState) (log : List Write) (opened : Opened) (disk last : D) (before history : List Entry) (stopped : Option Why) (end : ℕ) (s : StoreState D) (e : D) → s.disk ≡ disk → s.sizes ≡ opened.geometry → last ≡ e
-    → (is_untroubled history ≡ true → stopped ≡ None) → KeepsShowing s.sizes log before history (state s.disk) (state e) × StandsOnDisk s.sizes log history stopped end (state e) → KeepsWhole opened.geometry log history (state disk) (state last)
-store_shows state log opened disk last before history stopped end s e is_disk is_sizes is_last calm kept =
+    → before ≡ [] → (is_untroubled history ≡ true → stopped ≡ None) → KeepsShowing s.sizes log before history (state s.disk) (state e) × StandsOnDisk s.sizes log history stopped end (state e) → KeepsWhole opened.geometry log history (state disk) (state last)
+store_shows state log opened disk last before history stopped end s e is_disk is_sizes is_last none calm kept =
+    let begun : length before ≡ 0 = ap (λ (l : List Entry). length l) none in
     let whole : KeepsWhole s.sizes log history (state s.disk) (state e) = record {
       leaves = leaves_only_weaken (λ c shows. shows_longer s.sizes log history history (length before) 0 c (prefix_self history) (omega arith) shows) kept.0.leaves;
+      paced = λ n c few left.
+          let zero : calls_for before ≡ 0 = ap calls_for none in
+          kept.0.paced n ((state s.disk).clock + calls_for (take n history)) c (omega (arith, begun)) few (omega (arith, zero)) left;
       whole = kept.1.whole;
       reads = λ quiet. (kept.1.running (calm quiet)).bytes;
     } in
@@ -68,9 +71,9 @@ store_shows state log opened disk last before history stopped end s e is_disk is
 
 -- an opening, and a run behind it
 pub shown_behind : {D : Type 0} (state : D → DiskState) (log : List Write) (opened : Opened) (history : List Entry) (first mid last : D) → IsTimed (state mid) → IsTimed (state last) → GoesOn (state first) (state mid)
-    → HasOpened opening_calls (state first) (state mid) log opened → SyncsLater (state mid) (state last) → IsTrue (state first).is_honest → KeepsWhole opened.geometry log history (state mid) (state last)
+    → HasOpened 0 (state first) (state mid) log opened → SyncsLater (state mid) (state last) → IsTrue (state first).is_honest → (state last).clock ≤ (state mid).clock + calls_for history → KeepsWhole opened.geometry log history (state mid) (state last)
     → HasShown opened.geometry log history (state first) (state last)
-shown_behind state log opened history first mid last timed timed' goes has syncs honest kept =
+shown_behind state log opened history first mid last timed timed' goes has syncs honest few kept =
     let sizes = opened.geometry in
     let begun : (c : List ℕ) → HoldsWrites sizes log c → ShowsPrefix sizes log history 0 c = λ c holds. shows_front sizes log [] history 0 c (history, refl) (omega arith) (shows_none sizes log c holds) in
     let yet : (c : List ℕ) → IsYet (state first).bytes (HoldsWrites sizes log) c → IsYet (state first).bytes (ShowsPrefix sizes log history 0) c = λ c. ⊎_elim (λ holds. inl (begun c holds)) (λ none. inr none) in
@@ -82,8 +85,10 @@ shown_behind state log opened history first mid last timed timed' goes has syncs
           (leaves_only_weaken (λ c shows. inr (inl shows)) kept.leaves);
       once_synced = once_synced_more timed timed' (once_synced_weaken yet (has.once_synced honest)) (leaves_only_weaken (λ c shows. inl shows) kept.leaves) syncs;
       opened = (state mid).clock;
-      soon = has.soon honest;
-      since_opened = has_since_start kept.leaves;
+      soon = omega (arith, has.soon honest);
+      opened_by = kept.leaves.later;
+      calls = few;
+      paced = kept.paced;
       whole = kept.whole;
       reads = kept.reads;
     }
@@ -117,14 +122,20 @@ module _ {a b : DiskState} (fresh : IsFreshCount a b) where
   fresh_left : {c : DiskState} → IsLeft b c → IsLeft a c
   fresh_left left = record { bytes = λ honest. left.bytes (still honest) ∙ fresh.bytes; images = λ honest. fresh_kept (left.images (still honest)) }
 
-  pub fresh_refuses : (c : DiskState) (r : Refusal) → Refuses b c r → Refuses a c r
+  fresh_refuses : (c : DiskState) (r : Refusal) → Refuses b c r → Refuses a c r
   fresh_refuses c refusal.DiskFault (inl left) = inl (fresh_left left)
-  fresh_refuses c refusal.DiskFault (inr half) = inr (λ honest. (sym fresh.bytes ∙ (half (still honest)).0, fresh_old (half (still honest)).1))
+  fresh_refuses c refusal.DiskFault (inr half) = inr (λ honest. let h = half (still honest) in (sym fresh.bytes ∙ h.0, h.1, fresh_old h.2))
   fresh_refuses c refusal.NotAStore (found, left) = (λ honest. subst (λ (f : List ℕ). ((f ≡ []) → ⊥) × ¬ (IsStore f)) fresh.bytes (found (still honest)), fresh_left left)
   fresh_refuses c refusal.DamagedSlots (found, left) = (λ honest. subst (λ (f : List ℕ). IsStore f × ¬ (HasFirstSlots f)) fresh.bytes (found (still honest)), fresh_left left)
   fresh_refuses c refusal.DamagedLane (found, left) = (λ honest. subst (λ (f : List ℕ). (sizes : Sizes) × IsStoreOf sizes f × HasFirstSlots f × IsBroken sizes f) fresh.bytes (found (still honest)), fresh_left left)
   fresh_refuses c refusal.NoMemory left = fresh_left left
   fresh_refuses c _ never = absurd never
+
+  pub fresh_refused : (c : DiskState) (r : Refusal) → IsRefusedSoon b c r → IsRefusedSoon a c r
+  fresh_refused c r says = (fresh_refuses c r says.0, omega (arith, fresh.clock, says.1))
+
+  pub fresh_calls : (c : DiskState) (n : ℕ) → c.clock ≤ b.clock + n → c.clock ≤ a.clock + n
+  fresh_calls c n few = omega (arith, fresh.clock, few)
 
   pub fresh_shown : (sizes : Sizes) (log : List Write) (history : List Entry) (c : DiskState) → (IsTrue b.is_honest → HasShown sizes log history b c) → IsTrue a.is_honest → HasShown sizes log history a c
   fresh_shown sizes log history c shown honest =
@@ -135,23 +146,10 @@ module _ {a b : DiskState} (fresh : IsFreshCount a b) where
         each = fresh_old (leaves_only_weaken (λ f. ⊎_elim (λ was. inl was) (λ y. inr (yet f y))) s.each);
         once_synced = fresh_once (once_synced_weaken yet s.once_synced);
         opened = s.opened;
-        soon = λ empty. subst (λ n. s.opened ≤ n + opening_calls) fresh.clock (s.soon (fresh.bytes ∙ empty));
-        since_opened = s.since_opened;
+        soon = subst (λ n. s.opened ≤ n + opening_calls a.bytes log) fresh.clock (subst (λ (f : List ℕ). s.opened ≤ b.clock + opening_calls f log) fresh.bytes s.soon);
+        opened_by = s.opened_by;
+        calls = s.calls;
+        paced = s.paced;
         whole = s.whole;
         reads = s.reads;
       }
-
--- ---- on a shelf
-
-module _ {D : Type 0} (state : D → DiskState) (name : List ℕ) (old new : ShelfState D) where
-  -- a fetch that failed
-  pub of_the_same : (P : DiskState → DiskState → Type 0) → (IsTrue old.tells_disks → KeepsDisks old new) → ((d : D) → P (state d) (state d)) → OfTheDisk state name old new P
-  of_the_same P keeps same tells = by_disk (old.disk_at name) refl
-    where
-      by_disk : (found : Option D) → old.disk_at name ≡ found → IfSome found (λ first. (last : D) × (new.disk_at name ≡ Some last) × P (state first) (state last))
-      by_disk None is = tt
-      by_disk (Some d) is = (d, (keeps tells).disks name ∙ is, same d)
-
--- what no call was made of is as it was
-pub left_same : {D : Type 0} (state : D → DiskState) (d : D) → IsTimed (state d) → IsHalfOpened (state d) (state d)
-left_same state d timed = inl (record { bytes = λ _. refl; images = λ honest. leaves_only_start (state d) (state d).images timed (λ c left. left) })

@@ -2,15 +2,15 @@
 use Rattle.std.specs.Prelude.{◌≡◌, ◌⊎◌, ◌<◌, ◌≤◌, ◌+◌, ℕ, true, false, IsTrue, Some, List, [], length, map, IfSome, IsSome}
 use Rattle.std.specs.List.{AllByRecursion}
 use Rattle.refusal.specs.Count.{HasRisen, HasRisenBy}
+use Rattle.text_io.specs.Text.{LosesAtMost, LosesFront, LosesMoreThan}
 use Rattle.disk_trait.specs.Disk.{DiskState}
 use Rattle.disk_trait.specs.Shelf.{ShelfState}
 use Rattle.blsm_model.specs.declared.history.Line.{Line}
-use Rattle.blsm_model.specs.Scripts.{IsOfScript}
+use Rattle.blsm_model.specs.Scripts.{IsOfScript, asked, asked_in}
 use Rattle.blsm_model.specs.declared.op.Write.{Write}
 use Rattle.blsm_model.specs.Sizes.{Sizes, IsGeometry}
 use Rattle.blsm_model.specs.Geometry.{high_mark}
 use Rattle.blsm_model.specs.Rows.{map_of}
-use Rattle.blsm_model.specs.Histories.{counted_writes}
 use Rattle.blsm_model.specs.declared.history.Why.TheVariants.{Faulted}
 use Rattle.blsm_model.specs.Legal.{Limits, IsLegal, NamesNoOther, total_weight}
 use Rattle.blsm_run.specs.Words.{AreAccepted}
@@ -20,12 +20,17 @@ use Rattle.blsm_run.specs.Outcome.{Run, Outcome, usage, source_fault, too_big, b
 use Rattle.blsm_run.specs.Memory.{peak_from, fault_count, is_untroubled, FitFrom, TellsNoPage}
 use Rattle.blsm_run.specs.declared.outcome.Refusal.{Refusal}
 use Rattle.blsm_run.specs.declared.outcome.Refusal.TheVariants as refusal
-use Rattle.blsm_run.specs.Opening.{Refuses}
-use Rattle.blsm_run.specs.Showing.{HasShown}
+use Rattle.blsm_run.specs.Holding.{most_opening_calls}
+use Rattle.blsm_run.specs.Opening.{IsRefusedSoon}
+use Rattle.blsm_run.specs.Showing.{HasShown, calls_for}
 
 -- how many bytes a script may have
 abbrev pub script_limit : ℕ
 script_limit = 8388608
+
+-- how many bytes are read of a source at most: the last piece may go past the limit
+abbrev pub most_read : ℕ
+most_read = script_limit + 4096
 
 -- a store of these sizes whose log has these writes is opened at their weight, and takes every write up to the half spring
 abbrev pub limits_for : Sizes → List Write → Limits
@@ -33,8 +38,9 @@ limits_for sizes log = record { opening = total_weight log; dels = sizes.half; o
 
 -- What the run of a script over a store prints, whose log had these writes at the opening: one legal history of the script, with the totals that it leads to.
 pub record IsRunOf (sizes : Sizes) (log : List Write) (lines : List Line) (run : Run) : Type 0 where
-  -- each caller's commands, once, in order
+  -- each caller's commands, once, in order; and, as there is one thread, in the order of the lines
   pub of_script : IsOfScript lines run.entries
+  pub in_order : asked_in run.entries ≡ asked lines
   -- the sequential map's replies, or refusals by name
   pub legal : IsLegal (limits_for sizes log) (map_of log) run.entries
   -- a write is taken only where it fits beside all that was taken, a refusal for size names that charge, and no reply tells of a page
@@ -52,7 +58,6 @@ pub record IsRunOf (sizes : Sizes) (log : List Write) (lines : List Line) (run :
   pub workers : run.totals.workers ≡ 0
   pub passes : run.totals.passes ≡ 0
   pub deeps : run.totals.deeps ≡ 0
-  pub charge : run.totals.charge ≡ total_weight log + total_weight (counted_writes run.entries)
 
 -- each stop names this count of faults
 abbrev pub StopsName : ℕ → Run → Type 0
@@ -62,8 +67,8 @@ StopsName faults run = AllByRecursion (λ e. NamesNoOther (Faulted faults) e.rep
 pub record HasFinished (sizes : Sizes) (log : List Write) (lines : List Line) (run : Run) (faulted : Type 0) (last : DiskState) : Type 0 where
   pub run_of : IsRunOf sizes log lines run
   pub faults : fault_count run.entries ≤ last.faults
-  pub troubles : is_untroubled run.entries ≡ false → 0 < last.faults
   pub one_fault : is_untroubled run.entries ≡ false → fault_count run.entries ≡ 1
+  pub one_call : last.faults ≤ 1
   pub stops : StopsName last.faults run
   pub counted : faulted → 0 < last.faults
   pub calm : (¬ faulted) → last.faults ≡ 0
@@ -82,13 +87,15 @@ pub record IsRunOnShelf {D : Type 0} (state : D → DiskState) (disk : List ℕ)
   -- a disk stood under the name; it had such a store or no bytes, and of each crash since then something of this history is left
   pub stood : IsTrue old.tells_disks → IsSome (old.disk_at disk)
   pub shown : OfTheDisk state disk old new (λ first last. IsTrue first.is_honest → HasShown sizes log run.entries first last)
-  -- faults are told only as often as the shelf's count rose, and without a rise there is neither a fault nor a stop
+  -- whatever the disk is, it was called no more often than an opening and the history take at most
+  pub calls : OfTheDisk state disk old new (λ first last. last.clock ≤ first.clock + most_opening_calls + calls_for run.entries)
+  -- faults are told only as often as the shelf's count rose
   pub faults : HasRisenBy (fault_count run.entries) old.faults new.faults
-  pub troubles : is_untroubled run.entries ≡ false → HasRisen old.faults new.faults
-  -- the first trouble is told as one fault, and each stop after it names the disk's count
+  -- No more than one call of the disk failed. That is told as one fault, and each stop after it names the disk's count.
+  pub one_call : OfTheDisk state disk old new (λ first last. last.faults ≤ 1)
   pub one_fault : is_untroubled run.entries ≡ false → fault_count run.entries ≡ 1
   pub stops : OfTheDisk state disk old new (λ first last. StopsName last.faults run)
-  -- the status is the disk's count
+  -- the status is the disk's count; without a rise of the shelf's there is neither a fault nor a stop
   pub rose : faulted → HasRisen old.faults new.faults
   pub counted : OfTheDisk state disk old new (λ first last. faulted → 0 < last.faults)
   pub calm : OfTheDisk state disk old new (λ first last. (¬ faulted) → last.faults ≡ 0)
@@ -127,7 +134,7 @@ pub record WasNotRead {D : Type 0} (o : Outside D) : Type 0 where
 
 -- the disk of the name was refused for this
 abbrev pub WasRefused : {D : Type 0} → (D → DiskState) → Outside D → Refusal → Type 0
-WasRefused state o refusal = HasRefused o × OfTheDisk state (name o) o.shelf o.shelf_after (λ first last. Refuses first last refusal)
+WasRefused state o refusal = HasRefused o × OfTheDisk state (name o) o.shelf o.shelf_after (λ first last. IsRefusedSoon first last refusal)
 
 -- which stood there, and no call of it failed
 abbrev pub WasFound : {D : Type 0} → (D → DiskState) → Outside D → Refusal → Type 0
@@ -139,8 +146,8 @@ WasFound state o refusal =
 
 abbrev pub Cause : {D : Type 0} → (D → DiskState) → Outside D → Outcome → Type 0
 Cause state o usage = (¬ AreAccepted o.words) × WasNotRead o × HasNotFetched o.shelf o.shelf_after
-Cause state o source_fault = AreAccepted o.words × HasRisen o.source_faults o.source_faults_after × HasNotFetched o.shelf o.shelf_after
-Cause state o too_big = AreAccepted o.words × IfSome o.left (λ input. script_limit < length input) × HasNotFetched o.shelf o.shelf_after
+Cause state o source_fault = AreAccepted o.words × HasRisen o.source_faults o.source_faults_after × LosesFront o.left o.left_after × LosesAtMost most_read o.left o.left_after × HasNotFetched o.shelf o.shelf_after
+Cause state o too_big = AreAccepted o.words × IfSome o.left (λ input. script_limit < length input) × LosesMoreThan script_limit o.left o.left_after × LosesAtMost most_read o.left o.left_after × HasNotFetched o.shelf o.shelf_after
 Cause state o (bad_line n) = HasRead o × IfSome o.left (λ input. IsBadLine input n) × HasNotFetched o.shelf o.shelf_after
 Cause state o disk_fault = WasRefused state o refusal.DiskFault × HasRisen o.shelf.faults o.shelf_after.faults
 Cause state o not_a_store = WasFound state o refusal.NotAStore

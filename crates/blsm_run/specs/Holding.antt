@@ -1,5 +1,5 @@
 -- Which writes the log of a store's file holds.
-use Rattle.std.specs.Prelude.{◌≡◌, ◌⊎◌, ◌≤◌, ℕ, List, [], map, ◌+◌}
+use Rattle.std.specs.Prelude.{◌≡◌, ◌⊎◌, ◌≤◌, ℕ, List, [], ◌∷◌, length, map, ◌+◌, ◌/◌}
 use Rattle.blsm_model.specs.declared.key.Key.{Key}
 use Rattle.blsm_model.specs.declared.op.Write.{Write}
 use Rattle.blsm_model.specs.Sizes.{Sizes, default_sizes}
@@ -37,6 +37,11 @@ IsFound sizes writes file = ((file ≡ []) × (sizes ≡ default_sizes) × (writ
 abbrev pub IsYet : List ℕ → (List ℕ → Type 0) → List ℕ → Type 0
 IsYet first P file = P file ⊎ ((first ≡ []) × ¬ (IsStore file))
 
--- How many calls of the disk an opening that makes the store takes at most: a look at the length, and those of making.
-abbrev pub opening_calls : ℕ
-opening_calls = making_calls default_sizes + 1
+-- How many calls of the disk an opening takes at most. One that makes the store: a look at the length, and those of making. One that reads it: a look at the length, a sync, four reads of the head, and a read for each write of the log and for its end.
+abbrev pub opening_calls : List ℕ → List Write → ℕ
+opening_calls [] writes = 1 + making_calls default_sizes
+opening_calls (b ∷ bs) writes = 7 + length writes
+
+-- How many any opening takes at most, of any disk and whatever it answers: a write weighs no less than 14 bytes, and the writes of a log no more than the greatest half spring.
+abbrev pub most_opening_calls : ℕ
+most_opening_calls = 7 + 67108864 / 14

@@ -23,7 +23,7 @@ use Rattle.blsm_run.specs.declared.outcome.Refusal.TheVariants as refusal
 use Rattle.blsm_model.specs.Book.{Book}
 use Rattle.blsm_run.specs.MemoryTable.{table_of}
 use Rattle.blsm_run.specs.Memory.{Memory}
-use Rattle.blsm_run.specs.Holding.{log_lane, entries_of, HoldsWrites, IsFound, IsYet}
+use Rattle.blsm_run.specs.Holding.{log_lane, entries_of, HoldsWrites, IsFound, IsYet, opening_calls, most_opening_calls}
 
 -- These writes were folded into the memory table: it has what they lead to, and the charge is their weight.
 pub record HasTaken (writes : List Write) (opened : Opened) : Type 0 where
@@ -56,7 +56,7 @@ IsTooHeavy sizes file = (entries : List (Key × Rec)) × HasFront sizes log_lane
 abbrev pub IsBroken : Sizes → List ℕ → Type 0
 IsBroken sizes file = IsDamaged sizes log_lane file ⊎ IsTooHeavy sizes file
 
--- The log was folded into the memory table, whole; its next entry goes behind its last.
+-- The log was folded into the memory table, whole; its next entry goes behind its last. A write weighs no less than 14 bytes.
 pub record HasReplayed (disk : DiskState) (writes : List Write) (opened : Opened) : Type 0 where
   pub taken : HasTaken writes opened
   pub fit : IsFit opened
@@ -64,11 +64,12 @@ pub record HasReplayed (disk : DiskState) (writes : List Write) (opened : Opened
   pub inside : opened.end < region_length opened.geometry
   -- a record takes a gate byte beside its weight, which is at least as much
   pub short : opened.end ≤ 2 * opened.charge
+  pub few : 14 * length writes ≤ opened.charge
   pub lane : IsTrue disk.is_honest → HasEntries opened.geometry log_lane (entries_of writes) disk.bytes
 
--- what a replay of the log answers
+-- What a replay of the log answers. It reads once for each write that it gives, and once more.
 abbrev pub Replays : DiskState → DiskState → Opened → Result (Unit {0}) LaneBroken → Type 0
-Replays old new opened (Ok done) = ((writes : List Write) × HasReplayed old writes opened) × (new.faults ≡ old.faults)
+Replays old new opened (Ok done) = (writes : List Write) × HasReplayed old writes opened × (new.faults ≡ old.faults) × (new.clock ≤ old.clock + length writes + 1)
 Replays old new opened (Err (Damaged lane)) = (lane ≡ log_lane) × (IsTrue old.is_honest → IsBroken opened.geometry old.bytes) × (new.faults ≡ old.faults)
 Replays old new opened (Err Fault) = HasRisen old.faults new.faults
 
@@ -77,13 +78,13 @@ pub record IsLeft (old new : DiskState) : Type 0 where
   pub bytes : IsTrue old.is_honest → new.bytes ≡ old.bytes
   pub images : IsTrue old.is_honest → LeavesOnly old new old.images
 
--- the same; or the disk had no bytes, and may be half a store
+-- the same; or the disk had no bytes, and reads as half a store, as each crash may leave it
 abbrev pub IsHalfOpened : DiskState → DiskState → Type 0
 IsHalfOpened old new =
-    IsLeft old new ⊎ (IsTrue old.is_honest → (old.bytes ≡ []) × LeavesOnly old new (IsOldOr old.images (IsHalfMade default_sizes)))
+    IsLeft old new ⊎ (IsTrue old.is_honest → (old.bytes ≡ []) × IsHalfMade default_sizes new.bytes × LeavesOnly old new (IsOldOr old.images (IsHalfMade default_sizes)))
 
--- The disk was opened as a store whose log has these writes. Since the first sync each crash leaves such a store; or none yet, where it had to be made.
-pub record HasOpened (calls : ℕ) (old new : DiskState) (writes : List Write) (opened : Opened) : Type 0 where
+-- The disk was opened as a store whose log has these writes, behind so many calls of the opening. Since the first sync each crash leaves such a store; or none yet, where it had to be made.
+pub record HasOpened (behind : ℕ) (old new : DiskState) (writes : List Write) (opened : Opened) : Type 0 where
   pub replayed : HasReplayed new writes opened
   pub geometry : IsGeometry opened.geometry
   pub length : IsTrue old.tells_bytes → length new.bytes ≡ file_length opened.geometry
@@ -93,8 +94,8 @@ pub record HasOpened (calls : ℕ) (old new : DiskState) (writes : List Write) (
   pub durable : IsTrue old.is_honest → Only new.bytes new.images
   pub each : IsTrue old.is_honest → LeavesOnly old new (IsOldOr old.images (IsYet old.bytes (HoldsWrites opened.geometry writes)))
   pub once_synced : IsTrue old.is_honest → LeavesOnlyOnceSynced old new (IsYet old.bytes (HoldsWrites opened.geometry writes))
-  -- a disk without bytes takes at most so many calls, and nothing is written to any other
-  pub soon : IsTrue old.is_honest → old.bytes ≡ [] → new.clock ≤ old.clock + calls
+  -- it takes no more calls than this, and nothing is written to a disk that had bytes
+  pub soon : IsTrue old.is_honest → behind + new.clock ≤ old.clock + opening_calls old.bytes writes
   pub kept : ((old.bytes ≡ []) → ⊥) → IsLeft old new
 
 -- why a disk was not opened, and what it has then: exactly its first failing place, or a fault, or want of memory
@@ -107,11 +108,15 @@ Refuses old new refusal.DamagedLane =
 Refuses old new refusal.NoMemory = IsLeft old new
 Refuses old new refusal = ⊥
 
+-- and after no more calls than any opening takes
+abbrev pub IsRefusedSoon : DiskState → DiskState → Refusal → Type 0
+IsRefusedSoon old new refusal = Refuses old new refusal × (new.clock ≤ old.clock + most_opening_calls)
+
 -- a fault is answered where the count rose, and all else where it stands
 abbrev pub IsCounted : ℕ → ℕ → Refusal → Type 0
 IsCounted old new refusal.DiskFault = HasRisen old new
 IsCounted old new refusal = new ≡ old
 
 abbrev pub Opens : ℕ → DiskState → DiskState → Result Opened Refusal → Type 0
-Opens calls old new (Ok opened) = (writes : List Write) × HasOpened calls old new writes opened
-Opens calls old new (Err refusal) = Refuses old new refusal × IsCounted old.faults new.faults refusal
+Opens behind old new (Ok opened) = (writes : List Write) × HasOpened behind old new writes opened
+Opens behind old new (Err refusal) = Refuses old new refusal × IsCounted old.faults new.faults refusal

@@ -1,5 +1,5 @@
 -- What one command does to the store, and what a whole script does.
-use Rattle.std.specs.Prelude.{◌≡◌, ◌≤◌, ◌*◌, ◌+◌, ℕ, IsTrue, List, [], ◌∷◌, ◌++◌, length, map, None}
+use Rattle.std.specs.Prelude.{◌≡◌, ◌≤◌, ◌*◌, ◌+◌, ℕ, IsTrue, List, [], ◌∷◌, ◌++◌, length, None}
 use Rattle.refusal.specs.Count.{HasRisen}
 use Rattle.disk_trait.specs.Disk.{DiskState, GoesOn, Torn}
 use Rattle.disk_trait.specs.Moments.{LeavesOnly, SyncsLater}
@@ -9,10 +9,10 @@ use Rattle.blsm_model.specs.declared.op.Op.{Op}
 use Rattle.blsm_model.specs.declared.op.Op.TheVariants.{Put, Add, Del}
 use Rattle.blsm_model.specs.declared.history.Reply.{Reply}
 use Rattle.blsm_model.specs.declared.history.Reply.TheVariants.{Done, FaultUnsure}
-use Rattle.blsm_model.specs.declared.history.Entry.{Entry}
 use Rattle.blsm_model.specs.declared.history.Line.{Line}
 use Rattle.blsm_model.specs.declared.history.Totals.{Totals}
 use Rattle.blsm_model.specs.Book.{Book}
+use Rattle.blsm_model.specs.Scripts.{asked, asked_in}
 use Rattle.blsm_model.specs.Sizes.{Sizes}
 use Rattle.record_delta.specs.declared.record.Rec.{Rec}
 use Rattle.record_delta.specs.declared.record.Rec.TheVariants.{Base, Delta, Tomb}
@@ -21,14 +21,8 @@ use Rattle.gated_log.specs.Lane.{region_start, region_length, blocks, HasEntries
 use Rattle.blsm_run.specs.Holding.{log_lane}
 use Rattle.blsm_run.specs.Memory.{Memory, AnswersRecord, Answers, with_entry, StandsFor}
 use Rattle.blsm_run.specs.StoreState.{StoreState, IsStoppedByFault}
+use Rattle.blsm_run.specs.Showing.{calls_for}
 use Rattle.blsm_run.specs.Crashes.{StandsOnDisk, KeepsShowing}
-
--- who asked for what, in order
-abbrev pub asked : List Line → List (ℕ × Op)
-asked lines = map (λ l. (l.seat, l.op)) lines
-
-abbrev pub asked_in : List Entry → List (ℕ × Op)
-asked_in history = map (λ e. (e.seat, e.op)) history
 
 -- the disk goes on, with its length, and each sync comes later; the sizes and the limit stay
 pub record GoesAlong {D : Type 0} (state : D → DiskState) (old new : StoreState D) : Type 0 where
@@ -57,6 +51,10 @@ pub record HasAppended (sizes : Sizes) (end : ℕ) (entry : Key × Rec) (old new
       → HasEntries sizes log_lane (entries ++ entry ∷ []) new.bytes
   pub outside : IsTrue old.is_honest → Torn (region_start sizes log_lane) (region_length sizes) old.bytes new.bytes
 
+-- how many calls of the disk an append takes at most: two writes and two syncs
+abbrev pub append_calls : ℕ
+append_calls = 4
+
 -- What a reply to a write says of the disk: the write was appended to the log; or its append failed; or the disk was not touched.
 abbrev pub WritesOnDisk : {D : Type 0} → (D → DiskState) → Key → Rec → StoreState D → StoreState D → Reply → Type 0
 WritesOnDisk state key rec old new Done =
@@ -78,6 +76,8 @@ pub record Answered {D : Type 0} (state : D → DiskState) (op : Op) (old new : 
   pub disk : ChangesDisk state op old new reply
   -- a store that runs on has seen no fault
   pub calm : new.memory.stopped ≡ None → (state new.disk).faults ≡ (state old.disk).faults
+  pub calls : (state new.disk).clock ≤ (state old.disk).clock + append_calls
+  pub one_fault : (state new.disk).faults ≤ (state old.disk).faults + 1
   pub along : GoesAlong state old new
 
 -- A write of this key and record was taken or refused.
@@ -85,6 +85,8 @@ pub record AnsweredWrite {D : Type 0} (state : D → DiskState) (key : Key) (rec
   pub answers : AnswersRecord old.memory key rec new.memory reply
   pub disk : WritesOnDisk state key rec old new reply
   pub calm : new.memory.stopped ≡ None → (state new.disk).faults ≡ (state old.disk).faults
+  pub calls : (state new.disk).clock ≤ (state old.disk).clock + append_calls
+  pub one_fault : (state new.disk).faults ≤ (state old.disk).faults + 1
   pub along : GoesAlong state old new
 
 -- One command was answered, and noted with its reply.
@@ -96,6 +98,8 @@ pub record Executes {D : Type 0} (state : D → DiskState) (seat : ℕ) (op : Op
   pub limit : old.memory.limit ≡ old.sizes.half
   pub disk : ChangesDisk state op old new reply
   pub calm : answered.stopped ≡ None → (state new.disk).faults ≡ (state old.disk).faults
+  pub calls : (state new.disk).clock ≤ (state old.disk).clock + append_calls
+  pub one_fault : (state new.disk).faults ≤ (state old.disk).faults + 1
   pub along : GoesAlong state old new
 
 -- A script was run: whatever the store stood for, it stands for now, in memory and on the disk, and the history has gained the script's lines, in order.
@@ -107,6 +111,8 @@ pub record Runs {D : Type 0} (state : D → DiskState) (lines : List Line) (old 
       × StandsOnDisk old.sizes log new.memory.book.entries new.memory.stopped new.log_end (state new.disk)
   pub asked : asked_in new.memory.book.entries ≡ asked_in old.memory.book.entries ++ asked lines
   pub calm : new.memory.stopped ≡ None → (state new.disk).faults ≡ (state old.disk).faults
+  pub calls : (state new.disk).clock + calls_for old.memory.book.entries ≤ (state old.disk).clock + calls_for new.memory.book.entries
+  pub one_fault : (state new.disk).faults ≤ (state old.disk).faults + 1
   pub along : GoesAlong state old new
 
 -- A run ended with this disk, this history and these totals.

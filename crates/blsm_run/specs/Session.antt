@@ -1,5 +1,5 @@
 -- What the run of a script over a disk, and over a shelf, answers.
-use Rattle.std.specs.Prelude.{◌≡◌, ℕ, true, IsTrue, List, length, Result, Ok, Err, ◌≤◌, IsSome}
+use Rattle.std.specs.Prelude.{◌≡◌, ◌+◌, ℕ, true, IsTrue, List, length, take, Result, Ok, Err, ◌≤◌, IsSome}
 use Rattle.refusal.specs.Count.{HasRisen}
 use Rattle.disk_trait.specs.Disk.{DiskState, Only}
 use Rattle.disk_trait.specs.Moments.{LeavesOnly}
@@ -18,9 +18,9 @@ use Rattle.blsm_model.specs.declared.history.Entry.{Entry}
 use Rattle.gated_log.specs.Lane.{blocks}
 use Rattle.blsm_run.specs.declared.opening.Opened.{Opened}
 use Rattle.blsm_run.specs.Memory.{is_untroubled, log_after}
-use Rattle.blsm_run.specs.Holding.{entries_of, HoldsWrites, opening_calls}
-use Rattle.blsm_run.specs.Opening.{HasOpened, Refuses, IsCounted}
-use Rattle.blsm_run.specs.Showing.{ShowsWhole, ShowsPrefix, HasShown}
+use Rattle.blsm_run.specs.Holding.{entries_of, HoldsWrites, most_opening_calls}
+use Rattle.blsm_run.specs.Opening.{HasOpened, Refuses, IsRefusedSoon, IsCounted}
+use Rattle.blsm_run.specs.Showing.{ShowsWhole, ShowsPrefix, HasShown, calls_for}
 use Rattle.blsm_run.specs.Cause.{HasFinished, IsRunOnShelf}
 
 abbrev pub run_of : Finished → Run
@@ -38,9 +38,9 @@ outcome_of (Err refusal.DamagedSlots) = damaged_slots
 outcome_of (Err refusal.DamagedLane) = damaged_lane
 outcome_of (Err refusal.NoMemory) = no_memory
 
--- the store was opened, or why it was not
+-- The store was opened, or why it was not.
 abbrev pub Prepares : DiskState → DiskState → Result (Book × Opened) Refusal → Type 0
-Prepares old new (Ok prepared) = (writes : List Write) × HasOpened opening_calls old new writes prepared.1
+Prepares old new (Ok prepared) = (writes : List Write) × HasOpened 0 old new writes prepared.1
 Prepares old new (Err refusal) = Refuses old new refusal × IsCounted old.faults new.faults refusal
 
 -- an honest disk has these writes in its log, whatever a crash leaves, and the log ends where the opening says
@@ -50,9 +50,10 @@ pub record IsDurable (opened : Opened) (log : List Write) (disk : DiskState) : T
   pub holds : HoldsWrites opened.geometry log disk.bytes
   pub durable : Only disk.bytes disk.images
 
--- each crash since then leaves a prefix of the history, and each now the whole; without trouble that is what a read gives
+-- Each crash since then leaves a prefix of the history, and once n commands had their calls, their entries too; each now leaves the whole, and without trouble that is what a read gives.
 pub record KeepsWhole (sizes : Sizes) (log : List Write) (history : List Entry) (old new : DiskState) : Type 0 where
   pub leaves : LeavesOnly old new (ShowsPrefix sizes log history 0)
+  pub paced : (n : ℕ) (c : List ℕ) → n ≤ length history → new.images_since (old.clock + calls_for (take n history)) c → ShowsPrefix sizes log history n c
   pub whole : (c : List ℕ) → new.images c → ShowsWhole sizes log history c
   pub reads : is_untroubled history ≡ true → HoldsWrites sizes (log_after log history) new.bytes
 
@@ -63,12 +64,13 @@ RunsOverDisk lines first last (Ok finished) =
     × IsGeometry sizes
     × (total_weight log ≤ sizes.half)
     × HasFinished sizes log lines (run_of finished) (IsTrue finished.is_faulted) last
+    × (last.clock ≤ first.clock + most_opening_calls + calls_for finished.annals.entries)
     × (IsTrue first.is_honest → HasShown sizes log finished.annals.entries first last)
-RunsOverDisk lines first last (Err refusal) = Refuses first last refusal × IsCounted first.faults last.faults refusal
+RunsOverDisk lines first last (Err refusal) = IsRefusedSoon first last refusal × IsCounted first.faults last.faults refusal
 
 -- the disk of this name of a shelf was refused for this
 abbrev pub IsRefusedOnShelf : {D : Type 0} → (D → DiskState) → List ℕ → ShelfState D → ShelfState D → Refusal → Type 0
-IsRefusedOnShelf state disk old new refusal = OfTheDisk state disk old new (λ first last. Refuses first last refusal)
+IsRefusedOnShelf state disk old new refusal = OfTheDisk state disk old new (λ first last. IsRefusedSoon first last refusal)
 
 -- which stood there, and no call of it failed
 abbrev pub IsFoundOnShelf : {D : Type 0} → (D → DiskState) → List ℕ → ShelfState D → ShelfState D → Refusal → Type 0

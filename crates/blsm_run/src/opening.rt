@@ -1,14 +1,12 @@
 //! The opening of a store: a disk of length 0 is made into an empty one, and any other must be a store, whose log is replayed into the
 //! memory table.
-ghost use Rattle.std.specs.Prelude.{◌≡◌, ◌≤◌, ◌<◌, ◌+◌, ◌∷◌, [], ◌++◌, List, ℕ, length, IsTrue, IfOk, OnOk, OnErr, Err};
+ghost use Rattle.std.specs.Prelude.{◌≡◌, ◌≤◌, ◌<◌, ◌+◌, ◌*◌, ◌∷◌, [], ◌++◌, List, ℕ, length, IsTrue, IfOk, OnOk, OnErr, Err};
 ghost use Rattle.disk_trait.specs.Disk.{GoesOn, MarksSync};
 ghost use Rattle.disk_trait.specs.Moments.{LeavesOnly};
 ghost use Rattle.blsm_model.specs.declared.op.Write.{Write};
-ghost use Rattle.blsm_model.specs.Sizes.{default_sizes};
 ghost use Rattle.blsm_model.specs.Geometry.{file_length, high_mark};
 ghost use Rattle.record_delta.specs.Records.{write_of, weight as weight_with};
-ghost use Rattle.store_file.specs.Making.{making_calls};
-ghost use Rattle.blsm_run.specs.Holding.{opening_calls};
+ghost use Rattle.blsm_run.specs.Holding.{most_opening_calls};
 ghost use Rattle.blsm_run.specs.Opening.{HasTaken, IsFit, Replays, Opens};
 
 use crate::outcome::Refusal;
@@ -56,6 +54,7 @@ impl Opened {
         requires { IsFit self.old }
         ensures same { self.new.geometry ≡ self.old.geometry }
         ensures fit { IsFit self.new }
+        ensures least { 14 ≤ weight_with key.now rec.now }
         ensures charge { OnOk result (self.new.charge ≡ self.old.charge + weight_with key.now rec.now) }
         ensures taken { OnOk result ((writes : List Write) → HasTaken writes self.old → HasTaken (writes ++ write_of key.now rec.now ∷ []) self.new) }
         ensures heavy { OnErr result (self.old.geometry.half < self.old.charge + weight_with key.now rec.now) }
@@ -85,6 +84,7 @@ fn replay_lane<D: Disk>(disk: &mut D, opened: &mut Opened) -> Result<(), LaneBro
     } }
     ensures same { opened.new.geometry ≡ opened.old.geometry }
     ensures replays { Replays (D.state disk.old) (D.state disk.new) opened.new result }
+    ensures calls { 14 * (D.state disk.new).clock ≤ 14 * (D.state disk.old).clock + opened.new.geometry.half + 14 }
     ensures goes_on { GoesOn (D.state disk.old) (D.state disk.new) }
     ensures bytes { IsTrue (D.state disk.old).is_honest → (D.state disk.new).bytes ≡ (D.state disk.old).bytes }
     ensures length { IsTrue (D.state disk.old).tells_bytes → length (D.state disk.new).bytes ≡ length (D.state disk.old).bytes }
@@ -104,7 +104,8 @@ fn replay_lane<D: Disk>(disk: &mut D, opened: &mut Opened) -> Result<(), LaneBro
 fn make<D: Disk>(alloc: Global, disk: &mut D) -> Result<Opened, Refusal>
     requires { IsTrue (D.state disk.old).tells_bytes → length (D.state disk.old).bytes ≡ 0 }
     ensures goes_on { GoesOn (D.state disk.old) (D.state disk.new) }
-    ensures opens { Opens (making_calls default_sizes) (D.state disk.old) (D.state disk.new) result }
+    ensures opens { Opens 1 (D.state disk.old) (D.state disk.new) result }
+    ensures calls { 1 + (D.state disk.new).clock ≤ (D.state disk.old).clock + most_opening_calls }
 {
     let geometry = Geometry::default();
     let Ok(opened) = Opened::reserve(alloc, geometry) else {
@@ -120,7 +121,8 @@ fn make<D: Disk>(alloc: Global, disk: &mut D) -> Result<Opened, Refusal>
 fn read<D: Disk>(alloc: Global, disk: &mut D) -> Result<Opened, Refusal>
     requires { IsTrue (D.state disk.old).tells_bytes → 0 < length (D.state disk.old).bytes }
     ensures goes_on { GoesOn (D.state disk.old) (D.state disk.new) }
-    ensures opens { Opens (making_calls default_sizes) (D.state disk.old) (D.state disk.new) result }
+    ensures opens { Opens 1 (D.state disk.old) (D.state disk.new) result }
+    ensures calls { 1 + (D.state disk.new).clock ≤ (D.state disk.old).clock + most_opening_calls }
 {
     let Ok(()) = disk.sync() else {
         return Err(Refusal::DiskFault);
@@ -146,7 +148,8 @@ fn read<D: Disk>(alloc: Global, disk: &mut D) -> Result<Opened, Refusal>
 /// that fails is answered, and then the disk has what it had. Nothing is written to a disk that has bytes.
 pub(crate) fn open<D: Disk>(alloc: Global, disk: &mut D) -> Result<Opened, Refusal>
     ensures goes_on { GoesOn (D.state disk.old) (D.state disk.new) }
-    ensures opens { Opens opening_calls (D.state disk.old) (D.state disk.new) result }
+    ensures opens { Opens 0 (D.state disk.old) (D.state disk.new) result }
+    ensures calls { (D.state disk.new).clock ≤ (D.state disk.old).clock + most_opening_calls }
 {
     let Ok(length) = disk.len() else {
         return Err(Refusal::DiskFault);

@@ -1,5 +1,5 @@
 //! One script, run over the disk of a name.
-ghost use Rattle.std.specs.Prelude.{◌≡◌, ◌≤◌, ◌<◌, ◌*◌, List, [], sum, length, IsTrue, IfOk};
+ghost use Rattle.std.specs.Prelude.{◌≡◌, ◌≤◌, ◌<◌, ◌+◌, ◌*◌, List, [], sum, length, IsTrue, IfOk};
 ghost use Rattle.disk_trait.specs.Disk.{GoesOn};
 ghost use Rattle.disk_trait.specs.Moments.{SyncsLater};
 ghost use Rattle.gated_log.specs.Lane.{region_length};
@@ -7,7 +7,9 @@ ghost use Rattle.blsm_model.specs.declared.op.Write.{Write};
 ghost use Rattle.blsm_model.specs.Geometry.{file_length};
 ghost use Rattle.blsm_run.specs.Rooms.{HasRoomFor, AreRunnable};
 ghost use Rattle.blsm_run.specs.Outside.{HasFetched};
+ghost use Rattle.blsm_run.specs.Holding.{most_opening_calls};
 ghost use Rattle.blsm_run.specs.Opening.{HasTaken, IsFit};
+ghost use Rattle.blsm_run.specs.Showing.{calls_for};
 ghost use Rattle.blsm_run.specs.Cause.{HasFinished};
 ghost use Rattle.blsm_run.specs.Session.{run_of, Prepares, IsDurable, KeepsWhole, RunsOverDisk, RunsOnShelf};
 
@@ -25,6 +27,7 @@ fn prepare<D: Disk>(alloc: Global, disk: &mut D, room: Room) -> Result<(Annals, 
     ensures goes_on { GoesOn (D.state disk.old) (D.state disk.new) }
     ensures annals { IfOk result (λ prepared. prepared.0 ≡ record { entries = []; quanta = []; room = room }) }
     ensures opens { Prepares (D.state disk.old) (D.state disk.new) result }
+    ensures calls { (D.state disk.new).clock ≤ (D.state disk.old).clock + most_opening_calls }
 {
     let Ok(annals) = Annals::reserve(alloc, room) else {
         return Err(Refusal::NoMemory);
@@ -50,6 +53,7 @@ fn run_store<D: Disk + Drop>(
     requires room { HasRoomFor annals.room lines.now }
     ensures goes_on { GoesOn (D.state disk) (D.state result.0) }
     ensures syncs { SyncsLater (D.state disk) (D.state result.0) }
+    ensures calls { (D.state result.0).clock ≤ (D.state disk).clock + calls_for result.1.annals.entries }
     ensures finished { (log : List Write) → (D.state disk).faults ≡ 0 → HasTaken log opened
         → HasFinished opened.geometry log lines.now (run_of result.1) (IsTrue result.1.is_faulted) (D.state result.0) }
     ensures shows { (log : List Write) → HasTaken log opened → IsDurable opened log (D.state disk)

@@ -66,9 +66,8 @@ fn a_sink_that_fails_holds_a_front_of_the_text(rt: HostRuntime) -> Result<(), Fa
         }
         calls = call;
     }
-    // One line takes at least one call.
-    assert!(rt; 4 <= calls);
-    assert!(rt; calls < 99);
+    // Four lines, each one call.
+    assert_eq!(rt; calls, 4);
     for limit in [0, 1, 13, 14, 15, 80, TEXT.len() as u64 - 1] {
         let mut sink = MemSink::new(alloc, limit, &[])?;
         assert!(rt;

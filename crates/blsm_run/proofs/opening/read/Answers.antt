@@ -1,8 +1,7 @@
 use Rattle.std.proofs.Common.{◌≡◌, IsTrue, Err, ap, subst, ◌∙◌, inl, ℕ, List, length, arith}
 use Rattle.refusal.specs.Count.{HasRisen}
 use Rattle.store_file.specs.Layout.{IsStoreOf, HasFirstSlots}
-use Rattle.blsm_model.specs.Sizes.{Sizes, default_sizes}
-use Rattle.store_file.specs.Making.{making_calls}
+use Rattle.blsm_model.specs.Sizes.{Sizes}
 use Rattle.blsm_run.specs.Opening.{IsBroken, Replays}
 use Rattle.blsm_run.specs.declared.opening.Opened.{Opened}
 use Rattle.blsm_run.proofs.OpeningLemmas.{read_opened, read_left}
@@ -15,13 +14,13 @@ returns-in-Ok-replay_lane-clause-opens g c =
     let read = c.in-Ok-read_store.ensures in
     let replay = c.in-Ok-replay_lane.ensures in
     let replayed = replay.replays in (
-      replayed.0.0,
-      read_opened _ (state c.args.disk.now) (state c.sync.new.self) (state c.read_store.new.disk) (state c.replay_lane.new.disk) c.in-Ok-read_store.geometry replayed.0.0 c.replay_lane.new.opened
+      replayed.0,
+      read_opened _ (state c.args.disk.now) (state c.sync.new.self) (state c.read_store.new.disk) (state c.replay_lane.new.disk) c.in-Ok-read_store.geometry replayed.0 c.replay_lane.new.opened
           (g.met.D.Disk.timed c.args.disk.now) (g.met.D.Disk.timed c.sync.new.self) (g.met.D.Disk.timed c.read_store.new.disk) (g.met.D.Disk.timed c.replay_lane.new.disk)
           sync.passes sync.marks sync.same sync.durable read.goes_on read.same read.each read.no_sync replay.goes_on replay.bytes replay.each replay.no_sync replay.length
-          (replay.same ∙ ap (λ (o : Opened). o.geometry) c.in-Ok-reserve.ensures) read.fits read.length read.tells replayed.0.1 sync.stands read.cause replayed.1
+          (replay.same ∙ ap (λ (o : Opened). o.geometry) c.in-Ok-reserve.ensures) read.fits read.length read.tells replayed.1 sync.stands read.cause replayed.2
           (λ honest empty. let some = c.requires (g.met.D.Disk.honest_tells c.args.disk.now honest) in let none : length (state c.args.disk.now).bytes ≡ 0 = ap (λ (l : List ℕ). length l) empty in omega arith)
-          (making_calls default_sizes),
+          read.calls replayed.3,
     )
 
 pub returns-in-Err-Fault-replay_lane-clause-opens : goal.returns-in-Err-Fault-replay_lane-clause-opens

@@ -1,4 +1,4 @@
-use Rattle.std.proofs.Common.{◌≡◌, ◌<◌, ◌+◌, IsTrue, Ok, Err, Some, refl, ap, sym, subst, ◌∙◌, [], ◌∷◌, ◌++◌, arith, List, IfOk, IfSome, inr}
+use Rattle.std.proofs.Common.{◌≡◌, ◌<◌, ◌+◌, IsTrue, Ok, Err, Some, refl, ap, sym, subst, ◌∙◌, [], ◌∷◌, ◌++◌, length-append, arith, List, IfOk, IfSome, inr}
 use Rattle.std.proofs.lemmas.Result.{err_from_is_err_and}
 use Rattle.disk_trait.specs.Moments.{goes_on_start, goes_on_run, leaves_only_start, leaves_only_kept, no_sync_start, no_sync_run}
 use Rattle.blsm_model.specs.Legal.{total_weight}
@@ -31,7 +31,7 @@ loop-key-init g c =
       each = λ honest. leaves_only_start first first.images (g.met.D.Disk.timed c.args.disk.now) (λ d left. left);
       no_sync = no_sync_start first;
       stands = refl;
-      given = ([], taken_start c.args.opened.now c.args.opened.now.geometry c.requires.empty, sym none, λ honest. begun.nothing first.bytes);
+      given = ([], taken_start c.args.opened.now c.args.opened.now.geometry c.requires.empty, sym none, λ honest. begun.nothing first.bytes, omega arith, omega arith);
     }
 
 pub returns-in_err-key-clause-replays : goal.returns-in_err-key-clause-replays
@@ -89,6 +89,8 @@ loop-key-preserved g c =
             (subst (λ b. HasGiven c.next.new.self (entries_of writes ++ (key, rec) ∷ []) b) bytes
             (subst (λ r. IfOk r (λ given. IfSome given (λ e. HasGiven c.next.new.self (entries_of writes ++ e ∷ []) new.bytes))) found
             (next.entry (entries_of writes) (g.met.D.Disk.honest_tells c.loop-key.disk honest') (subst (λ b. HasGiven c.loop-key.replay (entries_of writes) b) (sym bytes) (inv.given.3 honest))))),
+        omega (arith, length-append writes (write_of key rec ∷ []), took.least, charge, inv.given.4),
+        omega (arith, length-append writes (write_of key rec ∷ []), next.passes.at_most_one, inv.given.5),
       );
     }
 

@@ -1,4 +1,4 @@
-use Rattle.std.proofs.Common.{◌≡◌, ◌≤◌, ◌*◌, ◌-◌, List, IsTrue, length}
+use Rattle.std.proofs.Common.{◌≡◌, ◌≤◌, ◌+◌, ◌*◌, ◌-◌, List, IsTrue, length}
 use Rattle.disk_trait.specs.Disk.{GoesOn, MarksSync}
 use Rattle.disk_trait.specs.Moments.{LeavesOnly}
 use Rattle.blsm_model.specs.declared.op.Write.{Write}
@@ -22,7 +22,9 @@ invariant-loop-key g l = record {
   no_sync : MarksSync ⊥ (g.D.Disk.state l.fn.disk) (g.D.Disk.state l.disk);
   stands : (g.D.Disk.state l.disk).faults ≡ (g.D.Disk.state l.fn.disk).faults;
   given : (writes : List Write) × HasTaken writes l.opened × (length (blocks (entries_of writes)) ≡ l.replay.end)
-      × (IsTrue (g.D.Disk.state l.fn.disk).is_honest → HasGiven l.replay (entries_of writes) (g.D.Disk.state l.fn.disk).bytes);
+      × (IsTrue (g.D.Disk.state l.fn.disk).is_honest → HasGiven l.replay (entries_of writes) (g.D.Disk.state l.fn.disk).bytes)
+      × (14 * length writes ≤ l.opened.charge)
+      × ((g.D.Disk.state l.disk).clock ≤ (g.D.Disk.state l.fn.disk).clock + length writes);
 }
 
 abbrev pub decreases-loop-key : goal.decreases-loop-key

@@ -17,8 +17,9 @@ returns-in-Ok-clause-runs g c = λ fresh.
       has.geometry,
       omega (arith, has.replayed.taken.charge, has.replayed.fit.charge_within),
       run.finished log (has.calm ∙ fresh) has.replayed.taken,
+      omega (arith, c.prepare.ensures.calls, run.calls),
       λ honest.
-          shown_behind state log opened c.run_store-disk.result.1.annals.entries c.args.disk mid last (g.met.D.Disk.timed mid) (g.met.D.Disk.timed last) c.prepare.ensures.goes_on has run.syncs honest
+          shown_behind state log opened c.run_store-disk.result.1.annals.entries c.args.disk mid last (g.met.D.Disk.timed mid) (g.met.D.Disk.timed last) c.prepare.ensures.goes_on has run.syncs honest run.calls
           (run.shows log has.replayed.taken (record {
             honest = c.prepare.ensures.goes_on.is_honest ∙ honest;
             ends = has.replayed.end;

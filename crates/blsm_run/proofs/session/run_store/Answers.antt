@@ -1,5 +1,5 @@
-use Rattle.std.proofs.Common.{ap, sym, subst, nat_lt, ◌∙◌}
-use Rattle.blsm_run.specs.Memory.{StandsFor}
+use Rattle.std.proofs.Common.{◌≡◌, arith, ap, sym, subst, nat_lt, ◌∙◌}
+use Rattle.blsm_run.specs.Memory.{Memory, StandsFor}
 use Rattle.blsm_run.specs.StoreState.{IsStoppedByFault}
 use Rattle.blsm_run.specs.Session.{KeepsWhole}
 use Rattle.blsm_model.specs.Book.{Book}
@@ -18,6 +18,9 @@ returns-clause-finished g c = λ log fresh taken.
     (subst (λ d. IsStoppedByFault c.run.new.self.memory.stopped (state d).faults) (sym ends.same_disk) ends.stopped) ends.within
     (ap (λ n. nat_lt 0 n) c.faults-is_faulted.ensures)
     (λ runs. ap (λ d. (state d).faults) ends.same_disk ∙ c.run.ensures.calm runs ∙ ap (λ d. (state d).faults) c.new-store.ensures.disk ∙ fresh)
+    (let ended : (state c.end-disk.result.0).faults ≡ (state c.run.new.self.disk).faults = ap (λ d. (state d).faults) ends.same_disk in
+    let begun : (state c.new-store.result.disk).faults ≡ (state c.args.disk).faults = ap (λ d. (state d).faults) c.new-store.ensures.disk in
+    omega (arith, ended, begun, fresh, c.run.ensures.one_fault))
 
 pub returns-clause-shows : goal.returns-clause-shows
 returns-clause-shows g c = λ log taken on.
@@ -30,6 +33,7 @@ returns-clause-shows g c = λ log taken on.
     let begins : StandsFor log store.memory = subst (StandsFor log) (sym begun.memory) (opened_stands log c.args.opened c.args.annals c.requires.history c.requires.quanta taken) in
     subst (λ (b : Book). KeepsWhole c.args.opened.geometry log b.entries (state c.args.disk) (state last)) (sym ends.same_book)
     (store_shows state log c.args.opened c.args.disk last store.memory.book.entries ended.memory.book.entries ended.memory.stopped ended.log_end store ended.disk begun.disk begun.sizes ends.same_disk
+    (ap (λ (m : Memory). m.book.entries) begun.memory ∙ c.requires.history)
     (calm_runs ended.memory.stopped ended.memory.book.entries (c.run.ensures.stands log begins).faults)
     (c.run.ensures.shows log begins
     (store_stands state log c.args.opened c.args.disk c.args.annals store begun.disk begun.sizes begun.log_end begun.memory c.requires.history on)))

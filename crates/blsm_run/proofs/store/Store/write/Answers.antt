@@ -45,10 +45,12 @@ returns-in-Ok g c =
           each = did.each;
           acknowledged = λ es honest ends each. did.acknowledged es refl honest ends each;
           reads = λ es honest ends has. did.reads es refl honest ends has;
-          outside = did.outside;
+          outside = did.within.bytes;
         }),
       );
       calm = λ runs. did.stands;
+      calls = did.four_calls;
+      one_fault = did.one_fault;
       along = record { disk = did.goes_on; length = did.length; syncs = did.syncs; sizes = refl; limit = refl };
     })
 
@@ -70,5 +72,7 @@ returns-in-Err g c =
       answers = (below, c.faults.result, refl);
       disk = (did.failed refl, subst (λ (s : Sizes). Appends s (end_of inside.lanes log_lane) (key, rec) (state inside.disk) (state c.append.new.disk)) c.self.invariant.same_sizes did.each);
       calm = λ runs. let wrong : Some (Faulted c.faults.result) ≡ None = runs in cc;
+      calls = did.four_calls;
+      one_fault = did.one_fault;
       along = record { disk = did.goes_on; length = did.length; syncs = did.syncs; sizes = refl; limit = refl };
     })
