@@ -91,7 +91,7 @@ pub record IsRunOnShelf {D : Type 0} (state : D → DiskState) (disk : List ℕ)
   pub calls : OfTheDisk state disk old new (λ first last. last.clock ≤ first.clock + most_opening_calls + calls_for run.entries)
   -- faults are told only as often as the shelf's count rose
   pub faults : HasRisenBy (fault_count run.entries) old.faults new.faults
-  -- No more than one call of the disk failed. That is told as one fault, and each stop after it names the disk's count.
+  -- The disk's count rose by one at most. That is told as one fault, and each stop after it names the count.
   pub one_call : OfTheDisk state disk old new (λ first last. last.faults ≤ 1)
   pub one_fault : is_untroubled run.entries ≡ false → fault_count run.entries ≡ 1
   pub stops : OfTheDisk state disk old new (λ first last. StopsName last.faults run)
