@@ -1,5 +1,5 @@
 -- What a crash leaves of the disk of a store, one command more.
-use Rattle.std.proofs.Common.{◌≡◌, ℕ, ◌+◌, ◌*◌, ◌≤◌, List, take, [], ◌∷◌, ◌++◌, Bool, true, false, cond, ◌&&◌, ◌||◌, Option, Some, None, flat_map, length, refl, ap, sym, subst, ◌∙◌, append-nil, length-append, arith, ⊎_elim}
+use Rattle.std.proofs.Common.{◌≡◌, ℕ, ◌+◌, ◌*◌, ◌≤◌, List, take, [], ◌∷◌, ◌++◌, Bool, true, false, cond, ◌&&◌, ◌||◌, Option, Some, None, flat_map, length, refl, ap, sym, subst, ◌∙◌, append-nil, length-append, arith, ◌⊎◌, ⊎_elim}
 use Rattle.std.proofs.lemmas.Bool.Decides.{leb_tells}
 use Rattle.std.proofs.lemmas.List.{take_all, take-append-le}
 use Rattle.std.proofs.Math.Seq.{take-append_seam}
@@ -30,7 +30,7 @@ use Rattle.blsm_run.specs.Holding.{log_lane, entry_of, entries_of, HoldsWrites}
 use Rattle.blsm_run.specs.Showing.{ShowsWhole, ShowsPrefix, calls_for}
 use Rattle.blsm_run.specs.Crashes.{IsWritten, StandsOnDisk, KeepsShowing}
 use Rattle.blsm_run.specs.StoreState.{StoreState}
-use Rattle.blsm_run.specs.Run.{append_calls, Appends, HasAppended, HasSameDisk, WritesOnDisk, ChangesDisk}
+use Rattle.blsm_run.specs.Run.{append_calls, MayAppend, HasAppended, HasSameDisk, WritesOnDisk, ChangesDisk}
 use Rattle.blsm_run.proofs.MemoryLemmas.{log_push}
 use Rattle.blsm_run.proofs.ShowingLemmas.{prefix_self, prefix_push, prefix_then, prefix_length, calm_doubt, doubt_push, calls_more, shows_by, shows_counted, shows_push, shows_front, shows_longer, entries_push, torn_holds, lane_push, appended_holds}
 
@@ -125,6 +125,7 @@ module _ (sizes : Sizes) (log : List Write) (history : List Entry) (entry : Entr
         record {
           honest = stands.honest;
           whole = whole;
+          shown = shows_push sizes log history entry d.bytes none stands.shown;
           running = λ runs. subst (λ ws. IsWritten sizes ws end d) (sym writes) (stands.running runs);
         },
       )
@@ -154,45 +155,48 @@ module _ (sizes : Sizes) (log : List Write) (history : List Entry) (entry : Entr
       let now : (c : List ℕ) → e.images c → HoldsWrites sizes (writes ++ write ∷ []) c = λ c left.
       let app = leaves_only_now timed run c left in
       torn_holds sizes writes (writes ++ write ∷ []) app.outside.0 c (was.images app.outside.0 app.outside.1) app.outside.2
-      (lane_push sizes writes write c (has.acknowledged (entries_of writes) stands.honest was.ends lanes c left)) fits in (
+      (lane_push sizes writes write c (has.acknowledged (entries_of writes) stands.honest was.ends lanes c left)) fits in
+      let reads : HoldsWrites sizes (writes ++ write ∷ []) e.bytes = torn_holds sizes writes (writes ++ write ∷ []) d.bytes e.bytes was.bytes (has.outside stands.honest)
+      (lane_push sizes writes write e.bytes (has.reads (entries_of writes) stands.honest was.ends was.bytes.lane)) fits in (
         kept_one d e timed few (leaves_only_weaken (λ c app. shown_while write d.images c was.images fits (shows c) app) run) (λ c left. shows c (now c left)),
         record {
           honest = still ∙ stands.honest;
           whole = λ c left. shows c (now c left);
+          shown = shows e.bytes reads;
           running = λ runs. subst (λ ws. IsWritten sizes ws end' e) (sym more) (record {
             ends =
                 let same : length (blocks (entries_of (writes ++ write ∷ []))) ≡ length (blocks (entries_of writes ++ entry_of write ∷ [])) = ap (λ (es : List (Key × Rec)). length (blocks es)) (sym (entries_push writes write)) in
                 omega (arith, same, length-blocks-push (entries_of writes) (entry_of write), was.ends, moved);
             images = now;
-            bytes = torn_holds sizes writes (writes ++ write ∷ []) d.bytes e.bytes was.bytes (has.outside stands.honest)
-                (lane_push sizes writes write e.bytes (has.reads (entries_of writes) stands.honest was.ends was.bytes.lane)) fits;
+            bytes = reads;
           });
         },
       )
 
   -- a write whose append failed
   kept_unsure : (write : Write) (why : Why) (end end' : ℕ) (d e : DiskState) → IsTimed e → e.clock ≤ d.clock + calls_for (entry ∷ []) → e.is_honest ≡ d.is_honest → counted_with true entry ≡ write ∷ [] → counted entry ≡ [] → is_untroubled history ≡ true
-      → total_weight (log_after log history ++ write ∷ []) ≤ sizes.half → Appends sizes end (entry_of write) d e → StandsOnDisk sizes log history None end d
+      → total_weight (log_after log history ++ write ∷ []) ≤ sizes.half → MayAppend sizes end (entry_of write) d e → StandsOnDisk sizes log history None end d
       → Kept sizes log history d (history ++ entry ∷ []) (Some why) end' e
-  kept_unsure write why end end' d e timed few still doubt uncounted calm fits appends stands =
+  kept_unsure write why end end' d e timed few still doubt uncounted calm fits may stands =
       let writes = log_after log history in
       let was = stands.running refl in
       let lanes : EachHasEntries sizes log_lane (entries_of writes) d.images = λ c left. (was.images c left).lane in
-      let run = appends (entries_of writes) stands.honest was.ends lanes in
+      let run = may.each (entries_of writes) stands.honest was.ends lanes in
       let with_it : log ++ flat_map (counted_with true) (history ++ entry ∷ []) ≡ writes ++ write ∷ [] =
       doubt_push true log history entry ∙ ap (λ ws. (log ++ ws) ++ counted_with true entry) (calm_doubt history calm) ∙ ap (λ ws. writes ++ ws) doubt in
       let without_it : log_after log (history ++ entry ∷ []) ≡ writes = log_push log history entry ∙ ap (λ ws. writes ++ ws) uncounted ∙ append-nil writes in
       let shows : (c : List ℕ) → HoldsWrites sizes (writes ++ write ∷ []) c → ShowsWhole sizes log (history ++ entry ∷ []) c = λ c holds.
       shows_by true sizes log (history ++ entry ∷ []) (writes ++ write ∷ []) c (sym with_it) holds in
+      let either : (c : List ℕ) → HoldsWrites sizes writes c ⊎ HoldsWrites sizes (writes ++ write ∷ []) c → ShowsWhole sizes log (history ++ entry ∷ []) c = λ c.
+      ⊎_elim (λ holds. shows_counted sizes log (history ++ entry ∷ []) c (subst (λ ws. HoldsWrites sizes ws c) (sym without_it) holds)) (shows c) in
       let whole : (c : List ℕ) → e.images c → ShowsWhole sizes log (history ++ entry ∷ []) c = λ c left.
-      ⊎_elim
-      (λ holds. shows_counted sizes log (history ++ entry ∷ []) c (subst (λ ws. HoldsWrites sizes ws c) (sym without_it) holds))
-      (shows c)
-      (appended_holds sizes writes write d.images c was.images fits (leaves_only_now timed run c left)) in (
+      either c (appended_holds sizes writes write d.images c was.images fits (leaves_only_now timed run c left)) in
+      let read = may.as_read (entries_of writes) stands.honest was.ends was.bytes.lane in (
         kept_one d e timed few (leaves_only_weaken (λ c app. shown_while write d.images c was.images fits (shows c) app) run) whole,
         record {
           honest = still ∙ stands.honest;
           whole = whole;
+          shown = either e.bytes (appended_holds sizes writes write (λ c. c ≡ d.bytes) e.bytes (λ c same. subst (λ b. HoldsWrites sizes writes b) (sym same) was.bytes) fits read);
           running = λ runs. let wrong : Some why ≡ None = runs in cc;
         },
       )

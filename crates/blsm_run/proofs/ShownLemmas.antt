@@ -35,6 +35,7 @@ opened_stands log opened d on =
     record {
       honest = on.honest;
       whole = λ c left. shows_none opened.geometry log c (held c left);
+      shown = shows_none opened.geometry log d.bytes on.holds;
       running = λ runs. record {
         ends = ap (λ ws. length (blocks (entries_of ws))) (append-nil log) ∙ sym on.ends;
         images = λ c left. subst (λ ws. HoldsWrites opened.geometry ws c) (sym (append-nil log)) (held c left);
@@ -63,6 +64,7 @@ store_shows state log opened disk last before history stopped end s e is_disk is
           let zero : calls_for before ≡ 0 = ap calls_for none in
           kept.0.paced n ((state s.disk).clock + calls_for (take n history)) c (omega (arith, begun)) few (omega (arith, zero)) left;
       whole = kept.1.whole;
+      shown = kept.1.shown;
       reads = λ quiet. (kept.1.running (calm quiet)).bytes;
     } in
     subst (λ d. KeepsWhole opened.geometry log history (state disk) (state d)) (sym is_last)
@@ -90,6 +92,7 @@ shown_behind state log opened history first mid last timed timed' goes has syncs
       calls = few;
       paced = kept.paced;
       whole = kept.whole;
+      shown = kept.shown;
       reads = kept.reads;
     }
 
@@ -151,5 +154,6 @@ module _ {a b : DiskState} (fresh : IsFreshCount a b) where
         calls = s.calls;
         paced = s.paced;
         whole = s.whole;
+        shown = s.shown;
         reads = s.reads;
       }

@@ -18,10 +18,11 @@ pub record IsWritten (sizes : Sizes) (writes : List Write) (end : ℕ) (disk : D
   pub images : (c : List ℕ) → disk.images c → HoldsWrites sizes writes c
   pub bytes : HoldsWrites sizes writes disk.bytes
 
--- A crash now leaves the whole history; and while the store runs, no write is in doubt.
+-- A crash now leaves the whole history, and a read gives it; and while the store runs, no write is in doubt.
 pub record StandsOnDisk (sizes : Sizes) (log : List Write) (history : List Entry) (stopped : Option Why) (end : ℕ) (disk : DiskState) : Type 0 where
   pub honest : IsTrue disk.is_honest
   pub whole : (c : List ℕ) → disk.images c → ShowsWhole sizes log history c
+  pub shown : ShowsWhole sizes log history disk.bytes
   pub running : stopped ≡ None → IsWritten sizes (log_after log history) end disk
 
 -- The history has grown, and each crash since then leaves a prefix of it, no shorter than what there was then. It took no more calls than what was added, and once the first n commands had their calls, each crash leaves their n entries at least.

@@ -42,6 +42,12 @@ Appends sizes end entry old new =
     (entries : List (Key × Rec)) → IsTrue old.is_honest → length (blocks entries) ≡ end → EachHasEntries sizes log_lane entries old.images
     → LeavesOnly old new (IsAppended sizes log_lane entries entry old.images)
 
+-- the same; and where a read gave a log with these entries, it now gives it so too
+pub record MayAppend (sizes : Sizes) (end : ℕ) (entry : Key × Rec) (old new : DiskState) : Type 0 where
+  pub each : Appends sizes end entry old new
+  pub as_read : (entries : List (Key × Rec)) → IsTrue old.is_honest → length (blocks entries) ≡ end → HasEntries sizes log_lane entries old.bytes
+      → IsAppended sizes log_lane entries entry (λ c. c ≡ old.bytes) new.bytes
+
 -- and each crash from now on leaves it with the one more, which is read there
 pub record HasAppended (sizes : Sizes) (end : ℕ) (entry : Key × Rec) (old new : DiskState) : Type 0 where
   pub each : Appends sizes end entry old new
@@ -60,7 +66,7 @@ abbrev pub WritesOnDisk : {D : Type 0} → (D → DiskState) → Key → Rec →
 WritesOnDisk state key rec old new Done =
     (new.log_end ≡ old.log_end + (weight key rec + 1)) × HasAppended old.sizes old.log_end (key, rec) (state old.disk) (state new.disk)
 WritesOnDisk state key rec old new FaultUnsure =
-    HasRisen (state old.disk).faults (state new.disk).faults × Appends old.sizes old.log_end (key, rec) (state old.disk) (state new.disk)
+    HasRisen (state old.disk).faults (state new.disk).faults × MayAppend old.sizes old.log_end (key, rec) (state old.disk) (state new.disk)
 WritesOnDisk state key rec old new reply = HasSameDisk old new
 
 -- what a reply to a command says of it

@@ -50,11 +50,12 @@ pub record IsDurable (opened : Opened) (log : List Write) (disk : DiskState) : T
   pub holds : HoldsWrites opened.geometry log disk.bytes
   pub durable : Only disk.bytes disk.images
 
--- Each crash since then leaves a prefix of the history, and once n commands had their calls, their entries too; each now leaves the whole, and without trouble that is what a read gives.
+-- Each crash since then leaves a prefix of the history, and once n commands had their calls, their entries too; each now leaves the whole, and a read gives it, without trouble with no write in doubt.
 pub record KeepsWhole (sizes : Sizes) (log : List Write) (history : List Entry) (old new : DiskState) : Type 0 where
   pub leaves : LeavesOnly old new (ShowsPrefix sizes log history 0)
   pub paced : (n : ℕ) (c : List ℕ) → n ≤ length history → new.images_since (old.clock + calls_for (take n history)) c → ShowsPrefix sizes log history n c
   pub whole : (c : List ℕ) → new.images c → ShowsWhole sizes log history c
+  pub shown : ShowsWhole sizes log history new.bytes
   pub reads : is_untroubled history ≡ true → HoldsWrites sizes (log_after log history) new.bytes
 
 -- A run over a disk that was this and is that, whose log had some writes; or why there was none.

@@ -40,6 +40,7 @@ pub record HasShown (sizes : Sizes) (log : List Write) (history : List Entry) (f
   pub calls : last.clock ≤ opened + calls_for history
   -- from then on, once the first n commands had their calls, each crash leaves their n entries at least: a write that was acknowledged stays
   pub paced : (n : ℕ) (c : List ℕ) → n ≤ length history → last.images_since (opened + calls_for (take n history)) c → ShowsPrefix sizes log history n c
-  -- and now the whole; without trouble that is what a read gives
+  -- and now the whole, and a read gives it, without trouble with no write in doubt
   pub whole : (c : List ℕ) → last.images c → ShowsWhole sizes log history c
+  pub shown : ShowsWhole sizes log history last.bytes
   pub reads : is_untroubled history ≡ true → HoldsWrites sizes (log_after log history) last.bytes

@@ -38,6 +38,13 @@ each_moment sizes lane entries key rec at text old new write has run =
     leaves_only_weaken (λ c gated. appended sizes lane entries key rec old.images c has write.fits (gated_here sizes lane entries key rec at text old.images c write gated) write.entry)
     (run (λ c was. closed_here sizes lane entries key rec at text c write (has c was)))
 
+-- what a read gives afterwards, whatever is answered
+pub read_after : (sizes : Sizes) (lane : ℕ) (entries : List (Key × Rec)) (key : Key) (rec : Rec) (at : ℕ) (text old new : List ℕ) → IsEntryWrite sizes lane entries key rec at text → HasEntries sizes lane entries old
+    → (IsClosed at old → IsGated (λ c. c ≡ old) at text new) → IsAppended sizes lane entries (key, rec) (λ c. c ≡ old) new
+read_after sizes lane entries key rec at text old new write has gated =
+    appended sizes lane entries key rec (λ c. c ≡ old) new (λ c same. subst (λ (f : List ℕ). HasEntries sizes lane entries f) (sym same) has) write.fits
+    (gated_here sizes lane entries key rec at text (λ c. c ≡ old) new write (gated (closed_here sizes lane entries key rec at text old write has))) write.entry
+
 -- the file in which the write was done in whole
 done_whole : (at : ℕ) (text before after : List ℕ) → at ≤ length before → after ≡ overwritten before at (open_byte ∷ text) → IsWhole at text after
 done_whole at text before after within is =

@@ -151,6 +151,9 @@ impl Lanes {
         ensures reads { (entries : List (Key × Rec)) → IsOk result → IsTrue (D.state disk.old).is_honest → IsEnd self.now lane entries
             → HasEntries self.now.sizes lane entries (D.state disk.old).bytes
             → HasEntries self.now.sizes lane (entries ++ (key.now, rec.now) ∷ []) (D.state disk.new).bytes }
+        ensures as_read { (entries : List (Key × Rec)) → IsTrue (D.state disk.old).is_honest → IsEnd self.now lane entries
+            → HasEntries self.now.sizes lane entries (D.state disk.old).bytes
+            → IsAppended self.now.sizes lane entries (key.now, rec.now) (λ c. c ≡ (D.state disk.old).bytes) (D.state disk.new).bytes }
         ensures durable { OnOk result (IsTrue (D.state disk.old).is_honest → Only (D.state disk.new).bytes (D.state disk.new).images) }
         ensures outside { IsTrue (D.state disk.old).is_honest
             → LeavesOnly (D.state disk.old) (D.state disk.new) (IsOldOutsideLane self.now.sizes lane (D.state disk.old).images) }
@@ -199,6 +202,10 @@ impl Lanes {
         ensures reads { (entries : List (Key × Rec)) → IsOk result → IsTrue (D.state disk.old).is_honest → IsEnd self.old lane entries
             → HasEntries self.old.sizes lane entries (D.state disk.old).bytes
             → HasEntries self.old.sizes lane (entries ++ (key.now, rec.now) ∷ []) (D.state disk.new).bytes }
+        // Whatever is answered, an honest disk reads with the lane's entries, with the new one or without.
+        ensures as_read { (entries : List (Key × Rec)) → IsTrue (D.state disk.old).is_honest → IsEnd self.old lane entries
+            → HasEntries self.old.sizes lane entries (D.state disk.old).bytes
+            → IsAppended self.old.sizes lane entries (key.now, rec.now) (λ c. c ≡ (D.state disk.old).bytes) (D.state disk.new).bytes }
 
         ensures durable { OnOk result (IsTrue (D.state disk.old).is_honest → Only (D.state disk.new).bytes (D.state disk.new).images) }
 

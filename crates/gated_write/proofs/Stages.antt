@@ -2,7 +2,7 @@
 use Rattle.std.proofs.Common.{◌≡◌, ◌⊎◌, inl, inr, ⊎_elim, ℕ, ◌+◌, ◌≤◌, true, false, IsTrue, List, [], ◌∷◌, ◌++◌, length, take, drop, bytes_eq, refl, sym, ◌∙◌, ap, subst, arith, append_assoc}
 use Rattle.std.proofs.lemmas.Slice.Eq.{bytes_eq-Decides}
 use Rattle.std.proofs.lemmas.List.{drop_at, length-take-le, take-take, take-append-le}
-use Rattle.disk_trait.specs.Disk.{DiskState, GoesOn, Passes, WritesNothing, WritesWithin, IsOldOutside, Only, part, overwritten}
+use Rattle.disk_trait.specs.Disk.{DiskState, GoesOn, Passes, WritesNothing, WritesWithin, IsOldOutside, Torn, Only, part, overwritten}
 use Rattle.disk_trait.specs.Parts.{torn_same, torn_below, torn_above, torn_widen, torn_run, part-overwritten, part-split}
 use Rattle.disk_trait.specs.Moments.{IsTimed, LeavesOnly, leaves_only_start, leaves_only_call, leaves_only_run, leaves_only_weaken}
 use Rattle.disk_trait.specs.Writes.{within_nothing, within_widen, within_run}
@@ -82,6 +82,32 @@ module _ (at : ℕ) (text : List ℕ) (start mid : DiskState) (goes_on : GoesOn 
 
   pub gate_within : (new : DiskState) → WritesWithin at 1 mid new → WritesWithin at (1 + length text) start new
   gate_within new second = within_run at (1 + length text) goes_on text_within (within_widen at 1 at (1 + length text) second (omega arith) (omega arith))
+
+-- What an honest disk reads as.
+module _ (at : ℕ) (text start mid : List ℕ) (first : Torn (at + 1) (length text) start mid) where
+  torn_first : Torn at (1 + length text) start mid
+  torn_first = torn_widen (at + 1) (length text) at (1 + length text) start mid first (omega arith) (omega arith)
+
+  -- the text is torn behind the gate, which stays closed
+  pub text_read : IsClosed at start → IsGated (λ c. c ≡ start) at text mid
+  text_read closed = behind_gate (start, refl, torn_first) (λ opened. closed (sym (torn_below (at + 1) (length text) at 1 start mid first (omega arith)) ∙ opened))
+
+  -- the text stands whole, and the gate is torn
+  pub gate_read : (new : List ℕ) → at + 1 ≤ length start → mid ≡ overwritten start (at + 1) text → Torn at 1 mid new → IsGated (λ c. c ≡ start) at text new
+  gate_read new inside written second =
+      ⊎_elim
+      (λ (opened : part new at 1 ≡ open_byte ∷ []). whole (start, refl, torn) (part-split new at 1 (length text) ∙ (λ i. opened i ++ stands i)))
+      (λ (shut : IsClosed at new). behind_gate (start, refl, torn) shut)
+      (gate_cases at new)
+    where
+      torn : Torn at (1 + length text) start new
+      torn = torn_run at (1 + length text) start mid new torn_first (torn_widen at 1 at (1 + length text) mid new second (omega arith) (omega arith))
+
+      stands : part new (at + 1) (length text) ≡ text
+      stands =
+          torn_above at 1 (at + 1) (length text) mid new second (omega arith)
+          ∙ ap (λ (l : List ℕ). part l (at + 1) (length text)) written
+          ∙ part-overwritten start (at + 1) text inside
 
 -- The gate over the text is the two together.
 pub gate_over_text : (file : List ℕ) (at : ℕ) (text : List ℕ) → at + 1 ≤ length file → overwritten (overwritten file (at + 1) text) at (open_byte ∷ []) ≡ overwritten file at (open_byte ∷ text)

@@ -42,7 +42,7 @@ fn write_through<D: Disk>(disk: &mut D, at: u64, bytes: &[u8]) -> Result<(), Fai
 /// The gate is the byte at `at`, the text begins one byte after it. Where no crash before the call would have left the gate open,
 /// one at any moment leaves a file from before the call, or one with the range torn behind a closed gate, or one with the text
 /// whole behind an open gate. Where one might have, that gate may stand open before any text: all that is known is that no byte
-/// outside gate and text changes. After an `Err` the disk may read as any of these.
+/// outside gate and text changes. Whatever it answers, an honest disk reads as one of these too.
 pub fn write_gated<D: Disk>(disk: &mut D, at: u64, text: &[u8]) -> Result<(), Failed>
     requires offsets { at + 1 + length text.now < 2 ^ 64 }
     requires gate_inside { IsTrue (D.state disk.old).tells_bytes → at < length (D.state disk.old).bytes }
@@ -50,6 +50,8 @@ pub fn write_gated<D: Disk>(disk: &mut D, at: u64, text: &[u8]) -> Result<(), Fa
         → LeavesOnly (D.state disk.old) (D.state disk.new) (IsGated (D.state disk.old).images at text.now) }
     ensures outside { IsTrue (D.state disk.old).is_honest
         → LeavesOnly (D.state disk.old) (D.state disk.new) (IsOldOutside at (1 + length text.now) (D.state disk.old).images) }
+    ensures reads { IsTrue (D.state disk.old).is_honest → IsClosed at (D.state disk.old).bytes
+        → IsGated (λ c. c ≡ (D.state disk.old).bytes) at text.now (D.state disk.new).bytes }
     ensures written { OnOk result (IsTrue (D.state disk.old).is_honest
         → (D.state disk.new).bytes ≡ overwritten (D.state disk.old).bytes at (open_byte ∷ text.now)) }
     ensures durable { OnOk result (IsTrue (D.state disk.old).is_honest → Only (D.state disk.new).bytes (D.state disk.new).images) }

@@ -1,7 +1,7 @@
 use Rattle.std.proofs.Common.{[], ◌∷◌, IsTrue, List, ℕ, sym, ◌∙◌, ap, subst, arith}
 use Rattle.disk_trait.specs.Disk.{overwritten}
 use Rattle.gated_write.specs.Gated.{open_byte}
-use Rattle.gated_write.proofs.Stages.{text_outside, text_within, text_gated, gate_outside, gate_within, gate_gated, gate_over_text}
+use Rattle.gated_write.proofs.Stages.{text_outside, text_within, text_gated, gate_outside, gate_within, gate_gated, text_read, gate_read, gate_over_text}
 use Rattle.gated_write.proofs.write_gated.Goals as goal
 
 pub returns-in_err-write_through-clause-each : goal.returns-in_err-write_through-clause-each
@@ -85,3 +85,28 @@ returns-clause-written g c = λ honest.
     let inside = c.requires.gate_inside (g.met.D.Disk.honest_tells c.args.disk.now honest) in
     c.in_ok-write_through-2.ensures.written still ∙ ap (λ (l : List ℕ). overwritten l at (open_byte ∷ [])) (c.in_ok-write_through.ensures.written honest)
     ∙ gate_over_text start.bytes at text (omega (arith, inside))
+
+pub returns-in_err-write_through-clause-reads : goal.returns-in_err-write_through-clause-reads
+returns-in_err-write_through-clause-reads g c = λ honest closed.
+    let state = g.D.Disk.state in
+    text_read c.args.at c.args.text.now (state c.args.disk.now).bytes (state c.write_through.new.disk).bytes (c.write_through.ensures.within.bytes honest) closed
+
+pub returns-in_err-write_through-2-clause-reads : goal.returns-in_err-write_through-2-clause-reads
+returns-in_err-write_through-2-clause-reads g c = λ honest closed.
+    let state = g.D.Disk.state in
+    let first = c.write_through in
+    let done = c.in_ok-write_through.ensures in
+    let still = subst IsTrue (sym first.ensures.goes_on.is_honest) honest in
+    let inside = c.requires.gate_inside (g.met.D.Disk.honest_tells c.args.disk.now honest) in
+    gate_read c.args.at c.args.text.now (state c.args.disk.now).bytes (state first.new.disk).bytes (first.ensures.within.bytes honest) (state c.write_through-2.new.disk).bytes
+    (omega (arith, inside)) (done.written honest) (c.write_through-2.ensures.within.bytes still)
+
+pub returns-clause-reads : goal.returns-clause-reads
+returns-clause-reads g c = λ honest closed.
+    let state = g.D.Disk.state in
+    let first = c.write_through in
+    let done = c.in_ok-write_through.ensures in
+    let still = subst IsTrue (sym first.ensures.goes_on.is_honest) honest in
+    let inside = c.requires.gate_inside (g.met.D.Disk.honest_tells c.args.disk.now honest) in
+    gate_read c.args.at c.args.text.now (state c.args.disk.now).bytes (state first.new.disk).bytes (first.ensures.within.bytes honest) (state c.write_through-2.new.disk).bytes
+    (omega (arith, inside)) (done.written honest) (c.write_through-2.ensures.within.bytes still)

@@ -7,7 +7,7 @@ use Rattle.mem_table.specs.Entries.{with_record, total_weight}
 use Rattle.gated_log.specs.Lanes.{end_of}
 use Rattle.blsm_run.specs.Holding.{log_lane}
 use Rattle.blsm_run.specs.StoreState.{StoreState}
-use Rattle.blsm_run.specs.Run.{AnsweredWrite, Appends, HasAppended}
+use Rattle.blsm_run.specs.Run.{AnsweredWrite, MayAppend, HasAppended}
 use Rattle.blsm_run.proofs.store.Store.write.Goals as goal
 
 pub returns-in-Ok : goal.returns-in-Ok
@@ -70,7 +70,7 @@ returns-in-Err g c =
     } in
     subst (λ (s : StoreState g.row.D.Denot). AnsweredWrite state key rec s after FaultUnsure) c.self.view_is (record {
       answers = (below, c.faults.result, refl);
-      disk = (did.failed refl, subst (λ (s : Sizes). Appends s (end_of inside.lanes log_lane) (key, rec) (state inside.disk) (state c.append.new.disk)) c.self.invariant.same_sizes did.each);
+      disk = (did.failed refl, subst (λ (s : Sizes). MayAppend s (end_of inside.lanes log_lane) (key, rec) (state inside.disk) (state c.append.new.disk)) c.self.invariant.same_sizes (record { each = did.each; as_read = did.as_read }));
       calm = λ runs. let wrong : Some (Faulted c.faults.result) ≡ None = runs in cc;
       calls = did.four_calls;
       one_fault = did.one_fault;

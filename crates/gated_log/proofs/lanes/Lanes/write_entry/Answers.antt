@@ -5,7 +5,7 @@ use Rattle.disk_trait.specs.Writes.{within_widen}
 use Rattle.entry_codec.specs.Spelling.{spelling}
 use Rattle.entry_codec.proofs.SpellingLemmas.{length-spelling}
 use Rattle.gated_log.specs.Lane.{region_start}
-use Rattle.gated_log.proofs.AppendLemmas.{IsEntryWrite, each_moment, once_done, reads_so}
+use Rattle.gated_log.proofs.AppendLemmas.{IsEntryWrite, each_moment, read_after, once_done, reads_so}
 use Rattle.gated_log.proofs.lanes.Lanes.write_entry.Goals as goal
 
 pub returns-clause-each : goal.returns-clause-each
@@ -52,6 +52,17 @@ returns-clause-reads g c = λ entries ok honest is_end has.
     reads_so _ _ entries c.args.key.now c.args.rec.now _ _ _ _ write has (c.write_gated.ensures.within.bytes honest)
     (omega (arith, c.requires.length tells, c.gate-at.ensures.place, c.gate-at.ensures.inside, c.requires.fits))
     (on_ok c.write_gated.result _ c.write_gated.ensures.written ok honest)
+
+pub returns-clause-as_read : goal.returns-clause-as_read
+returns-clause-as_read g c = λ entries honest is_end has.
+    let long = length-spelling c.args.key.now c.args.rec.now in
+    let write : IsEntryWrite c.args.self.now.sizes c.args.lane entries c.args.key.now c.args.rec.now c.gate-at.result _ = record {
+      place = c.gate-at.ensures.place ∙ ap (λ n. region_start c.args.self.now.sizes c.args.lane + n) (sym is_end);
+      writes = c.put_entry-length.ensures.text;
+      fits = omega (arith, c.requires.fits, is_end, long, length-append (spelling c.args.key.now c.args.rec.now) (0 ∷ []));
+      entry = c.put_entry-length.ensures.entry;
+    } in
+    read_after _ _ entries c.args.key.now c.args.rec.now _ _ _ _ write has (c.write_gated.ensures.reads honest)
 
 pub returns-clause-within : goal.returns-clause-within
 returns-clause-within g c =
