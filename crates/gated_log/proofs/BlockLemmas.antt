@@ -1,5 +1,5 @@
 -- What a gate and the bytes behind it say of the lane.
-use Rattle.std.proofs.Common.{◌≡◌, ◌≢◌, ℕ, ◌+◌, ◌-◌, ◌≤◌, List, [], ◌∷◌, ◌++◌, length, get_or, take, drop, Some, None, Ok, Err, refl, ap, sym, ◌∙◌, arith, append-nil, length-append}
+use Rattle.std.proofs.Common.{◌≡◌, ◌≢◌, ℕ, ◌+◌, ◌≤◌, List, [], ◌∷◌, ◌++◌, length, get_or, take, drop, Some, None, Ok, Err, refl, ap, sym, ◌∙◌, arith, append-nil, length-append}
 use Rattle.std.specs.List.{between}
 use Rattle.std.proofs.lemmas.List.{take_at, drop_at, take-take, take-append-drop, length-take}
 use Rattle.std.proofs.lemmas.List.Elements.{All-push, All-head, All-tail}
