@@ -1,17 +1,20 @@
 -- Rows that are added leave what was noted before.
 use Rattle.std.proofs.Common.{◌≡◌, ℕ, zero, suc, ◌+◌, ◌-◌, ◌<◌, ◌≤◌, ◌++◌, List, [], ◌∷◌, refl, ap, ◌∙◌, map, length, sum, arith, slice_index, slice_set, slice_range, length-append}
 use Rattle.std.specs.List.{AllByRecursion}
-use Rattle.std.proofs.lemmas.List.{take-append-le, drop-append-le, map-append}
+use Rattle.std.proofs.lemmas.List.{take-append-le, drop-append-le, map-append, set-get_or}
 use Rattle.std.proofs.lemmas.Grind.{common_steps}
 use Rattle.std.proofs.lemmas.List.Sums.{sum_by-cons}
 use Rattle.blsm_model.specs.declared.row.Row.{Row}
 use Rattle.blsm_model.specs.declared.room.Room.{Room}
 use Rattle.blsm_model.specs.declared.history.Reply.{Reply}
+use Rattle.blsm_model.specs.declared.history.ShortReply.{ShortReply}
+use Rattle.blsm_model.specs.declared.history.ShortReply.TheVariants as short
 use Rattle.blsm_model.specs.declared.annals.StoredReply.{StoredReply}
 use Rattle.blsm_model.specs.declared.annals.StoredReply.TheVariants as stored
 use Rattle.blsm_model.specs.declared.annals.StoredEntry.{StoredEntry}
 use Rattle.blsm_model.specs.declared.history.Reply.TheVariants.{Rows}
-use Rattle.blsm_model.specs.Stored.{stored_reply, stored_entry, FitsRows, IsStored}
+use Rattle.blsm_model.specs.Book.{rows_given}
+use Rattle.blsm_model.specs.Stored.{as_reply, stored_reply, stored_entry, FitsRows, IsStored}
 
 same_range : (rows more : List Row) (first end : ℕ) → end ≤ length rows → slice_range (rows ++ more) first end ≡ slice_range rows first end
 same_range rows more first end fits = grind (arith, common_steps, take-append-le, drop-append-le)
@@ -64,3 +67,25 @@ entries_push rows given entries e reply within is =
     map-append (stored_entry (rows ++ given)) entries (e ∷ [])
     ∙ ap (λ es. es ++ stored_entry (rows ++ given) e ∷ []) (same_entries rows given entries within)
     ∙ ap (λ r. map (stored_entry rows) entries ++ (record { seat = e.seat; op = e.op; reply = r }) ∷ []) is
+
+-- a short reply gives no rows
+pub no_rows : (reply : ShortReply) → rows_given (as_reply reply) ≡ []
+no_rows short.Done = refl
+no_rows (short.Is value) = refl
+no_rows short.Absent = refl
+no_rows short.Held = refl
+no_rows short.NoHold = refl
+no_rows (short.Did turns) = refl
+no_rows (short.Full charge) = refl
+no_rows short.NoMemory = refl
+no_rows short.FaultLost = refl
+no_rows short.FaultUnsure = refl
+no_rows short.Fault = refl
+no_rows (short.Damaged page) = refl
+no_rows (short.Stopped why) = refl
+
+-- so that the room for rows stays
+pub same_room : (room : List ℕ) (seat n : ℕ) → n ≡ 0 → slice_set room seat (slice_index room seat - n) ≡ room
+same_room room seat n none =
+    let same : slice_index room seat - n ≡ slice_index room seat = omega (arith, none) in
+    ap (λ m. slice_set room seat m) same ∙ set-get_or room seat 0

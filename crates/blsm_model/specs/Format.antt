@@ -28,7 +28,10 @@ most_weight = 512
 abbrev pub most_rows : ℕ
 most_rows = 32
 
--- how many lines a script has, and how many rows they ask for together
+-- how many bytes a script has, how many lines, and how many rows they ask for together
+abbrev pub most_script : ℕ
+most_script = 8388608
+
 abbrev pub most_lines : ℕ
 most_lines = 65536
 

@@ -13,3 +13,6 @@ pub mod Book
 pub mod Stored
 pub mod Kept
 pub mod Plain
+pub mod Facts
+pub mod Lanes
+pub mod Components

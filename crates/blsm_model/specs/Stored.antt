@@ -7,26 +7,32 @@ use Rattle.blsm_model.specs.declared.room.Room.{Room}
 use Rattle.blsm_model.specs.declared.annals.StoredReply.{StoredReply}
 use Rattle.blsm_model.specs.declared.annals.StoredReply.TheVariants as stored
 use Rattle.blsm_model.specs.declared.annals.StoredEntry.{StoredEntry}
+use Rattle.blsm_model.specs.declared.history.ShortReply.{ShortReply}
+use Rattle.blsm_model.specs.declared.history.ShortReply.TheVariants as short
 use Rattle.blsm_model.specs.declared.history.Reply.{Reply}
 use Rattle.blsm_model.specs.declared.history.Reply.TheVariants.{Done, Is, Absent, Held, Rows, NoHold, Did, Full, NoMemory, FaultLost, FaultUnsure, Fault, Damaged, Stopped}
 use Rattle.blsm_model.specs.declared.history.Entry.{Entry}
 
+-- the reply that a short one is
+abbrev pub as_reply : ShortReply → Reply
+as_reply short.Done = Done
+as_reply (short.Is value) = Is value
+as_reply short.Absent = Absent
+as_reply short.Held = Held
+as_reply short.NoHold = NoHold
+as_reply (short.Did turns) = Did turns
+as_reply (short.Full charge) = Full charge
+as_reply short.NoMemory = NoMemory
+as_reply short.FaultLost = FaultLost
+as_reply short.FaultUnsure = FaultUnsure
+as_reply short.Fault = Fault
+as_reply (short.Damaged page) = Damaged page
+as_reply (short.Stopped why) = Stopped why
+
 -- the reply, whose rows lie in the list of all rows
 abbrev pub stored_reply : List Row → StoredReply → Reply
-stored_reply rows stored.Done = Done
-stored_reply rows (stored.Is value) = Is value
-stored_reply rows stored.Absent = Absent
-stored_reply rows stored.Held = Held
 stored_reply rows (stored.Rows first end) = Rows (slice_range rows first end)
-stored_reply rows stored.NoHold = NoHold
-stored_reply rows (stored.Did turns) = Did turns
-stored_reply rows (stored.Full charge) = Full charge
-stored_reply rows stored.NoMemory = NoMemory
-stored_reply rows stored.FaultLost = FaultLost
-stored_reply rows stored.FaultUnsure = FaultUnsure
-stored_reply rows stored.Fault = Fault
-stored_reply rows (stored.Damaged page) = Damaged page
-stored_reply rows (stored.Stopped why) = Stopped why
+stored_reply rows (stored.Short reply) = as_reply reply
 
 abbrev pub stored_entry : List Row → StoredEntry → Entry
 stored_entry rows entry = record { seat = entry.seat; op = entry.op; reply = stored_reply rows entry.reply }

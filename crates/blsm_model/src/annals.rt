@@ -1,34 +1,23 @@
 //! The history of a run, in memory that is reserved before it.
-ghost use Rattle.std.specs.Prelude.{◌≡◌, ◌+◌, ◌<◌, ◌≤◌, ◌^◌, ◌++◌, [], ◌==◌, length, sum, slice_index, vec_capacity, IfOk};
+ghost use Rattle.std.specs.Prelude.{◌≡◌, ◌+◌, ◌<◌, ◌≤◌, ◌^◌, ◌++◌, [], ◌==◌, length, sum, slice_index, vec_capacity, IfOk, IfSome, IsNone};
 ghost use Rattle.blsm_model.specs.Format.{most_entries, most_rows, most_rows_asked};
 ghost use Rattle.blsm_model.specs.Book.{HasRoom, noted, counted_up, entry_at, rows_given};
-ghost use Rattle.blsm_model.specs.Stored.{stored_reply, FitsRows};
+ghost use Rattle.blsm_model.specs.Stored.{as_reply, stored_reply, FitsRows};
+ghost use Rattle.blsm_model.specs.declared.history.Reply.TheVariants.{Rows};
 
-use crate::{Entry, Op, Reply, Room, Row, RowList, Value, Why};
+use crate::{Entry, Op, Reply, Room, Row, RowList, ShortReply};
 use refusal::NoMemory;
 use std::alloc::Global;
 use std::marker::Model;
 
-// A reply without its rows, which lie in the list of all rows: from the first place on, without the second.
-#[derive(Debug, Drop)]
+// A reply, whose rows lie in the list of all rows: from the first place on, without the second.
+#[derive(Drop)]
 enum StoredReply {
-    Done,
-    Is(Value),
-    Absent,
-    Held,
     Rows(usize, usize),
-    NoHold,
-    Did(u32),
-    Full(u64),
-    NoMemory,
-    FaultLost,
-    FaultUnsure,
-    Fault,
-    Damaged(u32),
-    Stopped(Why),
+    Short(ShortReply),
 }
 
-#[derive(Debug, Drop)]
+#[derive(Drop)]
 struct StoredEntry {
     seat: u32,
     op: Op,
@@ -39,7 +28,7 @@ struct StoredEntry {
 ///
 /// Places are counted from 0. The entries only grow. Nothing but `reserve` takes memory: a reply's rows are copied
 /// into one list of all rows, so that an entry takes no more than its own bytes.
-#[derive(Debug, Drop)]
+#[derive(Drop)]
 pub struct Annals {
     stored: Vec<StoredEntry>,
     rows: Vec<Row>,
@@ -88,6 +77,18 @@ impl Annals {
         self.quanta.push_reserved(0);
         self.room.entries[seat as usize] -= 1;
         self.room.rows[seat as usize] -= count;
+    }
+
+    /// Notes an entry whose reply gives no rows, as `note` does.
+    pub fn note_short(&mut self, seat: u32, op: Op, reply: ShortReply)
+        requires { HasRoom self.old.room (record { seat = seat; op = op; reply = as_reply reply }) }
+        ensures { self.new ≡ noted self.old (record { seat = seat; op = op; reply = as_reply reply }) }
+    {
+        let at = seat as usize;
+        let reply = StoredReply::Short(reply);
+        self.stored.push_reserved(StoredEntry { seat, op, reply });
+        self.quanta.push_reserved(0);
+        self.room.entries[at] -= 1;
     }
 
     /// Raises the quanta of the entry at a place by `n`.
@@ -139,6 +140,29 @@ impl Annals {
         tell(&self.stored[place as usize].reply, &self.rows)
     }
 
+    /// The reply of the entry at a place, if it gives no rows.
+    pub fn short_reply(&self, place: u32) -> Option<&ShortReply>
+        requires { place < length self.now.entries }
+        ensures some { IfSome result (λ reply. as_reply reply.now ≡ (entry_at self.now place).reply) }
+        ensures none { IsNone result → (entry_at self.now place).reply ≡ Rows (rows_given (entry_at self.now place).reply) }
+    {
+        match &self.stored[place as usize].reply {
+            StoredReply::Rows(_, _) => None,
+            StoredReply::Short(reply) => Some(reply),
+        }
+    }
+
+    /// The rows that the reply of the entry at a place gives.
+    pub fn rows(&self, place: u32) -> &[Row]
+        requires { place < length self.now.entries }
+        ensures { result.now ≡ rows_given (entry_at self.now place).reply }
+    {
+        match self.stored[place as usize].reply {
+            StoredReply::Rows(first, end) => &self.rows[first..end],
+            StoredReply::Short(_) => &[],
+        }
+    }
+
     /// The quanta of the entry at a place.
     pub fn quanta(&self, place: u32) -> u64
         requires { place < length self.now.entries }
@@ -179,19 +203,19 @@ fn keep(rows: &mut Vec<Row>, reply: Reply) -> StoredReply
             append(rows, &list);
             StoredReply::Rows(first, rows.len())
         }
-        Reply::Done => StoredReply::Done,
-        Reply::Is(value) => StoredReply::Is(value),
-        Reply::Absent => StoredReply::Absent,
-        Reply::Held => StoredReply::Held,
-        Reply::NoHold => StoredReply::NoHold,
-        Reply::Did(turns) => StoredReply::Did(turns),
-        Reply::Full(charge) => StoredReply::Full(charge),
-        Reply::NoMemory => StoredReply::NoMemory,
-        Reply::FaultLost => StoredReply::FaultLost,
-        Reply::FaultUnsure => StoredReply::FaultUnsure,
-        Reply::Fault => StoredReply::Fault,
-        Reply::Damaged(page) => StoredReply::Damaged(page),
-        Reply::Stopped(why) => StoredReply::Stopped(why),
+        Reply::Done => StoredReply::Short(ShortReply::Done),
+        Reply::Is(value) => StoredReply::Short(ShortReply::Is(value)),
+        Reply::Absent => StoredReply::Short(ShortReply::Absent),
+        Reply::Held => StoredReply::Short(ShortReply::Held),
+        Reply::NoHold => StoredReply::Short(ShortReply::NoHold),
+        Reply::Did(turns) => StoredReply::Short(ShortReply::Did(turns)),
+        Reply::Full(charge) => StoredReply::Short(ShortReply::Full(charge)),
+        Reply::NoMemory => StoredReply::Short(ShortReply::NoMemory),
+        Reply::FaultLost => StoredReply::Short(ShortReply::FaultLost),
+        Reply::FaultUnsure => StoredReply::Short(ShortReply::FaultUnsure),
+        Reply::Fault => StoredReply::Short(ShortReply::Fault),
+        Reply::Damaged(page) => StoredReply::Short(ShortReply::Damaged(page)),
+        Reply::Stopped(why) => StoredReply::Short(ShortReply::Stopped(why)),
     }
 }
 
@@ -202,19 +226,7 @@ fn tell(reply: &StoredReply, rows: &[Row]) -> Reply
 {
     match reply {
         StoredReply::Rows(first, end) => Reply::Rows(RowList::from_slice(&rows[*first..*end])),
-        StoredReply::Done => Reply::Done,
-        StoredReply::Is(value) => Reply::Is(value.copy()),
-        StoredReply::Absent => Reply::Absent,
-        StoredReply::Held => Reply::Held,
-        StoredReply::NoHold => Reply::NoHold,
-        StoredReply::Did(turns) => Reply::Did(*turns),
-        StoredReply::Full(charge) => Reply::Full(*charge),
-        StoredReply::NoMemory => Reply::NoMemory,
-        StoredReply::FaultLost => Reply::FaultLost,
-        StoredReply::FaultUnsure => Reply::FaultUnsure,
-        StoredReply::Fault => Reply::Fault,
-        StoredReply::Damaged(page) => Reply::Damaged(*page),
-        StoredReply::Stopped(why) => Reply::Stopped(*why),
+        StoredReply::Short(reply) => reply.to_reply(),
     }
 }
 
@@ -246,7 +258,7 @@ fn total(room: &[u32]) -> usize
 #[cfg(test)]
 mod tests {
     use super::*;
-    use crate::Key;
+    use crate::{Key, Value};
     use std::test::Fail;
 
     #[test]
@@ -275,11 +287,7 @@ mod tests {
             op: Op::Next(2),
             reply: Reply::Rows(rows.copy()),
         });
-        annals.note(Entry {
-            seat: 3,
-            op: Op::Release,
-            reply: Reply::Done,
-        });
+        annals.note_short(3, Op::Release, ShortReply::Done);
         annals.count(1, 7);
         annals.count(1, 2);
 
@@ -288,8 +296,12 @@ mod tests {
         assert_eq!(rt; (annals.seat(0), annals.quanta(0)), (3, 0));
         assert_eq!(rt; (annals.seat(1), annals.quanta(1)), (3, 9));
         assert!(rt; annals.op(0) == &Op::Next(2));
+        assert!(rt; annals.short_reply(0).is_none());
+        assert_eq!(rt; annals.rows(0).len(), 2);
         assert!(rt; annals.reply(0) == Reply::Rows(rows));
         assert!(rt; annals.op(1) == &Op::Release);
+        assert!(rt; annals.short_reply(1) == Some(&ShortReply::Done));
+        assert!(rt; annals.rows(1).is_empty());
         assert!(rt; annals.reply(1) == Reply::Done);
         let left = annals.room();
         assert_eq!(rt; (left.entries[3], left.rows[3]), (0, 3));

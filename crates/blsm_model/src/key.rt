@@ -1,9 +1,8 @@
 //! Keys.
-ghost use Rattle.std.specs.Prelude.{◌≡◌, ◌<◌, ◌≤◌, ◌↔◌, ◌⊎◌, ⊤, length, IsNone, IfSome};
+ghost use Rattle.std.specs.Prelude.{◌≡◌, ◌<◌, ◌≤◌, ◌↔◌, ◌⊎◌, length, IsNone, IfSome};
 ghost use Rattle.blsm_model.specs.Format.{most_key};
 
 use arrayvec::ArrayVec;
-use std::alloc::AllocError;
 use std::cmp::Ordering;
 use std::marker::Model;
 
@@ -57,16 +56,6 @@ impl PartialOrd for Key {
 
     fn partial_cmp(&self, other: &Key) -> Option<Ordering> {
         Some(self.cmp(other))
-    }
-}
-
-impl Clone for Key {
-    ghost is_clone = { λ key copy. copy ≡ key };
-
-    ghost is_infallible = { λ _. ⊤ };
-
-    fn clone(&self) -> Result<Key, AllocError> {
-        Ok(self.copy())
     }
 }
 

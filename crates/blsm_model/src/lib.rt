@@ -8,6 +8,7 @@
 
 mod annals;
 mod component;
+mod format;
 mod gate;
 mod geometry;
 mod history;
@@ -17,17 +18,20 @@ mod op;
 mod plain;
 mod room;
 mod row;
+mod stands;
 mod text;
 
 pub use annals::Annals;
 pub use component::Component;
+pub use format::format_numbers;
 pub use gate::{Gate, NoGate, Point};
 pub use geometry::{Geometry, GeometryFault};
-pub use history::{Entry, Line, Reply, Totals, Why};
+pub use history::{Entry, Line, Reply, ShortReply, Totals, Why};
 pub use key::Key;
 pub use laws::{legal_histories, one_map, sequential_map};
 pub use op::{Op, Write};
 pub use plain::{Plain, run, value_of};
 pub use room::{CALLERS, Room};
 pub use row::{Row, RowList, Value};
+pub use stands::Stands;
 pub use text::Text;

@@ -1,11 +1,10 @@
 //! Writes and commands.
-ghost use Rattle.std.specs.Prelude.{◌≡◌, ◌∷◌, ◌≤◌, [], ⊤, IsTrue};
+ghost use Rattle.std.specs.Prelude.{◌≡◌, ◌∷◌, ◌≤◌, [], IsTrue};
 ghost use Rattle.blsm_model.specs.Format.{least_weight, most_weight};
 ghost use Rattle.blsm_model.specs.Histories.{writes_of};
 ghost use Rattle.blsm_model.specs.Legal.{is_write, total_weight};
 
 use crate::{Key, Value};
-use std::alloc::AllocError;
 
 /// A write of one key.
 #[derive(PartialEq, Eq, Debug, Drop)]
@@ -16,16 +15,6 @@ pub enum Write {
     Add(Key, u64),
     /// Removes the key.
     Del(Key),
-}
-
-impl Clone for Write {
-    ghost is_clone = { λ write copy. copy ≡ write };
-
-    ghost is_infallible = { λ _. ⊤ };
-
-    fn clone(&self) -> Result<Write, AllocError> {
-        Ok(self.copy())
-    }
 }
 
 impl Write {
@@ -60,16 +49,6 @@ pub enum Op {
     Release,
     /// Does at most so many turns of merging.
     Work(u32),
-}
-
-impl Clone for Op {
-    ghost is_clone = { λ op copy. copy ≡ op };
-
-    ghost is_infallible = { λ _. ⊤ };
-
-    fn clone(&self) -> Result<Op, AllocError> {
-        Ok(self.copy())
-    }
 }
 
 impl Op {

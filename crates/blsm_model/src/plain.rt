@@ -52,7 +52,7 @@ pub fn value_of(writes: &[Write], key: &Key) -> Option<Value>
 /// It is what the definitions say, as slowly and as obviously as can be: a get reads every write. Tests compare the
 /// store's replies with its replies, command by command. It answers puts, adds, dels and gets of one caller after
 /// another, and knows no hold, no work, no disk and no fault.
-#[derive(Debug, Drop)]
+#[derive(Drop)]
 pub struct Plain {
     writes: Vec<Write>,
     charge: u64,

@@ -1,11 +1,10 @@
 //! Values, and rows of a key and its value.
-ghost use Rattle.std.specs.Prelude.{◌≡◌, ◌<◌, ◌≤◌, ◌++◌, ◌∷◌, [], ⊤, length};
+ghost use Rattle.std.specs.Prelude.{◌≡◌, ◌<◌, ◌≤◌, ◌++◌, ◌∷◌, [], length};
 ghost use Rattle.blsm_model.specs.Format.{most_rows};
 ghost use Rattle.blsm_model.specs.Rows.{unused_row};
 
 use crate::{Key, Text};
 use arrayvec::ArrayVec;
-use std::alloc::AllocError;
 use std::default::MadeWith;
 use std::marker::Model;
 
@@ -16,16 +15,6 @@ pub struct Value {
     pub count: u64,
     /// What a put sets; empty where there was none.
     pub text: Text,
-}
-
-impl Clone for Value {
-    ghost is_clone = { λ value copy. copy ≡ value };
-
-    ghost is_infallible = { λ _. ⊤ };
-
-    fn clone(&self) -> Result<Value, AllocError> {
-        Ok(self.copy())
-    }
 }
 
 impl Value {
@@ -47,16 +36,6 @@ pub struct Row {
     pub key: Key,
     /// What the key had when the rows were held.
     pub value: Value,
-}
-
-impl Clone for Row {
-    ghost is_clone = { λ row copy. copy ≡ row };
-
-    ghost is_infallible = { λ _. ⊤ };
-
-    fn clone(&self) -> Result<Row, AllocError> {
-        Ok(self.copy())
-    }
 }
 
 impl Row {
@@ -107,16 +86,6 @@ impl Model for RowList {
     ghost invariant = { λ r. length r.rows.items ≤ most_rows };
 
     ghost inverse = { λ rows. record { rows = record { items = rows } } };
-}
-
-impl Clone for RowList {
-    ghost is_clone = { λ rows copy. copy ≡ rows };
-
-    ghost is_infallible = { λ _. ⊤ };
-
-    fn clone(&self) -> Result<RowList, AllocError> {
-        Ok(self.copy())
-    }
 }
 
 impl RowList {

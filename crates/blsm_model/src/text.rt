@@ -1,9 +1,8 @@
 //! Texts.
-ghost use Rattle.std.specs.Prelude.{◌≡◌, ◌<◌, ◌≤◌, ◌↔◌, ⊤, length, IsNone, IfSome, []};
+ghost use Rattle.std.specs.Prelude.{◌≡◌, ◌<◌, ◌≤◌, ◌↔◌, length, IsNone, IfSome, []};
 ghost use Rattle.blsm_model.specs.Format.{most_text};
 
 use arrayvec::ArrayVec;
-use std::alloc::AllocError;
 use std::marker::Model;
 
 /// A text of at most 435 bytes. Contracts see it as the list of its bytes.
@@ -23,16 +22,6 @@ impl Model for Text {
     ghost invariant = { λ t. length t.bytes.items ≤ most_text };
 
     ghost inverse = { λ bytes. record { bytes = record { items = bytes } } };
-}
-
-impl Clone for Text {
-    ghost is_clone = { λ text copy. copy ≡ text };
-
-    ghost is_infallible = { λ _. ⊤ };
-
-    fn clone(&self) -> Result<Text, AllocError> {
-        Ok(self.copy())
-    }
 }
 
 impl Default for Text {

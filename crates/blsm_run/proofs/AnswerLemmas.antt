@@ -8,17 +8,18 @@ use Rattle.blsm_run.specs.declared.status.Status.{Status}
 use Rattle.blsm_run.specs.declared.status.Status.TheVariants.{Done, NoMemory}
 use Rattle.blsm_run.specs.Outside.{Outside, name, OfTheDisk}
 use Rattle.blsm_run.specs.Outcome.{Run, Outcome, usage, source_fault, too_big, bad_line, disk_fault, not_a_store, damaged_slots, damaged_lane, no_memory, ran, Written, Tells, status_of}
-use Rattle.blsm_run.specs.Cause.{Cause, script_limit}
+use Rattle.blsm_run.specs.Cause.{Cause}
 use Rattle.std.proofs.lemmas.List.Sums.{sum_by-append}
 use Rattle.blsm_model.specs.declared.key.Key.{Key}
 use Rattle.blsm_model.specs.declared.op.Write.{Write}
+use Rattle.blsm_model.specs.Format.{most_script}
 use Rattle.blsm_model.specs.Sizes.{Sizes}
 use Rattle.record_delta.specs.declared.record.Rec.{Rec}
 use Rattle.record_delta.specs.Records.{weight}
-use Rattle.mem_table.specs.Entries.{total_weight as table_weight}
+use Rattle.record_delta.specs.Entries.{entries_weight as table_weight}
 use Rattle.gated_log.proofs.OneList.{front_is_front, not_damaged}
 use Rattle.store_file.specs.Layout.{IsStoreOf, IsStore}
-use Rattle.store_file.specs.Laws.{only_sizes}
+use Rattle.store_file.proofs.LayoutLaws.{only_sizes}
 use Rattle.blsm_run.specs.declared.outcome.Refusal.TheVariants as refusal
 use Rattle.blsm_run.specs.Holding.{log_lane, entries_of, HoldsWrites}
 use Rattle.blsm_run.specs.Opening.{IsTooHeavy, IsBroken, IsRefusedSoon}
@@ -79,10 +80,10 @@ module _ {D : Type 0} (state : D → DiskState) where
 
   pub completes : (o : Outside D) (w : Written) (outcome : Outcome) (status : Status) → Cause state o outcome → Tells w outcome status → IsGranted state o w → (status ≡ Done) ⊎ (status ≡ NoMemory)
   completes o w usage status cause tells granted = absurd (cause.0 granted.words)
-  completes o w source_fault status cause tells granted = absurd (quiet_is_no_rise o.source_faults o.source_faults_after granted.source_quiet cause.1)
-  completes o w too_big status cause tells granted = let long = told o.left granted.input (λ input. script_limit < length input) granted.told cause.1 in absurd (omega (arith, long, granted.short))
+  completes o w source_fault status cause tells granted = absurd (quiet_is_no_rise o.source_faults o.source_faults_after granted.source_quiet cause.1.0)
+  completes o w too_big status cause tells granted = let long = told o.left granted.input (λ input. most_script < length input) granted.told cause.1 in absurd (omega (arith, long, granted.short))
   completes o w (bad_line n) status cause tells granted = absurd (script_not_bad granted.input granted.lines n granted.script (told o.left granted.input (λ input. IsBadLine input n) granted.told cause.1))
-  completes o w disk_fault status cause tells granted = absurd (quiet_is_no_rise o.shelf.faults o.shelf_after.faults granted.shelf_quiet cause.1)
+  completes o w disk_fault status cause tells granted = absurd (quiet_is_no_rise o.shelf.faults o.shelf_after.faults granted.shelf_quiet cause.1.0)
   completes o w not_a_store status cause tells granted =
       let s = said o w (λ first last. IsRefusedSoon first last refusal.NotAStore) granted cause.0.1 in
       let says = s.2.0.0 (s.0).honest in

@@ -23,16 +23,16 @@ use Rattle.blsm_model.specs.Legal.{total_weight}
 use Rattle.blsm_model.specs.Images.{is_unsure, counted_with}
 use Rattle.record_delta.specs.declared.record.Rec.{Rec}
 use Rattle.record_delta.specs.Records.{record_of, weight}
-use Rattle.gated_log.specs.Lane.{blocks, IsAppended, EachHasEntries}
+use Rattle.gated_log.specs.Lane.{blocks, IsAppended, EachHasEntries, Appends}
 use Rattle.gated_log.proofs.BlockLemmas.{length-blocks-push}
-use Rattle.blsm_run.specs.Memory.{Memory, AnswersWrite, AnswersRunning, AnswersWhere, Answers, is_untroubled, log_after, StopIsTold, StandsFor}
+use Rattle.blsm_run.specs.Memory.{Memory, AnswersWrite, AnswersRunning, AnswersWhere, AnswersCommand, is_untroubled, log_after, StopIsTold, StandsFor}
 use Rattle.blsm_run.specs.Holding.{log_lane, entry_of, entries_of, HoldsWrites}
 use Rattle.blsm_run.specs.Showing.{ShowsWhole, ShowsPrefix, calls_for}
 use Rattle.blsm_run.specs.Crashes.{IsWritten, StandsOnDisk, KeepsShowing}
 use Rattle.blsm_run.specs.StoreState.{StoreState}
-use Rattle.blsm_run.specs.Run.{append_calls, MayAppend, HasAppended, HasSameDisk, WritesOnDisk, ChangesDisk}
+use Rattle.blsm_run.specs.Run.{append_calls, HasSameDisk, WritesOnDisk, ChangesDisk}
 use Rattle.blsm_run.proofs.MemoryLemmas.{log_push}
-use Rattle.blsm_run.proofs.ShowingLemmas.{prefix_self, prefix_push, prefix_then, prefix_length, calm_doubt, doubt_push, calls_more, shows_by, shows_counted, shows_push, shows_front, shows_longer, entries_push, torn_holds, lane_push, appended_holds}
+use Rattle.blsm_run.proofs.ShowingLemmas.{prefix_self, prefix_push, prefix_then, prefix_length, calm_doubt, doubt_push, calls_more, shows_by, shows_counted, shows_push, shows_front, shows_longer, entries_push, holds_with, lane_push, appended_holds}
 
 -- what is kept of the disk: the history has grown, and all of it stands there
 abbrev pub Kept : Sizes → List Write → List Entry → DiskState → List Entry → Option Why → ℕ → DiskState → Type 0
@@ -142,22 +142,24 @@ module _ (sizes : Sizes) (log : List Write) (history : List Entry) (entry : Entr
 
   -- a write that was appended
   kept_done : (write : Write) (end end' : ℕ) (d e : DiskState) → IsTimed e → e.clock ≤ d.clock + calls_for (entry ∷ []) → e.is_honest ≡ d.is_honest → counted entry ≡ write ∷ [] → total_weight (log_after log history ++ write ∷ []) ≤ sizes.half
-      → end' ≡ end + (weight (key_of write) (record_of write) + 1) → HasAppended sizes end (entry_of write) d e → StandsOnDisk sizes log history None end d
+      → end' ≡ end + (weight (key_of write) (record_of write) + 1) → Appends sizes log_lane end (entry_of write) true d e → StandsOnDisk sizes log history None end d
       → Kept sizes log history d (history ++ entry ∷ []) None end' e
   kept_done write end end' d e timed few still counts fits moved has stands =
       let writes = log_after log history in
       let was = stands.running refl in
       let lanes : EachHasEntries sizes log_lane (entries_of writes) d.images = λ c left. (was.images c left).lane in
       let more : log_after log (history ++ entry ∷ []) ≡ writes ++ write ∷ [] = log_push log history entry ∙ ap (λ ws. writes ++ ws) counts in
-      let run = has.each (entries_of writes) stands.honest was.ends lanes in
+      let app = has (entries_of writes) stands.honest was.ends in
+      let run = app.each lanes in
+      let outside = (app.reads was.bytes.lane).outside in
       let shows : (c : List ℕ) → HoldsWrites sizes (writes ++ write ∷ []) c → ShowsWhole sizes log (history ++ entry ∷ []) c = λ c holds.
       shows_counted sizes log (history ++ entry ∷ []) c (subst (λ ws. HoldsWrites sizes ws c) (sym more) holds) in
       let now : (c : List ℕ) → e.images c → HoldsWrites sizes (writes ++ write ∷ []) c = λ c left.
-      let app = leaves_only_now timed run c left in
-      torn_holds sizes writes (writes ++ write ∷ []) app.outside.0 c (was.images app.outside.0 app.outside.1) app.outside.2
-      (lane_push sizes writes write c (has.acknowledged (entries_of writes) stands.honest was.ends lanes c left)) fits in
-      let reads : HoldsWrites sizes (writes ++ write ∷ []) e.bytes = torn_holds sizes writes (writes ++ write ∷ []) d.bytes e.bytes was.bytes (has.outside stands.honest)
-      (lane_push sizes writes write e.bytes (has.reads (entries_of writes) stands.honest was.ends was.bytes.lane)) fits in (
+      let here = leaves_only_now timed run c left in
+      holds_with sizes writes (writes ++ write ∷ []) here.outside.0 c (was.images here.outside.0 here.outside.1) here.outside.2
+      (lane_push sizes writes write c (app.each_done refl lanes c left)) fits in
+      let reads : HoldsWrites sizes (writes ++ write ∷ []) e.bytes = holds_with sizes writes (writes ++ write ∷ []) outside.0 e.bytes (subst (λ b. HoldsWrites sizes writes b) (sym outside.1) was.bytes) outside.2
+      (lane_push sizes writes write e.bytes (app.reads_done refl was.bytes.lane)) fits in (
         kept_one d e timed few (leaves_only_weaken (λ c app. shown_while write d.images c was.images fits (shows c) app) run) (λ c left. shows c (now c left)),
         record {
           honest = still ∙ stands.honest;
@@ -175,13 +177,14 @@ module _ (sizes : Sizes) (log : List Write) (history : List Entry) (entry : Entr
 
   -- a write whose append failed
   kept_unsure : (write : Write) (why : Why) (end end' : ℕ) (d e : DiskState) → IsTimed e → e.clock ≤ d.clock + calls_for (entry ∷ []) → e.is_honest ≡ d.is_honest → counted_with true entry ≡ write ∷ [] → counted entry ≡ [] → is_untroubled history ≡ true
-      → total_weight (log_after log history ++ write ∷ []) ≤ sizes.half → MayAppend sizes end (entry_of write) d e → StandsOnDisk sizes log history None end d
+      → total_weight (log_after log history ++ write ∷ []) ≤ sizes.half → Appends sizes log_lane end (entry_of write) false d e → StandsOnDisk sizes log history None end d
       → Kept sizes log history d (history ++ entry ∷ []) (Some why) end' e
   kept_unsure write why end end' d e timed few still doubt uncounted calm fits may stands =
       let writes = log_after log history in
       let was = stands.running refl in
       let lanes : EachHasEntries sizes log_lane (entries_of writes) d.images = λ c left. (was.images c left).lane in
-      let run = may.each (entries_of writes) stands.honest was.ends lanes in
+      let app = may (entries_of writes) stands.honest was.ends in
+      let run = app.each lanes in
       let with_it : log ++ flat_map (counted_with true) (history ++ entry ∷ []) ≡ writes ++ write ∷ [] =
       doubt_push true log history entry ∙ ap (λ ws. (log ++ ws) ++ counted_with true entry) (calm_doubt history calm) ∙ ap (λ ws. writes ++ ws) doubt in
       let without_it : log_after log (history ++ entry ∷ []) ≡ writes = log_push log history entry ∙ ap (λ ws. writes ++ ws) uncounted ∙ append-nil writes in
@@ -191,7 +194,7 @@ module _ (sizes : Sizes) (log : List Write) (history : List Entry) (entry : Entr
       ⊎_elim (λ holds. shows_counted sizes log (history ++ entry ∷ []) c (subst (λ ws. HoldsWrites sizes ws c) (sym without_it) holds)) (shows c) in
       let whole : (c : List ℕ) → e.images c → ShowsWhole sizes log (history ++ entry ∷ []) c = λ c left.
       either c (appended_holds sizes writes write d.images c was.images fits (leaves_only_now timed run c left)) in
-      let read = may.as_read (entries_of writes) stands.honest was.ends was.bytes.lane in (
+      let read = app.reads was.bytes.lane in (
         kept_one d e timed few (leaves_only_weaken (λ c app. shown_while write d.images c was.images fits (shows c) app) run) whole,
         record {
           honest = still ∙ stands.honest;
@@ -241,7 +244,7 @@ module _ {D : Type 0} (state : D → DiskState) (old new : StoreState D) (few : 
   calls_running answered seat (Del key) reply a disk = calls_write answered seat (Del key) (write.Del key) reply refl a disk
   calls_running answered seat _ reply a disk = absurd a
 
-  pub calls_push : (answered : Memory) (seat : ℕ) (op : Op) (reply : Reply) → Answers old.memory op answered reply → ChangesDisk state op old new reply → IsFew (noted_as seat op reply)
+  pub calls_push : (answered : Memory) (seat : ℕ) (op : Op) (reply : Reply) → AnswersCommand old.memory op answered reply → ChangesDisk state op old new reply → IsFew (noted_as seat op reply)
   calls_push answered seat op reply a disk = by_stop old.memory.stopped a
     where
       by_stop : (stopped : Option Why) → AnswersWhere stopped old.memory op answered reply → IsFew (noted_as seat op reply)
@@ -251,7 +254,7 @@ module _ {D : Type 0} (state : D → DiskState) (old new : StoreState D) (few : 
           (few_same (noted_as seat op (Stopped why)) (stopped_same state old new op why (subst (λ r. ChangesDisk state op old new r) answers.0 disk)))
 
 -- a store that has stopped makes no call, so no second one fails
-pub faults_push : {D : Type 0} (state : D → DiskState) (old new : StoreState D) (first : ℕ) (answered : Memory) (op : Op) (reply : Reply) → Answers old.memory op answered reply → ChangesDisk state op old new reply
+pub faults_push : {D : Type 0} (state : D → DiskState) (old new : StoreState D) (first : ℕ) (answered : Memory) (op : Op) (reply : Reply) → AnswersCommand old.memory op answered reply → ChangesDisk state op old new reply
     → (state new.disk).faults ≤ (state old.disk).faults + 1 → (old.memory.stopped ≡ None → (state old.disk).faults ≡ first) → (state old.disk).faults ≤ first + 1 → (state new.disk).faults ≤ first + 1
 faults_push state old new first answered op reply a disk one calm few = by_stop old.memory.stopped refl a
   where
@@ -321,7 +324,7 @@ module _ {D : Type 0} (state : D → DiskState) (log : List Write) (old new : St
   by_running answered seat _ reply runs limit a disk m stands = absurd a
 
   -- Whatever stood on the disk before a command, it stands there with this entry after it.
-  pub kept_push : (answered : Memory) (seat : ℕ) (op : Op) (reply : Reply) → old.memory.limit ≡ old.sizes.half → Answers old.memory op answered reply → ChangesDisk state op old new reply → StandsFor log old.memory
+  pub kept_push : (answered : Memory) (seat : ℕ) (op : Op) (reply : Reply) → old.memory.limit ≡ old.sizes.half → AnswersCommand old.memory op answered reply → ChangesDisk state op old new reply → StandsFor log old.memory
       → StandsOnDisk old.sizes log old.memory.book.entries old.memory.stopped old.log_end (state old.disk) → Goal answered (noted_as seat op reply)
   kept_push answered seat op reply limit a disk m stands = by_stop old.memory.stopped refl a
     where

@@ -24,9 +24,9 @@ use Rattle.blsm_model.proofs.HistoryLemmas.{counted_writes_push, legal_push, run
 use Rattle.record_delta.specs.Records.{record_of, settled, weight}
 use Rattle.record_delta.specs.Folding.{StandsForMore}
 use Rattle.record_delta.proofs.FoldingLemmas.{stands_put, stands_add, stands_del}
-use Rattle.mem_table.specs.Entries.{Entries, record_of_key, total_weight as table_weight}
+use Rattle.record_delta.specs.Entries.{Entries, record_of_key, entries_weight as table_weight}
 use Rattle.blsm_run.specs.MemoryTable.{table_of}
-use Rattle.blsm_run.specs.Memory.{Memory, taken, with_entry, AnswersWrite, AnswersRunning, AnswersWhere, Answers, peak_from, log_after, tells_fault, is_troubled, fault_count, is_untroubled, StopIsTold, limits_at, TellsNoPage, IsNoPageStop, FitsReply, FitFrom, StandsFor}
+use Rattle.blsm_run.specs.Memory.{Memory, taken, with_entry, AnswersWrite, AnswersRunning, AnswersWhere, AnswersCommand, peak_from, log_after, tells_fault, is_troubled, fault_count, is_untroubled, StopIsTold, limits_at, TellsNoPage, IsNoPageStop, FitsReply, FitFrom, StandsFor}
 use Rattle.blsm_run.proofs.LogLemmas.{value_over}
 use Rattle.blsm_run.proofs.TableLemmas.{with_write, table_of-push, value_after}
 
@@ -289,7 +289,7 @@ stands_running log old new seat (Del key) reply runs a s =
 stands_running log old new seat _ reply runs a s = absurd a
 
 -- Whatever a store stood for before a command, it stands for with this entry after it.
-pub stands_push : (log : List Write) (old new : Memory) (seat : ℕ) (op : Op) (reply : Reply) → Answers old op new reply → StandsFor log old → StandsFor log (with_entry new (by seat op reply))
+pub stands_push : (log : List Write) (old new : Memory) (seat : ℕ) (op : Op) (reply : Reply) → AnswersCommand old op new reply → StandsFor log old → StandsFor log (with_entry new (by seat op reply))
 stands_push log old new seat op reply a s = by_stop old.stopped refl a
   where
     by_stop : (stopped : Option Why) → old.stopped ≡ stopped → AnswersWhere stopped old op new reply → StandsFor log (with_entry new (by seat op reply))

@@ -2,8 +2,13 @@
 use Rattle.std.proofs.Common.{◌≡◌, ◌≢◌, ℕ, IsTrue, Result, Err, Ok, inl, inr, ⊎_elim, ◌+◌, ◌≤◌, ◌<◌, List, [], ◌∷◌, ◌++◌, length, refl, ap, sym, subst, ◌∙◌, arith}
 use Rattle.std.proofs.lemmas.List.{map-append}
 use Rattle.std.proofs.lemmas.List.Sums.{sum_by-append, sum_by-cons}
-use Rattle.disk_trait.specs.Disk.{DiskState, GoesOn, Passes, MarksSync, WritesNothing, ChangesNothing, Only}
-use Rattle.disk_trait.specs.Moments.{IsTimed, LeavesOnly, LeavesOnlyOnceSynced, leaves_only_start, leaves_only_call, leaves_only_kept, leaves_only_now, leaves_only_weaken, once_synced_weaken, once_synced_first, once_synced_kept, once_synced_behind, no_sync_start, no_sync_run}
+use Rattle.store_file.specs.declared.reading.StoreBroken.{StoreBroken}
+use Rattle.store_file.specs.declared.reading.StoreBroken.TheVariants as broken
+use Rattle.disk_trait.specs.Disk.{DiskState, TellsFaultsBy, GoesOn, Passes, MarksSync, WritesNothing, Only}
+use Rattle.disk_trait.specs.Effects.{Affects}
+use Rattle.disk_trait.specs.Reads.{OnlyReads, only_reads_start, only_reads_each}
+use Rattle.disk_trait.specs.Region.{Region}
+use Rattle.disk_trait.specs.Moments.{IsTimed, LeavesOnly, LeavesOnlyOnceSynced, IsOldOr, old_or_behind, leaves_only_start, leaves_only_call, leaves_only_kept, leaves_only_now, leaves_only_weaken, once_synced_weaken, once_synced_first, once_synced_kept, once_synced_behind, no_sync_start, no_sync_run}
 use Rattle.blsm_model.specs.declared.key.Key.{Key}
 use Rattle.blsm_model.specs.declared.op.Write.{Write}
 use Rattle.blsm_model.specs.Sizes.{Sizes, IsGeometry, default_sizes}
@@ -12,7 +17,8 @@ use Rattle.blsm_model.specs.Legal.{total_weight}
 use Rattle.record_delta.specs.declared.record.Rec.{Rec}
 use Rattle.record_delta.specs.declared.record.Rec.TheVariants.{Base, Delta, Tomb}
 use Rattle.record_delta.specs.Records.{write_of, weight}
-use Rattle.mem_table.specs.Entries.{Entries, with_record, StandFor, total_weight as table_weight}
+use Rattle.record_delta.specs.Entries.{Entries, with_record, entries_weight as table_weight}
+use Rattle.mem_table.specs.Entries.{StandFor}
 use Rattle.refusal.specs.Count.{HasRisen}
 use Rattle.gated_log.specs.declared.replay.LaneBroken.{LaneBroken}
 use Rattle.gated_log.specs.declared.replay.LaneBroken.TheVariants.{Fault, Damaged}
@@ -24,7 +30,7 @@ use Rattle.blsm_run.specs.declared.outcome.Refusal.{Refusal}
 use Rattle.blsm_run.specs.declared.outcome.Refusal.TheVariants as refusal
 use Rattle.blsm_run.specs.MemoryTable.{table_of}
 use Rattle.store_file.specs.Layout.{IsStoreOf, IsStore, HasFirstSlots, IsMade}
-use Rattle.store_file.specs.Making.{making_calls, IsHalfMade, IsOldOr, old_or_behind}
+use Rattle.store_file.specs.Making.{making_calls, IsHalfMade, LeavesOldOr, HasMade}
 use Rattle.blsm_run.specs.Holding.{log_lane, entry_of, entries_of, HoldsWrites, IsFound, IsYet, opening_calls}
 use Rattle.blsm_model.specs.Geometry.{file_length, high_mark}
 use Rattle.blsm_run.specs.Opening.{HasTaken, IsFit, IsTooHeavy, IsBroken, HasReplayed, HasOpened, IsLeft, IsHalfOpened, Refuses, IsCounted, Opens, Replays}
@@ -134,15 +140,12 @@ reading_calls [] writes some = absurd (some refl)
 reading_calls (b ∷ bs) writes some = refl
 
 -- what making leaves is what an opening answers
-pub made_opened : (old new : DiskState) (opened : Opened) (sizes : Sizes) → sizes ≡ default_sizes → opened ≡ record { geometry = sizes; table = record { entries = []; reserved = high_mark sizes }; charge = 0; end = 0 }
+pub made_opened : {region : Region} {end : ℕ} (old new : DiskState) (opened : Opened) (sizes : Sizes) → sizes ≡ default_sizes → opened ≡ record { geometry = sizes; table = record { entries = []; reserved = high_mark sizes }; charge = 0; end = 0 }
     → (IsTrue old.is_honest → IsTrue old.tells_bytes) → (IsTrue old.tells_bytes → length old.bytes ≡ 0)
-    → (IsTrue old.is_honest → LeavesOnly old new (IsOldOr old.images (IsHalfMade sizes)))
-    → (IsTrue old.is_honest → LeavesOnlyOnceSynced old new (IsHalfMade sizes))
-    → (IsTrue old.is_honest → IsMade sizes new.bytes) → (IsTrue old.is_honest → Only new.bytes new.images)
-    → (IsTrue old.tells_bytes → length new.bytes ≡ file_length sizes) → new.faults ≡ old.faults → new.is_honest ≡ old.is_honest → new.clock ≤ old.clock + making_calls sizes → HasOpened 1 old new [] opened
-made_opened old new opened sizes named is tells none each once made durable long stands still calls =
+    → (IsTrue old.is_honest → LeavesOldOr old new (IsHalfMade sizes)) → HasMade sizes old new → new.faults ≡ old.faults → Affects region end (making_calls sizes) old new → HasOpened 1 old new [] opened
+made_opened old new opened sizes named is tells none half made stands effect =
     let fits : IsGeometry sizes = subst IsGeometry (sym named) default_fits in
-    let half : 17408 ≤ sizes.half = fits.half.0 in
+    let some : 17408 ≤ sizes.half = fits.half.0 in
     subst (HasOpened 1 old new []) (sym is) (record {
       replayed = record {
         taken = record { table = refl; values = λ key. refl; charge = refl };
@@ -151,20 +154,20 @@ made_opened old new opened sizes named is tells none each once made durable long
         inside = omega arith;
         short = omega arith;
         few = omega arith;
-        lane = λ honest. (made (sym still ∙ honest)).lanes log_lane (omega arith);
+        lane = λ honest. (made.made (sym effect.goes_on.is_honest ∙ honest)).lanes log_lane (omega arith);
       };
       geometry = fits;
-      length = long;
+      length = made.long;
       calm = stands;
       found = λ honest. inl (empty_is old.bytes (none (tells honest)), named, refl);
-      holds = λ honest. made_holds sizes new.bytes (made honest);
-      durable = durable;
-      each = λ honest. leaves_only_weaken (λ c. ⊎_elim (λ before. inl before) (λ half. inr (made_yet sizes old.bytes c (empty_is old.bytes (none (tells honest))) half))) (each honest);
-      once_synced = λ honest. once_synced_weaken (λ c half. made_yet sizes old.bytes c (empty_is old.bytes (none (tells honest))) half) (once honest);
+      holds = λ honest. made_holds sizes new.bytes (made.made honest);
+      durable = made.durable;
+      each = λ honest. leaves_only_weaken (λ c. ⊎_elim (λ before. inl before) (λ half. inr (made_yet sizes old.bytes c (empty_is old.bytes (none (tells honest))) half))) (half honest).each;
+      once_synced = λ honest. once_synced_weaken (λ c half. made_yet sizes old.bytes c (empty_is old.bytes (none (tells honest))) half) (half honest).once_synced;
       soon = λ honest.
           let count : opening_calls old.bytes [] ≡ opening_calls [] [] = ap (λ f. opening_calls f []) (empty_is old.bytes (none (tells honest))) in
-          let made : new.clock ≤ old.clock + making_calls default_sizes = subst (λ (z : Sizes). new.clock ≤ old.clock + making_calls z) named calls in
-          omega (arith, made, count);
+          let soon : new.clock ≤ old.clock + making_calls default_sizes = subst (λ (z : Sizes). new.clock ≤ old.clock + making_calls z) named effect.calls in
+          omega (arith, soon, count);
       kept = λ some. record {
         bytes = λ honest. absurd (some (empty_is old.bytes (none (tells honest))));
         images = λ honest. absurd (some (empty_is old.bytes (none (tells honest))));
@@ -173,12 +176,8 @@ made_opened old new opened sizes named is tells none each once made durable long
 
 -- and what a making leaves that failed
 pub half_made : (old new : DiskState) (sizes : Sizes) → sizes ≡ default_sizes → (IsTrue old.is_honest → IsTrue old.tells_bytes) → (IsTrue old.tells_bytes → length old.bytes ≡ 0)
-    → (IsTrue old.is_honest → IsHalfMade sizes new.bytes) → (IsTrue old.is_honest → LeavesOnly old new (IsOldOr old.images (IsHalfMade sizes))) → IsHalfOpened old new
-half_made old new sizes named tells none reads each = inr (λ honest. (
-  empty_is old.bytes (none (tells honest)),
-  subst (λ (z : Sizes). IsHalfMade z new.bytes) named (reads honest),
-  subst (λ (z : Sizes). LeavesOnly old new (IsOldOr old.images (IsHalfMade z))) named (each honest),
-))
+    → (IsTrue old.is_honest → LeavesOldOr old new (IsHalfMade sizes)) → IsHalfOpened old new
+half_made old new sizes named tells none half = inr (λ honest. let made = subst (λ (z : Sizes). LeavesOldOr old new (IsHalfMade z)) named (half honest) in (empty_is old.bytes (none (tells honest)), made.reads, made.each, made.once_synced))
 
 -- ---- a store that was read
 
@@ -197,38 +196,44 @@ pub synced_kept : (old new : DiskState) → IsTimed old → IsTrue old.is_honest
 synced_kept old new timed honest passes same = leaves_only_call (leaves_only_start old old.images timed (λ c left. left)) passes (same.images honest)
 
 -- and so do a sync, a reading and a replay
-pub read_left : (old synced read new : DiskState) → IsTimed old → IsTimed synced → IsTimed read → Passes old synced → WritesNothing old synced → GoesOn synced read → ChangesNothing synced read
-    → (IsTrue synced.is_honest → LeavesOnly synced read synced.images) → (IsTrue read.is_honest → new.bytes ≡ read.bytes) → (IsTrue read.is_honest → LeavesOnly read new read.images) → IsLeft old new
-read_left old synced read new t0 t1 t2 passes same goes changes each bytes' each' = record {
+pub read_left : {end end' most most' : ℕ} (old synced read new : DiskState) → IsTimed old → IsTimed synced → IsTimed read → Passes old synced → WritesNothing old synced → OnlyReads end most synced read
+    → OnlyReads end' most' read new → IsLeft old new
+read_left old synced read new t0 t1 t2 passes same first second = record {
   bytes = λ honest.
       let honest' = passes.goes_on.is_honest ∙ honest in
-      bytes' (goes.is_honest ∙ honest') ∙ changes.same.bytes honest' ∙ same.bytes honest;
+      second.same.same.bytes (first.effect.goes_on.is_honest ∙ honest') ∙ first.same.same.bytes honest' ∙ same.bytes honest;
   images = λ honest.
       let honest' = passes.goes_on.is_honest ∙ honest in
-      leaves_only_kept t2 (leaves_only_kept t1 (synced_kept old synced t0 honest passes same) (each honest')) (each' (goes.is_honest ∙ honest'));
+      leaves_only_kept t2 (leaves_only_kept t1 (synced_kept old synced t0 honest passes same) (only_reads_each first honest')) (only_reads_each second (first.effect.goes_on.is_honest ∙ honest'));
 }
 
+-- a store that was read, no fault
+pub read_calm : {old new : DiskState} {sizes : Sizes} → TellsFaultsBy {R = Result Sizes StoreBroken} (Err broken.Fault) (Ok sizes) old new → new.faults ≡ old.faults
+read_calm told = told.stands (λ wrong. cc)
+
+-- a sync and a reading, alone
+pub reading_left : {end most : ℕ} {old synced read : DiskState} → IsTimed old → IsTimed synced → IsTimed read → Passes old synced → WritesNothing old synced → OnlyReads end most synced read → IsLeft old read
+reading_left {old = old} {synced = synced} {read = read} t0 t1 t2 passes same run = read_left old synced read read t0 t1 t2 passes same run (only_reads_start {end = 0} {most = 0} read t2)
+
 -- what reading leaves is what an opening answers
-pub read_opened : (ended : Type 0) (old synced read new : DiskState) (sizes : Sizes) (writes : List Write) (opened : Opened) → IsTimed old → IsTimed synced → IsTimed read → IsTimed new
+pub read_opened : {end end' most : ℕ} (ended : Type 0) (old synced read new : DiskState) (sizes : Sizes) (writes : List Write) (opened : Opened) → IsTimed old → IsTimed synced → IsTimed read → IsTimed new
     → Passes old synced → MarksSync ended old synced → WritesNothing old synced → (IsTrue old.is_honest → Only synced.bytes synced.images)
-    → GoesOn synced read → ChangesNothing synced read → (IsTrue synced.is_honest → LeavesOnly synced read synced.images) → MarksSync ⊥ synced read
-    → GoesOn read new → (IsTrue read.is_honest → new.bytes ≡ read.bytes) → (IsTrue read.is_honest → LeavesOnly read new read.images) → MarksSync ⊥ read new
-    → (IsTrue read.tells_bytes → length new.bytes ≡ length read.bytes)
-    → opened.geometry ≡ sizes → IsGeometry sizes → (IsTrue synced.tells_bytes → length synced.bytes ≡ file_length sizes) → (IsTrue synced.is_honest → IsStoreOf sizes synced.bytes × HasFirstSlots synced.bytes)
-    → HasReplayed read writes opened → synced.faults ≡ old.faults → read.faults ≡ synced.faults → new.faults ≡ read.faults → (IsTrue old.is_honest → old.bytes ≡ [] → ⊥) → read.clock ≤ synced.clock + 4 → new.clock ≤ read.clock + length writes + 1 → HasOpened 1 old new writes opened
-read_opened ended old synced read new sizes writes opened t0 t1 t2 t3 passes marks same only goes changes each none goes' bytes' each' none' long' geometry fits long told replayed f1 f2 f3 some four each_once =
+    → OnlyReads end 4 synced read → OnlyReads end' most read new → opened.geometry ≡ sizes → IsGeometry sizes → (IsTrue synced.tells_bytes → length synced.bytes ≡ file_length sizes) → (IsTrue synced.is_honest → IsStoreOf sizes synced.bytes × HasFirstSlots synced.bytes)
+    → HasReplayed read writes opened → synced.faults ≡ old.faults → read.faults ≡ synced.faults → new.faults ≡ read.faults → (IsTrue old.is_honest → old.bytes ≡ [] → ⊥) → new.clock ≤ read.clock + length writes + 1 → HasOpened 1 old new writes opened
+read_opened ended old synced read new sizes writes opened t0 t1 t2 t3 passes marks same only first second geometry fits long told replayed f1 f2 f3 some each_once =
+    let goes = first.effect.goes_on in
     let h1 : IsTrue old.is_honest → IsTrue synced.is_honest = λ honest. passes.goes_on.is_honest ∙ honest in
     let h2 : IsTrue old.is_honest → IsTrue read.is_honest = λ honest. goes.is_honest ∙ h1 honest in
     let tells1 : IsTrue old.tells_bytes → IsTrue synced.tells_bytes = λ tells. passes.goes_on.tells_bytes ∙ tells in
     let tells2 : IsTrue old.tells_bytes → IsTrue read.tells_bytes = λ tells. goes.tells_bytes ∙ tells1 tells in
     let b1 : IsTrue old.is_honest → synced.bytes ≡ old.bytes = same.bytes in
-    let b2 : IsTrue old.is_honest → read.bytes ≡ synced.bytes = λ honest. changes.same.bytes (h1 honest) in
-    let b3 : IsTrue old.is_honest → new.bytes ≡ read.bytes = λ honest. bytes' (h2 honest) in
+    let b2 : IsTrue old.is_honest → read.bytes ≡ synced.bytes = λ honest. first.same.same.bytes (h1 honest) in
+    let b3 : IsTrue old.is_honest → new.bytes ≡ read.bytes = λ honest. second.same.same.bytes (h2 honest) in
     let holds : IsTrue old.is_honest → HoldsWrites opened.geometry writes read.bytes = λ honest.
     replayed_holds sizes writes opened read.bytes geometry (subst (λ b. IsStoreOf sizes b) (sym (b2 honest)) (told (h1 honest)).0) (subst HasFirstSlots (sym (b2 honest)) (told (h1 honest)).1) replayed.taken replayed.fit (replayed.lane (h2 honest)) in
     let kept : IsTrue old.is_honest → LeavesOnly old new old.images = λ honest.
-    leaves_only_kept t2 (leaves_only_kept t1 (synced_kept old synced t0 honest passes same) (each (h1 honest))) (each' (h2 honest)) in
-    let tail : IsTrue old.is_honest → LeavesOnly synced new synced.images = λ honest. leaves_only_kept t2 (each (h1 honest)) (each' (h2 honest)) in
+    leaves_only_kept t2 (leaves_only_kept t1 (synced_kept old synced t0 honest passes same) (only_reads_each first (h1 honest))) (only_reads_each second (h2 honest)) in
+    let tail : IsTrue old.is_honest → LeavesOnly synced new synced.images = λ honest. leaves_only_kept t2 (only_reads_each first (h1 honest)) (only_reads_each second (h2 honest)) in
     let here : IsTrue old.is_honest → (c : List ℕ) → synced.images c → HoldsWrites opened.geometry writes c = λ honest c left.
     subst (λ b. HoldsWrites opened.geometry writes b) (b2 honest ∙ sym (only honest c left)) (holds honest) in
     record {
@@ -239,11 +244,11 @@ read_opened ended old synced read new sizes writes opened t0 t1 t2 t3 passes mar
         inside = replayed.inside;
         short = replayed.short;
         few = replayed.few;
-        lane = λ honest. let honest' : IsTrue old.is_honest = sym (passes.goes_on.is_honest) ∙ sym goes.is_honest ∙ sym goes'.is_honest ∙ honest in
+        lane = λ honest. let honest' : IsTrue old.is_honest = sym (passes.goes_on.is_honest) ∙ sym goes.is_honest ∙ sym second.effect.goes_on.is_honest ∙ honest in
             subst (λ b. HasEntries opened.geometry log_lane (entries_of writes) b) (sym (b3 honest')) (replayed.lane (h2 honest'));
       };
       geometry = subst IsGeometry (sym geometry) fits;
-      length = λ tells. long' (tells2 tells) ∙ changes.same.length (tells1 tells) ∙ long (tells1 tells) ∙ ap file_length (sym geometry);
+      length = λ tells. second.same.same.length (tells2 tells) ∙ first.same.same.length (tells1 tells) ∙ long (tells1 tells) ∙ ap file_length (sym geometry);
       calm = f3 ∙ f2 ∙ f1;
       found = λ honest. inr (subst (λ b. HoldsWrites opened.geometry writes b) (b2 honest ∙ b1 honest) (holds honest));
       holds = λ honest. subst (λ b. HoldsWrites opened.geometry writes b) (sym (b3 honest)) (holds honest);
@@ -252,8 +257,8 @@ read_opened ended old synced read new sizes writes opened t0 t1 t2 t3 passes mar
       once_synced = λ honest.
           once_synced_kept t1
           (once_synced_first ended t0 t0 t1 (omega arith) (no_sync_start old) passes marks (λ _ c left. inl (here honest c left)))
-          (tail honest) (no_sync_run none none');
-      soon = λ honest. omega (arith, passes.at_most_one, four, each_once, reading_calls old.bytes writes (some honest));
+          (tail honest) (no_sync_run first.no_sync second.no_sync);
+      soon = λ honest. omega (arith, passes.at_most_one, first.effect.calls, each_once, reading_calls old.bytes writes (some honest));
       kept = λ has. record { bytes = λ honest. b3 honest ∙ b2 honest ∙ b1 honest; images = kept };
     }
 
@@ -266,10 +271,12 @@ left_behind timed still same first left = record {
   images = λ honest. leaves_only_kept timed (first honest) (left.images (still ∙ honest));
 }
 
-half_behind : {old mid new : DiskState} → IsTimed mid → mid.is_honest ≡ old.is_honest → (IsTrue old.is_honest → mid.bytes ≡ old.bytes) → (IsTrue old.is_honest → LeavesOnly old mid old.images) → IsHalfOpened mid new
+half_behind : {old mid new : DiskState} → IsTimed old → IsTimed mid → GoesOn old mid → (IsTrue old.is_honest → mid.bytes ≡ old.bytes) → (IsTrue old.is_honest → LeavesOnly old mid old.images) → MarksSync ⊥ old mid → IsHalfOpened mid new
     → IsHalfOpened old new
-half_behind timed still same first (inl left) = inl (left_behind timed still same first left)
-half_behind timed still same first (inr half) = inr (λ honest. let h = half (still ∙ honest) in (sym (same honest) ∙ h.0, h.1, old_or_behind timed (first honest) h.2))
+half_behind timed timed' goes same first none (inl left) = inl (left_behind timed' goes.is_honest same first left)
+half_behind timed timed' goes same first none (inr half) = inr (λ honest.
+    let h = half (goes.is_honest ∙ honest) in
+    (sym (same honest) ∙ h.0, h.1, old_or_behind timed' (first honest) h.2, once_synced_behind timed goes.clock none h.3))
 
 opened_behind : {old mid new : DiskState} (writes : List Write) (opened : Opened) → IsTimed old → IsTimed mid → GoesOn old mid → mid.faults ≡ old.faults → (IsTrue old.is_honest → mid.bytes ≡ old.bytes)
     → (IsTrue old.is_honest → LeavesOnly old mid old.images) → MarksSync ⊥ old mid → mid.clock ≤ old.clock + 1 → HasOpened 1 mid new writes opened → HasOpened 0 old new writes opened
@@ -297,7 +304,7 @@ opened_behind {old} {mid} {new} writes opened timed timed' goes stands same firs
 
 module _ (old mid new : DiskState) (timed : IsTimed old) (timed' : IsTimed mid) (goes : GoesOn old mid) (stands : mid.faults ≡ old.faults) (same : IsTrue old.is_honest → mid.bytes ≡ old.bytes) (first : IsTrue old.is_honest → LeavesOnly old mid old.images) (none : MarksSync ⊥ old mid) where
   refuses_behind : (r : Refusal) → Refuses mid new r → Refuses old new r
-  refuses_behind refusal.DiskFault half = half_behind timed' goes.is_honest same first half
+  refuses_behind refusal.DiskFault half = half_behind timed timed' goes same first none half
   refuses_behind refusal.NotAStore (found, left) = (
     λ honest. subst (λ (b : List ℕ). ((b ≡ []) → ⊥) × ¬ (IsStore b)) (same honest) (found (goes.is_honest ∙ honest)),
     left_behind timed' goes.is_honest same first left,

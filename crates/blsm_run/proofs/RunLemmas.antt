@@ -17,8 +17,8 @@ use Rattle.blsm_model.specs.Book.{rows_given, room_after}
 use Rattle.blsm_model.specs.declared.row.Value.{Value}
 use Rattle.blsm_model.specs.Histories.{answer_to_get}
 use Rattle.record_delta.specs.Records.{settled}
-use Rattle.mem_table.specs.Entries.{record_of_key}
-use Rattle.blsm_run.specs.Memory.{Memory, AnswersWrite, AnswersRunning, AnswersWhere, Answers}
+use Rattle.record_delta.specs.Entries.{record_of_key}
+use Rattle.blsm_run.specs.Memory.{Memory, AnswersWrite, AnswersRunning, AnswersWhere, AnswersCommand}
 use Rattle.disk_trait.specs.Disk.{DiskState}
 use Rattle.disk_trait.specs.Moments.{goes_on_start, goes_on_run, syncs_later_start, syncs_later_run}
 use Rattle.blsm_run.specs.StoreState.{StoreState}
@@ -44,7 +44,7 @@ stays_running old new (Del key) reply a = stays_write old new (write.Del key) re
 stays_running old new _ reply a = absurd a
 
 -- An answer notes nothing by itself, and leaves the limit.
-pub stays : (old new : Memory) (op : Op) (reply : Reply) → Answers old op new reply → Stays old new
+pub stays : (old new : Memory) (op : Op) (reply : Reply) → AnswersCommand old op new reply → Stays old new
 stays old new op reply a = by_stop old.stopped a
   where
     by_stop : (stopped : Option Why) → AnswersWhere stopped old op new reply → Stays old new
@@ -52,7 +52,7 @@ stays old new op reply a = by_stop old.stopped a
     by_stop (Some why) b = (ap (λ (m : Memory). m.book) b.1, ap (λ (m : Memory). m.limit) b.1)
 
 -- a store that runs on has run before
-pub ran_before : (old new : Memory) (op : Op) (reply : Reply) → Answers old op new reply → new.stopped ≡ None → old.stopped ≡ None
+pub ran_before : (old new : Memory) (op : Op) (reply : Reply) → AnswersCommand old op new reply → new.stopped ≡ None → old.stopped ≡ None
 ran_before old new op reply a runs = by_stop old.stopped refl a
   where
     by_stop : (stopped : Option Why) → old.stopped ≡ stopped → AnswersWhere stopped old op new reply → old.stopped ≡ None
@@ -77,7 +77,7 @@ no_rows_running old new (Add key count) reply a = no_rows_write old new (write.A
 no_rows_running old new (Del key) reply a = no_rows_write old new (write.Del key) reply a
 no_rows_running old new _ reply a = absurd a
 
-pub no_rows : (old new : Memory) (op : Op) (reply : Reply) → Answers old op new reply → rows_given reply ≡ []
+pub no_rows : (old new : Memory) (op : Op) (reply : Reply) → AnswersCommand old op new reply → rows_given reply ≡ []
 no_rows old new op reply a = by_stop old.stopped a
   where
     by_stop : (stopped : Option Why) → AnswersWhere stopped old op new reply → rows_given reply ≡ []

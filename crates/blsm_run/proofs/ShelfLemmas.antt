@@ -15,7 +15,7 @@ use Rattle.blsm_run.specs.Outside.{OfTheDisk}
 use Rattle.blsm_run.specs.Holding.{most_opening_calls}
 use Rattle.blsm_run.specs.Opening.{IsRefusedSoon}
 use Rattle.blsm_run.specs.Showing.{HasShown, calls_for}
-use Rattle.blsm_run.specs.Cause.{HasFinished, StopsName, IsRunOnShelf}
+use Rattle.blsm_run.specs.Cause.{Finishes, IsToldBy, IsRunOnShelf}
 use Rattle.blsm_run.specs.Session.{run_of, RunsOverDisk, IsRefusedOnShelf, IsFoundOnShelf, RunsOnShelf}
 use Rattle.blsm_run.proofs.ShownLemmas.{fresh_refused, fresh_shown, fresh_calls}
 
@@ -39,7 +39,7 @@ module _ {D : Type 0} (state : D → DiskState) (name : List ℕ) (lines : List 
   stays : (state last).faults ≡ 0 → new.faults ≤ old.faults
   stays none = grind (arith, stands, faults, none)
 
-  finished_on_shelf : (finished : Finished) (sizes : Sizes) (log : List Write) → IsGeometry sizes → total_weight log ≤ sizes.half → HasFinished sizes log lines (run_of finished) (IsTrue finished.is_faulted) (state last)
+  finished_on_shelf : (finished : Finished) (sizes : Sizes) (log : List Write) → IsGeometry sizes → total_weight log ≤ sizes.half → Finishes sizes log lines (run_of finished) (IsTrue finished.is_faulted) (state last)
       → (state last).clock ≤ (state disk).clock + most_opening_calls + calls_for finished.annals.entries
       → (IsTrue (state disk).is_honest → HasShown sizes log finished.annals.entries (state disk) (state last)) → IsRunOnShelf state name lines (run_of finished) (IsTrue finished.is_faulted) old new
   finished_on_shelf finished sizes log geometry fits has few shown = record {
@@ -47,21 +47,15 @@ module _ {D : Type 0} (state : D → DiskState) (name : List ℕ) (lines : List 
     log = log;
     geometry = geometry;
     log_fits = fits;
-    run_of = has.run_of;
+    finished = has.0;
     stood = stood;
     shown = of_the_disk (λ a b. IsTrue a.is_honest → HasShown sizes log finished.annals.entries a b) (λ before fresh honest. fresh_shown fresh sizes log finished.annals.entries (state last) shown honest);
     calls = of_the_disk (λ a b. b.clock ≤ a.clock + most_opening_calls + calls_for finished.annals.entries)
         (λ before fresh. omega (arith, fresh_calls fresh (state last) (most_opening_calls + calls_for finished.annals.entries) (omega (arith, few))));
-    faults = rises_by (fault_count finished.annals.entries) has.faults;
-    one_call = of_the_disk (λ a b. b.faults ≤ 1) (λ before fresh. has.one_call);
-    one_fault = has.one_fault;
-    stops = of_the_disk (λ a b. StopsName b.faults (run_of finished)) (λ before fresh. has.stops);
-    rose = λ faulted. rises (has.counted faulted);
-    counted = of_the_disk (λ a b. IsTrue finished.is_faulted → 0 < b.faults) (λ before fresh. has.counted);
-    calm = of_the_disk (λ a b. (¬ (IsTrue finished.is_faulted)) → b.faults ≡ 0) (λ before fresh. has.calm);
-    told = has.told;
-    untold = has.untold;
-    quiet = λ still. stays (has.calm still);
+    told_by = of_the_disk (λ a b. IsToldBy (run_of finished) (IsTrue finished.is_faulted) b) (λ before fresh. has.1);
+    faults = rises_by (fault_count finished.annals.entries) has.1.faults;
+    rose = λ faulted. rises (has.1.counted faulted);
+    quiet = λ still. stays (has.1.calm still);
   }
 
   refused : (r : Refusal) → IsRefusedSoon (state disk) (state last) r → IsRefusedOnShelf state name old new r
@@ -72,7 +66,7 @@ module _ {D : Type 0} (state : D → DiskState) (name : List ℕ) (lines : List 
 
   pub on_shelf : (result : Result Finished Refusal) → RunsOverDisk lines (state disk) (state last) result → RunsOnShelf state name lines old new result
   on_shelf (Ok finished) runs = finished_on_shelf finished runs.0 runs.1 runs.2 runs.3 runs.4 runs.5 runs.6
-  on_shelf (Err refusal.DiskFault) runs = (refused refusal.DiskFault runs.0, grind (arith, stands, faults, count, runs.1))
+  on_shelf (Err refusal.DiskFault) runs = (refused refusal.DiskFault runs.0, (grind (arith, stands, faults, count, runs.1.0), grind (arith, stands, faults, count, runs.1.1)))
   on_shelf (Err refusal.NotAStore) runs = found refusal.NotAStore runs.0 runs.1
   on_shelf (Err refusal.DamagedSlots) runs = found refusal.DamagedSlots runs.0 runs.1
   on_shelf (Err refusal.DamagedLane) runs = found refusal.DamagedLane runs.0 runs.1

@@ -3,21 +3,19 @@ use Rattle.std.proofs.Common.{◌≡◌, ℕ, ◌+◌, ◌≤◌, List, [], ◌�
 use Rattle.std.proofs.lemmas.List.{map-append, flat_map_more}
 use Rattle.std.proofs.lemmas.Grind.{flat_map-append}
 use mathlib.Core.List.{IsPrefix}
-use Rattle.disk_trait.specs.Disk.{Torn}
-use Rattle.blsm_model.specs.Format.{head_length}
+use Rattle.disk_trait.specs.Region.{IsSameOutside}
 use Rattle.blsm_model.specs.declared.op.Write.{Write}
 use Rattle.blsm_model.specs.declared.op.Op.{Op}
 use Rattle.blsm_model.specs.declared.history.Reply.{Reply}
 use Rattle.blsm_model.specs.declared.history.Reply.TheVariants.{FaultLost, FaultUnsure, Fault}
 use Rattle.blsm_model.specs.declared.history.Entry.{Entry}
 use Rattle.blsm_model.specs.Sizes.{Sizes}
-use Rattle.blsm_model.specs.Geometry.{file_length}
 use Rattle.blsm_model.specs.Histories.{is_done, writes_of, counted, counted_writes}
 use Rattle.blsm_model.specs.Legal.{total_weight}
 use Rattle.blsm_model.specs.Images.{counted_with}
-use Rattle.gated_log.specs.Lane.{region_start, region_length, HasEntries, IsAppended}
+use Rattle.gated_log.specs.Lane.{lane_region, HasEntries, IsAppended}
 use Rattle.gated_log.proofs.LaneLemmas.{region_inside}
-use Rattle.store_file.specs.Laws.{store_torn, slots_torn}
+use Rattle.store_file.proofs.LayoutLaws.{store_apart, slots_apart}
 use Rattle.blsm_model.specs.declared.history.Why.{Why}
 use Rattle.std.proofs.lemmas.List.Sums.{sum_by-cons}
 use Rattle.blsm_run.specs.Memory.{tells_fault, fault_count, is_troubled, is_untroubled, log_after}
@@ -129,15 +127,13 @@ pub entries_push : (writes : List Write) (write : Write) → entries_of writes +
 entries_push writes write = sym (map-append entry_of writes (write ∷ []))
 
 -- whatever stands in the lane's region, the rest of a store is as it was
-pub torn_holds : (sizes : Sizes) (writes more : List Write) (old c : List ℕ) → HoldsWrites sizes writes old → Torn (region_start sizes log_lane) (region_length sizes) old c
+pub holds_with : (sizes : Sizes) (writes more : List Write) (old c : List ℕ) → HoldsWrites sizes writes old → IsSameOutside (lane_region sizes log_lane) old c
     → HasEntries sizes log_lane (entries_of more) c → total_weight more ≤ sizes.half → HoldsWrites sizes more c
-torn_holds sizes writes more old c had torn lane fits =
-    let start = region_start sizes log_lane in
-    let behind : head_length ≤ start = omega arith in
-    let inside : start + region_length sizes ≤ file_length sizes = omega (arith, region_inside sizes log_lane (omega arith)) in
+holds_with sizes writes more old c had same lane fits =
+    let inside = region_inside sizes log_lane (omega arith) in
     record {
-      store = store_torn sizes start (region_length sizes) old c had.store behind inside torn;
-      slots = slots_torn start (region_length sizes) old c had.slots behind torn;
+      store = store_apart sizes (λ i here. (omega (arith, here.0), omega (arith, here.1, inside))) same had.store;
+      slots = slots_apart (λ i here there. omega (arith, here.0, there.1)) (λ i here there. omega (arith, here.0, there.1)) same had.slots;
       lane = lane;
       fits = fits;
     }
@@ -152,6 +148,6 @@ appended_holds sizes writes write before c each fits app =
     let old = app.outside.0 in
     let had = each old app.outside.1 in
     ⊎_elim
-    (λ has. inl (torn_holds sizes writes writes old c had app.outside.2 has had.fits))
-    (λ has. inr (torn_holds sizes writes (writes ++ write ∷ []) old c had app.outside.2 (lane_push sizes writes write c has) fits))
+    (λ has. inl (holds_with sizes writes writes old c had app.outside.2 has had.fits))
+    (λ has. inr (holds_with sizes writes (writes ++ write ∷ []) old c had app.outside.2 (lane_push sizes writes write c has) fits))
     app.has

@@ -1,7 +1,7 @@
 -- What a run over a disk leaves of it: behind the opening, and for a disk whose count is set to 0.
 use Rattle.std.proofs.Common.{◌≡◌, ℕ, ◌≤◌, List, take, [], Option, None, IsTrue, length, refl, ap, sym, subst, ◌∙◌, append-nil, arith, inl, inr, ⊎_elim, true, ◌+◌}
 use Rattle.disk_trait.specs.Disk.{DiskState, GoesOn}
-use Rattle.disk_trait.specs.Moments.{IsTimed, LeavesOnly, LeavesOnlyOnceSynced, SyncsLater, leaves_only_run, leaves_only_weaken, once_synced_weaken, once_synced_more}
+use Rattle.disk_trait.specs.Moments.{IsTimed, LeavesOnly, LeavesOnlyOnceSynced, IsOldOr, SyncsLater, leaves_only_run, leaves_only_weaken, once_synced_weaken, once_synced_more}
 use Rattle.disk_trait.specs.Shelf.{IsFreshCount}
 use Rattle.blsm_model.specs.declared.op.Write.{Write}
 use Rattle.blsm_model.specs.declared.history.Entry.{Entry}
@@ -10,7 +10,6 @@ use Rattle.blsm_model.specs.Book.{Book}
 use Rattle.blsm_model.specs.Sizes.{Sizes}
 use Rattle.gated_log.specs.Lane.{blocks}
 use Rattle.store_file.specs.Layout.{IsStore, IsStoreOf, HasFirstSlots}
-use Rattle.store_file.specs.Making.{IsOldOr}
 use Rattle.blsm_run.specs.declared.opening.Opened.{Opened}
 use Rattle.blsm_run.specs.declared.outcome.Refusal.{Refusal}
 use Rattle.blsm_run.specs.declared.outcome.Refusal.TheVariants as refusal
@@ -127,7 +126,7 @@ module _ {a b : DiskState} (fresh : IsFreshCount a b) where
 
   fresh_refuses : (c : DiskState) (r : Refusal) → Refuses b c r → Refuses a c r
   fresh_refuses c refusal.DiskFault (inl left) = inl (fresh_left left)
-  fresh_refuses c refusal.DiskFault (inr half) = inr (λ honest. let h = half (still honest) in (sym fresh.bytes ∙ h.0, h.1, fresh_old h.2))
+  fresh_refuses c refusal.DiskFault (inr half) = inr (λ honest. let h = half (still honest) in (sym fresh.bytes ∙ h.0, h.1, fresh_old h.2, fresh_once h.3))
   fresh_refuses c refusal.NotAStore (found, left) = (λ honest. subst (λ (f : List ℕ). ((f ≡ []) → ⊥) × ¬ (IsStore f)) fresh.bytes (found (still honest)), fresh_left left)
   fresh_refuses c refusal.DamagedSlots (found, left) = (λ honest. subst (λ (f : List ℕ). IsStore f × ¬ (HasFirstSlots f)) fresh.bytes (found (still honest)), fresh_left left)
   fresh_refuses c refusal.DamagedLane (found, left) = (λ honest. subst (λ (f : List ℕ). (sizes : Sizes) × IsStoreOf sizes f × HasFirstSlots f × IsBroken sizes f) fresh.bytes (found (still honest)), fresh_left left)

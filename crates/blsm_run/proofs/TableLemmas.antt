@@ -15,7 +15,7 @@ use Rattle.record_delta.specs.declared.record.Rec.{Rec}
 use Rattle.record_delta.specs.Records.{record_of, settled}
 use Rattle.record_delta.specs.Folding.{over, folded, record_at, kept_after, StandsForMore}
 use Rattle.record_delta.proofs.FoldingLemmas.{record_at-push}
-use Rattle.mem_table.specs.Entries.{with_record}
+use Rattle.record_delta.specs.Entries.{with_record}
 use Rattle.blsm_run.specs.MemoryTable.{with_kept, records_at, table_of}
 
 -- one test of keys: as the order tells them apart

@@ -5,13 +5,14 @@ use Rattle.blsm_model.specs.declared.history.Line.{Line}
 use Rattle.blsm_run.specs.declared.status.Status.{Status}
 use Rattle.blsm_run.specs.declared.status.Status.TheVariants.{Done, NoMemory}
 use Rattle.blsm_model.specs.declared.op.Write.{Write}
+use Rattle.blsm_model.specs.Format.{most_script}
 use Rattle.blsm_model.specs.Sizes.{Sizes}
 use Rattle.blsm_run.specs.Holding.{IsFound}
 use Rattle.blsm_run.specs.Words.{AreAccepted}
 use Rattle.script_text.specs.Grammar.{IsScript}
 use Rattle.blsm_run.specs.Outside.{Outside, name}
 use Rattle.blsm_run.specs.Outcome.{Outcome, Written, Tells}
-use Rattle.blsm_run.specs.Cause.{Cause, script_limit}
+use Rattle.blsm_run.specs.Cause.{Cause}
 
 -- a count that didn't rise, and doesn't stand at the end of its type
 abbrev pub IsQuietCount : ℕ → ℕ → Type 0
@@ -26,7 +27,7 @@ pub record IsGranted {D : Type 0} (state : D → DiskState) (o : Outside D) (w :
   pub words : AreAccepted o.words
   pub input : List ℕ
   pub told : o.left ≡ Some input
-  pub short : length input ≤ script_limit
+  pub short : length input ≤ most_script
   pub lines : List Line
   pub script : IsScript input lines
   pub disks : IsTrue o.shelf.tells_disks

@@ -2,6 +2,7 @@
 use Rattle.std.specs.Prelude.{◌≡◌, ◌⊎◌, ◌<◌, ◌≤◌, ◌+◌, ℕ, true, false, IsTrue, Some, List, [], length, map, IfSome, IsSome}
 use Rattle.std.specs.List.{AllByRecursion}
 use Rattle.refusal.specs.Count.{HasRisen, HasRisenBy}
+use Rattle.text_io.specs.Reading.{piece_length}
 use Rattle.text_io.specs.Text.{LosesAtMost, LosesFront, LosesMoreThan}
 use Rattle.disk_trait.specs.Disk.{DiskState}
 use Rattle.disk_trait.specs.Shelf.{ShelfState}
@@ -9,13 +10,14 @@ use Rattle.blsm_model.specs.declared.history.Line.{Line}
 use Rattle.blsm_model.specs.Scripts.{IsOfScript, asked, asked_in}
 use Rattle.blsm_model.specs.declared.op.Write.{Write}
 use Rattle.blsm_model.specs.Sizes.{Sizes, IsGeometry}
+use Rattle.blsm_model.specs.Format.{most_script}
 use Rattle.blsm_model.specs.Geometry.{high_mark}
 use Rattle.blsm_model.specs.Rows.{map_of}
 use Rattle.blsm_model.specs.declared.history.Why.TheVariants.{Faulted}
 use Rattle.blsm_model.specs.Legal.{Limits, IsLegal, NamesNoOther, total_weight}
 use Rattle.blsm_run.specs.Words.{AreAccepted}
 use Rattle.script_text.specs.Grammar.{IsScript, IsBadLine}
-use Rattle.blsm_run.specs.Outside.{Outside, name, HasNotFetched, HasFetched, OfTheDisk}
+use Rattle.blsm_run.specs.Outside.{Outside, HasRisenOnce, name, HasNotFetched, HasFetched, OfTheDisk}
 use Rattle.blsm_run.specs.Outcome.{Run, Outcome, usage, source_fault, too_big, bad_line, disk_fault, not_a_store, damaged_slots, damaged_lane, no_memory, ran}
 use Rattle.blsm_run.specs.Memory.{peak_from, fault_count, is_untroubled, FitFrom, TellsNoPage}
 use Rattle.blsm_run.specs.declared.outcome.Refusal.{Refusal}
@@ -24,13 +26,9 @@ use Rattle.blsm_run.specs.Holding.{most_opening_calls}
 use Rattle.blsm_run.specs.Opening.{IsRefusedSoon}
 use Rattle.blsm_run.specs.Showing.{HasShown, calls_for}
 
--- how many bytes a script may have
-abbrev pub script_limit : ℕ
-script_limit = 8388608
-
 -- how many bytes are read of a source at most: the last piece may go past the limit
 abbrev pub most_read : ℕ
-most_read = script_limit + 4096
+most_read = most_script + piece_length
 
 -- a store of these sizes whose log has these writes is opened at their weight, and takes every write up to the half spring
 abbrev pub limits_for : Sizes → List Write → Limits
@@ -63,51 +61,49 @@ pub record IsRunOf (sizes : Sizes) (log : List Write) (lines : List Line) (run :
 abbrev pub StopsName : ℕ → Run → Type 0
 StopsName faults run = AllByRecursion (λ e. NamesNoOther (Faulted faults) e.reply) run.entries
 
--- A script was run over a disk that reads so now: faults and stops are told only where its count rose, and by that count the run is told to be faulted.
-pub record HasFinished (sizes : Sizes) (log : List Write) (lines : List Line) (run : Run) (faulted : Type 0) (last : DiskState) : Type 0 where
+-- A script was run: the run is told to be faulted just where its history shows trouble, and then one reply tells a fault.
+pub record HasFinished (sizes : Sizes) (log : List Write) (lines : List Line) (run : Run) (faulted : Type 0) : Type 0 where
   pub run_of : IsRunOf sizes log lines run
-  pub faults : fault_count run.entries ≤ last.faults
   pub one_fault : is_untroubled run.entries ≡ false → fault_count run.entries ≡ 1
+  pub told : is_untroubled run.entries ≡ false → faulted
+  pub untold : is_untroubled run.entries ≡ true → faulted → ⊥
+
+-- The disk's count, which was 0, is 1 at most in the end: by it faults are told, each stop names it, and the run is told to be faulted.
+pub record IsToldBy (run : Run) (faulted : Type 0) (last : DiskState) : Type 0 where
+  pub faults : fault_count run.entries ≤ last.faults
   pub one_call : last.faults ≤ 1
   pub stops : StopsName last.faults run
   pub counted : faulted → 0 < last.faults
   pub calm : (¬ faulted) → last.faults ≡ 0
-  -- just where the history shows it
-  pub told : is_untroubled run.entries ≡ false → faulted
-  pub untold : is_untroubled run.entries ≡ true → faulted → ⊥
 
--- the same over the disk of this name of a shelf
+-- a script was run over a disk that reads so now
+abbrev pub Finishes : Sizes → List Write → List Line → Run → Type 0 → DiskState → Type 0
+Finishes sizes log lines run faulted last = HasFinished sizes log lines run faulted × IsToldBy run faulted last
+
+-- A script was run over the disk of this name of a shelf.
 pub record IsRunOnShelf {D : Type 0} (state : D → DiskState) (disk : List ℕ) (lines : List Line) (run : Run) (faulted : Type 0) (old new : ShelfState D) : Type 0 where
   -- the sizes of the store, and the writes that its log had at the opening
   pub sizes : Sizes
   pub log : List Write
   pub geometry : IsGeometry sizes
   pub log_fits : total_weight log ≤ sizes.half
-  pub run_of : IsRunOf sizes log lines run
+  pub finished : HasFinished sizes log lines run faulted
   -- a disk stood under the name; it had such a store or no bytes, and of each crash since then something of this history is left
   pub stood : IsTrue old.tells_disks → IsSome (old.disk_at disk)
   pub shown : OfTheDisk state disk old new (λ first last. IsTrue first.is_honest → HasShown sizes log run.entries first last)
   -- whatever the disk is, it was called no more often than an opening and the history take at most
   pub calls : OfTheDisk state disk old new (λ first last. last.clock ≤ first.clock + most_opening_calls + calls_for run.entries)
-  -- faults are told only as often as the shelf's count rose
+  -- the status is the disk's count
+  pub told_by : OfTheDisk state disk old new (λ first last. IsToldBy run faulted last)
+  -- faults are told only as often as the shelf's count rose; without a rise there is neither a fault nor a stop
   pub faults : HasRisenBy (fault_count run.entries) old.faults new.faults
-  -- The disk's count rose by one at most. That is told as one fault, and each stop after it names the count.
-  pub one_call : OfTheDisk state disk old new (λ first last. last.faults ≤ 1)
-  pub one_fault : is_untroubled run.entries ≡ false → fault_count run.entries ≡ 1
-  pub stops : OfTheDisk state disk old new (λ first last. StopsName last.faults run)
-  -- the status is the disk's count; without a rise of the shelf's there is neither a fault nor a stop
   pub rose : faulted → HasRisen old.faults new.faults
-  pub counted : OfTheDisk state disk old new (λ first last. faulted → 0 < last.faults)
-  pub calm : OfTheDisk state disk old new (λ first last. (¬ faulted) → last.faults ≡ 0)
-  -- just where the history shows trouble
-  pub told : is_untroubled run.entries ≡ false → faulted
-  pub untold : is_untroubled run.entries ≡ true → faulted → ⊥
   pub quiet : (faulted → ⊥) → new.faults ≤ old.faults
 
 -- the words are accepted, and the source was read to its end
 pub record HasRead {D : Type 0} (o : Outside D) : Type 0 where
   pub words : AreAccepted o.words
-  pub left : IfSome o.left (λ input. (length input ≤ script_limit) × (o.left_after ≡ Some []))
+  pub left : IfSome o.left (λ input. (length input ≤ most_script) × (o.left_after ≡ Some []))
   pub calm : o.source_faults_after ≡ o.source_faults
 
 -- what was read is this script, and the disk was fetched for it
@@ -146,10 +142,10 @@ WasFound state o refusal =
 
 abbrev pub Cause : {D : Type 0} → (D → DiskState) → Outside D → Outcome → Type 0
 Cause state o usage = (¬ AreAccepted o.words) × WasNotRead o × HasNotFetched o.shelf o.shelf_after
-Cause state o source_fault = AreAccepted o.words × HasRisen o.source_faults o.source_faults_after × LosesFront o.left o.left_after × LosesAtMost most_read o.left o.left_after × HasNotFetched o.shelf o.shelf_after
-Cause state o too_big = AreAccepted o.words × IfSome o.left (λ input. script_limit < length input) × LosesMoreThan script_limit o.left o.left_after × LosesAtMost most_read o.left o.left_after × HasNotFetched o.shelf o.shelf_after
+Cause state o source_fault = AreAccepted o.words × HasRisenOnce o.source_faults o.source_faults_after × LosesFront o.left o.left_after × LosesAtMost most_read o.left o.left_after × HasNotFetched o.shelf o.shelf_after
+Cause state o too_big = AreAccepted o.words × IfSome o.left (λ input. most_script < length input) × LosesMoreThan most_script o.left o.left_after × LosesAtMost most_read o.left o.left_after × (o.source_faults_after ≡ o.source_faults) × HasNotFetched o.shelf o.shelf_after
 Cause state o (bad_line n) = HasRead o × IfSome o.left (λ input. IsBadLine input n) × HasNotFetched o.shelf o.shelf_after
-Cause state o disk_fault = WasRefused state o refusal.DiskFault × HasRisen o.shelf.faults o.shelf_after.faults
+Cause state o disk_fault = WasRefused state o refusal.DiskFault × HasRisenOnce o.shelf.faults o.shelf_after.faults
 Cause state o not_a_store = WasFound state o refusal.NotAStore
 Cause state o damaged_slots = WasFound state o refusal.DamagedSlots
 Cause state o damaged_lane = WasFound state o refusal.DamagedLane

@@ -18,7 +18,7 @@ use Rattle.blsm_model.specs.Histories.{writes_of, counted, counted_writes, answe
 use Rattle.blsm_model.specs.Legal.{Limits, total_weight, is_running, NamesNoOther, IsLegal}
 use Rattle.record_delta.specs.declared.record.Rec.{Rec}
 use Rattle.record_delta.specs.Records.{record_of, settled, weight}
-use Rattle.mem_table.specs.Entries.{Entries, record_of_key, with_record, total_weight as table_weight}
+use Rattle.record_delta.specs.Entries.{Entries, record_of_key, with_record, entries_weight as table_weight}
 use Rattle.blsm_run.specs.MemoryTable.{table_of}
 
 -- The memory table, the history, the charge and how far it may go, the greatest weight of the table so far, and why the store is stopped, if it is.
@@ -61,8 +61,8 @@ abbrev pub AnswersWhere : Option Why → Memory → Op → Memory → Reply → 
 AnswersWhere None old op new reply = AnswersRunning old op new reply
 AnswersWhere (Some why) old op new reply = (reply ≡ Stopped why) × (new ≡ old)
 
-abbrev pub Answers : Memory → Op → Memory → Reply → Type 0
-Answers old op new reply = AnswersWhere old.stopped old op new reply
+abbrev pub AnswersCommand : Memory → Op → Memory → Reply → Type 0
+AnswersCommand old op new reply = AnswersWhere old.stopped old op new reply
 
 -- with the entry noted
 abbrev pub with_entry : Memory → Entry → Memory

@@ -7,7 +7,7 @@ use Rattle.blsm_model.specs.Keys.{key_cmp}
 use Rattle.blsm_model.specs.Values.{key_of}
 use Rattle.record_delta.specs.declared.record.Rec.{Rec}
 use Rattle.record_delta.specs.Folding.{record_at}
-use Rattle.mem_table.specs.Entries.{Entries}
+use Rattle.record_delta.specs.Entries.{Entries}
 
 -- a key and the record that is kept for it, in its place; nothing where there is none
 abbrev pub with_kept : Key → Option Rec → Entries → Entries

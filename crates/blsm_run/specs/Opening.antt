@@ -2,25 +2,28 @@
 use Rattle.std.specs.Prelude.{◌≡◌, ◌⊎◌, ◌<◌, ◌≤◌, ◌*◌, ℕ, IsTrue, List, [], length, None, Result, Ok, Err, ◌+◌}
 use Rattle.refusal.specs.Count.{HasRisen}
 use Rattle.disk_trait.specs.Disk.{DiskState, Only}
-use Rattle.disk_trait.specs.Moments.{LeavesOnly, LeavesOnlyOnceSynced}
+use Rattle.disk_trait.specs.Moments.{LeavesOnly, LeavesOnlyOnceSynced, IsOldOr}
 use Rattle.blsm_model.specs.declared.key.Key.{Key}
 use Rattle.blsm_model.specs.declared.op.Write.{Write}
 use Rattle.blsm_model.specs.Sizes.{Sizes, IsGeometry, default_sizes}
+use Rattle.blsm_model.specs.Format.{least_weight}
 use Rattle.blsm_model.specs.Geometry.{file_length, high_mark}
 use Rattle.blsm_model.specs.Values.{value_at}
 use Rattle.blsm_model.specs.Legal.{total_weight}
 use Rattle.record_delta.specs.declared.record.Rec.{Rec}
 use Rattle.record_delta.specs.Records.{settled}
-use Rattle.mem_table.specs.Entries.{record_of_key, total_weight as table_weight}
+use Rattle.record_delta.specs.Entries.{record_of_key, entries_weight as table_weight}
 use Rattle.gated_log.specs.declared.replay.LaneBroken.{LaneBroken}
 use Rattle.gated_log.specs.declared.replay.LaneBroken.TheVariants.{Fault, Damaged}
-use Rattle.gated_log.specs.Lane.{region_length, blocks, HasEntries, HasFront, IsDamaged}
+use Rattle.blsm_model.specs.Lanes.{region_length}
+use Rattle.gated_log.specs.Lane.{blocks, HasEntries, HasFront, IsDamaged}
 use Rattle.store_file.specs.Layout.{IsStoreOf, IsStore, HasFirstSlots}
-use Rattle.store_file.specs.Making.{IsHalfMade, IsOldOr}
+use Rattle.store_file.specs.Making.{IsHalfMade}
 use Rattle.blsm_run.specs.declared.opening.Opened.{Opened}
 use Rattle.blsm_run.specs.declared.outcome.Refusal.{Refusal}
 use Rattle.blsm_run.specs.declared.outcome.Refusal.TheVariants as refusal
 use Rattle.blsm_model.specs.Book.{Book}
+use Rattle.blsm_run.specs.Outside.{HasRisenOnce}
 use Rattle.blsm_run.specs.MemoryTable.{table_of}
 use Rattle.blsm_run.specs.Memory.{Memory}
 use Rattle.blsm_run.specs.Holding.{log_lane, entries_of, HoldsWrites, IsFound, IsYet, opening_calls, most_opening_calls}
@@ -56,7 +59,7 @@ IsTooHeavy sizes file = (entries : List (Key × Rec)) × HasFront sizes log_lane
 abbrev pub IsBroken : Sizes → List ℕ → Type 0
 IsBroken sizes file = IsDamaged sizes log_lane file ⊎ IsTooHeavy sizes file
 
--- The log was folded into the memory table, whole; its next entry goes behind its last. A write weighs no less than 14 bytes.
+-- The log was folded into the memory table, whole; its next entry goes behind its last. A write has its least weight at least.
 pub record HasReplayed (disk : DiskState) (writes : List Write) (opened : Opened) : Type 0 where
   pub taken : HasTaken writes opened
   pub fit : IsFit opened
@@ -64,7 +67,7 @@ pub record HasReplayed (disk : DiskState) (writes : List Write) (opened : Opened
   pub inside : opened.end < region_length opened.geometry
   -- a record takes a gate byte beside its weight, which is at least as much
   pub short : opened.end ≤ 2 * opened.charge
-  pub few : 14 * length writes ≤ opened.charge
+  pub few : least_weight * length writes ≤ opened.charge
   pub lane : IsTrue disk.is_honest → HasEntries opened.geometry log_lane (entries_of writes) disk.bytes
 
 -- What a replay of the log answers. It reads once for each write that it gives, and once more.
@@ -78,10 +81,10 @@ pub record IsLeft (old new : DiskState) : Type 0 where
   pub bytes : IsTrue old.is_honest → new.bytes ≡ old.bytes
   pub images : IsTrue old.is_honest → LeavesOnly old new old.images
 
--- the same; or the disk had no bytes, and reads as half a store, as each crash may leave it
+-- the same; or the disk had no bytes, and reads as no store or an empty one, as each crash may leave it, and does since the first sync
 abbrev pub IsHalfOpened : DiskState → DiskState → Type 0
 IsHalfOpened old new =
-    IsLeft old new ⊎ (IsTrue old.is_honest → (old.bytes ≡ []) × IsHalfMade default_sizes new.bytes × LeavesOnly old new (IsOldOr old.images (IsHalfMade default_sizes)))
+    IsLeft old new ⊎ (IsTrue old.is_honest → (old.bytes ≡ []) × IsHalfMade default_sizes new.bytes × LeavesOnly old new (IsOldOr old.images (IsHalfMade default_sizes)) × LeavesOnlyOnceSynced old new (IsHalfMade default_sizes))
 
 -- The disk was opened as a store whose log has these writes, behind so many calls of the opening. Since the first sync each crash leaves such a store; or none yet, where it had to be made.
 pub record HasOpened (behind : ℕ) (old new : DiskState) (writes : List Write) (opened : Opened) : Type 0 where
@@ -112,9 +115,9 @@ Refuses old new refusal = ⊥
 abbrev pub IsRefusedSoon : DiskState → DiskState → Refusal → Type 0
 IsRefusedSoon old new refusal = Refuses old new refusal × (new.clock ≤ old.clock + most_opening_calls)
 
--- a fault is answered where the count rose, and all else where it stands
+-- a fault is answered where the count rose, once, and all else where it stands
 abbrev pub IsCounted : ℕ → ℕ → Refusal → Type 0
-IsCounted old new refusal.DiskFault = HasRisen old new
+IsCounted old new refusal.DiskFault = HasRisenOnce old new
 IsCounted old new refusal = new ≡ old
 
 abbrev pub Opens : ℕ → DiskState → DiskState → Result Opened Refusal → Type 0

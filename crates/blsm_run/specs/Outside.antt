@@ -1,5 +1,6 @@
 -- What is seen of one call from outside, but for the text that it writes, and what it did to the shelf.
-use Rattle.std.specs.Prelude.{◌≡◌, ◌⊎◌, ◌<◌, ℕ, ◌-◌, ◌^◌, true, IsTrue, Option, Some, None, List, [], ◌∷◌, ◌++◌, length, IfSome, IsSome}
+use Rattle.std.specs.Prelude.{◌≡◌, ◌⊎◌, ◌<◌, ◌≤◌, ℕ, ◌+◌, ◌-◌, ◌^◌, true, IsTrue, Option, Some, None, List, [], ◌∷◌, ◌++◌, length, IfSome, IsSome}
+use Rattle.refusal.specs.Count.{HasRisen}
 use Rattle.disk_trait.specs.Disk.{DiskState}
 use Rattle.disk_trait.specs.Shelf.{ShelfState, KeepsOthers, KeepsDisks}
 use Rattle.blsm_run.specs.Words.{disk_name}
@@ -13,6 +14,10 @@ pub record Outside (D : Type 0) : Type 0 where
   pub source_faults_after : ℕ
   pub shelf : ShelfState D
   pub shelf_after : ShelfState D
+
+-- A count of faults rose, and by one at most: after a call that failed none is made again.
+abbrev pub HasRisenOnce : ℕ → ℕ → Type 0
+HasRisenOnce old new = HasRisen old new × (new ≤ old + 1)
 
 abbrev pub name : {D : Type 0} → Outside D → List ℕ
 name o = disk_name o.words

@@ -1,8 +1,8 @@
 -- What one command does to the store, and what a whole script does.
-use Rattle.std.specs.Prelude.{◌≡◌, ◌≤◌, ◌*◌, ◌+◌, ℕ, IsTrue, List, [], ◌∷◌, ◌++◌, length, None}
+use Rattle.std.specs.Prelude.{◌≡◌, ◌≤◌, ◌*◌, ◌+◌, ℕ, IsTrue, List, ◌++◌, length, None, true, false}
 use Rattle.refusal.specs.Count.{HasRisen}
-use Rattle.disk_trait.specs.Disk.{DiskState, GoesOn, Torn}
-use Rattle.disk_trait.specs.Moments.{LeavesOnly, SyncsLater}
+use Rattle.disk_trait.specs.Disk.{DiskState, GoesOn}
+use Rattle.disk_trait.specs.Moments.{SyncsLater}
 use Rattle.blsm_model.specs.declared.key.Key.{Key}
 use Rattle.blsm_model.specs.declared.op.Write.{Write}
 use Rattle.blsm_model.specs.declared.op.Op.{Op}
@@ -13,13 +13,12 @@ use Rattle.blsm_model.specs.declared.history.Line.{Line}
 use Rattle.blsm_model.specs.declared.history.Totals.{Totals}
 use Rattle.blsm_model.specs.Book.{Book}
 use Rattle.blsm_model.specs.Scripts.{asked, asked_in}
-use Rattle.blsm_model.specs.Sizes.{Sizes}
 use Rattle.record_delta.specs.declared.record.Rec.{Rec}
 use Rattle.record_delta.specs.declared.record.Rec.TheVariants.{Base, Delta, Tomb}
 use Rattle.record_delta.specs.Records.{weight}
-use Rattle.gated_log.specs.Lane.{region_start, region_length, blocks, HasEntries, EachHasEntries, IsAppended}
+use Rattle.gated_log.specs.Lane.{Appends}
 use Rattle.blsm_run.specs.Holding.{log_lane}
-use Rattle.blsm_run.specs.Memory.{Memory, AnswersRecord, Answers, with_entry, StandsFor}
+use Rattle.blsm_run.specs.Memory.{Memory, AnswersRecord, AnswersCommand, with_entry, StandsFor}
 use Rattle.blsm_run.specs.StoreState.{StoreState, IsStoppedByFault}
 use Rattle.blsm_run.specs.Showing.{calls_for}
 use Rattle.blsm_run.specs.Crashes.{StandsOnDisk, KeepsShowing}
@@ -36,27 +35,6 @@ pub record GoesAlong {D : Type 0} (state : D → DiskState) (old new : StoreStat
 abbrev pub HasSameDisk : {D : Type 0} → StoreState D → StoreState D → Type 0
 HasSameDisk old new = (new.disk ≡ old.disk) × (new.log_end ≡ old.log_end)
 
--- Where each crash before left a log with some entries that end here, each crash of every moment leaves it with these, with one more or without it, and the rest of the file as it was.
-abbrev pub Appends : Sizes → ℕ → Key × Rec → DiskState → DiskState → Type 0
-Appends sizes end entry old new =
-    (entries : List (Key × Rec)) → IsTrue old.is_honest → length (blocks entries) ≡ end → EachHasEntries sizes log_lane entries old.images
-    → LeavesOnly old new (IsAppended sizes log_lane entries entry old.images)
-
--- the same; and where a read gave a log with these entries, it now gives it so too
-pub record MayAppend (sizes : Sizes) (end : ℕ) (entry : Key × Rec) (old new : DiskState) : Type 0 where
-  pub each : Appends sizes end entry old new
-  pub as_read : (entries : List (Key × Rec)) → IsTrue old.is_honest → length (blocks entries) ≡ end → HasEntries sizes log_lane entries old.bytes
-      → IsAppended sizes log_lane entries entry (λ c. c ≡ old.bytes) new.bytes
-
--- and each crash from now on leaves it with the one more, which is read there
-pub record HasAppended (sizes : Sizes) (end : ℕ) (entry : Key × Rec) (old new : DiskState) : Type 0 where
-  pub each : Appends sizes end entry old new
-  pub acknowledged : (entries : List (Key × Rec)) → IsTrue old.is_honest → length (blocks entries) ≡ end → EachHasEntries sizes log_lane entries old.images
-      → EachHasEntries sizes log_lane (entries ++ entry ∷ []) new.images
-  pub reads : (entries : List (Key × Rec)) → IsTrue old.is_honest → length (blocks entries) ≡ end → HasEntries sizes log_lane entries old.bytes
-      → HasEntries sizes log_lane (entries ++ entry ∷ []) new.bytes
-  pub outside : IsTrue old.is_honest → Torn (region_start sizes log_lane) (region_length sizes) old.bytes new.bytes
-
 -- how many calls of the disk an append takes at most: two writes and two syncs
 abbrev pub append_calls : ℕ
 append_calls = 4
@@ -64,9 +42,9 @@ append_calls = 4
 -- What a reply to a write says of the disk: the write was appended to the log; or its append failed; or the disk was not touched.
 abbrev pub WritesOnDisk : {D : Type 0} → (D → DiskState) → Key → Rec → StoreState D → StoreState D → Reply → Type 0
 WritesOnDisk state key rec old new Done =
-    (new.log_end ≡ old.log_end + (weight key rec + 1)) × HasAppended old.sizes old.log_end (key, rec) (state old.disk) (state new.disk)
+    (new.log_end ≡ old.log_end + (weight key rec + 1)) × Appends old.sizes log_lane old.log_end (key, rec) true (state old.disk) (state new.disk)
 WritesOnDisk state key rec old new FaultUnsure =
-    HasRisen (state old.disk).faults (state new.disk).faults × MayAppend old.sizes old.log_end (key, rec) (state old.disk) (state new.disk)
+    HasRisen (state old.disk).faults (state new.disk).faults × Appends old.sizes log_lane old.log_end (key, rec) false (state old.disk) (state new.disk)
 WritesOnDisk state key rec old new reply = HasSameDisk old new
 
 -- what a reply to a command says of it
@@ -78,7 +56,7 @@ ChangesDisk state op old new reply = HasSameDisk old new
 
 -- One command was answered: only what is held in memory has changed, and the log on the disk.
 pub record Answered {D : Type 0} (state : D → DiskState) (op : Op) (old new : StoreState D) (reply : Reply) : Type 0 where
-  pub answers : Answers old.memory op new.memory reply
+  pub answers : AnswersCommand old.memory op new.memory reply
   pub disk : ChangesDisk state op old new reply
   -- a store that runs on has seen no fault
   pub calm : new.memory.stopped ≡ None → (state new.disk).faults ≡ (state old.disk).faults
@@ -99,7 +77,7 @@ pub record AnsweredWrite {D : Type 0} (state : D → DiskState) (key : Key) (rec
 pub record Executes {D : Type 0} (state : D → DiskState) (seat : ℕ) (op : Op) (old new : StoreState D) : Type 0 where
   pub reply : Reply
   pub answered : Memory
-  pub answers : Answers old.memory op answered reply
+  pub answers : AnswersCommand old.memory op answered reply
   pub noted : new.memory ≡ with_entry answered (record { seat = seat; op = op; reply = reply })
   pub limit : old.memory.limit ≡ old.sizes.half
   pub disk : ChangesDisk state op old new reply

@@ -1,6 +1,5 @@
 -- What the run of a script over a disk, and over a shelf, answers.
 use Rattle.std.specs.Prelude.{◌≡◌, ◌+◌, ℕ, true, IsTrue, List, length, take, Result, Ok, Err, ◌≤◌, IsSome}
-use Rattle.refusal.specs.Count.{HasRisen}
 use Rattle.disk_trait.specs.Disk.{DiskState, Only}
 use Rattle.disk_trait.specs.Moments.{LeavesOnly}
 use Rattle.disk_trait.specs.Shelf.{ShelfState}
@@ -12,7 +11,7 @@ use Rattle.blsm_run.specs.Outcome.{Run, Outcome, usage, source_fault, too_big, b
 use Rattle.blsm_model.specs.declared.op.Write.{Write}
 use Rattle.blsm_model.specs.Sizes.{Sizes, IsGeometry}
 use Rattle.blsm_model.specs.Legal.{total_weight}
-use Rattle.blsm_run.specs.Outside.{OfTheDisk}
+use Rattle.blsm_run.specs.Outside.{HasRisenOnce, OfTheDisk}
 use Rattle.blsm_model.specs.Book.{Book}
 use Rattle.blsm_model.specs.declared.history.Entry.{Entry}
 use Rattle.gated_log.specs.Lane.{blocks}
@@ -21,7 +20,7 @@ use Rattle.blsm_run.specs.Memory.{is_untroubled, log_after}
 use Rattle.blsm_run.specs.Holding.{entries_of, HoldsWrites, most_opening_calls}
 use Rattle.blsm_run.specs.Opening.{HasOpened, Refuses, IsRefusedSoon, IsCounted}
 use Rattle.blsm_run.specs.Showing.{ShowsWhole, ShowsPrefix, HasShown, calls_for}
-use Rattle.blsm_run.specs.Cause.{HasFinished, IsRunOnShelf}
+use Rattle.blsm_run.specs.Cause.{Finishes, IsRunOnShelf}
 
 abbrev pub run_of : Finished → Run
 run_of f = record { charge = f.charge; entries = f.annals.entries; quanta = f.annals.quanta; totals = f.totals }
@@ -64,7 +63,7 @@ RunsOverDisk lines first last (Ok finished) =
     (sizes : Sizes) × (log : List Write)
     × IsGeometry sizes
     × (total_weight log ≤ sizes.half)
-    × HasFinished sizes log lines (run_of finished) (IsTrue finished.is_faulted) last
+    × Finishes sizes log lines (run_of finished) (IsTrue finished.is_faulted) last
     × (last.clock ≤ first.clock + most_opening_calls + calls_for finished.annals.entries)
     × (IsTrue first.is_honest → HasShown sizes log finished.annals.entries first last)
 RunsOverDisk lines first last (Err refusal) = IsRefusedSoon first last refusal × IsCounted first.faults last.faults refusal
@@ -84,7 +83,7 @@ IsFoundOnShelf state disk old new refusal =
 -- over the disk of this name of a shelf
 abbrev pub RunsOnShelf : {D : Type 0} → (D → DiskState) → List ℕ → List Line → ShelfState D → ShelfState D → Result Finished Refusal → Type 0
 RunsOnShelf state disk lines old new (Ok finished) = IsRunOnShelf state disk lines (run_of finished) (IsTrue finished.is_faulted) old new
-RunsOnShelf state disk lines old new (Err refusal.DiskFault) = IsRefusedOnShelf state disk old new refusal.DiskFault × HasRisen old.faults new.faults
+RunsOnShelf state disk lines old new (Err refusal.DiskFault) = IsRefusedOnShelf state disk old new refusal.DiskFault × HasRisenOnce old.faults new.faults
 RunsOnShelf state disk lines old new (Err refusal.NotAStore) = IsFoundOnShelf state disk old new refusal.NotAStore
 RunsOnShelf state disk lines old new (Err refusal.DamagedSlots) = IsFoundOnShelf state disk old new refusal.DamagedSlots
 RunsOnShelf state disk lines old new (Err refusal.DamagedLane) = IsFoundOnShelf state disk old new refusal.DamagedLane

@@ -6,8 +6,7 @@ use Rattle.blsm_model.specs.declared.history.Entry.{Entry}
 use Rattle.blsm_model.specs.Sizes.{Sizes}
 use Rattle.blsm_model.specs.Images.{counted_with}
 use Rattle.disk_trait.specs.Disk.{DiskState}
-use Rattle.disk_trait.specs.Moments.{LeavesOnly, LeavesOnlyOnceSynced}
-use Rattle.store_file.specs.Making.{IsOldOr}
+use Rattle.disk_trait.specs.Moments.{LeavesOnly, LeavesOnlyOnceSynced, IsOldOr}
 use Rattle.blsm_run.specs.Memory.{is_untroubled, log_after}
 use Rattle.blsm_run.specs.Holding.{HoldsWrites, IsFound, IsYet, opening_calls}
 
@@ -22,9 +21,13 @@ pub record ShowsPrefix (sizes : Sizes) (log : List Write) (history : List Entry)
   pub enough : n ≤ length front
   pub shows : ShowsWhole sizes log front file
 
--- How many calls of the disk a history takes at most: two writes and two syncs for each write that was appended to the log, or was to be and is in doubt; none for any other command.
+-- how many calls of the disk one append to the log takes at most: two writes and two syncs
+abbrev pub append_calls : ℕ
+append_calls = 4
+
+-- How many calls of the disk a history takes at most: those of an append for each write that was appended to the log, or was to be and is in doubt; none for any other command.
 abbrev pub calls_for : List Entry → ℕ
-calls_for history = 4 * length (flat_map (counted_with true) history)
+calls_for history = append_calls * length (flat_map (counted_with true) history)
 
 -- A disk was opened as a store whose log had these writes, and this history was made over it.
 pub record HasShown (sizes : Sizes) (log : List Write) (history : List Entry) (first last : DiskState) : Type 0 where

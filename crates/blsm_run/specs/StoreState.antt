@@ -6,7 +6,7 @@ use Rattle.blsm_model.specs.declared.history.Why.TheVariants.{Faulted, BadPage}
 use Rattle.blsm_model.specs.Sizes.{Sizes}
 use Rattle.blsm_model.specs.Geometry.{file_length, high_mark}
 use Rattle.gated_log.specs.Lanes.{LanesState, end_of}
-use Rattle.mem_table.specs.Entries.{total_weight}
+use Rattle.record_delta.specs.Entries.{entries_weight}
 use Rattle.mem_table.specs.Tables.{Contents}
 use Rattle.blsm_run.specs.Memory.{Memory}
 
@@ -31,6 +31,6 @@ pub record IsKept (disk : DiskState) (lanes : LanesState) (table : Contents) (si
   -- a record takes a gate byte beside its weight, which is at least as much
   pub lane_end : end_of lanes 0 ≤ 2 * charge
   pub reserved : table.reserved ≡ high_mark sizes
-  pub table_weight : total_weight table.entries ≤ charge
+  pub table_weight : entries_weight table.entries ≤ charge
   pub peak_within : peak ≤ charge
   pub charge_within : charge ≤ sizes.half

@@ -1,9 +1,10 @@
 //! The opening of a store: a disk of length 0 is made into an empty one, and any other must be a store, whose log is replayed into the
 //! memory table.
-ghost use Rattle.std.specs.Prelude.{◌≡◌, ◌≤◌, ◌<◌, ◌+◌, ◌*◌, ◌∷◌, [], ◌++◌, List, ℕ, length, IsTrue, IfOk, OnOk, OnErr, Err};
-ghost use Rattle.disk_trait.specs.Disk.{GoesOn, MarksSync};
-ghost use Rattle.disk_trait.specs.Moments.{LeavesOnly};
+ghost use Rattle.std.specs.Prelude.{◌≡◌, ◌≤◌, ◌<◌, ◌+◌, ◌/◌, ◌∷◌, [], ◌++◌, List, ℕ, length, IsTrue, IfOk, OnOk, OnErr, Err};
+ghost use Rattle.disk_trait.specs.Disk.{GoesOn};
+ghost use Rattle.disk_trait.specs.Reads.{OnlyReads};
 ghost use Rattle.blsm_model.specs.declared.op.Write.{Write};
+ghost use Rattle.blsm_model.specs.Format.{least_weight};
 ghost use Rattle.blsm_model.specs.Geometry.{file_length, high_mark};
 ghost use Rattle.record_delta.specs.Records.{write_of, weight as weight_with};
 ghost use Rattle.blsm_run.specs.Holding.{most_opening_calls};
@@ -54,7 +55,7 @@ impl Opened {
         requires { IsFit self.old }
         ensures same { self.new.geometry ≡ self.old.geometry }
         ensures fit { IsFit self.new }
-        ensures least { 14 ≤ weight_with key.now rec.now }
+        ensures least { least_weight ≤ weight_with key.now rec.now }
         ensures charge { OnOk result (self.new.charge ≡ self.old.charge + weight_with key.now rec.now) }
         ensures taken { OnOk result ((writes : List Write) → HasTaken writes self.old → HasTaken (writes ++ write_of key.now rec.now ∷ []) self.new) }
         ensures heavy { OnErr result (self.old.geometry.half < self.old.charge + weight_with key.now rec.now) }
@@ -84,13 +85,8 @@ fn replay_lane<D: Disk>(disk: &mut D, opened: &mut Opened) -> Result<(), LaneBro
     } }
     ensures same { opened.new.geometry ≡ opened.old.geometry }
     ensures replays { Replays (D.state disk.old) (D.state disk.new) opened.new result }
-    ensures calls { 14 * (D.state disk.new).clock ≤ 14 * (D.state disk.old).clock + opened.new.geometry.half + 14 }
-    ensures goes_on { GoesOn (D.state disk.old) (D.state disk.new) }
-    ensures bytes { IsTrue (D.state disk.old).is_honest → (D.state disk.new).bytes ≡ (D.state disk.old).bytes }
-    ensures length { IsTrue (D.state disk.old).tells_bytes → length (D.state disk.new).bytes ≡ length (D.state disk.old).bytes }
-    ensures each { IsTrue (D.state disk.old).is_honest
-        → LeavesOnly (D.state disk.old) (D.state disk.new) (D.state disk.old).images }
-    ensures no_sync { MarksSync ⊥ (D.state disk.old) (D.state disk.new) }
+    ensures effect { OnlyReads (file_length opened.new.geometry) (opened.new.geometry.half / least_weight + 1)
+        (D.state disk.old) (D.state disk.new) }
 {
     let mut replay = Replay::new(&opened.geometry, LANE);
     while let Some((key, rec)) = replay.next(disk)? {

@@ -2,7 +2,8 @@
 ghost use Rattle.std.specs.Prelude.{◌≡◌, ◌≤◌, ◌<◌, ◌+◌, ◌*◌, List, [], sum, length, IsTrue, IfOk};
 ghost use Rattle.disk_trait.specs.Disk.{GoesOn};
 ghost use Rattle.disk_trait.specs.Moments.{SyncsLater};
-ghost use Rattle.gated_log.specs.Lane.{region_length};
+ghost use Rattle.blsm_model.specs.Format.{most_entries, most_rows_asked};
+ghost use Rattle.blsm_model.specs.Lanes.{region_length};
 ghost use Rattle.blsm_model.specs.declared.op.Write.{Write};
 ghost use Rattle.blsm_model.specs.Geometry.{file_length};
 ghost use Rattle.blsm_run.specs.Rooms.{HasRoomFor, AreRunnable};
@@ -10,7 +11,7 @@ ghost use Rattle.blsm_run.specs.Outside.{HasFetched};
 ghost use Rattle.blsm_run.specs.Holding.{most_opening_calls};
 ghost use Rattle.blsm_run.specs.Opening.{HasTaken, IsFit};
 ghost use Rattle.blsm_run.specs.Showing.{calls_for};
-ghost use Rattle.blsm_run.specs.Cause.{HasFinished};
+ghost use Rattle.blsm_run.specs.Cause.{Finishes};
 ghost use Rattle.blsm_run.specs.Session.{run_of, Prepares, IsDurable, KeepsWhole, RunsOverDisk, RunsOnShelf};
 
 use crate::opening::{Opened, open};
@@ -22,8 +23,8 @@ use std::alloc::Global;
 
 // Reserves the memory of a history, and opens the store.
 fn prepare<D: Disk>(alloc: Global, disk: &mut D, room: Room) -> Result<(Annals, Opened), Refusal>
-    requires entries { sum room.entries ≤ 65537 }
-    requires rows { sum room.rows ≤ 131072 }
+    requires entries { sum room.entries ≤ most_entries }
+    requires rows { sum room.rows ≤ most_rows_asked }
     ensures goes_on { GoesOn (D.state disk.old) (D.state disk.new) }
     ensures annals { IfOk result (λ prepared. prepared.0 ≡ record { entries = []; quanta = []; room = room }) }
     ensures opens { Prepares (D.state disk.old) (D.state disk.new) result }
@@ -55,7 +56,7 @@ fn run_store<D: Disk + Drop>(
     ensures syncs { SyncsLater (D.state disk) (D.state result.0) }
     ensures calls { (D.state result.0).clock ≤ (D.state disk).clock + calls_for result.1.annals.entries }
     ensures finished { (log : List Write) → (D.state disk).faults ≡ 0 → HasTaken log opened
-        → HasFinished opened.geometry log lines.now (run_of result.1) (IsTrue result.1.is_faulted) (D.state result.0) }
+        → Finishes opened.geometry log lines.now (run_of result.1) (IsTrue result.1.is_faulted) (D.state result.0) }
     ensures shows { (log : List Write) → HasTaken log opened → IsDurable opened log (D.state disk)
         → KeepsWhole opened.geometry log result.1.annals.entries (D.state disk) (D.state result.0) }
 {
@@ -80,8 +81,8 @@ pub(crate) fn run_over_disk<D: Disk + Drop>(
     lines: &[Line],
     room: Room,
 ) -> (D, Result<Finished, Refusal>)
-    requires entries { sum room.entries ≤ 65537 }
-    requires rows { sum room.rows ≤ 131072 }
+    requires entries { sum room.entries ≤ most_entries }
+    requires rows { sum room.rows ≤ most_rows_asked }
     requires runnable { AreRunnable lines.now }
     requires room { HasRoomFor room lines.now }
     ensures goes_on { GoesOn (D.state disk) (D.state result.0) }
@@ -105,8 +106,8 @@ pub(crate) fn run_on_shelf<H: Shelf>(
     lines: &[Line],
     room: Room,
 ) -> Result<Finished, Refusal>
-    requires entries { sum room.entries ≤ 65537 }
-    requires rows { sum room.rows ≤ 131072 }
+    requires entries { sum room.entries ≤ most_entries }
+    requires rows { sum room.rows ≤ most_rows_asked }
     requires runnable { AreRunnable lines.now }
     requires room { HasRoomFor room lines.now }
     ensures fetched { HasFetched name.now (H.state shelf.old) (H.state shelf.new) }

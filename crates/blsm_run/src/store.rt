@@ -6,16 +6,17 @@ ghost use Rattle.disk_trait.specs.Disk.{GoesOn};
 ghost use Rattle.blsm_model.specs.Keys.{key_cmp};
 ghost use Rattle.blsm_model.specs.Values.{weight_of, key_of};
 ghost use Rattle.blsm_model.specs.Geometry.{file_length};
-ghost use Rattle.gated_log.specs.Lane.{region_length};
+ghost use Rattle.blsm_model.specs.Lanes.{region_length};
 ghost use Rattle.blsm_model.specs.Histories.{answer_to_get};
+ghost use Rattle.blsm_model.specs.Stored.{as_reply};
 ghost use Rattle.blsm_model.specs.Plain.{is_plain};
 ghost use Rattle.record_delta.specs.Records.{settled, record_of, weight as weight_with};
-ghost use Rattle.mem_table.specs.Entries.{record_of_key};
+ghost use Rattle.record_delta.specs.Entries.{record_of_key};
 ghost use Rattle.blsm_run.specs.Rooms.{HasRoomFor, AreRunnable};
 ghost use Rattle.blsm_run.specs.Opening.{IsFit, memory_at};
 
 use crate::opening::{LANE, Opened};
-use blsm_model::{Annals, Entry, Geometry, Key, Line, Op, Reply, Totals, Why, Write};
+use blsm_model::{Annals, Geometry, Key, Line, Op, ShortReply, Totals, Why, Write};
 use disk_trait::Disk;
 use gated_log::Lanes;
 use mem_table::Table;
@@ -84,26 +85,26 @@ impl<D: Disk + Drop> Store<D> {
     }
 
     // What a get answers.
-    fn look_up(&self, key: &Key) -> Reply
-        ensures { result ≡ answer_to_get (settled (record_of_key key.now self.now.memory.table)) }
+    fn look_up(&self, key: &Key) -> ShortReply
+        ensures { as_reply result ≡ answer_to_get (settled (record_of_key key.now self.now.memory.table)) }
     {
         match self.table.get(key) {
             Some(rec) => match settle(rec) {
-                Some(value) => Reply::Is(value),
-                None => Reply::Absent,
+                Some(value) => ShortReply::Is(value),
+                None => ShortReply::Absent,
             },
-            None => Reply::Absent,
+            None => ShortReply::Absent,
         }
     }
 
     // Takes a write of this key and record, or refuses it: for its size, or because the log could not be written, which stops the store.
-    fn write(&mut self, key: &Key, rec: &Rec) -> Reply
+    fn write(&mut self, key: &Key, rec: &Rec) -> ShortReply
         requires { self.old.memory.stopped ≡ None }
-        ensures { AnsweredWrite D.state key.now rec.now self.old self.new result }
+        ensures { AnsweredWrite D.state key.now rec.now self.old self.new (as_reply result) }
     {
         let weight = weight(key, rec);
         if self.geometry.half() - self.charge < weight {
-            return Reply::Full(self.charge);
+            return ShortReply::Full(self.charge);
         }
         match self.lanes.append(&mut self.disk, LANE, key, rec) {
             Ok(()) => {
@@ -113,22 +114,22 @@ impl<D: Disk + Drop> Store<D> {
                 self.table.fold_in(key, rec);
                 self.charge += weight;
                 self.peak = self.peak.max(self.table.weight());
-                Reply::Done
+                ShortReply::Done
             }
             Err(Failed) => {
                 self.stopped = Some(Why::Faulted(self.disk.faults()));
-                Reply::FaultUnsure
+                ShortReply::FaultUnsure
             }
         }
     }
 
     // Answers one command, and notes nothing.
-    fn answer(&mut self, op: &Op) -> Reply
+    fn answer(&mut self, op: &Op) -> ShortReply
         requires { IsTrue (is_plain op.now) }
-        ensures { Answered D.state op.now self.old self.new result }
+        ensures { Answered D.state op.now self.old self.new (as_reply result) }
     {
         if let Some(why) = self.stopped {
-            return Reply::Stopped(why);
+            return ShortReply::Stopped(why);
         }
         match op {
             Op::Get(key) => self.look_up(key),
@@ -147,11 +148,7 @@ impl<D: Disk + Drop> Store<D> {
         ensures { Executes D.state seat op.now self.old self.new }
     {
         let reply = self.answer(op);
-        self.annals.note(Entry {
-            seat,
-            op: op.copy(),
-            reply,
-        });
+        self.annals.note_short(seat, op.copy(), reply);
     }
 
     /// Answers the commands of a script, one after another.

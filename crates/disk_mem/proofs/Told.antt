@@ -5,9 +5,8 @@ use Rattle.std.proofs.lemmas.Bool.Decides.{nat_tests}
 use Rattle.std.proofs.lemmas.List.{length-take}
 use Rattle.refusal.specs.Count.{next_count, HasRisen}
 use Rattle.disk_trait.specs.Disk.{DiskState, Passes, MarksSync, WritesNothing, WritesWithin, KeepsImages, ChangesNothing, LeavesAnyBytes, Only, overwritten}
-use Rattle.disk_trait.specs.Parts.{length-overwritten}
+use Rattle.disk_trait.specs.Parts.{length-overwritten, within_nothing}
 use Rattle.disk_trait.specs.Shelf.{IsFreshCount}
-use Rattle.disk_trait.specs.Writes.{within_nothing}
 use Rattle.disk_mem.specs.Events.{Event, synced, passed, fresh, replay, IsSync}
 use Rattle.disk_mem.specs.Recorded.{Recorded, Change, Kind, Outcome, unrecorded, unrecorded_past_end, past_end, refused, done, HasRecord, HasNoRecord, Fails, next_call, changed, changed_by, written_by, look, look_or_sync, sync_call, write_call, disk_state, is_untouched, is_honest, told}
 use Rattle.disk_mem.specs.Replayed.{IsReplayed, IsConsistent}

@@ -2,7 +2,7 @@
 ghost use Rattle.std.specs.Prelude.{◌≡◌, ◌⊎◌, ◌<◌, ◌≤◌, ◌+◌, ◌↔◌, max, false, IsTrue, IsErr, IsOk, OnOk, OnErr, IfOk, refl, List, ℕ, [], ◌∷◌, ◌++◌, length, is_ok};
 ghost use Rattle.refusal.specs.Count.{HasRisen};
 ghost use Rattle.disk_trait.specs.Disk.{Passes, MarksSync, WritesNothing, WritesWithin, ChangesNothing, KeepsImages, LeavesAnyBytes, Only, IsSure, part, overwritten};
-ghost use Rattle.disk_mem.specs.Recorded.{new_disk, told, look, sync_call, write_call, Fails, Outcome};
+ghost use Rattle.disk_mem.specs.Recorded.{is_untouched, new_disk, told, look, sync_call, write_call, Fails, Outcome};
 ghost use Rattle.disk_mem.specs.Images.{IsPicked};
 ghost use Rattle.disk_mem.specs.Start.{StartsAs};
 ghost use Rattle.disk_mem.specs.Laws.{told_timed, told_as_read};
@@ -73,17 +73,27 @@ impl MemDisk {
     }
 
     /// A disk of the same limit and record size that holds one of the images which a crash now may leave, with no call answered
-    /// yet and none that is to fail.
+    /// yet and none that is to fail. What pokes changed before a call of the record stands in it from that call on.
     ///
-    /// The number picks the image. It has two digits for each write since the last sync that ended well, failed writes too, the
-    /// first write's lowest. Of a write of n bytes the lower digit, below n + 1, says how many of its bytes, from its beginning,
-    /// stand in the image. The other is 0 or 1: where it is 1, one byte follows them that is neither the old nor the new one, or,
-    /// where all bytes would stand, there are zeros in their place. Where the image ends before the write begins, nothing of it
-    /// stands. Over all numbers the images are those where each write stands not at all, in part, or in whole, whatever the others
-    /// do. An image may be longer than the limit, where a write past it had failed.
+    /// The number picks the image: it says how each write stands that came since the last sync that ended well, failed writes
+    /// too. They are counted from 0, the oldest first.
+    ///
+    /// Two digits tear a write of n bytes. The lower one, below n + 1, says how many of its bytes, from its beginning, stand in
+    /// the image. The other is 0 or 1: where it is 1, one byte follows them that is neither the old nor the new one, or, where
+    /// all bytes would stand, there are zeros in their place. Where the image ends before the write begins, nothing of it stands.
+    ///
+    /// A number below 10^18 has two digits for each write, the first write's lowest. So it reaches any two digits of each of the
+    /// first few writes, whatever those of the others are, as long as such a number is below 10^18.
+    ///
+    /// From 10^18 on a number has four decimal parts, as `K_DDD_DDD_DDD_DDD_TTT_PPP`. By its kind K those writes stand in whole
+    /// that come before write P (1), all but write P (2), or write P alone (3 and more), and of the others nothing stands. Write
+    /// T alone is torn as the lowest two digits of D say; where there is no write T, none is. So `1_000_000_000_000_999_000` is
+    /// the image without any of up to 999 writes, and `2_000_000_000_000_999_999` the one with all of them.
+    ///
+    /// An image may be longer than the limit, where a write past it had failed.
     pub fn image(&self, pick: u64) -> Result<MemDisk, NoMemory>
-        ensures image { IfOk result (λ d. (image : List ℕ) × (told self.now).images image
-            × (d ≡ new_disk image self.now.limit self.now.kept)) }
+        ensures made { IfOk result (λ d. d ≡ new_disk d.bytes self.now.limit self.now.kept) }
+        ensures image { IfOk result (λ d. IsTrue (is_untouched self.now.changes) → (told self.now).images d.bytes) }
         ensures picked { IfOk result (λ d. IsPicked pick self.now d.bytes) }
         ensures starts { IfOk result (λ d. StartsAs d.bytes (told d)) }
     {

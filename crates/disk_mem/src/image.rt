@@ -1,16 +1,14 @@
-// One image that a crash may leave, picked by a number.
-//
-// The number has two digits for each write since the last sync that ended well, failed writes too, the first write's lowest. Of a
-// write of n bytes the lower digit, below n + 1, says how many of its bytes, from its beginning, stand in the image: none, some or
-// all. The other is 0 or 1. Where it is 1 one byte follows them that is neither the old nor the new one, or, where all bytes would
-// stand, there are zeros in their place. Where the image ends before the write begins, nothing of it stands.
-ghost use Rattle.std.specs.Prelude.{◌≡◌, ◌≢◌, ◌≤◌, Some, IfOk, length, slice_get};
+// One image that a crash may leave, picked by a number, as `MemDisk::image` says.
+ghost use Rattle.std.specs.Prelude.{◌≡◌, ◌≢◌, ◌≤◌, Some, IfOk, IsTrue, map, length, slice_get};
 ghost use Rattle.disk_mem.specs.Events.{replay, fresh, IsImage};
 ghost use Rattle.disk_mem.specs.Calls.{events, written_len};
-ghost use Rattle.disk_mem.specs.Images.{IsPiece, IsTornOn, IsPickedOf};
+ghost use Rattle.disk_mem.specs.Changes.{change_of};
+ghost use Rattle.disk_mem.specs.Recorded.{is_untouched};
+ghost use Rattle.disk_mem.specs.Images.{IsPiece, IsTornAs, IsPickedOf, follow, share, start};
 
 use crate::bytes::overwrite;
 use crate::call::Call;
+use crate::poke::{Poke, poke_bytes};
 use refusal::NoMemory;
 use std::alloc::Global;
 
@@ -61,69 +59,109 @@ fn piece_of(
     Ok(piece)
 }
 
-// Tears a write into the image as its two digits say, and answers the number's other digits.
+// The parts of a number that has a kind.
+const KIND: u64 = 1_000_000_000_000_000_000;
+
+const TEAR: u64 = 1_000_000_000_000;
+
+const PLACES: u64 = 1000;
+
+// The number by whose digits a write is torn. `left` is what the writes before it have left of the number that picks.
+fn share_of(pick: u64, left: u64, index: u64, size: u64) -> u64
+    ensures { result ≡ share pick left index size }
+{
+    let kind = pick / KIND;
+    let place = pick % PLACES;
+    if kind == 0 {
+        return left;
+    }
+    if index == pick / PLACES % PLACES {
+        return pick / (PLACES * PLACES) % TEAR;
+    }
+    let stands = match kind {
+        1 => index < place,
+        2 => index != place,
+        _ => index == place,
+    };
+    if stands { size } else { 0 }
+}
+
+// Tears a write into the image as two digits of the number say.
 fn tear(
     alloc: Global,
     image: &mut Vec<u8>,
     at: u64,
     text: &[u8],
-    pick: u64,
-) -> Result<u64, NoMemory>
-    ensures { IfOk result (λ others. IsTornOn at text.now pick others image.old.items image.new.items) }
+    number: u64,
+) -> Result<(), NoMemory>
+    ensures { IfOk result (λ _. IsTornAs number at text.now image.old.items image.new.items) }
 {
     let places = text.len() as u64 + 1;
-    let others = pick / places / 2;
     let place = at as usize;
     if place > image.len() {
-        return Ok(others);
+        return Ok(());
     }
-    let kept = (pick % places) as usize;
-    let garbled = pick / places % 2 == 1;
+    let kept = (number % places) as usize;
+    let garbled = number / places % 2 == 1;
     let piece = piece_of(alloc, &image[place..], text, kept, garbled)?;
     overwrite(image, place, &piece)?;
-    Ok(others)
+    Ok(())
 }
 
-/// The image that the number picks of a disk that began with the bytes `first` and had these calls.
+/// The image that the number picks of a disk that began with the bytes `first` and had these calls, before which the pokes
+/// changed it.
 pub(crate) fn image_of(
     alloc: Global,
     first: &[u8],
     calls: &[Call],
     written: &[u8],
+    pokes: &[Poke],
     pick: u64,
 ) -> Result<Vec<u8>, NoMemory>
     requires { written_len calls.now ≡ length written.now }
-    ensures image { IfOk result (λ image. IsImage (replay (fresh first.now) (events calls.now written.now)) image.items) }
-    ensures picked { IfOk result (λ image. IsPickedOf pick (replay (fresh first.now) (events calls.now written.now)) image.items) }
+    ensures image { IfOk result (λ image. IsTrue (is_untouched (map change_of pokes.now)) → IsImage (replay (fresh first.now) (events calls.now written.now)) image.items) }
+    ensures picked { IfOk result (λ image. IsPickedOf pick (follow (map change_of pokes.now) 1 (start first.now) (events calls.now written.now)) image.items) }
 {
     let mut bytes = first.to_vec(alloc)?;
     let mut image = first.to_vec(alloc)?;
     let mut left = calls;
     let mut rest = written;
+    let mut number = 1u64;
     let mut choice = pick;
+    let mut index = 0u64;
     while let [call, after @ ..] = left {
+        poke_bytes(&mut bytes, pokes, number);
+        poke_bytes(&mut image, pokes, number);
+        left = after;
+        number += 1;
         match *call {
             Call::Wrote(at, n) => {
                 let (text, others) = rest.split_at(n);
                 let place = at as usize;
                 if place <= bytes.len() {
                     overwrite(&mut bytes, place, text)?;
-                    choice = tear(alloc, &mut image, at, text, choice)?;
+                    let share = share_of(pick, choice, index, text.len() as u64);
+                    tear(alloc, &mut image, at, text, share)?;
+                    choice = choice / (text.len() as u64 + 1) / 2;
+                    index += 1;
                 }
                 rest = others;
             }
             Call::Tore(at, n) => {
                 let (text, others) = rest.split_at(n);
-                choice = tear(alloc, &mut image, at, text, choice)?;
+                let share = share_of(pick, choice, index, text.len() as u64);
+                tear(alloc, &mut image, at, text, share)?;
+                choice = choice / (text.len() as u64 + 1) / 2;
+                index += 1;
                 rest = others;
             }
             Call::Synced => {
                 image = bytes.to_vec(alloc)?;
                 choice = pick;
+                index = 0;
             }
             Call::Passed => {}
         }
-        left = after;
     }
     Ok(image)
 }

@@ -183,16 +183,24 @@ impl Recorder {
 impl Recorder {
     ghost use Rattle.disk_mem.specs.Events.{replay, fresh, IsImage};
     ghost use Rattle.disk_mem.specs.Images.{IsPicked};
-    ghost use Rattle.disk_mem.specs.Recorded.{new_disk};
+    ghost use Rattle.disk_mem.specs.Recorded.{is_untouched, new_disk};
     ghost use Rattle.disk_mem.specs.Recorder.{recorded};
 
     /// A disk that holds the image which the number picks of those that a crash now may leave.
     pub(crate) fn image(&self, pick: u64) -> Result<Recorder, NoMemory>
-        ensures image { IfOk result (λ d. (image : List ℕ) × IsImage (replay (fresh (recorded self.now).first) (recorded self.now).events) image
-            × (recorded d ≡ new_disk image self.now.limit self.now.kept)) }
+        ensures made { IfOk result (λ d. recorded d ≡ new_disk (recorded d).bytes self.now.limit self.now.kept) }
+        ensures image { IfOk result (λ d. IsTrue (is_untouched (recorded self.now).changes)
+            → IsImage (replay (fresh (recorded self.now).first) (recorded self.now).events) (recorded d).bytes) }
         ensures picked { IfOk result (λ d. IsPicked pick (recorded self.now) (recorded d).bytes) }
     {
-        let image = image_of(self.alloc, &self.first, &self.calls, &self.written, pick)?;
+        let image = image_of(
+            self.alloc,
+            &self.first,
+            &self.calls,
+            &self.written,
+            &self.pokes,
+            pick,
+        )?;
         Recorder::new(self.alloc, &image, self.limit, self.kept)
     }
 

@@ -163,12 +163,99 @@ fn images_end_anywhere_in_a_torn_write_past_the_end(rt: HostRuntime) -> Result<(
     Ok(())
 }
 
+const WRITES: u64 = 64;
+
+// A disk of 128 dots, synced, over which 64 pairs are written that no sync makes durable.
+fn make_pending(alloc: Global) -> Result<MemDisk, Fail> {
+    let mut disk = MemDisk::new(alloc, 2 * WRITES, 4_000)?;
+    disk.write(0, &[b'.'; 128])?;
+    disk.sync()?;
+    for place in 0..WRITES {
+        disk.write(2 * place, b"xy")?;
+    }
+    Ok(disk)
+}
+
+// Whether the pair of each place stands in the image that the number picks just where it does by kind and place, and that of
+// one place is torn so.
+fn stand(
+    disk: &MemDisk,
+    pick: u64,
+    (kind, place): (u64, u64),
+    (torn, torn_pair): (u64, [u8; 2]),
+) -> Result<bool, Fail> {
+    let mut image = disk.image(pick)?;
+    for at in 0..WRITES {
+        let mut pair = [0; 2];
+        image.read(2 * at, &mut pair)?;
+        let whole = match kind {
+            1 => at < place,
+            2 => at != place,
+            _ => at == place,
+        };
+        let wanted = if at == torn {
+            torn_pair
+        } else if whole {
+            *b"xy"
+        } else {
+            *b".."
+        };
+        if pair != wanted {
+            return Ok(false);
+        }
+    }
+    Ok(true)
+}
+
+// Of 64 writes since a sync: each front, all but any one, any one alone; and in each of these a torn one.
 #[test]
-fn a_poke_changes_bytes_before_its_call(rt: HostRuntime) -> Result<(), Fail> {
+fn images_have_fronts_and_all_but_one_of_many_writes(rt: HostRuntime) -> Result<(), Fail> {
+    let disk = make_pending(rt.alloc())?;
+    let picks: [(u64, u64); 3] = [
+        (1, 1_000_000_000_000_000_000),
+        (2, 2_000_000_000_000_000_000),
+        (3, 3_000_000_000_000_000_000),
+    ];
+    for (kind, pick) in picks {
+        for place in 0..WRITES + 1 {
+            let stands = stand(
+                &disk,
+                pick + 999_000 + place,
+                (kind, place),
+                (WRITES, *b".."),
+            )?;
+            assert!(rt; stands, "{kind} {place}");
+        }
+        for (digits, pair) in [
+            (0, *b".."),
+            (1, *b"x."),
+            (2, *b"xy"),
+            (4, *b"x\x00"),
+            (5, [0; 2]),
+        ] {
+            let pick = pick + digits * 1_000_000 + 7_009;
+            assert!(rt;
+                stand(&disk, pick, (kind, 9), (7, pair))?,
+                "{kind} {digits}"
+            );
+        }
+    }
+    Ok(())
+}
+
+// The bytes change before their call, and in each image from that call on; what is written over them later may stand.
+#[test]
+fn a_poke_changes_bytes_and_images_from_its_call_on(rt: HostRuntime) -> Result<(), Fail> {
     let mut disk = make_disk(rt.alloc(), RECORD)?;
     disk.poke(4, 1, b"xyz")?;
     assert_eq!(rt; read_two(&mut disk)?, *b"ab");
+    assert_eq!(rt; read_two(&mut disk.image(0)?)?, *b"ab");
     assert_eq!(rt; read_two(&mut disk)?, *b"ax");
+    assert_eq!(rt; read_two(&mut disk.image(0)?)?, *b"ax");
+    disk.write(0, b"cd")?;
+    for (pick, reads) in [(0, *b"ax"), (1, *b"cx"), (2, *b"cd")] {
+        assert_eq!(rt; read_two(&mut disk.image(pick)?)?, reads, "{pick}");
+    }
     assert_eq!(rt; disk.len()?, 2);
     Ok(())
 }

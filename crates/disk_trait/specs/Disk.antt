@@ -1,5 +1,6 @@
 -- What a disk means, what its calls do, and what a crash may do between two syncs.
-use Rattle.std.specs.Prelude.{◌<◌, ◌≡◌, ◌⊎◌, ℕ, ◌+◌, ◌-◌, ◌^◌, ◌≤◌, max, Bool, IsTrue, List, ◌++◌, length, take, drop}
+use Rattle.std.specs.Prelude.{◌<◌, ◌≡◌, ◌≢◌, ◌⊎◌, ℕ, ◌+◌, ◌-◌, ◌^◌, ◌≤◌, max, Bool, IsTrue, List, ◌++◌, length, take, drop, Result, Ok, Err}
+use Rattle.refusal.specs.Count.{HasRisen}
 
 -- what stands behind a disk at one moment
 pub record DiskState : Type 1 where
@@ -37,13 +38,9 @@ pub record Torn (at n : ℕ) (old new : List ℕ) : Type 0 where
   pub no_shorter : length old ≤ length new
   pub no_longer : length new ≤ max (length old) (at + n)
 
--- one of the files from before, but for a range of n bytes and what lies past its old end
-abbrev pub IsOldOutside : ℕ → ℕ → (List ℕ → Type 0) → List ℕ → Type 0
-IsOldOutside at n before file = (old : List ℕ) × before old × Torn at n old file
-
 -- each image now is an image before the write, torn
 abbrev pub Tears : ℕ → ℕ → (List ℕ → Type 0) → (List ℕ → Type 0) → Type 0
-Tears at n old new = (c : List ℕ) → new c → IsOldOutside at n old c
+Tears at n old new = (c : List ℕ) → new c → (was : List ℕ) × old was × Torn at n was c
 
 -- a crash leaves this file and no other
 abbrev pub Only : List ℕ → (List ℕ → Type 0) → Type 0
@@ -61,6 +58,16 @@ pub record GoesOn (old new : DiskState) : Type 0 where
 -- the count stands through a call that ends at this offset, where the disk is sure up to it
 abbrev pub IsSure : ℕ → DiskState → DiskState → Type 0
 IsSure end old new = 0 < old.sure_up_to → end ≤ old.sure_up_to → new.faults ≡ old.faults
+
+-- After Ok the count of faults stands, after Err it has risen.
+abbrev pub TellsFaults : {T E : Type 0} → Result T E → DiskState → DiskState → Type 0
+TellsFaults (Ok value) old new = new.faults ≡ old.faults
+TellsFaults (Err error) old new = HasRisen old.faults new.faults
+
+-- It has risen after this one answer, and stands after any other.
+pub record TellsFaultsBy {R : Type 0} (fault answer : R) (old new : DiskState) : Type 0 where
+  pub stands : answer ≢ fault → new.faults ≡ old.faults
+  pub failed : answer ≡ fault → HasRisen old.faults new.faults
 
 -- One call: the clock moves by one (at 2 ^ 64 - 1 it may stand), the count of faults by one at most, and the images since a moment are those from before the call and those of now.
 pub record Passes (old new : DiskState) : Type 0 where
@@ -99,6 +106,12 @@ KeepsImages old new = IsTrue old.is_honest → IsTrue old.tells_images → (c : 
 pub record ChangesNothing (old new : DiskState) : Type 0 where
   pub same : WritesNothing old new
   pub images : KeepsImages old new
+
+-- These bytes were written over what was there, from an offset on, and a crash leaves them so.
+pub record HasWritten (at : ℕ) (text : List ℕ) (old new : DiskState) : Type 0 where
+  pub bytes : IsTrue old.is_honest → new.bytes ≡ overwritten old.bytes at text
+  pub durable : IsTrue old.is_honest → Only new.bytes new.images
+  pub long : IsTrue old.tells_bytes → length new.bytes ≡ max (length old.bytes) (at + length text)
 
 -- a crash may leave any bytes in the range of a write
 abbrev pub LeavesAnyBytes : ℕ → ℕ → DiskState → DiskState → Type 0

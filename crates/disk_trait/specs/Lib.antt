@@ -1,6 +1,8 @@
 pub mod Disk
+pub mod Effects
 pub mod Moments
 pub mod Parts
+pub mod Reads
+pub mod Region
 pub mod Shelf
 pub mod Untold
-pub mod Writes

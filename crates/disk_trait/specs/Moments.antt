@@ -28,6 +28,18 @@ pub record LeavesOnlyOnceSynced (old new : DiskState) (P : List ℕ → Type 0) 
   -- for a run that began earlier
   pub before : (t : ℕ) → new.synced_at t → old.synced_at t ⊎ (old.clock < t)
 
+-- a file from before, or one that has P
+abbrev pub IsOldOr : (List ℕ → Type 0) → (List ℕ → Type 0) → List ℕ → Type 0
+IsOldOr before P file = before file ⊎ P file
+
+-- a sync has ended well since then
+abbrev pub HasSynced : DiskState → DiskState → Type 0
+HasSynced old new = (t : ℕ) × (old.clock < t) × new.synced_at t
+
+-- As long as no sync has ended well, a crash leaves what it might have left before.
+abbrev pub IsUnwritten : DiskState → DiskState → Type 0
+IsUnwritten old new = LeavesOnly old new old.images ⊎ HasSynced old new
+
 -- each sync that ended well did so before, or since then; those from before stay
 pub record SyncsLater (old new : DiskState) : Type 0 where
   pub none_else : (t : ℕ) → new.synced_at t → old.synced_at t ⊎ (old.clock < t)
@@ -78,6 +90,14 @@ leaves_only_now {old} {new} timed run c here = run.each c (timed.counts_now old.
 -- a run that leaves only what a crash before it might have left
 pub leaves_only_kept : {old mid new : DiskState} {P : List ℕ → Type 0} → IsTimed mid → LeavesOnly old mid P → LeavesOnly mid new mid.images → LeavesOnly old new P
 leaves_only_kept timed so_far run = leaves_only_run so_far (leaves_only_weaken (leaves_only_now timed so_far) run)
+
+-- a run that leaves only old files or ones that have P, behind one that leaves only old files
+pub old_or_behind : {old mid new : DiskState} {P : List ℕ → Type 0} → IsTimed mid → LeavesOnly old mid old.images → LeavesOnly mid new (IsOldOr mid.images P)
+    → LeavesOnly old new (IsOldOr old.images P)
+old_or_behind {old} {mid} {new} timed first second =
+    leaves_only_run
+    (leaves_only_weaken (λ c before. inl before) first)
+    (leaves_only_weaken (λ c. ⊎_elim (λ before. inl (leaves_only_now timed first c before)) (λ has. inr has)) second)
 
 -- no sync before the first call
 pub no_sync_start : (d : DiskState) → MarksSync ⊥ d d

@@ -1,9 +1,9 @@
 -- A write that is cut short leaves each part of the file that its range doesn't meet.
 use Rattle.std.specs.Prelude.{◌≡◌, ◌≤◌, ℕ, ◌+◌, ◌-◌, max, List, ◌++◌, take, drop, length, refl}
-use Rattle.std.proofs.Common.{sym, ◌∙◌, ap, arith, append_assoc, length-append, length-drop}
+use Rattle.std.proofs.Common.{sym, subst, ◌∙◌, ap, arith, append_assoc, length-append, length-drop}
 use Rattle.std.proofs.lemmas.List.{drop-take, take-take, drop-drop, take_at, drop_at, length-take-le}
 use Rattle.std.proofs.Math.Seq.{take-add}
-use Rattle.disk_trait.specs.Disk.{Torn, part, overwritten}
+use Rattle.disk_trait.specs.Disk.{DiskState, WritesNothing, WritesWithin, Torn, part, overwritten}
 
 -- a part below the range
 pub torn_below : (at n lo k : ℕ) (old new : List ℕ) → Torn at n old new → lo + k ≤ at → part new lo k ≡ part old lo k
@@ -61,15 +61,15 @@ torn_widen at n at' n' old new torn begins ends = record {
   no_longer = omega (arith, torn.no_longer, ends);
 }
 
--- what is torn twice in a range is torn in it
-pub torn_run : (at n : ℕ) (old mid new : List ℕ) → Torn at n old mid → Torn at n mid new → Torn at n old new
-torn_run at n old mid new first second = record {
-  before = second.before ∙ first.before;
-  after = second.after ∙ first.after;
-  no_shorter = omega (arith, first.no_shorter, second.no_shorter);
-  no_longer = omega (arith, first.no_longer, second.no_longer);
-}
-
 -- a part and the one behind it
 pub part-split : (file : List ℕ) (at m n : ℕ) → part file at (m + n) ≡ part file at m ++ part file (at + m) n
 part-split file at m n = take-add m n (drop at file) ∙ ap (λ (l : List ℕ). take m (drop at file) ++ take n l) (drop-drop m at file)
+
+-- A call that writes nothing writes within any range.
+pub within_nothing : {old new : DiskState} (at n : ℕ) → WritesNothing old new → WritesWithin at n old new
+within_nothing {old} {new} at n same = record {
+  bytes = λ honest. subst (λ (l : List ℕ). Torn at n old.bytes l) (sym (same.bytes honest)) (torn_same at n old.bytes);
+  no_shorter = λ tells. omega (arith, same.length tells);
+  no_longer = λ tells. omega (arith, same.length tells);
+  images = λ honest c left. (c, same.images honest c left, torn_same at n c);
+}

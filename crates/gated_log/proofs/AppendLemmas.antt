@@ -1,81 +1,134 @@
 -- A gated write behind a lane's closed gate is an append: what each of its moments leaves, and what stands once it has ended well.
-use Rattle.std.proofs.Common.{◌≡◌, ℕ, ◌+◌, ◌≤◌, List, [], ◌∷◌, ◌++◌, length, take, drop, ap, sym, subst, ◌∙◌, arith}
-use Rattle.std.proofs.lemmas.List.{take-take}
-use Rattle.disk_trait.specs.Disk.{DiskState, Torn, Only, part, overwritten}
-use Rattle.disk_trait.specs.Moments.{LeavesOnly, IsTimed, leaves_only_weaken, leaves_only_now}
-use Rattle.disk_trait.specs.Parts.{part-overwritten}
-use Rattle.gated_write.specs.Gated.{open_byte, IsClosed, IsWhole, IsGated, untouched, behind_gate, whole}
+use Rattle.std.proofs.Common.{◌≡◌, inl, inr, Bool, IsTrue, ℕ, ◌+◌, ◌≤◌, ◌<◌, List, [], ◌∷◌, ◌++◌, length, ap, sym, subst, ◌∙◌, arith, append_assoc, append-nil, length-append}
+use Rattle.std.proofs.lemmas.List.Elements.{All-push}
+use Rattle.disk_trait.specs.Disk.{DiskState, HasWritten, part, overwritten}
+use Rattle.disk_trait.specs.Effects.{Affects}
+use Rattle.disk_trait.specs.Moments.{IsTimed, leaves_only_weaken, leaves_only_now}
+use Rattle.disk_trait.specs.Parts.{part-split, part-overwritten}
+use Rattle.disk_trait.specs.Region.{span, IsWithin, IsSameOutside, same_file, same_wider, part_apart}
+use Rattle.gated_write.specs.Gated.{open_byte, IsClosed, IsWhole, IsGated, untouched, behind_gate, whole, LeavesGated}
 use Rattle.blsm_model.specs.declared.key.Key.{Key}
 use Rattle.blsm_model.specs.Sizes.{Sizes}
+use Rattle.blsm_model.specs.Geometry.{file_length}
 use Rattle.record_delta.specs.declared.record.Rec.{Rec}
-use Rattle.entry_codec.specs.Spelling.{IsEntry}
-use Rattle.gated_log.specs.Lane.{region_start, region_length, blocks, HasEntries, EachHasEntries, IsAppended}
-use Rattle.gated_log.proofs.LaneLemmas.{text_of, gate_closed, has_more, appended}
+use Rattle.record_delta.specs.Records.{weight}
+use Rattle.entry_codec.specs.Spelling.{spelling, IsEntry}
+use Rattle.entry_codec.proofs.SpellingLemmas.{length-spelling}
+use Rattle.blsm_model.specs.Lanes.{region_start, region_length}
+use Rattle.gated_log.specs.Lane.{lane_region, blocks, HasEntries, EachHasEntries, IsAppended, LeavesAppended}
+use Rattle.gated_log.specs.Lanes.{LanesState, end_of}
+use Rattle.gated_log.proofs.LaneLemmas.{region_inside, blocks-append, front_parts, gate_closed, one_byte, part_below}
 
--- a whole entry stands behind an open gate
-whole_opens : (at : ℕ) (text file : List ℕ) → IsWhole at text file → part file at 1 ≡ open_byte ∷ []
-whole_opens at text file stands = let short : 1 ≤ 1 + length text = omega arith in sym (take-take 1 (1 + length text) (drop at file) short) ∙ ap (λ (l : List ℕ). take 1 l) stands
-
--- What a gated write of the entry promises of the disk: its place is the lane's closed gate, its text the entry and the next gate.
-pub record IsEntryWrite (sizes : Sizes) (lane : ℕ) (entries : List (Key × Rec)) (key : Key) (rec : Rec) (at : ℕ) (text : List ℕ) : Type 0 where
-  pub place : at ≡ region_start sizes lane + length (blocks entries)
-  pub writes : text ≡ text_of key rec
-  pub fits : length (blocks entries) + 1 + length (text_of key rec) ≤ region_length sizes
+-- An entry and the next gate, closed, are written behind a gate at this place of a lane, inside the region.
+pub record IsEntryWrite (sizes : Sizes) (lane end : ℕ) (key : Key) (rec : Rec) (at : ℕ) (text : List ℕ) : Type 0 where
+  pub place : at ≡ region_start sizes lane + end
+  pub writes : text ≡ spelling key rec ++ 0 ∷ []
+  pub fits : end + 1 + length text ≤ region_length sizes
   pub entry : IsEntry key rec
 
-gated_here : (sizes : Sizes) (lane : ℕ) (entries : List (Key × Rec)) (key : Key) (rec : Rec) (at : ℕ) (text : List ℕ) (before : List ℕ → Type 0) (file : List ℕ) → IsEntryWrite sizes lane entries key rec at text
-    → IsGated before at text file → IsGated before (region_start sizes lane + length (blocks entries)) (text_of key rec) file
-gated_here sizes lane entries key rec at text before file write gated =
-    subst (λ (t : List ℕ). IsGated before (region_start sizes lane + length (blocks entries)) t file) write.writes (subst (λ (a : ℕ). IsGated before a text file) write.place gated)
+-- where the lanes say that the lane ends
+pub entry_write : {inside lanes : LanesState} (lane : ℕ) {key : Key} {rec : Rec} {at : ℕ} {text : List ℕ} → inside ≡ lanes → at ≡ region_start inside.sizes lane + end_of inside lane → text ≡ spelling key rec ++ 0 ∷ []
+    → end_of lanes lane + 1 + weight key rec + 1 ≤ region_length lanes.sizes → IsEntry key rec → IsEntryWrite lanes.sizes lane (end_of lanes lane) key rec at text
+entry_write lane {key} {rec} same place writes fits entry = record {
+  place = place ∙ ap (λ (l : LanesState). region_start l.sizes lane + end_of l lane) same;
+  writes = writes;
+  entry = entry;
+  fits = omega (arith, fits, ap (λ (l : List ℕ). length l) writes, length-spelling key rec, length-append (spelling key rec) (0 ∷ []));
+}
 
-closed_here : (sizes : Sizes) (lane : ℕ) (entries : List (Key × Rec)) (key : Key) (rec : Rec) (at : ℕ) (text : List ℕ) (file : List ℕ) → IsEntryWrite sizes lane entries key rec at text → HasEntries sizes lane entries file → IsClosed at file
-closed_here sizes lane entries key rec at text file write has = subst (λ (a : ℕ). IsClosed a file) (sym write.place) (gate_closed sizes lane entries file has)
+-- all of it lies in the lane's region
+pub write_inside : {sizes : Sizes} {lane end : ℕ} {key : Key} {rec : Rec} {at : ℕ} {text : List ℕ} → IsEntryWrite sizes lane end key rec at text → IsWithin (span at (1 + length text)) (lane_region sizes lane)
+write_inside write i inside = (omega (arith, inside.0, write.place), omega (arith, inside.1, write.place, write.fits))
 
--- each moment
-pub each_moment : (sizes : Sizes) (lane : ℕ) (entries : List (Key × Rec)) (key : Key) (rec : Rec) (at : ℕ) (text : List ℕ) (old new : DiskState) → IsEntryWrite sizes lane entries key rec at text → EachHasEntries sizes lane entries old.images
-    → (((c : List ℕ) → old.images c → IsClosed at c) → LeavesOnly old new (IsGated old.images at text)) → LeavesOnly old new (IsAppended sizes lane entries (key, rec) old.images)
-each_moment sizes lane entries key rec at text old new write has run =
-    leaves_only_weaken (λ c gated. appended sizes lane entries key rec old.images c has write.fits (gated_here sizes lane entries key rec at text old.images c write gated) write.entry)
-    (run (λ c was. closed_here sizes lane entries key rec at text c write (has c was)))
-
--- what a read gives afterwards, whatever is answered
-pub read_after : (sizes : Sizes) (lane : ℕ) (entries : List (Key × Rec)) (key : Key) (rec : Rec) (at : ℕ) (text old new : List ℕ) → IsEntryWrite sizes lane entries key rec at text → HasEntries sizes lane entries old
-    → (IsClosed at old → IsGated (λ c. c ≡ old) at text new) → IsAppended sizes lane entries (key, rec) (λ c. c ≡ old) new
-read_after sizes lane entries key rec at text old new write has gated =
-    appended sizes lane entries key rec (λ c. c ≡ old) new (λ c same. subst (λ (f : List ℕ). HasEntries sizes lane entries f) (sym same) has) write.fits
-    (gated_here sizes lane entries key rec at text (λ c. c ≡ old) new write (gated (closed_here sizes lane entries key rec at text old write has))) write.entry
+-- which lies inside the file
+pub write_ends : {sizes : Sizes} {lane end : ℕ} {key : Key} {rec : Rec} {at : ℕ} {text : List ℕ} → lane < 3 → IsEntryWrite sizes lane end key rec at text → at + 1 + length text ≤ file_length sizes
+write_ends {sizes} {lane} below write = omega (arith, write.place, write.fits, region_inside sizes lane below)
 
 -- the file in which the write was done in whole
 done_whole : (at : ℕ) (text before after : List ℕ) → at ≤ length before → after ≡ overwritten before at (open_byte ∷ text) → IsWhole at text after
 done_whole at text before after within is =
     let same : 1 + length text ≡ length (open_byte ∷ text) = omega arith in
-    ap (λ (l : List ℕ). part l at (1 + length text)) is ∙ ap (λ (n : ℕ). part (overwritten before at (open_byte ∷ text)) at n) same ∙ part-overwritten before at (open_byte ∷ text) within
+    ap (λ (l : List ℕ). part l at (1 + length text)) is
+    ∙ ap (λ (n : ℕ). part (overwritten before at (open_byte ∷ text)) at n) same
+    ∙ part-overwritten before at (open_byte ∷ text) within
 
--- an image in which the entry stands whole has one entry more
-one_more : (sizes : Sizes) (lane : ℕ) (entries : List (Key × Rec)) (key : Key) (rec : Rec) (before : List ℕ → Type 0) (file : List ℕ) → EachHasEntries sizes lane entries before
-    → length (blocks entries) + 1 + length (text_of key rec) ≤ region_length sizes → IsWhole (region_start sizes lane + length (blocks entries)) (text_of key rec) file
-    → IsGated before (region_start sizes lane + length (blocks entries)) (text_of key rec) file → IsEntry key rec → HasEntries sizes lane (entries ++ (key, rec) ∷ []) file
-one_more sizes lane entries key rec before file each fits stands (untouched was) entry = absurd (gate_closed sizes lane entries file (each file was) (whole_opens _ (text_of key rec) file stands))
-one_more sizes lane entries key rec before file each fits stands (behind_gate torn closed) entry = absurd (closed (whole_opens _ (text_of key rec) file stands))
-one_more sizes lane entries key rec before file each fits stands (whole torn _) entry = has_more sizes lane entries key rec _ torn.0 file (each torn.0 torn.1) torn.2 stands fits entry
+module _ {sizes : Sizes} {lane end : ℕ} {key : Key} {rec : Rec} {at : ℕ} {text : List ℕ} (write : IsEntryWrite sizes lane end key rec at text) (entries : List (Key × Rec)) (is_end : length (blocks entries) ≡ end) where
+  here : at ≡ region_start sizes lane + length (blocks entries)
+  here = write.place ∙ ap (λ (n : ℕ). region_start sizes lane + n) (sym is_end)
 
-whole_here : (sizes : Sizes) (lane : ℕ) (entries : List (Key × Rec)) (key : Key) (rec : Rec) (at : ℕ) (text : List ℕ) (file : List ℕ) → IsEntryWrite sizes lane entries key rec at text
-    → IsWhole at text file → IsWhole (region_start sizes lane + length (blocks entries)) (text_of key rec) file
-whole_here sizes lane entries key rec at text file write stands =
-    subst (λ (t : List ℕ). IsWhole (region_start sizes lane + length (blocks entries)) t file) write.writes (subst (λ (a : ℕ). IsWhole a text file) write.place stands)
+  closed_here : (file : List ℕ) → HasEntries sizes lane entries file → IsClosed at file
+  closed_here file has = subst (λ (a : ℕ). IsClosed a file) (sym here) (gate_closed sizes lane entries file has)
 
--- once it has ended well each image has it
-pub once_done : (sizes : Sizes) (lane : ℕ) (entries : List (Key × Rec)) (key : Key) (rec : Rec) (at : ℕ) (text : List ℕ) (old new : DiskState) → IsEntryWrite sizes lane entries key rec at text → EachHasEntries sizes lane entries old.images
-    → (((c : List ℕ) → old.images c → IsClosed at c) → LeavesOnly old new (IsGated old.images at text)) → IsTimed new
-    → at ≤ length old.bytes → new.bytes ≡ overwritten old.bytes at (open_byte ∷ text) → Only new.bytes new.images → EachHasEntries sizes lane (entries ++ (key, rec) ∷ []) new.images
-once_done sizes lane entries key rec at text old new write has run timed within is only c here =
-    let gated = leaves_only_now timed (run (λ d was. closed_here sizes lane entries key rec at text d write (has d was))) c here in
-    let stands : IsWhole at text c = subst (λ (l : List ℕ). IsWhole at text l) (sym (only c here)) (done_whole at text old.bytes new.bytes within is) in
-    one_more sizes lane entries key rec old.images c has write.fits (whole_here sizes lane entries key rec at text c write stands) (gated_here sizes lane entries key rec at text old.images c write gated) write.entry
+  -- the entries before the gate stay, and what stands from the gate on follows them
+  parts_of : (n : ℕ) (old file : List ℕ) → HasEntries sizes lane entries old → IsSameOutside (span at (1 + length text)) old file
+      → part file (region_start sizes lane) (length (blocks entries) + n) ≡ blocks entries ++ part file at n
+  parts_of n old file has same =
+      let start = region_start sizes lane in
+      let front : List ℕ = blocks entries in
+      let apart = part_apart start (length front) (λ i inside below. omega (arith, inside.0, below.1, here)) same in
+      part-split file start (length front) n
+      ∙ ap (λ (l : List ℕ). l ++ part file (start + length front) n) (apart ∙ (front_parts old start front has.gate has.begins).0)
+      ∙ ap (λ (a : ℕ). front ++ part file a n) (sym here)
 
--- and the disk reads so
-pub reads_so : (sizes : Sizes) (lane : ℕ) (entries : List (Key × Rec)) (key : Key) (rec : Rec) (at : ℕ) (text : List ℕ) (before after : List ℕ) → IsEntryWrite sizes lane entries key rec at text → HasEntries sizes lane entries before
-    → Torn at (1 + length text) before after → at ≤ length before → after ≡ overwritten before at (open_byte ∷ text) → HasEntries sizes lane (entries ++ (key, rec) ∷ []) after
-reads_so sizes lane entries key rec at text before after write has torn within is =
-    has_more sizes lane entries key rec (1 + length text) before after has (subst (λ (a : ℕ). Torn a (1 + length text) before after) write.place torn)
-    (whole_here sizes lane entries key rec at text after write (done_whole at text before after within is)) write.fits write.entry
+  -- behind a gate that stayed closed the lane is as it was
+  still_has : (old file : List ℕ) → HasEntries sizes lane entries old → IsSameOutside (span at (1 + length text)) old file → IsClosed at file → HasEntries sizes lane entries file
+  still_has old file has same closed =
+      let gate = part_below old (region_start sizes lane + length (blocks entries)) has.gate (front_parts old (region_start sizes lane) (blocks entries) has.gate has.begins).1 in
+      let byte = one_byte file at (omega (arith, gate, same.no_shorter, here)) in
+      record {
+        each = has.each;
+        gate = byte.0;
+        closed = λ opened. closed (byte.1 ∙ ap (λ (g : ℕ). g ∷ []) opened);
+        inside = has.inside;
+        begins = parts_of 1 old file has same ∙ ap (λ (l : List ℕ). blocks entries ++ l) byte.1;
+      }
+
+  -- with the entry whole behind an open gate the lane has one entry more
+  has_more : (old file : List ℕ) → HasEntries sizes lane entries old → IsSameOutside (span at (1 + length text)) old file → IsWhole at text file
+      → HasEntries sizes lane (entries ++ (key, rec) ∷ []) file
+  has_more old file has same stands =
+      let front : List ℕ = blocks entries in
+      let written : front ++ (open_byte ∷ text) ≡ blocks (entries ++ (key, rec) ∷ []) ++ 0 ∷ [] =
+      ap (λ (l : List ℕ). front ++ (open_byte ∷ l)) (write.writes ∙ ap (λ (l : List ℕ). l ++ 0 ∷ []) (sym (append-nil (spelling key rec))))
+      ∙ sym (append_assoc front (open_byte ∷ (spelling key rec ++ [])) (0 ∷ []))
+      ∙ ap (λ (l : List ℕ). l ++ 0 ∷ []) (sym (blocks-append entries ((key, rec) ∷ []))) in
+      let long : length (blocks (entries ++ (key, rec) ∷ [])) + 1 ≡ length front + (1 + length text) =
+      omega (arith, ap (λ (l : List ℕ). length l) written, length-append front (open_byte ∷ text), length-append (blocks (entries ++ (key, rec) ∷ [])) (0 ∷ [])) in
+      record {
+        each = All-push (λ e. IsEntry e.0 e.1) entries (key, rec) has.each write.entry;
+        gate = 0;
+        closed = λ same. cc (same);
+        inside = omega (arith, long, write.fits, is_end);
+        begins =
+            ap (λ (m : ℕ). part file (region_start sizes lane) m) long
+            ∙ parts_of (1 + length text) old file has same
+            ∙ ap (λ (l : List ℕ). front ++ l) stands
+            ∙ written;
+      }
+
+  -- each file that a gated write may leave
+  appended : (before : List ℕ → Type 0) (file : List ℕ) → EachHasEntries sizes lane entries before → IsGated before at text file → IsAppended sizes lane entries (key, rec) before file
+  appended before file each (untouched was) = record { has = inl (each file was); outside = (file, was, same_file (lane_region sizes lane) file) }
+  appended before file each (behind_gate was closed) = record {
+    has = inl (still_has was.0 file (each was.0 was.1) was.2 closed);
+    outside = (was.0, was.1, same_wider (write_inside write) was.2);
+  }
+  appended before file each (whole was stands) = record {
+    has = inr (has_more was.0 file (each was.0 was.1) was.2 stands);
+    outside = (was.0, was.1, same_wider (write_inside write) was.2);
+  }
+
+  -- the call, at each moment and in the end
+  pub leaves_appended : {done : Bool} {end most : ℕ} {old new : DiskState} → IsTimed new → IsTrue old.is_honest → at ≤ length old.bytes → LeavesGated at text old new → Affects (span at (1 + length text)) end most old new
+      → (IsTrue done → HasWritten at (open_byte ∷ text) old new) → LeavesAppended sizes lane entries (key, rec) done old new
+  leaves_appended {old = old} {new = new} timed honest within gated effect written = record {
+    each = λ has. leaves_only_weaken (λ c left. appended old.images c has left) (gated.each (λ c was. closed_here c (has c was)));
+    reads = λ has. appended (λ c. c ≡ old.bytes) new.bytes (λ c same. subst (λ (f : List ℕ). HasEntries sizes lane entries f) (sym same) has) (gated.reads (closed_here old.bytes has));
+    each_done = λ done has c here.
+        let was = leaves_only_now timed (effect.images honest) c here in
+        has_more was.0 c (has was.0 was.1) was.2 (subst (λ (l : List ℕ). IsWhole at text l) (sym ((written done).durable honest c here)) (whole_now ((written done).bytes honest)));
+    reads_done = λ done has. has_more old.bytes new.bytes has (effect.bytes honest) (whole_now ((written done).bytes honest));
+  }
+    where
+      whole_now : new.bytes ≡ overwritten old.bytes at (open_byte ∷ text) → IsWhole at text new.bytes
+      whole_now is = done_whole at text old.bytes new.bytes within is

@@ -1,5 +1,5 @@
 -- What a gate and the bytes behind it say of the lane.
-use Rattle.std.proofs.Common.{◌≡◌, ◌≢◌, ℕ, ◌+◌, ◌≤◌, List, [], ◌∷◌, ◌++◌, length, get_or, take, drop, Some, None, Ok, Err, refl, ap, sym, ◌∙◌, arith, append-nil, length-append}
+use Rattle.std.proofs.Common.{◌≡◌, ◌≢◌, ℕ, ◌+◌, ◌-◌, ◌≤◌, min, List, [], ◌∷◌, ◌++◌, length, get_or, take, drop, Some, None, Ok, Err, refl, ap, sym, ◌∙◌, arith, append-nil, length-append}
 use Rattle.std.specs.List.{between}
 use Rattle.std.proofs.lemmas.List.{take_at, drop_at, take-take, take-append-drop, length-take}
 use Rattle.std.proofs.lemmas.List.Elements.{All-push, All-head, All-tail}
@@ -9,15 +9,31 @@ use Rattle.disk_trait.specs.Parts.{part-split}
 use Rattle.gated_write.specs.Gated.{open_byte, IsClosed}
 use Rattle.blsm_model.specs.declared.key.Key.{Key}
 use Rattle.blsm_model.specs.Sizes.{Sizes}
+use Rattle.blsm_model.specs.Format.{most_weight}
 use Rattle.record_delta.specs.declared.record.Rec.{Rec}
 use Rattle.record_delta.specs.Records.{weight}
 use Rattle.entry_codec.specs.Spelling.{spelling, IsEntry, BeginsWith}
 use Rattle.entry_codec.proofs.SpellingLemmas.{length-spelling}
-use Rattle.gated_log.specs.Lane.{region_start, region_length, blocks, AreEntries, HasEntries, HasFront, IsDamagedBehind}
-use Rattle.gated_log.specs.declared.replay.LaneBroken.TheVariants.{Fault, Damaged}
-use Rattle.gated_log.specs.Replay.{ReplayState, Answer, HasEntryAt, IsReadFrom, next_gate}
-use Rattle.gated_log.specs.Block.{IsOpenBlock, IsBrokenBlock, IsReadAs, room_of}
+use Rattle.blsm_model.specs.Lanes.{region_start, region_length}
+use Rattle.gated_log.specs.Lane.{blocks, AreEntries, HasEntries, HasFront, IsDamagedBehind}
+use Rattle.gated_log.specs.declared.replay.LaneBroken.TheVariants.{Damaged}
+use Rattle.gated_log.specs.Replay.{ReplayState, HasEntryAt, IsReadFrom, next_gate}
 use Rattle.gated_log.proofs.LaneLemmas.{blocks-append, one_byte}
+
+-- an open gate, the entry and any bytes
+pub record IsOpenBlock (bytes : List ℕ) (entry : Key × Rec) : Type 0 where
+  pub fields : IsEntry entry.0 entry.1
+  pub rest : List ℕ
+  pub parts : bytes ≡ open_byte ∷ (spelling entry.0 entry.1 ++ rest)
+
+-- an open gate, and no entry behind it
+pub record IsBrokenBlock (bytes : List ℕ) : Type 0 where
+  pub opened : take 1 bytes ≡ open_byte ∷ []
+  pub no_entry : (key : Key) (rec : Rec) → BeginsWith (drop 1 bytes) key rec → ⊥
+
+-- how many bytes an entry behind the next gate may have, so that its own next gate is inside the region
+abbrev pub room_of : ReplayState → ℕ
+room_of replay = min most_weight (region_length replay.sizes - (replay.end + 2))
 
 -- ---- the bytes that were read
 
@@ -167,8 +183,12 @@ module _ (replay : ReplayState) (file : List ℕ) where
       sym (take-append-drop (1 + weight e.0 e.1) block) ∙ ap (λ (l : List ℕ). l ++ drop (1 + weight e.0 e.1) block) here in
       broken.no_entry e.0 e.1 (record { entry = entry.fields; rest = drop (1 + weight e.0 e.1) block; parts = ap (λ (l : List ℕ). drop 1 l) parts })
 
-  pub read_there : (answer : Answer) → IsReadAs block replay.lane answer → IsReadFrom replay file answer
-  read_there (Ok (Some e)) read = entry_read e read
-  read_there (Ok None) read = closed_read read
-  read_there (Err (Damaged lane)) read = (read.0, opened_read read.1, no_entry_read read.1)
-  read_there (Err Fault) read = absurd read
+  -- the answers that were read
+  pub some_read : (e : Key × Rec) → IsOpenBlock block e → IsReadFrom replay file (Ok (Some e))
+  some_read e opened = entry_read e opened
+
+  pub none_read : take 1 block ≢ open_byte ∷ [] → IsReadFrom replay file (Ok None)
+  none_read closed = closed_read closed
+
+  pub damaged_read : (lane : ℕ) → IsBrokenBlock block → IsReadFrom replay file (Err (Damaged lane))
+  damaged_read lane broken = (opened_read broken, no_entry_read broken)

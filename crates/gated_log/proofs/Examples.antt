@@ -7,7 +7,8 @@ use Rattle.blsm_model.specs.Sizes.{default_sizes}
 use Rattle.record_delta.specs.declared.record.Rec.{Rec}
 use Rattle.record_delta.specs.declared.record.Rec.TheVariants.{Base, Delta, Tomb}
 use Rattle.entry_codec.specs.Spelling.{head, kind_of, spelling, IsEntry}
-use Rattle.gated_log.specs.Lane.{region_start, region_length, blocks, HasEntries, IsDamaged}
+use Rattle.blsm_model.specs.Lanes.{region_start, region_length}
+use Rattle.gated_log.specs.Lane.{blocks, HasEntries, IsDamaged}
 
 abbrev put_a : Key × Rec
 put_a = (codes "a", Base (record { count = 5; text = codes "hi" }))

@@ -1,3 +1,4 @@
+pub mod LaneLaws
 pub mod LaneLemmas
 pub mod AppendLemmas
 pub mod BlockLemmas

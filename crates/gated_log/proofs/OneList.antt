@@ -10,7 +10,8 @@ use Rattle.blsm_model.specs.Sizes.{Sizes}
 use Rattle.record_delta.specs.declared.record.Rec.{Rec}
 use Rattle.entry_codec.specs.Spelling.{spelling, IsEntry}
 use Rattle.entry_codec.proofs.SpellingLemmas.{entry_same}
-use Rattle.gated_log.specs.Lane.{region_start, blocks, AreEntries, HasEntries, HasFront, IsDamagedBehind}
+use Rattle.blsm_model.specs.Lanes.{region_start}
+use Rattle.gated_log.specs.Lane.{blocks, AreEntries, HasEntries, HasFront, IsDamagedBehind}
 use Rattle.gated_log.proofs.LaneLemmas.{blocks-append, gate_closed}
 
 -- what is left of a list behind a front of it, and the bytes that stand there

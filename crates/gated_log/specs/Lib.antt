@@ -1,4 +1,3 @@
 pub mod Lane
 pub mod Lanes
 pub mod Replay
-pub mod Block

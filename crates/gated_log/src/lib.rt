@@ -8,8 +8,8 @@ mod region;
 mod replay;
 
 pub use lanes::Lanes;
-pub use region::HEAD_LEN;
-pub use replay::{LaneBroken, Replay, one_list};
+pub use region::{HEAD_LEN, kept_lanes, one_list, place_in_file};
+pub use replay::{LaneBroken, Replay};
 
 #[cfg(test)]
 mod tests;

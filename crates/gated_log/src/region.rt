@@ -1,8 +1,14 @@
 // Where the regions of the lanes stand in the store's file.
-ghost use Rattle.std.specs.Prelude.{◌≡◌, ◌≤◌, ◌<◌, ◌+◌, ◌*◌, ◌^◌};
-ghost use Rattle.blsm_model.specs.Sizes.{IsGeometry};
+ghost use Rattle.std.specs.Prelude.{◌≡◌, ◌≢◌, ◌≤◌, ◌<◌, ◌+◌, ◌^◌, ℕ, List, [], ◌∷◌, ◌++◌, length, Some, slice_get};
+ghost use Rattle.disk_trait.specs.Disk.{part};
+ghost use Rattle.disk_trait.specs.Region.{AreApart};
+ghost use Rattle.gated_write.specs.Gated.{IsClosed};
+ghost use Rattle.blsm_model.specs.declared.key.Key.{Key};
+ghost use Rattle.blsm_model.specs.Sizes.{Sizes, IsGeometry};
 ghost use Rattle.blsm_model.specs.Geometry.{file_length};
-ghost use Rattle.gated_log.specs.Lane.{region_length, region_start};
+ghost use Rattle.record_delta.specs.declared.record.Rec.{Rec};
+ghost use Rattle.blsm_model.specs.Lanes.{region_length, region_start};
+ghost use Rattle.gated_log.specs.Lane.{lane_region, HasEntries, HasFront, IsDamaged};
 
 use blsm_model::Geometry;
 
@@ -20,7 +26,8 @@ pub fn length_of(geometry: &Geometry) -> u64
     REGION_HALVES * geometry.half()
 }
 
-// Where a place of a region, in bytes from its start, stands in the file.
+/// Where a place of a lane's region, in bytes from the region's start, stands in the file. The lane is named by its region's
+/// number, 0 to 2.
 pub fn place_in_file(geometry: &Geometry, lane: u8, place: u64) -> u64
     requires lane { lane < 3 }
     requires place { place < region_length geometry.now }
@@ -30,3 +37,24 @@ pub fn place_in_file(geometry: &Geometry, lane: u8, place: u64) -> u64
 {
     HEAD_LEN + length_of(geometry) * u64::from(lane) + place
 }
+
+/// A lane is what its region's bytes say, so it has its entries still after any change elsewhere. Where the first gate of a
+/// region is closed, its lane has no entries. The regions of two lanes are apart.
+pub fn kept_lanes()
+    ensures kept { (sizes : Sizes) (lane : ℕ) (entries : List (Key × Rec)) (old new : List ℕ)
+        → part new (region_start sizes lane) (region_length sizes) ≡ part old (region_start sizes lane) (region_length sizes)
+        → HasEntries sizes lane entries old → HasEntries sizes lane entries new }
+    ensures empty { (sizes : Sizes) (lane : ℕ) (file : List ℕ) → IsGeometry sizes → region_start sizes lane < length file
+        → IsClosed (region_start sizes lane) file → HasEntries sizes lane [] file }
+    ensures apart { (sizes : Sizes) (one other : ℕ) → one ≢ other → AreApart (lane_region sizes one) (lane_region sizes other) }
+{}
+
+/// A lane has one list of entries at most, which its fronts begin, and one that has its list isn't damaged.
+pub fn one_list()
+    ensures same { (sizes : Sizes) (lane : ℕ) (es fs : List (Key × Rec)) (file : List ℕ) → HasEntries sizes lane es file
+        → HasEntries sizes lane fs file → es ≡ fs }
+    ensures next { (sizes : Sizes) (lane : ℕ) (es rest : List (Key × Rec)) (e : Key × Rec) (file : List ℕ) → HasEntries sizes lane (es ++ rest) file
+        → HasFront sizes lane (es ++ e ∷ []) file → slice_get rest 0 ≡ Some e }
+    ensures not_damaged { (sizes : Sizes) (lane : ℕ) (entries : List (Key × Rec)) (file : List ℕ) → HasEntries sizes lane entries file
+        → IsDamaged sizes lane file → ⊥ }
+{}

@@ -3,11 +3,13 @@ ghost use Rattle.std.specs.Prelude.{◌≡◌, ◌<◌, ◌≤◌, ◌+◌, ◌-
 ghost use Rattle.blsm_model.specs.declared.key.Key.{Key};
 ghost use Rattle.blsm_model.specs.Geometry.{file_length};
 ghost use Rattle.disk_mem.specs.Recorded.{told};
+ghost use Rattle.disk_trait.specs.Reads.{OnlyReads};
 ghost use Rattle.record_delta.specs.declared.record.Rec.{Rec};
-ghost use Rattle.gated_log.specs.Lane.{region_length, HasEntries, IsDamaged};
+ghost use Rattle.blsm_model.specs.Lanes.{region_length};
+ghost use Rattle.gated_log.specs.Lane.{HasEntries, IsDamaged};
 
 use crate::region::{length_of, place_in_file};
-use crate::{LaneBroken, Lanes, Replay};
+use crate::{LaneBroken, Lanes, Replay, kept_lanes};
 use blsm_model::{Geometry, Key, Text, Value};
 use disk_mem::MemDisk;
 use disk_trait::Disk;
@@ -24,10 +26,9 @@ fn count<D: Disk>(disk: &mut D, geometry: &Geometry, lane: u8) -> Result<u64, La
         → (entries : List (Key × Rec)) × HasEntries geometry.now lane entries (D.state disk.old).bytes × (length entries ≡ n)) }
     ensures damaged { (place : ℕ) → result ≡ Err (LaneBroken.Damaged place) → IsTrue (D.state disk.old).is_honest
         → IsDamaged geometry.now lane (D.state disk.old).bytes }
-    ensures length { IsTrue (D.state disk.old).tells_bytes → length (D.state disk.new).bytes ≡ length (D.state disk.old).bytes }
 
     // An entry and its gate take 15 bytes at least, and the last gate one.
-    ensures calls { (D.state disk.new).clock ≤ (D.state disk.old).clock + (region_length geometry.now - 1) / 15 + 1 }
+    ensures effect { OnlyReads (file_length geometry.now) ((region_length geometry.now - 1) / 15 + 1) (D.state disk.old) (D.state disk.new) }
 {
     let _half = geometry.half();
     let mut replay = Replay::new(geometry, lane);
@@ -332,5 +333,6 @@ fn the_lanes_turn(rt: HostRuntime) -> Result<(), Fail> {
     lanes.turn();
     assert_eq!(rt; (lanes.a(), lanes.b(), lanes.spare()), (0, 1, 2));
     assert_eq!(rt; (lanes.end(0), lanes.end(1), lanes.end(2)), (32, 0, 17));
+    kept_lanes();
     Ok(())
 }

@@ -2,11 +2,11 @@
 //! Logs and catalogues whose entries must be there in whole or not at all write them by it.
 #![tactic(auto)]
 
-ghost use Rattle.std.specs.Prelude.{◌≡◌, ◌≤◌, ◌<◌, ◌+◌, ◌^◌, ℕ, List, ◌∷◌, length, IsTrue, IsErr, OnOk};
-ghost use Rattle.refusal.specs.Count.{HasRisen};
-ghost use Rattle.disk_trait.specs.Disk.{GoesOn, IsSure, WritesWithin, IsOldOutside, Only, overwritten};
-ghost use Rattle.disk_trait.specs.Moments.{LeavesOnly, SyncsLater};
-ghost use Rattle.gated_write.specs.Gated.{IsClosed, IsGated, open_byte};
+ghost use Rattle.std.specs.Prelude.{◌≤◌, ◌<◌, ◌+◌, ◌^◌, ◌∷◌, length, IsTrue, OnOk};
+ghost use Rattle.disk_trait.specs.Disk.{HasWritten, TellsFaults};
+ghost use Rattle.disk_trait.specs.Effects.{Affects};
+ghost use Rattle.disk_trait.specs.Region.{span};
+ghost use Rattle.gated_write.specs.Gated.{LeavesGated, open_byte};
 
 use disk_trait::Disk;
 use refusal::Failed;
@@ -14,23 +14,17 @@ use refusal::Failed;
 /// The value of an open gate. Any other byte is a closed one.
 pub const OPEN: u8 = 1;
 
-// Writes bytes over what is there, and makes them durable.
-fn write_through<D: Disk>(disk: &mut D, at: u64, bytes: &[u8]) -> Result<(), Failed>
+/// What is written for a closed gate.
+pub const CLOSED: u8 = 0;
+
+/// Writes bytes over what is there, from an offset on, and makes them durable, with all that was written before: a write and a
+/// sync. Whatever it answers, no byte outside their range changes, in no crash image of any moment.
+pub fn write_through<D: Disk>(disk: &mut D, at: u64, bytes: &[u8]) -> Result<(), Failed>
     requires offsets { at + length bytes.now < 2 ^ 64 }
     requires inside { IsTrue (D.state disk.old).tells_bytes → at ≤ length (D.state disk.old).bytes }
-    ensures outside { IsTrue (D.state disk.old).is_honest
-        → LeavesOnly (D.state disk.old) (D.state disk.new) (IsOldOutside at (length bytes.now) (D.state disk.old).images) }
-    ensures written { OnOk result (IsTrue (D.state disk.old).is_honest
-        → (D.state disk.new).bytes ≡ overwritten (D.state disk.old).bytes at bytes.now) }
-    ensures durable { OnOk result (IsTrue (D.state disk.old).is_honest → Only (D.state disk.new).bytes (D.state disk.new).images) }
-    ensures within { WritesWithin at (length bytes.now) (D.state disk.old) (D.state disk.new) }
-    ensures syncs { SyncsLater (D.state disk.old) (D.state disk.new) }
-    ensures sure { IsSure (at + length bytes.now) (D.state disk.old) (D.state disk.new) }
-    ensures goes_on { GoesOn (D.state disk.old) (D.state disk.new) }
-    ensures two_calls { (D.state disk.new).clock ≤ (D.state disk.old).clock + 2 }
-    ensures stands { OnOk result ((D.state disk.new).faults ≡ (D.state disk.old).faults) }
-    ensures failed { IsErr result → HasRisen (D.state disk.old).faults (D.state disk.new).faults }
-    ensures one_fault { (D.state disk.new).faults ≤ (D.state disk.old).faults + 1 }
+    ensures written { OnOk result (HasWritten at bytes.now (D.state disk.old) (D.state disk.new)) }
+    ensures effect { Affects (span at (length bytes.now)) (at + length bytes.now) 2 (D.state disk.old) (D.state disk.new) }
+    ensures faults { TellsFaults result (D.state disk.old) (D.state disk.new) }
 {
     disk.write(at, bytes)?;
     disk.sync()?;
@@ -46,23 +40,10 @@ fn write_through<D: Disk>(disk: &mut D, at: u64, bytes: &[u8]) -> Result<(), Fai
 pub fn write_gated<D: Disk>(disk: &mut D, at: u64, text: &[u8]) -> Result<(), Failed>
     requires offsets { at + 1 + length text.now < 2 ^ 64 }
     requires gate_inside { IsTrue (D.state disk.old).tells_bytes → at < length (D.state disk.old).bytes }
-    ensures each { IsTrue (D.state disk.old).is_honest → ((c : List ℕ) → (D.state disk.old).images c → IsClosed at c)
-        → LeavesOnly (D.state disk.old) (D.state disk.new) (IsGated (D.state disk.old).images at text.now) }
-    ensures outside { IsTrue (D.state disk.old).is_honest
-        → LeavesOnly (D.state disk.old) (D.state disk.new) (IsOldOutside at (1 + length text.now) (D.state disk.old).images) }
-    ensures reads { IsTrue (D.state disk.old).is_honest → IsClosed at (D.state disk.old).bytes
-        → IsGated (λ c. c ≡ (D.state disk.old).bytes) at text.now (D.state disk.new).bytes }
-    ensures written { OnOk result (IsTrue (D.state disk.old).is_honest
-        → (D.state disk.new).bytes ≡ overwritten (D.state disk.old).bytes at (open_byte ∷ text.now)) }
-    ensures durable { OnOk result (IsTrue (D.state disk.old).is_honest → Only (D.state disk.new).bytes (D.state disk.new).images) }
-    ensures within { WritesWithin at (1 + length text.now) (D.state disk.old) (D.state disk.new) }
-    ensures syncs { SyncsLater (D.state disk.old) (D.state disk.new) }
-    ensures sure { IsSure (at + 1 + length text.now) (D.state disk.old) (D.state disk.new) }
-    ensures goes_on { GoesOn (D.state disk.old) (D.state disk.new) }
-    ensures four_calls { (D.state disk.new).clock ≤ (D.state disk.old).clock + 4 }
-    ensures stands { OnOk result ((D.state disk.new).faults ≡ (D.state disk.old).faults) }
-    ensures failed { IsErr result → HasRisen (D.state disk.old).faults (D.state disk.new).faults }
-    ensures one_fault { (D.state disk.new).faults ≤ (D.state disk.old).faults + 1 }
+    ensures gated { IsTrue (D.state disk.old).is_honest → LeavesGated at text.now (D.state disk.old) (D.state disk.new) }
+    ensures written { OnOk result (HasWritten at (open_byte ∷ text.now) (D.state disk.old) (D.state disk.new)) }
+    ensures effect { Affects (span at (1 + length text.now)) (at + 1 + length text.now) 4 (D.state disk.old) (D.state disk.new) }
+    ensures faults { TellsFaults result (D.state disk.old) (D.state disk.new) }
 {
     write_through(disk, at + 1, text)?;
     write_through(disk, at, &[OPEN])?;

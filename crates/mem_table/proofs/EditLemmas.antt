@@ -19,7 +19,8 @@ use Rattle.record_delta.specs.declared.record.Rec.{Rec}
 use Rattle.record_delta.specs.Records.{weight, settled, write_of, IsRecord}
 use Rattle.record_delta.specs.Folding.{fold, over, kept_after}
 use Rattle.record_delta.proofs.FoldingLemmas.{weight-fold_le, key_of-write_of, stands_rec}
-use Rattle.mem_table.specs.Entries.{Entries, AreSorted, record_of_key, total_weight, with_record, StandFor}
+use Rattle.record_delta.specs.Entries.{Entries, AreSorted, record_of_key, entries_weight, with_record}
+use Rattle.mem_table.specs.Entries.{StandFor}
 use Rattle.mem_table.specs.Places.{IsAt, IsGapFor}
 use Rattle.mem_table.specs.Tables.{IsTable}
 use Rattle.mem_table.proofs.SortedLemmas.{put_at, put_apart}
@@ -58,29 +59,29 @@ keys_put (e ∷ es) key rec key_least keys =
 
 -- one record gives place to another
 pub total_at : (es : Entries) (key : Key) (rec : Rec) (i : ℕ) (d : Key × Rec) → AreSorted es → IsAt es key i
-    → total_weight (with_record key rec es) + weight key (get_or es i d).1 ≡ total_weight es + weight key (fold rec (get_or es i d).1)
+    → entries_weight (with_record key rec es) + weight key (get_or es i d).1 ≡ entries_weight es + weight key (fold rec (get_or es i d).1)
 total_at es key rec i d sorted at =
-    ap (λ l. total_weight l + weight key (get_or es i d).1) (with_record_at es key rec i d sorted at)
-    ∙ ap (λ k. total_weight (set es i (key, fold rec (get_or es i d).1)) + weight k (get_or es i d).1) (sym (at.has_key d))
+    ap (λ l. entries_weight l + weight key (get_or es i d).1) (with_record_at es key rec i d sorted at)
+    ∙ ap (λ k. entries_weight (set es i (key, fold rec (get_or es i d).1)) + weight k (get_or es i d).1) (sym (at.has_key d))
     ∙ sum_by-set (λ e. weight e.0 e.1) es i (key, fold rec (get_or es i d).1) d at.in_range
 
-pub total_apart : (es : Entries) (key : Key) (rec : Rec) (i : ℕ) → IsGapFor es key i → total_weight (with_record key rec es) ≡ total_weight es + weight key rec
-total_apart es key rec i gap = ap total_weight (with_record_apart es key rec i gap) ∙ sum_by-insert (λ e. weight e.0 e.1) es i (key, rec)
+pub total_apart : (es : Entries) (key : Key) (rec : Rec) (i : ℕ) → IsGapFor es key i → entries_weight (with_record key rec es) ≡ entries_weight es + weight key rec
+total_apart es key rec i gap = ap entries_weight (with_record_apart es key rec i gap) ∙ sum_by-insert (λ e. weight e.0 e.1) es i (key, rec)
 
 -- an entry weighs no more than all
-pub weight_at_le : (es : Entries) (key : Key) (i : ℕ) (d : Key × Rec) → IsAt es key i → weight key (get_or es i d).1 ≤ total_weight es
+pub weight_at_le : (es : Entries) (key : Key) (i : ℕ) (d : Key × Rec) → IsAt es key i → weight key (get_or es i d).1 ≤ entries_weight es
 weight_at_le es key i d at =
-    let all : total_weight (remove es i) + weight (get_or es i d).0 (get_or es i d).1 ≡ total_weight es = sum_by-remove (λ e. weight e.0 e.1) es i d at.in_range in
+    let all : entries_weight (remove es i) + weight (get_or es i d).0 (get_or es i d).1 ≡ entries_weight es = sum_by-remove (λ e. weight e.0 e.1) es i d at.in_range in
     let key_is : (get_or es i d).0 ≡ key = at.has_key d in
-    subst (λ (k : Key). weight k (get_or es i d).1 ≤ total_weight es) key_is (omega (arith, all))
+    subst (λ (k : Key). weight k (get_or es i d).1 ≤ entries_weight es) key_is (omega (arith, all))
 
 -- each entry weighs 14 at least
-pub least_total : (es : Entries) → AllByRecursion (λ e. 1 ≤ length e.0) es → 14 * length es ≤ total_weight es
+pub least_total : (es : Entries) → AllByRecursion (λ e. 1 ≤ length e.0) es → 14 * length es ≤ entries_weight es
 least_total [] keys = omega arith
 least_total (e ∷ es) keys = omega (arith, keys.0, least_total es keys.1, sum_by-cons (λ e. weight e.0 e.1) e es)
 
 -- wherever the key is, a folded record adds at most its own weight
-pub weight_more : (es : Entries) (key : Key) (rec : Rec) → AreSorted es → total_weight (with_record key rec es) ≤ total_weight es + weight key rec
+pub weight_more : (es : Entries) (key : Key) (rec : Rec) → AreSorted es → entries_weight (with_record key rec es) ≤ entries_weight es + weight key rec
 weight_more es key rec sorted =
     let none : Key × Rec = (key, rec) in
     elim (place_of es key (sorted_test es sorted)) [
@@ -145,12 +146,12 @@ set_at es key rec i d e folded sorted at e_is folded_is =
     ap (λ (k : Key). set es i (k, folded)) key_is ∙ ap (λ (r : Rec). set es i (key, r)) folded_is ∙ sym (with_record_at es key rec i d sorted at)
 
 pub table_at : (es : Entries) (kept reserved places : ℕ) (key : Key) (rec : Rec) (i : ℕ) (d : Key × Rec) (before after : ℕ)
-    → IsTable es kept reserved places → IsAt es key i → 1 ≤ length key → total_weight (with_record key rec es) ≤ reserved
+    → IsTable es kept reserved places → IsAt es key i → 1 ≤ length key → entries_weight (with_record key rec es) ≤ reserved
     → before ≡ weight key (get_or es i d).1 → after ≡ weight key (fold rec (get_or es i d).1)
     → IsTable (with_record key rec es) (kept - before + after) reserved places
 table_at es kept reserved places key rec i d before after t at key_least fits before_is after_is =
     let kept_is = t.weight_is in
-    let total : kept - before + after ≡ total_weight (with_record key rec es) =
+    let total : kept - before + after ≡ entries_weight (with_record key rec es) =
     omega (arith, total_at es key rec i d t.sorted at, weight_at_le es key i d at) in
     record {
       sorted = sorted_with_record es key rec t.sorted;
@@ -161,12 +162,12 @@ table_at es kept reserved places key rec i d before after t at key_least fits be
     }
 
 pub table_apart : (es : Entries) (kept reserved places more : ℕ) (key : Key) (rec : Rec) (i after : ℕ)
-    → IsTable es kept reserved places → IsGapFor es key i → 1 ≤ length key → total_weight (with_record key rec es) ≤ reserved
+    → IsTable es kept reserved places → IsGapFor es key i → 1 ≤ length key → entries_weight (with_record key rec es) ≤ reserved
     → after ≡ weight key rec → places ≤ more → IsTable (with_record key rec es) (kept + after) reserved more
 table_apart es kept reserved places more key rec i after t gap key_least fits after_is grown =
     let kept_is = t.weight_is in
     let room = t.room in
-    let total : kept + after ≡ total_weight (with_record key rec es) = omega (arith, total_apart es key rec i gap) in
+    let total : kept + after ≡ entries_weight (with_record key rec es) = omega (arith, total_apart es key rec i gap) in
     record {
       sorted = sorted_with_record es key rec t.sorted;
       weight_is = total;
@@ -177,7 +178,7 @@ table_apart es kept reserved places more key rec i after t gap key_least fits af
 
 -- where one more entry fits there is a place for it
 pub place_left : (es : Entries) (kept reserved places : ℕ) (key : Key) (rec : Rec) (i : ℕ) → IsTable es kept reserved places → IsGapFor es key i → 1 ≤ length key
-    → total_weight (with_record key rec es) ≤ reserved → length es < places
+    → entries_weight (with_record key rec es) ≤ reserved → length es < places
 place_left es kept reserved places key rec i t gap key_least fits =
     let room = t.room in
     omega (arith, total_apart es key rec i gap, least_total es t.keys)

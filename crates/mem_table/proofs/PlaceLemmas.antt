@@ -10,7 +10,7 @@ use Rattle.std.proofs.lemmas.List.Sorted.{searchable_from_sorted}
 use Rattle.blsm_model.specs.declared.key.Key.{Key}
 use Rattle.blsm_model.specs.Keys.{key_cmp}
 use Rattle.record_delta.specs.declared.record.Rec.{Rec}
-use Rattle.mem_table.specs.Entries.{Entries, AreSorted, record_of_key}
+use Rattle.record_delta.specs.Entries.{Entries, AreSorted, record_of_key}
 use Rattle.mem_table.specs.Places.{IsAt, IsGapFor}
 use Rattle.mem_table.proofs.SortedLemmas.{both_hold, turned, rising, find_at, Parts, find_apart}
 

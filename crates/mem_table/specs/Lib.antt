@@ -1,4 +1,3 @@
 pub mod Entries
 pub mod Tables
-pub mod Order
 pub mod Places

@@ -4,8 +4,7 @@ use Rattle.std.specs.List.{HoldsAt, AllWithin}
 use Rattle.std.specs.declared.cmp.Ordering.TheVariants.{Less, Greater}
 use Rattle.blsm_model.specs.declared.key.Key.{Key}
 use Rattle.blsm_model.specs.Keys.{key_cmp}
-use Rattle.mem_table.specs.Entries.{Entries}
-use Rattle.mem_table.specs.Order.{is_above}
+use Rattle.record_delta.specs.Entries.{Entries, is_above}
 
 -- the entry at this place has the key
 pub record IsAt (entries : Entries) (key : Key) (place : ℕ) : Type 0 where

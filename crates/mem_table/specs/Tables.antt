@@ -4,7 +4,7 @@ use Rattle.std.specs.List.{AllByRecursion}
 use Rattle.blsm_model.specs.Format.{least_weight}
 use Rattle.blsm_model.specs.declared.key.Key.{Key}
 use Rattle.record_delta.specs.declared.record.Rec.{Rec}
-use Rattle.mem_table.specs.Entries.{Entries, AreSorted, total_weight, with_record}
+use Rattle.record_delta.specs.Entries.{Entries, AreSorted, entries_weight, with_record}
 
 pub record Contents : Type 0 where
   pub entries : Entries
@@ -14,7 +14,7 @@ pub record Contents : Type 0 where
 -- what holds of a table that has this many places for entries, and keeps this weight of them
 pub record IsTable (entries : Entries) (weight reserved places : ℕ) : Type 0 where
   pub sorted : AreSorted entries
-  pub weight_is : weight ≡ total_weight entries
+  pub weight_is : weight ≡ entries_weight entries
   pub fits : weight ≤ reserved
   pub keys : AllByRecursion (λ e. 1 ≤ length e.0) entries
   -- so that there is a place for one entry more wherever its weight fits, since no key is empty

@@ -2,8 +2,10 @@
 //! Contracts see a sorted list of keys and records. Whoever owns the log uses it.
 #![tactic(auto)]
 
+mod above;
 mod table;
 
+pub use above::Above;
 pub use table::Table;
 
 #[cfg(test)]

@@ -1,13 +1,13 @@
 //! A sorted vector of keys and records.
-ghost use Rattle.std.specs.Prelude.{◌≡◌, ◌≢◌, ◌+◌, ◌≤◌, ◌<◌, [], ◌∷◌, ◌++◌, List, Some, IfOk, IfErr, IfSome, IfNone};
+ghost use Rattle.std.specs.Prelude.{◌≡◌, ◌≢◌, ◌+◌, ◌≤◌, ◌<◌, [], ◌∷◌, ◌++◌, List, Some, IfOk, IfErr};
 ghost use Rattle.blsm_model.specs.declared.key.Key.{Key};
 ghost use Rattle.blsm_model.specs.declared.op.Write.{Write};
 ghost use Rattle.record_delta.specs.declared.record.Rec.{Rec};
 ghost use Rattle.record_delta.specs.Records.{write_of, IsRecord, weight as weight_with};
 ghost use Rattle.record_delta.specs.Folding.{over};
-ghost use Rattle.mem_table.specs.Entries.{AreSorted, total_weight, record_of_key, with_record, StandFor};
+ghost use Rattle.record_delta.specs.Entries.{AreSorted, entries_weight, record_of_key, with_record, above, first_of};
+ghost use Rattle.mem_table.specs.Entries.{StandFor};
 ghost use Rattle.mem_table.specs.Tables.{IsFoldedIn};
-ghost use Rattle.mem_table.specs.Order.{IsLeastAbove, NoneAbove};
 ghost use Rattle.mem_table.specs.Places.{IsAt, IsGapFor, IsSplit};
 
 use blsm_model::{Key, Op};
@@ -62,11 +62,11 @@ impl Table {
 
     /// The weight of all entries, in bytes.
     pub fn weight(&self) -> u64
-        ensures weight { result ≡ total_weight self.now.entries }
+        ensures weight { result ≡ entries_weight self.now.entries }
         ensures fits { result ≤ self.now.reserved }
         ensures sorted { AreSorted self.now.entries }
         // To fold a record in adds at most its weight.
-        ensures more { (key : Key) (rec : Rec) → total_weight (with_record key rec self.now.entries) ≤ result + weight_with key rec }
+        ensures more { (key : Key) (rec : Rec) → entries_weight (with_record key rec self.now.entries) ≤ result + weight_with key rec }
     {
         self.weight
     }
@@ -84,12 +84,12 @@ impl Table {
     /// Folds a record over the one of its key, or adds it where the key is new. All other keys keep their records. The
     /// table may then weigh at most what was reserved. It takes no memory.
     pub fn fold_in(&mut self, key: &Key, rec: &Rec)
-        requires { total_weight (with_record key.now rec.now self.old.entries) ≤ self.old.reserved }
+        requires { entries_weight (with_record key.now rec.now self.old.entries) ≤ self.old.reserved }
         ensures entries { self.new.entries ≡ with_record key.now rec.now self.old.entries }
         ensures this { record_of_key key.now self.new.entries ≡ Some (over rec.now (record_of_key key.now self.old.entries)) }
         ensures others { (other : Key) → other ≢ key.now → record_of_key other self.new.entries ≡ record_of_key other self.old.entries }
         ensures reserved { self.new.reserved ≡ self.old.reserved }
-        ensures weight { total_weight self.new.entries ≤ total_weight self.old.entries + weight_with key.now rec.now }
+        ensures weight { entries_weight self.new.entries ≤ entries_weight self.old.entries + weight_with key.now rec.now }
         // Where the entries stood for writes, they stand for those and this record's.
         ensures stands { (writes : List Write) → StandFor self.old.entries writes → StandFor self.new.entries (writes ++ write_of key.now rec.now ∷ []) }
     {
@@ -102,7 +102,7 @@ impl Table {
     // Folds a record over the one at a place.
     fn fold_at(&mut self, at: usize, key: &Key, rec: &Rec)
         requires at { IsAt self.old.entries key.now at }
-        requires fits { total_weight (with_record key.now rec.now self.old.entries) ≤ self.old.reserved }
+        requires fits { entries_weight (with_record key.now rec.now self.old.entries) ≤ self.old.reserved }
         ensures folded { IsFoldedIn key.now rec.now self.old self.new }
         ensures in_range { IsRecord rec.now }
     {
@@ -116,7 +116,7 @@ impl Table {
     // Adds an entry at a place.
     fn add_at(&mut self, at: usize, key: &Key, rec: &Rec)
         requires at { IsGapFor self.old.entries key.now at }
-        requires fits { total_weight (with_record key.now rec.now self.old.entries) ≤ self.old.reserved }
+        requires fits { entries_weight (with_record key.now rec.now self.old.entries) ≤ self.old.reserved }
         ensures folded { IsFoldedIn key.now rec.now self.old self.new }
         ensures in_range { IsRecord rec.now }
     {
@@ -129,8 +129,7 @@ impl Table {
 
     /// The entry of the least key above this one, or of the least key where this is `None`.
     pub fn least_above(&self, key: Option<Key>) -> Option<(Key, Rec)>
-        ensures least { IfSome result (λ e. IsLeastAbove key self.now.entries e.0 e.1) }
-        ensures none { IfNone result (NoneAbove key self.now.entries) }
+        ensures { result ≡ first_of (above key self.now.entries) }
     {
         let at = self.first_above(&key);
         let (key, rec) = self.entries.get(at)?;

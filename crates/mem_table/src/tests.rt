@@ -2,7 +2,7 @@ ghost use Rattle.std.specs.Prelude.{◌≡◌, ◌<◌};
 
 use super::*;
 use blsm_model::{Key, Text, Value, Write, value_of};
-use record_delta::{Rec, fold_writes, settle, weight};
+use record_delta::{Rec, Stream, fold_writes, settle, weight};
 use std::process::Abort;
 use std::test::Fail;
 
@@ -136,5 +136,34 @@ fn three_keys_in_order(rt: HostRuntime) -> Result<(), Fail> {
     assert!(rt; table.least_above(None).is_none());
     fold_in(&rt, &mut table, &key(b"b")?, &Rec::Delta(1));
     assert_eq!(rt; table.get(&key(b"b")?), Some(Rec::Delta(1)));
+    Ok(())
+}
+
+fn head_of<S: Stream>(run: &S) -> Option<(Key, Rec)>
+    ensures { result ≡ S.at run.now }
+{
+    run.head()
+}
+
+#[test]
+fn a_table_from_a_key_on(rt: HostRuntime) -> Result<(), Fail> {
+    let mut table = Table::reserve(rt.alloc(), RESERVED)?;
+    fold_in(&rt, &mut table, &key(b"b")?, &Rec::Tomb);
+    fold_in(&rt, &mut table, &key(b"a")?, &Rec::Delta(7));
+    let all = Above {
+        table: &table,
+        key: None,
+    };
+    assert_eq!(rt; head_of(&all), Some((key(b"a")?, Rec::Delta(7))));
+    let behind = Above {
+        table: &table,
+        key: Some(key(b"a")?),
+    };
+    assert_eq!(rt; head_of(&behind), Some((key(b"b")?, Rec::Tomb)));
+    let none = Above {
+        table: &table,
+        key: Some(key(b"b")?),
+    };
+    assert!(rt; head_of(&none).is_none());
     Ok(())
 }

@@ -5,7 +5,12 @@ use Rattle.std.specs.List.Sorted.{IsStrictlySortedBy}
 use Rattle.std.specs.Ordering.{is_lt}
 use Rattle.std.proofs.lemmas.Bool.{false≢true}
 use Rattle.std.proofs.lemmas.List.Elements.{All-nil, All-cons}
-use Rattle.page_file.specs.Entry.{PageEntry, IsPageEntry, entry_head, entry_bytes, AreRising}
+use Rattle.blsm_model.specs.declared.key.Key.{Key}
+use Rattle.record_delta.specs.declared.record.Rec.{Rec}
+use Rattle.record_delta.specs.declared.record.Rec.TheVariants.{Base, Delta}
+use Rattle.record_delta.specs.Entries.{Entries}
+use Rattle.entry_codec.specs.Spelling.{head, spelling}
+use Rattle.page_file.specs.Entry.{IsPageEntry, AreRising}
 use Rattle.blsm_model.specs.declared.component.Component.{Component}
 use Rattle.blsm_model.specs.Sizes.{Sizes}
 use Rattle.page_file.specs.Page.{page_head, page_bytes, IsContent, IsPageOf, IsPage}
@@ -13,35 +18,26 @@ use Rattle.page_file.specs.File.{page_at}
 use Rattle.page_file.specs.Component.{RunPage, ReadsAs}
 
 -- x, a base of count 100 and text "old"
-base_x : PageEntry
-base_x = record { kind = 1; key = codes "x"; text = codes "old"; count = 100 }
+base_x : Key × Rec
+base_x = (codes "x", Base (record { count = 100; text = codes "old" }))
 
 -- the page of this entry alone: 1 entry in 17 bytes, no next page
 page_of_x : take 26 (page_bytes None (base_x ∷ [])) ≡ 0 ∷ 1 ∷ 0 ∷ 0x11 ∷ 0xff ∷ 0xff ∷ 0xff ∷ 0xff
     ∷ 1 ∷ 0 ∷ 1 ∷ 0 ∷ 3 ∷ 0 ∷ 0 ∷ 0 ∷ 0 ∷ 0 ∷ 0 ∷ 0 ∷ 0x64 ∷ 0x78 ∷ 0x6f ∷ 0x6c ∷ 0x64 ∷ 0 ∷ []
-unfolding page_bytes page_head entry_bytes entry_head base_x
+unfolding page_bytes page_head spelling head base_x
 page_of_x = refl
 
 page_of_x_long : length (page_bytes None (base_x ∷ [])) ≡ 4096
-unfolding page_bytes page_head entry_bytes entry_head base_x
+unfolding page_bytes page_head spelling head base_x
 page_of_x_long = refl
 
 is_entry_x : IsPageEntry base_x
 unfolding base_x
-is_entry_x = record {
-  kind_least = lit≤ tt;
-  kind_most = lit≤ tt;
-  key_least = lit≤ tt;
-  key_most = lit≤ tt;
-  text_most = lit≤ tt;
-  bare = λ other. absurd (other refl);
-  uncounted = λ tomb. absurd (omega (arith, tomb));
-  count_fits = lit< tt;
-}
+is_entry_x = record { key_least = lit≤ tt; key_most = lit≤ tt; in_range = record { count_fits = lit< tt; text_fits = lit≤ tt } }
 
 -- it is valid
 page_x : IsPageOf 798 None (base_x ∷ []) (page_bytes None (base_x ∷ []))
-unfolding entry_bytes entry_head base_x IsStrictlySortedBy
+unfolding spelling head base_x IsStrictlySortedBy
 page_x = record {
   content = record {
     head = record { some = lit≤ tt; fits = lit≤ tt; next_is = tt; full = λ none. absurd (false≢true none) };
@@ -56,16 +52,12 @@ valid_x = (None, base_x ∷ [], page_x)
 
 -- but with a next page it is not full enough
 not_full_x : (next : ℕ) → IsContent 798 (Some next) (base_x ∷ []) → ⊥
-unfolding entry_bytes entry_head base_x
+unfolding spelling head base_x
 not_full_x next content = let full : 3577 ≤ 17 = content.head.full refl in omega (arith, full)
 
--- nor is it a page whose entry is a delta, since that has no text
-delta_with_text : (key : List ℕ) → IsPageEntry (record { kind = 2; key = key; text = codes "old"; count = 100 }) → ⊥
-delta_with_text key entry = let none : 3 ≡ 0 = entry.bare (λ base. omega (arith, base)) in omega (arith, none)
-
 -- keys that fall, and keys that are the same, don't rise
-named : List ℕ → PageEntry
-named key = record { kind = 2; key = key; text = []; count = 1 }
+named : List ℕ → Key × Rec
+named key = (key, Delta 1)
 
 rising : AreRising (named (codes "a") ∷ named (codes "aa") ∷ named (codes "b") ∷ [])
 unfolding named IsStrictlySortedBy
@@ -111,6 +103,6 @@ twice_x : (component : Component) (file : List ℕ) → ReadsAs smallest compone
 unfolding base_x IsStrictlySortedBy
 twice_x component file reads = false≢true (ap is_lt reads.rise.0.0)
 
-again_x : (component : Component) (es fs : List PageEntry) (file : List ℕ) → ReadsAs smallest component (record { number = 0; entries = es } ∷ record { number = 0; entries = fs } ∷ []) file → ⊥
+again_x : (component : Component) (es fs : Entries) (file : List ℕ) → ReadsAs smallest component (record { number = 0; entries = es } ∷ record { number = 0; entries = fs } ∷ []) file → ⊥
 unfolding IsDistinct
 again_x component es fs file reads = false≢true (sym reads.apart.0.0)

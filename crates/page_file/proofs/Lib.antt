@@ -2,4 +2,4 @@ mod Examples
 pub mod EntryLemmas
 pub mod PageLemmas
 pub mod ComponentLemmas
-pub mod RecordLemmas
+pub mod OrderLemmas

@@ -1,19 +1,24 @@
 -- Pages as bytes: what is read of one, and that bytes are one page at most.
 use Rattle.std.proofs.Common.{◌≡◌, ◌≢◌, ◌↔◌, inl, inr, ℕ, ◌+◌, ◌*◌, ◌-◌, ◌^◌, ◌<◌, ◌≤◌, List, [], ◌∷◌, ◌++◌, length, take, drop, Option, Some, None, refl, ap, sym, subst, ◌∙◌, append_assoc, length-append, arith}
+use Rattle.record_delta.specs.declared.record.Rec.{Rec}
+use Rattle.blsm_model.specs.declared.key.Key.{Key}
+use Rattle.record_delta.specs.Entries.{Entries}
 use Rattle.std.specs.Prelude.{IfSome, replicate}
 use Rattle.std.specs.Int.{w32, w16, to_be_bytes, from_be_bytes}
 use Rattle.std.proofs.lemmas.Bool.{cases_lt}
 use Rattle.std.proofs.lemmas.List.{take_at, drop_at, take-append-drop, length-replicate}
 use Rattle.std.proofs.lemmas.Nat.{from_be_bytes-to_be_bytes_4}
-use Rattle.disk_trait.specs.Disk.{Torn, part, overwritten}
-use Rattle.disk_trait.specs.Parts.{torn_below, torn_above, part-overwritten}
+use Rattle.disk_trait.specs.Disk.{part, overwritten}
+use Rattle.disk_trait.specs.Parts.{part-overwritten}
+use Rattle.disk_trait.specs.Region.{span, outside, AreApart, IsSameOutside, part_apart, same_wider}
 use Rattle.blsm_model.specs.Format.{page_length}
 use Rattle.blsm_model.specs.Sizes.{Sizes, IsGeometry}
 use Rattle.blsm_model.specs.Geometry.{page_count}
 use Rattle.blsm_model.proofs.GeometryLemmas.{by_half, by_ratio}
-use Rattle.page_file.specs.File.{page_start, page_at}
-use Rattle.page_file.specs.Entry.{PageEntry, entry_bytes, entries_bytes, AreEntriesIn, AreInBytes}
-use Rattle.page_file.specs.Page.{most_used, no_page, page_number, used_by, page_head, IsHead, page_bytes, IsContent, IsPageOf, IsPage}
+use Rattle.page_file.specs.File.{page_start, page_region, pages_region, AreSamePages}
+use Rattle.page_file.specs.Entry.{entry_bytes, entries_bytes, AreEntriesIn, AreInBytes}
+use Rattle.blsm_model.specs.Components.{no_page}
+use Rattle.page_file.specs.Page.{most_used, page_number, used_by, page_head, IsHead, page_bytes, IsContent, IsPageOf, IsPage}
 use Rattle.page_file.proofs.EntryLemmas.{entries_bytes-append, few_entries, front_same, same16, entries_same, rise_from_none, rise_of_page}
 
 -- ---- the head
@@ -78,11 +83,11 @@ head_same count used count' used' next next' x y c c' u u' n n' same =
 -- ---- a page
 
 -- the head, and then the entries and the zeros
-pub spelled : (next : Option ℕ) (es : List PageEntry) → page_bytes next es ≡ page_head (length es) (used_by es) next ++ (entries_bytes es ++ replicate (most_used - used_by es) 0)
+pub spelled : (next : Option ℕ) (es : Entries) → page_bytes next es ≡ page_head (length es) (used_by es) next ++ (entries_bytes es ++ replicate (most_used - used_by es) 0)
 unfolding page_bytes
 spelled next es = append_assoc (page_head (length es) (used_by es) next) (entries_bytes es) (replicate (most_used - used_by es) 0)
 
-pub length-page_bytes : (next : Option ℕ) (es : List PageEntry) → used_by es ≤ most_used → length (page_bytes next es) ≡ page_length
+pub length-page_bytes : (next : Option ℕ) (es : Entries) → used_by es ≤ most_used → length (page_bytes next es) ≡ page_length
 length-page_bytes next es fits =
     let zeros : List ℕ = replicate (most_used - used_by es) 0 in
     ap (length {A = ℕ}) (spelled next es)
@@ -96,11 +101,11 @@ length-page_bytes next es fits =
     )
 
 -- what a page may have, it has
-pub made : (pages : ℕ) (next : Option ℕ) (es : List PageEntry) → IsContent pages next es → IsPage pages (page_bytes next es) × (length (page_bytes next es) ≡ page_length)
+pub made : (pages : ℕ) (next : Option ℕ) (es : Entries) → IsContent pages next es → IsPage pages (page_bytes next es) × (length (page_bytes next es) ≡ page_length)
 made pages next es content = ((next, es, record { content = content; spelled = refl }), length-page_bytes next es content.head.fits)
 
 -- the head that is read of a page is its own
-pub head_of_page : (pages count used : ℕ) (next m : Option ℕ) (es : List PageEntry) (page rest : List ℕ) → pages ≤ no_page → count < 2 ^ 16 → used < 2 ^ 16 → IsNumber next
+pub head_of_page : (pages count used : ℕ) (next m : Option ℕ) (es : Entries) (page rest : List ℕ) → pages ≤ no_page → count < 2 ^ 16 → used < 2 ^ 16 → IsNumber next
     → page ≡ page_head count used next ++ rest → IsPageOf pages m es page
     → SameHead (length es) (used_by es) count used m next (entries_bytes es ++ replicate (most_used - used_by es) 0) rest
 head_of_page pages count used next m es page rest few c u n read of =
@@ -160,7 +165,7 @@ page_parts pages count used next page body tail few c u n long read body_is tail
 )
 
 -- bytes are one page at most
-pub page_same : (pages : ℕ) (m n : Option ℕ) (es fs : List PageEntry) (page : List ℕ) → pages ≤ no_page → IsPageOf pages m es page → IsPageOf pages n fs page → (m ≡ n) × (es ≡ fs)
+pub page_same : (pages : ℕ) (m n : Option ℕ) (es fs : Entries) (page : List ℕ) → pages ≤ no_page → IsPageOf pages m es page → IsPageOf pages n fs page → (m ≡ n) × (es ≡ fs)
 page_same pages m n es fs page few of other =
     let c = of.content in
     let d = other.content in
@@ -170,7 +175,7 @@ page_same pages m n es fs page few of other =
     (heads.next_is, (entries_same es fs _ _ c.each d.each heads.count_is heads.rest_is).0)
 
 -- an entry stands behind those before it
-pub entry_at : (pages : ℕ) (next : Option ℕ) (before after : List PageEntry) (entry : PageEntry) (page : List ℕ) → IsPageOf pages next (before ++ entry ∷ after) page
+pub entry_at : (pages : ℕ) (next : Option ℕ) (before after : Entries) (entry : Key × Rec) (page : List ℕ) → IsPageOf pages next (before ++ entry ∷ after) page
     → (rest : List ℕ) × (drop (8 + used_by before) page ≡ entry_bytes entry ++ rest)
 entry_at pages next before after entry page of =
     let es = before ++ entry ∷ after in
@@ -194,13 +199,26 @@ pub written_reads : (start : ℕ) (old new bytes : List ℕ) → length bytes �
 written_reads start old new bytes long inside is =
     ap (λ (l : List ℕ). part l start page_length) is ∙ ap (λ n. part (overwritten old start bytes) start n) (sym long) ∙ part-overwritten old start bytes (omega (arith, inside))
 
--- another page than the one that was written
-pub other_page : (sizes : Sizes) (m n : ℕ) (old new : List ℕ) → Torn (page_start sizes n) page_length old new → m ≢ n → page_at sizes m new ≡ page_at sizes m old
-other_page sizes m n old new torn other =
+-- two pages are apart
+pub others_apart : (sizes : Sizes) (m n : ℕ) → m ≢ n → AreApart (page_region sizes m) (page_region sizes n)
+others_apart sizes m n other i one two =
     elim (cases_lt m n) [
-      | inl lt ↦ torn_below (page_start sizes n) page_length (page_start sizes m) page_length old new torn (omega (arith, lt))
-      | inr le ↦ torn_above (page_start sizes n) page_length (page_start sizes m) page_length old new torn (omega (arith, le, other))
+      | inl lt ↦ omega (arith, lt, one.1, two.0)
+      | inr le ↦ omega (arith, le, other, one.0, two.1)
     ]
+
+-- and the pages from what ends before them
+pub before_apart : (sizes : Sizes) (n at len : ℕ) → at + len ≤ page_start sizes 0 → AreApart (page_region sizes n) (span at len)
+before_apart sizes n at len ends i page before = omega (arith, ends, page.0, before.1)
+
+-- pages of which no byte changed read the same
+pub same_pages : (sizes : Sizes) (numbers : List ℕ) (old new : List ℕ) → IsSameOutside (outside (pages_region sizes numbers)) old new → AreSamePages sizes numbers old new
+same_pages sizes numbers old new same n has = part_apart (page_start sizes n) page_length (λ i changed inside. changed (n, has, inside)) same
+
+-- a change before the first page leaves them alone
+pub pages_behind : (sizes : Sizes) (numbers : List ℕ) (at len : ℕ) (old new : List ℕ) → at + len ≤ page_start sizes 0 → IsSameOutside (span at len) old new → AreSamePages sizes numbers old new
+pages_behind sizes numbers at len old new ends same =
+    same_pages sizes numbers old new (same_wider (λ i inside page. before_apart sizes page.0 at len ends i page.2 inside) same)
 
 -- ---- how many pages there are
 

@@ -1,50 +1,42 @@
 -- A component: a sorted run of entries on pages, each of which names the next one.
-use Rattle.std.specs.Prelude.{◌≡◌, ℕ, ◌+◌, ◌<◌, List, [], ◌∷◌, ◌++◌, length, map, sum_by, nat_eq, Option, Some, None, ⊤}
+use Rattle.std.specs.Prelude.{◌≡◌, ℕ, ◌<◌, List, [], ◌∷◌, ◌++◌, length, map, nat_eq, Option, Some, None, ⊤}
 use Rattle.std.specs.List.{IsDistinct}
 use Rattle.blsm_model.specs.declared.component.Component.{Component}
 use Rattle.blsm_model.specs.Sizes.{Sizes}
 use Rattle.blsm_model.specs.Geometry.{page_count}
-use Rattle.blsm_model.specs.Format.{overhead}
-use Rattle.page_file.specs.Entry.{PageEntry, AreRising}
-use Rattle.page_file.specs.Page.{no_page, page_number, IsPageOf}
+use Rattle.record_delta.specs.Entries.{Entries, entries_weight}
+use Rattle.page_file.specs.Entry.{AreRising}
+use Rattle.page_file.specs.Page.{page_number, IsPageOf}
 use Rattle.page_file.specs.File.{page_at}
 
 -- a page of a run: its number, and its entries
 pub record RunPage : Type 0 where
   pub number : ℕ
-  pub entries : List PageEntry
+  pub entries : Entries
 
 abbrev pub numbers_of : List RunPage → List ℕ
 numbers_of pages = map (λ p. p.number) pages
 
 -- one page's behind another's
-abbrev pub entries_of : List RunPage → List PageEntry
+abbrev pub entries_of : List RunPage → Entries
 entries_of [] = []
 entries_of (p ∷ ps) = p.entries ++ entries_of ps
 
--- in bytes
-abbrev pub entry_weight : PageEntry → ℕ
-entry_weight entry = overhead + length entry.key + length entry.text
-
--- the weights together, in bytes
-abbrev pub weight_of : List PageEntry → ℕ
-weight_of entries = sum_by entry_weight entries
-
 -- the number of the first page; where there are no pages, the one that comes behind them
-abbrev pub first_of : List RunPage → Option ℕ → Option ℕ
-first_of [] end = end
-first_of (p ∷ ps) end = Some p.number
+abbrev pub first_number : List RunPage → Option ℕ → Option ℕ
+first_number [] end = end
+first_number (p ∷ ps) end = Some p.number
 
 -- In this file these are valid pages with these entries. Each one's next page is the one behind it, and the last one's this.
 abbrev pub AreChained : Sizes → List RunPage → Option ℕ → List ℕ → Type 0
 AreChained sizes [] end file = ⊤
 AreChained sizes (p ∷ ps) end file =
-    (p.number < page_count sizes) × IsPageOf (page_count sizes) (first_of ps end) p.entries (page_at sizes p.number file) × AreChained sizes ps end file
+    (p.number < page_count sizes) × IsPageOf (page_count sizes) (first_number ps end) p.entries (page_at sizes p.number file) × AreChained sizes ps end file
 
 -- In this file the component reads as the entries of these pages.
 pub record ReadsAs (sizes : Sizes) (component : Component) (pages : List RunPage) (file : List ℕ) : Type 0 where
   -- from the first page on only the last has no next one
-  pub first_is : page_number (first_of pages None) ≡ component.first
+  pub first_is : page_number (first_number pages None) ≡ component.first
   pub chained : AreChained sizes pages None file
   -- the keys strictly rise, over the page ends too
   pub rise : AreRising (entries_of pages)
@@ -53,8 +45,10 @@ pub record ReadsAs (sizes : Sizes) (component : Component) (pages : List RunPage
   -- the numbers are those of the pages
   pub pages_is : length pages ≡ component.pages
   pub entries_is : length (entries_of pages) ≡ component.entries
-  pub weight_is : weight_of (entries_of pages) ≡ component.weight
+  pub weight_is : entries_weight (entries_of pages) ≡ component.weight
 
--- the component without entries
-abbrev pub empty_component : Component
-empty_component = record { first = no_page; pages = 0; entries = 0; weight = 0 }
+-- In this file the component reads as this list of keys with their records.
+pub record HasList (sizes : Sizes) (component : Component) (entries : Entries) (file : List ℕ) : Type 0 where
+  pub pages : List RunPage
+  pub reads : ReadsAs sizes component pages file
+  pub entries_are : entries_of pages ≡ entries

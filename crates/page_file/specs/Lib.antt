@@ -2,4 +2,3 @@ pub mod Entry
 pub mod Page
 pub mod File
 pub mod Component
-pub mod Records

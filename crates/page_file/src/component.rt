@@ -5,7 +5,8 @@
 //! those of the pages together; and no page is met twice.
 ghost use Rattle.std.specs.Prelude.{◌≡◌, ℕ, List, []};
 ghost use Rattle.blsm_model.specs.Sizes.{Sizes};
-ghost use Rattle.page_file.specs.Component.{empty_component, ReadsAs};
+ghost use Rattle.blsm_model.specs.Components.{empty_component};
+ghost use Rattle.page_file.specs.Component.{ReadsAs};
 
 use crate::page::number_of;
 use blsm_model::Component;

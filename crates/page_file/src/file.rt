@@ -1,11 +1,8 @@
 //! Reading and writing a page of a store's file.
-ghost use Rattle.std.specs.Prelude.{◌≡◌, ◌≢◌, ◌+◌, ◌≤◌, ◌<◌, ◌^◌, length, Err, IsTrue, IsErr, OnOk};
-ghost use Rattle.refusal.specs.Count.{HasRisen};
-ghost use Rattle.disk_trait.specs.Disk.{Passes, MarksSync, ChangesNothing, WritesWithin, IsSure, overwritten};
-ghost use Rattle.disk_trait.specs.Moments.{LeavesOnly};
+ghost use Rattle.std.specs.Prelude.{◌≡◌, ◌≢◌, ◌+◌, ◌≤◌, ◌<◌, ◌^◌, length, Err, IsTrue, OnOk};
 ghost use Rattle.blsm_model.specs.Format.{page_length};
 ghost use Rattle.blsm_model.specs.Geometry.{page_count, file_length};
-ghost use Rattle.page_file.specs.File.{page_start, page_at, TellsPage, HasReadCause, IsOldOutside};
+ghost use Rattle.page_file.specs.File.{page_start, page_at, page_region, TellsPage, Reads, Writes};
 
 use crate::page::{PAGE_LEN, is_page};
 use blsm_model::Geometry;
@@ -51,7 +48,7 @@ fn place_of(geo: &Geometry, n: u32) -> u64
     FILE_HEAD_LEN + LANE_HALVES * geo.half() + PAGE_LEN as u64 * u64::from(n)
 }
 
-/// Reads page n into a buffer and tells whether it is valid. The disk is read once, and no memory is taken.
+/// Reads page n into a buffer and tells whether it is valid. The disk is read once at most, and no memory is taken.
 ///
 /// After `Ok` the buffer has the page as it reads. `Damaged(n)` comes exactly where the bytes aren't a valid page; the buffer has
 /// them then too. After `Fault`, which comes only where the disk's count of faults rose, it may have any bytes. No answer
@@ -68,16 +65,8 @@ pub fn read_page<D: Disk>(
     // Whatever the disk is, the answer is what the bytes in the buffer say; and they are those that the disk reads as.
     ensures answer { TellsPage (page_count geo.now) n into.new result }
     ensures bytes { result ≢ Err Broken.Fault → IsTrue (D.state disk.old).tells_bytes → into.new ≡ page_at geo.now n (D.state disk.new).bytes }
-    ensures tells { IsTrue (D.state disk.old).is_honest → TellsPage (page_count geo.now) n (page_at geo.now n (D.state disk.old).bytes) result }
-
-    // One call of the disk, which reads.
-    ensures cause { HasReadCause (D.state disk.old) (D.state disk.new) result }
-    ensures passes { Passes (D.state disk.old) (D.state disk.new) }
-    ensures no_sync { MarksSync ⊥ (D.state disk.old) (D.state disk.new) }
-    ensures same { ChangesNothing (D.state disk.old) (D.state disk.new) }
-    ensures each { IsTrue (D.state disk.old).is_honest → LeavesOnly (D.state disk.old) (D.state disk.new) (D.state disk.old).images }
-    ensures length { IsTrue (D.state disk.old).tells_bytes → length (D.state disk.new).bytes ≡ file_length geo.now }
-    ensures sure { IsSure (file_length geo.now) (D.state disk.old) (D.state disk.new) }
+    // One call of the disk at most, which reads.
+    ensures reads { Reads (file_length geo.now) 1 result (D.state disk.old) (D.state disk.new) }
 {
     disk.read(place_of(geo, n), into)?;
     if is_page(into, geo.pages()) {
@@ -87,7 +76,7 @@ pub fn read_page<D: Disk>(
     }
 }
 
-/// Writes page n. The disk is written once, and no memory is taken.
+/// Writes page n. The disk is written once at most, and no memory is taken.
 ///
 /// After `Ok` the page reads so. Whatever is answered, no other byte changes, and a crash leaves a file that is, outside the page,
 /// one from before; of the page itself it may leave any bytes until a sync. A failure comes only where the disk's count of
@@ -102,20 +91,8 @@ pub fn write_page<D: Disk>(
     requires length { IsTrue (D.state disk.old).tells_bytes → length (D.state disk.old).bytes ≡ file_length geo.now }
 
     ensures reads { OnOk result (IsTrue (D.state disk.old).is_honest → page_at geo.now n (D.state disk.new).bytes ≡ bytes.now) }
-    ensures written { OnOk result (IsTrue (D.state disk.old).is_honest
-        → (D.state disk.new).bytes ≡ overwritten (D.state disk.old).bytes (page_start geo.now n) bytes.now) }
-
-    // No byte outside the page changes, in no image of any moment.
-    ensures within { WritesWithin (page_start geo.now n) page_length (D.state disk.old) (D.state disk.new) }
-    ensures each { IsTrue (D.state disk.old).is_honest
-        → LeavesOnly (D.state disk.old) (D.state disk.new) (IsOldOutside geo.now n (D.state disk.old).images) }
-
-    ensures passes { Passes (D.state disk.old) (D.state disk.new) }
-    ensures no_sync { MarksSync ⊥ (D.state disk.old) (D.state disk.new) }
-    ensures length { IsTrue (D.state disk.old).tells_bytes → length (D.state disk.new).bytes ≡ file_length geo.now }
-    ensures sure { IsSure (file_length geo.now) (D.state disk.old) (D.state disk.new) }
-    ensures stands { OnOk result ((D.state disk.new).faults ≡ (D.state disk.old).faults) }
-    ensures failed { IsErr result → HasRisen (D.state disk.old).faults (D.state disk.new).faults }
+    // One call of the disk at most. No byte outside the page changes, in no image of any moment.
+    ensures writes { Writes (page_region geo.now n) (file_length geo.now) result (D.state disk.old) (D.state disk.new) }
 {
     disk.write(place_of(geo, n), bytes)
 }

@@ -12,8 +12,7 @@ mod page;
 pub use component::no_component;
 pub use file::{Broken, read_page, write_page};
 pub use laws::{
-    chains, one_component, one_page, other_components, other_pages, records_of_pages,
-    where_entries_stand,
+    chains, one_component, one_order, one_page, pages_are_apart, what_stays, where_entries_stand,
 };
 pub use page::{LEAST_FULL, MOST_USED, PAGE_HEAD_LEN, PAGE_LEN, PageHead, number_of};
 

@@ -1,6 +1,6 @@
 // Numbers among bytes, with their highest byte first.
 ghost use Rattle.std.specs.Prelude.{◌≡◌, ◌+◌, ◌≤◌, length};
-ghost use Rattle.std.specs.Int.{w16, w32, w64, to_be_bytes};
+ghost use Rattle.std.specs.Int.{w16, w32, to_be_bytes};
 ghost use Rattle.disk_trait.specs.Disk.{part};
 
 // The number of two bytes at a place.
@@ -21,14 +21,4 @@ pub fn u32_at(bytes: &[u8], at: usize) -> u32
     let mut number = [0; 4];
     number.copy_from_slice(&bytes[at..at + 4]);
     u32::from_be_bytes(number)
-}
-
-// The number of eight bytes at a place.
-pub fn u64_at(bytes: &[u8], at: usize) -> u64
-    requires { at + 8 ≤ length bytes.now }
-    ensures { part bytes.now at 8 ≡ to_be_bytes w64 result }
-{
-    let mut number = [0; 8];
-    number.copy_from_slice(&bytes[at..at + 8]);
-    u64::from_be_bytes(number)
 }

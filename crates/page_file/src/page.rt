@@ -9,9 +9,10 @@
 //! | 8 + used | zeros |
 //!
 //! A page that has a next one has at least 3,577 bytes of entries: behind fewer the longest entry would have fitted.
-ghost use Rattle.std.specs.Prelude.{◌≡◌, ◌↔◌, ◌+◌, ◌-◌, ◌≤◌, ◌<◌, ◌++◌, ◌^◌, ℕ, List, Option, length, drop, replicate, IsTrue, IfSome};
-ghost use Rattle.page_file.specs.Entry.{PageEntry};
-ghost use Rattle.page_file.specs.Page.{no_page, page_number, used_by, page_head, IsHead, IsPageOf, IsPage};
+ghost use Rattle.std.specs.Prelude.{◌≡◌, ◌↔◌, ◌+◌, ◌-◌, ◌≤◌, ◌<◌, ◌++◌, ◌^◌, ℕ, Option, length, drop, replicate, IsTrue, IfSome};
+ghost use Rattle.record_delta.specs.Entries.{Entries};
+ghost use Rattle.blsm_model.specs.Components.{no_page};
+ghost use Rattle.page_file.specs.Page.{page_number, used_by, page_head, IsHead, IsPageOf, IsPage};
 
 use crate::entry::are_entries;
 use crate::number::{u16_at, u32_at};
@@ -69,7 +70,7 @@ impl PageHead {
         ensures count_fits { result.count < 2 ^ 16 }
         ensures used_fits { result.used < 2 ^ 16 }
         ensures next_fits { IfSome result.next (λ n. n < no_page) }
-        ensures valid { (pages : ℕ) (next : Option ℕ) (entries : List PageEntry) → pages ≤ no_page → IsPageOf pages next entries page.now
+        ensures valid { (pages : ℕ) (next : Option ℕ) (entries : Entries) → pages ≤ no_page → IsPageOf pages next entries page.now
             → result ≡ record { count = length entries; used = used_by entries; next = next } }
     {
         PageHead {

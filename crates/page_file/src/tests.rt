@@ -328,11 +328,11 @@ fn a_page_is_written_at_its_place(rt: HostRuntime) -> Result<(), Fail> {
     assert!(rt; is_blank(&rt, &mut disk, &geo, PAGES - 2));
     one_page();
     where_entries_stand();
-    other_pages();
+    pages_are_apart();
+    what_stays();
+    one_order();
     one_component();
     chains();
-    other_components();
-    records_of_pages();
     assert_eq!(rt;
         no_component(),
         Component {

@@ -1,7 +1,8 @@
 -- How many pages a set has.
-use Rattle.std.proofs.Common.{◌≡◌, ◌+◌, ◌≤◌, ◌||◌, Bool, true, false, cond, [], ◌∷◌, arith}
-use Rattle.std.proofs.lemmas.List.Sums.{sum_by-cons}
-use Rattle.page_space.specs.PageSet.{Members, size, union}
+use Rattle.std.proofs.Common.{◌≡◌, ℕ, ◌+◌, ◌<◌, ◌≤◌, ◌||◌, Bool, true, false, cond, [], ◌∷◌, length, get_or, ap, inl, inr, arith}
+use Rattle.std.proofs.lemmas.List.Sums.{sum_by-cons, sum_by-set}
+use Rattle.std.proofs.lemmas.Bool.{cases_Bool}
+use Rattle.page_space.specs.PageSet.{Members, IsIn, size, with_page, union}
 
 pub size-cons : (x : Bool) (xs : Members) → size (x ∷ xs) ≡ cond x 1 0 + size xs
 size-cons x xs = sum_by-cons (λ b. cond b 1 0) x xs
@@ -16,3 +17,11 @@ size-union_le [] ys = omega arith
 size-union_le (x ∷ xs) [] = omega arith
 size-union_le (x ∷ xs) (y ∷ ys) =
     omega (arith, size-union_le xs ys, or_le x y, size-cons (x || y) (union xs ys), size-cons x xs, size-cons y ys)
+
+pub size-with : (set : Members) (page : ℕ) → page < length set → (IsIn set page → ⊥) → size (with_page page set) ≡ size set + 1
+size-with set page within out =
+    let all = sum_by-set (λ b. cond b 1 0) set page true false within in
+    elim (cases_Bool (get_or set page false)) [
+      | inl is_in ↦ absurd (out is_in)
+      | inr lacks ↦ omega (arith, all, ap {B = ℕ} (λ b. cond b 1 0) lacks)
+    ]

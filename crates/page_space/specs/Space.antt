@@ -1,6 +1,6 @@
 -- What contracts see of the free-page map.
-use Rattle.std.specs.Prelude.{◌≡◌, ◌≢◌, ℕ, ◌+◌, ◌<◌, ◌≤◌, List, [], length, replicate, slice_index_or}
-use Rattle.page_space.specs.PageSet.{Members, IsIn, none_of, size}
+use Rattle.std.specs.Prelude.{◌≡◌, ◌≢◌, ◌↔◌, ◌⊎◌, ℕ, ◌+◌, ◌<◌, ◌≤◌, List, [], length, replicate, slice_index_or}
+use Rattle.page_space.specs.PageSet.{Members, IsIn, none_of, size, with_page}
 
 -- a page may have the tags of five roles, and be pinned by sixteen seats
 abbrev pub role_count : ℕ
@@ -78,3 +78,14 @@ KeepsOtherRoles role old new = (other : ℕ) → other ≢ role → pages_with n
 -- each other seat pins the same pages
 abbrev pub KeepsOtherPins : ℕ → SpaceState → SpaceState → Type 0
 KeepsOtherPins seat old new = (other : ℕ) → other ≢ seat → pins_of new other ≡ pins_of old other
+
+-- One page gets a role's tag, and nothing else changes: of the pages that were free it uses up this one alone.
+pub record Claims (role page : ℕ) (old new : SpaceState) : Type 0 where
+  pub this : pages_with new role ≡ with_page page (pages_with old role)
+  pub others : KeepsOtherRoles role old new
+  pub pins : new.pins ≡ old.pins
+  pub pages : new.pages ≡ old.pages
+  pub shape : IsSpace new
+  pub tags : (tag k : ℕ) → HasRole new tag k ↔ (HasRole old tag k ⊎ ((tag ≡ role) × (k ≡ page)))
+  pub free : (other : ℕ) → IsFree new other ↔ (IsFree old other × (other ≢ page))
+  pub size : (HasRole old role page → ⊥) → role_size new role ≡ role_size old role + 1

@@ -3,10 +3,12 @@
 //! writers of runs take their pages from it.
 #![tactic(auto)]
 
+mod laws;
 mod page_set;
 mod role;
 mod space;
 
+pub use laws::room_is_free;
 pub use role::Role;
 pub use space::Space;
 

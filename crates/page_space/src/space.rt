@@ -1,7 +1,7 @@
 //! Which pages have which tag, which are pinned, and which are free.
-ghost use Rattle.std.specs.Prelude.{◌≡◌, ◌<◌, ◌≤◌, ◌+◌, ◌*◌, ◌↔◌, ◌⊎◌, ◌≢◌, ℕ, length, replicate, All, IsTrue, IfOk, IfSome, IfNone};
-ghost use Rattle.page_space.specs.PageSet.{IsInSome, none_of, with_page, union};
-ghost use Rattle.page_space.specs.Space.{pages_with, pins_of, HasRole, IsPinnedBy, IsFree, HasFree, IsLeastFree, IsSpace, unused, role_size, pin_size, IsWithin, seat_count, KeepsOtherRoles, KeepsOtherPins};
+ghost use Rattle.std.specs.Prelude.{◌≡◌, ◌<◌, ◌≤◌, ◌+◌, ◌↔◌, ◌⊎◌, ℕ, length, replicate, All, IsTrue, IfOk, IfSome, IfNone};
+ghost use Rattle.page_space.specs.PageSet.{IsInSome, none_of, union};
+ghost use Rattle.page_space.specs.Space.{pages_with, pins_of, HasRole, IsPinnedBy, IsFree, HasFree, IsLeastFree, IsSpace, unused, role_size, pin_size, Claims, KeepsOtherRoles, KeepsOtherPins};
 
 use crate::Role;
 use crate::page_set::PageSet;
@@ -71,11 +71,9 @@ impl Space {
         }
     }
 
-    /// Whether there is a free page.
+    /// Whether there is a free page. It looks for one; where there is room, there is one (`room_is_free`).
     pub fn has_free(&self) -> bool
-        ensures free { IsTrue result ↔ HasFree self.now }
-        // There is one where the roles' pages and each seat's share don't fill the map.
-        ensures within { (live share : ℕ) → IsWithin live share self.now → live + seat_count * share < self.now.pages → HasFree self.now }
+        ensures { IsTrue result ↔ HasFree self.now }
     {
         self.first_free().is_some()
     }
@@ -83,15 +81,7 @@ impl Space {
     /// Gives a page a role's tag. It keeps the tags that it has.
     pub fn claim(&mut self, role: Role, page: u32)
         requires { page < self.old.pages }
-        ensures this { pages_with self.new role ≡ with_page page (pages_with self.old role) }
-        ensures others { KeepsOtherRoles role self.old self.new }
-        ensures pins { self.new.pins ≡ self.old.pins }
-        ensures pages { self.new.pages ≡ self.old.pages }
-        ensures shape { IsSpace self.new }
-        ensures tags { (tag k : ℕ) → HasRole self.new tag k ↔ (HasRole self.old tag k ⊎ ((tag ≡ role) × (k ≡ page))) }
-        // Of the pages that were free it uses up this one alone.
-        ensures free { (other : ℕ) → IsFree self.new other ↔ (IsFree self.old other × (other ≢ page)) }
-        ensures size { (HasRole self.old role page → ⊥) → role_size self.new role ≡ role_size self.old role + 1 }
+        ensures { Claims role page self.old self.new }
     {
         let set = &mut self.roles[role.number() as usize];
         set.insert(page);

@@ -11,8 +11,8 @@ use text_io::Sink;
 /// Bytes to a writer, as standard output. A call that the writer refuses is a fault, and so is one of which it takes nothing.
 #[derive(Drop)]
 pub struct StdSink<W: Write> {
-    writer: W,
-    faults: u64,
+    pub(crate) writer: W,
+    pub(crate) faults: u64,
 }
 
 impl<W: Write> StdSink<W> {

@@ -11,8 +11,8 @@ use text_io::Source;
 /// Bytes from a reader, as standard input. A call that the reader refuses is a fault.
 #[derive(Drop)]
 pub struct StdSource<R: Read> {
-    reader: R,
-    faults: u64,
+    pub(crate) reader: R,
+    pub(crate) faults: u64,
 }
 
 impl<R: Read> StdSource<R> {

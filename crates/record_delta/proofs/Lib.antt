@@ -1,2 +1,3 @@
 pub mod FoldingLemmas
 pub mod Examples
+pub mod ListExamples

@@ -8,9 +8,9 @@ use Rattle.std.specs.declared.cmp.Ordering.{Ordering}
 use Rattle.std.specs.declared.cmp.Ordering.TheVariants.{Less, Equal, Greater}
 use Rattle.std.proofs.lemmas.Bool.{false≢true}
 use Rattle.std.proofs.lemmas.Cmp.{nat_list_cmp_total}
-use Rattle.std.proofs.lemmas.List.{length-map, drop-drop, drop_at, take_at}
+use Rattle.std.proofs.lemmas.List.{drop-drop, drop_at, take_at}
 use Rattle.std.proofs.lemmas.List.Edits.{between_none, length-between}
-use Rattle.std.proofs.lemmas.List.Elements.{All-nil, All-head, All-tail}
+use Rattle.std.proofs.lemmas.List.Elements.{All-nil, All-head, All-tail, Contains-append_right}
 use Rattle.std.proofs.lemmas.List.Sums.{sum_by-cons}
 use Rattle.std.proofs.lemmas.Slice.{between_is}
 use Rattle.blsm_model.specs.Format.{page_length}
@@ -22,43 +22,43 @@ use Rattle.blsm_model.specs.Geometry.{page_count}
 use Rattle.record_delta.specs.declared.record.Rec.{Rec}
 use Rattle.record_delta.specs.Records.{weight}
 use Rattle.entry_codec.specs.Spelling.{BeginsWith}
-use Rattle.page_file.specs.Entry.{PageEntry, IsPageEntry, entry_bytes, entries_bytes, AreEntries, keys_of, AreRising}
-use Rattle.page_file.specs.Page.{most_used, no_page, page_number, used_by, page_head, IsPageOf}
+use Rattle.page_file.specs.Entry.{IsPageEntry, entry_bytes, entries_bytes, AreEntries, keys_of, AreRising}
+use Rattle.blsm_model.specs.Components.{no_page}
+use Rattle.page_file.specs.Page.{most_used, page_number, used_by, page_head, IsPageOf}
 use Rattle.page_file.specs.declared.file.Broken.{Broken}
 use Rattle.page_file.specs.declared.file.Broken.TheVariants.{Fault, Damaged}
 use Rattle.page_file.specs.File.{page_at}
-use Rattle.page_file.specs.Component.{RunPage, entries_of, weight_of, first_of, AreChained}
-use Rattle.page_file.specs.Records.{page_entry, page_entries, weights, HasList}
-use Rattle.page_file.proofs.EntryLemmas.{length-entry_bytes, few_entries, entry_same}
+use Rattle.page_file.specs.Component.{RunPage, numbers_of, entries_of, first_number, AreChained, HasList}
+use Rattle.record_delta.specs.Entries.{entries_weight, Entries}
+use Rattle.page_file.proofs.EntryLemmas.{few_entries, entry_same}
 use Rattle.page_file.proofs.PageLemmas.{spelled, length-page_head, page_same, entry_at}
 use Rattle.page_file.proofs.ComponentLemmas.{weight_join, weight_is_length}
-use Rattle.page_file.proofs.RecordLemmas.{same_bytes, same_weights, is_entry, is_spelled, record_of_entry, records_of_entries, one_record}
-use Rattle.run_cursor.specs.Cursor.{CursorState, started, from_head, IsFirstKey, IsCursor, AreInNumber, PageGoesOn, GoesOnAt, turned, IsStepped, Rises, HasAhead, IsAdvanced, IsDamageAt}
+use Rattle.entry_codec.proofs.SpellingLemmas.{length-spelling}
+use Rattle.run_cursor.specs.Cursor.{CursorState, seen, IsKept, started, from_head, IsFirstKey, IsCursor, AreInNumber, PageGoesOn, GoesOnAt, turned, IsStepped, Rises, HasAhead, AreAmong, IsAdvanced, IsDamageAt}
 
-pub length-page_entries : (es : List (Key × Rec)) → length (page_entries es) ≡ length es
-length-page_entries es = length-map es page_entry
-
-pub weights-cons : (e : Key × Rec) (es : List (Key × Rec)) → weights (e ∷ es) ≡ weight e.0 e.1 + weights es
+pub weights-cons : (e : Key × Rec) (es : List (Key × Rec)) → entries_weight (e ∷ es) ≡ weight e.0 e.1 + entries_weight es
 weights-cons e es = sum_by-cons (λ (f : Key × Rec). weight f.0 f.1) e es
 
 -- ---- the start
 
-pub started_ahead : (sizes : Sizes) (run : Component) (entries : List (Key × Rec)) (file : List ℕ) → HasList sizes run entries file → HasAhead sizes (started run) entries file
+pub started_ahead : (sizes : Sizes) (run : Component) (entries : List (Key × Rec)) (file : List ℕ) → (list : HasList sizes run entries file) → (ahead : HasAhead sizes (started run) entries file) × (ahead.coming ≡ list.pages)
 started_ahead sizes run entries file has =
-    let reads = has.reads in
-    record {
-      here = [];
-      coming = has.pages;
-      each = All-nil IsPageEntry;
-      behind_is = refl;
-      first_is = reads.first_is;
-      chained = reads.chained;
-      rest_is = sym has.entries_are;
-      rise = subst AreRising has.entries_are reads.rise;
-      pages_is = reads.pages_is;
-      entries_is = sym (length-page_entries entries) ∙ ap (length {A = PageEntry}) (sym has.entries_are) ∙ reads.entries_is;
-      weight_is = sym (same_weights entries) ∙ ap weight_of (sym has.entries_are) ∙ reads.weight_is;
-    }
+    let reads = has.reads in (
+      record {
+        here = [];
+        coming = has.pages;
+        each = All-nil IsPageEntry;
+        behind_is = refl;
+        first_is = reads.first_is;
+        chained = reads.chained;
+        rest_is = sym has.entries_are;
+        rise = subst AreRising has.entries_are reads.rise;
+        pages_is = reads.pages_is;
+        entries_is = ap (length {A = Key × Rec}) (sym has.entries_are) ∙ reads.entries_is;
+        weight_is = ap entries_weight (sym has.entries_are) ∙ reads.weight_is;
+      },
+      refl,
+    )
 
 -- a cursor with no entries behind its head, at the end or before the first page
 pub bare_cursor : (behind : List ℕ) (next pages entries weight : ℕ) → behind ≡ [] → (pages ≡ 0 → (entries ≡ 0) × (weight ≡ 0))
@@ -82,55 +82,42 @@ pub record First (bytes : List ℕ) (here : List (Key × Rec)) : Type 0 where
   pub entry : Key × Rec
   pub more : List (Key × Rec)
   pub here_is : here ≡ entry ∷ more
-  pub right : IsPageEntry (page_entry entry)
-  pub parts : bytes ≡ entry_bytes (page_entry entry) ++ entries_bytes (page_entries more)
+  pub right : IsPageEntry entry
+  pub parts : bytes ≡ entry_bytes entry ++ entries_bytes more
 
-pub first_of_bytes : (bytes : List ℕ) (here : List (Key × Rec)) → AreEntries (page_entries here) → bytes ≡ entries_bytes (page_entries here) → 0 < length bytes → First bytes here
+pub first_of_bytes : (bytes : List ℕ) (here : List (Key × Rec)) → AreEntries here → bytes ≡ entries_bytes here → 0 < length bytes → First bytes here
 first_of_bytes bytes [] each is some = absurd (omega (arith, some, ap (length {A = ℕ}) is))
-first_of_bytes bytes (e ∷ es) each is some = record { entry = e; more = es; here_is = refl; right = All-head IsPageEntry (page_entry e) (page_entries es) each; parts = is }
+first_of_bytes bytes (e ∷ es) each is some = record { entry = e; more = es; here_is = refl; right = All-head IsPageEntry e es each; parts = is }
 
 pub begins : (bytes : List ℕ) (here : List (Key × Rec)) (first : First bytes here) → BeginsWith bytes first.entry.0 first.entry.1
 begins bytes here first = record {
-  entry = is_spelled first.entry.0 first.entry.1 first.right;
-  rest = entries_bytes (page_entries first.more);
-  parts = first.parts ∙ ap (λ (l : List ℕ). l ++ entries_bytes (page_entries first.more)) (same_bytes first.entry);
-}
-
--- what begins bytes is an entry
-pub record IsFirst (bytes : List ℕ) (entry : Key × Rec) : Type 0 where
-  pub right : IsPageEntry (page_entry entry)
-  pub rest : List ℕ
-  pub parts : bytes ≡ entry_bytes (page_entry entry) ++ rest
-
-pub found_first : (bytes : List ℕ) (key : Key) (rec : Rec) → BeginsWith bytes key rec → IsFirst bytes (key, rec)
-found_first bytes key rec b = record {
-  right = is_entry key rec b.entry;
-  rest = b.rest;
-  parts = b.parts ∙ ap (λ (l : List ℕ). l ++ b.rest) (sym (same_bytes (key, rec)));
+  entry = first.right;
+  rest = entries_bytes first.more;
+  parts = first.parts;
 }
 
 -- the first entry is one
 pub record SameFirst (here : List (Key × Rec)) (entry : Key × Rec) (rest : List ℕ) : Type 0 where
   pub more : List (Key × Rec)
   pub here_is : here ≡ entry ∷ more
-  pub rest_is : rest ≡ entries_bytes (page_entries more)
+  pub rest_is : rest ≡ entries_bytes more
 
-pub same_first : (here : List (Key × Rec)) (entry : Key × Rec) (rest : List ℕ) → AreEntries (page_entries here) → IsPageEntry (page_entry entry)
-    → entries_bytes (page_entries here) ≡ entry_bytes (page_entry entry) ++ rest → SameFirst here entry rest
+pub same_first : (here : List (Key × Rec)) (entry : Key × Rec) (rest : List ℕ) → AreEntries here → IsPageEntry entry
+    → entries_bytes here ≡ entry_bytes entry ++ rest → SameFirst here entry rest
 same_first [] entry rest each right is =
     let least = right.key_least in
-    absurd (omega (arith, least, ap (length {A = ℕ}) is, length-append (entry_bytes (page_entry entry)) rest, length-entry_bytes (page_entry entry)))
+    absurd (omega (arith, least, ap (length {A = ℕ}) is, length-append (entry_bytes entry) rest, length-spelling entry.0 entry.1))
 same_first (e ∷ es) entry rest each right is =
-    let one = entry_same (page_entry e) (page_entry entry) (entries_bytes (page_entries es)) rest (All-head IsPageEntry (page_entry e) (page_entries es) each) right is in
-    record { more = es; here_is = ap (λ (f : Key × Rec). f ∷ es) (one_record e entry one.0); rest_is = sym one.1 }
+    let one = entry_same e entry (entries_bytes es) rest (All-head IsPageEntry e es each) right is in
+    record { more = es; here_is = ap (λ (f : Key × Rec). f ∷ es) one.0; rest_is = sym one.1 }
 
 -- the cursor after a step, and what it had before
-pub rise_from : (head : Option (Key × Rec)) (es : List PageEntry) → AreRising (from_head head es) → AreRising es
+pub rise_from : (head : Option (Key × Rec)) (es : Entries) → AreRising (from_head head es) → AreRising es
 unfolding IsStrictlySortedBy
 rise_from None es rise = rise
 rise_from (Some h) es rise = rise.1
 
-rises_over : (head : Option (Key × Rec)) (e : Key × Rec) (es : List PageEntry) → AreRising (from_head head (page_entry e ∷ es)) → Rises head (Some e)
+rises_over : (head : Option (Key × Rec)) (e : Key × Rec) (es : Entries) → AreRising (from_head head (e ∷ es)) → Rises head (Some e)
 unfolding IsStrictlySortedBy
 rises_over None e es rise = tt
 rises_over (Some h) e es rise = rise.0.0
@@ -143,23 +130,23 @@ pub after_step : (old new : CursorState) (entry : Key × Rec) → IsCursor old �
 after_step old new entry kept stepped =
     let first = same_first kept.here entry new.behind kept.each stepped.right (sym kept.behind_is ∙ stepped.behind_is) in
     let more = first.more in
-    let rise : AreRising (from_head old.head (page_entry entry ∷ page_entries more)) = subst (λ (l : List (Key × Rec)). AreRising (from_head old.head (page_entries l))) first.here_is kept.rise in
+    let rise : AreRising (from_head old.head (entry ∷ more)) = subst (λ (l : List (Key × Rec)). AreRising (from_head old.head l)) first.here_is kept.rise in
     let count : length kept.here ≡ 1 + length more = ap (length {A = Key × Rec}) first.here_is ∙ omega arith in
-    let weighs : weights kept.here ≡ weight entry.0 entry.1 + weights more = ap weights first.here_is ∙ weights-cons entry more in
+    let weighs : entries_weight kept.here ≡ weight entry.0 entry.1 + entries_weight more = ap entries_weight first.here_is ∙ weights-cons entry more in
     let few = kept.few in
     let light = kept.light in
     record {
       cursor = record {
         here = more;
-        each = All-tail IsPageEntry (page_entry entry) (page_entries more) (subst (λ (l : List (Key × Rec)). AreEntries (page_entries l)) first.here_is kept.each);
+        each = All-tail IsPageEntry entry more (subst (λ (l : List (Key × Rec)). AreEntries l) first.here_is kept.each);
         behind_is = first.rest_is;
-        rise = subst (λ (h : Option (Key × Rec)). AreRising (from_head h (page_entries more))) (sym stepped.head_is) (rise_from old.head (page_entry entry ∷ page_entries more) rise);
+        rise = subst (λ (h : Option (Key × Rec)). AreRising (from_head h more)) (sym stepped.head_is) (rise_from old.head (entry ∷ more) rise);
         few = omega (arith, few, count, stepped.entries_is);
         light = omega (arith, light, weighs, stepped.weight_is);
         all = λ last. let whole = kept.all (sym stepped.pages_is ∙ last) in
             (omega (arith, whole.0, count, stepped.entries_is), omega (arith, whole.1, weighs, stepped.weight_is));
       };
-      rises = rises_over old.head entry (page_entries more) rise;
+      rises = rises_over old.head entry more rise;
     }
 
 -- what the numbers of a step are
@@ -169,39 +156,31 @@ pub record StepFits (at end length_is entries weight_left : ℕ) : Type 0 where
   pub light : length_is ≤ weight_left
 
 pub step_fits : (page : List ℕ) (at end : ℕ) (old : CursorState) (entry : Key × Rec) (len : ℕ) → end ≤ length page → at ≤ end → IsCursor old → old.behind ≡ between at end page
-    → IsPageEntry (page_entry entry) → (rest : List ℕ) × (old.behind ≡ entry_bytes (page_entry entry) ++ rest) → len ≡ weight entry.0 entry.1 → StepFits at end len old.entries old.weight
+    → IsPageEntry entry → (rest : List ℕ) × (old.behind ≡ entry_bytes entry ++ rest) → len ≡ weight entry.0 entry.1 → StepFits at end len old.entries old.weight
 step_fits page at end old entry len inside order kept is right (rest, parts) len_is =
     let first = same_first kept.here entry rest kept.each right (sym kept.behind_is ∙ parts) in
     let few = kept.few in
     let light = kept.light in
     let count : length kept.here ≡ 1 + length first.more = ap (length {A = Key × Rec}) first.here_is ∙ omega arith in
-    let weighs : weights kept.here ≡ weight entry.0 entry.1 + weights first.more = ap weights first.here_is ∙ weights-cons entry first.more in
+    let weighs : entries_weight kept.here ≡ weight entry.0 entry.1 + entries_weight first.more = ap entries_weight first.here_is ∙ weights-cons entry first.more in
     let long : length (between at end page) ≡ end - at = length-between page at end inside in
     record {
-      inside = omega (arith, order, long, ap (length {A = ℕ}) (sym is ∙ parts), length-append (entry_bytes (page_entry entry)) rest, length-entry_bytes (page_entry entry), len_is);
+      inside = omega (arith, order, long, ap (length {A = ℕ}) (sym is ∙ parts), length-append (entry_bytes entry) rest, length-spelling entry.0 entry.1, len_is);
       some = omega (arith, few, count);
       light = omega (arith, light, weighs, len_is);
     }
 
 -- the bytes behind the entry are what is left of those before
 pub step_bytes : (page : List ℕ) (at end : ℕ) (entry : Key × Rec) (len : ℕ) → len ≡ weight entry.0 entry.1
-    → (rest : List ℕ) × (between at end page ≡ entry_bytes (page_entry entry) ++ rest) → between at end page ≡ entry_bytes (page_entry entry) ++ between (at + len) end page
+    → (rest : List ℕ) × (between at end page ≡ entry_bytes entry ++ rest) → between at end page ≡ entry_bytes entry ++ between (at + len) end page
 step_bytes page at end entry len len_is (rest, parts) =
-    let bytes : List ℕ = entry_bytes (page_entry entry) in
+    let bytes : List ℕ = entry_bytes entry in
     let left : between (at + len) end page ≡ rest =
     between_is page (at + len) end ∙ ap (λ n. drop n (take end page)) (omega arith) ∙ sym (drop-drop len at (take end page)) ∙ ap (drop len) (sym (between_is page at end) ∙ parts)
-    ∙ drop_at bytes rest len (length-entry_bytes (page_entry entry) ∙ sym len_is) in
+    ∙ drop_at bytes rest len (length-spelling entry.0 entry.1 ∙ sym len_is) in
     parts ∙ ap (λ (l : List ℕ). bytes ++ l) (sym left)
 
 -- ---- a step of a cursor's fields
-
-abbrev pub seen : Option (Key × Rec) → List ℕ → ℕ → ℕ → ℕ → ℕ → ℕ → ℕ → CursorState
-seen head page at end next pages entries weight_left =
-    record { head = head; behind = between at end page; next = next; pages = pages; entries = entries; weight = weight_left }
-
--- what a cursor keeps of its fields
-abbrev pub IsKept : Option (Key × Rec) → List ℕ → ℕ → ℕ → ℕ → ℕ → ℕ → ℕ → Type 0
-IsKept head page at end next pages entries weight_left = (at ≤ end) × (end ≤ page_length) × IsCursor (seen head page at end next pages entries weight_left)
 
 pub record Step (head : Option (Key × Rec)) (page : List ℕ) (at end next pages entries weight_left : ℕ) (now : CursorState) (entry : Key × Rec) (len : ℕ) : Type 0 where
   pub light : len ≤ weight_left
@@ -212,12 +191,12 @@ pub record Step (head : Option (Key × Rec)) (page : List ℕ) (at end next page
 
 pub step : (head : Option (Key × Rec)) (page : List ℕ) (at end next pages entries weight_left : ℕ) (now : CursorState) (entry : Key × Rec) (len : ℕ) → length page ≡ page_length
     → IsKept head page at end next pages entries weight_left → seen head page at end next pages entries weight_left ≡ now
-    → IsPageEntry (page_entry entry) → (rest : List ℕ) × (now.behind ≡ entry_bytes (page_entry entry) ++ rest) → len ≡ weight entry.0 entry.1
+    → IsPageEntry entry → (rest : List ℕ) × (now.behind ≡ entry_bytes entry ++ rest) → len ≡ weight entry.0 entry.1
     → Step head page at end next pages entries weight_left now entry len
 step head page at end next pages entries weight_left now entry len long (order, inside, cursor) is right (rest, parts) len_is =
     let old : CursorState = seen head page at end next pages entries weight_left in
     let new : CursorState = seen (Some entry) page (at + len) end next pages (entries - 1) (weight_left - len) in
-    let here : (rest : List ℕ) × (between at end page ≡ entry_bytes (page_entry entry) ++ rest) = (rest, ap (λ (s : CursorState). s.behind) is ∙ parts) in
+    let here : (rest : List ℕ) × (between at end page ≡ entry_bytes entry ++ rest) = (rest, ap (λ (s : CursorState). s.behind) is ∙ parts) in
     let fits : StepFits at end len entries weight_left = step_fits page at end old entry len (omega (arith, long, inside)) order cursor refl right here len_is in
     let some = fits.some in
     let light = fits.light in
@@ -242,43 +221,31 @@ step head page at end next pages entries weight_left now entry len long (order, 
 -- ---- a page
 
 -- a valid page begins with its first entry
-pub record PageFirst (entries : List PageEntry) (page : List ℕ) : Type 0 where
-  pub first : PageEntry
-  pub more : List PageEntry
+pub record PageFirst (entries : Entries) (page : List ℕ) : Type 0 where
+  pub first : Key × Rec
+  pub more : Entries
   pub entries_are : entries ≡ first ∷ more
-  pub rec : Rec
-  pub begins : BeginsWith (drop 8 page) first.key rec
+  pub begins : BeginsWith (drop 8 page) first.0 first.1
 
-pub page_first : (pages : ℕ) (next : Option ℕ) (entries : List PageEntry) (page : List ℕ) → IsPageOf pages next entries page → PageFirst entries page
+pub page_first : (pages : ℕ) (next : Option ℕ) (entries : Entries) (page : List ℕ) → IsPageOf pages next entries page → PageFirst entries page
 page_first pages next [] page of = let some = of.content.head.some in absurd (omega (arith, some))
 page_first pages next (e ∷ es) page of =
-    let found = record_of_entry e (All-head IsPageEntry e es of.content.each) in
     let there = entry_at pages next [] es e page of in
-    record {
-      first = e;
-      more = es;
-      entries_are = refl;
-      rec = found.0;
-      begins = record {
-        entry = is_spelled e.key found.0 (subst IsPageEntry (sym found.1) (All-head IsPageEntry e es of.content.each));
-        rest = there.0;
-        parts = there.1 ∙ ap (λ (l : List ℕ). l ++ there.0) (ap entry_bytes (sym found.1) ∙ same_bytes (e.key, found.0));
-      };
-    }
+    record { first = e; more = es; entries_are = refl; begins = record { entry = All-head IsPageEntry e es of.content.each; rest = there.0; parts = there.1 } }
 
 -- what is above the first of rising keys is below them all
 over_all : (low key : Key) (keys : List Key) → key_cmp low key ≡ Less → AllByRecursion (λ (k : Key). key_cmp key k ≡ Less) keys → AllByRecursion (λ (k : Key). key_cmp low k ≡ Less) keys
 over_all low key [] less above = tt
 over_all low key (k ∷ keys) less above = (nat_list_cmp_total.trans low key k less above.0, over_all low key keys less above.1)
 
-pub rise_over : (head : Key × Rec) (e : PageEntry) (es : List PageEntry) → AreRising (e ∷ es) → (key_cmp head.0 e.key ≡ Less) ↔ AreRising (page_entry head ∷ e ∷ es)
+pub rise_over : (head : Key × Rec) (e : Key × Rec) (es : Entries) → AreRising (e ∷ es) → (key_cmp head.0 e.0 ≡ Less) ↔ AreRising (head ∷ e ∷ es)
 unfolding IsStrictlySortedBy
-rise_over head e es rise = (λ less. ((less, over_all head.0 e.key (keys_of es) less rise.0), rise), λ whole. whole.0.0)
+rise_over head e es rise = (λ less. ((less, over_all head.0 e.0 (keys_of es) less rise.0), rise), λ whole. whole.0.0)
 
 -- ---- to the front of a page
 
 -- a page's entries stand behind its head
-pub on_page : (pages : ℕ) (next : Option ℕ) (entries : List PageEntry) (page : List ℕ) → IsPageOf pages next entries page → between 8 (8 + used_by entries) page ≡ entries_bytes entries
+pub on_page : (pages : ℕ) (next : Option ℕ) (entries : Entries) (page : List ℕ) → IsPageOf pages next entries page → between 8 (8 + used_by entries) page ≡ entries_bytes entries
 on_page pages next entries page of =
     let head = page_head (length entries) (used_by entries) next in
     let bytes : List ℕ = entries_bytes entries in
@@ -289,27 +256,21 @@ on_page pages next entries page of =
     ∙ drop_at head bytes 8 (length-page_head (length entries) (used_by entries) next)
 
 -- a page has entries
-pub page_some : (pages : ℕ) (next : Option ℕ) (entries : List PageEntry) (page : List ℕ) → IsPageOf pages next entries page → 0 < length (entries_bytes entries)
+pub page_some : (pages : ℕ) (next : Option ℕ) (entries : Entries) (page : List ℕ) → IsPageOf pages next entries page → 0 < length (entries_bytes entries)
 page_some pages next entries page of = let some = of.content.head.some in omega (arith, some, few_entries entries of.content.each)
 
-pub turned_cursor : (old : CursorState) (pages : ℕ) (next : Option ℕ) (entries : List PageEntry) (page : List ℕ) → 0 < old.pages → IsPageOf pages next entries page → PageGoesOn old next entries
+pub turned_cursor : (old : CursorState) (pages : ℕ) (next : Option ℕ) (entries : Entries) (page : List ℕ) → 0 < old.pages → IsPageOf pages next entries page → PageGoesOn old next entries
     → IsCursor (turned next entries old)
 turned_cursor old pages next entries page more of goes =
-    let found = records_of_entries entries of.content.each in
-    let here = found.0 in
-    let count : length entries ≡ length here = ap (length {A = PageEntry}) (sym found.1) ∙ length-page_entries here in
-    let weighs : weight_of entries ≡ weights here = ap weight_of (sym found.1) ∙ same_weights here in
     let numbers = goes.numbers in
-    let few = numbers.few in
-    let light = numbers.light in
     record {
-      here = here;
-      each = subst AreEntries (sym found.1) of.content.each;
-      behind_is = ap entries_bytes (sym found.1);
-      rise = subst (λ (l : List PageEntry). AreRising (from_head old.head l)) (sym found.1) goes.rise;
-      few = omega (arith, few, count);
-      light = omega (arith, light, weighs);
-      all = λ last. let whole = numbers.all (omega (arith, last, more)) in (omega (arith, whole.0, count), omega (arith, whole.1, weighs));
+      here = entries;
+      each = of.content.each;
+      behind_is = refl;
+      rise = goes.rise;
+      few = numbers.few;
+      light = numbers.light;
+      all = λ last. numbers.all (omega (arith, last, more));
     }
 
 -- ---- the first key of a page
@@ -319,10 +280,10 @@ less_is Less h = refl
 less_is Equal h = absurd (cc)
 less_is Greater h = absurd (cc)
 
-pub rises_to : (head : Option (Key × Rec)) (last : Key × Rec) (entries : List PageEntry) (key : Option Key) (first : Key) (test : Bool) → head ≡ Some last → key ≡ Some first → IsFirstKey entries key → AreRising entries
+pub rises_to : (head : Option (Key × Rec)) (last : Key × Rec) (entries : Entries) (key : Option Key) (first : Key) (test : Bool) → head ≡ Some last → key ≡ Some first → IsFirstKey entries key → AreRising entries
     → test ≡ is_lt (key_cmp last.0 first) → IsTrue test ↔ AreRising (from_head head entries)
 rises_to head last entries key first test head_is key_is (e, es, entries_are, has) rise tests =
-    let same : first ≡ e.key = cc in
+    let same : first ≡ e.0 = cc in
     let over = rise_over last e es (subst AreRising entries_are rise) in
     let whole : from_head (Some last) (e ∷ es) ≡ from_head head entries = λ i. from_head (sym head_is i) (sym entries_are i) in (
       λ some. subst AreRising whole (over.0 (ap (key_cmp last.0) (sym same) ∙ less_is (key_cmp last.0 first) (sym tests ∙ some))),
@@ -330,18 +291,18 @@ rises_to head last entries key first test head_is key_is (e, es, entries_are, ha
     )
 
 -- the numbers that a page's head says are those of its entries
-pub numbers_of_page : (cursor : CursorState) (next : Option ℕ) (entries : List PageEntry) (read : Option ℕ) (count used : ℕ) → (read ≡ next) × (count ≡ length entries) × (used ≡ used_by entries)
-    → AreInNumber cursor read count used ↔ AreInNumber cursor next (length entries) (weight_of entries)
+pub numbers_of_page : (cursor : CursorState) (next : Option ℕ) (entries : Entries) (read : Option ℕ) (count used : ℕ) → (read ≡ next) × (count ≡ length entries) × (used ≡ used_by entries)
+    → AreInNumber cursor read count used ↔ AreInNumber cursor next (length entries) (entries_weight entries)
 numbers_of_page cursor next entries read count used (next_is, count_is, used_is) =
-    let weight_is : used ≡ weight_of entries = used_is ∙ sym (weight_is_length entries) in (
-      λ numbers. subst (λ (o : Option ℕ). AreInNumber cursor o (length entries) (weight_of entries)) next_is
-          (subst (λ (n : ℕ). AreInNumber cursor read n (weight_of entries)) count_is (subst (λ (n : ℕ). AreInNumber cursor read count n) weight_is numbers)),
+    let weight_is : used ≡ entries_weight entries = used_is ∙ sym (weight_is_length entries) in (
+      λ numbers. subst (λ (o : Option ℕ). AreInNumber cursor o (length entries) (entries_weight entries)) next_is
+          (subst (λ (n : ℕ). AreInNumber cursor read n (entries_weight entries)) count_is (subst (λ (n : ℕ). AreInNumber cursor read count n) weight_is numbers)),
       λ numbers. subst (λ (n : ℕ). AreInNumber cursor read count n) (sym weight_is)
-          (subst (λ (n : ℕ). AreInNumber cursor read n (weight_of entries)) (sym count_is) (subst (λ (o : Option ℕ). AreInNumber cursor o (length entries) (weight_of entries)) (sym next_is) numbers)),
+          (subst (λ (n : ℕ). AreInNumber cursor read n (entries_weight entries)) (sym count_is) (subst (λ (o : Option ℕ). AreInNumber cursor o (length entries) (entries_weight entries)) (sym next_is) numbers)),
     )
 
 -- the fields at the front of a page
-pub taken_is : (head : Option (Key × Rec)) (page was : List ℕ) (at end number pages entries weight_left used next_number : ℕ) (now : CursorState) (all : ℕ) (next : Option ℕ) (es : List PageEntry)
+pub taken_is : (head : Option (Key × Rec)) (page was : List ℕ) (at end number pages entries weight_left used next_number : ℕ) (now : CursorState) (all : ℕ) (next : Option ℕ) (es : Entries)
     → seen head was at end number pages entries weight_left ≡ now → IsPageOf all next es page → used ≡ used_by es → next_number ≡ page_number next
     → seen head page 8 (8 + used) next_number (pages - 1) entries weight_left ≡ turned next es now
 taken_is head page was at end number pages entries weight_left used next_number now all next es is of used_is number_is =
@@ -354,7 +315,7 @@ taken_is head page was at end number pages entries weight_left used next_number 
       weight = (is i).weight;
     }
 
-pub taken_kept : (head : Option (Key × Rec)) (page was : List ℕ) (at end number pages entries weight_left used next_number : ℕ) (now : CursorState) (all : ℕ) (next : Option ℕ) (es : List PageEntry)
+pub taken_kept : (head : Option (Key × Rec)) (page was : List ℕ) (at end number pages entries weight_left used next_number : ℕ) (now : CursorState) (all : ℕ) (next : Option ℕ) (es : Entries)
     → seen head was at end number pages entries weight_left ≡ now → IsPageOf all next es page → used ≡ used_by es → next_number ≡ page_number next → 0 < now.pages → PageGoesOn now next es
     → IsKept head page 8 (8 + used) next_number (pages - 1) entries weight_left
 taken_kept head page was at end number pages entries weight_left used next_number now all next es is of used_is number_is more goes =
@@ -368,7 +329,7 @@ taken_kept head page was at end number pages entries weight_left used next_numbe
 
 pub damage_shown : (sizes : Sizes) (cursor : CursorState) (n : ℕ) (page file : List ℕ) (goes : Bool) → page_count sizes ≤ no_page → n ≡ cursor.next → cursor.behind ≡ [] → 0 < cursor.pages
     → page ≡ page_at sizes n file → goes ≡ false
-    → ((pages : ℕ) (next : Option ℕ) (entries : List PageEntry) → pages ≤ no_page → IsPageOf pages next entries page → IsTrue goes ↔ PageGoesOn cursor next entries)
+    → ((pages : ℕ) (next : Option ℕ) (entries : Entries) → pages ≤ no_page → IsPageOf pages next entries page → IsTrue goes ↔ PageGoesOn cursor next entries)
     → IsDamageAt sizes cursor n file
 damage_shown sizes cursor n page file goes few is_next none more read wrong tells = record {
   is_next = is_next;
@@ -382,40 +343,41 @@ damage_shown sizes cursor n page file goes few is_next none more read wrong tell
 -- ---- what is ahead
 
 -- no entries are in no bytes
-pub none_in_none : (here : List (Key × Rec)) → [] ≡ entries_bytes (page_entries here) → here ≡ []
+pub none_in_none : (here : List (Key × Rec)) → [] ≡ entries_bytes here → here ≡ []
 none_in_none [] empty = refl
 none_in_none (e ∷ es) empty =
-    absurd (omega (arith, ap (length {A = ℕ}) empty, length-append (entry_bytes (page_entry e)) (entries_bytes (page_entries es)), length-entry_bytes (page_entry e)))
+    absurd (omega (arith, ap (length {A = ℕ}) empty, length-append (entry_bytes e) (entries_bytes es), length-spelling e.0 e.1))
 
-pub stepped_ahead : (sizes : Sizes) (old new : CursorState) (head : Key × Rec) (rest : List (Key × Rec)) (file : List ℕ) → HasAhead sizes old rest file → IsStepped old new head
-    → IsAdvanced sizes new rest file
+pub stepped_ahead : (sizes : Sizes) (old new : CursorState) (head : Key × Rec) (rest : List (Key × Rec)) (file : List ℕ) → (a : HasAhead sizes old rest file) → IsStepped old new head
+    → IsAdvanced sizes new (numbers_of a.coming) rest file
 stepped_ahead sizes old new head [] file a stepped =
     let first = same_first a.here head new.behind a.each stepped.right (sym a.behind_is ∙ stepped.behind_is) in
-    let none : [] ≡ page_entry head ∷ (page_entries first.more ++ entries_of a.coming) = a.rest_is ∙ ap (λ (l : List (Key × Rec)). page_entries l ++ entries_of a.coming) first.here_is in
+    let none : [] ≡ head ∷ (first.more ++ entries_of a.coming) = a.rest_is ∙ ap (λ (l : List (Key × Rec)). l ++ entries_of a.coming) first.here_is in
     absurd (cc)
 stepped_ahead sizes old new head (e ∷ es) file a stepped =
     let first = same_first a.here head new.behind a.each stepped.right (sym a.behind_is ∙ stepped.behind_is) in
-    let whole : page_entry e ∷ page_entries es ≡ page_entry head ∷ (page_entries first.more ++ entries_of a.coming) =
-    a.rest_is ∙ ap (λ (l : List (Key × Rec)). page_entries l ++ entries_of a.coming) first.here_is in
-    let same : page_entry e ≡ page_entry head = cc in
-    let more : page_entries es ≡ page_entries first.more ++ entries_of a.coming = cc in
-    let one : head ≡ e = one_record head e (sym same) in
+    let whole : e ∷ es ≡ head ∷ (first.more ++ entries_of a.coming) =
+    a.rest_is ∙ ap (λ (l : List (Key × Rec)). l ++ entries_of a.coming) first.here_is in
+    let same : e ≡ head = cc in
+    let more : es ≡ first.more ++ entries_of a.coming = cc in
+    let one : head ≡ e = sym same in
     let count = a.entries_is in
     let weighs = a.weight_is in (
       stepped.head_is ∙ ap Some one,
       record {
         here = first.more;
         coming = a.coming;
-        each = All-tail IsPageEntry (page_entry head) (page_entries first.more) (subst (λ (l : List (Key × Rec)). AreEntries (page_entries l)) first.here_is a.each);
+        each = All-tail IsPageEntry head first.more (subst (λ (l : List (Key × Rec)). AreEntries l) first.here_is a.each);
         behind_is = first.rest_is;
         first_is = a.first_is ∙ sym stepped.next_is;
         chained = a.chained;
         rest_is = more;
-        rise = subst (λ (h : Option (Key × Rec)). AreRising (from_head h (page_entries es))) (sym (stepped.head_is ∙ ap Some one)) (rise_from old.head (page_entry e ∷ page_entries es) a.rise);
+        rise = subst (λ (h : Option (Key × Rec)). AreRising (from_head h es)) (sym (stepped.head_is ∙ ap Some one)) (rise_from old.head (e ∷ es) a.rise);
         pages_is = a.pages_is ∙ sym stepped.pages_is;
         entries_is = omega (arith, count, stepped.entries_is);
         weight_is = omega (arith, weighs, stepped.weight_is, weights-cons e es, ap (λ (f : Key × Rec). weight f.0 f.1) one);
       },
+      λ n has. has,
     )
 
 -- at the end nothing is ahead
@@ -423,8 +385,8 @@ no_pages : (coming : List RunPage) → length coming ≡ 0 → coming ≡ []
 no_pages [] none = refl
 no_pages (p ∷ ps) none = absurd (omega (arith, none))
 
-pub ended_ahead : (sizes : Sizes) (old : CursorState) (rest : List (Key × Rec)) (file : List ℕ) → HasAhead sizes old rest file → old.behind ≡ [] → old.pages ≡ 0
-    → IsAdvanced sizes (record old { head = None }) rest file
+pub ended_ahead : (sizes : Sizes) (old : CursorState) (rest : List (Key × Rec)) (file : List ℕ) → (a : HasAhead sizes old rest file) → old.behind ≡ [] → old.pages ≡ 0
+    → IsAdvanced sizes (record old { head = None }) (numbers_of a.coming) rest file
 unfolding IsStrictlySortedBy
 ended_ahead sizes old [] file a none last = (
   refl,
@@ -441,53 +403,54 @@ ended_ahead sizes old [] file a none last = (
     entries_is = a.entries_is;
     weight_is = a.weight_is;
   },
+  λ n has. has,
 )
 ended_ahead sizes old (e ∷ es) file a none last =
     let here : a.here ≡ [] = none_in_none a.here (sym none ∙ a.behind_is) in
     let coming : a.coming ≡ [] = no_pages a.coming (a.pages_is ∙ last) in
-    let empty : page_entry e ∷ page_entries es ≡ [] = a.rest_is ∙ λ i. page_entries (here i) ++ entries_of (coming i) in
+    let empty : e ∷ es ≡ [] = a.rest_is ∙ λ i. (here i) ++ entries_of (coming i) in
     absurd (cc)
 
 -- the front of a rising list rises
-rise_front : (es fs : List PageEntry) → AreRising (es ++ fs) → AreRising es
+rise_front : (es fs : Entries) → AreRising (es ++ fs) → AreRising es
 unfolding IsStrictlySortedBy
 rise_front [] fs rise = tt
-rise_front (e ∷ es) fs rise = (all_front (λ (k : Key). key_cmp e.key k ≡ Less) es fs rise.0, rise_front es fs rise.1)
+rise_front (e ∷ es) fs rise = (all_front (λ (k : Key). key_cmp e.0 k ≡ Less) es fs rise.0, rise_front es fs rise.1)
   where
-    all_front : (P : Key → Type 0) (xs ys : List PageEntry) → AllByRecursion P (keys_of (xs ++ ys)) → AllByRecursion P (keys_of xs)
+    all_front : (P : Key → Type 0) (xs ys : Entries) → AllByRecursion P (keys_of (xs ++ ys)) → AllByRecursion P (keys_of xs)
     all_front P [] ys all = tt
     all_front P (x ∷ xs) ys all = (all.0, all_front P xs ys all.1)
 
-rise_head : (head : Option (Key × Rec)) (es fs : List PageEntry) → AreRising (from_head head (es ++ fs)) → AreRising (from_head head es)
+rise_head : (head : Option (Key × Rec)) (es fs : Entries) → AreRising (from_head head (es ++ fs)) → AreRising (from_head head es)
 rise_head None es fs rise = rise_front es fs rise
-rise_head (Some h) es fs rise = rise_front (page_entry h ∷ es) fs rise
+rise_head (Some h) es fs rise = rise_front (h ∷ es) fs rise
 
 -- whether there is a next page, by how many there are
-follows : (ps : List RunPage) (pages : ℕ) → suc (length ps) ≡ pages → IsSome (first_of ps None) ↔ (1 < pages)
+follows : (ps : List RunPage) (pages : ℕ) → suc (length ps) ≡ pages → IsSome (first_number ps None) ↔ (1 < pages)
 follows [] pages is = (λ some. absurd (false≢true some), λ more. absurd (omega (arith, is, more)))
 follows (p ∷ ps) pages is = (λ some. omega (arith, is), λ more. refl)
 
 -- a cursor at a page's end, with pages ahead: its next page goes on, and has the first of what is ahead
-pub record OnNext (sizes : Sizes) (old : CursorState) (rest : List (Key × Rec)) (file : List ℕ) : Type 0 where
+pub record OnNext (sizes : Sizes) (old : CursorState) (rest : List (Key × Rec)) (coming : List RunPage) (file : List ℕ) : Type 0 where
   pub next : Option ℕ
-  pub entries : List PageEntry
+  pub entries : Entries
   pub at : GoesOnAt sizes old next entries file
   pub ahead : HasAhead sizes (turned next entries old) rest file
+  pub among : AreAmong ahead.coming (numbers_of coming)
 
-on_next : (sizes : Sizes) (old : CursorState) (rest : List (Key × Rec)) (file : List ℕ) (coming : List RunPage) → page_number (first_of coming None) ≡ old.next → AreChained sizes coming None file
-    → page_entries rest ≡ entries_of coming → AreRising (from_head old.head (page_entries rest)) → length coming ≡ old.pages → length rest ≡ old.entries → weights rest ≡ old.weight → 0 < old.pages
-    → OnNext sizes old rest file
+on_next : (sizes : Sizes) (old : CursorState) (rest : List (Key × Rec)) (file : List ℕ) (coming : List RunPage) → page_number (first_number coming None) ≡ old.next → AreChained sizes coming None file
+    → rest ≡ entries_of coming → AreRising (from_head old.head rest) → length coming ≡ old.pages → length rest ≡ old.entries → entries_weight rest ≡ old.weight → 0 < old.pages
+    → OnNext sizes old rest coming file
 on_next sizes old rest file [] first chained rest_is rise pages_is entries_is weight_is more = absurd (omega (arith, pages_is, more))
 on_next sizes old rest file (p ∷ ps) first chained rest_is rise pages_is entries_is weight_is more =
-    let next = first_of ps None in
-    let found = records_of_entries p.entries chained.1.content.each in
-    let count : length rest ≡ length p.entries + length (entries_of ps) = sym (length-page_entries rest) ∙ ap (length {A = PageEntry}) rest_is ∙ length-append p.entries (entries_of ps) in
-    let weighs : weights rest ≡ weight_of p.entries + weight_of (entries_of ps) = sym (same_weights rest) ∙ ap weight_of rest_is ∙ weight_join p.entries (entries_of ps) in
+    let next = first_number ps None in
+    let count : length rest ≡ length p.entries + length (entries_of ps) = ap (length {A = Key × Rec}) rest_is ∙ length-append p.entries (entries_of ps) in
+    let weighs : entries_weight rest ≡ entries_weight p.entries + entries_weight (entries_of ps) = ap entries_weight rest_is ∙ weight_join p.entries (entries_of ps) in
     let valid : IsPageOf (page_count sizes) next p.entries (page_at sizes old.next file) = subst (λ n. IsPageOf (page_count sizes) next p.entries (page_at sizes n file)) first chained.1 in
     let last : old.pages ≡ 1 → entries_of ps ≡ [] = λ one. ap entries_of (no_pages ps (omega (arith, pages_is, one))) in
-    let all : old.pages ≡ 1 → (length p.entries ≡ old.entries) × (weight_of p.entries ≡ old.weight) = λ one. (
-      omega (arith, entries_is, count, ap (length {A = PageEntry}) (last one)),
-      omega (arith, weight_is, weighs, ap weight_of (last one)),
+    let all : old.pages ≡ 1 → (length p.entries ≡ old.entries) × (entries_weight p.entries ≡ old.weight) = λ one. (
+      omega (arith, entries_is, count, ap (length {A = Key × Rec}) (last one)),
+      omega (arith, weight_is, weighs, ap entries_weight (last one)),
     ) in
     record {
       next = next;
@@ -496,37 +459,43 @@ on_next sizes old rest file (p ∷ ps) first chained rest_is rise pages_is entri
         inside = subst (λ n. n < page_count sizes) first chained.0;
         valid = valid;
         goes_on = record {
-          rise = rise_head old.head p.entries (entries_of ps) (subst (λ (l : List PageEntry). AreRising (from_head old.head l)) rest_is rise);
+          rise = rise_head old.head p.entries (entries_of ps) (subst (λ (l : Entries). AreRising (from_head old.head l)) rest_is rise);
           numbers = record { follows = follows ps old.pages pages_is; few = omega (arith, entries_is, count); light = omega (arith, weight_is, weighs); all = all };
         };
       };
       ahead = record {
-        here = found.0;
+        here = p.entries;
         coming = ps;
-        each = subst AreEntries (sym found.1) chained.1.content.each;
-        behind_is = ap entries_bytes (sym found.1);
+        each = chained.1.content.each;
+        behind_is = refl;
         first_is = refl;
         chained = chained.2;
-        rest_is = rest_is ∙ ap (λ (l : List PageEntry). l ++ entries_of ps) (sym found.1);
+        rest_is = rest_is;
         rise = rise;
         pages_is = omega (arith, pages_is);
         entries_is = entries_is;
         weight_is = weight_is;
       };
+      among = λ n has. Contains-append_right (p.number ∷ []) (numbers_of ps) n has;
     }
 
-pub ahead_on_next : (sizes : Sizes) (old : CursorState) (rest : List (Key × Rec)) (file : List ℕ) → HasAhead sizes old rest file → old.behind ≡ [] → 0 < old.pages → OnNext sizes old rest file
+pub ahead_on_next : (sizes : Sizes) (old : CursorState) (rest : List (Key × Rec)) (file : List ℕ) → (a : HasAhead sizes old rest file) → old.behind ≡ [] → 0 < old.pages → OnNext sizes old rest a.coming file
 ahead_on_next sizes old rest file a none more =
     let here : a.here ≡ [] = none_in_none a.here (sym none ∙ a.behind_is) in
-    on_next sizes old rest file a.coming a.first_is a.chained (a.rest_is ∙ ap (λ (l : List (Key × Rec)). page_entries l ++ entries_of a.coming) here) a.rise a.pages_is a.entries_is a.weight_is more
+    on_next sizes old rest file a.coming a.first_is a.chained (a.rest_is ∙ ap (λ (l : List (Key × Rec)). l ++ entries_of a.coming) here) a.rise a.pages_is a.entries_is a.weight_is more
+
+-- what is ahead, on pages among these
+abbrev pub AheadAmong : Sizes → CursorState → List (Key × Rec) → List ℕ → List ℕ → Type 0
+AheadAmong sizes cursor rest pages file = (after : HasAhead sizes cursor rest file) × AreAmong after.coming pages
 
 -- the page that was turned to is that one
-pub turned_ahead : (sizes : Sizes) (old : CursorState) (rest : List (Key × Rec)) (file : List ℕ) (next : Option ℕ) (entries : List PageEntry) → page_count sizes ≤ no_page → HasAhead sizes old rest file
-    → old.behind ≡ [] → 0 < old.pages → GoesOnAt sizes old next entries file → HasAhead sizes (turned next entries old) rest file
+pub turned_ahead : (sizes : Sizes) (old : CursorState) (rest : List (Key × Rec)) (file : List ℕ) (next : Option ℕ) (entries : Entries) → page_count sizes ≤ no_page → (a : HasAhead sizes old rest file)
+    → old.behind ≡ [] → 0 < old.pages → GoesOnAt sizes old next entries file → AheadAmong sizes (turned next entries old) rest (numbers_of a.coming) file
 turned_ahead sizes old rest file next entries few a none more at =
     let on = ahead_on_next sizes old rest file a none more in
     let same = page_same (page_count sizes) on.next next on.entries entries (page_at sizes old.next file) few on.at.valid at.valid in
-    subst (λ (o : Option ℕ). HasAhead sizes (turned o entries old) rest file) same.0 (subst (λ (es : List PageEntry). HasAhead sizes (turned on.next es old) rest file) same.1 on.ahead)
+    subst (λ (o : Option ℕ). AheadAmong sizes (turned o entries old) rest (numbers_of a.coming) file) same.0
+    (subst (λ (es : Entries). AheadAmong sizes (turned on.next es old) rest (numbers_of a.coming) file) same.1 (on.ahead, on.among))
 
 -- no damage is where entries are ahead
 pub not_broken : (sizes : Sizes) (old : CursorState) (rest : List (Key × Rec)) (file : List ℕ) (broken : Broken) → HasAhead sizes old rest file → old.behind ≡ [] → 0 < old.pages → broken ≢ Fault
@@ -555,7 +524,7 @@ ended head page at end next pages entries weight_left (order, inside, cursor) pa
     let here : cursor.here ≡ [] = none_in_none cursor.here (sym none ∙ cursor.behind_is) in
     let whole = cursor.all last in
     let no_entries : entries ≡ 0 = sym whole.0 ∙ ap (length {A = Key × Rec}) here in
-    let no_weight : weight_left ≡ 0 = sym whole.1 ∙ ap weights here in
+    let no_weight : weight_left ≡ 0 = sym whole.1 ∙ ap entries_weight here in
     record {
       none_left = none;
       no_entries = no_entries;

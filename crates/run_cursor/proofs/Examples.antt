@@ -6,7 +6,6 @@ use Rattle.std.proofs.lemmas.Bool.{false≢true}
 use Rattle.blsm_model.specs.declared.key.Key.{Key}
 use Rattle.record_delta.specs.declared.record.Rec.{Rec}
 use Rattle.record_delta.specs.declared.record.Rec.TheVariants.{Base, Tomb}
-use Rattle.page_file.specs.Records.{page_entry}
 use Rattle.run_cursor.specs.Cursor.{CursorState, PageGoesOn}
 
 -- x, a base of count 100 and text "old", which weighs 17
@@ -18,14 +17,14 @@ at_last : Option (Key × Rec) → ℕ → CursorState
 at_last head weight = record { head = head; behind = []; next = 7; pages = 1; entries = 1; weight = weight }
 
 -- the page of x alone goes on from the start, and from w
-goes_on : PageGoesOn (at_last None 17) None (page_entry base_x ∷ [])
+goes_on : PageGoesOn (at_last None 17) None (base_x ∷ [])
 unfolding at_last base_x IsStrictlySortedBy
 goes_on = record {
   rise = (tt, tt);
   numbers = record { follows = (λ some. absurd (false≢true some), λ more. absurd (omega (arith, more))); few = lit≤ tt; light = lit≤ tt; all = λ one. (refl, refl) };
 }
 
-from_w : PageGoesOn (at_last (Some (codes "w", Tomb)) 17) None (page_entry base_x ∷ [])
+from_w : PageGoesOn (at_last (Some (codes "w", Tomb)) 17) None (base_x ∷ [])
 unfolding at_last base_x IsStrictlySortedBy
 from_w = record {
   rise = ((refl, tt), (tt, tt));
@@ -33,16 +32,16 @@ from_w = record {
 }
 
 -- but not from x itself
-from_x : PageGoesOn (at_last (Some base_x) 17) None (page_entry base_x ∷ []) → ⊥
+from_x : PageGoesOn (at_last (Some base_x) 17) None (base_x ∷ []) → ⊥
 unfolding at_last base_x IsStrictlySortedBy
 from_x goes = false≢true (ap is_lt goes.rise.0.0)
 
 -- nor with a next page, since it is the last one
-with_next : PageGoesOn (at_last None 17) (Some 8) (page_entry base_x ∷ []) → ⊥
+with_next : PageGoesOn (at_last None 17) (Some 8) (base_x ∷ []) → ⊥
 unfolding at_last
 with_next goes = let more : 1 < 1 = goes.numbers.follows.0 refl in omega (arith, more)
 
 -- nor where more is left than it has
-too_light : PageGoesOn (at_last None 18) None (page_entry base_x ∷ []) → ⊥
+too_light : PageGoesOn (at_last None 18) None (base_x ∷ []) → ⊥
 unfolding at_last base_x
 too_light goes = let whole = goes.numbers.all refl in omega (arith, whole.1)

@@ -15,12 +15,11 @@ use Rattle.blsm_model.specs.Keys.{key_cmp}
 use Rattle.blsm_model.specs.Sizes.{Sizes}
 use Rattle.record_delta.specs.declared.record.Rec.{Rec}
 use Rattle.page_file.specs.Entry.{keys_of, AreRising}
-use Rattle.page_file.specs.Records.{page_entries}
 use Rattle.run_cursor.specs.Cursor.{CursorState, from_head, HasAhead, IsAdvanced}
 use Rattle.run_cursor.specs.Lookup.{IsAbove, IsReached}
 
 -- a key that is below all of a list's isn't among them
-none_below : (key : Key) (es : List (Key × Rec)) → AllByRecursion (λ (k : Key). key_cmp key k ≡ Less) (keys_of (page_entries es)) → find_in key_cmp key es ≡ None
+none_below : (key : Key) (es : List (Key × Rec)) → AllByRecursion (λ (k : Key). key_cmp key k ≡ Less) (keys_of es) → find_in key_cmp key es ≡ None
 none_below key [] below = refl
 none_below key (e ∷ es) below = ap (λ o. cond (is_eq o) (Some e.1) (find_in key_cmp key es)) below.0 ∙ none_below key es below.1
 
@@ -28,7 +27,7 @@ below_all : (key low : Key) (keys : List Key) → key_cmp key low ≡ Less → A
 below_all key low [] less above = tt
 below_all key low (k ∷ keys) less above = (nat_list_cmp_total.trans key low k less above.0, below_all key low keys less above.1)
 
-rising_keys : (head : Option (Key × Rec)) (es : List (Key × Rec)) → AreRising (from_head head (page_entries es)) → AreRising (page_entries es)
+rising_keys : (head : Option (Key × Rec)) (es : List (Key × Rec)) → AreRising (from_head head es) → AreRising es
 unfolding IsStrictlySortedBy
 rising_keys None es rise = rise
 rising_keys (Some h) es rise = rise.1
@@ -41,11 +40,11 @@ pub record CameTo (sizes : Sizes) (new : CursorState) (rest : List (Key × Rec))
   pub here : key_cmp key head.0 ≡ Equal → find_in key_cmp key rest ≡ Some head.1
   pub absent : key_cmp key head.0 ≡ Less → find_in key_cmp key rest ≡ None
 
-pub came_to : (sizes : Sizes) (old new : CursorState) (rest : List (Key × Rec)) (key : Key) (file : List ℕ) (head : Key × Rec) → AreRising (from_head old.head (page_entries rest))
-    → IsAdvanced sizes new rest file → new.head ≡ Some head → CameTo sizes new rest key file head
+pub came_to : (sizes : Sizes) (old new : CursorState) (rest : List (Key × Rec)) (pages : List ℕ) (key : Key) (file : List ℕ) (head : Key × Rec) → AreRising (from_head old.head rest)
+    → IsAdvanced sizes new pages rest file → new.head ≡ Some head → CameTo sizes new rest key file head
 unfolding IsStrictlySortedBy
-came_to sizes old new [] key file head rise advanced is = absurd (let none = advanced.0 in cc)
-came_to sizes old new (e ∷ es) key file head rise advanced is =
+came_to sizes old new [] pages key file head rise advanced is = absurd (let none = advanced.0 in cc)
+came_to sizes old new (e ∷ es) pages key file head rise advanced is =
     let some = advanced.0 in
     let same : e ≡ head = cc in
     let keys = rising_keys old.head (e ∷ es) rise in
@@ -55,13 +54,13 @@ came_to sizes old new (e ∷ es) key file head rise advanced is =
       further = λ above. ap (λ o. cond (is_eq o) (Some e.1) (find_in key_cmp key es)) (ap (λ (f : Key × Rec). key_cmp key f.0) same ∙ above);
       here = λ equal. ap (λ o. cond (is_eq o) (Some e.1) (find_in key_cmp key es)) (ap (λ (f : Key × Rec). key_cmp key f.0) same ∙ equal) ∙ ap (λ (f : Key × Rec). Some f.1) same;
       absent = λ below. let less = ap (λ (f : Key × Rec). key_cmp key f.0) same ∙ below in
-          ap (λ o. cond (is_eq o) (Some e.1) (find_in key_cmp key es)) less ∙ none_below key es (below_all key e.0 (keys_of (page_entries es)) less keys.0);
+          ap (λ o. cond (is_eq o) (Some e.1) (find_in key_cmp key es)) less ∙ none_below key es (below_all key e.0 (keys_of es) less keys.0);
     }
 
 -- where the cursor came to the end, no entries were ahead
-pub none_ahead : (sizes : Sizes) (new : CursorState) (rest : List (Key × Rec)) (key : Key) (file : List ℕ) → IsAdvanced sizes new rest file → new.head ≡ None → find_in key_cmp key rest ≡ None
-none_ahead sizes new [] key file advanced is = refl
-none_ahead sizes new (e ∷ es) key file advanced is = absurd (let some = advanced.0 in cc)
+pub none_ahead : (sizes : Sizes) (new : CursorState) (rest : List (Key × Rec)) (pages : List ℕ) (key : Key) (file : List ℕ) → IsAdvanced sizes new pages rest file → new.head ≡ None → find_in key_cmp key rest ≡ None
+none_ahead sizes new [] pages key file advanced is = refl
+none_ahead sizes new (e ∷ es) pages key file advanced is = absurd (let some = advanced.0 in cc)
 
 -- a key that is above some entries has the record that it has among those behind them
 past : (key : Key) (front back : List (Key × Rec)) → IsAbove key front → find_in key_cmp key (front ++ back) ≡ find_in key_cmp key back

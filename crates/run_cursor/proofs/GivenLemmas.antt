@@ -13,15 +13,16 @@ use Rattle.blsm_model.specs.Sizes.{Sizes}
 use Rattle.blsm_model.specs.Geometry.{page_count}
 use Rattle.record_delta.specs.declared.record.Rec.{Rec}
 use Rattle.record_delta.specs.Records.{weight}
-use Rattle.page_file.specs.Entry.{PageEntry, IsPageEntry, AreEntries, AreRising, entries_bytes}
-use Rattle.page_file.specs.Page.{no_page, page_number}
-use Rattle.page_file.specs.Component.{RunPage, entries_of, weight_of, first_of, AreChained, empty_component}
-use Rattle.page_file.specs.Records.{page_entry, page_entries, weights, HasList}
+use Rattle.page_file.specs.Entry.{IsPageEntry, AreEntries, AreRising}
+use Rattle.blsm_model.specs.Components.{no_page}
+use Rattle.page_file.specs.Page.{page_number}
+use Rattle.blsm_model.specs.Components.{empty_component}
+use Rattle.page_file.specs.Component.{RunPage, entries_of, first_number, AreChained, HasList}
+use Rattle.record_delta.specs.Entries.{entries_weight, Entries}
 use Rattle.page_file.proofs.ComponentLemmas.{first_join, chain_join, entries_join, rising_apart}
-use Rattle.page_file.proofs.RecordLemmas.{same_weights, records_of_entries}
 use Rattle.run_cursor.specs.Cursor.{CursorState, started, from_head, GoesOnAt, turned, IsStepped}
 use Rattle.run_cursor.specs.Given.{HasGiven}
-use Rattle.run_cursor.proofs.CursorLemmas.{length-page_entries, same_first, none_in_none, rise_over}
+use Rattle.run_cursor.proofs.CursorLemmas.{same_first, none_in_none, rise_over}
 
 -- ---- lists
 
@@ -29,22 +30,22 @@ last_push : {X : Type 0} (o : Option X) (es : List X) (e : X) → last_or o (es 
 last_push o [] e = refl
 last_push o (f ∷ es) e = last_push (Some f) es e
 
-entries_push : (given : List (Key × Rec)) (e : Key × Rec) (rest : List PageEntry) → page_entries given ++ (page_entry e ∷ rest) ≡ page_entries (given ++ e ∷ []) ++ rest
+entries_push : (given : List (Key × Rec)) (e : Key × Rec) (rest : Entries) → given ++ (e ∷ rest) ≡ (given ++ e ∷ []) ++ rest
 entries_push [] e rest = refl
-entries_push (g ∷ given) e rest = ap (λ (l : List PageEntry). page_entry g ∷ l) (entries_push given e rest)
+entries_push (g ∷ given) e rest = ap (λ (l : Entries). g ∷ l) (entries_push given e rest)
 
-weights_push : (given : List (Key × Rec)) (e : Key × Rec) → weights (given ++ e ∷ []) ≡ weights given + weight e.0 e.1
+weights_push : (given : List (Key × Rec)) (e : Key × Rec) → entries_weight (given ++ e ∷ []) ≡ entries_weight given + weight e.0 e.1
 weights_push given e = sum_by-append (λ (f : Key × Rec). weight f.0 f.1) given (e ∷ []) ∙ omega arith
 
 -- what rises up to its last one, and on from there, rises
-rise_join : (head : Option (Key × Rec)) (given : List (Key × Rec)) (es : List PageEntry) → AreRising (from_head head (page_entries given)) → AreRising (from_head (last_or head given) es)
-    → AreRising (from_head head (page_entries given ++ es))
+rise_join : (head : Option (Key × Rec)) (given : List (Key × Rec)) (es : Entries) → AreRising (from_head head given) → AreRising (from_head (last_or head given) es)
+    → AreRising (from_head head (given ++ es))
 unfolding IsStrictlySortedBy
 rise_join head [] es rise on = on
 rise_join None (g ∷ given) es rise on = rise_join (Some g) given es rise on
 rise_join (Some h) (g ∷ given) es rise on =
     let more = rise_join (Some g) given es rise.1 on in
-    (rise_over h (page_entry g) (page_entries given ++ es) more).0 rise.0.0
+    (rise_over h g (given ++ es) more).0 rise.0.0
 
 -- ---- the start
 
@@ -96,8 +97,8 @@ pub given_step : (sizes : Sizes) (run : Component) (old new : CursorState) (give
     → HasGiven sizes run new (given ++ e ∷ []) file
 given_step sizes run old new given e file g stepped =
     let first = same_first g.here e new.behind g.each stepped.right (sym g.behind_is ∙ stepped.behind_is) in
-    let moved : page_entries given ++ page_entries g.here ≡ page_entries (given ++ e ∷ []) ++ page_entries first.more =
-    ap (λ (l : List (Key × Rec)). page_entries given ++ page_entries l) first.here_is ∙ entries_push given e (page_entries first.more) in
+    let moved : given ++ g.here ≡ (given ++ e ∷ []) ++ first.more =
+    ap (λ (l : List (Key × Rec)). given ++ l) first.here_is ∙ entries_push given e first.more in
     let count = g.entries_is in
     let weighs = g.weight_is in
     record {
@@ -108,7 +109,7 @@ given_step sizes run old new given e file g stepped =
       chained = g.chained;
       end_is = g.end_is ∙ sym stepped.next_is;
       none_next = λ last. g.none_next (sym stepped.pages_is ∙ last);
-      each = All-tail IsPageEntry (page_entry e) (page_entries first.more) (subst (λ (l : List (Key × Rec)). AreEntries (page_entries l)) first.here_is g.each);
+      each = All-tail IsPageEntry e first.more (subst (λ (l : List (Key × Rec)). AreEntries l) first.here_is g.each);
       behind_is = first.rest_is;
       entries_are = g.entries_are ∙ moved;
       on_last = λ last is. let few = g.on_last last is in omega (arith, few, ap (length {A = Key × Rec}) first.here_is);
@@ -133,35 +134,33 @@ not_some (Some m) n more one = absurd (omega (arith, more refl, one))
 not_some None n more one = refl
 
 -- the cursor went on to the first entry of its next page
-pub given_on : (sizes : Sizes) (run : Component) (old new : CursorState) (given : List (Key × Rec)) (next : Option ℕ) (es : List PageEntry) (e : Key × Rec) (file : List ℕ) → page_count sizes ≤ no_page
+pub given_on : (sizes : Sizes) (run : Component) (old new : CursorState) (given : List (Key × Rec)) (next : Option ℕ) (es : Entries) (e : Key × Rec) (file : List ℕ) → page_count sizes ≤ no_page
     → HasGiven sizes run old given file → old.behind ≡ [] → 0 < old.pages → GoesOnAt sizes old next es file → IsStepped (turned next es old) new e → HasGiven sizes run new (given ++ e ∷ []) file
 given_on sizes run old new given next es e file few g none more at stepped =
-    let found = records_of_entries es at.valid.content.each in
-    let each : AreEntries (page_entries found.0) = subst AreEntries (sym found.1) at.valid.content.each in
-    let first = same_first found.0 e new.behind each stepped.right (ap entries_bytes found.1 ∙ stepped.behind_is) in
+    let each = at.valid.content.each in
+    let first = same_first es e new.behind each stepped.right stepped.behind_is in
     let here : g.here ≡ [] = none_in_none g.here (sym none ∙ g.behind_is) in
     let p : RunPage = record { number = old.next; entries = es } in
     let end : g.end ≡ Some old.next = end_some g.end old.next (page_count sizes) g.end_is at.inside few in
-    let before : page_entries given ++ page_entries g.here ≡ page_entries given = ap (λ (l : List (Key × Rec)). page_entries given ++ page_entries l) here ∙ append-nil (page_entries given) in
-    let so_far : entries_of g.pages ≡ page_entries given = g.entries_are ∙ before in
+    let before : given ++ g.here ≡ given = ap (λ (l : List (Key × Rec)). given ++ l) here ∙ append-nil given in
+    let so_far : entries_of g.pages ≡ given = g.entries_are ∙ before in
     let head : old.head ≡ last_or None given = ⊎_elim (λ is. is) (λ last. absurd (omega (arith, last, more))) g.head_is in
-    let whole : AreRising (page_entries given ++ es) = rise_join None given es (subst AreRising before g.rise) (subst (λ (h : Option (Key × Rec)). AreRising (from_head h es)) head at.goes_on.rise) in
-    let moved : page_entries given ++ es ≡ page_entries (given ++ e ∷ []) ++ page_entries first.more =
-    ap (λ (l : List PageEntry). page_entries given ++ l) (sym found.1) ∙ ap (λ (l : List (Key × Rec)). page_entries given ++ page_entries l) first.here_is
-    ∙ entries_push given e (page_entries first.more) in
+    let whole : AreRising (given ++ es) = rise_join None given es (subst AreRising before g.rise) (subst (λ (h : Option (Key × Rec)). AreRising (from_head h es)) head at.goes_on.rise) in
+    let moved : given ++ es ≡ (given ++ e ∷ []) ++ first.more =
+    ap (λ (l : Entries). given ++ l) first.here_is ∙ entries_push given e first.more in
     let pages = g.pages_is in
     let count = g.entries_is in
     let weighs = g.weight_is in
-    let on_page : length es ≡ 1 + length first.more = ap (length {A = PageEntry}) (sym found.1) ∙ length-page_entries found.0 ∙ ap (length {A = Key × Rec}) first.here_is ∙ omega arith in
+    let on_page : length es ≡ 1 + length first.more = ap (length {A = Key × Rec}) first.here_is ∙ omega arith in
     record {
       pages = g.pages ++ p ∷ [];
       end = next;
       here = first.more;
-      first_is = ap page_number (first_join g.pages (p ∷ []) next) ∙ ap (λ (o : Option ℕ). page_number (first_of g.pages o)) (sym end) ∙ g.first_is;
+      first_is = ap page_number (first_join g.pages (p ∷ []) next) ∙ ap (λ (o : Option ℕ). page_number (first_number g.pages o)) (sym end) ∙ g.first_is;
       chained = chain_join sizes g.pages (p ∷ []) next file (subst (λ (o : Option ℕ). AreChained sizes g.pages o file) end g.chained) (at.inside, at.valid, tt);
       end_is = sym stepped.next_is;
       none_next = λ last. not_some next old.pages at.goes_on.numbers.follows.0 (omega (arith, last, more, stepped.pages_is));
-      each = All-tail IsPageEntry (page_entry e) (page_entries first.more) (subst (λ (l : List (Key × Rec)). AreEntries (page_entries l)) first.here_is each);
+      each = All-tail IsPageEntry e first.more (subst (λ (l : List (Key × Rec)). AreEntries l) first.here_is each);
       behind_is = first.rest_is;
       entries_are = entries_join g.pages (p ∷ []) ∙ (λ i. so_far i ++ append-nil es i) ∙ moved;
       on_last = λ last is.
@@ -181,8 +180,8 @@ pub given_end : (sizes : Sizes) (run : Component) (old : CursorState) (given : L
 given_end sizes run old given file few g none last no_entries no_weight =
     let here : g.here ≡ [] = none_in_none g.here (sym none ∙ g.behind_is) in
     let end : g.end ≡ None = g.none_next last in
-    let so_far : page_entries given ++ page_entries g.here ≡ page_entries given = ap (λ (l : List (Key × Rec)). page_entries given ++ page_entries l) here ∙ append-nil (page_entries given) in
-    let are : entries_of g.pages ≡ page_entries given = g.entries_are ∙ so_far in
+    let so_far : given ++ g.here ≡ given = ap (λ (l : List (Key × Rec)). given ++ l) here ∙ append-nil given in
+    let are : entries_of g.pages ≡ given = g.entries_are ∙ so_far in
     let chained : AreChained sizes g.pages None file = subst (λ (o : Option ℕ). AreChained sizes g.pages o file) end g.chained in
     let rises : AreRising (entries_of g.pages) = subst AreRising (sym g.entries_are) g.rise in
     let pages = g.pages_is in
@@ -191,13 +190,13 @@ given_end sizes run old given file few g none last no_entries no_weight =
       record {
         pages = g.pages;
         reads = record {
-          first_is = ap (λ (o : Option ℕ). page_number (first_of g.pages o)) (sym end) ∙ g.first_is;
+          first_is = ap (λ (o : Option ℕ). page_number (first_number g.pages o)) (sym end) ∙ g.first_is;
           chained = chained;
           rise = rises;
           apart = rising_apart sizes g.pages None file few chained rises;
           pages_is = omega (arith, pages, last);
-          entries_is = ap (length {A = PageEntry}) are ∙ length-page_entries given ∙ omega (arith, count, no_entries);
-          weight_is = ap weight_of are ∙ same_weights given ∙ omega (arith, weighs, no_weight);
+          entries_is = ap (length {A = Key × Rec}) are ∙ omega (arith, count, no_entries);
+          weight_is = ap entries_weight are ∙ omega (arith, weighs, no_weight);
         };
         entries_are = are;
       },

@@ -2,3 +2,4 @@ mod Examples
 pub mod CursorLemmas
 pub mod FindLemmas
 pub mod GivenLemmas
+mod AheadLemmas

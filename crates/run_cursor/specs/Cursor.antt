@@ -1,5 +1,7 @@
 -- What contracts see of a cursor, and where it stands in its component.
-use Rattle.std.specs.Prelude.{◌≡◌, ◌↔◌, ◌⊎◌, ℕ, ◌+◌, ◌-◌, ◌<◌, ◌≤◌, List, [], ◌∷◌, ◌++◌, length, Option, Some, None, IsSome, ⊤}
+use Rattle.std.specs.Prelude.{◌≡◌, ◌↔◌, ℕ, ◌+◌, ◌-◌, ◌<◌, ◌≤◌, List, [], ◌∷◌, ◌++◌, length, Option, Some, None, IsSome, ⊤}
+use Rattle.std.specs.List.{Contains, between}
+use Rattle.blsm_model.specs.Format.{page_length}
 use Rattle.std.specs.declared.cmp.Ordering.TheVariants.{Less}
 use Rattle.blsm_model.specs.declared.component.Component.{Component}
 use Rattle.blsm_model.specs.declared.key.Key.{Key}
@@ -8,11 +10,11 @@ use Rattle.blsm_model.specs.Sizes.{Sizes}
 use Rattle.blsm_model.specs.Geometry.{page_count}
 use Rattle.record_delta.specs.declared.record.Rec.{Rec}
 use Rattle.record_delta.specs.Records.{weight}
-use Rattle.page_file.specs.Entry.{PageEntry, IsPageEntry, entry_bytes, entries_bytes, AreEntries, AreRising}
+use Rattle.page_file.specs.Entry.{IsPageEntry, entry_bytes, entries_bytes, AreEntries, AreRising}
 use Rattle.page_file.specs.Page.{page_number, IsPageOf}
 use Rattle.page_file.specs.File.{page_at}
-use Rattle.page_file.specs.Component.{RunPage, entries_of, weight_of, first_of, AreChained}
-use Rattle.page_file.specs.Records.{page_entry, page_entries, weights}
+use Rattle.page_file.specs.Component.{RunPage, numbers_of, entries_of, first_number, AreChained}
+use Rattle.record_delta.specs.Entries.{entries_weight, Entries}
 
 -- The head; the bytes of the entries behind it on its page; the number of the page behind; and, by the component's numbers,
 -- how many pages aren't read yet, and how many entries come after the head, of which weight.
@@ -29,24 +31,33 @@ abbrev pub started : Component → CursorState
 started run = record { head = None; behind = []; next = run.first; pages = run.pages; entries = run.entries; weight = run.weight }
 
 -- the head, if there is one, and then these entries
-abbrev pub from_head : Option (Key × Rec) → List PageEntry → List PageEntry
+abbrev pub from_head : Option (Key × Rec) → Entries → Entries
 from_head None entries = entries
-from_head (Some head) entries = page_entry head ∷ entries
+from_head (Some head) entries = head ∷ entries
 
 -- the first of these entries, which has this key
-abbrev pub IsFirstKey : List PageEntry → Option Key → Type 0
-IsFirstKey entries key = (first : PageEntry) × (more : List PageEntry) × (entries ≡ first ∷ more) × (key ≡ Some first.key)
+abbrev pub IsFirstKey : Entries → Option Key → Type 0
+IsFirstKey entries key = (first : Key × Rec) × (more : Entries) × (entries ≡ first ∷ more) × (key ≡ Some first.0)
 
 -- What each cursor keeps: there are entries behind the head on its page, which rise from the head on, and no more of them than the
 -- component's numbers say; on its last page just as many.
 pub record IsCursor (cursor : CursorState) : Type 0 where
-  pub here : List (Key × Rec)
-  pub each : AreEntries (page_entries here)
-  pub behind_is : cursor.behind ≡ entries_bytes (page_entries here)
-  pub rise : AreRising (from_head cursor.head (page_entries here))
+  pub here : Entries
+  pub each : AreEntries here
+  pub behind_is : cursor.behind ≡ entries_bytes here
+  pub rise : AreRising (from_head cursor.head here)
   pub few : length here ≤ cursor.entries
-  pub light : weights here ≤ cursor.weight
-  pub all : cursor.pages ≡ 0 → (length here ≡ cursor.entries) × (weights here ≡ cursor.weight)
+  pub light : entries_weight here ≤ cursor.weight
+  pub all : cursor.pages ≡ 0 → (length here ≡ cursor.entries) × (entries_weight here ≡ cursor.weight)
+
+-- what contracts see of a cursor's fields
+abbrev pub seen : Option (Key × Rec) → List ℕ → ℕ → ℕ → ℕ → ℕ → ℕ → ℕ → CursorState
+seen head page at end next pages entries weight_left =
+    record { head = head; behind = between at end page; next = next; pages = pages; entries = entries; weight = weight_left }
+
+-- what a cursor keeps of its fields
+abbrev pub IsKept : Option (Key × Rec) → List ℕ → ℕ → ℕ → ℕ → ℕ → ℕ → ℕ → Type 0
+IsKept head page at end next pages entries weight_left = (at ≤ end) × (end ≤ page_length) × IsCursor (seen head page at end next pages entries weight_left)
 
 -- ---- on a page's end
 
@@ -59,12 +70,12 @@ pub record AreInNumber (cursor : CursorState) (next : Option ℕ) (count weight 
   pub all : cursor.pages ≡ 1 → (count ≡ cursor.entries) × (weight ≡ cursor.weight)
 
 -- a page with these entries and this next page goes on behind the cursor: its keys rise over the page's end, and its numbers are right
-pub record PageGoesOn (cursor : CursorState) (next : Option ℕ) (entries : List PageEntry) : Type 0 where
+pub record PageGoesOn (cursor : CursorState) (next : Option ℕ) (entries : Entries) : Type 0 where
   pub rise : AreRising (from_head cursor.head entries)
-  pub numbers : AreInNumber cursor next (length entries) (weight_of entries)
+  pub numbers : AreInNumber cursor next (length entries) (entries_weight entries)
 
 -- in this file the cursor's next page is a valid one that has these entries and this next page, and goes on
-pub record GoesOnAt (sizes : Sizes) (cursor : CursorState) (next : Option ℕ) (entries : List PageEntry) (file : List ℕ) : Type 0 where
+pub record GoesOnAt (sizes : Sizes) (cursor : CursorState) (next : Option ℕ) (entries : Entries) (file : List ℕ) : Type 0 where
   pub inside : cursor.next < page_count sizes
   pub valid : IsPageOf (page_count sizes) next entries (page_at sizes cursor.next file)
   pub goes_on : PageGoesOn cursor next entries
@@ -74,43 +85,23 @@ pub record IsDamageAt (sizes : Sizes) (cursor : CursorState) (n : ℕ) (file : L
   pub is_next : n ≡ cursor.next
   pub none_left : cursor.behind ≡ []
   pub more_pages : 0 < cursor.pages
-  pub damaged : (next : Option ℕ) (entries : List PageEntry) → GoesOnAt sizes cursor next entries file → ⊥
+  pub damaged : (next : Option ℕ) (entries : Entries) → GoesOnAt sizes cursor next entries file → ⊥
 
 -- the cursor before the entries of its next page
-abbrev pub turned : Option ℕ → List PageEntry → CursorState → CursorState
+abbrev pub turned : Option ℕ → Entries → CursorState → CursorState
 turned next entries cursor = record cursor { behind = entries_bytes entries; next = page_number next; pages = cursor.pages - 1 }
 
 -- ---- one entry further
 
 -- the cursor went on to the next entry of its page
 pub record IsStepped (old new : CursorState) (head : Key × Rec) : Type 0 where
-  pub right : IsPageEntry (page_entry head)
+  pub right : IsPageEntry head
   pub head_is : new.head ≡ Some head
-  pub behind_is : old.behind ≡ entry_bytes (page_entry head) ++ new.behind
+  pub behind_is : old.behind ≡ entry_bytes head ++ new.behind
   pub next_is : new.next ≡ old.next
   pub pages_is : new.pages ≡ old.pages
   pub entries_is : old.entries ≡ new.entries + 1
   pub weight_is : old.weight ≡ weight head.0 head.1 + new.weight
-
--- no entry is left: the cursor is at the end
-pub record IsEnded (old new : CursorState) : Type 0 where
-  pub none_left : old.behind ≡ []
-  pub no_page : old.pages ≡ 0
-  pub new_is : new ≡ record old { head = None }
-
--- the cursor went on to the first entry of its next page, of which this is known
-pub record IsOnNext (IsKnown : Option ℕ → List PageEntry → Type 0) (old new : CursorState) : Type 0 where
-  pub none_left : old.behind ≡ []
-  pub more_pages : 0 < old.pages
-  pub next : Option ℕ
-  pub entries : List PageEntry
-  pub known : IsKnown next entries
-  pub head : Key × Rec
-  pub stepped : IsStepped (turned next entries old) new head
-
--- the cursor went on
-abbrev pub IsMoved : (Option ℕ → List PageEntry → Type 0) → CursorState → CursorState → Type 0
-IsMoved IsKnown old new = ((head : Key × Rec) × IsStepped old new head) ⊎ IsEnded old new ⊎ IsOnNext IsKnown old new
 
 -- the head's key is above that of the head before it
 abbrev pub Rises : Option (Key × Rec) → Option (Key × Rec) → Type 0
@@ -120,22 +111,26 @@ Rises None new = ⊤
 
 -- ---- the list
 
+-- each of the pages has one of these numbers
+abbrev pub AreAmong : List RunPage → List ℕ → Type 0
+AreAmong pages numbers = (n : ℕ) → Contains (numbers_of pages) n → Contains numbers n
+
 -- In this file these are the entries that come after the cursor's head: those behind it on its page, and those of the pages that
 -- aren't read yet.
-pub record HasAhead (sizes : Sizes) (cursor : CursorState) (rest : List (Key × Rec)) (file : List ℕ) : Type 0 where
-  pub here : List (Key × Rec)
+pub record HasAhead (sizes : Sizes) (cursor : CursorState) (rest : Entries) (file : List ℕ) : Type 0 where
+  pub here : Entries
   pub coming : List RunPage
-  pub each : AreEntries (page_entries here)
-  pub behind_is : cursor.behind ≡ entries_bytes (page_entries here)
-  pub first_is : page_number (first_of coming None) ≡ cursor.next
+  pub each : AreEntries here
+  pub behind_is : cursor.behind ≡ entries_bytes here
+  pub first_is : page_number (first_number coming None) ≡ cursor.next
   pub chained : AreChained sizes coming None file
-  pub rest_is : page_entries rest ≡ page_entries here ++ entries_of coming
-  pub rise : AreRising (from_head cursor.head (page_entries rest))
+  pub rest_is : rest ≡ here ++ entries_of coming
+  pub rise : AreRising (from_head cursor.head rest)
   pub pages_is : length coming ≡ cursor.pages
   pub entries_is : length rest ≡ cursor.entries
-  pub weight_is : weights rest ≡ cursor.weight
+  pub weight_is : entries_weight rest ≡ cursor.weight
 
--- the cursor went on to the first of these entries and has the others ahead; where there are none, it is at the end
-abbrev pub IsAdvanced : Sizes → CursorState → List (Key × Rec) → List ℕ → Type 0
-IsAdvanced sizes new [] file = (new.head ≡ None) × HasAhead sizes new [] file
-IsAdvanced sizes new (e ∷ es) file = (new.head ≡ Some e) × HasAhead sizes new es file
+-- the cursor went on to the first of these entries and has the others ahead, on pages among these; where there are none, it is at the end
+abbrev pub IsAdvanced : Sizes → CursorState → List ℕ → Entries → List ℕ → Type 0
+IsAdvanced sizes new pages [] file = (new.head ≡ None) × (after : HasAhead sizes new [] file) × AreAmong after.coming pages
+IsAdvanced sizes new pages (e ∷ es) file = (new.head ≡ Some e) × (after : HasAhead sizes new es file) × AreAmong after.coming pages

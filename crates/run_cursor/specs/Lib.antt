@@ -1,4 +1,3 @@
-pub mod Reads
 pub mod Cursor
 pub mod Given
 pub mod Lookup

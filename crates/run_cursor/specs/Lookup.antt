@@ -1,4 +1,5 @@
 -- What a component's entries say of a key, as far as they are read.
+use Rattle.page_file.specs.Component.{HasList}
 use Rattle.std.specs.Prelude.{◌≡◌, ◌≢◌, ◌⊎◌, ℕ, ◌+◌, ◌≤◌, List, [], ◌∷◌, ◌++◌, Option}
 use Rattle.std.specs.declared.cmp.Ordering.TheVariants.{Greater}
 use Rattle.std.specs.FinMap.{find}
@@ -8,7 +9,6 @@ use Rattle.blsm_model.specs.declared.key.Key.{Key}
 use Rattle.blsm_model.specs.Keys.{key_cmp}
 use Rattle.blsm_model.specs.Sizes.{Sizes}
 use Rattle.record_delta.specs.declared.record.Rec.{Rec}
-use Rattle.page_file.specs.Records.{HasList}
 use Rattle.run_cursor.specs.Cursor.{CursorState, IsDamageAt}
 use Rattle.run_cursor.specs.Given.{HasGiven}
 

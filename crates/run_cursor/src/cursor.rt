@@ -1,25 +1,26 @@
 //! A cursor over a component.
 ghost use Rattle.std.specs.Prelude.{◌≡◌, ◌≢◌, ◌↔◌, ◌+◌, ◌<◌, ◌≤◌, ◌++◌, [], ℕ, List, Option, Ok, Err, length, IsTrue, IsErr, OnOk, IfSome, IfNone};
-ghost use Rattle.refusal.specs.Count.{HasRisen};
 ghost use Rattle.blsm_model.specs.declared.component.Component.{Component};
 ghost use Rattle.blsm_model.specs.declared.key.Key.{Key};
 ghost use Rattle.blsm_model.specs.Sizes.{Sizes};
 ghost use Rattle.blsm_model.specs.Geometry.{page_count, file_length};
 ghost use Rattle.record_delta.specs.declared.record.Rec.{Rec};
+ghost use Rattle.record_delta.specs.Entries.{Entries};
 ghost use Rattle.record_delta.specs.Records.{weight as weight_with};
-ghost use Rattle.page_file.specs.Entry.{PageEntry, IsPageEntry, entry_bytes, entries_bytes, AreRising};
-ghost use Rattle.page_file.specs.Page.{no_page, IsPageOf};
-ghost use Rattle.page_file.specs.Component.{empty_component};
-ghost use Rattle.page_file.specs.Records.{page_entry, HasList};
-ghost use Rattle.run_cursor.specs.Reads.{OnlyReads};
-ghost use Rattle.run_cursor.specs.Cursor.{started, from_head, IsFirstKey, HasAhead, IsAdvanced, AreInNumber, PageGoesOn, GoesOnAt, IsMoved, IsStepped, IsDamageAt, Rises, turned};
+ghost use Rattle.page_file.specs.Entry.{IsPageEntry, entry_bytes, entries_bytes, AreRising};
+ghost use Rattle.blsm_model.specs.Components.{no_page};
+ghost use Rattle.page_file.specs.Page.{IsPageOf};
+ghost use Rattle.blsm_model.specs.Components.{empty_component};
+ghost use Rattle.page_file.specs.File.{Reads};
+ghost use Rattle.page_file.specs.Component.{numbers_of, HasList};
+ghost use Rattle.run_cursor.specs.Cursor.{started, from_head, IsFirstKey, HasAhead, IsAdvanced, AreInNumber, PageGoesOn, GoesOnAt, IsStepped, IsDamageAt, Rises, turned};
 ghost use Rattle.run_cursor.specs.Given.{HasGiven, HasGivenMore};
 
 use blsm_model::{Component, Geometry, Key};
 use disk_trait::Disk;
 use entry_codec::decode;
 use page_file::{Broken, PAGE_HEAD_LEN, PAGE_LEN, PageHead, number_of, read_page};
-use record_delta::Rec;
+use record_delta::{Rec, Stream};
 use std::marker::Model;
 
 /// A place among the entries of a component: at one of them, its head, before the first one, or at the end. It keeps the page
@@ -40,30 +41,13 @@ pub struct Cursor {
 }
 
 impl Model for Cursor {
-    ghost use Rattle.std.specs.Prelude.{◌≤◌};
-    ghost use Rattle.std.specs.List.{between};
-    ghost use Rattle.blsm_model.specs.Format.{page_length};
-    ghost use Rattle.run_cursor.specs.Cursor.{CursorState, IsCursor};
+    ghost use Rattle.run_cursor.specs.Cursor.{CursorState, seen, IsKept};
 
     ghost Value = { CursorState };
 
-    ghost view = { λ c. record {
-      head = c.head;
-      behind = between c.at c.end c.page;
-      next = c.next;
-      pages = c.pages;
-      entries = c.entries;
-      weight = c.weight;
-    } };
+    ghost view = { λ c. seen c.head c.page c.at c.end c.next c.pages c.entries c.weight };
 
-    ghost invariant = { λ c. (c.at ≤ c.end) × (c.end ≤ page_length) × IsCursor (record {
-      head = c.head;
-      behind = between c.at c.end c.page;
-      next = c.next;
-      pages = c.pages;
-      entries = c.entries;
-      weight = c.weight;
-    }) };
+    ghost invariant = { λ c. IsKept c.head c.page c.at c.end c.next c.pages c.entries c.weight };
 }
 
 impl Cursor {
@@ -71,8 +55,8 @@ impl Cursor {
     pub fn start(run: &Component) -> Cursor
         requires { run.now.pages ≡ 0 → run.now ≡ empty_component }
         ensures start { result ≡ started run.now }
-        ensures list { (sizes : Sizes) (entries : List (Key × Rec)) (file : List ℕ) → HasList sizes run.now entries file
-            → HasAhead sizes result entries file }
+        ensures list { (sizes : Sizes) (entries : Entries) (file : List ℕ) → (list : HasList sizes run.now entries file)
+            → (ahead : HasAhead sizes result entries file) × (ahead.coming ≡ list.pages) }
         ensures given { (sizes : Sizes) (file : List ℕ) → HasGiven sizes run.now result [] file }
     {
         Cursor {
@@ -87,16 +71,6 @@ impl Cursor {
         }
     }
 
-    /// The entry that the cursor is at; `None` before the first `advance`, and at the end. It takes no memory.
-    pub fn head(&self) -> Option<(Key, Rec)>
-        ensures { result ≡ self.now.head }
-    {
-        match &self.head {
-            Some((key, rec)) => Some((key.copy(), rec.copy())),
-            None => None,
-        }
-    }
-
     /// How many entries come after the head, by the component's number; before the first `advance` all of them.
     pub fn left(&self) -> u64
         ensures { result ≡ self.now.entries }
@@ -107,8 +81,8 @@ impl Cursor {
     // The entry behind the head on its page, and its length in bytes.
     fn behind(&self) -> (Key, Rec, usize)
         requires { 0 < length self.now.behind }
-        ensures entry { (rest : List ℕ) × (self.now.behind ≡ entry_bytes (page_entry (result.0, result.1)) ++ rest) }
-        ensures right { IsPageEntry (page_entry (result.0, result.1)) }
+        ensures entry { (rest : List ℕ) × (self.now.behind ≡ entry_bytes ((result.0, result.1)) ++ rest) }
+        ensures right { IsPageEntry ((result.0, result.1)) }
         ensures length { result.2 ≡ weight_with result.0 result.1 }
     {
         match decode(&self.page[self.at..self.end]) {
@@ -132,7 +106,7 @@ impl Cursor {
 
     // Whether the first key of a valid page is above the head's.
     fn rises_to(&self, page: &[u8; PAGE_LEN]) -> bool
-        ensures { (pages : ℕ) (next : Option ℕ) (entries : List PageEntry) → IsPageOf pages next entries page.now
+        ensures { (pages : ℕ) (next : Option ℕ) (entries : Entries) → IsPageOf pages next entries page.now
             → (IsTrue result ↔ AreRising (from_head self.now.head entries)) }
     {
         let Some((last, _)) = &self.head else {
@@ -160,7 +134,7 @@ impl Cursor {
     // Whether a valid page goes on behind the head.
     fn goes_on(&self, page: &[u8; PAGE_LEN]) -> bool
         requires { 0 < self.now.pages }
-        ensures { (pages : ℕ) (next : Option ℕ) (entries : List PageEntry) → pages ≤ no_page → IsPageOf pages next entries page.now
+        ensures { (pages : ℕ) (next : Option ℕ) (entries : Entries) → pages ≤ no_page → IsPageOf pages next entries page.now
             → (IsTrue result ↔ PageGoesOn self.now next entries) }
     {
         self.is_in_number(PageHead::read(page)) && self.rises_to(page)
@@ -169,9 +143,9 @@ impl Cursor {
     // Goes to the front of a page's entries.
     fn take(&mut self, page: &[u8; PAGE_LEN])
         requires more_pages { 0 < self.old.pages }
-        requires goes_on { (pages : ℕ) × (next : Option ℕ) × (entries : List PageEntry) × (pages ≤ no_page)
+        requires goes_on { (pages : ℕ) × (next : Option ℕ) × (entries : Entries) × (pages ≤ no_page)
             × IsPageOf pages next entries page.now × PageGoesOn self.old next entries }
-        ensures { (pages : ℕ) (next : Option ℕ) (entries : List PageEntry) → pages ≤ no_page → IsPageOf pages next entries page.now
+        ensures { (pages : ℕ) (next : Option ℕ) (entries : Entries) → pages ≤ no_page → IsPageOf pages next entries page.now
             → self.new ≡ turned next entries self.old }
     {
         let head = PageHead::read(page);
@@ -189,16 +163,13 @@ impl Cursor {
         requires length { IsTrue (D.state disk.old).tells_bytes → length (D.state disk.old).bytes ≡ file_length geo.now }
         ensures kept { IsErr result → self.new ≡ self.old }
         ensures few { page_count geo.now ≤ no_page }
-        ensures turned { OnOk result ((next : Option ℕ) × (entries : List PageEntry) × PageGoesOn self.old next entries
+        ensures turned { OnOk result ((next : Option ℕ) × (entries : Entries) × PageGoesOn self.old next entries
             × (0 < length (entries_bytes entries))
             × (self.new ≡ turned next entries self.old)
             × (IsTrue (D.state disk.old).tells_bytes → GoesOnAt geo.now self.old next entries (D.state disk.new).bytes)) }
         ensures damaged { (n : ℕ) → result ≡ Err (Broken.Damaged n) → IsTrue (D.state disk.old).tells_bytes
             → IsDamageAt geo.now self.old n (D.state disk.new).bytes }
-        ensures only_reads { OnlyReads (file_length geo.now) (D.state disk.old) (D.state disk.new) }
-        ensures one_call { (D.state disk.new).clock ≤ (D.state disk.old).clock + 1 }
-        ensures stands { result ≢ Err Broken.Fault → (D.state disk.new).faults ≡ (D.state disk.old).faults }
-        ensures failed { result ≡ Err Broken.Fault → HasRisen (D.state disk.old).faults (D.state disk.new).faults }
+        ensures reads { Reads (file_length geo.now) 1 result (D.state disk.old) (D.state disk.new) }
     {
         let n = self.next;
         if u64::from(n) >= geo.pages() {
@@ -223,19 +194,17 @@ impl Cursor {
     pub fn advance<D: Disk>(&mut self, disk: &mut D, geo: &Geometry) -> Result<(), Broken>
         requires { IsTrue (D.state disk.old).tells_bytes → length (D.state disk.old).bytes ≡ file_length geo.now }
 
-        // Where these entries come after the head, the cursor goes on to the first of them, and has the others ahead.
-        ensures list { (rest : List (Key × Rec)) → IsTrue (D.state disk.old).tells_bytes → HasAhead geo.now self.old rest (D.state disk.new).bytes
-            → result ≢ Err Broken.Fault → (result ≡ Ok tt) × IsAdvanced geo.now self.new rest (D.state disk.new).bytes }
+        // Where these entries come after the head, the cursor goes on to the first of them, and has the others ahead, on pages among those
+        // that it had ahead.
+        ensures list { (rest : Entries) → IsTrue (D.state disk.old).tells_bytes → (before : HasAhead geo.now self.old rest (D.state disk.new).bytes)
+            → result ≢ Err Broken.Fault → (result ≡ Ok tt) × IsAdvanced geo.now self.new (numbers_of before.coming) rest (D.state disk.new).bytes }
 
         // Where the component begins with the entries that were given so far, it begins with one more; at the end it reads as them.
-        ensures given { (run : Component) (given : List (Key × Rec)) → IsTrue (D.state disk.old).tells_bytes
+        ensures given { (run : Component) (given : Entries) → IsTrue (D.state disk.old).tells_bytes
             → HasGiven geo.now run self.old given (D.state disk.new).bytes
             → OnOk result (HasGivenMore geo.now run self.new self.new.head given (D.state disk.new).bytes) }
 
-        // Whatever comes, it went on as the page's bytes say; and what is damaged, they show.
-        ensures moved { OnOk result (IsMoved (PageGoesOn self.old) self.old self.new) }
-        ensures read { OnOk result (IsTrue (D.state disk.old).tells_bytes
-            → IsMoved (λ next entries. GoesOnAt geo.now self.old next entries (D.state disk.new).bytes) self.old self.new) }
+        // What is damaged, the page's bytes show.
         ensures damaged { (n : ℕ) → result ≡ Err (Broken.Damaged n) → IsTrue (D.state disk.old).tells_bytes
             → IsDamageAt geo.now self.old n (D.state disk.new).bytes }
         ensures kept { IsErr result → self.new ≡ self.old }
@@ -246,12 +215,9 @@ impl Cursor {
         ensures ended { OnOk result (IfNone self.new.head ((self.new.entries ≡ 0) × (self.new.weight ≡ 0) × (self.new.pages ≡ 0))) }
 
         // One call of the disk at most, which reads, and one for each page: none after the last one.
-        ensures only_reads { OnlyReads (file_length geo.now) (D.state disk.old) (D.state disk.new) }
-        ensures one_call { (D.state disk.new).clock ≤ (D.state disk.old).clock + 1 }
+        ensures reads { Reads (file_length geo.now) 1 result (D.state disk.old) (D.state disk.new) }
         ensures no_call { self.old.pages ≡ 0 → (D.state disk.new).clock ≡ (D.state disk.old).clock }
         ensures one_a_page { OnOk result ((D.state disk.new).clock + self.new.pages ≤ (D.state disk.old).clock + self.old.pages) }
-        ensures stands { result ≢ Err Broken.Fault → (D.state disk.new).faults ≡ (D.state disk.old).faults }
-        ensures failed { result ≡ Err Broken.Fault → HasRisen (D.state disk.old).faults (D.state disk.new).faults }
     {
         if self.at < self.end {
             self.step();
@@ -269,9 +235,21 @@ impl Cursor {
     }
 }
 
+impl Stream for Cursor {
+    ghost at = { λ cursor. cursor.head };
+
+    /// The entry that the cursor is at; `None` before the first `advance`, and at the end.
+    fn head(&self) -> Option<(Key, Rec)> {
+        match &self.head {
+            Some((key, rec)) => Some((key.copy(), rec.copy())),
+            None => None,
+        }
+    }
+}
+
 // The first key of a valid page.
 fn first_key(page: &[u8; PAGE_LEN]) -> Option<Key>
-    ensures { (pages : ℕ) (next : Option ℕ) (entries : List PageEntry) → IsPageOf pages next entries page.now → IsFirstKey entries result }
+    ensures { (pages : ℕ) (next : Option ℕ) (entries : Entries) → IsPageOf pages next entries page.now → IsFirstKey entries result }
 {
     let (key, _, _) = decode(&page[PAGE_HEAD_LEN..])?;
     Some(key)

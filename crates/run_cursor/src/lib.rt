@@ -2,9 +2,11 @@
 #![tactic(auto)]
 
 mod cursor;
+mod laws;
 mod lookup;
 
 pub use cursor::Cursor;
+pub use laws::what_is_ahead;
 pub use lookup::find;
 
 #[cfg(test)]

@@ -1,21 +1,19 @@
 //! The record of a key among a component's entries.
-ghost use Rattle.std.specs.Prelude.{◌≡◌, ◌≢◌, ◌+◌, ◌-◌, ◌≤◌, ℕ, List, Ok, Err, length, IsTrue, IfOk};
+ghost use Rattle.record_delta.specs.Entries.{Entries};
+ghost use Rattle.page_file.specs.Component.{HasList};
+ghost use Rattle.std.specs.Prelude.{◌≡◌, ◌≢◌, ◌-◌, ℕ, Ok, Err, length, IsTrue, IfOk};
 ghost use Rattle.std.specs.FinMap.{find as find_in};
-ghost use Rattle.refusal.specs.Count.{HasRisen};
-ghost use Rattle.blsm_model.specs.declared.key.Key.{Key};
 ghost use Rattle.blsm_model.specs.Keys.{key_cmp};
 ghost use Rattle.blsm_model.specs.Geometry.{file_length};
-ghost use Rattle.record_delta.specs.declared.record.Rec.{Rec};
-ghost use Rattle.page_file.specs.Component.{empty_component};
-ghost use Rattle.page_file.specs.Records.{HasList};
-ghost use Rattle.run_cursor.specs.Reads.{OnlyReads};
+ghost use Rattle.blsm_model.specs.Components.{empty_component};
+ghost use Rattle.page_file.specs.File.{Reads};
 ghost use Rattle.run_cursor.specs.Lookup.{IsFound, IsFirstDamage};
 
 use crate::Cursor;
 use blsm_model::{Component, Geometry, Key};
 use disk_trait::Disk;
 use page_file::Broken;
-use record_delta::Rec;
+use record_delta::{Rec, Stream};
 use std::cmp::Ordering;
 
 /// The record of a key in a component, if it has one. It reads the component's pages from the first up to the one where the key
@@ -33,7 +31,7 @@ pub fn find<D: Disk>(
     requires length { IsTrue (D.state disk.old).tells_bytes → length (D.state disk.old).bytes ≡ file_length geo.now }
 
     // Where the component reads as a list, the answer is the list's.
-    ensures list { (entries : List (Key × Rec)) → IsTrue (D.state disk.old).is_honest → HasList geo.now run.now entries (D.state disk.old).bytes
+    ensures list { (entries : Entries) → IsTrue (D.state disk.old).is_honest → HasList geo.now run.now entries (D.state disk.old).bytes
         → result ≢ Err Broken.Fault → result ≡ Ok (find_in key_cmp key.now entries) }
     // Whatever its pages have, the answer is what the entries say that it begins with, up to the key or to its end; and what is damaged,
     // the bytes behind them show.
@@ -42,11 +40,8 @@ pub fn find<D: Disk>(
     ensures damaged { (n : ℕ) → result ≡ Err (Broken.Damaged n) → IsTrue (D.state disk.old).is_honest
         → IsFirstDamage geo.now run.now key.now n (D.state disk.old).bytes }
 
-    // It only reads, one page after another.
-    ensures only_reads { OnlyReads (file_length geo.now) (D.state disk.old) (D.state disk.new) }
-    ensures one_a_page { (D.state disk.new).clock ≤ (D.state disk.old).clock + run.now.pages }
-    ensures stands { result ≢ Err Broken.Fault → (D.state disk.new).faults ≡ (D.state disk.old).faults }
-    ensures failed { result ≡ Err Broken.Fault → HasRisen (D.state disk.old).faults (D.state disk.new).faults }
+    // It only reads, with one call for each page at most.
+    ensures reads { Reads (file_length geo.now) run.now.pages result (D.state disk.old) (D.state disk.new) }
 {
     let mut cursor = Cursor::start(run);
     loop {

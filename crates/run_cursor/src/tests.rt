@@ -8,7 +8,7 @@ use blsm_model::{Component, Geometry, Key, Text, Value};
 use disk_mem::MemDisk;
 use disk_trait::Disk;
 use page_file::{Broken, PAGE_LEN, no_component, write_page};
-use record_delta::Rec;
+use record_delta::{Rec, Stream};
 use std::alloc::Global;
 use std::process::Abort;
 use std::test::Fail;
@@ -185,6 +185,7 @@ fn an_empty_component(rt: HostRuntime) -> Result<(), Fail> {
     assert_eq!(rt; cursor.advance(&mut disk, &geo), Ok(()));
     assert_eq!(rt; cursor.head(), None);
     assert_eq!(rt; find(&mut disk, &geo, &run, &key(0)?), Ok(None));
+    what_is_ahead();
     Ok(())
 }
 

@@ -1,8 +1,8 @@
 -- The bytes of a buffer's entries, and of the page that they become.
 use Rattle.std.proofs.Common.{◌≡◌, ℕ, zero, ◌+◌, ◌-◌, ◌≤◌, List, ◌++◌, length, take, drop, ap, sym, ◌∙◌, length-append, arith}
+use Rattle.record_delta.specs.Entries.{Entries}
 use Rattle.std.specs.Prelude.{replicate, Option}
 use Rattle.std.proofs.lemmas.List.{take_at, take-append-drop, length-take-le, drop-replicate}
-use Rattle.page_file.specs.Entry.{PageEntry}
 use Rattle.page_file.specs.Page.{page_bytes}
 use Rattle.run_writer.specs.Buffer.{BufferState, sealed, IsBufferOf}
 
@@ -32,6 +32,6 @@ zeros_left a b c d n a_long b_long c_long =
     ∙ ap (λ k. replicate k zero) (omega (arith, a_long, b_long, c_long))
 
 -- the page of a buffer that has these entries
-pub sealed-bytes : (next : Option ℕ) (buffer : BufferState) (entries : List PageEntry) → IsBufferOf buffer entries → sealed next buffer ≡ page_bytes next entries
+pub sealed-bytes : (next : Option ℕ) (buffer : BufferState) (entries : Entries) → IsBufferOf buffer entries → sealed next buffer ≡ page_bytes next entries
 unfolding page_bytes
 sealed-bytes next buffer entries has = λ i. sealed next (record { count = has.count_is i; text = has.spelled i })

@@ -8,9 +8,11 @@ use Rattle.record_delta.specs.declared.record.Rec.TheVariants.{Base, Tomb}
 use Rattle.entry_codec.specs.Spelling.{head, spelling}
 use Rattle.page_file.specs.Entry.{keys_of}
 use Rattle.page_file.specs.Page.{page_head}
-use Rattle.page_file.specs.Component.{numbers_of, entries_of, empty_component}
+use Rattle.blsm_model.specs.Components.{empty_component}
+use Rattle.page_file.specs.Component.{numbers_of, entries_of}
 use Rattle.run_writer.specs.Buffer.{empty_buffer, with_entry, sealed}
-use Rattle.run_writer.specs.Run.{Run, empty_run, pages_of, pushed_here, pushed_on, IsRun}
+use Rattle.run_writer.specs.Run.{Run, pages_of, IsRun}
+use Rattle.run_writer.proofs.RunLemmas.{empty_run, pushed_here, pushed_on}
 use Rattle.run_writer.specs.Writer.{WriterState, started, has_place}
 
 a : Key

@@ -1,11 +1,12 @@
 -- Runs that grow: their keys rise, no page is there twice, and they don't have all pages.
 use Rattle.std.proofs.Common.{◌≡◌, Bool, false, ℕ, zero, suc, ◌<◌, ◌≤◌, List, [], ◌∷◌, ◌++◌, length, take, drop, refl, ap, sym, subst, ◌∙◌, ◌⊎◌, ⊎_elim, inl, inr, arith}
+use Rattle.record_delta.specs.Entries.{Entries}
 use Rattle.std.specs.List.{Contains, AllByRecursion, IsDistinct}
 use Rattle.std.specs.List.Sorted.{IsStrictlySortedBy}
 use Rattle.std.specs.declared.cmp.Ordering.TheVariants.{Less}
 use Rattle.std.specs.Prelude.{nat_eq, IsTrue}
-use Rattle.std.proofs.lemmas.Bool.{cases_lt, false≢true, eqb-true, ne_eqb}
-use Rattle.std.proofs.lemmas.List.{get_or_past, length-map, map-append, take-append-drop}
+use Rattle.std.proofs.lemmas.Bool.{cases_lt, false≢true, eqb-true, eq-eqb, ne_eqb}
+use Rattle.std.proofs.lemmas.List.{get_or_past, length-map, take-append-drop}
 use Rattle.std.proofs.lemmas.List.Elements.{Contains-append_left, Contains-append_right, Contains-append_cases}
 use Rattle.std.proofs.lemmas.Map.Views.{Contains-from_any}
 use Rattle.std.proofs.lemmas.Map.Steps.{length-le_from_distinct_below}
@@ -14,38 +15,37 @@ use Rattle.blsm_model.specs.Keys.{key_cmp}
 use Rattle.blsm_model.specs.Sizes.{Sizes}
 use Rattle.record_delta.specs.declared.record.Rec.{Rec}
 use Rattle.page_space.specs.PageSet.{Members, IsIn}
-use Rattle.page_space.specs.Space.{SpaceState, IsFree, HasFree, IsSpace, role_count}
-use Rattle.page_file.specs.Entry.{PageEntry, keys_of, AreRising}
+use Rattle.page_space.specs.Space.{SpaceState, IsFree, HasFree, IsSpace, Claims, role_count}
+use Rattle.page_file.specs.Entry.{keys_of, AreRising}
 use Rattle.page_file.specs.Component.{RunPage, numbers_of, entries_of}
-use Rattle.page_file.specs.Records.{page_entry, page_entries}
-use Rattle.run_writer.specs.Run.{Run, empty_run, page_of, pages_of, pushed_here, pushed_on, IsRun, AreTagged}
-use Rattle.run_writer.specs.Writer.{WriterState, Holds, Claims, Stands, HasPushed}
-use Rattle.run_writer.proofs.RunLemmas.{entries_here, entries_on, no_pages}
+use Rattle.run_writer.specs.Run.{Run, page_of, pages_of, IsRun, AreTagged}
+use Rattle.run_writer.specs.Writer.{WriterState, IsCounted, Holds, Stands, HasPushed}
+use Rattle.run_writer.proofs.RunLemmas.{empty_run, pushed_here, pushed_on, entries_here, entries_on, no_pages}
 
 -- a run with pages has an entry in its open page
 pub has_open : (writer : WriterState) (run : Run) → Holds writer run → 0 < writer.component.pages → run.entries ≡ [] → ⊥
 has_open writer run held some none =
-    let same : length (pages_of run) ≡ 0 = ap (λ (es : List PageEntry). length (run.closed ++ page_of run.number es)) none ∙ no_pages run.closed run.number (held.some none) in
+    let same : length (pages_of run) ≡ 0 = ap (λ (es : Entries). length (run.closed ++ page_of run.number es)) none ∙ no_pages run.closed run.number (held.some none) in
     omega (arith, some, held.pages_is, same)
 
 -- the numbers of the pages stay where the open one has more entries
-numbers_here : (closed : List RunPage) (number : ℕ) (es fs : List PageEntry) → (es ≡ [] → ⊥) → numbers_of (closed ++ page_of number (es ++ fs)) ≡ numbers_of (closed ++ page_of number es)
+numbers_here : (closed : List RunPage) (number : ℕ) (es fs : Entries) → (es ≡ [] → ⊥) → numbers_of (closed ++ page_of number (es ++ fs)) ≡ numbers_of (closed ++ page_of number es)
 numbers_here closed number [] fs some = absurd (some refl)
 numbers_here [] number (e ∷ es) fs some = refl
 numbers_here (p ∷ ps) number (e ∷ es) fs some = ap (λ (l : List ℕ). p.number ∷ l) (numbers_here ps number (e ∷ es) fs some)
 
-pub grows_here : (key : Key) (rec : Rec) (run : Run) → IsRun run → (run.entries ≡ [] → ⊥) → AreRising (entries_of (pages_of run) ++ page_entry (key, rec) ∷ []) → IsRun (pushed_here key rec run)
+pub grows_here : (key : Key) (rec : Rec) (run : Run) → IsRun run → (run.entries ≡ [] → ⊥) → AreRising (entries_of (pages_of run) ++ (key, rec) ∷ []) → IsRun (pushed_here key rec run)
 grows_here key rec run is_run some rise = record {
   rise = subst AreRising (sym (entries_here key rec run)) rise;
-  apart = subst (IsDistinct nat_eq) (sym (numbers_here run.closed run.number run.entries (page_entry (key, rec) ∷ []) some)) is_run.apart;
+  apart = subst (IsDistinct nat_eq) (sym (numbers_here run.closed run.number run.entries ((key, rec) ∷ []) some)) is_run.apart;
 }
 
 pub tagged_here : (space : SpaceState) (role : ℕ) (key : Key) (rec : Rec) (run : Run) → AreTagged space role run → (run.entries ≡ [] → ⊥) → AreTagged space role (pushed_here key rec run)
 tagged_here space role key rec run tagged some n has =
-    tagged n (subst (λ (l : List ℕ). Contains l n) (numbers_here run.closed run.number run.entries (page_entry (key, rec) ∷ []) some) has)
+    tagged n (subst (λ (l : List ℕ). Contains l n) (numbers_here run.closed run.number run.entries ((key, rec) ∷ []) some) has)
 
 -- a page more
-numbers_on : (pages : List RunPage) (page : ℕ) (e : PageEntry) → numbers_of (pages ++ page_of page (e ∷ [])) ≡ numbers_of pages ++ page ∷ []
+numbers_on : (pages : List RunPage) (page : ℕ) (e : Key × Rec) → numbers_of (pages ++ page_of page (e ∷ [])) ≡ numbers_of pages ++ page ∷ []
 numbers_on [] page e = refl
 numbers_on (p ∷ ps) page e = ap (λ (l : List ℕ). p.number ∷ l) (numbers_on ps page e)
 
@@ -68,23 +68,37 @@ distinct_more (m ∷ ns) n apart fresh = (
 )
 
 pub grows_on : (space : SpaceState) (role page : ℕ) (key : Key) (rec : Rec) (run : Run) → IsRun run → AreTagged space role run → IsFree space page
-    → AreRising (entries_of (pages_of run) ++ page_entry (key, rec) ∷ []) → IsRun (pushed_on page key rec run)
+    → AreRising (entries_of (pages_of run) ++ (key, rec) ∷ []) → IsRun (pushed_on page key rec run)
 grows_on space role page key rec run is_run tagged free rise = record {
   rise = subst AreRising (sym (entries_on page key rec run)) rise;
   apart =
-      subst (IsDistinct nat_eq) (sym (numbers_on (pages_of run) page (page_entry (key, rec))))
+      subst (IsDistinct nat_eq) (sym (numbers_on (pages_of run) page ((key, rec))))
       (distinct_more (numbers_of (pages_of run)) page is_run.apart (λ has. free.no_role role (tagged page has)));
 }
 
-only_one : (page n : ℕ) → Contains (page ∷ []) n → n ≡ page
+pub only_one : (page n : ℕ) → Contains (page ∷ []) n → n ≡ page
 only_one page n (zero, within, is) = sym is
 only_one page n (suc k, within, is) = absurd (omega (arith, within))
+
+last_of : (P : ℕ → Type 0) (ps : List RunPage) (q : RunPage) → AllByRecursion P (numbers_of (ps ++ q ∷ [])) → P q.number
+last_of P [] q all = all.0
+last_of P (p ∷ ps) q all = last_of P ps q all.1
 
 pub tagged_on : (old new : SpaceState) (role page : ℕ) (key : Key) (rec : Rec) (run : Run) → AreTagged old role run → Claims role page old new → AreTagged new role (pushed_on page key rec run)
 tagged_on old new role page key rec run tagged claims n has =
     let numbers = numbers_of (pages_of run) in
     ⊎_elim (λ before. (claims.tags role n).1 (inl (tagged n before))) (λ last. (claims.tags role n).1 (inr (refl, only_one page n last)))
-    (Contains-append_cases numbers (page ∷ []) n (subst (λ (l : List ℕ). Contains l n) (numbers_on (pages_of run) page (page_entry (key, rec))) has))
+    (Contains-append_cases numbers (page ∷ []) n (subst (λ (l : List ℕ). Contains l n) (numbers_on (pages_of run) page ((key, rec))) has))
+
+-- a page before the last one is another
+pub differs_from_last : (ps : List RunPage) (q : RunPage) (n : ℕ) → IsDistinct nat_eq (numbers_of (ps ++ q ∷ [])) → Contains (numbers_of ps) n → n ≡ q.number → ⊥
+unfolding IsDistinct
+differs_from_last [] q n apart (k, within, is) same = omega (arith, within)
+differs_from_last (p ∷ ps) q n apart has same =
+    ⊎_elim
+    (λ (first : Contains (p.number ∷ []) n). false≢true (sym (last_of (λ m. nat_eq p.number m ≡ false) ps q apart.0) ∙ eq-eqb p.number q.number (sym (only_one p.number n first) ∙ same)))
+    (λ (more : Contains (numbers_of ps) n). differs_from_last ps q n apart.1 more same)
+    (Contains-append_cases (p.number ∷ []) (numbers_of ps) n has)
 
 -- ---- a page for one entry more
 
@@ -92,7 +106,7 @@ all_apart : (ns : List ℕ) (n : ℕ) → (Contains ns n → ⊥) → AllByRecur
 all_apart [] n fresh = tt
 all_apart (m ∷ ns) n fresh = (ne_eqb n m (λ same. fresh (subst (Contains (m ∷ ns)) (sym same) (here m ns))), all_apart ns n (λ has. fresh (further m ns n has)))
 
-in_range : (set : Members) (page : ℕ) → IsIn set page → page < length set
+pub in_range : (set : Members) (page : ℕ) → IsIn set page → page < length set
 in_range set page is_in =
     elim (cases_lt page (length set)) [
       | inl below ↦ below
@@ -114,12 +128,13 @@ has_room space role run shape within free tagged is_run =
 
 -- ---- the list that was pushed
 
-pub nothing_pushed : (sizes : Sizes) (honest : Bool) (file : List ℕ) (space : SpaceState) (writer : WriterState) → Holds writer empty_run → IsRun empty_run
+pub nothing_pushed : (sizes : Sizes) (honest : Bool) (file : List ℕ) (space : SpaceState) (writer : WriterState) → Holds writer empty_run → IsRun empty_run → IsCounted writer
     → HasPushed sizes honest file space writer []
-nothing_pushed sizes honest file space writer held is_run = record {
+nothing_pushed sizes honest file space writer held is_run counted = record {
   run = empty_run;
   held = held;
   is_run = is_run;
+  counted = counted;
   tagged = λ n has. absurd (none n has);
   entries_are = refl;
   stands = λ told. tt;
@@ -129,18 +144,18 @@ nothing_pushed sizes honest file space writer held is_run = record {
     none n (k, within, is) = omega (arith, within)
 
 pub room_for_more : (sizes : Sizes) (honest : Bool) (file : List ℕ) (space : SpaceState) (writer : WriterState) (entries : List (Key × Rec)) → HasPushed sizes honest file space writer entries
-    → IsSpace space → writer.role < role_count → HasFree space → writer.component.pages < space.pages
-room_for_more sizes honest file space writer entries has shape within free =
-    omega (arith, has_room space writer.role has.run shape within free has.tagged has.is_run, has.held.pages_is)
+    → IsSpace space → HasFree space → writer.component.pages < space.pages
+room_for_more sizes honest file space writer entries has shape free =
+    omega (arith, has_room space writer.role has.run shape has.counted.role free has.tagged has.is_run, has.held.pages_is)
 
 -- the list with one entry more
-list_more : (key : Key) (rec : Rec) (es : List PageEntry) (entries : List (Key × Rec)) → es ≡ page_entries entries → es ++ page_entry (key, rec) ∷ [] ≡ page_entries (entries ++ (key, rec) ∷ [])
-list_more key rec es entries are = ap (λ (l : List PageEntry). l ++ page_entry (key, rec) ∷ []) are ∙ sym (map-append page_entry entries ((key, rec) ∷ []))
+list_more : (key : Key) (rec : Rec) (es : Entries) (entries : List (Key × Rec)) → es ≡ entries → es ++ (key, rec) ∷ [] ≡ (entries ++ (key, rec) ∷ [])
+list_more key rec es entries are = ap (λ (l : Entries). l ++ (key, rec) ∷ []) are
 
 pub more_here : (sizes : Sizes) (honest : Bool) (file : List ℕ) (space : SpaceState) (writer new : WriterState) (key : Key) (rec : Rec) (entries : List (Key × Rec))
-    → AreRising (page_entries (entries ++ (key, rec) ∷ [])) → 0 < writer.component.pages → ((run : Run) → Holds writer run → Holds new (pushed_here key rec run)) → new.role ≡ writer.role
+    → AreRising ((entries ++ (key, rec) ∷ [])) → 0 < writer.component.pages → ((run : Run) → Holds writer run → Holds new (pushed_here key rec run)) → new.role ≡ writer.role → IsCounted new
     → HasPushed sizes honest file space writer entries → HasPushed sizes honest file space new (entries ++ (key, rec) ∷ [])
-more_here sizes honest file space writer new key rec entries rise some holds role has =
+more_here sizes honest file space writer new key rec entries rise some holds role counted has =
     let run = has.run in
     let open_one = has_open writer run has.held some in
     let is = list_more key rec (entries_of (pages_of run)) entries has.entries_are in
@@ -148,22 +163,24 @@ more_here sizes honest file space writer new key rec entries rise some holds rol
       run = pushed_here key rec run;
       held = holds run has.held;
       is_run = grows_here key rec run has.is_run open_one (subst AreRising (sym is) rise);
+      counted = counted;
       tagged = subst (λ r. AreTagged space r (pushed_here key rec run)) (sym role) (tagged_here space writer.role key rec run has.tagged open_one);
       entries_are = entries_here key rec run ∙ is;
       stands = has.stands;
     }
 
 pub more_on : (sizes : Sizes) (honest : Bool) (old_file file : List ℕ) (old space : SpaceState) (writer new : WriterState) (page : ℕ) (key : Key) (rec : Rec) (entries : List (Key × Rec))
-    → AreRising (page_entries (entries ++ (key, rec) ∷ [])) → IsFree old page → Claims writer.role page old space → ((run : Run) → Holds writer run → Holds new (pushed_on page key rec run))
-    → ((run : Run) → Holds writer run → IsRun run → IsTrue honest → Stands sizes run old_file → Stands sizes (pushed_on page key rec run) file) → new.role ≡ writer.role
+    → AreRising ((entries ++ (key, rec) ∷ [])) → IsFree old page → Claims writer.role page old space → ((run : Run) → Holds writer run → Holds new (pushed_on page key rec run))
+    → ((run : Run) → Holds writer run → IsRun run → IsTrue honest → Stands sizes run old_file → Stands sizes (pushed_on page key rec run) file) → new.role ≡ writer.role → IsCounted new
     → HasPushed sizes honest old_file old writer entries → HasPushed sizes honest file space new (entries ++ (key, rec) ∷ [])
-more_on sizes honest old_file file old space writer new page key rec entries rise free claims holds closed role has =
+more_on sizes honest old_file file old space writer new page key rec entries rise free claims holds closed role counted has =
     let run = has.run in
     let is = list_more key rec (entries_of (pages_of run)) entries has.entries_are in
     record {
       run = pushed_on page key rec run;
       held = holds run has.held;
       is_run = grows_on old writer.role page key rec run has.is_run has.tagged free (subst AreRising (sym is) rise);
+      counted = counted;
       tagged = subst (λ r. AreTagged space r (pushed_on page key rec run)) (sym role) (tagged_on old space writer.role page key rec run has.tagged claims);
       entries_are = entries_on page key rec run ∙ is;
       stands = λ told. closed run has.held has.is_run told (has.stands told);
@@ -171,16 +188,16 @@ more_on sizes honest old_file file old space writer new page key rec entries ris
 
 -- ---- the front of a list whose keys rise
 
-all_front : (P : Key → Type 0) (es fs : List PageEntry) → AllByRecursion P (keys_of (es ++ fs)) → AllByRecursion P (keys_of es)
+all_front : (P : Key → Type 0) (es fs : Entries) → AllByRecursion P (keys_of (es ++ fs)) → AllByRecursion P (keys_of es)
 all_front P [] fs all = tt
 all_front P (e ∷ es) fs all = (all.0, all_front P es fs all.1)
 
-rise_front : (es fs : List PageEntry) → AreRising (es ++ fs) → AreRising es
+rise_front : (es fs : Entries) → AreRising (es ++ fs) → AreRising es
 unfolding IsStrictlySortedBy
 rise_front [] fs rise = tt
-rise_front (e ∷ es) fs rise = (all_front (λ (k : Key). key_cmp e.key k ≡ Less) es fs rise.0, rise_front es fs rise.1)
+rise_front (e ∷ es) fs rise = (all_front (λ (k : Key). key_cmp e.0 k ≡ Less) es fs rise.0, rise_front es fs rise.1)
 
-pub front_rises : (entries : List (Key × Rec)) (n : ℕ) → AreRising (page_entries entries) → AreRising (page_entries (take n entries))
+pub front_rises : (entries : List (Key × Rec)) (n : ℕ) → AreRising entries → AreRising ((take n entries))
 front_rises entries n rise =
-    rise_front (page_entries (take n entries)) (page_entries (drop n entries))
-    (subst AreRising (ap page_entries (sym (take-append-drop n entries)) ∙ map-append page_entry (take n entries) (drop n entries)) rise)
+    rise_front ((take n entries)) ((drop n entries))
+    (subst AreRising (sym (take-append-drop n entries)) rise)

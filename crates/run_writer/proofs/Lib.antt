@@ -2,5 +2,5 @@ mod BufferLemmas
 mod RunLemmas
 mod WriterLemmas
 mod GrowthLemmas
-mod BesidesLemmas
+mod RegionLemmas
 mod Examples

@@ -1,5 +1,6 @@
 -- A run with one entry more: what the writer holds then, and what stands on the disk.
 use Rattle.std.proofs.Common.{◌≡◌, ℕ, ◌+◌, ◌<◌, ◌≤◌, List, [], ◌∷◌, ◌++◌, length, None, refl, ap, sym, ◌∙◌, append_assoc, length-append, arith}
+use Rattle.record_delta.specs.Entries.{Entries, entries_weight}
 use Rattle.std.specs.List.{IsDistinct}
 use Rattle.std.specs.List.Sorted.{IsStrictlySortedBy}
 use Rattle.std.specs.Prelude.{nat_eq, if◌then◌else◌}
@@ -7,68 +8,80 @@ use Rattle.std.proofs.lemmas.Bool.{ne_eqb}
 use Rattle.std.proofs.lemmas.List.{append-nil}
 use Rattle.std.proofs.lemmas.List.Elements.{All-nil, All-cons, All-append}
 use Rattle.std.proofs.lemmas.List.Sums.{sum_by-cons}
+use Rattle.blsm_model.specs.Components.{no_page}
 use Rattle.blsm_model.specs.declared.key.Key.{Key}
 use Rattle.record_delta.specs.declared.record.Rec.{Rec}
 use Rattle.record_delta.specs.Records.{weight}
 use Rattle.entry_codec.specs.Spelling.{spelling, IsEntry as IsSpelled}
 use Rattle.entry_codec.proofs.SpellingLemmas.{length-spelling}
-use Rattle.page_file.specs.Entry.{PageEntry, IsPageEntry, entry_bytes, entries_bytes}
+use Rattle.page_file.specs.Entry.{IsPageEntry, entries_bytes}
 use Rattle.page_file.specs.Page.{most_used, page_number}
-use Rattle.page_file.specs.Component.{RunPage, entries_of, entry_weight, weight_of, first_of}
-use Rattle.page_file.specs.Records.{page_entry}
+use Rattle.page_file.specs.Component.{RunPage, entries_of, first_number}
 use Rattle.page_file.proofs.EntryLemmas.{entries_bytes-append}
 use Rattle.page_file.proofs.ComponentLemmas.{first_join, entries_join, weight_join}
-use Rattle.page_file.proofs.RecordLemmas.{same_bytes, is_entry}
 use Rattle.run_writer.specs.Buffer.{BufferState, with_entry, empty_buffer, IsBufferOf}
-use Rattle.run_writer.specs.Run.{Run, empty_run, page_of, pages_of, pushed_here, pushed_on, IsRun}
+use Rattle.run_writer.specs.Run.{Run, page_of, pages_of, IsRun}
 use Rattle.run_writer.specs.Writer.{WriterState, started, put_in, turned, Holds}
+
+-- ---- runs that grow
+
+abbrev pub empty_run : Run
+empty_run = record { closed = []; number = no_page; entries = [] }
+
+-- the run with one entry more, in its open page
+abbrev pub pushed_here : Key → Rec → Run → Run
+pushed_here key rec run = record { closed = run.closed; number = run.number; entries = run.entries ++ (key, rec) ∷ [] }
+
+-- the run with one entry more, in a new page of this number; the page that was open is closed
+abbrev pub pushed_on : ℕ → Key → Rec → Run → Run
+pushed_on page key rec run = record { closed = pages_of run; number = page; entries = (key, rec) ∷ [] }
 
 -- ---- the buffer
 
 has_none : IsBufferOf empty_buffer []
 has_none = record { each = All-nil IsPageEntry; count_is = refl; spelled = refl }
 
-one_entry : (key : Key) (rec : Rec) → entries_bytes (page_entry (key, rec) ∷ []) ≡ spelling key rec
-one_entry key rec = append-nil (entry_bytes (page_entry (key, rec))) ∙ same_bytes (key, rec)
+one_entry : (key : Key) (rec : Rec) → entries_bytes ((key, rec) ∷ []) ≡ spelling key rec
+one_entry key rec = append-nil (spelling key rec)
 
-has_more : (buffer : BufferState) (entries : List PageEntry) (key : Key) (rec : Rec) → IsBufferOf buffer entries → IsSpelled key rec
-    → IsBufferOf (with_entry key rec buffer) (entries ++ page_entry (key, rec) ∷ [])
+has_more : (buffer : BufferState) (entries : Entries) (key : Key) (rec : Rec) → IsBufferOf buffer entries → IsSpelled key rec
+    → IsBufferOf (with_entry key rec buffer) (entries ++ (key, rec) ∷ [])
 has_more buffer entries key rec has entry = record {
-  each = All-append IsPageEntry entries (page_entry (key, rec) ∷ []) has.each (All-cons IsPageEntry (page_entry (key, rec)) [] (is_entry key rec entry) (All-nil IsPageEntry));
-  count_is = omega (arith, has.count_is, length-append entries (page_entry (key, rec) ∷ []));
+  each = All-append IsPageEntry entries ((key, rec) ∷ []) has.each (All-cons IsPageEntry (key, rec) [] entry (All-nil IsPageEntry));
+  count_is = omega (arith, has.count_is, length-append entries ((key, rec) ∷ []));
   spelled =
       ap (λ (l : List ℕ). l ++ spelling key rec) has.spelled ∙ ap (λ (l : List ℕ). entries_bytes entries ++ l) (sym (one_entry key rec))
-      ∙ sym (entries_bytes-append entries (page_entry (key, rec) ∷ []));
+      ∙ sym (entries_bytes-append entries ((key, rec) ∷ []));
 }
 
 -- ---- the run's entries and numbers
 
-pub of_page : (number : ℕ) (es : List PageEntry) → entries_of (page_of number es) ≡ es
+pub of_page : (number : ℕ) (es : Entries) → entries_of (page_of number es) ≡ es
 of_page number [] = refl
 of_page number (e ∷ es) = append-nil (e ∷ es)
 
-run_entries : (closed : List RunPage) (number : ℕ) (es : List PageEntry) → entries_of (closed ++ page_of number es) ≡ entries_of closed ++ es
-run_entries closed number es = entries_join closed (page_of number es) ∙ ap (λ (l : List PageEntry). entries_of closed ++ l) (of_page number es)
+run_entries : (closed : List RunPage) (number : ℕ) (es : Entries) → entries_of (closed ++ page_of number es) ≡ entries_of closed ++ es
+run_entries closed number es = entries_join closed (page_of number es) ∙ ap (λ (l : Entries). entries_of closed ++ l) (of_page number es)
 
 -- an entry more is one more in the list, wherever it stands
-pub entries_here : (key : Key) (rec : Rec) (run : Run) → entries_of (pages_of (pushed_here key rec run)) ≡ entries_of (pages_of run) ++ page_entry (key, rec) ∷ []
+pub entries_here : (key : Key) (rec : Rec) (run : Run) → entries_of (pages_of (pushed_here key rec run)) ≡ entries_of (pages_of run) ++ (key, rec) ∷ []
 entries_here key rec run =
-    run_entries run.closed run.number (run.entries ++ page_entry (key, rec) ∷ []) ∙ sym (append_assoc (entries_of run.closed) run.entries (page_entry (key, rec) ∷ []))
-    ∙ ap (λ (l : List PageEntry). l ++ page_entry (key, rec) ∷ []) (sym (run_entries run.closed run.number run.entries))
+    run_entries run.closed run.number (run.entries ++ (key, rec) ∷ []) ∙ sym (append_assoc (entries_of run.closed) run.entries ((key, rec) ∷ []))
+    ∙ ap (λ (l : Entries). l ++ (key, rec) ∷ []) (sym (run_entries run.closed run.number run.entries))
 
-pub entries_on : (page : ℕ) (key : Key) (rec : Rec) (run : Run) → entries_of (pages_of (pushed_on page key rec run)) ≡ entries_of (pages_of run) ++ page_entry (key, rec) ∷ []
-entries_on page key rec run = run_entries (pages_of run) page (page_entry (key, rec) ∷ [])
+pub entries_on : (page : ℕ) (key : Key) (rec : Rec) (run : Run) → entries_of (pages_of (pushed_on page key rec run)) ≡ entries_of (pages_of run) ++ (key, rec) ∷ []
+entries_on page key rec run = run_entries (pages_of run) page ((key, rec) ∷ [])
 
-one_weight : (key : Key) (rec : Rec) → weight_of (page_entry (key, rec) ∷ []) ≡ weight key rec
-one_weight key rec = omega (arith, sum_by-cons entry_weight (page_entry (key, rec)) [])
+one_weight : (key : Key) (rec : Rec) → entries_weight ((key, rec) ∷ []) ≡ weight key rec
+one_weight key rec = omega (arith, sum_by-cons (λ (e : Key × Rec). weight e.0 e.1) (key, rec) [])
 
 -- the numbers of the component after one entry more
-counted_more : (more es : List PageEntry) (key : Key) (rec : Rec) (n : ℕ) → more ≡ es ++ page_entry (key, rec) ∷ [] → length es ≡ n → length more ≡ n + 1
-counted_more more es key rec n is count = ap (length {A = PageEntry}) is ∙ omega (arith, length-append es (page_entry (key, rec) ∷ []), count)
+counted_more : (more es : Entries) (key : Key) (rec : Rec) (n : ℕ) → more ≡ es ++ (key, rec) ∷ [] → length es ≡ n → length more ≡ n + 1
+counted_more more es key rec n is count = ap (length {A = Key × Rec}) is ∙ omega (arith, length-append es ((key, rec) ∷ []), count)
 
-weighed_more : (more es : List PageEntry) (key : Key) (rec : Rec) (n : ℕ) → more ≡ es ++ page_entry (key, rec) ∷ [] → weight_of es ≡ n → weight_of more ≡ n + weight key rec
+weighed_more : (more es : Entries) (key : Key) (rec : Rec) (n : ℕ) → more ≡ es ++ (key, rec) ∷ [] → entries_weight es ≡ n → entries_weight more ≡ n + weight key rec
 weighed_more more es key rec n is weighs =
-    ap weight_of is ∙ weight_join es (page_entry (key, rec) ∷ []) ∙ omega (arith, weighs, one_weight key rec)
+    ap entries_weight is ∙ weight_join es ((key, rec) ∷ []) ∙ omega (arith, weighs, one_weight key rec)
 
 -- ---- the empty run
 
@@ -82,17 +95,17 @@ holds_none role = (
 -- ---- in the open page
 
 -- the open page stays one page, of the same number
-same_length : (closed : List RunPage) (number : ℕ) (e : PageEntry) (es fs : List PageEntry) → length (closed ++ page_of number (e ∷ (es ++ fs))) ≡ length (closed ++ page_of number (e ∷ es))
+same_length : (closed : List RunPage) (number : ℕ) (e : Key × Rec) (es fs : Entries) → length (closed ++ page_of number (e ∷ (es ++ fs))) ≡ length (closed ++ page_of number (e ∷ es))
 same_length closed number e es fs =
     omega (arith, length-append closed (page_of number (e ∷ (es ++ fs))), length-append closed (page_of number (e ∷ es)))
 
-same_first : (closed : List RunPage) (number : ℕ) (e : PageEntry) (es fs : List PageEntry) → first_of (closed ++ page_of number (e ∷ (es ++ fs))) None ≡ first_of (closed ++ page_of number (e ∷ es)) None
+same_first : (closed : List RunPage) (number : ℕ) (e : Key × Rec) (es fs : Entries) → first_number (closed ++ page_of number (e ∷ (es ++ fs))) None ≡ first_number (closed ++ page_of number (e ∷ es)) None
 same_first closed number e es fs = first_join closed (page_of number (e ∷ (es ++ fs))) None ∙ sym (first_join closed (page_of number (e ∷ es)) None)
 
 pub no_pages : (closed : List RunPage) (number : ℕ) → closed ≡ [] → length (closed ++ page_of number []) ≡ 0
 no_pages closed number none = ap (λ (l : List RunPage). length (l ++ [])) none
 
-pub holds_here : (writer : WriterState) (key : Key) (rec : Rec) (closed : List RunPage) (number : ℕ) (es : List PageEntry) → IsSpelled key rec → 0 < writer.component.pages
+pub holds_here : (writer : WriterState) (key : Key) (rec : Rec) (closed : List RunPage) (number : ℕ) (es : Entries) → IsSpelled key rec → 0 < writer.component.pages
     → length writer.buffer.text + weight key rec ≤ most_used
     → Holds writer (record { closed = closed; number = number; entries = es }) → Holds (put_in key rec writer) (pushed_here key rec (record { closed = closed; number = number; entries = es }))
 holds_here writer key rec closed number [] entry some fits held = absurd (omega (arith, some, held.pages_is, no_pages closed number (held.some refl)))
@@ -104,16 +117,16 @@ holds_here writer key rec closed number (e ∷ es) entry some fits held =
       fits = omega (arith, fits, length-append writer.buffer.text (spelling key rec), length-spelling key rec);
       some = λ none. absurd (cc);
       number = held.number;
-      first_is = ap page_number (same_first closed number e es (page_entry (key, rec) ∷ [])) ∙ held.first_is;
-      pages_is = same_length closed number e es (page_entry (key, rec) ∷ []) ∙ held.pages_is;
+      first_is = ap page_number (same_first closed number e es ((key, rec) ∷ [])) ∙ held.first_is;
+      pages_is = same_length closed number e es ((key, rec) ∷ []) ∙ held.pages_is;
       entries_is = counted_more _ _ key rec _ more held.entries_is;
       weight_is = weighed_more _ _ key rec _ more held.weight_is;
     }
 
 -- ---- in a new page
 
-first_pushed : (ps : List RunPage) (page : ℕ) (e : PageEntry) (pages first : ℕ) → length ps ≡ pages → page_number (first_of ps None) ≡ first
-    → page_number (first_of (ps ++ page_of page (e ∷ [])) None) ≡ (if nat_eq pages 0 then page else first)
+first_pushed : (ps : List RunPage) (page : ℕ) (e : Key × Rec) (pages first : ℕ) → length ps ≡ pages → page_number (first_number ps None) ≡ first
+    → page_number (first_number (ps ++ page_of page (e ∷ [])) None) ≡ (if nat_eq pages 0 then page else first)
 first_pushed [] page e pages first long is = ap (λ n. if nat_eq n 0 then page else first) long
 first_pushed (p ∷ ps) page e pages first long is = is ∙ ap (λ b. if b then page else first) (sym (ne_eqb pages 0 (λ none. omega (arith, none, long))))
 
@@ -126,8 +139,8 @@ holds_on writer page key rec run entry light held =
       fits = omega (arith, light, length-spelling key rec);
       some = λ none. absurd (cc);
       number = refl;
-      first_is = first_pushed (pages_of run) page (page_entry (key, rec)) writer.component.pages writer.component.first held.pages_is held.first_is;
-      pages_is = length-append (pages_of run) (page_of page (page_entry (key, rec) ∷ [])) ∙ omega (arith, held.pages_is);
+      first_is = first_pushed (pages_of run) page ((key, rec)) writer.component.pages writer.component.first held.pages_is held.first_is;
+      pages_is = length-append (pages_of run) (page_of page ((key, rec) ∷ [])) ∙ omega (arith, held.pages_is);
       entries_is = counted_more _ _ key rec _ more held.entries_is;
       weight_is = weighed_more _ _ key rec _ more held.weight_is;
     }

@@ -1,4 +1,3 @@
 pub mod Buffer
 pub mod Run
 pub mod Writer
-pub mod Besides

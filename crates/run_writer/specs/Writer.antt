@@ -1,16 +1,20 @@
 -- What contracts see of a writer, and which run it holds.
-use Rattle.std.specs.Prelude.{◌≡◌, ◌≢◌, ◌↔◌, ◌⊎◌, ℕ, ◌+◌, ◌-◌, ◌*◌, ◌<◌, ◌≤◌, Bool, ◌&&◌, nat_lt, nat_le, nat_eq, if◌then◌else◌, IsTrue, List, [], length, Some, None}
+use Rattle.std.specs.Prelude.{◌≡◌, ◌⊎◌, ℕ, ◌+◌, ◌-◌, ◌*◌, ◌<◌, ◌≤◌, Bool, ◌&&◌, nat_lt, nat_le, nat_eq, if◌then◌else◌, IsTrue, List, [], length, Some, None}
+use Rattle.disk_trait.specs.Region.{Region}
+use Rattle.blsm_model.specs.Format.{least_full}
 use Rattle.blsm_model.specs.declared.key.Key.{Key}
 use Rattle.blsm_model.specs.declared.component.Component.{Component}
 use Rattle.blsm_model.specs.Sizes.{Sizes}
 use Rattle.record_delta.specs.declared.record.Rec.{Rec}
 use Rattle.record_delta.specs.Records.{weight}
-use Rattle.page_space.specs.PageSet.{with_page}
-use Rattle.page_space.specs.Space.{SpaceState, pages_with, KeepsOtherRoles, HasRole, IsFree, IsSpace, role_size}
-use Rattle.page_file.specs.Page.{no_page, most_used, page_number}
-use Rattle.page_file.specs.Component.{first_of, entries_of, weight_of, AreChained, empty_component}
-use Rattle.page_file.specs.Records.{page_entries}
-use Rattle.run_writer.specs.Buffer.{BufferState, empty_buffer, with_entry, IsBufferOf}
+use Rattle.record_delta.specs.Entries.{Entries, entries_weight}
+use Rattle.page_space.specs.Space.{SpaceState, HasRole, role_count}
+use Rattle.blsm_model.specs.Components.{no_page}
+use Rattle.page_file.specs.Page.{most_used, page_number}
+use Rattle.page_file.specs.File.{page_at, page_region}
+use Rattle.blsm_model.specs.Components.{empty_component}
+use Rattle.page_file.specs.Component.{first_number, entries_of, AreChained}
+use Rattle.run_writer.specs.Buffer.{BufferState, empty_buffer, with_entry, sealed, IsBufferOf}
 use Rattle.run_writer.specs.Run.{Run, pages_of, IsRun, AreTagged}
 
 -- The role of the run's pages, the component that the run is so far, the number of the open page, and its buffer.
@@ -32,6 +36,18 @@ has_place writer weight = nat_lt 0 writer.component.pages && nat_le (length writ
 abbrev pub IsInside : ℕ → WriterState → Type 0
 IsInside pages writer = 0 < writer.component.pages → writer.number < pages
 
+-- where the open page is in the file; nowhere, if there is none
+abbrev pub open_region : Sizes → WriterState → Region
+open_region sizes writer = λ i. (0 < writer.component.pages) × page_region sizes writer.number i
+
+-- where a role's pages are
+abbrev pub role_region : Sizes → SpaceState → ℕ → Region
+role_region sizes space role = λ i. (n : ℕ) × HasRole space role n × page_region sizes n i
+
+-- where bytes may change and the run stays: in its open page, and outside of its role's pages
+abbrev pub loose_region : Sizes → SpaceState → WriterState → Region
+loose_region sizes space writer = λ i. open_region sizes writer i ⊎ (role_region sizes space writer.role i → ⊥)
+
 -- the writer with one entry more in its open page
 abbrev pub put_in : Key → Rec → WriterState → WriterState
 put_in key rec writer = record writer {
@@ -47,12 +63,14 @@ turned page writer = record writer {
   buffer = empty_buffer;
 }
 
--- what always holds of a writer's numbers
+-- what always holds of a writer's numbers; on any disk each closed page has nearly as many bytes of entries as it may have
 pub record IsCounted (writer : WriterState) : Type 0 where
+  pub role : writer.role < role_count
   pub none : writer.component.pages ≡ 0 → length writer.buffer.text ≡ 0
   pub fits : length writer.buffer.text ≤ most_used
   pub weight : writer.component.weight ≤ most_used * (writer.component.pages - 1) + length writer.buffer.text
   pub entries : writer.component.entries ≤ writer.component.weight
+  pub floor : least_full * (writer.component.pages - 1) + length writer.buffer.text ≤ writer.component.weight
 
 -- The writer holds this run: the open page's entries are in its buffer, and the component has the run's numbers.
 pub record Holds (writer : WriterState) (run : Run) : Type 0 where
@@ -61,32 +79,22 @@ pub record Holds (writer : WriterState) (run : Run) : Type 0 where
   -- there is no closed page without an open one, and that has an entry at least
   pub some : run.entries ≡ [] → run.closed ≡ []
   pub number : writer.number ≡ run.number
-  pub first_is : page_number (first_of (pages_of run) None) ≡ writer.component.first
+  pub first_is : page_number (first_number (pages_of run) None) ≡ writer.component.first
   pub pages_is : length (pages_of run) ≡ writer.component.pages
   pub entries_is : length (entries_of (pages_of run)) ≡ writer.component.entries
-  pub weight_is : weight_of (entries_of (pages_of run)) ≡ writer.component.weight
+  pub weight_is : entries_weight (entries_of (pages_of run)) ≡ writer.component.weight
 
 -- The run's closed pages stand in this file: each reads as its entries and names the one behind it, the last one names the open page.
 abbrev pub Stands : Sizes → Run → List ℕ → Type 0
 Stands sizes run file = AreChained sizes run.closed (Some run.number) file
 
--- one page, which was free, gets a role's tag, and nothing else changes
-pub record Claims (role page : ℕ) (old new : SpaceState) : Type 0 where
-  pub this : pages_with new role ≡ with_page page (pages_with old role)
-  pub others : KeepsOtherRoles role old new
-  pub pins : new.pins ≡ old.pins
-  pub pages : new.pages ≡ old.pages
-  pub shape : IsSpace new
-  pub tags : (tag k : ℕ) → HasRole new tag k ↔ (HasRole old tag k ⊎ ((tag ≡ role) × (k ≡ page)))
-  pub free : (other : ℕ) → IsFree new other ↔ (IsFree old other × (other ≢ page))
-  pub size : role_size new role ≡ role_size old role + 1
-
 -- This list was pushed so far: the writer holds a run whose entries these are, each page of the run has the writer's tag, and where
 -- nobody else changes the file the closed pages stand in it.
-pub record HasPushed (sizes : Sizes) (honest : Bool) (file : List ℕ) (space : SpaceState) (writer : WriterState) (entries : List (Key × Rec)) : Type 0 where
+pub record HasPushed (sizes : Sizes) (honest : Bool) (file : List ℕ) (space : SpaceState) (writer : WriterState) (entries : Entries) : Type 0 where
   pub run : Run
   pub held : Holds writer run
   pub is_run : IsRun run
+  pub counted : IsCounted writer
   pub tagged : AreTagged space writer.role run
-  pub entries_are : entries_of (pages_of run) ≡ page_entries entries
+  pub entries_are : entries_of (pages_of run) ≡ entries
   pub stands : IsTrue honest → Stands sizes run file

@@ -8,7 +8,7 @@ mod buffer;
 mod laws;
 mod writer;
 
-pub use laws::{a_run_grows, a_run_has_room, besides_pages};
+pub use laws::{a_run_has_room, where_a_run_writes};
 pub use writer::Writer;
 
 #[cfg(test)]

@@ -1,9 +1,11 @@
 // Runs of the smallest store, over disks in memory, read back page by page.
+ghost use Rattle.page_file.specs.Component.{HasList};
 ghost use Rattle.std.specs.Prelude.{◌≡◌, ◌<◌, length, IfOk, IsTrue};
+ghost use Rattle.record_delta.specs.declared.record.Rec.{Rec};
+ghost use Rattle.blsm_model.specs.declared.key.Key.{Key};
 ghost use Rattle.blsm_model.specs.Geometry.{page_count, file_length};
 ghost use Rattle.disk_mem.specs.Recorded.{told};
 ghost use Rattle.page_file.specs.Entry.{AreRising};
-ghost use Rattle.page_file.specs.Records.{page_entries, HasList};
 ghost use Rattle.run_writer.specs.Writer.{IsInside};
 
 use super::*;
@@ -123,11 +125,10 @@ fn write_all<D: Disk>(
     entries: &[(Key, Rec)],
 ) -> Result<Component, Failed>
     requires pages { space.old.pages ≡ page_count geo.now }
-    requires rise { AreRising (page_entries entries.now) }
+    requires rise { AreRising entries.now }
     requires length { IsTrue (D.state disk.old).tells_bytes → length (D.state disk.old).bytes ≡ file_length geo.now }
     ensures list { IfOk result (λ c. IsTrue (D.state disk.old).is_honest → HasList geo.now c entries.now (D.state disk.new).bytes) }
 {
-    let _number = role.number();
     let mut writer = Writer::start(role);
     for entry in entries {
         let _pages = space.pages();
@@ -373,8 +374,7 @@ fn a_list_of_one_entry(rt: HostRuntime) -> Result<(), Fail> {
         write_all(&mut disk, &geo, &mut space, Role::new(2), &entries),
         Ok(one)
     );
-    a_run_grows();
     a_run_has_room();
-    besides_pages();
+    where_a_run_writes();
     Ok(())
 }

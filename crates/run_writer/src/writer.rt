@@ -1,25 +1,18 @@
 //! The writer of a run.
-ghost use Rattle.std.specs.Prelude.{◌≡◌, ◌+◌, ◌-◌, ◌^◌, ◌<◌, ◌≤◌, ◌∷◌, ◌++◌, nat_eq, if◌then◌else◌, ℕ, Bool, List, [], length, false, Some, None, IsTrue, IsErr, IfOk, OnOk, OnErr};
-ghost use Rattle.refusal.specs.Count.{HasRisen};
-ghost use Rattle.disk_trait.specs.Disk.{GoesOn, MarksSync, WritesWithin, IsSure};
-ghost use Rattle.disk_trait.specs.Moments.{LeavesOnly};
-ghost use Rattle.blsm_model.specs.Format.{page_length};
+ghost use Rattle.std.specs.Prelude.{◌≡◌, ◌+◌, ◌-◌, ◌^◌, ◌<◌, ◌≤◌, ◌∷◌, ◌++◌, nat_eq, if◌then◌else◌, ℕ, Bool, List, [], length, false, Some, None, Ok, IsTrue, IfOk, OnOk, OnErr};
+ghost use Rattle.std.specs.List.{Contains};
+ghost use Rattle.blsm_model.specs.Format.{least_full};
 ghost use Rattle.blsm_model.specs.Sizes.{Sizes};
 ghost use Rattle.blsm_model.specs.Geometry.{page_count, file_length};
-ghost use Rattle.blsm_model.specs.declared.key.Key.{Key};
-ghost use Rattle.record_delta.specs.declared.record.Rec.{Rec};
+ghost use Rattle.record_delta.specs.Entries.{Entries};
 ghost use Rattle.record_delta.specs.Records.{weight};
 ghost use Rattle.entry_codec.specs.Spelling.{IsEntry};
-ghost use Rattle.page_space.specs.Space.{SpaceState, HasFree, IsLeastFree};
+ghost use Rattle.page_space.specs.Space.{SpaceState, HasFree, HasRole, IsLeastFree, Claims};
 ghost use Rattle.page_file.specs.Entry.{AreRising};
-ghost use Rattle.page_file.specs.Page.{most_used};
-ghost use Rattle.page_file.specs.File.{page_start, page_at, IsOldOutside};
-ghost use Rattle.page_file.specs.Component.{numbers_of, ReadsAs};
-ghost use Rattle.page_file.specs.Records.{page_entries, HasList};
+ghost use Rattle.page_file.specs.File.{page_at, Writes};
+ghost use Rattle.page_file.specs.Component.{numbers_of, HasList};
 ghost use Rattle.run_writer.specs.Buffer.{sealed};
-ghost use Rattle.run_writer.specs.Run.{Run, empty_run, pages_of, pushed_here, pushed_on, IsRun};
-ghost use Rattle.run_writer.specs.Besides.{IsSameBesides, IsOldBesides};
-ghost use Rattle.run_writer.specs.Writer.{started, has_place, IsInside, put_in, turned, Holds, Stands, Claims, HasPushed};
+ghost use Rattle.run_writer.specs.Writer.{started, has_place, open_region, IsInside, IsCounted, put_in, turned, HasPushed};
 
 use crate::buffer::PageBuffer;
 use blsm_model::{Component, Geometry, Key, Op};
@@ -33,9 +26,8 @@ use std::marker::Model;
 /// A run that is being written. Between two calls its closed pages are written, each with the number of the next one, and the
 /// entries of the open page, whose number is taken, are in the writer's buffer.
 ///
-/// Contracts see the component that the run is so far, the number of the open page, and the buffer. Which entries and pages
-/// these are the clauses say for each run that the writer may hold (`Holds`), or for the list that was pushed so far
-/// (`HasPushed`), since the closed pages are on the disk alone.
+/// Contracts see the component that the run is so far, the number of the open page, and the buffer. Which entries these are the
+/// clauses say for the list that was pushed so far (`HasPushed`), since the closed pages are on the disk alone.
 #[derive(Debug, Drop)]
 pub struct Writer {
     role: Role,
@@ -69,10 +61,11 @@ impl Writer {
     /// The writer of the empty run. The pages that it takes get this tag.
     pub fn start(role: Role) -> Writer
         ensures started { result ≡ started role }
-        ensures holds { Holds result empty_run × IsRun empty_run }
         ensures pushed { (sizes : Sizes) (honest : Bool) (file : List ℕ) (space : SpaceState) → HasPushed sizes honest file space result [] }
     {
         let component = no_component();
+        // A role is one of five.
+        let _number = role.number();
         Writer {
             role,
             component,
@@ -83,7 +76,8 @@ impl Writer {
 
     /// The component that the run is so far: what `end` would give.
     pub fn component(&self) -> Component
-        ensures { result ≡ self.now.component }
+        ensures component { result ≡ self.now.component }
+        ensures counted { IsCounted self.now }
     {
         self.component
     }
@@ -109,16 +103,7 @@ impl Writer {
         ensures reads { OnOk result (IsTrue (D.state disk.old).is_honest → 0 < self.now.component.pages
             → page_at geo.now self.now.number (D.state disk.new).bytes ≡ sealed next self.now.buffer) }
         ensures none { self.now.component.pages ≡ 0 → disk.new ≡ disk.old }
-        ensures within { WritesWithin (page_start geo.now self.now.number) page_length (D.state disk.old) (D.state disk.new) }
-        ensures each { IsTrue (D.state disk.old).is_honest
-            → LeavesOnly (D.state disk.old) (D.state disk.new) (IsOldOutside geo.now self.now.number (D.state disk.old).images) }
-        ensures goes_on { GoesOn (D.state disk.old) (D.state disk.new) }
-        ensures one_call { (D.state disk.new).clock ≤ (D.state disk.old).clock + 1 }
-        ensures no_sync { MarksSync ⊥ (D.state disk.old) (D.state disk.new) }
-        ensures length { IsTrue (D.state disk.old).tells_bytes → length (D.state disk.new).bytes ≡ file_length geo.now }
-        ensures sure { IsSure (file_length geo.now) (D.state disk.old) (D.state disk.new) }
-        ensures stands { OnOk result ((D.state disk.new).faults ≡ (D.state disk.old).faults) }
-        ensures failed { IsErr result → HasRisen (D.state disk.old).faults (D.state disk.new).faults }
+        ensures writes { Writes (open_region geo.now self.now) (file_length geo.now) result (D.state disk.old) (D.state disk.new) }
     {
         if self.component.pages == 0 {
             return Ok(());
@@ -128,7 +113,8 @@ impl Writer {
 
     // Opens this page, without entries.
     fn open(&mut self, page: u32)
-        requires { self.old.component.pages < 2 ^ 32 - 1 }
+        requires few { self.old.component.pages < 2 ^ 32 - 1 }
+        requires full { 0 < self.old.component.pages → least_full ≤ length self.old.buffer.text }
         ensures { self.new ≡ turned page self.old }
     {
         self.component.first = first_page(&self.component, page);
@@ -147,29 +133,15 @@ impl Writer {
         requires pages { space.old.pages ≡ page_count geo.now }
         requires free { HasFree space.old }
         requires room { self.old.component.pages < page_count geo.now }
+        requires full { 0 < self.old.component.pages → least_full ≤ length self.old.buffer.text }
         requires inside { IsInside (page_count geo.now) self.old }
         requires length { IsTrue (D.state disk.old).tells_bytes → length (D.state disk.old).bytes ≡ file_length geo.now }
-        ensures pages { space.new.pages ≡ space.old.pages }
-        ensures least { (page : ℕ) × IsLeastFree space.old page }
-        ensures turned { (page : ℕ) → IsLeastFree space.old page → OnOk result (self.new ≡ turned page self.old) }
-        ensures place { (weight : ℕ) → weight ≤ most_used → OnOk result (IsTrue (has_place self.new weight)) }
-        ensures role { self.new.role ≡ self.old.role }
+        ensures turned { (page : ℕ) × IsLeastFree space.old page × Claims self.old.role page space.old space.new
+            × OnOk result ((self.new ≡ turned page self.old)
+            × (IsTrue (D.state disk.old).is_honest → 0 < self.old.component.pages → page_at geo.now self.old.number (D.state disk.new).bytes ≡ sealed (Some page) self.old.buffer)) }
         ensures kept { OnErr result (self.new ≡ self.old) }
-        ensures inside { IsInside (page_count geo.now) self.new }
-        ensures claimed { (page : ℕ) → IsLeastFree space.old page → Claims self.old.role page space.old space.new }
-        ensures reads { (page : ℕ) → IsLeastFree space.old page → OnOk result (IsTrue (D.state disk.old).is_honest → 0 < self.old.component.pages
-            → page_at geo.now self.old.number (D.state disk.new).bytes ≡ sealed (Some page) self.old.buffer) }
         ensures none { self.old.component.pages ≡ 0 → disk.new ≡ disk.old }
-        ensures within { WritesWithin (page_start geo.now self.old.number) page_length (D.state disk.old) (D.state disk.new) }
-        ensures each { IsTrue (D.state disk.old).is_honest
-            → LeavesOnly (D.state disk.old) (D.state disk.new) (IsOldOutside geo.now self.old.number (D.state disk.old).images) }
-        ensures goes_on { GoesOn (D.state disk.old) (D.state disk.new) }
-        ensures one_call { (D.state disk.new).clock ≤ (D.state disk.old).clock + 1 }
-        ensures no_sync { MarksSync ⊥ (D.state disk.old) (D.state disk.new) }
-        ensures length { IsTrue (D.state disk.old).tells_bytes → length (D.state disk.new).bytes ≡ file_length geo.now }
-        ensures sure { IsSure (file_length geo.now) (D.state disk.old) (D.state disk.new) }
-        ensures stands { OnOk result ((D.state disk.new).faults ≡ (D.state disk.old).faults) }
-        ensures failed { IsErr result → HasRisen (D.state disk.old).faults (D.state disk.new).faults }
+        ensures writes { Writes (open_region geo.now self.old) (file_length geo.now) result (D.state disk.old) (D.state disk.new) }
     {
         let next = space.take();
         space.claim(self.role, next);
@@ -180,58 +152,12 @@ impl Writer {
         Ok(())
     }
 
-    // Sees to it that this entry fits into the open page: where it doesn't, a new one is opened.
-    fn make_place<D: Disk>(
-        &mut self,
-        disk: &mut D,
-        geo: &Geometry,
-        space: &mut Space,
-        key: &Key,
-        rec: &Rec,
-    ) -> Result<(), Failed>
-        requires pages { space.old.pages ≡ page_count geo.now }
-        requires free { has_place self.old (weight key.now rec.now) ≡ false → HasFree space.old }
-        requires room { has_place self.old (weight key.now rec.now) ≡ false → self.old.component.pages < page_count geo.now }
-        requires inside { IsInside (page_count geo.now) self.old }
-        requires length { IsTrue (D.state disk.old).tells_bytes → length (D.state disk.old).bytes ≡ file_length geo.now }
-        ensures light { weight key.now rec.now ≤ Op.MAX_WEIGHT }
-        ensures place { OnOk result (IsTrue (has_place self.new (weight key.now rec.now))) }
-        ensures here { IsTrue (has_place self.old (weight key.now rec.now)) → self.new ≡ self.old }
-        ensures quiet { IsTrue (has_place self.old (weight key.now rec.now)) → disk.new ≡ disk.old }
-        ensures unclaimed { IsTrue (has_place self.old (weight key.now rec.now)) → space.new ≡ space.old }
-        ensures pages { space.new.pages ≡ space.old.pages }
-        ensures least { has_place self.old (weight key.now rec.now) ≡ false → (page : ℕ) × IsLeastFree space.old page }
-        ensures turned { (page : ℕ) → has_place self.old (weight key.now rec.now) ≡ false → IsLeastFree space.old page → OnOk result (self.new ≡ turned page self.old) }
-        ensures kept { OnErr result (self.new ≡ self.old) }
-        ensures role { self.new.role ≡ self.old.role }
-        ensures inside { IsInside (page_count geo.now) self.new }
-        ensures claimed { (page : ℕ) → has_place self.old (weight key.now rec.now) ≡ false → IsLeastFree space.old page → Claims self.old.role page space.old space.new }
-        ensures reads { (page : ℕ) → has_place self.old (weight key.now rec.now) ≡ false → IsLeastFree space.old page
-            → OnOk result (IsTrue (D.state disk.old).is_honest → 0 < self.old.component.pages
-            → page_at geo.now self.old.number (D.state disk.new).bytes ≡ sealed (Some page) self.old.buffer) }
-        ensures none { self.old.component.pages ≡ 0 → disk.new ≡ disk.old }
-        ensures within { WritesWithin (page_start geo.now self.old.number) page_length (D.state disk.old) (D.state disk.new) }
-        ensures each { IsTrue (D.state disk.old).is_honest
-            → LeavesOnly (D.state disk.old) (D.state disk.new) (IsOldOutside geo.now self.old.number (D.state disk.old).images) }
-        ensures goes_on { GoesOn (D.state disk.old) (D.state disk.new) }
-        ensures one_call { (D.state disk.new).clock ≤ (D.state disk.old).clock + 1 }
-        ensures no_sync { MarksSync ⊥ (D.state disk.old) (D.state disk.new) }
-        ensures length { IsTrue (D.state disk.old).tells_bytes → length (D.state disk.new).bytes ≡ file_length geo.now }
-        ensures sure { IsSure (file_length geo.now) (D.state disk.old) (D.state disk.new) }
-        ensures stands { OnOk result ((D.state disk.new).faults ≡ (D.state disk.old).faults) }
-        ensures failed { IsErr result → HasRisen (D.state disk.old).faults (D.state disk.new).faults }
-    {
-        if self.has_place(key, rec) {
-            return Ok(());
-        }
-        self.turn(disk, geo, space)
-    }
-
     // Puts one entry into the open page.
     fn put(&mut self, key: &Key, rec: &Rec)
         requires { IsTrue (has_place self.old (weight key.now rec.now)) }
         ensures put { self.new ≡ put_in key.now rec.now self.old }
         ensures entry { IsEntry key.now rec.now }
+        ensures counted { IsCounted self.new }
     {
         self.buffer.put(key, rec);
         self.component.entries += 1;
@@ -259,59 +185,37 @@ impl Writer {
         requires inside { IsInside (page_count geo.now) self.old }
         requires length { IsTrue (D.state disk.old).tells_bytes → length (D.state disk.old).bytes ≡ file_length geo.now }
 
-        // The list that was pushed so far has one entry more.
-        ensures pushed { (entries : List (Key × Rec)) → AreRising (page_entries (entries ++ (key.now, rec.now) ∷ []))
+        // The list that was pushed so far has one entry more. After an `Err` it is the list as before.
+        ensures pushed { (entries : Entries) → AreRising ((entries ++ (key.now, rec.now) ∷ []))
             → HasPushed geo.now (D.state disk.old).is_honest (D.state disk.old).bytes space.old self.old entries
             → OnOk result (HasPushed geo.now (D.state disk.new).is_honest (D.state disk.new).bytes space.new self.new (entries ++ (key.now, rec.now) ∷ [])) }
+        ensures unpushed { (entries : Entries) → HasPushed geo.now (D.state disk.old).is_honest (D.state disk.old).bytes space.old self.old entries
+            → OnErr result (HasPushed geo.now (D.state disk.new).is_honest (D.state disk.new).bytes space.new self.new entries) }
 
-        // An entry that fits goes into the open page.
-        ensures here { (run : Run) → IsTrue (has_place self.old (weight key.now rec.now)) → Holds self.old run
-            → OnOk result (Holds self.new (pushed_here key.now rec.now run)) }
-        ensures quiet { IsTrue (has_place self.old (weight key.now rec.now)) → disk.new ≡ disk.old }
-        ensures unclaimed { IsTrue (has_place self.old (weight key.now rec.now)) → space.new ≡ space.old }
-
-        // One that doesn't goes into a new page, the least free one, and the closed one reads as its entries, with the new one's number.
-        ensures pages { space.new.pages ≡ space.old.pages }
-        ensures least { has_place self.old (weight key.now rec.now) ≡ false → (page : ℕ) × IsLeastFree space.old page }
-        ensures on { (run : Run) (page : ℕ) → has_place self.old (weight key.now rec.now) ≡ false → IsLeastFree space.old page → Holds self.old run
-            → OnOk result (Holds self.new (pushed_on page key.now rec.now run)) }
-        ensures closed { (run : Run) (page : ℕ) → has_place self.old (weight key.now rec.now) ≡ false → IsLeastFree space.old page → Holds self.old run
-            → IsRun run → IsTrue (D.state disk.old).is_honest → Stands geo.now run (D.state disk.old).bytes
-            → OnOk result (Stands geo.now (pushed_on page key.now rec.now run) (D.state disk.new).bytes) }
-        ensures claimed { (page : ℕ) → has_place self.old (weight key.now rec.now) ≡ false → IsLeastFree space.old page
-            → Claims self.old.role page space.old space.new }
-
-        ensures role { self.new.role ≡ self.old.role }
+        // An entry that fits goes into the open page, with no call of the disk. For one that doesn't the least free page is claimed.
+        ensures here { IsTrue (has_place self.old (weight key.now rec.now))
+            → (disk.new ≡ disk.old) × (space.new ≡ space.old) × (result ≡ Ok tt) × (self.new ≡ put_in key.now rec.now self.old) }
+        ensures claimed { has_place self.old (weight key.now rec.now) ≡ false
+            → (page : ℕ) × IsLeastFree space.old page × Claims self.old.role page space.old space.new
+            × OnOk result (self.new ≡ put_in key.now rec.now (turned page self.old)) }
         ensures inside { IsInside (page_count geo.now) self.new }
         ensures kept { OnErr result (self.new ≡ self.old) }
 
-        // Whatever is answered, the closed pages stand.
-        ensures stay { (run : Run) → IsTrue (D.state disk.old).is_honest → Holds self.old run → IsRun run → Stands geo.now run (D.state disk.old).bytes
-            → Stands geo.now run (D.state disk.new).bytes }
-
-        // No byte outside the run's pages changes, in no image of any moment; of these only the page that was open.
-        ensures besides { (run : Run) → IsTrue (D.state disk.old).is_honest → Holds self.old run
-            → IsSameBesides geo.now (numbers_of (pages_of run)) (D.state disk.old).bytes (D.state disk.new).bytes }
-        ensures each_besides { (run : Run) → IsTrue (D.state disk.old).is_honest → Holds self.old run
-            → LeavesOnly (D.state disk.old) (D.state disk.new) (IsOldBesides geo.now (numbers_of (pages_of run)) (D.state disk.old).images) }
+        // One call of the disk at most, and none where no page was open. No byte outside that page changes, in no image of any moment.
         ensures none { self.old.component.pages ≡ 0 → disk.new ≡ disk.old }
-        ensures within { WritesWithin (page_start geo.now self.old.number) page_length (D.state disk.old) (D.state disk.new) }
-        ensures each { IsTrue (D.state disk.old).is_honest
-            → LeavesOnly (D.state disk.old) (D.state disk.new) (IsOldOutside geo.now self.old.number (D.state disk.old).images) }
-        ensures goes_on { GoesOn (D.state disk.old) (D.state disk.new) }
-        ensures one_call { (D.state disk.new).clock ≤ (D.state disk.old).clock + 1 }
-        ensures no_sync { MarksSync ⊥ (D.state disk.old) (D.state disk.new) }
-        ensures length { IsTrue (D.state disk.old).tells_bytes → length (D.state disk.new).bytes ≡ file_length geo.now }
-        ensures sure { IsSure (file_length geo.now) (D.state disk.old) (D.state disk.new) }
-        ensures stands { OnOk result ((D.state disk.new).faults ≡ (D.state disk.old).faults) }
-        ensures failed { IsErr result → HasRisen (D.state disk.old).faults (D.state disk.new).faults }
+        ensures writes { Writes (open_region geo.now self.old) (file_length geo.now) result (D.state disk.old) (D.state disk.new) }
     {
-        self.make_place(disk, geo, space, key, rec)?;
+        if self.has_place(key, rec) {
+            self.put(key, rec);
+            return Ok(());
+        }
+        self.turn(disk, geo, space)?;
         self.put(key, rec);
         Ok(())
     }
 
-    /// Writes the open page, if there is one, as the last one, and gives the component that reads as the entries that were pushed.
+    /// Writes the open page, if there is one, as the last one, and gives the component that reads as the entries that were pushed, on
+    /// pages that have the role's tag.
     ///
     /// The writer stays as it was. After an `Err`, whose cause is a fault of the disk, nobody knows what the open page's place on
     /// the disk has.
@@ -320,33 +224,15 @@ impl Writer {
         requires length { IsTrue (D.state disk.old).tells_bytes → length (D.state disk.old).bytes ≡ file_length geo.now }
 
         ensures component { IfOk result (λ c. c ≡ self.old.component) }
-        ensures reads { (run : Run) → IsTrue (D.state disk.old).is_honest → Holds self.old run → IsRun run → Stands geo.now run (D.state disk.old).bytes
-            → IfOk result (λ c. ReadsAs geo.now c (pages_of run) (D.state disk.new).bytes) }
-        ensures list { (space : SpaceState) (entries : List (Key × Rec)) → IsTrue (D.state disk.old).is_honest
+        ensures list { (space : SpaceState) (entries : Entries) → IsTrue (D.state disk.old).is_honest
             → HasPushed geo.now (D.state disk.old).is_honest (D.state disk.old).bytes space self.old entries
-            → IfOk result (λ c. HasList geo.now c entries (D.state disk.new).bytes) }
+            → IfOk result (λ c. (list : HasList geo.now c entries (D.state disk.new).bytes)
+            × ((n : ℕ) → Contains (numbers_of list.pages) n → HasRole space self.old.role n)) }
         ensures same { self.new ≡ self.old }
 
-        // Whatever is answered, the closed pages stand.
-        ensures stay { (run : Run) → IsTrue (D.state disk.old).is_honest → Holds self.old run → IsRun run → Stands geo.now run (D.state disk.old).bytes
-            → Stands geo.now run (D.state disk.new).bytes }
-
-        // No byte outside the run's pages changes, in no image of any moment; of these only the page that was open.
-        ensures besides { (run : Run) → IsTrue (D.state disk.old).is_honest → Holds self.old run
-            → IsSameBesides geo.now (numbers_of (pages_of run)) (D.state disk.old).bytes (D.state disk.new).bytes }
-        ensures each_besides { (run : Run) → IsTrue (D.state disk.old).is_honest → Holds self.old run
-            → LeavesOnly (D.state disk.old) (D.state disk.new) (IsOldBesides geo.now (numbers_of (pages_of run)) (D.state disk.old).images) }
+        // One call of the disk at most, and none where no page was open. No byte outside that page changes, in no image of any moment.
         ensures none { self.old.component.pages ≡ 0 → disk.new ≡ disk.old }
-        ensures within { WritesWithin (page_start geo.now self.old.number) page_length (D.state disk.old) (D.state disk.new) }
-        ensures each { IsTrue (D.state disk.old).is_honest
-            → LeavesOnly (D.state disk.old) (D.state disk.new) (IsOldOutside geo.now self.old.number (D.state disk.old).images) }
-        ensures goes_on { GoesOn (D.state disk.old) (D.state disk.new) }
-        ensures one_call { (D.state disk.new).clock ≤ (D.state disk.old).clock + 1 }
-        ensures no_sync { MarksSync ⊥ (D.state disk.old) (D.state disk.new) }
-        ensures length { IsTrue (D.state disk.old).tells_bytes → length (D.state disk.new).bytes ≡ file_length geo.now }
-        ensures sure { IsSure (file_length geo.now) (D.state disk.old) (D.state disk.new) }
-        ensures stands { OnOk result ((D.state disk.new).faults ≡ (D.state disk.old).faults) }
-        ensures failed { IsErr result → HasRisen (D.state disk.old).faults (D.state disk.new).faults }
+        ensures writes { Writes (open_region geo.now self.old) (file_length geo.now) result (D.state disk.old) (D.state disk.new) }
     {
         self.write_open(disk, geo, None)?;
         Ok(self.component)

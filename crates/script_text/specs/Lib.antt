@@ -1,4 +1,3 @@
 pub mod Grammar
-pub mod Printing
 pub mod Reading
 pub mod Script

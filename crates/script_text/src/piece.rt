@@ -34,7 +34,8 @@ pub const LINE_END: usize = 2 + NUMBER + 1;
 /// The longest line that gives no rows.
 pub const LONGEST: usize = LINE_START + REPLY + LINE_END;
 
-// Contracts see it as the list of its bytes.
+// Some 1,060 bytes, so that one serves for all lines, and each function takes it by reference. Contracts see it as the list
+// of its bytes.
 #[derive(Debug, Drop)]
 pub struct Piece {
     bytes: ArrayVec<u8, LONGEST>,
@@ -55,6 +56,13 @@ impl Piece {
         Piece {
             bytes: ArrayVec::new(),
         }
+    }
+
+    // Empties it, for the next line.
+    pub fn clear(&mut self)
+        ensures { self.new ≡ [] }
+    {
+        self.bytes.clear();
     }
 
     pub fn as_slice(&self) -> &[u8]

@@ -4,33 +4,32 @@ ghost use Rattle.std.specs.Prelude.{◌≡◌, ◌+◌, ◌<◌, ◌≤◌, ◌+
 ghost use Rattle.text_io.specs.Text.{Writes};
 ghost use Rattle.blsm_model.specs.Book.{entry_at};
 ghost use Rattle.blsm_model.specs.Printed.{and_number, and_row, and_word, command_text, end_text, entries_text, entry_text, history_text, reply_text};
-ghost use Rattle.script_text.specs.Printing.{GivesNoRows};
+ghost use Rattle.blsm_model.specs.Stored.{as_reply};
 
 use crate::command::add_command;
 use crate::piece::{AND_NUMBER, LINE_END, LINE_START, LONGEST, Piece, REPLY};
 use crate::reply::{add_and_row, add_reply};
-use blsm_model::{Annals, Op, Reply, Row, Totals};
+use blsm_model::{Annals, Op, Row, ShortReply, Totals};
 use refusal::Failed;
 use text_io::{Sink, write_all};
 
-// Which caller gave which command at which place of the history, both counted from 1.
-fn start_line(place: u64, caller: u64, op: &Op) -> Piece
-    ensures text { result ≡ decimal place ++ and_number caller ++ and_word (command_text op.now) ++ codes " => " }
-    ensures fits { length result ≤ LINE_START }
+// Which caller gave which command at which place of the history, both counted from 1, in place of what the piece had.
+fn start_line(piece: &mut Piece, place: u64, caller: u64, op: &Op)
+    ensures text { piece.new ≡ decimal place ++ and_number caller ++ and_word (command_text op.now) ++ codes " => " }
+    ensures fits { length piece.new ≤ LINE_START }
 {
-    let mut piece = Piece::new();
+    piece.clear();
     piece.add_number(place);
     piece.add_and_number(caller);
     piece.add(b" ");
-    add_command(&mut piece, op);
+    add_command(piece, op);
     piece.add(b" => ");
-    piece
 }
 
 // The end of a line, and what stands before it.
-fn print_end_of_line<K: Sink>(sink: &mut K, mut piece: Piece, quanta: u64) -> Result<(), Failed>
-    requires { length piece + LINE_END ≤ LONGEST }
-    ensures { Writes (piece ++ codes " q" ++ decimal quanta ++ 10 ∷ []) result (K.held sink.old) (K.held sink.new) (K.faults sink.old) (K.faults sink.new) }
+fn print_end_of_line<K: Sink>(sink: &mut K, piece: &mut Piece, quanta: u64) -> Result<(), Failed>
+    requires { length piece.old + LINE_END ≤ LONGEST }
+    ensures { Writes (piece.old ++ codes " q" ++ decimal quanta ++ 10 ∷ []) result (K.held sink.old) (K.held sink.new) (K.faults sink.old) (K.faults sink.new) }
 {
     piece.add(b" q");
     piece.add_number(quanta);
@@ -40,39 +39,38 @@ fn print_end_of_line<K: Sink>(sink: &mut K, mut piece: Piece, quanta: u64) -> Re
 
 fn print_short_line<K: Sink>(
     sink: &mut K,
-    mut piece: Piece,
-    reply: &Reply,
+    piece: &mut Piece,
+    reply: &ShortReply,
     quanta: u64,
 ) -> Result<(), Failed>
-    requires short { GivesNoRows reply.now }
-    requires room { length piece + REPLY + LINE_END ≤ LONGEST }
-    ensures { Writes (piece ++ reply_text reply.now ++ codes " q" ++ decimal quanta ++ 10 ∷ []) result (K.held sink.old) (K.held sink.new) (K.faults sink.old) (K.faults sink.new) }
+    requires { length piece.old + REPLY + LINE_END ≤ LONGEST }
+    ensures { Writes (piece.old ++ reply_text (as_reply reply.now) ++ codes " q" ++ decimal quanta ++ 10 ∷ []) result (K.held sink.old) (K.held sink.new) (K.faults sink.old) (K.faults sink.new) }
 {
-    add_reply(&mut piece, reply);
+    add_reply(piece, reply);
     print_end_of_line(sink, piece, quanta)
 }
 
-fn print_row<K: Sink>(sink: &mut K, row: &Row) -> Result<(), Failed>
+fn print_row<K: Sink>(sink: &mut K, piece: &mut Piece, row: &Row) -> Result<(), Failed>
     ensures { Writes (and_row row.now) result (K.held sink.old) (K.held sink.new) (K.faults sink.old) (K.faults sink.new) }
 {
-    let mut piece = Piece::new();
-    add_and_row(&mut piece, row);
+    piece.clear();
+    add_and_row(piece, row);
     write_all(sink, piece.as_slice())
 }
 
-fn print_each_row<K: Sink>(sink: &mut K, rows: &[Row]) -> Result<(), Failed>
+fn print_each_row<K: Sink>(sink: &mut K, piece: &mut Piece, rows: &[Row]) -> Result<(), Failed>
     ensures { Writes (flat_map and_row rows.now) result (K.held sink.old) (K.held sink.new) (K.faults sink.old) (K.faults sink.new) }
 {
     for row in rows {
-        print_row(sink, row)?;
+        print_row(sink, piece, row)?;
     }
     Ok(())
 }
 
 // What stands before the rows: the line so far, and how many there are.
-fn print_before_rows<K: Sink>(sink: &mut K, mut piece: Piece, count: u64) -> Result<(), Failed>
-    requires { length piece + 4 + AND_NUMBER ≤ LONGEST }
-    ensures { Writes (piece ++ (codes "rows" ++ and_number count)) result (K.held sink.old) (K.held sink.new) (K.faults sink.old) (K.faults sink.new) }
+fn print_before_rows<K: Sink>(sink: &mut K, piece: &mut Piece, count: u64) -> Result<(), Failed>
+    requires { length piece.old + 4 + AND_NUMBER ≤ LONGEST }
+    ensures { Writes (piece.old ++ (codes "rows" ++ and_number count)) result (K.held sink.old) (K.held sink.new) (K.faults sink.old) (K.faults sink.new) }
 {
     piece.add_named_number(b"rows", count);
     write_all(sink, piece.as_slice())
@@ -80,29 +78,35 @@ fn print_before_rows<K: Sink>(sink: &mut K, mut piece: Piece, count: u64) -> Res
 
 fn print_rows_line<K: Sink>(
     sink: &mut K,
-    piece: Piece,
+    piece: &mut Piece,
     rows: &[Row],
     quanta: u64,
 ) -> Result<(), Failed>
-    requires { length piece + 4 + AND_NUMBER ≤ LONGEST }
-    ensures { Writes (piece ++ (codes "rows" ++ and_number (length rows.now) ++ flat_map and_row rows.now) ++ codes " q" ++ decimal quanta ++ 10 ∷ []) result (K.held sink.old) (K.held sink.new) (K.faults sink.old) (K.faults sink.new) }
+    requires { length piece.old + 4 + AND_NUMBER ≤ LONGEST }
+    ensures { Writes (piece.old ++ (codes "rows" ++ and_number (length rows.now) ++ flat_map and_row rows.now) ++ codes " q" ++ decimal quanta ++ 10 ∷ []) result (K.held sink.old) (K.held sink.new) (K.faults sink.old) (K.faults sink.new) }
 {
     print_before_rows(sink, piece, rows.len() as u64)?;
-    print_each_row(sink, rows)?;
-    print_end_of_line(sink, Piece::new(), quanta)
+    print_each_row(sink, piece, rows)?;
+    piece.clear();
+    print_end_of_line(sink, piece, quanta)
 }
 
-// The entry at a place, which is counted from 0.
-fn print_entry<K: Sink>(sink: &mut K, annals: &Annals, place: u32) -> Result<(), Failed>
+// The entry at a place, which is counted from 0. What the piece had is gone.
+fn print_entry<K: Sink>(
+    sink: &mut K,
+    piece: &mut Piece,
+    annals: &Annals,
+    place: u32,
+) -> Result<(), Failed>
     requires { place < length annals.now.entries }
     ensures { Writes (entry_text (place + 1) (entry_at annals.now place) (slice_index annals.now.quanta place)) result (K.held sink.old) (K.held sink.new) (K.faults sink.old) (K.faults sink.new) }
 {
     let caller = u64::from(annals.seat(place)) + 1;
-    let piece = start_line(u64::from(place) + 1, caller, annals.op(place));
+    start_line(piece, u64::from(place) + 1, caller, annals.op(place));
     let quanta = annals.quanta(place);
-    match annals.reply(place) {
-        Reply::Rows(rows) => print_rows_line(sink, piece, rows.as_slice(), quanta),
-        reply => print_short_line(sink, piece, &reply, quanta),
+    match annals.short_reply(place) {
+        Some(reply) => print_short_line(sink, piece, reply, quanta),
+        None => print_rows_line(sink, piece, annals.rows(place), quanta),
     }
 }
 
@@ -110,8 +114,9 @@ fn print_entries<K: Sink>(sink: &mut K, annals: &Annals) -> Result<(), Failed>
     ensures { Writes (entries_text 1 annals.now.entries annals.now.quanta) result (K.held sink.old) (K.held sink.new) (K.faults sink.old) (K.faults sink.new) }
 {
     let count = annals.len() as u32;
+    let mut piece = Piece::new();
     for place in 0..count {
-        print_entry(sink, annals, place)?;
+        print_entry(sink, &mut piece, annals, place)?;
     }
     Ok(())
 }

@@ -1,10 +1,10 @@
 // A reply in words.
 ghost use Rattle.std.specs.Prelude.{◌≡◌, ◌+◌, ◌≤◌, ◌++◌, codes, length};
 ghost use Rattle.blsm_model.specs.Printed.{and_row, and_value, and_word, reply_text, why_text};
-ghost use Rattle.script_text.specs.Printing.{GivesNoRows};
+ghost use Rattle.blsm_model.specs.Stored.{as_reply};
 
 use crate::piece::{AND_KEY, AND_NUMBER, AND_VALUE, LONGEST, Piece, REPLY};
-use blsm_model::{Reply, Row, Value, Why};
+use blsm_model::{Row, ShortReply, Value, Why};
 
 // The longest cause of a stop, and the longest row.
 const WHY: usize = 5 + AND_NUMBER;
@@ -41,27 +41,25 @@ fn add_stopped(piece: &mut Piece, why: &Why)
 }
 
 /// Adds a reply that gives no rows.
-pub fn add_reply(piece: &mut Piece, reply: &Reply)
-    requires short { GivesNoRows reply.now }
-    requires room { length piece.old + REPLY ≤ LONGEST }
-    ensures text { piece.new ≡ piece.old ++ reply_text reply.now }
+pub fn add_reply(piece: &mut Piece, reply: &ShortReply)
+    requires { length piece.old + REPLY ≤ LONGEST }
+    ensures text { piece.new ≡ piece.old ++ reply_text (as_reply reply.now) }
     ensures fits { length piece.new ≤ length piece.old + REPLY }
 {
     match reply {
-        Reply::Done => piece.add(b"ok"),
-        Reply::Is(value) => add_is(piece, value),
-        Reply::Absent => piece.add(b"none"),
-        Reply::Held => piece.add(b"held"),
-        Reply::Rows(_) => unreachable!(),
-        Reply::NoHold => piece.add(b"nohold"),
-        Reply::Did(turns) => piece.add_named_number(b"did", u64::from(*turns)),
-        Reply::Full(charge) => piece.add_named_number(b"full", *charge),
-        Reply::NoMemory => piece.add(b"no memory"),
-        Reply::FaultLost => piece.add(b"fault lost"),
-        Reply::FaultUnsure => piece.add(b"fault unsure"),
-        Reply::Fault => piece.add(b"fault"),
-        Reply::Damaged(page) => piece.add_named_number(b"damaged page", u64::from(*page)),
-        Reply::Stopped(why) => add_stopped(piece, why),
+        ShortReply::Done => piece.add(b"ok"),
+        ShortReply::Is(value) => add_is(piece, value),
+        ShortReply::Absent => piece.add(b"none"),
+        ShortReply::Held => piece.add(b"held"),
+        ShortReply::NoHold => piece.add(b"nohold"),
+        ShortReply::Did(turns) => piece.add_named_number(b"did", u64::from(*turns)),
+        ShortReply::Full(charge) => piece.add_named_number(b"full", *charge),
+        ShortReply::NoMemory => piece.add(b"no memory"),
+        ShortReply::FaultLost => piece.add(b"fault lost"),
+        ShortReply::FaultUnsure => piece.add(b"fault unsure"),
+        ShortReply::Fault => piece.add(b"fault"),
+        ShortReply::Damaged(page) => piece.add_named_number(b"damaged page", u64::from(*page)),
+        ShortReply::Stopped(why) => add_stopped(piece, why),
     }
 }
 

@@ -2,19 +2,23 @@
 use Rattle.std.proofs.Common.{◌≡◌, ◌⊎◌, inl, inr, ⊎_elim, ℕ, zero, suc, ◌+◌, ◌-◌, ◌*◌, ◌<◌, ◌≤◌, Bool, not, true, false, List, [], ◌∷◌, ◌++◌, length, take, drop, bytes_eq, refl, sym, ◌∙◌, ap, subst, arith, append_assoc, length-append}
 use Rattle.std.specs.Int.{w32, from_be_bytes}
 use Rattle.std.proofs.lemmas.Slice.Eq.{bytes_eq-Decides}
-use Rattle.std.proofs.lemmas.List.{append-nil, drop_at, drop-drop, take-take, take-append-drop, length-replicate, take-replicate, drop-replicate, replicate-append-replicate}
+use Rattle.std.proofs.lemmas.List.{append-nil, drop_at, drop-drop, take-take, length-replicate, take-replicate, drop-replicate, replicate-append-replicate}
 use Rattle.std.proofs.lemmas.Nat.{from_be_bytes-to_be_bytes_4}
-use Rattle.disk_trait.specs.Disk.{Torn, part, overwritten}
+use Rattle.disk_trait.specs.Disk.{part, overwritten}
+use Rattle.disk_trait.specs.Region.{span, IsSameOutside, same_no_longer, same_bytes}
 use Rattle.gated_write.specs.Gated.{open_byte, IsClosed}
-use Rattle.gated_log.specs.Lane.{HasEntries, region_start}
+use Rattle.blsm_model.specs.Lanes.{region_start}
+use Rattle.gated_log.specs.Lane.{HasEntries}
+use Rattle.blsm_model.specs.Format.{head_length}
 use Rattle.blsm_model.specs.Sizes.{Sizes, IsGeometry}
 use Rattle.blsm_model.specs.Geometry.{file_length, IsFirstFault}
 use Rattle.blsm_model.specs.declared.geometry.GeometryFault.{GeometryFault}
 use Rattle.blsm_model.specs.declared.geometry.GeometryFault.TheVariants.{Half, Ratio, Low, Quantum}
-use Rattle.store_file.specs.Layout.{superblock_text, superblock, IsStore, zeros, first_catalogue, IsMade, first_file}
-use Rattle.store_file.specs.Laws.{sizes_same}
+use Rattle.catalog_swap.specs.Text.{slot_text, first_catalog, body_text, component_text}
+use Rattle.store_file.specs.Layout.{superblock_text, superblock, IsStore, zeros, IsMade, first_file}
+use Rattle.store_file.proofs.LayoutLaws.{sizes_same}
 use Rattle.store_file.specs.declared.layout.TheConstants.{FIRST_CATALOGUE}
-use Rattle.store_file.specs.Making.{IsShort, IsShut, IsHalfMade}
+use Rattle.store_file.specs.Making.{IsHalfMade}
 
 -- ---- sizes and superblocks
 
@@ -23,22 +27,31 @@ unfolding superblock_text
 length-superblock_text sizes = refl
 
 -- as the code has it
-pub first_catalogue_is : FIRST_CATALOGUE ≡ first_catalogue
-unfolding first_catalogue
+pub first_catalogue_is : FIRST_CATALOGUE ≡ slot_text first_catalog
+unfolding body_text component_text
 first_catalogue_is = refl
 
-pub length-first_catalogue : length first_catalogue ≡ 84
-unfolding first_catalogue
+pub length-first_catalogue : length (slot_text first_catalog) ≡ 84
+unfolding body_text component_text
 length-first_catalogue = refl
 
 -- ---- files that are no store
 
+-- a file that has no more than what stands before the lanes, so it is no store
+pub record IsShort (file : List ℕ) : Type 0 where
+  pub no_longer : length file ≤ head_length
+
+-- a file whose superblock's gate is closed, and that isn't longer than this
+pub record IsShut (end : ℕ) (file : List ℕ) : Type 0 where
+  pub closed : IsClosed 0 file
+  pub no_longer : length file ≤ end
+
 -- a file has room for its first block
-pub head_inside : (sizes : Sizes) → 4096 ≤ file_length sizes
+pub head_inside : (sizes : Sizes) → head_length ≤ file_length sizes
 head_inside sizes = omega arith
 
 -- a store is longer than its first block
-pub store_length : (sizes : Sizes) → IsGeometry sizes → 4096 + 12 * 17408 ≤ file_length sizes
+pub store_length : (sizes : Sizes) → IsGeometry sizes → head_length + 12 * 17408 ≤ file_length sizes
 store_length sizes geometry =
     let half = geometry.half.0 in
     omega (arith, half)
@@ -57,10 +70,10 @@ zero_is_open : ◌≡◌ {A = List ℕ} (0 ∷ []) (open_byte ∷ []) → ⊥
 zero_is_open same = cc
 
 -- the first block, of zeros
-pub block_shut : (end : ℕ) (file : List ℕ) → 4096 ≤ end → file ≡ zeros 4096 → IsShut end file
+pub block_shut : (end : ℕ) (file : List ℕ) → head_length ≤ end → file ≡ zeros head_length → IsShut end file
 block_shut end file fits blank = record {
   closed = λ opened. zero_is_open (sym (ap (λ (l : List ℕ). part l 0 1) blank) ∙ opened);
-  no_longer = omega (arith, ap (length {A = ℕ}) blank, length-replicate {A = ℕ} 4096 0);
+  no_longer = omega (arith, ap (length {A = ℕ}) blank, length-replicate {A = ℕ} head_length 0);
 }
 
 pub short_half : (sizes : Sizes) (file : List ℕ) → IsShort file → IsHalfMade sizes file
@@ -75,10 +88,10 @@ shut_half sizes file shut = record { store = inl (shut_no_store (file_length siz
 -- ---- the file that making writes
 
 front : ℕ → Sizes → List ℕ
-front gate sizes = superblock gate sizes ++ zeros 485 ++ first_catalogue
+front gate sizes = superblock gate sizes ++ zeros 485 ++ slot_text first_catalog
 
 length-front : (gate : ℕ) (sizes : Sizes) → length (front gate sizes) ≡ 596
-unfolding front superblock_text first_catalogue
+unfolding front superblock_text body_text component_text
 length-front gate sizes = refl
 
 as_front : (gate : ℕ) (sizes : Sizes) → first_file gate sizes ≡ front gate sizes ++ zeros (file_length sizes - 596)
@@ -94,8 +107,8 @@ begins : (gate : ℕ) (sizes : Sizes) → part (first_file gate sizes) 0 27 ≡ 
 unfolding first_file superblock_text
 begins gate sizes = refl
 
-odd : (gate : ℕ) (sizes : Sizes) → part (first_file gate sizes) 512 84 ≡ first_catalogue
-unfolding first_file superblock_text first_catalogue
+odd : (gate : ℕ) (sizes : Sizes) → part (first_file gate sizes) 512 84 ≡ slot_text first_catalog
+unfolding first_file superblock_text body_text component_text
 odd gate sizes = refl
 
 -- zeros behind the catalogue
@@ -161,17 +174,17 @@ over_front text catalogue tail long =
     ∙ ap (λ (l : List ℕ). l ++ tail) (sym (append_assoc (0 ∷ text) (zeros 485) catalogue))
 
 pub parts_written : (sizes : Sizes) (file : List ℕ) → 596 ≤ file_length sizes → file ≡ zeros (file_length sizes)
-    → overwritten (overwritten file 512 first_catalogue) 1 (superblock_text sizes) ≡ first_file 0 sizes
+    → overwritten (overwritten file 512 (slot_text first_catalog)) 1 (superblock_text sizes) ≡ first_file 0 sizes
 unfolding first_file
 parts_written sizes file le blank =
-    ap (λ (l : List ℕ). overwritten (overwritten l 512 first_catalogue) 1 (superblock_text sizes)) blank
+    ap (λ (l : List ℕ). overwritten (overwritten l 512 (slot_text first_catalog)) 1 (superblock_text sizes)) blank
     ∙ ap (λ (l : List ℕ). overwritten l 1 (superblock_text sizes)) placed
-    ∙ over_front (superblock_text sizes) first_catalogue (zeros (file_length sizes - 596)) (length-superblock_text sizes)
+    ∙ over_front (superblock_text sizes) (slot_text first_catalog) (zeros (file_length sizes - 596)) (length-superblock_text sizes)
   where
-    placed : overwritten (zeros (file_length sizes)) 512 first_catalogue ≡ zeros 512 ++ first_catalogue ++ zeros (file_length sizes - 596)
+    placed : overwritten (zeros (file_length sizes)) 512 (slot_text first_catalog) ≡ zeros 512 ++ slot_text first_catalog ++ zeros (file_length sizes - 596)
     placed =
-        ap (λ (l : List ℕ). l ++ first_catalogue ++ drop (512 + length first_catalogue) (zeros (file_length sizes))) (take-replicate 512 (file_length sizes) 0 (omega arith))
-        ∙ ap (λ (l : List ℕ). zeros 512 ++ first_catalogue ++ l)
+        ap (λ (l : List ℕ). l ++ slot_text first_catalog ++ drop (512 + length (slot_text first_catalog)) (zeros (file_length sizes))) (take-replicate 512 (file_length sizes) 0 (omega arith))
+        ∙ ap (λ (l : List ℕ). zeros 512 ++ slot_text first_catalog ++ l)
         (ap (λ (n : ℕ). drop (512 + n) (zeros (file_length sizes))) length-first_catalogue ∙ drop-replicate 596 (file_length sizes) 0)
 
 pub gate_opened : (sizes : Sizes) → overwritten (first_file 0 sizes) 0 (open_byte ∷ []) ≡ first_file open_byte sizes
@@ -186,28 +199,30 @@ gate_cases file =
       | false ↦ λ other. inr (λ same. let is = (bytes_eq-Decides (part file 0 1) (open_byte ∷ [])).1 same in absurd (cc (other, is)))
     ] refl
 
-behind_gate : (gate : ℕ) (sizes : Sizes) → drop 1 (first_file 0 sizes) ≡ drop 1 (first_file gate sizes)
+behind_gate : (sizes : Sizes) (i : ℕ) → part (first_file 0 sizes) (suc i) 1 ≡ part (first_file open_byte sizes) (suc i) 1
 unfolding first_file
-behind_gate gate sizes = refl
+behind_gate sizes i = refl
 
-before_gate : (gate : ℕ) (sizes : Sizes) → first_file gate sizes ≡ gate ∷ [] ++ drop 1 (first_file gate sizes)
+at_gate : (sizes : Sizes) → part (first_file open_byte sizes) 0 1 ≡ open_byte ∷ []
 unfolding first_file
-before_gate gate sizes = refl
+at_gate sizes = refl
 
 -- with a torn gate the file is no store, or the one that was to be made
-pub gate_torn : (sizes : Sizes) → IsGeometry sizes → (file : List ℕ) → Torn 0 1 (first_file 0 sizes) file → IsHalfMade sizes file
-gate_torn sizes geometry file torn =
+pub gate_torn : (sizes : Sizes) → IsGeometry sizes → (file : List ℕ) → IsSameOutside (span 0 1) (first_file 0 sizes) file → IsHalfMade sizes file
+gate_torn sizes geometry file same =
     let least = store_length sizes geometry in
     let long = length-first_file 0 sizes (omega (arith, least)) in
-    let fits : length file ≤ file_length sizes = omega (arith, torn.no_longer, long, least) in
+    let fits : length file ≤ file_length sizes = omega (arith, same_no_longer 1 (λ i inside. inside.1) same, long, least) in
     ⊎_elim
     (λ (opened : part file 0 1 ≡ open_byte ∷ []).
-    let same : file ≡ first_file open_byte sizes =
-    sym (take-append-drop 1 file) ∙ (λ i. opened i ++ (torn.after ∙ behind_gate open_byte sizes) i) ∙ sym (before_gate open_byte sizes) in
-    let made : IsHalfMade sizes file = record { store = inr (subst (IsMade sizes) (sym same) (first_file_made sizes geometry)); no_longer = fits } in
+    let made : IsHalfMade sizes file = record { store = inr (subst (IsMade sizes) (sym (same_bytes (first_file open_byte sizes) file (as_made opened))) (first_file_made sizes geometry)); no_longer = fits } in
     made)
     (λ (shut : IsClosed 0 file). shut_half sizes file (record { closed = shut; no_longer = fits }))
     (gate_cases file)
+  where
+    as_made : part file 0 1 ≡ open_byte ∷ [] → (i : ℕ) → part file i 1 ≡ part (first_file open_byte sizes) i 1
+    as_made opened zero = opened ∙ sym (at_gate sizes)
+    as_made opened (suc i) = same.bytes (suc i) (λ inside. omega (arith, inside.1)) ∙ behind_gate sizes i
 
 -- ---- how it is read
 

@@ -1,3 +1,4 @@
+pub mod LayoutLaws
 pub mod LayoutLemmas
 pub mod MakingLemmas
 pub mod Examples

@@ -1,9 +1,11 @@
 -- The layout of a store's file. Offsets and lengths are in bytes; numbers have their highest byte first.
-use Rattle.std.specs.Prelude.{◌≡◌, ℕ, ◌+◌, ◌-◌, ◌<◌, ◌^◌, List, [], ◌∷◌, ◌++◌, length, replicate}
-use Rattle.std.specs.Int.{w16, w32, w64, to_be_bytes}
+use Rattle.std.specs.Prelude.{◌≡◌, ℕ, ◌+◌, ◌-◌, ◌<◌, List, [], ◌∷◌, ◌++◌, length, replicate}
+use Rattle.std.specs.Int.{w16, w32, to_be_bytes}
 use Rattle.disk_trait.specs.Disk.{part}
 use Rattle.gated_write.specs.Gated.{open_byte}
 use Rattle.gated_log.specs.Lane.{HasEntries}
+use Rattle.catalog_swap.specs.Slots.{odd_slot, even_slot, slot_length}
+use Rattle.catalog_swap.specs.Text.{slot_text, first_catalog}
 use Rattle.blsm_model.specs.Sizes.{Sizes, IsGeometry}
 use Rattle.blsm_model.specs.Geometry.{file_length}
 
@@ -39,27 +41,9 @@ IsStore file = (sizes : Sizes) × IsStoreOf sizes file
 abbrev pub zeros : ℕ → List ℕ
 zeros n = replicate n 0
 
--- a component that has no pages: no first page, no pages, no entries, no weight
-abbrev pub no_component : List ℕ
-no_component = to_be_bytes w32 (2 ^ 32 - 1) ++ to_be_bytes w32 0 ++ to_be_bytes w64 0 ++ to_be_bytes w64 0
-
--- The catalogue of a store that was just made: its gate open, version 1, the lanes A, B and spare, and three components that have no pages.
-unfoldable pub first_catalogue : List ℕ
-first_catalogue = open_byte ∷ to_be_bytes w64 1 ++ 0 ∷ 1 ∷ 2 ∷ [] ++ no_component ++ no_component ++ no_component
-
--- where the catalogues of odd versions and of even ones stand, and how long each is
-abbrev pub odd_slot : ℕ
-odd_slot = 512
-
-abbrev pub even_slot : ℕ
-even_slot = 1024
-
-abbrev pub slot_length : ℕ
-slot_length = 84
-
--- the slots are as at making: the first catalogue in one, and nothing in the other
+-- the slots are as at making: the first catalogue in that of the odd versions, and nothing in the other
 pub record HasFirstSlots (file : List ℕ) : Type 0 where
-  pub odd : part file odd_slot slot_length ≡ first_catalogue
+  pub odd : part file odd_slot slot_length ≡ slot_text first_catalog
   pub even : part file even_slot slot_length ≡ zeros slot_length
 
 -- a store that was just made: no lane has an entry
@@ -71,4 +55,4 @@ pub record IsMade (sizes : Sizes) (file : List ℕ) : Type 0 where
 -- The file that making writes, with this gate: zeros, but for the superblock and the first catalogue.
 unfoldable pub first_file : ℕ → Sizes → List ℕ
 first_file gate sizes =
-    superblock gate sizes ++ zeros (odd_slot - superblock_length) ++ first_catalogue ++ zeros (file_length sizes - (odd_slot + slot_length))
+    superblock gate sizes ++ zeros (odd_slot - superblock_length) ++ slot_text first_catalog ++ zeros (file_length sizes - (odd_slot + slot_length))

@@ -1,4 +1,3 @@
 pub mod Layout
 pub mod Making
 pub mod Reading
-pub mod Laws

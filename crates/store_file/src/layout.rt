@@ -11,11 +11,10 @@
 //! The superblock is a gate u8 (1 is open), 8 bytes of magic, the format u16, and the half, the ratio, the low mark and the
 //! quantum of the geometry, each u32.
 ghost use Rattle.std.specs.Prelude.{◌≡◌};
-ghost use Rattle.blsm_model.specs.Sizes.{IsGeometry};
-ghost use Rattle.blsm_model.specs.Geometry.{file_length};
 ghost use Rattle.store_file.specs.Layout.{superblock_text, superblock};
 
 use blsm_model::Geometry;
+use catalog_swap::SLOT_LEN;
 use gated_log::HEAD_LEN;
 
 /// How many bytes a block has: what stands before the lanes, and each page.
@@ -36,15 +35,6 @@ pub const LOW_AT: usize = 19;
 
 pub const QUANTUM_AT: usize = 23;
 
-/// Where the slot of the odd versions begins.
-pub const ODD_SLOT: u64 = 512;
-
-/// Where the slot of the even versions begins.
-pub const EVEN_SLOT: u64 = 1_024;
-
-/// The length of a slot, in bytes.
-pub const SLOT_LEN: usize = 84;
-
 const FORMAT: u16 = 1;
 
 /// The catalogue of a store that was just made: its gate open, version 1, lanes 0, 1 and 2, and three components without pages.
@@ -57,40 +47,20 @@ pub const FIRST_CATALOGUE: [u8; SLOT_LEN] = [
 /// A slot that no catalogue was written to.
 pub const NO_CATALOGUE: [u8; SLOT_LEN] = [0; SLOT_LEN];
 
+/// What the superblock of a store of this geometry says behind its gate.
 #[tactic(auto, unfolding(crate::specs::Layout::superblock_text))]
-fn text_of(half: u32, ratio: u32, low: u32, quantum: u32) -> [u8; TEXT_LEN]
-    ensures { result ≡ superblock_text (record { half = half; ratio = ratio; low = low; quantum = quantum }) }
+pub fn superblock_text(geometry: &Geometry) -> [u8; TEXT_LEN]
+    ensures { result ≡ superblock_text geometry.now }
 {
     let [f1, f0] = FORMAT.to_be_bytes();
-    let [h3, h2, h1, h0] = half.to_be_bytes();
-    let [r3, r2, r1, r0] = ratio.to_be_bytes();
-    let [l3, l2, l1, l0] = low.to_be_bytes();
-    let [q3, q2, q1, q0] = quantum.to_be_bytes();
+    let [h3, h2, h1, h0] = (geometry.half() as u32).to_be_bytes();
+    let [r3, r2, r1, r0] = (geometry.ratio() as u32).to_be_bytes();
+    let [l3, l2, l1, l0] = (geometry.low() as u32).to_be_bytes();
+    let [q3, q2, q1, q0] = (geometry.quantum() as u32).to_be_bytes();
     [
         b'B', b'L', b'S', b'M', b'0', b'0', b'0', b'1', f1, f0, h3, h2, h1, h0, r3, r2, r1, r0, l3,
         l2, l1, l0, q3, q2, q1, q0,
     ]
-}
-
-/// How long the file of a store of this geometry is, in bytes.
-pub fn length_of(geometry: &Geometry) -> u64
-    ensures length { result ≡ file_length geometry.now }
-    ensures fits { IsGeometry geometry.now }
-{
-    let _half = geometry.half();
-    geometry.length()
-}
-
-/// What the superblock of a store of this geometry says behind its gate.
-pub fn superblock_text(geometry: &Geometry) -> [u8; TEXT_LEN]
-    ensures { result ≡ superblock_text geometry.now }
-{
-    text_of(
-        geometry.half() as u32,
-        geometry.ratio() as u32,
-        geometry.low() as u32,
-        geometry.quantum() as u32,
-    )
 }
 
 /// The superblock of a store of this geometry, with this gate.

@@ -1,19 +1,21 @@
 //! Reading: which store a disk is, and whether its catalogue slots are as at making.
-ghost use Rattle.std.specs.Prelude.{◌≡◌, ◌≤◌, ◌<◌, ◌+◌, List, ℕ, length, IsTrue, IfSome, IfNone, IfOk};
+ghost use Rattle.std.specs.Prelude.{◌≡◌, ◌≢◌, ◌≤◌, ◌+◌, List, ℕ, length, Err, IsTrue, IfSome, IfNone, IfOk};
 ghost use Rattle.std.specs.Int.{w32, from_be_bytes};
-ghost use Rattle.disk_trait.specs.Disk.{GoesOn, IsSure, MarksSync, ChangesNothing, part};
-ghost use Rattle.disk_trait.specs.Moments.{LeavesOnly};
+ghost use Rattle.disk_trait.specs.Disk.{part, TellsFaultsBy};
+ghost use Rattle.disk_trait.specs.Reads.{OnlyReads};
 ghost use Rattle.gated_write.specs.Gated.{open_byte};
 ghost use Rattle.blsm_model.specs.Sizes.{Sizes, IsGeometry};
 ghost use Rattle.blsm_model.specs.Geometry.{file_length};
-ghost use Rattle.store_file.specs.Layout.{superblock, IsStoreOf};
-ghost use Rattle.store_file.specs.Reading.{TellsStore, TellsGeometry, TellsSlots, HasReadCause};
+ghost use Rattle.catalog_swap.specs.Slots.{odd_slot, even_slot, slot_length};
+ghost use Rattle.store_file.specs.Layout.{superblock, superblock_length, IsStoreOf, HasFirstSlots};
+ghost use Rattle.store_file.specs.Reading.{TellsStore, TellsGeometry};
 
 use crate::layout::{
-    EVEN_SLOT, FIRST_CATALOGUE, HALF_AT, LOW_AT, NO_CATALOGUE, ODD_SLOT, QUANTUM_AT, RATIO_AT,
-    SLOT_LEN, SUPERBLOCK_LEN, superblock,
+    FIRST_CATALOGUE, HALF_AT, LOW_AT, NO_CATALOGUE, QUANTUM_AT, RATIO_AT, SUPERBLOCK_LEN,
+    superblock,
 };
 use blsm_model::Geometry;
+use catalog_swap::{EVEN_SLOT, ODD_SLOT, SLOT_LEN};
 use disk_trait::Disk;
 use gated_write::OPEN;
 use refusal::Failed;
@@ -72,21 +74,17 @@ fn geometry_of(block: &[u8; SUPERBLOCK_LEN]) -> Option<Geometry>
     }
 }
 
-// Reads which geometry the store on a disk has, by its superblock and its length.
-fn read_geometry<D: Disk>(disk: &mut D) -> Result<Geometry, StoreBroken>
+/// Reads which geometry the store on a disk has, by its superblock and its length alone: `NotAStore` comes exactly where these
+/// are those of no geometry.
+///
+/// It takes at most two calls of the disk: its length, and a read. No answer changes what the disk holds.
+pub fn read_geometry<D: Disk>(disk: &mut D) -> Result<Geometry, StoreBroken>
     ensures tells { IsTrue (D.state disk.old).is_honest → TellsGeometry (D.state disk.old).bytes result }
-    ensures length { IfOk result (λ sizes. IsTrue (D.state disk.old).tells_bytes
-        → length (D.state disk.old).bytes ≡ file_length sizes) }
+    ensures length { IfOk result (λ sizes. IsTrue (D.state disk.old).tells_bytes → length (D.state disk.old).bytes ≡ file_length sizes) }
     ensures fits { IfOk result IsGeometry }
-    ensures cause { HasReadCause (D.state disk.old) (D.state disk.new) result }
-    ensures one_fault { (D.state disk.new).faults ≤ (D.state disk.old).faults + 1 }
-    ensures same { ChangesNothing (D.state disk.old) (D.state disk.new) }
-    ensures each { IsTrue (D.state disk.old).is_honest
-        → LeavesOnly (D.state disk.old) (D.state disk.new) (D.state disk.old).images }
-    ensures no_sync { MarksSync ⊥ (D.state disk.old) (D.state disk.new) }
-    ensures goes_on { GoesOn (D.state disk.old) (D.state disk.new) }
-    ensures calls { (D.state disk.new).clock ≤ (D.state disk.old).clock + 2 }
-    ensures sure { IsSure SUPERBLOCK_LEN (D.state disk.old) (D.state disk.new) }
+    ensures no_slots { result ≢ Err StoreBroken.DamagedSlots }
+    ensures faults { TellsFaultsBy (Err StoreBroken.Fault) result (D.state disk.old) (D.state disk.new) }
+    ensures effect { OnlyReads SUPERBLOCK_LEN 2 (D.state disk.old) (D.state disk.new) }
 {
     let length = disk.len()?;
     if length < SUPERBLOCK_LEN as u64 {
@@ -104,20 +102,18 @@ fn read_geometry<D: Disk>(disk: &mut D) -> Result<Geometry, StoreBroken>
     }
 }
 
-// Reads whether the catalogue slots are as at making.
-fn check_slots<D: Disk>(disk: &mut D) -> Result<(), StoreBroken>
-    requires { IsTrue (D.state disk.old).tells_bytes → EVEN_SLOT + SLOT_LEN ≤ length (D.state disk.old).bytes }
-    ensures tells { IsTrue (D.state disk.old).is_honest → TellsSlots (D.state disk.old).bytes result }
-    ensures cause { HasReadCause (D.state disk.old) (D.state disk.new) result }
-    ensures one_fault { (D.state disk.new).faults ≤ (D.state disk.old).faults + 1 }
-    ensures same { ChangesNothing (D.state disk.old) (D.state disk.new) }
-    ensures each { IsTrue (D.state disk.old).is_honest
-        → LeavesOnly (D.state disk.old) (D.state disk.new) (D.state disk.old).images }
-    ensures no_sync { MarksSync ⊥ (D.state disk.old) (D.state disk.new) }
-    ensures goes_on { GoesOn (D.state disk.old) (D.state disk.new) }
-    ensures calls { (D.state disk.new).clock ≤ (D.state disk.old).clock + 2 }
-    ensures sure { IsSure (EVEN_SLOT + SLOT_LEN) (D.state disk.old) (D.state disk.new) }
+/// Reads which geometry the store on a disk has. Its superblock and its length are looked at first, then its catalogue slots,
+/// of which each of the 84 bytes must be as at making.
+///
+/// It takes at most four calls of the disk: its length, and three reads. No answer changes what the disk holds.
+pub fn read_store<D: Disk>(disk: &mut D) -> Result<Geometry, StoreBroken>
+    ensures tells { IsTrue (D.state disk.old).is_honest → TellsStore (D.state disk.old).bytes result }
+    ensures length { IfOk result (λ sizes. IsTrue (D.state disk.old).tells_bytes → length (D.state disk.old).bytes ≡ file_length sizes) }
+    ensures fits { IfOk result IsGeometry }
+    ensures faults { TellsFaultsBy (Err StoreBroken.Fault) result (D.state disk.old) (D.state disk.new) }
+    ensures effect { OnlyReads (EVEN_SLOT + SLOT_LEN) 4 (D.state disk.old) (D.state disk.new) }
 {
+    let geometry = read_geometry(disk)?;
     let mut odd = [0; SLOT_LEN];
     disk.read(ODD_SLOT, &mut odd)?;
     let mut even = [0; SLOT_LEN];
@@ -128,34 +124,15 @@ fn check_slots<D: Disk>(disk: &mut D) -> Result<(), StoreBroken>
     if even != NO_CATALOGUE {
         return Err(StoreBroken::DamagedSlots);
     }
-    Ok(())
-}
-
-/// Reads which geometry the store on a disk has. Its superblock and its length are looked at first, then its catalogue slots,
-/// of which each of the 84 bytes must be as at making.
-///
-/// It takes at most four calls of the disk: its length, and three reads. No answer changes what the disk holds.
-pub fn read_store<D: Disk>(disk: &mut D) -> Result<Geometry, StoreBroken>
-    ensures tells { IsTrue (D.state disk.old).is_honest → TellsStore (D.state disk.old).bytes result }
-    ensures length { IfOk result (λ sizes. IsTrue (D.state disk.old).tells_bytes
-        → length (D.state disk.old).bytes ≡ file_length sizes) }
-    ensures fits { IfOk result IsGeometry }
-    ensures cause { HasReadCause (D.state disk.old) (D.state disk.new) result }
-    ensures one_fault { (D.state disk.new).faults ≤ (D.state disk.old).faults + 1 }
-    ensures same { ChangesNothing (D.state disk.old) (D.state disk.new) }
-    ensures each { IsTrue (D.state disk.old).is_honest
-        → LeavesOnly (D.state disk.old) (D.state disk.new) (D.state disk.old).images }
-    ensures no_sync { MarksSync ⊥ (D.state disk.old) (D.state disk.new) }
-    ensures goes_on { GoesOn (D.state disk.old) (D.state disk.new) }
-    ensures calls { (D.state disk.new).clock ≤ (D.state disk.old).clock + 4 }
-    ensures sure { IsSure (EVEN_SLOT + SLOT_LEN) (D.state disk.old) (D.state disk.new) }
-{
-    let geometry = read_geometry(disk)?;
-    check_slots(disk)?;
     Ok(geometry)
 }
 
-/// A file is a store of one geometry at most.
+/// A file is a store of one geometry at most. It stays it after any change outside its superblock that keeps its length, and its
+/// slots stay as at making after any change outside of them.
 pub fn one_geometry()
-    ensures { (a b : Sizes) (file : List ℕ) → IsStoreOf a file → IsStoreOf b file → a ≡ b }
+    ensures same { (a b : Sizes) (file : List ℕ) → IsStoreOf a file → IsStoreOf b file → a ≡ b }
+    ensures kept { (sizes : Sizes) (old new : List ℕ) → part new 0 superblock_length ≡ part old 0 superblock_length
+        → length new ≡ length old → IsStoreOf sizes old → IsStoreOf sizes new }
+    ensures slots { (old new : List ℕ) → part new odd_slot slot_length ≡ part old odd_slot slot_length
+        → part new even_slot slot_length ≡ part old even_slot slot_length → HasFirstSlots old → HasFirstSlots new }
 {}

@@ -34,6 +34,7 @@ fn the_default_store_is_made_and_read(rt: HostRuntime) -> Result<(), Fail> {
     let mut catalogue = [0; 20];
     disk.read(512, &mut catalogue)?;
     assert_eq!(rt; catalogue, CATALOGUE_BEGINS);
+    assert_eq!(rt; read_geometry(&mut disk), Ok(Geometry::default()));
     assert_eq!(rt; read_store(&mut disk), Ok(Geometry::default()));
     one_geometry();
     Ok(())
@@ -77,6 +78,11 @@ fn each_changed_byte_is_found(rt: HostRuntime) -> Result<(), Fail> {
         disk.read(at, &mut old)?;
         disk.write(at, &[byte])?;
         assert_eq!(rt; read_store(&mut disk), answer, "{byte} at {at}");
+        let geometry_alone = match answer {
+            Err(StoreBroken::DamagedSlots) => Ok(geometry),
+            other => other,
+        };
+        assert_eq!(rt; read_geometry(&mut disk), geometry_alone, "{byte} at {at}");
         disk.write(at, &old)?;
     }
     assert_eq!(rt; read_store(&mut disk), Ok(geometry));

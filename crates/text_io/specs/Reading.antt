@@ -4,6 +4,10 @@ use Rattle.refusal.specs.Count.{HasRisen}
 use Rattle.text_io.specs.declared.whole.ReadFault.{ReadFault}
 use Rattle.text_io.specs.declared.whole.ReadFault.TheVariants.{Failed, TooLong, NoMemory}
 
+-- how many bytes one call asks a source for at most
+abbrev pub piece_length : ℕ
+piece_length = 4096
+
 -- the fact holds where too much was read
 abbrev pub IfTooLong : {T : Type 0} → Result T ReadFault → Type 0 → Type 0
 IfTooLong (Err TooLong) fact = fact

@@ -1,7 +1,7 @@
 // A whole text, in as many calls as it takes.
 ghost use Rattle.std.specs.Prelude.{◌≡◌, ◌≤◌, ◌+◌, IfOk, OnErr, length};
 ghost use Rattle.text_io.specs.Text.{LosesAtMost, LosesFront, LosesMoreThan, WasRead, Writes};
-ghost use Rattle.text_io.specs.Reading.{CountsRead, IfTooLong};
+ghost use Rattle.text_io.specs.Reading.{CountsRead, IfTooLong, piece_length};
 ghost use Rattle.text_io.specs.declared.whole.ReadFault.TheVariants.{Failed, NoMemory};
 
 use crate::{Sink, Source};
@@ -64,7 +64,7 @@ pub fn read_all<S: Source>(
     ensures within { IfOk result (λ bytes. length bytes.items ≤ limit) }
     ensures too_long { IfTooLong result (LosesMoreThan limit (S.left source.old) (S.left source.new)) }
     ensures err { OnErr result (LosesFront (S.left source.old) (S.left source.new)) }
-    ensures soon { OnErr result (LosesAtMost (limit + 4096) (S.left source.old) (S.left source.new)) }
+    ensures soon { OnErr result (LosesAtMost (limit + piece_length) (S.left source.old) (S.left source.new)) }
     ensures cause { CountsRead result (S.faults source.old) (S.faults source.new) }
 {
     let mut bytes = Vec::new(alloc);

@@ -295,6 +295,50 @@ fn a_log_that_is_too_heavy_is_damaged(rt: HostRuntime) -> Result<(), Fail> {
     Ok(())
 }
 
+// An empty store of this half spring and this ratio, as its format says: the superblock, and the first catalogue slot with three
+// regions and three empty components.
+fn store_of(alloc: Global, half: u32, ratio: u32, length: usize) -> Result<MemDisk, Fail> {
+    let mut head = Vec::from_slice(alloc, b"\x01BLSM0001\x00\x01")?;
+    head.extend_from_slice(&half.to_be_bytes())?;
+    head.extend_from_slice(&ratio.to_be_bytes())?;
+    head.extend_from_slice(b"\x00\x00\x00\x00\x00\x00\x04\x00")?;
+    let mut slot = Vec::from_slice(alloc, &[1, 0, 0, 0, 0, 0, 0, 0, 1, 0, 1, 2])?;
+    for _ in 0..3 {
+        slot.extend_from_slice(&[255; 4])?;
+        slot.extend_from_slice(&[0; 20])?;
+    }
+    let mut disk = empty_disk(alloc)?;
+    write(&mut disk, 0, &vec![in alloc; 0; length]?)?;
+    write(&mut disk, 0, &head)?;
+    write(&mut disk, 512, &slot)?;
+    Ok(disk)
+}
+
+// The smallest geometry, and one of twice the default half spring: memory is there for both.
+#[test]
+fn stores_of_other_geometries_run(rt: HostRuntime) -> Result<(), Fail> {
+    let alloc = rt.alloc();
+    let rows = [
+        (17_408, 2, 3_481_600, 34_816),
+        (65_536, 2, 12_464_128, 131_072),
+    ];
+    for (half, ratio, length, high) in rows {
+        let text = format!(in alloc;
+            "open charge 0\n1 1 put a 1 - => ok q0\n2 1 put b 2 - => ok q0\n3 1 get a => is 1 - q0\nend c0 28 of {high} callers 0 workers 0 swaps 0 0\n"
+        )?;
+        let disk = store_of(alloc, half, ratio, length)?;
+        check(
+            &rt,
+            alloc,
+            &RUN,
+            SCRIPT,
+            disk,
+            (Status::Done, text.as_str()),
+        )?;
+    }
+    Ok(())
+}
+
 // An opening looks at the length, syncs, looks at the length again, reads the superblock, two slots and, behind two writes, three
 // gates of the log.
 const OPENING: u64 = 9;

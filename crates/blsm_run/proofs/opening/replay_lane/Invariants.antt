@@ -1,8 +1,10 @@
-use Rattle.std.proofs.Common.{◌≡◌, ◌≤◌, ◌+◌, ◌*◌, ◌-◌, List, IsTrue, length}
-use Rattle.disk_trait.specs.Disk.{GoesOn, MarksSync}
-use Rattle.disk_trait.specs.Moments.{LeavesOnly}
+use Rattle.std.proofs.Common.{◌≡◌, ◌≤◌, ◌*◌, ◌-◌, List, IsTrue, length}
+use Rattle.disk_trait.specs.Reads.{OnlyReads}
 use Rattle.blsm_model.specs.declared.op.Write.{Write}
-use Rattle.gated_log.specs.Lane.{region_length, blocks}
+use Rattle.blsm_model.specs.Format.{least_weight}
+use Rattle.blsm_model.specs.Geometry.{file_length}
+use Rattle.blsm_model.specs.Lanes.{region_length}
+use Rattle.gated_log.specs.Lane.{blocks}
 use Rattle.gated_log.specs.Replay.{HasGiven}
 use Rattle.blsm_run.specs.Holding.{log_lane, entries_of}
 use Rattle.blsm_run.specs.Opening.{HasTaken, IsFit}
@@ -15,16 +17,11 @@ invariant-loop-key g l = record {
   same : l.opened.geometry ≡ l.fn.opened.geometry;
   fit : IsFit l.opened;
   short : l.replay.end ≤ 2 * l.opened.charge;
-  goes_on : GoesOn (g.D.Disk.state l.fn.disk) (g.D.Disk.state l.disk);
-  long : IsTrue (g.D.Disk.state l.fn.disk).tells_bytes → length (g.D.Disk.state l.disk).bytes ≡ length (g.D.Disk.state l.fn.disk).bytes;
-  bytes : IsTrue (g.D.Disk.state l.fn.disk).is_honest → (g.D.Disk.state l.disk).bytes ≡ (g.D.Disk.state l.fn.disk).bytes;
-  each : IsTrue (g.D.Disk.state l.fn.disk).is_honest → LeavesOnly (g.D.Disk.state l.fn.disk) (g.D.Disk.state l.disk) (g.D.Disk.state l.fn.disk).images;
-  no_sync : MarksSync ⊥ (g.D.Disk.state l.fn.disk) (g.D.Disk.state l.disk);
   stands : (g.D.Disk.state l.disk).faults ≡ (g.D.Disk.state l.fn.disk).faults;
   given : (writes : List Write) × HasTaken writes l.opened × (length (blocks (entries_of writes)) ≡ l.replay.end)
       × (IsTrue (g.D.Disk.state l.fn.disk).is_honest → HasGiven l.replay (entries_of writes) (g.D.Disk.state l.fn.disk).bytes)
-      × (14 * length writes ≤ l.opened.charge)
-      × ((g.D.Disk.state l.disk).clock ≤ (g.D.Disk.state l.fn.disk).clock + length writes);
+      × (least_weight * length writes ≤ l.opened.charge)
+      × OnlyReads (file_length l.opened.geometry) (length writes) (g.D.Disk.state l.fn.disk) (g.D.Disk.state l.disk);
 }
 
 abbrev pub decreases-loop-key : goal.decreases-loop-key

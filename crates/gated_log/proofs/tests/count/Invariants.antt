@@ -1,9 +1,9 @@
-use Rattle.std.proofs.Common.{◌≡◌, ◌<◌, ◌≤◌, ◌+◌, ◌*◌, List, length, IsTrue, ◌-◌}
+use Rattle.std.proofs.Common.{◌≡◌, ◌<◌, ◌≤◌, ◌/◌, List, length, IsTrue, ◌-◌}
 use Rattle.blsm_model.specs.declared.key.Key.{Key}
 use Rattle.blsm_model.specs.Geometry.{file_length}
 use Rattle.record_delta.specs.declared.record.Rec.{Rec}
-use Rattle.disk_trait.specs.Disk.{GoesOn}
-use Rattle.gated_log.specs.Lane.{region_length}
+use Rattle.disk_trait.specs.Reads.{OnlyReads}
+use Rattle.blsm_model.specs.Lanes.{region_length}
 use Rattle.gated_log.specs.Replay.{HasGiven}
 use Rattle.gated_log.proofs.tests.count.Given as goal
 
@@ -13,11 +13,9 @@ invariant-loop-entries g l = record {
   lane : l.replay.lane ≡ l.lane;
   within : l.entries ≤ l.replay.end;
   inside : l.replay.end < region_length l.replay.sizes;
-  goes_on : GoesOn (g.D.Disk.state l.fn.disk) (g.D.Disk.state l.disk);
-  long : IsTrue (g.D.Disk.state l.fn.disk).tells_bytes → length (g.D.Disk.state l.disk).bytes ≡ file_length l.geometry;
-  bytes : IsTrue (g.D.Disk.state l.fn.disk).is_honest → (g.D.Disk.state l.disk).bytes ≡ (g.D.Disk.state l.fn.disk).bytes;
+  stands : (g.D.Disk.state l.disk).faults ≡ (g.D.Disk.state l.fn.disk).faults;
   -- a read for each entry so far, and an entry and its gate take 15 bytes at least
-  calls : 15 * (g.D.Disk.state l.disk).clock ≤ 15 * (g.D.Disk.state l.fn.disk).clock + l.replay.end;
+  effect : OnlyReads (file_length l.geometry) (l.replay.end / 15) (g.D.Disk.state l.fn.disk) (g.D.Disk.state l.disk);
   given : IsTrue (g.D.Disk.state l.fn.disk).is_honest → (es : List (Key × Rec)) × HasGiven l.replay es (g.D.Disk.state l.disk).bytes × (length es ≡ l.entries);
 }
 

@@ -1,36 +1,35 @@
-use Rattle.std.proofs.Common.{◌≡◌, ◌∙◌, ◌++◌, drop, length, List, ℕ, ap, sym, arith}
-use Rattle.std.specs.List.{between}
-use Rattle.std.proofs.lemmas.Bool.{false≢true}
-use Rattle.std.proofs.lemmas.Slice.{between_to_end}
-use Rattle.page_file.specs.Entry.{entry_head, AreNumbers}
-use Rattle.page_file.proofs.EntryLemmas.{too_short, numbers_read, first_found}
+use Rattle.std.proofs.Common.{◌≡◌, ◌∙◌, ◌+◌, ◌-◌, ◌++◌, take, drop, length, List, ℕ, ap, sym, length-append, arith}
+use Rattle.std.proofs.lemmas.List.{take_at, drop_at}
+use Rattle.entry_codec.specs.Spelling.{spelling}
+use Rattle.entry_codec.proofs.SpellingLemmas.{length-spelling}
+use Rattle.page_file.proofs.EntryLemmas.{key_in}
 use Rattle.page_file.proofs.entry.first_entry.Goals as goal
 
-pub returns-then-bytes-lt-HEAD_LEN-clause-none : goal.returns-then-bytes-lt-HEAD_LEN-clause-none
-returns-then-bytes-lt-HEAD_LEN-clause-none c = λ key rest. too_short c.args.bytes.now key rest c.if-bytes-lt-HEAD_LEN.true
+pub split_at-requires : goal.split_at-requires
+split_at-requires c =
+    let found = c.in_ok-key.ensures.found in
+    let key = c.in_ok-key.key in
+    let rec = c.in_ok-key.field-0-1 in
+    omega (arith, found.1, ap (length {A = ℕ}) found.0.parts, length-append (spelling key rec) found.0.rest, length-spelling key rec)
 
-pub returns-then-not-is_right-clause-none : goal.returns-then-not-is_right-clause-none
-returns-then-not-is_right-clause-none c = λ key rest begins.
-    let h = c.read-head.result in
-    let numbers = numbers_read c.args.bytes.now (drop 13 c.args.bytes.now) h.kind h.key_len h.text_len h.count key rest c.read-head.ensures.key_fits c.read-head.ensures.text_fits c.read-head.ensures.count_fits c.read-head.ensures.parts begins in
-    false≢true (sym c.if-not-is_right.true ∙ c.is_right.ensures.1 numbers.0)
-
-pub returns-then-behind-key_len-clause-none : goal.returns-then-behind-key_len-clause-none
-returns-then-behind-key_len-clause-none c = λ key rest begins.
-    let h = c.read-head.result in
-    let bytes : List ℕ = c.args.bytes.now in
-    let numbers = numbers_read bytes (drop 13 bytes) h.kind h.key_len h.text_len h.count key rest c.read-head.ensures.key_fits c.read-head.ensures.text_fits c.read-head.ensures.count_fits c.read-head.ensures.parts begins in
-    let whole = ap (λ (l : List ℕ). length l) (between_to_end bytes 13 (length bytes) (omega arith)) in
-    omega (arith, numbers.1, c.if-behind-key_len.true, whole)
+pub returns-in_err-key-clause-none : goal.returns-in_err-key-clause-none
+returns-in_err-key-clause-none c =
+    rw c.from_residual.ensures (λ key rest first. c.in_err-key.ensures.none first.entry.0 first.entry.1 (record { entry = first.right; rest = rest; parts = first.parts }))
 
 pub returns-clause-found : goal.returns-clause-found
 returns-clause-found c =
-    let h = c.read-head.result in
-    let bytes : List ℕ = c.args.bytes.now in
-    let back : List ℕ = c.split_at.result.1.now in
-    let behind : List ℕ = between 13 (length bytes) bytes in
-    let read : bytes ≡ entry_head h.kind h.key_len h.text_len h.count ++ behind =
-    c.read-head.ensures.parts ∙ ap (λ (l : List ℕ). entry_head h.kind h.key_len h.text_len h.count ++ l) (sym (between_to_end bytes 13 (length bytes) (omega arith))) in
-    let right : AreNumbers h.kind h.key_len h.text_len h.count = c.is_right.ensures.0 c.if-not-is_right.false in
-    first_found bytes behind back c.split_at.result.0.now _ h.kind h.key_len h.text_len h.count read right c.if-behind-key_len.false c.split_at.ensures.front c.split_at.ensures.back
-    (between_to_end back h.text_len (length back) (omega (arith, c.if-behind-key_len.false, c.split_at.ensures.back_len))) c.split_at.ensures.back_len
+    let found = c.in_ok-key.ensures.found in
+    let key = c.in_ok-key.key in
+    let rec = c.in_ok-key.field-0-1 in
+    let rest = found.0.rest in
+    let len = c.in_ok-key.length in
+    let long : length (spelling key rec) ≡ len = length-spelling key rec ∙ sym found.1 in
+    let front : c.split_at.result.0.now ≡ spelling key rec = c.split_at.ensures.front ∙ ap (take len) found.0.parts ∙ take_at (spelling key rec) rest len long in
+    let back : c.split_at.result.1.now ≡ rest = c.split_at.ensures.back ∙ ap (drop len) found.0.parts ∙ drop_at (spelling key rec) rest len long in
+    let key_long : 13 + length c.as_bytes.result.now - 13 ≡ length key = omega (arith, ap (length {A = ℕ}) c.as_bytes.ensures.bytes) in
+    record {
+      entry = (key, rec);
+      right = found.0.entry;
+      key_is = sym ((λ i. take (key_long i) (drop 13 (front i))) ∙ key_in key rec);
+      parts = found.0.parts ∙ ap (λ (l : List ℕ). spelling key rec ++ l) (sym back);
+    }

@@ -16,7 +16,7 @@ returns c = λ pages next entries of.
     let page : List ℕ = c.args.page.now in
     let first = page_first pages next entries page of in
     let there : between 8 4096 page ≡ drop 8 page = between_to_end page 8 4096 (omega (arith, c.told-page)) in
-    let found = c.decode.ensures.only first.first.key first.rec (subst (λ (l : List ℕ). BeginsWith l first.first.key first.rec) (sym there) first.begins) in
+    let found = c.decode.ensures.only first.first.0 first.first.1 (subst (λ (l : List ℕ). BeginsWith l first.first.0 first.first.1) (sym there) first.begins) in
     (first.first, first.more, first.entries_are, ap key_found (sym c.in_ok-key.was ∙ found))
 
 pub returns-in_err-key : goal.returns-in_err-key
@@ -24,4 +24,4 @@ returns-in_err-key c = λ pages next entries of.
     let page : List ℕ = c.args.page.now in
     let first = page_first pages next entries page of in
     let there : between 8 4096 page ≡ drop 8 page = between_to_end page 8 4096 (omega (arith, c.told-page)) in
-    absurd (c.in_err-key.ensures.none first.first.key first.rec (subst (λ (l : List ℕ). BeginsWith l first.first.key first.rec) (sym there) first.begins))
+    absurd (c.in_err-key.ensures.none first.first.0 first.first.1 (subst (λ (l : List ℕ). BeginsWith l first.first.0 first.first.1) (sym there) first.begins))

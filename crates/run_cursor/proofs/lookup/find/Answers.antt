@@ -1,15 +1,16 @@
-use Rattle.std.proofs.Common.{◌≡◌, ◌∙◌, ◌∷◌, ◌++◌, ℕ, List, [], Option, Some, None, Result, Ok, Err, IsTrue, inl, inr, refl, ap, sym, subst, arith}
+use Rattle.std.proofs.Common.{◌≡◌, ◌∙◌, ◌+◌, ◌≤◌, ◌∷◌, ◌++◌, ℕ, List, [], Option, Some, None, Result, Ok, Err, IsTrue, inl, inr, refl, ap, sym, subst, arith}
 use Rattle.std.specs.declared.cmp.Ordering.TheVariants.{Greater}
+use Rattle.std.proofs.lemmas.Bool.{cases_lt}
 use Rattle.std.proofs.lemmas.List.Elements.{All-nil}
 use Rattle.std.proofs.lemmas.Result.{err_from_is_err_and}
 use Rattle.blsm_model.specs.declared.key.Key.{Key}
 use Rattle.blsm_model.specs.Keys.{key_cmp}
-use Rattle.blsm_model.specs.Geometry.{file_length}
 use Rattle.record_delta.specs.declared.record.Rec.{Rec}
 use Rattle.page_file.specs.declared.file.Broken.{Broken}
 use Rattle.page_file.specs.declared.file.Broken.TheVariants.{Fault, Damaged}
-use Rattle.page_file.specs.Records.{HasList}
-use Rattle.run_cursor.specs.Reads.{only_reads_start, only_reads_run}
+use Rattle.page_file.specs.Component.{numbers_of, HasList}
+use Rattle.refusal.specs.Count.{HasRisen}
+use Rattle.disk_trait.specs.Reads.{only_reads_start, only_reads_run_within, only_reads_same}
 use Rattle.run_cursor.specs.Cursor.{CursorState, HasAhead, IsDamageAt}
 use Rattle.run_cursor.specs.Given.{HasGiven, HasGivenMore}
 use Rattle.run_cursor.specs.Lookup.{IsFirstDamage}
@@ -29,12 +30,20 @@ no_head (Some e) none = absurd (none e refl)
 same_error : (a b : Broken) → ◌≡◌ {A = Result (Option Rec) Broken} (Err a) (Err b) → a ≡ b
 same_error a b same = cc
 
+-- one call for each page that isn't read yet
+few_calls : (pages all old mid new : ℕ) → mid + pages ≤ old + all → new ≤ mid + 1 → (pages ≡ 0 → new ≡ mid) → new ≤ old + all
+few_calls pages all old mid new so_far one none =
+    elim (cases_lt 0 pages) [
+      | inl some ↦ omega (arith, some, so_far, one)
+      | inr le ↦ omega (arith, so_far, none (omega (arith, le)))
+    ]
+
 pub returns-in_err-advance-clause-list : goal.returns-in_err-advance-clause-list
 returns-in_err-advance-clause-list g c = λ entries honest has other.
     let inv = c.loop-cursor.invariant in
     let was = inv.ahead entries honest has in
-    let still = subst IsTrue (sym inv.only_reads.goes_on.is_honest) honest in
-    let here = subst (λ (b : List _). HasAhead c.args.geo.now c.loop-cursor.cursor was.0 b) (sym (c.advance.ensures.only_reads.same.same.bytes still)) was.1 in
+    let still = subst IsTrue (sym inv.effect.effect.goes_on.is_honest) honest in
+    let here = subst (λ (b : List _). HasAhead c.args.geo.now c.loop-cursor.cursor was.0 b) (sym (only_reads_same c.advance.ensures.reads.effect still)) was.1 in
     let p = err_from_is_err_and c.from_residual.result c.from_residual.ensures.1 in
     let advanced = c.advance.ensures.list was.0 (g.met.D.Disk.honest_tells c.loop-cursor.disk still) here
     (λ fault. other (p.1 ∙ ap Err (p.2 ∙ fault_is c.advance.result c.in_err-advance.field-0.0 c.in_err-advance.was fault))) in
@@ -44,41 +53,43 @@ pub returns-in-Less-clause-list : goal.returns-in-Less-clause-list
 returns-in-Less-clause-list g c = λ entries honest has other.
     let inv = c.loop-cursor.invariant in
     let was = inv.ahead entries honest has in
-    let still = subst IsTrue (sym inv.only_reads.goes_on.is_honest) honest in
-    let here = subst (λ (b : List _). HasAhead c.args.geo.now c.loop-cursor.cursor was.0 b) (sym (c.advance.ensures.only_reads.same.same.bytes still)) was.1 in
+    let still = subst IsTrue (sym inv.effect.effect.goes_on.is_honest) honest in
+    let here = subst (λ (b : List _). HasAhead c.args.geo.now c.loop-cursor.cursor was.0 b) (sym (only_reads_same c.advance.ensures.reads.effect still)) was.1 in
     let advanced = c.advance.ensures.list was.0 (g.met.D.Disk.honest_tells c.loop-cursor.disk still) here (λ fault. not_both c.advance.result Fault fault c.in_ok-advance.was) in
-    let came = came_to c.args.geo.now c.loop-cursor.cursor c.advance.new.self was.0 c.args.key.now _ (c.in-Some.found, c.in-Some.rec) was.1.rise advanced.1 (sym c.head.ensures ∙ c.in-Some.is) in
+    let came = came_to c.args.geo.now c.loop-cursor.cursor c.advance.new.self was.0 (numbers_of here.coming) c.args.key.now _ (c.in-Some.found, c.in-Some.rec) was.1.rise advanced.1 (sym c.head.ensures ∙ c.in-Some.is) in
     ap Ok (sym (was.2 ∙ came.absent (sym c.cmp.ensures ∙ c.in-Less.is)))
 
 pub returns-in-Equal-clause-list : goal.returns-in-Equal-clause-list
 returns-in-Equal-clause-list g c = λ entries honest has other.
     let inv = c.loop-cursor.invariant in
     let was = inv.ahead entries honest has in
-    let still = subst IsTrue (sym inv.only_reads.goes_on.is_honest) honest in
-    let here = subst (λ (b : List _). HasAhead c.args.geo.now c.loop-cursor.cursor was.0 b) (sym (c.advance.ensures.only_reads.same.same.bytes still)) was.1 in
+    let still = subst IsTrue (sym inv.effect.effect.goes_on.is_honest) honest in
+    let here = subst (λ (b : List _). HasAhead c.args.geo.now c.loop-cursor.cursor was.0 b) (sym (only_reads_same c.advance.ensures.reads.effect still)) was.1 in
     let advanced = c.advance.ensures.list was.0 (g.met.D.Disk.honest_tells c.loop-cursor.disk still) here (λ fault. not_both c.advance.result Fault fault c.in_ok-advance.was) in
-    let came = came_to c.args.geo.now c.loop-cursor.cursor c.advance.new.self was.0 c.args.key.now _ (c.in-Some.found, c.in-Some.rec) was.1.rise advanced.1 (sym c.head.ensures ∙ c.in-Some.is) in
+    let came = came_to c.args.geo.now c.loop-cursor.cursor c.advance.new.self was.0 (numbers_of here.coming) c.args.key.now _ (c.in-Some.found, c.in-Some.rec) was.1.rise advanced.1 (sym c.head.ensures ∙ c.in-Some.is) in
     ap Ok (sym (was.2 ∙ came.here (sym c.cmp.ensures ∙ c.in-Equal.is)))
 
 pub loop-cursor-preserved : goal.loop-cursor-preserved
 loop-cursor-preserved g c =
     let inv = c.loop-cursor.invariant in
     record {
-      only_reads = only_reads_run (file_length c.args.geo.now) inv.only_reads c.advance.ensures.only_reads;
+      effect =
+          only_reads_run_within c.args.run.now.pages (g.met.D.Disk.timed c.loop-cursor.disk) inv.stands inv.effect c.advance.ensures.reads.effect
+          (few_calls _ _ _ _ _ inv.one_a_page c.advance.ensures.reads.effect.effect.calls c.advance.ensures.no_call);
       one_a_page = omega (arith, inv.one_a_page, c.in_ok-advance.ensures.one_a_page);
-      stands = c.advance.ensures.stands (λ fault. not_both c.advance.result Fault fault c.in_ok-advance.was) ∙ inv.stands;
+      stands = c.advance.ensures.reads.stands (λ fault. not_both c.advance.result Fault fault c.in_ok-advance.was) ∙ inv.stands;
       ahead = λ entries honest has.
           let was = inv.ahead entries honest has in
-          let still = subst IsTrue (sym inv.only_reads.goes_on.is_honest) honest in
-          let here = subst (λ (b : List _). HasAhead c.args.geo.now c.loop-cursor.cursor was.0 b) (sym (c.advance.ensures.only_reads.same.same.bytes still)) was.1 in
+          let still = subst IsTrue (sym inv.effect.effect.goes_on.is_honest) honest in
+          let here = subst (λ (b : List _). HasAhead c.args.geo.now c.loop-cursor.cursor was.0 b) (sym (only_reads_same c.advance.ensures.reads.effect still)) was.1 in
           let advanced = c.advance.ensures.list was.0 (g.met.D.Disk.honest_tells c.loop-cursor.disk still) here (λ fault. not_both c.advance.result Fault fault c.in_ok-advance.was) in
-          let came = came_to c.args.geo.now c.loop-cursor.cursor c.advance.new.self was.0 c.args.key.now _ (c.in-Some.found, c.in-Some.rec) was.1.rise advanced.1 (sym c.head.ensures ∙ c.in-Some.is) in
+          let came = came_to c.args.geo.now c.loop-cursor.cursor c.advance.new.self was.0 (numbers_of here.coming) c.args.key.now _ (c.in-Some.found, c.in-Some.rec) was.1.rise advanced.1 (sym c.head.ensures ∙ c.in-Some.is) in
           (came.more, came.ahead, was.2 ∙ came.further (sym c.cmp.ensures ∙ c.in-Greater.is));
       given = λ honest.
           let was = inv.given honest in
-          let still = subst IsTrue (sym inv.only_reads.goes_on.is_honest) honest in
+          let still = subst IsTrue (sym inv.effect.effect.goes_on.is_honest) honest in
           let file = (g.D.Disk.state c.advance.new.disk).bytes in
-          let here = subst (λ (b : List ℕ). HasGiven c.args.geo.now c.args.run.now c.loop-cursor.cursor was.0 b) (sym (c.advance.ensures.only_reads.same.same.bytes still)) was.1 in
+          let here = subst (λ (b : List ℕ). HasGiven c.args.geo.now c.args.run.now c.loop-cursor.cursor was.0 b) (sym (only_reads_same c.advance.ensures.reads.effect still)) was.1 in
           let head : Key × Rec = (c.in-Some.found, c.in-Some.rec) in (
             was.0 ++ head ∷ [],
             subst (λ (h : Option (Key × Rec)). HasGivenMore c.args.geo.now c.args.run.now c.advance.new.self h was.0 file) (sym c.head.ensures ∙ c.in-Some.is)
@@ -91,22 +102,22 @@ pub returns-in_default-clause-list : goal.returns-in_default-clause-list
 returns-in_default-clause-list g c = λ entries honest has other.
     let inv = c.loop-cursor.invariant in
     let was = inv.ahead entries honest has in
-    let still = subst IsTrue (sym inv.only_reads.goes_on.is_honest) honest in
-    let here = subst (λ (b : List _). HasAhead c.args.geo.now c.loop-cursor.cursor was.0 b) (sym (c.advance.ensures.only_reads.same.same.bytes still)) was.1 in
+    let still = subst IsTrue (sym inv.effect.effect.goes_on.is_honest) honest in
+    let here = subst (λ (b : List _). HasAhead c.args.geo.now c.loop-cursor.cursor was.0 b) (sym (only_reads_same c.advance.ensures.reads.effect still)) was.1 in
     let advanced = c.advance.ensures.list was.0 (g.met.D.Disk.honest_tells c.loop-cursor.disk still) here (λ fault. not_both c.advance.result Fault fault c.in_ok-advance.was) in
-    ap Ok (sym (was.2 ∙ none_ahead c.args.geo.now c.advance.new.self was.0 c.args.key.now _ advanced.1 (sym c.head.ensures ∙ no_head c.head.result c.in_default.not-Some)))
+    ap Ok (sym (was.2 ∙ none_ahead c.args.geo.now c.advance.new.self was.0 (numbers_of here.coming) c.args.key.now _ advanced.1 (sym c.head.ensures ∙ no_head c.head.result c.in_default.not-Some)))
 
 pub returns-in_default-clause-told : goal.returns-in_default-clause-told
 returns-in_default-clause-told g c = λ honest.
     let inv = c.loop-cursor.invariant in
     let was = inv.given honest in
-    let still = subst IsTrue (sym inv.only_reads.goes_on.is_honest) honest in
-    let same = c.advance.ensures.only_reads.same.same.bytes still in
+    let still = subst IsTrue (sym inv.effect.effect.goes_on.is_honest) honest in
+    let same = only_reads_same c.advance.ensures.reads.effect still in
     let file = (g.D.Disk.state c.advance.new.disk).bytes in
     let here = subst (λ (b : List ℕ). HasGiven c.args.geo.now c.args.run.now c.loop-cursor.cursor was.0 b) (sym same) was.1 in
     let more = subst (λ (h : Option (Key × Rec)). HasGivenMore c.args.geo.now c.args.run.now c.advance.new.self h was.0 file) (sym c.head.ensures ∙ no_head c.head.result c.in_default.not-Some)
     (c.in_ok-advance.ensures.given c.args.run.now was.0 (g.met.D.Disk.honest_tells c.loop-cursor.disk still) here) in
-    let back = same ∙ inv.only_reads.same.same.bytes honest in
+    let back = same ∙ only_reads_same inv.effect honest in
     let few = more.1.pages_is in
     record {
       cursor = c.advance.new.self;
@@ -121,8 +132,8 @@ pub returns-in-Less-clause-told : goal.returns-in-Less-clause-told
 returns-in-Less-clause-told g c = λ honest.
     let inv = c.loop-cursor.invariant in
     let was = inv.given honest in
-    let still = subst IsTrue (sym inv.only_reads.goes_on.is_honest) honest in
-    let same = c.advance.ensures.only_reads.same.same.bytes still in
+    let still = subst IsTrue (sym inv.effect.effect.goes_on.is_honest) honest in
+    let same = only_reads_same c.advance.ensures.reads.effect still in
     let file = (g.D.Disk.state c.advance.new.disk).bytes in
     let here = subst (λ (b : List ℕ). HasGiven c.args.geo.now c.args.run.now c.loop-cursor.cursor was.0 b) (sym same) was.1 in
     let head : Key × Rec = (c.in-Some.found, c.in-Some.rec) in
@@ -134,7 +145,7 @@ returns-in-Less-clause-told g c = λ honest.
     record {
       cursor = c.advance.new.self;
       given = was.0 ++ head ∷ [];
-      begins = subst (λ (b : List ℕ). HasGiven c.args.geo.now c.args.run.now c.advance.new.self (was.0 ++ head ∷ []) b) (same ∙ inv.only_reads.same.same.bytes honest) more;
+      begins = subst (λ (b : List ℕ). HasGiven c.args.geo.now c.args.run.now c.advance.new.self (was.0 ++ head ∷ []) b) (same ∙ only_reads_same inv.effect honest) more;
       found_is = says.0;
       enough = inl says.1;
       calls_are = omega (arith, few, inv.one_a_page, c.in_ok-advance.ensures.one_a_page);
@@ -144,8 +155,8 @@ pub returns-in-Equal-clause-told : goal.returns-in-Equal-clause-told
 returns-in-Equal-clause-told g c = λ honest.
     let inv = c.loop-cursor.invariant in
     let was = inv.given honest in
-    let still = subst IsTrue (sym inv.only_reads.goes_on.is_honest) honest in
-    let same = c.advance.ensures.only_reads.same.same.bytes still in
+    let still = subst IsTrue (sym inv.effect.effect.goes_on.is_honest) honest in
+    let same = only_reads_same c.advance.ensures.reads.effect still in
     let file = (g.D.Disk.state c.advance.new.disk).bytes in
     let here = subst (λ (b : List ℕ). HasGiven c.args.geo.now c.args.run.now c.loop-cursor.cursor was.0 b) (sym same) was.1 in
     let head : Key × Rec = (c.in-Some.found, c.in-Some.rec) in
@@ -157,7 +168,7 @@ returns-in-Equal-clause-told g c = λ honest.
     record {
       cursor = c.advance.new.self;
       given = was.0 ++ head ∷ [];
-      begins = subst (λ (b : List ℕ). HasGiven c.args.geo.now c.args.run.now c.advance.new.self (was.0 ++ head ∷ []) b) (same ∙ inv.only_reads.same.same.bytes honest) more;
+      begins = subst (λ (b : List ℕ). HasGiven c.args.geo.now c.args.run.now c.advance.new.self (was.0 ++ head ∷ []) b) (same ∙ only_reads_same inv.effect honest) more;
       found_is = says.0;
       enough = inl says.1;
       calls_are = omega (arith, few, inv.one_a_page, c.in_ok-advance.ensures.one_a_page);
@@ -167,19 +178,65 @@ pub returns-in_err-advance-clause-damaged : goal.returns-in_err-advance-clause-d
 returns-in_err-advance-clause-damaged g c = λ n is honest.
     let inv = c.loop-cursor.invariant in
     let was = inv.given honest in
-    let still = subst IsTrue (sym inv.only_reads.goes_on.is_honest) honest in
-    let same = c.advance.ensures.only_reads.same.same.bytes still in
+    let still = subst IsTrue (sym inv.effect.effect.goes_on.is_honest) honest in
+    let same = only_reads_same c.advance.ensures.reads.effect still in
     let p = err_from_is_err_and c.from_residual.result c.from_residual.ensures.1 in
     let broken = same_error p.0 (Damaged n) (sym p.1 ∙ is) in
     let told = c.advance.ensures.damaged n (c.in_err-advance.was ∙ ap Err (sym p.2 ∙ broken)) (g.met.D.Disk.honest_tells c.loop-cursor.disk still) in
-    subst (IsFirstDamage c.args.geo.now c.args.run.now c.args.key.now n) (inv.only_reads.same.same.bytes honest)
+    subst (IsFirstDamage c.args.geo.now c.args.run.now c.args.key.now n) (only_reads_same inv.effect honest)
     (record { cursor = c.loop-cursor.cursor; given = was.0; begins = was.1; above = was.2; damage = subst (λ (b : List ℕ). IsDamageAt c.args.geo.now c.loop-cursor.cursor n b) same told })
 
 pub loop-cursor-init : goal.loop-cursor-init
 loop-cursor-init g c = record {
-  only_reads = only_reads_start (file_length c.args.geo.now) (g.D.Disk.state c.args.disk.now) (g.met.D.Disk.timed c.args.disk.now);
+  effect = only_reads_start (g.D.Disk.state c.args.disk.now) (g.met.D.Disk.timed c.args.disk.now);
   one_a_page = omega (arith, ap (λ (s : CursorState). s.pages) c.start-cursor.ensures.start);
   stands = refl;
-  ahead = λ entries honest has. (entries, c.start-cursor.ensures.list c.args.geo.now entries (g.D.Disk.state c.args.disk.now).bytes has, refl);
+  ahead = λ entries honest has. (entries, (c.start-cursor.ensures.list c.args.geo.now entries (g.D.Disk.state c.args.disk.now).bytes has).0, refl);
   given = λ honest. ([], c.start-cursor.ensures.given c.args.geo.now (g.D.Disk.state c.args.disk.now).bytes, All-nil (λ (e : Key × Rec). key_cmp c.args.key.now e.0 ≡ Greater));
 }
+
+pub returns-in_err-advance-clause-reads : goal.returns-in_err-advance-clause-reads
+returns-in_err-advance-clause-reads g c =
+    let inv = c.loop-cursor.invariant in
+    let p = err_from_is_err_and c.from_residual.result c.from_residual.ensures.1 in
+    record {
+      effect =
+          only_reads_run_within c.args.run.now.pages (g.met.D.Disk.timed c.loop-cursor.disk) inv.stands inv.effect c.advance.ensures.reads.effect
+          (few_calls _ _ _ _ _ inv.one_a_page c.advance.ensures.reads.effect.effect.calls c.advance.ensures.no_call);
+      stands = λ other. c.advance.ensures.reads.stands (λ fault. other (p.1 ∙ ap Err (p.2 ∙ fault_is c.advance.result c.in_err-advance.field-0.0 c.in_err-advance.was fault))) ∙ inv.stands;
+      failed = λ is. subst (λ n. HasRisen n (g.D.Disk.state c.advance.new.disk).faults) inv.stands
+          (c.advance.ensures.reads.failed (c.in_err-advance.was ∙ ap Err (sym p.2 ∙ same_error p.0 Fault (sym p.1 ∙ is))));
+    }
+
+pub returns-in_default-clause-reads : goal.returns-in_default-clause-reads
+returns-in_default-clause-reads g c =
+    let inv = c.loop-cursor.invariant in
+    record {
+      effect =
+          only_reads_run_within c.args.run.now.pages (g.met.D.Disk.timed c.loop-cursor.disk) inv.stands inv.effect c.advance.ensures.reads.effect
+          (few_calls _ _ _ _ _ inv.one_a_page c.advance.ensures.reads.effect.effect.calls c.advance.ensures.no_call);
+      stands = λ other. c.advance.ensures.reads.stands (λ fault. not_both c.advance.result Fault fault c.in_ok-advance.was) ∙ inv.stands;
+      failed = λ wrong. absurd (cc);
+    }
+
+pub returns-in-Less-clause-reads : goal.returns-in-Less-clause-reads
+returns-in-Less-clause-reads g c =
+    let inv = c.loop-cursor.invariant in
+    record {
+      effect =
+          only_reads_run_within c.args.run.now.pages (g.met.D.Disk.timed c.loop-cursor.disk) inv.stands inv.effect c.advance.ensures.reads.effect
+          (few_calls _ _ _ _ _ inv.one_a_page c.advance.ensures.reads.effect.effect.calls c.advance.ensures.no_call);
+      stands = λ other. c.advance.ensures.reads.stands (λ fault. not_both c.advance.result Fault fault c.in_ok-advance.was) ∙ inv.stands;
+      failed = λ wrong. absurd (cc);
+    }
+
+pub returns-in-Equal-clause-reads : goal.returns-in-Equal-clause-reads
+returns-in-Equal-clause-reads g c =
+    let inv = c.loop-cursor.invariant in
+    record {
+      effect =
+          only_reads_run_within c.args.run.now.pages (g.met.D.Disk.timed c.loop-cursor.disk) inv.stands inv.effect c.advance.ensures.reads.effect
+          (few_calls _ _ _ _ _ inv.one_a_page c.advance.ensures.reads.effect.effect.calls c.advance.ensures.no_call);
+      stands = λ other. c.advance.ensures.reads.stands (λ fault. not_both c.advance.result Fault fault c.in_ok-advance.was) ∙ inv.stands;
+      failed = λ wrong. absurd (cc);
+    }

@@ -3,7 +3,7 @@ use Rattle.disk_trait.specs.Disk.{part}
 use Rattle.gated_write.specs.Gated.{open_byte}
 use Rattle.blsm_model.specs.Geometry.{file_length}
 use Rattle.store_file.specs.Layout.{superblock}
-use Rattle.store_file.specs.Laws.{superblock_same}
+use Rattle.store_file.proofs.LayoutLaws.{superblock_same}
 use Rattle.store_file.proofs.reading.read_geometry.Goals as goal
 
 pub returns-else-length-2-clause-tells : goal.returns-else-length-2-clause-tells

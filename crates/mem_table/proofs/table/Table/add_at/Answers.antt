@@ -1,7 +1,7 @@
 use Rattle.std.proofs.Common.{◌≡◌, ◌≤◌, ◌∙◌, ap, sym, subst, arith}
 use Rattle.std.specs.List.{insert}
 use Rattle.std.specs.Vec.{vec_capacity}
-use Rattle.mem_table.specs.Entries.{total_weight, with_record}
+use Rattle.record_delta.specs.Entries.{entries_weight, with_record}
 use Rattle.mem_table.specs.Places.{IsGapFor}
 use Rattle.mem_table.specs.Tables.{Contents}
 use Rattle.mem_table.proofs.EditLemmas.{with_record_apart, table_apart, place_left}
@@ -11,8 +11,8 @@ use Rattle.mem_table.proofs.table.Table.add_at.Goals.{After-copy}
 gap_inside : (c : After-copy) → IsGapFor c.self.inside.entries.items c.args.key.now c.args.at
 gap_inside c = subst (λ (v : Contents). IsGapFor v.entries c.args.key.now c.args.at) (sym c.self.view_is) c.requires.at
 
-fits_inside : (c : After-copy) → total_weight (with_record c.args.key.now c.args.rec.now c.self.inside.entries.items) ≤ c.self.inside.reserved
-fits_inside c = subst (λ (v : Contents). total_weight (with_record c.args.key.now c.args.rec.now v.entries) ≤ v.reserved) (sym c.self.view_is) c.requires.fits
+fits_inside : (c : After-copy) → entries_weight (with_record c.args.key.now c.args.rec.now c.self.inside.entries.items) ≤ c.self.inside.reserved
+fits_inside c = subst (λ (v : Contents). entries_weight (with_record c.args.key.now c.args.rec.now v.entries) ≤ v.reserved) (sym c.self.view_is) c.requires.fits
 
 inserted : (c : After-copy) → with_record c.args.key.now c.args.rec.now c.self.inside.entries.items ≡ insert c.self.inside.entries.items c.args.at (c.args.key.now, c.args.rec.now)
 inserted c = with_record_apart c.self.inside.entries.items c.args.key.now c.args.rec.now c.args.at (gap_inside c)

@@ -3,7 +3,7 @@ use Rattle.blsm_model.specs.declared.key.Key.{Key}
 use Rattle.record_delta.specs.declared.record.Rec.{Rec}
 use Rattle.record_delta.specs.Records.{weight}
 use Rattle.record_delta.specs.Folding.{fold}
-use Rattle.mem_table.specs.Entries.{total_weight, with_record}
+use Rattle.record_delta.specs.Entries.{entries_weight, with_record}
 use Rattle.mem_table.specs.Places.{IsAt}
 use Rattle.mem_table.proofs.EditLemmas.{weight_at_le, set_at, table_at}
 use Rattle.mem_table.proofs.table.Table.fold_at.Goals as goal
@@ -25,8 +25,8 @@ before_is c = c.weight-before.ensures.weight ∙ ap (weight c.args.key.now) (old
 pub overflow_sub-self : goal.overflow_sub-self
 overflow_sub-self c = rw (before_is c, c.self.invariant.weight_is) (weight_at_le c.self.inside.entries.items c.args.key.now c.args.at c.index.result.now (at_inside c))
 
-fits_inside : (c : After-fold-folded) → total_weight (with_record c.args.key.now c.args.rec.now c.self.inside.entries.items) ≤ c.self.inside.reserved
-fits_inside c = subst (λ v. total_weight (with_record c.args.key.now c.args.rec.now v.entries) ≤ v.reserved) (sym c.self.view_is) c.requires.fits
+fits_inside : (c : After-fold-folded) → entries_weight (with_record c.args.key.now c.args.rec.now c.self.inside.entries.items) ≤ c.self.inside.reserved
+fits_inside c = subst (λ v. entries_weight (with_record c.args.key.now c.args.rec.now v.entries) ≤ v.reserved) (sym c.self.view_is) c.requires.fits
 
 pub invariant_of-self : goal.invariant_of-self
 invariant_of-self c =

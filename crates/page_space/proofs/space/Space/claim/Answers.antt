@@ -1,8 +1,9 @@
 use Rattle.std.proofs.Common.{◌≡◌, ◌∙◌, ◌<◌, true, [], get_or, set, ap, length, refl, arith}
 use Rattle.std.proofs.lemmas.List.{get_or_read, get_or-set_same, get_or-set_other, length-set}
-use Rattle.page_space.specs.PageSet.{with_page}
-use Rattle.page_space.specs.Space.{SpaceState, role_count}
+use Rattle.page_space.specs.PageSet.{with_page, size}
+use Rattle.page_space.specs.Space.{SpaceState, role_count, KeepsOtherRoles}
 use Rattle.page_space.proofs.SpaceLemmas.{free_before_claim, shape_with_role}
+use Rattle.page_space.proofs.SizeLemmas.{size-with}
 use Rattle.page_space.proofs.FreeLemmas.{tags_after, free_after_claim}
 use Rattle.page_space.proofs.space.Space.claim.Goals as goal
 use Rattle.page_space.proofs.space.Space.claim.Goals.{After-insert}
@@ -33,22 +34,23 @@ this c =
     let there : c.number.result < length c.self.inside.roles.items = omega (arith, c.self.invariant.0.roles, c.number.ensures.in_range) in
     get_or-set_same c.self.inside.roles.items c.number.result c.insert.new.self [] there ∙ set_is c
 
-pub returns-clause-tags : goal.returns-clause-tags
-returns-clause-tags c =
+pub returns : goal.returns
+returns c =
     let inside = c.self.inside in
     let role = c.number.result in
-    let b = (goal.at.returns-clause-tags c).After-insert in
+    let b = (goal.at.returns c).After-insert in
     let old : SpaceState = record { pages = inside.pages; roles = inside.roles.items; pins = inside.pins.items } in
     let new : SpaceState = record { pages = inside.pages; roles = set inside.roles.items role c.insert.new.self; pins = inside.pins.items } in
+    let others : KeepsOtherRoles role old new = λ other differs. get_or-set_other inside.roles.items role other c.insert.new.self [] differs in
+    let long = length-set (get_or inside.roles.items role []) c.args.page true ∙ c.self.invariant.0.of_role role c.number.ensures.in_range in
     rw (← c.self.view_is, ← c.number.ensures.number)
-    (tags_after old new role c.args.page (within b) (this b) (λ other differs. get_or-set_other inside.roles.items role other c.insert.new.self [] differs))
-
-pub returns-clause-free : goal.returns-clause-free
-returns-clause-free c =
-    let inside = c.self.inside in
-    let role = c.number.result in
-    let b = (goal.at.returns-clause-free c).After-insert in
-    let old : SpaceState = record { pages = inside.pages; roles = inside.roles.items; pins = inside.pins.items } in
-    let new : SpaceState = record { pages = inside.pages; roles = set inside.roles.items role c.insert.new.self; pins = inside.pins.items } in
-    rw (← c.self.view_is)
-    (free_after_claim old new role c.args.page (within b) (this b) (λ other differs. get_or-set_other inside.roles.items role other c.insert.new.self [] differs) refl refl)
+    (record {
+      this = this b;
+      others = others;
+      pins = refl;
+      pages = refl;
+      shape = rw (set_is b) (shape_with_role old role (with_page c.args.page (get_or inside.roles.items role [])) c.self.invariant.0 c.number.ensures.in_range long);
+      tags = tags_after old new role c.args.page (within b) (this b) others;
+      free = free_after_claim old new role c.args.page (within b) (this b) others refl refl;
+      size = λ untagged. ap size (this b) ∙ size-with (get_or inside.roles.items role []) c.args.page (within b) untagged;
+    })

@@ -1,14 +1,17 @@
 use Rattle.std.proofs.Common.{◌≡◌, ◌<◌, ◌≤◌, ◌∙◌, [], Err, refl, ap, sym, subst, arith}
 use Rattle.std.proofs.lemmas.Result.{err_from_is_err_and}
+use Rattle.disk_trait.specs.Reads.{only_reads_start}
 use Rattle.blsm_model.specs.Geometry.{page_count}
-use Rattle.page_file.specs.Page.{no_page}
-use Rattle.run_cursor.specs.Cursor.{CursorState, IsStepped, HasAhead}
+use Rattle.blsm_model.specs.Components.{no_page}
+use Rattle.run_cursor.specs.Cursor.{CursorState, seen, IsStepped}
 use Rattle.std.specs.Prelude.{Option}
 use Rattle.blsm_model.specs.declared.key.Key.{Key}
 use Rattle.record_delta.specs.declared.record.Rec.{Rec}
 use Rattle.run_cursor.specs.Given.{HasGiven, HasGivenMore}
 use Rattle.run_cursor.proofs.GivenLemmas.{given_step, given_on, given_end}
-use Rattle.run_cursor.proofs.CursorLemmas.{seen, stepped_ahead, ended_ahead, ended, through, turned_ahead, not_broken}
+use Rattle.run_cursor.proofs.CursorLemmas.{AheadAmong, stepped_ahead, ended_ahead, ended, through, turned_ahead, not_broken}
+use Rattle.run_cursor.proofs.AheadLemmas.{advanced_wider}
+use Rattle.page_file.specs.Component.{numbers_of}
 use Rattle.run_cursor.proofs.cursor.Cursor.advance.Goals as goal
 
 pub returns-then-self-clause-list : goal.returns-then-self-clause-list
@@ -26,7 +29,9 @@ returns-then-self-eq0-clause-list g c = λ rest tells ahead other.
     let f = c.self.inside in
     let old = seen f.head f.page f.at f.end f.next f.pages f.entries f.weight in
     let end = ended f.head f.page f.at f.end f.next f.pages f.entries f.weight c.self.invariant c.if-self.false c.if-self-eq0.true in
-    (refl, ended_ahead c.args.geo.now old rest (g.D.Disk.state c.args.disk.now).bytes (subst (λ (s : CursorState). HasAhead c.args.geo.now s rest (g.D.Disk.state c.args.disk.now).bytes) (sym c.self.view_is) ahead) end.none_left c.if-self-eq0.true)
+    let file = (g.D.Disk.state c.args.disk.now).bytes in
+    let here = subst (λ (s : CursorState). AheadAmong c.args.geo.now s rest (numbers_of ahead.coming) file) (sym c.self.view_is) (ahead, λ n has. has) in
+    (refl, advanced_wider c.args.geo.now _ rest file (numbers_of here.0.coming) (numbers_of ahead.coming) here.1 (ended_ahead c.args.geo.now old rest file here.0 end.none_left c.if-self-eq0.true))
 
 pub returns-then-self-eq0-clause-ended : goal.returns-then-self-eq0-clause-ended
 returns-then-self-eq0-clause-ended g c =
@@ -51,7 +56,12 @@ returns-clause-list g c = λ rest tells ahead other.
     let t = c.in_ok-turn.ensures.turned in
     let s = c.step-2.ensures.stepped in
     let there = turned_ahead c.args.geo.now c.args.self.now rest (g.D.Disk.state c.turn.new.disk).bytes t.0 t.1 c.turn.ensures.few ahead none more (t.5 tells) in
-    (refl, stepped_ahead c.args.geo.now c.turn.new.self c.step-2.new.self s.0 rest (g.D.Disk.state c.turn.new.disk).bytes (subst (λ (w : CursorState). HasAhead c.args.geo.now w rest (g.D.Disk.state c.turn.new.disk).bytes) (sym t.4) there) s.1)
+    let file = (g.D.Disk.state c.turn.new.disk).bytes in
+    let here = subst (λ (w : CursorState). AheadAmong c.args.geo.now w rest (numbers_of ahead.coming) file) (sym t.4) there in (
+      refl,
+      advanced_wider c.args.geo.now c.step-2.new.self rest file (numbers_of here.0.coming) (numbers_of ahead.coming) here.1
+          (stepped_ahead c.args.geo.now c.turn.new.self c.step-2.new.self s.0 rest file here.0 s.1),
+    )
 
 pub returns-then-self-clause-given : goal.returns-then-self-clause-given
 returns-then-self-clause-given g c = λ run given tells has.
@@ -80,3 +90,9 @@ returns-clause-given g c = λ run given tells has.
     let onto = subst (λ (w : CursorState). IsStepped w c.step-2.new.self s.0) t.4 s.1 in
     subst (λ (h : Option (Key × Rec)). HasGivenMore c.args.geo.now run c.step-2.new.self h given file) (sym s.1.head_is)
     (given_on c.args.geo.now run c.args.self.now c.step-2.new.self given t.0 t.1 s.0 file c.turn.ensures.few has none more (t.5 tells) onto)
+
+pub returns-then-self-clause-reads : goal.returns-then-self-clause-reads
+returns-then-self-clause-reads g c = record { effect = only_reads_start (g.D.Disk.state c.args.disk.now) (g.met.D.Disk.timed c.args.disk.now); stands = λ other. refl; failed = λ wrong. absurd (cc) }
+
+pub returns-then-self-eq0-clause-reads : goal.returns-then-self-eq0-clause-reads
+returns-then-self-eq0-clause-reads g c = record { effect = only_reads_start (g.D.Disk.state c.args.disk.now) (g.met.D.Disk.timed c.args.disk.now); stands = λ other. refl; failed = λ wrong. absurd (cc) }

@@ -1,6 +1,6 @@
 use Rattle.std.proofs.Common.{◌<◌, ◌∙◌, length, ap, sym, subst}
 use Rattle.run_cursor.specs.Cursor.{CursorState}
-use Rattle.run_cursor.proofs.CursorLemmas.{first_of_bytes, begins, found_first}
+use Rattle.run_cursor.proofs.CursorLemmas.{first_of_bytes, begins}
 use Rattle.run_cursor.proofs.cursor.Cursor.behind.Goals as goal
 
 pub unreachable-requires : goal.unreachable-requires
@@ -11,8 +11,8 @@ unreachable-requires c =
 
 pub returns-clause-entry : goal.returns-clause-entry
 returns-clause-entry c =
-    let first = found_first _ c.in-Some.entry.0 c.in-Some.entry.1 c.in-Some.ensures.found.0 in
-    (first.rest, ap (λ (s : CursorState). s.behind) (sym c.self.view_is) ∙ first.parts)
+    let found = c.in-Some.ensures.found.0 in
+    (found.rest, ap (λ (s : CursorState). s.behind) (sym c.self.view_is) ∙ found.parts)
 
 pub returns-clause-right : goal.returns-clause-right
-returns-clause-right c = (found_first _ c.in-Some.entry.0 c.in-Some.entry.1 c.in-Some.ensures.found.0).right
+returns-clause-right c = c.in-Some.ensures.found.0.entry

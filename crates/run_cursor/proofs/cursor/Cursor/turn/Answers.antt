@@ -1,6 +1,7 @@
 use Rattle.std.proofs.Common.{◌≡◌, ◌<◌, ◌≤◌, ◌∙◌, ap, sym, subst, arith}
 use Rattle.blsm_model.specs.Geometry.{page_count}
-use Rattle.page_file.specs.Page.{no_page, IsPageOf, IsPage}
+use Rattle.blsm_model.specs.Components.{no_page}
+use Rattle.page_file.specs.Page.{IsPageOf, IsPage}
 use Rattle.page_file.specs.File.{page_at}
 use Rattle.run_cursor.specs.Cursor.{CursorState}
 use Rattle.run_cursor.proofs.CursorLemmas.{damage_shown, page_some}

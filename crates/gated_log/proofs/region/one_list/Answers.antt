@@ -1,0 +1,11 @@
+use Rattle.gated_log.proofs.OneList.{one_list, next_entry, not_damaged}
+use Rattle.gated_log.proofs.region.one_list.Goals as goal
+
+pub returns-clause-same : goal.returns-clause-same
+returns-clause-same c = one_list
+
+pub returns-clause-next : goal.returns-clause-next
+returns-clause-next c = λ sizes lane es rest e file has front. next_entry sizes lane es rest e file has front
+
+pub returns-clause-not_damaged : goal.returns-clause-not_damaged
+returns-clause-not_damaged c = λ sizes lane entries file has damaged. not_damaged sizes lane entries damaged.0 file has damaged.1

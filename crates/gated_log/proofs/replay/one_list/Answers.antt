@@ -1,8 +1,0 @@
-use Rattle.gated_log.proofs.OneList.{one_list, not_damaged}
-use Rattle.gated_log.proofs.replay.one_list.Goals as goal
-
-pub returns-clause-same : goal.returns-clause-same
-returns-clause-same c = one_list
-
-pub returns-clause-not_damaged : goal.returns-clause-not_damaged
-returns-clause-not_damaged c = λ sizes lane entries file has damaged. not_damaged sizes lane entries damaged.0 file has damaged.1
