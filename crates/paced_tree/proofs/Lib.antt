@@ -1,0 +1,14 @@
+pub mod Books
+pub mod Quanta
+pub mod Moves
+pub mod Admissions
+pub mod Payments
+pub mod Turns
+pub mod Steps
+pub mod Counted
+pub mod Made
+pub mod Promises
+pub mod LaneLemmas
+pub mod BookLaws
+pub mod Work
+mod Examples

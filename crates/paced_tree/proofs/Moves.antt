@@ -1,0 +1,112 @@
+-- A move of the lists is one of the numbers.
+use Rattle.std.proofs.Common.{◌≡◌, ◌∙◌, refl, sym, ap, subst, ℕ, ◌+◌, Bool, cond, true, false, not, ◌&&◌, ◌||◌, Option, Some, None}
+use Rattle.std.specs.Prelude.{◌==◌, nat_lt, nat_le}
+use Rattle.std.proofs.lemmas.Bool.{false≢true, eqb-true, eq-eqb}
+use Rattle.blsm_model.specs.Geometry.{c1_mark}
+use Rattle.gear_sched.specs.Gears.{forgiven}
+use Rattle.pacing.specs.Pace.{Pace, pass_done as pace_pass_done, deep_done as pace_deep_done, deep_over, with_deep_swapped, with_pass_swapped, with_swap_and_rotation, with_rotation, with_pass, with_forgiven}
+use Rattle.pacing.specs.Steps.{deep_settled, pass_settled, begun_for, ready_for as pace_ready_for}
+use Rattle.record_delta.specs.Entries.{entries_weight}
+use Rattle.tree_machine.specs.Merges.{Merge}
+use Rattle.tree_machine.specs.Layers.{IsSound, IsDeepCounted}
+use Rattle.tree_machine.specs.Machine.{Machine, in_pass, pass_done, deep_done}
+use Rattle.tree_machine.specs.Moves.{begin_pass, rotate, rotate_alone, end_pass, swap_deep, swap_pass, output_of}
+use Rattle.tree_machine.specs.Steps.{deep_swapped, pass_swapped, swapped, pass_begun_for, ready_for, forgive}
+use Rattle.tree_machine.proofs.FoldLemmas.{both}
+use Rattle.tree_machine.proofs.CarryLemmas.{behind_none, deep_swapped_carries}
+use Rattle.tree_machine.proofs.NumberLemmas.{pass_runs, deep_runs, pass_taken_when_done, pass_done_when_taken, deep_taken_when_done, deep_done_when_taken}
+use Rattle.paced_tree.specs.Numbers.{with_numbers_of, IsPaceOf}
+
+-- What holds of the pace with the machine's numbers holds of each pace of the machine.
+pub of_pace : (R K : Pace → Type 0) (m : Machine) (p : Pace) → with_numbers_of m p ≡ p → K p → ((l : Pace) → K (with_numbers_of m l) → R (with_numbers_of m l)) → R p
+of_pace R K m p is k f = subst R is (f p (subst K (sym is) k))
+
+-- ---- when a merge is done
+
+same_test : (a b c : Bool) → (a ≡ true → (b ≡ true) × (c ≡ true)) → (b ≡ true → c ≡ true → a ≡ true) → a ≡ (b && c)
+same_test true b c p q = let h = p refl in sym (both b c h.0 h.1)
+same_test false true true p q = q refl refl
+same_test false true false p q = refl
+same_test false false c p q = refl
+
+pub input_is : (m : Machine) → IsSound m → m.gears.deep ≡ true → m.gears.deep_input ≡ entries_weight m.lists.c1x + entries_weight m.lists.c2
+input_is m sound runs = by m.merges.deep sound.deep
+  where
+    by : (p : Option Merge) → IsDeepCounted m.lists.c1x m.lists.c2 m.gears.deep m.gears.deep_input m.gears.deep_admitted m.gears.deep_taken p → m.gears.deep_input ≡ entries_weight m.lists.c1x + entries_weight m.lists.c2
+    by None counted = absurd (false≢true (sym counted.0 ∙ runs))
+    by (Some deep) counted = counted.1
+
+pub pass_test : (m : Machine) → IsSound m → pass_done m ≡ (m.gears.pass && (m.gears.pass_taken == (entries_weight m.lists.a + entries_weight m.lists.c1)))
+pass_test m sound = same_test (pass_done m) m.gears.pass (m.gears.pass_taken == (entries_weight m.lists.a + entries_weight m.lists.c1))
+    (λ done. (pass_runs m sound done, eq-eqb m.gears.pass_taken (entries_weight m.lists.a + entries_weight m.lists.c1) (pass_taken_when_done m sound done)))
+    (λ runs all. pass_done_when_taken m sound runs (eqb-true m.gears.pass_taken (entries_weight m.lists.a + entries_weight m.lists.c1) all))
+
+pub deep_test : (m : Machine) → IsSound m → deep_done m ≡ (m.gears.deep && (m.gears.deep_taken == (entries_weight m.lists.c1x + entries_weight m.lists.c2)))
+deep_test m sound = same_test (deep_done m) m.gears.deep (m.gears.deep_taken == (entries_weight m.lists.c1x + entries_weight m.lists.c2))
+    (λ done. (deep_runs m sound done, eq-eqb m.gears.deep_taken (entries_weight m.lists.c1x + entries_weight m.lists.c2) (deep_taken_when_done m sound done ∙ input_is m sound (deep_runs m sound done))))
+    (λ runs all. deep_done_when_taken m sound runs (eqb-true m.gears.deep_taken (entries_weight m.lists.c1x + entries_weight m.lists.c2) all ∙ sym (input_is m sound runs)))
+
+pub over_test : (a b c : Bool) → a ≡ (b && c) → (not b || a) ≡ (not b || c)
+over_test a true c is = is
+over_test a false c is = refl
+
+-- ---- the merges are swapped in
+
+pub swap_deep_of : (m : Machine) (l : Pace) → IsPaceOf m (with_numbers_of m l) → IsPaceOf (swap_deep m) (with_deep_swapped (with_numbers_of m l))
+swap_deep_of m l g = record { numbers = refl; started = g.started; booked = g.booked }
+
+pub swap_pass_of : (m : Machine) (l : Pace) → IsPaceOf m (with_numbers_of m l) → IsPaceOf (swap_pass m) (with_swap_and_rotation (with_numbers_of m l))
+swap_pass_of m l g = by (nat_le (c1_mark m.gears.sizes) (entries_weight (output_of m.merges.pass)))
+  where
+    by : (b : Bool) → IsPaceOf (cond b (rotate (end_pass m)) (end_pass m)) (cond b (with_rotation (with_pass_swapped (with_numbers_of m l))) (with_pass_swapped (with_numbers_of m l)))
+    by true = record { numbers = refl; started = tt; booked = g.booked }
+    by false = record { numbers = refl; started = tt; booked = g.booked }
+
+pub rotate_of : (m : Machine) (l : Pace) → IsPaceOf m (with_numbers_of m l) → IsPaceOf (rotate_alone m) (with_rotation (with_numbers_of m l))
+rotate_of m l g = record { numbers = refl; started = g.started; booked = g.booked }
+
+pub begin_of : (m : Machine) (l : Pace) → IsPaceOf m (with_numbers_of m l) → IsPaceOf (begin_pass m) (with_pass (with_numbers_of m l))
+begin_of m l g = record {
+  numbers = ap (λ n. record (with_pass (with_numbers_of m l)) { taken = n }) (ap entries_weight (behind_none m.lists.a));
+  started = λ is. absurd (false≢true is);
+  booked = g.booked;
+}
+
+deep_settled_of : (m : Machine) (p : Pace) → IsSound m → IsPaceOf m p → IsPaceOf (deep_swapped m) (deep_settled p)
+deep_settled_of m p sound g = of_pace (λ q. IsPaceOf (deep_swapped m) (deep_settled q)) (λ q. IsPaceOf m q) m p g.numbers g (λ l h.
+    subst (λ b. IsPaceOf (deep_swapped m) (cond b (with_deep_swapped (with_numbers_of m l)) (with_numbers_of m l))) (deep_test m sound) (by l h (deep_done m)))
+  where
+    by : (l : Pace) → IsPaceOf m (with_numbers_of m l) → (b : Bool) → IsPaceOf (cond b (swap_deep m) m) (cond b (with_deep_swapped (with_numbers_of m l)) (with_numbers_of m l))
+    by l h true = swap_deep_of m l h
+    by l h false = h
+
+pass_settled_of : (m : Machine) (p : Pace) → IsSound m → IsPaceOf m p → IsPaceOf (pass_swapped m) (pass_settled p)
+pass_settled_of m p sound g = of_pace (λ q. IsPaceOf (pass_swapped m) (pass_settled q)) (λ q. IsPaceOf m q) m p g.numbers g (λ l h.
+    subst (λ b. IsPaceOf (pass_swapped m) (cond b (with_swap_and_rotation (with_numbers_of m l)) (with_numbers_of m l))) (pass_test m sound) (by l h (pass_done m)))
+  where
+    by : (l : Pace) → IsPaceOf m (with_numbers_of m l) → (b : Bool) → IsPaceOf (cond b (swap_pass m) m) (cond b (with_swap_and_rotation (with_numbers_of m l)) (with_numbers_of m l))
+    by l h true = swap_pass_of m l h
+    by l h false = h
+
+begun_of : (m : Machine) (p : Pace) (w : ℕ) → IsPaceOf m p → IsPaceOf (pass_begun_for w m) (begun_for p w)
+begun_of m p w g = of_pace (λ q. IsPaceOf (pass_begun_for w m) (begun_for q w)) (λ q. IsPaceOf m q) m p g.numbers g (λ l h. by l h (not m.gears.pass && nat_lt m.gears.sizes.low (m.spring + w)))
+  where
+    by : (l : Pace) → IsPaceOf m (with_numbers_of m l) → (b : Bool) → IsPaceOf (cond b (begin_pass m) m) (cond b (with_pass (with_numbers_of m l)) (with_numbers_of m l))
+    by l h true = begin_of m l h
+    by l h false = h
+
+pub settled_of : (m : Machine) (p : Pace) → IsSound m → IsPaceOf m p → IsPaceOf (deep_swapped m) (deep_settled p)
+settled_of = deep_settled_of
+
+pub ready_of : (m : Machine) (p : Pace) (w : ℕ) → IsSound m → IsPaceOf m p → IsPaceOf (ready_for w m) (pace_ready_for p w)
+ready_of m p w sound g =
+    begun_of (swapped m) (pass_settled (deep_settled p)) w
+    (pass_settled_of (deep_swapped m) (deep_settled p) (deep_swapped_carries m sound).sound (deep_settled_of m p sound g))
+
+-- ---- debts are forgiven
+
+pub forgive_of : (m : Machine) (p : Pace) (seat : ℕ) → IsSound m → IsPaceOf m p → IsPaceOf (forgive seat m) (with_forgiven p seat)
+forgive_of m p seat sound g = of_pace (λ q. IsPaceOf (forgive seat m) (with_forgiven q seat)) (λ q. IsPaceOf m q) m p g.numbers g (λ l h.
+    subst (λ b. IsPaceOf (forgive seat m) (record (with_numbers_of m l) { gears = forgiven m.gears seat b (deep_over (with_numbers_of m l)) })) (over_test (pass_done m) m.gears.pass (pace_pass_done (with_numbers_of m l)) (pass_test m sound))
+    (subst (λ c. IsPaceOf (forgive seat m) (record (with_numbers_of m l) { gears = forgiven m.gears seat (not (in_pass m) || pass_done m) c })) (over_test (deep_done m) m.gears.deep (pace_deep_done (with_numbers_of m l)) (deep_test m sound))
+    (record { numbers = refl; started = h.started; booked = h.booked })))

@@ -1,0 +1,271 @@
+-- What the cursors pass is at most what the quanta can take.
+use Rattle.std.proofs.Common.{◌≡◌, ◌∙◌, refl, sym, ap, subst, ℕ, ◌+◌, ◌*◌, ◌^◌, ◌<◌, ◌≤◌, ◌⊎◌, inl, inr, Bool, cond, true, false, ◌&&◌, List, [], ◌∷◌, Option, Some, None, length, set, sum, arith}
+use Rattle.std.specs.Prelude.{nat_lt, nat_le, slice_index}
+use Rattle.std.proofs.lemmas.Bool.{ltb-true}
+use Rattle.std.proofs.Math.Nat.{mul-add, mul-le-mul_left}
+use Rattle.std.proofs.lemmas.List.{length-append}
+use Rattle.blsm_model.specs.Format.{callers, most_weight, most_entries}
+use Rattle.blsm_model.specs.Sizes.{Sizes, IsGeometry}
+use Rattle.blsm_model.specs.Legal.{is_write}
+use Rattle.blsm_model.specs.Geometry.{capacity}
+use Rattle.blsm_model.specs.Histories.{is_done, writes_of, counted, counted_writes}
+use Rattle.blsm_model.specs.declared.op.Op.{Op}
+use Rattle.blsm_model.specs.declared.op.Op.TheVariants.{Put, Add, Del}
+use Rattle.blsm_model.specs.declared.history.Entry.{Entry}
+use Rattle.blsm_model.specs.declared.key.Key.{Key}
+use Rattle.blsm_model.specs.declared.row.Value.{Value}
+use Rattle.blsm_model.specs.declared.room.Room.{Room}
+use Rattle.record_delta.specs.Entries.{Entries, entries_weight}
+use Rattle.pacing.specs.Pace.{Pace, opened as pace_opened}
+use Rattle.pacing.specs.Kept.{IsPaced, most_taken}
+use Rattle.pacing.proofs.Numbers.{sum_set, small}
+use Rattle.tree_machine.specs.Lists.{map_in}
+use Rattle.tree_machine.specs.Merges.{Merge, begun}
+use Rattle.tree_machine.specs.Layers.{IsSound}
+use Rattle.tree_machine.specs.Machine.{Machine, Merges, Catalogue, opened, seats, is_caller, work_of}
+use Rattle.tree_machine.specs.Moves.{pass_quantum, deep_quantum, pass_quantum_of, deep_quantum_of}
+use Rattle.tree_machine.specs.Steps.{Outcome}
+use Rattle.tree_machine.specs.Plays.{has_room, is_between, may_note, is_even, is_finished, most_turns, may, may_step, stepped, stepped_as, played, played_one}
+use Rattle.tree_machine.specs.Effects.{MergeStands, Rests, TakesQuantum, passed_by, work_between}
+use Rattle.tree_machine.specs.declared.step.Step.{Step}
+use Rattle.tree_machine.specs.declared.step.Kind.{Kind}
+use Rattle.tree_machine.specs.declared.step.Kind.TheVariants as kind
+use Rattle.tree_machine.proofs.CarryLemmas.{behind_none}
+use Rattle.tree_machine.proofs.EffectLemmas.{step_works}
+use Rattle.tree_machine.specs.Laws.{IsVersion}
+use Rattle.tree_machine.proofs.CommitLemmas.{step_commits}
+use Rattle.tree_machine.proofs.GrowLemmas.{step_room}
+use Rattle.tree_machine.proofs.FrameLemmas.{step_fixed}
+use Rattle.tree_machine.proofs.FoldLemmas.{both_hold}
+use Rattle.tree_machine.proofs.QuantumLemmas.{quantum_weighs, quantum_few}
+use Rattle.paced_tree.specs.Kept.{AreComponents, IsPacedTree, paced_one, paced_all, AllFit}
+use Rattle.paced_tree.specs.Laws.{work_in, RunCommits, RunIsSmall}
+use Rattle.paced_tree.proofs.Moves.{of_pace}
+use Rattle.paced_tree.proofs.Promises.{has_way, opened_is_paced, one_is_paced, steps_are_paced, is_bounded}
+
+-- ---- one merge
+
+passed_same : (p : Option Merge) (newer older : Entries) → passed_by p p newer older ≡ 0
+passed_same None newer older = refl
+passed_same (Some merge) newer older = omega arith
+
+passed_none : (p : Option Merge) (newer older : Entries) → passed_by p None newer older ≡ 0
+passed_none None newer older = refl
+passed_none (Some merge) newer older = refl
+
+passed_begun : (p : Option Merge) (newer older : Entries) → passed_by p (Some begun) newer older ≡ 0
+passed_begun None newer older = refl
+passed_begun (Some merge) newer older = omega (arith, ap entries_weight (behind_none newer), ap entries_weight (behind_none older))
+
+passed_stands : (done : Bool) (old new : Option Merge) (newer older : Entries) → MergeStands done old new → passed_by old new newer older ≡ 0
+passed_stands done old new newer older (inl is) = ap (λ p. passed_by old p newer older) is ∙ passed_same old newer older
+passed_stands done old new newer older (inr changed) = by changed.1
+  where
+    by : (new ≡ None) ⊎ (new ≡ Some begun) → passed_by old new newer older ≡ 0
+    by (inl is) = ap (λ p. passed_by old p newer older) is ∙ passed_none old newer older
+    by (inr is) = ap (λ p. passed_by old p newer older) is ∙ passed_begun old newer older
+
+-- ---- a quantum
+
+pass_takes : (seat : ℕ) (m : Machine) → IsSound m → 1 ≤ m.gears.sizes.quantum → passed_by m.merges.pass (pass_quantum seat m).merges.pass m.lists.a m.lists.c1 ≤ most_taken m.gears.sizes
+pass_takes seat m sound some = by m.merges.pass
+  where
+    by : (p : Option Merge) → passed_by p (pass_quantum_of p seat m).merges.pass m.lists.a m.lists.c1 ≤ most_taken m.gears.sizes
+    by None = omega arith
+    by (Some pass) =
+        let weighs = quantum_weighs m.gears.sizes.quantum pass m.lists.a m.lists.c1 sound.layered.sorted_a sound.layered.sorted_c1 in
+        let few = quantum_few m.gears.sizes.quantum most_weight pass m.lists.a m.lists.c1 some sound.light.a sound.light.c1 in
+        omega (arith, weighs, few)
+
+deep_takes : (seat : ℕ) (m : Machine) → IsSound m → 1 ≤ m.gears.sizes.quantum → passed_by m.merges.deep (deep_quantum seat m).merges.deep m.lists.c1x m.lists.c2 ≤ most_taken m.gears.sizes
+deep_takes seat m sound some = by m.merges.deep
+  where
+    by : (p : Option Merge) → passed_by p (deep_quantum_of p seat m).merges.deep m.lists.c1x m.lists.c2 ≤ most_taken m.gears.sizes
+    by None = omega arith
+    by (Some deep) =
+        let weighs = quantum_weighs m.gears.sizes.quantum deep m.lists.c1x m.lists.c2 sound.layered.sorted_c1x sound.layered.sorted_c2 in
+        let few = quantum_few m.gears.sizes.quantum most_weight deep m.lists.c1x m.lists.c2 some sound.light.c1x sound.light.c2 in
+        omega (arith, weighs, few)
+
+-- the other merge's cursor stands
+pass_leaves_deep : (seat : ℕ) (m : Machine) → (pass_quantum seat m).merges.deep ≡ m.merges.deep
+pass_leaves_deep seat m = by m.merges.pass
+  where
+    by : (p : Option Merge) → (pass_quantum_of p seat m).merges.deep ≡ m.merges.deep
+    by None = refl
+    by (Some pass) = refl
+
+deep_leaves_pass : (seat : ℕ) (m : Machine) → (deep_quantum seat m).merges.pass ≡ m.merges.pass
+deep_leaves_pass seat m = by m.merges.deep
+  where
+    by : (p : Option Merge) → (deep_quantum_of p seat m).merges.pass ≡ m.merges.pass
+    by None = refl
+    by (Some deep) = refl
+
+taken_work : (seat : ℕ) (m n : Machine) → IsSound m → 1 ≤ m.gears.sizes.quantum → (n.merges ≡ (pass_quantum seat m).merges) ⊎ (n.merges ≡ (deep_quantum seat m).merges) → work_between m n ≤ most_taken m.gears.sizes
+taken_work seat m n sound some (inl is) =
+    let pass = ap (λ (g : Merges). passed_by m.merges.pass g.pass m.lists.a m.lists.c1) is in
+    let deep = ap (λ (g : Merges). passed_by m.merges.deep g.deep m.lists.c1x m.lists.c2) is ∙ ap (λ d. passed_by m.merges.deep d m.lists.c1x m.lists.c2) (pass_leaves_deep seat m) ∙ passed_same m.merges.deep m.lists.c1x m.lists.c2 in
+    omega (arith, pass, deep, pass_takes seat m sound some)
+taken_work seat m n sound some (inr is) =
+    let pass = ap (λ (g : Merges). passed_by m.merges.pass g.pass m.lists.a m.lists.c1) is ∙ ap (λ p. passed_by m.merges.pass p m.lists.a m.lists.c1) (deep_leaves_pass seat m) ∙ passed_same m.merges.pass m.lists.a m.lists.c1 in
+    let deep = ap (λ (g : Merges). passed_by m.merges.deep g.deep m.lists.c1x m.lists.c2) is in
+    omega (arith, pass, deep, deep_takes seat m sound some)
+
+-- ---- a step
+
+below_all : (seat : ℕ) → is_caller seat ≡ true → seat < seats
+below_all seat is = let caller = ltb-true seat callers is in omega (arith, caller)
+
+noting_below : (m : Machine) (seat rows : ℕ) → may_note seat rows m ≡ true → seat < seats
+noting_below m seat rows ok = below_all seat (both_hold (is_caller seat) (has_room m.book.room seat rows) (both_hold (is_caller seat && has_room m.book.room seat rows) (is_between seat m) ok).0).0
+
+pub seat_below : (m : Machine) (seat : ℕ) (k : Kind) → may m seat k ≡ true → seat < seats
+seat_below m seat (kind.Admit op) ok = noting_below m seat 0 (both_hold (is_write op) (may_note seat 0 m) (both_hold (is_write op && may_note seat 0 m) (is_even seat m) ok).0).1
+seat_below m seat kind.Pay ok = below_all seat ok
+seat_below m seat (kind.Get key) ok = noting_below m seat 0 ok
+seat_below m seat (kind.Hold low high) ok = noting_below m seat 0 ok
+seat_below m seat (kind.Next n) ok = noting_below m seat n (both_hold (may_note seat n m) (nat_lt 0 n) (both_hold (may_note seat n m && nat_lt 0 n) (nat_le n 32) ok).0).0
+seat_below m seat kind.Release ok = noting_below m seat 0 ok
+seat_below m seat kind.WorkTurn ok = below_all seat (both_hold (is_caller seat) (nat_lt (work_of seat m).turns most_turns) (both_hold (is_caller seat && nat_lt (work_of seat m).turns most_turns) (is_even seat m) ok).0).0
+seat_below m seat (kind.WorkEnd n) ok = below_all seat (both_hold (is_caller seat) (has_room m.book.room seat 0) (both_hold (is_caller seat && has_room m.book.room seat 0) (is_finished n (work_of seat m)) ok).0).0
+seat_below m seat kind.WorkerTurn ok = ltb-true seat seats (both_hold (nat_le callers seat) (nat_lt seat seats) ok).1
+seat_below m seat kind.Leave ok = below_all seat ok
+
+pub step_work : (opening : List (Key × Value)) (m : Machine) (p : Pace) (seat : ℕ) (k : Kind) (outcome : Outcome) → IsPacedTree opening m p → may m seat k ≡ true
+    → work_between m (stepped_as m seat k outcome).state + most_taken m.gears.sizes * sum m.seats.quanta ≤ most_taken m.gears.sizes * sum (stepped_as m seat k outcome).state.seats.quanta
+step_work opening m p seat k outcome t ok = by (step_works m seat k outcome t.stands.sound (has_way opening m p t))
+  where
+    some : 1 ≤ m.gears.sizes.quantum
+    some = of_pace (λ q. 1 ≤ m.gears.sizes.quantum) (λ q. IsPaced q) m p t.of_tree.numbers t.paced (λ l paced. let fits = paced.within.sizes.quantum in omega (arith, fits))
+
+    by : Rests m (stepped_as m seat k outcome).state ⊎ TakesQuantum seat m (stepped_as m seat k outcome).state
+        → work_between m (stepped_as m seat k outcome).state + most_taken m.gears.sizes * sum m.seats.quanta ≤ most_taken m.gears.sizes * sum (stepped_as m seat k outcome).state.seats.quanta
+    by (inl rests) =
+        let same = ap (λ (xs : List ℕ). most_taken m.gears.sizes * sum xs) rests.quanta in
+        omega (
+          arith,
+          same,
+          passed_stands _ m.merges.pass (stepped_as m seat k outcome).state.merges.pass m.lists.a m.lists.c1 rests.pass,
+          passed_stands _ m.merges.deep (stepped_as m seat k outcome).state.merges.deep m.lists.c1x m.lists.c2 rests.deep,
+        )
+    by (inr takes) =
+        let there : seat < length m.seats.quanta = omega (arith, t.of_tree.booked.seats, seat_below m seat k ok) in
+        let more : sum (set m.seats.quanta seat (slice_index m.seats.quanta seat + 1)) ≡ sum m.seats.quanta + 1 = omega (arith, sum_set m.seats.quanta seat (slice_index m.seats.quanta seat + 1) there) in
+        let after = ap (λ (xs : List ℕ). most_taken m.gears.sizes * sum xs) takes.quanta ∙ ap (λ n. most_taken m.gears.sizes * n) more in
+        omega (arith, after, mul-add (most_taken m.gears.sizes) (sum m.seats.quanta) 1, taken_work seat m (stepped_as m seat k outcome).state t.stands.sound some takes.merge)
+
+-- ---- a run
+
+one_work : (opening : List (Key × Value)) (m : Machine) (p : Pace) (made : Step × Outcome) → IsPacedTree opening m p
+    → work_between m (played_one m made) + most_taken m.gears.sizes * sum m.seats.quanta ≤ most_taken m.gears.sizes * sum (played_one m made).seats.quanta
+one_work opening m p made t = by (may_step m made.0) refl
+  where
+    by : (b : Bool) → may_step m made.0 ≡ b
+        → work_between m (cond b (stepped m made.0 made.1).state m) + most_taken m.gears.sizes * sum m.seats.quanta ≤ most_taken m.gears.sizes * sum (cond b (stepped m made.0 made.1).state m).seats.quanta
+    by true is = step_work opening m p made.0.seat made.0.kind made.1 t is
+    by false is = omega (arith, passed_same m.merges.pass m.lists.a m.lists.c1, passed_same m.merges.deep m.lists.c1x m.lists.c2)
+
+one_sizes : (m : Machine) (made : Step × Outcome) → (played_one m made).gears.sizes ≡ m.gears.sizes
+one_sizes m made = by (may_step m made.0) refl
+  where
+    by : (b : Bool) → may_step m made.0 ≡ b → (cond b (stepped m made.0 made.1).state m).gears.sizes ≡ m.gears.sizes
+    by true is = (step_fixed m made.0.seat made.0.kind made.1 is).0
+    by false is = refl
+
+all_work : (opening : List (Key × Value)) (m : Machine) (p : Pace) (steps : List (Step × Outcome)) → IsPacedTree opening m p → AllFit steps
+    → work_in m steps + most_taken m.gears.sizes * sum m.seats.quanta ≤ most_taken m.gears.sizes * sum (played m steps).seats.quanta
+all_work opening m p [] t fits = omega arith
+all_work opening m p (made ∷ steps) t fits =
+    let first = one_work opening m p made t in
+    let rest = all_work opening (played_one m made) (paced_one m p made) steps (one_is_paced opening m p made t fits.0) fits.1 in
+    let rest_as = subst (λ sizes. work_in (played_one m made) steps + most_taken sizes * sum (played_one m made).seats.quanta ≤ most_taken sizes * sum (played m (made ∷ steps)).seats.quanta) (one_sizes m made) rest in
+    omega (arith, first, rest_as)
+
+pub run_work : (sizes : Sizes) (c1 c2 : Entries) (catalogue : Catalogue) (faults : ℕ) (room : Room) (steps : List (Step × Outcome)) → AreComponents sizes c1 c2 → AllFit steps
+    → work_in (opened sizes c1 c2 catalogue faults room) steps ≤ most_taken sizes * sum (played (opened sizes c1 c2 catalogue faults room) steps).seats.quanta
+run_work sizes c1 c2 catalogue faults room steps are fits =
+    let m = opened sizes c1 c2 catalogue faults room in
+    let all = all_work (map_in (record { b = []; a = []; c1 = c1; c1x = []; c2 = c2 })) m (pace_opened sizes (entries_weight c1) (entries_weight c2)) steps (opened_is_paced sizes c1 c2 catalogue faults room are) fits in
+    omega (arith, all)
+
+-- ---- commits
+
+all_commit : (first : ℕ) (opening : List (Key × Value)) (m : Machine) (p : Pace) (steps : List (Step × Outcome)) → IsPacedTree opening m p → AllFit steps → IsVersion first m → IsVersion first (played m steps)
+all_commit first opening m p [] t fits v = v
+all_commit first opening m p (made ∷ steps) t fits v = all_commit first opening (played_one m made) (paced_one m p made) steps (one_is_paced opening m p made t fits.0) fits.1 (by (may_step m made.0))
+  where
+    by : (b : Bool) → IsVersion first (cond b (stepped m made.0 made.1).state m)
+    by true = step_commits first m made.0.seat made.0.kind made.1 t.stands.sound v
+    by false = v
+
+pub run_commits : RunCommits
+run_commits sizes c1 c2 catalogue faults room steps are fits =
+    let m = opened sizes c1 c2 catalogue faults room in
+    let p = pace_opened sizes (entries_weight c1) (entries_weight c2) in
+    let map = map_in (record { b = []; a = []; c1 = c1; c1x = []; c2 = c2 }) in
+    let tree = opened_is_paced sizes c1 c2 catalogue faults room are in
+    let v = all_commit catalogue.version map m p steps tree fits (omega arith) in
+    let b = is_bounded map (played m steps) (paced_all m p steps) (steps_are_paced map m p steps tree fits) in
+    omega (arith, v, b.begins, b.rotations)
+
+-- ---- small numbers
+
+one_room : (m : Machine) (made : Step × Outcome) → length (played_one m made).book.entries + sum (played_one m made).book.room.entries ≡ length m.book.entries + sum m.book.room.entries
+one_room m made = by (may_step m made.0) refl
+  where
+    by : (b : Bool) → may_step m made.0 ≡ b
+        → length (cond b (stepped m made.0 made.1).state m).book.entries + sum (cond b (stepped m made.0 made.1).state m).book.room.entries ≡ length m.book.entries + sum m.book.room.entries
+    by true is = step_room m made.0.seat made.0.kind made.1 is
+    by false is = refl
+
+all_room : (m : Machine) (steps : List (Step × Outcome)) → length (played m steps).book.entries + sum (played m steps).book.room.entries ≡ length m.book.entries + sum m.book.room.entries
+all_room m [] = refl
+all_room m (made ∷ steps) = all_room (played_one m made) steps ∙ one_room m made
+
+-- the capacity is a small number
+capacity_small : (sizes : Sizes) → IsGeometry sizes → capacity sizes ≤ 2 ^ 33
+capacity_small sizes fits = let few = small sizes.ratio (omega (arith, fits.ratio)) (omega (arith, fits.ratio)) sizes.half (omega (arith, fits.half)) in omega (arith, few)
+
+-- an entry writes once at most
+few_counted : (es : List Entry) → length (counted_writes es) ≤ length es
+few_counted [] = omega arith
+few_counted (e ∷ es) =
+    let rest = few_counted es in
+    let one = at_most (is_done e.reply) e.op in
+    omega (arith, rest, length-append (counted e) (counted_writes es), one)
+  where
+    at_most : (b : Bool) (op : Op) → length (cond b (writes_of op) []) ≤ 1
+    at_most false op = omega arith
+    at_most true (Put key value) = omega arith
+    at_most true (Add key count) = omega arith
+    at_most true (Del key) = omega arith
+    at_most true _ = omega arith
+
+pub run_small : RunIsSmall
+run_small sizes c1 c2 catalogue faults room steps are fits few low =
+    let m = opened sizes c1 c2 catalogue faults room in
+    let p = pace_opened sizes (entries_weight c1) (entries_weight c2) in
+    let map = map_in (record { b = []; a = []; c1 = c1; c1x = []; c2 = c2 }) in
+    let n = played m steps in
+    let tree = opened_is_paced sizes c1 c2 catalogue faults room are in
+    let b = is_bounded map n (paced_all m p steps) (steps_are_paced map m p steps tree fits) in
+    let entries : length n.book.entries ≤ most_entries = omega (arith, all_room m steps, few) in
+    let writes : length (counted_writes n.book.entries) ≤ most_entries = omega (arith, entries, few_counted n.book.entries) in
+    let commits = run_commits sizes c1 c2 catalogue faults room steps are fits in
+    let narrow : capacity n.gears.sizes ≤ 2 ^ 33 = subst (λ s. capacity s ≤ 2 ^ 33) (sym (all_sizes m steps)) (capacity_small sizes are.numbers.geometry) in
+    let product = mul-le-mul_left (capacity n.gears.sizes) (few_more (length (counted_writes n.book.entries)) writes) in
+    record {
+      entries = entries;
+      version = omega (arith, commits, writes, low);
+      quanta = omega (arith, b.quanta, product, narrow);
+      passes = omega (arith, b.begins, writes);
+      deeps = omega (arith, b.begins, b.rotations, writes);
+    }
+  where
+    few_more : (n : ℕ) → n ≤ most_entries → 2 * n + 3 ≤ 131077
+    few_more n le = omega (arith, le)
+
+    all_sizes : (m : Machine) (steps : List (Step × Outcome)) → (played m steps).gears.sizes ≡ m.gears.sizes
+    all_sizes m [] = refl
+    all_sizes m (made ∷ steps) = all_sizes (played_one m made) steps ∙ one_sizes m made

@@ -1,0 +1,9 @@
+pub mod Numbers
+pub mod After
+pub mod Made
+pub mod Kept
+pub mod Bounds
+pub mod Laws
+pub mod Calls
+pub mod Booking
+pub mod Lanes

@@ -1,0 +1,261 @@
+-- The counts of merges.
+use Rattle.std.proofs.Common.{◌≡◌, ◌⊎◌, ◌∙◌, refl, sym, ℕ, ◌+◌, ◌<◌, ◌≤◌, ◌&&◌, ◌||◌, not, Bool, true, false, cond, eqb, leb, ltb, List, [], ◌∷◌, inl, inr, arith}
+use Rattle.std.proofs.lemmas.Bool.{cases_Bool, false≢true, true≢false, cases_lt, cond_both, and_parts, not-true, eqb-true, eqb-false, leb-true, ltb-true, both_ways}
+use Rattle.blsm_model.specs.Sizes.{Sizes}
+use Rattle.blsm_model.specs.Geometry.{c1_mark}
+use Rattle.gear_sched.specs.declared.Plan.{Plan}
+use Rattle.gear_sched.specs.declared.Plan.TheVariants.{Snow, Deep, Nothing}
+use Rattle.pacing.specs.Pace.{Pace, Quantum, opened, pass_done, deep_done, with_deep_swapped, with_pass_swapped, with_rotation, with_swap_and_rotation, with_pass, with_write, with_snow, with_deep, with_forgiven}
+use Rattle.pacing.specs.Kept.{IsPaced}
+use Rattle.gear_sched.specs.Gears.{deep_is_behind}
+use Rattle.pacing.specs.Steps.{Event, Admit, Pay, Turn, MayAll, after, after_all, Lands, Move, SwapDeep, SwapPass, TakeDeep, TakeSnow, Begin, Rotate, Idle, turn_of, turn_at_rest, turned_by, may_begin, paid_by, plan_of, is_worker_seat, deep_settled, pass_settled, ready_for}
+use Rattle.pacing.specs.Counts.{IsCounted, AreFew, CountedAreFew, MovesAreFew, StepCounts, RunCounts, FewCommits}
+use Rattle.pacing.proofs.InTime.{makes_way}
+use Rattle.pacing.proofs.Admissions.{deep_settled_kept, pass_settled_kept}
+use Rattle.pacing.proofs.Turns.{deep_left, no_deep_left}
+use Rattle.pacing.proofs.Runs.{step_keeps, opened_paced}
+
+deep_swap : (p : Pace) → IsCounted p → p.gears.deep ≡ true → IsCounted (with_deep_swapped p)
+deep_swap p c merges = record {
+  begins = c.begins;
+  running = c.running;
+  resting = c.resting;
+  turns = c.turns;
+  turn_to_come = c.turn_to_come;
+  merging = λ e. absurd (false≢true e);
+  unmerged = λ e. let h = c.merging merges in omega arith;
+}
+
+pass_swap : (p : Pace) → IsPaced p → IsCounted p → p.gears.pass ≡ true → IsCounted (with_pass_swapped p)
+pass_swap p k c runs =
+    let run = k.within.running runs in
+    let counts = c.running runs in
+    record {
+      begins = c.begins;
+      running = λ e. absurd (false≢true e);
+      resting = λ e. (counts.0, λ some. counts.1 (omega arith));
+      turns = let h = c.turns in omega arith;
+      turn_to_come = λ some. c.turns;
+      merging = c.merging;
+      unmerged = c.unmerged;
+    }
+
+rotation : (p : Pace) → IsCounted p → p.gears.pass ≡ false → p.gears.deep ≡ false → p.rotations ≤ p.passes → IsCounted (with_rotation p)
+rotation p c no_pass no_deep few = record {
+  begins = c.begins;
+  running = c.running;
+  resting = c.resting;
+  turns = omega arith;
+  turn_to_come = λ some. absurd (omega arith);
+  merging = λ e. let h = c.unmerged no_deep in omega arith;
+  unmerged = λ e. absurd (true≢false e);
+}
+
+swap_and_rotation : (p : Pace) → IsPaced p → IsCounted p → p.gears.pass ≡ true → (c1_mark p.gears.sizes ≤ p.made1 → p.gears.deep ≡ false) → IsCounted (with_swap_and_rotation p)
+swap_and_rotation p k c runs way =
+    cond_both (leb (c1_mark p.gears.sizes) p.made1) (with_rotation (with_pass_swapped p)) (with_pass_swapped p) IsCounted
+    (λ full. rotation (with_pass_swapped p) (pass_swap p k c runs) refl (way (leb-true _ _ full)) (let h = c.turns in omega arith))
+    (λ small. pass_swap p k c runs)
+
+begin : (p : Pace) → IsPaced p → IsCounted p → p.gears.pass ≡ false → 0 < p.spring → IsCounted (with_pass p)
+begin p k c rests some =
+    let rest = k.within.resting rests in
+    let counts = c.resting rests in
+    let fewer = counts.1 some in
+    record {
+      begins = omega arith;
+      running = λ e. (let h = counts.0 in omega arith, λ behind. absurd (let h = rest.no_lane in omega arith));
+      resting = λ e. absurd (true≢false e);
+      turns = c.turns;
+      turn_to_come = c.turn_to_come;
+      merging = c.merging;
+      unmerged = c.unmerged;
+    }
+
+-- what an admission's moves leave before its write, which is still to be counted
+record IsReadyCount (p : Pace) : Type 0 where
+  pub begins : (p.begun ≤ p.writes) ⊎ ((p.gears.pass ≡ true) × (p.gears.pass_taken ≡ 0) × (p.lane_b ≡ 0) × (p.begun ≤ p.writes + 1))
+  pub running : p.gears.pass ≡ true → p.passes + 1 ≡ p.begun
+  pub resting : p.gears.pass ≡ false → p.passes ≡ p.begun
+  pub turns : p.rotations ≤ p.passes + 1
+  pub turn_to_come : 0 < p.c1 → p.rotations ≤ p.passes
+  pub merging : p.gears.deep ≡ true → p.deeps + 1 ≡ p.rotations
+  pub unmerged : p.gears.deep ≡ false → p.deeps ≡ p.rotations
+
+begin_or_not : (p : Pace) → IsPaced p → IsCounted p → (test : Bool) → (test ≡ true → p.gears.pass ≡ false) → IsReadyCount (cond test (with_pass p) p)
+begin_or_not p k c true rests =
+    let rest = k.within.resting (rests refl) in
+    let counts = c.resting (rests refl) in
+    record {
+      begins = inr (refl, refl, rest.no_lane, let h = c.begins in omega arith);
+      running = λ e. let h = counts.0 in omega arith;
+      resting = λ e. absurd (true≢false e);
+      turns = c.turns;
+      turn_to_come = c.turn_to_come;
+      merging = c.merging;
+      unmerged = c.unmerged;
+    }
+begin_or_not p k c false rests = record {
+  begins = inl c.begins;
+  running = λ e. let h = c.running e in h.0;
+  resting = λ e. let h = c.resting e in h.0;
+  turns = c.turns;
+  turn_to_come = c.turn_to_come;
+  merging = c.merging;
+  unmerged = c.unmerged;
+}
+
+begins_after : (p : Pace) → IsReadyCount p → p.begun ≤ p.writes + 1
+begins_after p c = elim c.begins [ inl few ↦ omega arith | inr fresh ↦ fresh.3 ]
+
+behind_after : (p : Pace) (w : ℕ) (ahead : Bool) (weight : ℕ) → IsReadyCount p → Lands p w ahead weight → 0 < cond ahead p.lane_b (p.lane_b + w) → p.begun < p.writes + 1
+behind_after p w true weight c lands some = elim c.begins [ inl few ↦ omega arith | inr fresh ↦ absurd (let none = fresh.2 in omega arith) ]
+behind_after p w false weight c lands some = elim c.begins [ inl few ↦ omega arith | inr fresh ↦ absurd (let none = fresh.1 in let taken = lands.1 in omega arith) ]
+
+rests_after : (p : Pace) → IsReadyCount p → p.gears.pass ≡ false → p.begun < p.writes + 1
+rests_after p c e = elim c.begins [ inl few ↦ omega arith | inr fresh ↦ absurd (both_ways _ e fresh.0) ]
+
+write : (p : Pace) (seat w : ℕ) (ahead : Bool) (weight : ℕ) → IsReadyCount p → Lands p w ahead weight → IsCounted (with_write p seat w ahead weight)
+write p seat w ahead weight c lands = record {
+  begins = begins_after p c;
+  running = λ e. (c.running e, behind_after p w ahead weight c lands);
+  resting = λ e. (c.resting e, λ some. rests_after p c e);
+  turns = c.turns;
+  turn_to_come = c.turn_to_come;
+  merging = c.merging;
+  unmerged = c.unmerged;
+}
+
+-- a deep merge that isn't done keeps a full run from being swapped in
+pub way : (p : Pace) → IsPaced p → p.gears.pass ≡ true → p.gears.pass_taken ≡ p.a + p.c1 → (p.gears.deep ≡ true → p.gears.deep_taken < p.c1x + p.c2) → c1_mark p.gears.sizes ≤ p.made1 → p.gears.deep ≡ false
+way p k runs done going full =
+    elim (cases_Bool p.gears.deep) [
+      | inl merges ↦ absurd (let left = going merges in let over = makes_way p k runs done full merges in omega arith)
+      | inr none ↦ none
+    ]
+
+settle_deep : (p : Pace) → IsCounted p → IsCounted (deep_settled p)
+settle_deep p c =
+    cond_both (p.gears.deep && deep_done p) (with_deep_swapped p) p IsCounted (λ e. let parts = and_parts p.gears.deep (deep_done p) e in deep_swap p c parts.0) (λ e. c)
+
+settle_pass : (p : Pace) → IsPaced p → IsCounted p → (p.gears.deep ≡ true → p.gears.deep_taken < p.c1x + p.c2) → IsCounted (pass_settled p)
+settle_pass p k c going =
+    cond_both (p.gears.pass && pass_done p) (with_swap_and_rotation p) p IsCounted
+    (λ e. let parts = and_parts p.gears.pass (pass_done p) e in swap_and_rotation p k c parts.0 (way p k parts.0 (eqb-true _ _ parts.1) going))
+    (λ e. c)
+
+pub admit : (p : Pace) (seat w : ℕ) (ahead : Bool) (weight : ℕ) → IsPaced p → IsCounted p → Lands (ready_for p w) w ahead weight → IsCounted (with_write (ready_for p w) seat w ahead weight)
+admit p seat w ahead weight k c lands =
+    let one = deep_settled_kept p k in
+    let two = pass_settled_kept p k in
+    let c_two = settle_pass (deep_settled p) one.kept (settle_deep p c) one.going in
+    write (ready_for p w) seat w ahead weight
+    (begin_or_not (pass_settled (deep_settled p)) two.kept c_two (not (pass_settled (deep_settled p)).gears.pass && ltb (pass_settled (deep_settled p)).gears.sizes.low ((pass_settled (deep_settled p)).spring + w))
+    (λ e. let parts = and_parts (not (pass_settled (deep_settled p)).gears.pass) (ltb (pass_settled (deep_settled p)).gears.sizes.low ((pass_settled (deep_settled p)).spring + w)) e in not-true _ parts.0)) lands
+
+same_count : (p q : Pace) → IsCounted p → q.gears.pass ≡ p.gears.pass → q.gears.deep ≡ p.gears.deep → q.begun ≡ p.begun → q.writes ≡ p.writes → q.passes ≡ p.passes → q.rotations ≡ p.rotations → q.deeps ≡ p.deeps → q.lane_b ≡ p.lane_b → q.spring ≡ p.spring → q.c1 ≡ p.c1 → IsCounted q
+same_count p q c e1 e2 e3 e4 e5 e6 e7 e8 e9 e10 =
+    let begins = c.begins in
+    let turns = c.turns in
+    record {
+      begins = omega arith;
+      running = λ e. let h = c.running (sym e1 ∙ e) in let same = h.0 in (omega arith, λ some. let less = h.1 (omega arith) in omega arith);
+      resting = λ e. let h = c.resting (sym e1 ∙ e) in let same = h.0 in (omega arith, λ some. let less = h.1 (omega arith) in omega arith);
+      turns = omega arith;
+      turn_to_come = λ some. let h = c.turn_to_come (omega arith) in omega arith;
+      merging = λ e. let h = c.merging (sym e2 ∙ e) in omega arith;
+      unmerged = λ e. let h = c.unmerged (sym e2 ∙ e) in omega arith;
+    }
+
+pub pay : (plan : Plan) (p : Pace) (seat : ℕ) (quantum : Quantum) → IsCounted p → IsCounted (paid_by plan (with_forgiven p seat) seat quantum)
+pay Snow p seat quantum c = same_count p _ c refl refl refl refl refl refl refl refl refl refl
+pay Deep p seat quantum c = same_count p _ c refl refl refl refl refl refl refl refl refl refl
+pay Nothing p seat quantum c = same_count p _ c refl refl refl refl refl refl refl refl refl refl
+
+-- what a turn's move counts
+abbrev Counts : Pace → ℕ → Quantum → Move → Type 0
+Counts p seat quantum move = IsCounted (turned_by move p seat quantum)
+
+turn_rests : (p : Pace) (is_worker : Bool) (seat : ℕ) (quantum : Quantum) → IsPaced p → IsCounted p → p.gears.pass ≡ false → p.gears.deep ≡ false → Counts p seat quantum (turn_at_rest is_worker p)
+turn_rests p true seat quantum k c rests no_deep =
+    cond_both (may_begin true p) Begin Idle (Counts p seat quantum) (λ e. begin p k c rests (let past = ltb-true _ _ e in omega arith)) (λ e. c)
+turn_rests p false seat quantum k c rests no_deep =
+    cond_both (may_begin false p) Begin (cond (not (eqb p.c1 0)) Rotate Idle) (Counts p seat quantum)
+    (λ e. begin p k c rests (let rest = k.within.resting rests in let some = eqb-false _ _ (not-true _ e) in elim (cases_lt 0 p.spring) [ inl more ↦ more | inr none ↦ absurd (some (omega arith)) ]))
+    (λ e. cond_both (not (eqb p.c1 0)) Rotate Idle (Counts p seat quantum)
+    (λ f. rotation p c rests no_deep (let some = eqb-false _ _ (not-true _ f) in elim (cases_lt 0 p.c1) [ inl more ↦ c.turn_to_come more | inr none ↦ absurd (some (omega arith)) ]))
+    (λ f. c))
+
+pub turn : (p : Pace) (is_worker : Bool) (seat : ℕ) (quantum : Quantum) → IsPaced p → IsCounted p → Counts p seat quantum (turn_of is_worker p)
+turn p is_worker seat quantum k c =
+    let after_two : Move = cond (p.gears.deep && (not p.gears.pass || deep_is_behind p.gears)) TakeDeep (cond p.gears.pass TakeSnow (turn_at_rest is_worker p)) in
+    cond_both (p.gears.deep && deep_done p) SwapDeep (cond (p.gears.pass && pass_done p) SwapPass after_two) (Counts p seat quantum)
+    (λ e. let parts = and_parts p.gears.deep (deep_done p) e in deep_swap p c parts.0)
+    (λ no_swap. cond_both (p.gears.pass && pass_done p) SwapPass after_two (Counts p seat quantum)
+    (λ e. let parts = and_parts p.gears.pass (pass_done p) e in swap_and_rotation p k c parts.0 (way p k parts.0 (eqb-true _ _ parts.1) (deep_left p k no_swap)))
+    (λ still. cond_both (p.gears.deep && (not p.gears.pass || deep_is_behind p.gears)) TakeDeep (cond p.gears.pass TakeSnow (turn_at_rest is_worker p)) (Counts p seat quantum)
+    (λ e. same_count p (with_deep p seat quantum) c refl refl refl refl refl refl refl refl refl refl)
+    (λ none. cond_both p.gears.pass TakeSnow (turn_at_rest is_worker p) (Counts p seat quantum)
+    (λ e. same_count p (with_snow p seat quantum) c refl refl refl refl refl refl refl refl refl refl)
+    (λ e. turn_rests p is_worker seat quantum k c e (no_deep_left p.gears.deep p.gears.pass (deep_is_behind p.gears) none e)))))
+
+pub step_counts : StepCounts
+step_counts pace (Admit seat w is_del ahead weight_after) k c may = admit pace seat w ahead weight_after k c may.lands
+step_counts pace (Pay seat quantum) k c may = pay (plan_of (with_forgiven pace seat) seat) pace seat quantum c
+step_counts pace (Turn seat quantum) k c may = turn pace (is_worker_seat seat) seat quantum k c
+
+all_count : (pace : Pace) (events : List Event) → IsPaced pace → IsCounted pace → MayAll pace events → IsCounted (after_all pace events)
+all_count pace [] k c may = c
+all_count pace (event ∷ events) k c may = all_count (after pace event) events (step_keeps pace event k may.0) (step_counts pace event k c may.0) may.1
+
+pub opened_counted : (sizes : Sizes) (c1 c2 : ℕ) → IsCounted (opened sizes c1 c2)
+opened_counted sizes c1 c2 = record {
+  begins = omega arith;
+  running = λ e. absurd (false≢true e);
+  resting = λ e. (refl, λ some. absurd (omega arith));
+  turns = omega arith;
+  turn_to_come = λ some. omega arith;
+  merging = λ e. absurd (false≢true e);
+  unmerged = λ e. refl;
+}
+
+pub run_counts : RunCounts
+run_counts sizes c1 c2 events opening may = all_count (opened sizes c1 c2) events (opened_paced sizes c1 c2 opening) (opened_counted sizes c1 c2) may
+
+pub few_commits : FewCommits
+few_commits pace c =
+    let begins = c.begins in
+    let turns = c.turns in
+    let passes : pace.passes ≤ pace.begun = elim (cases_Bool pace.gears.pass) [ inl e ↦ let h = c.running e in let same = h.0 in omega arith | inr e ↦ let h = c.resting e in let same = h.0 in omega arith ] in
+    let deeps : pace.deeps ≤ pace.rotations = elim (cases_Bool pace.gears.deep) [ inl e ↦ let h = c.merging e in omega arith | inr e ↦ let h = c.unmerged e in omega arith ] in
+    omega arith
+
+pub merged : (p : Pace) → AreFew p → p.deeps ≤ p.rotations
+merged p few = elim (cases_Bool p.gears.deep) [ inl e ↦ let h = few.merging e in omega arith | inr e ↦ let h = few.unmerged e in omega arith ]
+
+pub passed : (p : Pace) → AreFew p → p.passes ≤ p.begun
+passed p few = elim (cases_Bool p.gears.pass) [ inl e ↦ let h = few.running e in omega arith | inr e ↦ let h = few.resting e in omega arith ]
+
+pub counted_few : CountedAreFew
+counted_few p c = record {
+  begins = let h = c.begins in omega arith;
+  running = λ e. let h = c.running e in h.0;
+  resting = λ e. let h = c.resting e in h.0;
+  turns = c.turns;
+  merging = c.merging;
+  unmerged = c.unmerged;
+}
+
+ready_few : (p : Pace) → IsReadyCount p → AreFew p
+ready_few p c = record { begins = begins_after p c; running = c.running; resting = c.resting; turns = c.turns; merging = c.merging; unmerged = c.unmerged }
+
+pub moves_few : MovesAreFew
+moves_few p w k c =
+    let one = deep_settled_kept p k in
+    let two = pass_settled_kept p k in
+    let c_two = settle_pass (deep_settled p) one.kept (settle_deep p c) one.going in (
+      counted_few (deep_settled p) (settle_deep p c),
+      ready_few (ready_for p w)
+          (begin_or_not (pass_settled (deep_settled p)) two.kept c_two (not (pass_settled (deep_settled p)).gears.pass && ltb (pass_settled (deep_settled p)).gears.sizes.low ((pass_settled (deep_settled p)).spring + w))
+          (λ e. let parts = and_parts (not (pass_settled (deep_settled p)).gears.pass) (ltb (pass_settled (deep_settled p)).gears.sizes.low ((pass_settled (deep_settled p)).spring + w)) e in not-true _ parts.0)),
+    )

@@ -1,0 +1,17 @@
+pub mod Numbers
+pub mod Flags
+pub mod Swaps
+pub mod InTime
+pub mod Writes
+pub mod Quanta
+pub mod Forgiven
+pub mod Admissions
+pub mod Payments
+pub mod Turns
+pub mod Runs
+pub mod Promises
+pub mod Weights
+pub mod Counts
+pub mod Examples
+pub mod Spent
+pub mod Fronts

@@ -1,0 +1,8 @@
+pub mod Pace
+pub mod Steps
+pub mod Kept
+pub mod Laws
+pub mod Weights
+pub mod Counts
+pub mod Spent
+pub mod Fronts

@@ -1,0 +1,274 @@
+-- Admission: what the machine stands for before it stands for afterwards, with the write counted, lost or unsure, or refused.
+use Rattle.std.proofs.Common.{◌≡◌, ℕ, ◌+◌, ◌^◌, ◌<◌, ◌≤◌, Bool, cond, true, false, List, [], ◌∷◌, ◌++◌, length, Some, None, Option, refl, ap, sym, subst, ◌∙◌, arith}
+use Rattle.std.specs.Prelude.{◌==◌, nat_lt, slice_index_or}
+use Rattle.std.specs.List.{AllByRecursion}
+use Rattle.std.proofs.lemmas.Bool.{false≢true, ltb-true}
+use Rattle.std.proofs.lemmas.List.Sums.{sum_by-append}
+use Rattle.blsm_model.specs.declared.key.Key.{Key}
+use Rattle.blsm_model.specs.declared.row.Value.{Value}
+use Rattle.blsm_model.specs.declared.row.Row.{Row}
+use Rattle.blsm_model.specs.declared.op.Write.{Write}
+use Rattle.blsm_model.specs.declared.op.Write.TheVariants as write
+use Rattle.blsm_model.specs.declared.op.Op.{Op}
+use Rattle.blsm_model.specs.declared.op.Op.TheVariants.{Put, Add, Del}
+use Rattle.blsm_model.specs.declared.history.Why.{Why}
+use Rattle.blsm_model.specs.declared.history.Why.TheVariants.{Faulted}
+use Rattle.blsm_model.specs.declared.history.Reply.{Reply}
+use Rattle.blsm_model.specs.declared.history.Reply.TheVariants.{Done, Full, FaultLost, FaultUnsure}
+use Rattle.blsm_model.specs.declared.history.Entry.{Entry}
+use Rattle.blsm_model.specs.Book.{Book}
+use Rattle.blsm_model.specs.Sizes.{Sizes}
+use Rattle.blsm_model.specs.Geometry.{limits_of, charge_limit}
+use Rattle.blsm_model.specs.Values.{key_of, added_count, value_at, weight_of}
+use Rattle.blsm_model.specs.Histories.{after, object_after, counted, counted_writes, written, writes_of, is_refusal}
+use Rattle.blsm_model.specs.Legal.{IsLegal, MayReply, NamesNoOther, limit_for, is_running, is_write, total_weight}
+use Rattle.blsm_model.proofs.HoldLemmas.{held-refusal, held-still}
+use Rattle.record_delta.specs.declared.record.Rec.{Rec}
+use Rattle.record_delta.specs.Records.{weight, record_of}
+use Rattle.record_delta.specs.Entries.{AreSorted, entries_weight, is_above, up_to, with_record}
+use Rattle.tree_machine.specs.Lists.{Lists, memory_weight}
+use Rattle.tree_machine.specs.Layers.{IsPassCounted, IsDeepCounted, Carries, HasWay}
+use Rattle.tree_machine.specs.Merges.{Merge}
+use Rattle.tree_machine.specs.Machine.{Machine, in_pass, charge, memory_charge}
+use Rattle.tree_machine.specs.Moves.{goes_to_a, with_write, take_write, with_peak, note, stop}
+use Rattle.tree_machine.specs.Steps.{Outcome, Well, FailedAfter, Broken, NoRoom, replied, is_del, deep_swapped, swaps_due, ready_for, taken_once, admit, admit_fitting}
+use Rattle.tree_machine.specs.Stands.{IsTold, AreWorks, Stands}
+use Rattle.tree_machine.proofs.CarryLemmas.{carries_itself, deep_swapped_carries, ready_carries}
+use Rattle.blsm_model.specs.Format.{least_weight, most_weight}
+use Rattle.tree_machine.proofs.LightLemmas.{light_write}
+use Rattle.tree_machine.proofs.WriteLemmas.{write_layered, value_in-write, behind_kept}
+use Rattle.tree_machine.proofs.WeightLemmas.{weight_with, weight_of_record}
+use Rattle.tree_machine.proofs.ToldLemmas.{some_or_none, note_told, stop_told, none_fails}
+use Rattle.tree_machine.proofs.StandLemmas.{entry_of, IsReadyFor, note_stands, quiet_ready, running_told, unless_stands}
+
+-- ---- moves of the merges
+
+told_carries : (opening : List (Key × Value)) (m n : Machine) → IsTold opening m → Carries m n → IsTold opening n
+told_carries opening m n told c = record {
+  legal = subst (λ (b : Book). IsLegal (limits_of n.gears.sizes n.counts.charge) opening b.entries) (sym c.book)
+      (subst (λ (s : Sizes). IsLegal (limits_of s n.counts.charge) opening m.book.entries) (sym c.sizes)
+      (subst (λ k. IsLegal (limits_of m.gears.sizes k) opening m.book.entries) (sym c.opening) told.legal));
+  running = λ none. subst (λ (b : Book). is_running b.entries ≡ true) (sym c.book) (told.running (sym c.stopped ∙ none));
+  one_why = λ why is. subst (λ (b : Book). AllByRecursion (λ e. NamesNoOther why e.reply) b.entries) (sym c.book) (told.one_why why (sym c.stopped ∙ is));
+  works = subst (λ (b : Book). AreWorks n.seats.work n.stopped b.entries) (sym c.book)
+      (subst (λ s. AreWorks n.seats.work s m.book.entries) (sym c.stopped) (subst (λ w. AreWorks w m.stopped m.book.entries) (sym c.work) told.works));
+}
+
+pub carries_stands : (opening : List (Key × Value)) (m n : Machine) → Stands opening m → Carries m n → Stands opening n
+carries_stands opening m n stands c = record {
+  sound = c.sound;
+  values = λ q. c.values q ∙ stands.values q ∙ ap (λ (b : Book). value_at (written opening b.entries) q) (sym c.book);
+  places = ap (λ (h : List (Option (List Row))). length h) c.holds ∙ stands.places;
+  held = λ s within. ap (λ h. slice_index_or h s None) c.holds ∙ stands.held s within ∙ ap (λ (b : Book). (object_after opening b.entries).held s) (sym c.book);
+  weighs = omega (arith, c.charge, stands.weighs, c.opening, ap (λ (b : Book). total_weight (counted_writes b.entries)) c.book);
+  told = told_carries opening m n stands.told c;
+}
+
+-- ---- a write that failed
+
+-- the tree is stopped by this write, after some moves of the merges
+failed_stands : (opening : List (Key × Value)) (m : Machine) (seat : ℕ) (op : Op) (reply : Reply) (faults : ℕ) → Stands opening m → m.stopped ≡ None
+    → is_refusal reply ≡ true → counted (entry_of seat op reply) ≡ [] → NamesNoOther (Faulted faults) reply
+    → MayReply (limits_of m.gears.sizes m.counts.charge) opening m.book.entries seat op reply → Stands opening (note seat op reply (stop (Faulted faults) m))
+failed_stands opening m seat op reply faults stands none refused uncounted named may =
+    let ready = quiet_ready opening m (entry_of seat op reply) stands uncounted (λ s. held-refusal (object_after opening m.book.entries) (entry_of seat op reply) s refused) in
+    note_stands opening (stop (Faulted faults) m) seat op reply
+    (record {
+      sound = record { layered = ready.sound.layered; light = ready.sound.light; charged = ready.sound.charged; pass = ready.sound.pass; deep = ready.sound.deep };
+      values = ready.values;
+      places = ready.places;
+      held = ready.held;
+      weighs = ready.weighs;
+    })
+    (note_told opening (stop (Faulted faults) m) seat op reply (stop_told opening m (Faulted faults) stands.told none) may
+    (λ is. absurd (some_or_none (Some (Faulted faults)) (Faulted faults) refl is))
+    (λ why is. names why is)
+    (λ s failing. absurd (none_fails opening m stands.told none s failing)))
+  where
+    names : (why : Why) → Some (Faulted faults) ≡ Some why → NamesNoOther why reply
+    names why is = subst (λ w. NamesNoOther w reply) (ap (λ r. cause r) is) named
+      where
+        cause : Option Why → Why
+        cause None = Faulted faults
+        cause (Some w) = w
+
+-- ---- a write that is done
+
+heavier : (key : Key) (rec : Rec) (lists : Lists) (b : Bool) → AreSorted lists.a → AreSorted lists.b
+    → memory_weight (cond b
+    (record { b = lists.b; a = with_record key rec lists.a; c1 = lists.c1; c1x = lists.c1x; c2 = lists.c2 })
+    (record { b = with_record key rec lists.b; a = lists.a; c1 = lists.c1; c1x = lists.c1x; c2 = lists.c2 })) ≤ memory_weight lists + weight key rec
+heavier key rec lists true sorted_a sorted_b = omega (arith, weight_with key rec lists.a sorted_a)
+heavier key rec lists false sorted_a sorted_b = omega (arith, weight_with key rec lists.b sorted_b)
+
+components_stay : (key : Key) (rec : Rec) (lists : Lists) (b : Bool)
+    → (let new : Lists = cond b
+    (record { b = lists.b; a = with_record key rec lists.a; c1 = lists.c1; c1x = lists.c1x; c2 = lists.c2 })
+    (record { b = with_record key rec lists.b; a = lists.a; c1 = lists.c1; c1x = lists.c1x; c2 = lists.c2 }) in
+    entries_weight new.c1 + entries_weight new.c1x + entries_weight new.c2 ≡ entries_weight lists.c1 + entries_weight lists.c1x + entries_weight lists.c2)
+components_stay key rec lists true = refl
+components_stay key rec lists false = refl
+
+-- a write ahead of the cursor leaves what is behind it
+pass_counted : (key : Key) (rec : Rec) (lists : Lists) (running : Bool) (input memory admitted taken w : ℕ) (p : Option Merge) → AreSorted lists.a → IsPassCounted lists.a lists.c1 running input memory admitted taken p
+    → IsPassCounted (with_write p key rec lists).a (with_write p key rec lists).c1 running input memory (cond running (admitted + w) admitted) taken p
+pass_counted key rec lists running input memory admitted taken w None sorted counted = (counted.0, counted.1, counted.2, ap (λ b. cond b (admitted + w) admitted) counted.0 ∙ counted.3, counted.4)
+pass_counted key rec lists running input memory admitted taken w (Some pass) sorted counted = by (is_above pass.cursor key) refl
+  where
+    by : (b : Bool) → is_above pass.cursor key ≡ b
+        → (let new : Lists = cond b
+        (record { b = lists.b; a = with_record key rec lists.a; c1 = lists.c1; c1x = lists.c1x; c2 = lists.c2 })
+        (record { b = with_record key rec lists.b; a = lists.a; c1 = lists.c1; c1x = lists.c1x; c2 = lists.c2 }) in
+        (running ≡ true) × (input ≡ entries_weight new.c1) × (taken ≡ entries_weight (up_to pass.cursor new.a) + entries_weight (up_to pass.cursor new.c1)))
+    by true past = (counted.0, counted.1, omega (arith, counted.2, ap entries_weight (behind_kept pass.cursor key rec lists.a past sorted)))
+    by false here = counted
+
+deep_counted : (key : Key) (rec : Rec) (lists : Lists) (running : Bool) (input admitted taken w : ℕ) (b : Bool) (p : Option Merge) → IsDeepCounted lists.c1x lists.c2 running input admitted taken p
+    → (let new : Lists = cond b
+    (record { b = lists.b; a = with_record key rec lists.a; c1 = lists.c1; c1x = lists.c1x; c2 = lists.c2 })
+    (record { b = with_record key rec lists.b; a = lists.a; c1 = lists.c1; c1x = lists.c1x; c2 = lists.c2 }) in
+    IsDeepCounted new.c1x new.c2 running input (cond running (admitted + w) admitted) taken p)
+deep_counted key rec lists running input admitted taken w true None counted = (counted.0, counted.1, ap (λ b. cond b (admitted + w) admitted) counted.0 ∙ counted.2, counted.3)
+deep_counted key rec lists running input admitted taken w false None counted = (counted.0, counted.1, ap (λ b. cond b (admitted + w) admitted) counted.0 ∙ counted.2, counted.3)
+deep_counted key rec lists running input admitted taken w true (Some deep) counted = counted
+deep_counted key rec lists running input admitted taken w false (Some deep) counted = counted
+
+taken : Machine → ℕ → Write → Machine
+taken m seat w = with_peak (take_write seat w m)
+
+write_ready : (opening : List (Key × Value)) (m : Machine) (seat : ℕ) (op : Op) (w : Write) → Stands opening m → (added_count w < 2 ^ 64) × (weight_of w ≤ most_weight) × (least_weight ≤ weight_of w) → counted (entry_of seat op Done) ≡ w ∷ []
+    → ((s : ℕ) → (after (object_after opening m.book.entries) (entry_of seat op Done)).held s ≡ (object_after opening m.book.entries).held s)
+    → IsReadyFor opening (taken m seat w) (entry_of seat op Done)
+unfolding taken
+write_ready opening m seat op w stands fits counts still = record {
+  sound = record {
+    layered = write_layered (key_of w) (record_of w) m.lists m.merges stands.sound.layered;
+    light = light_write (key_of w) (record_of w) m.lists m.merges (omega (arith, weight_of_record w, fits.1)) stands.sound.light;
+    charged = charged (in_pass m) refl;
+    pass = pass_counted (key_of w) (record_of w) m.lists m.gears.pass m.gears.pass_c1 m.gears.pass_memory m.gears.pass_admitted m.gears.pass_taken (weight_of w) m.merges.pass stands.sound.layered.sorted_a stands.sound.pass;
+    deep = deep_counted (key_of w) (record_of w) m.lists m.gears.deep m.gears.deep_input m.gears.deep_admitted m.gears.deep_taken (weight_of w) (goes_to_a m.merges.pass (key_of w)) m.merges.deep stands.sound.deep;
+  };
+  values = λ q. value_in-write w m.lists m.merges.pass (written opening m.book.entries) fits.0 stands.sound.layered.pass stands.values q
+      ∙ ap (λ ws. value_at (written opening m.book.entries ++ ws) q) (sym counts);
+  places = stands.places;
+  held = λ s within. stands.held s within ∙ sym (still s);
+  weighs = weighs (in_pass m) refl;
+}
+  where
+    new : Lists
+    new = with_write m.merges.pass (key_of w) (record_of w) m.lists
+
+    heavy : memory_weight (with_write m.merges.pass (key_of w) (record_of w) m.lists) ≤ memory_weight m.lists + weight_of w
+    heavy = omega (arith, heavier (key_of w) (record_of w) m.lists (goes_to_a m.merges.pass (key_of w)) stands.sound.layered.sorted_a stands.sound.layered.sorted_b, weight_of_record w)
+
+    charged : (b : Bool) → in_pass m ≡ b → memory_weight (with_write m.merges.pass (key_of w) (record_of w) m.lists)
+        ≤ cond (in_pass m) (m.gears.pass_memory + cond (in_pass m) (m.gears.pass_admitted + weight_of w) m.gears.pass_admitted) (memory_weight (with_write m.merges.pass (key_of w) (record_of w) m.lists))
+    charged b is = subst (λ c. memory_weight (with_write m.merges.pass (key_of w) (record_of w) m.lists)
+        ≤ cond c (m.gears.pass_memory + cond c (m.gears.pass_admitted + weight_of w) m.gears.pass_admitted) (memory_weight (with_write m.merges.pass (key_of w) (record_of w) m.lists))) (sym is)
+        (by b (subst (λ c. memory_weight m.lists ≤ cond c (m.gears.pass_memory + m.gears.pass_admitted) (memory_weight m.lists)) is stands.sound.charged))
+      where
+        by : (c : Bool) → memory_weight m.lists ≤ cond c (m.gears.pass_memory + m.gears.pass_admitted) (memory_weight m.lists)
+            → memory_weight (with_write m.merges.pass (key_of w) (record_of w) m.lists)
+            ≤ cond c (m.gears.pass_memory + cond c (m.gears.pass_admitted + weight_of w) m.gears.pass_admitted) (memory_weight (with_write m.merges.pass (key_of w) (record_of w) m.lists))
+        by true was = omega (arith, was, heavy)
+        by false was = omega arith
+
+    weighs : (b : Bool) → in_pass m ≡ b → charge (with_peak (take_write seat w m)) ≤ m.counts.charge + total_weight (counted_writes m.book.entries ++ counted (entry_of seat op Done))
+    weighs b is = omega (arith, more, stands.weighs, components_stay (key_of w) (record_of w) m.lists (goes_to_a m.merges.pass (key_of w)), total)
+      where
+        total : total_weight (counted_writes m.book.entries ++ counted (entry_of seat op Done)) ≡ total_weight (counted_writes m.book.entries) + weight_of w
+        total = omega (arith, ap (λ ws. total_weight (counted_writes m.book.entries ++ ws)) counts, sum_by-append weight_of (counted_writes m.book.entries) (w ∷ []))
+
+        more : cond (in_pass m) (m.gears.pass_memory + cond (in_pass m) (m.gears.pass_admitted + weight_of w) m.gears.pass_admitted) (memory_weight (with_write m.merges.pass (key_of w) (record_of w) m.lists))
+            ≤ memory_charge m + weight_of w
+        more = subst (λ c. cond c (m.gears.pass_memory + cond c (m.gears.pass_admitted + weight_of w) m.gears.pass_admitted) (memory_weight (with_write m.merges.pass (key_of w) (record_of w) m.lists))
+            ≤ cond c (m.gears.pass_memory + m.gears.pass_admitted) (memory_weight m.lists) + weight_of w) (sym is) (by b)
+          where
+            by : (c : Bool) → cond c (m.gears.pass_memory + cond c (m.gears.pass_admitted + weight_of w) m.gears.pass_admitted) (memory_weight (with_write m.merges.pass (key_of w) (record_of w) m.lists))
+                ≤ cond c (m.gears.pass_memory + m.gears.pass_admitted) (memory_weight m.lists) + weight_of w
+            by true = omega arith
+            by false = heavy
+
+written_stands : (opening : List (Key × Value)) (m : Machine) (seat : ℕ) (op : Op) (w : Write) → Stands opening m → m.stopped ≡ None → (added_count w < 2 ^ 64) × (weight_of w ≤ most_weight) × (least_weight ≤ weight_of w) → counted (entry_of seat op Done) ≡ w ∷ []
+    → ((s : ℕ) → (after (object_after opening m.book.entries) (entry_of seat op Done)).held s ≡ (object_after opening m.book.entries).held s)
+    → MayReply (limits_of m.gears.sizes m.counts.charge) opening m.book.entries seat op Done → Stands opening (note seat op Done (with_peak (take_write seat w m)))
+unfolding taken
+written_stands opening m seat op w stands none fits counts still may =
+    note_stands opening (taken m seat w) seat op Done (write_ready opening m seat op w stands fits counts still)
+    (running_told opening (taken m seat w) seat op Done
+    (record { legal = stands.told.legal; running = stands.told.running; one_why = stands.told.one_why; works = stands.told.works }) none may refl refl)
+
+-- ---- admission
+
+-- a write that fits
+fitting_stands : (opening : List (Key × Value)) (m : Machine) (seat : ℕ) (op : Op) (weight : ℕ) (outcome : Outcome) → Stands opening m → HasWay m → m.stopped ≡ None
+    → is_write op ≡ true → AllByRecursion (λ w. (added_count w < 2 ^ 64) × (weight_of w ≤ most_weight) × (least_weight ≤ weight_of w)) (writes_of op) → Stands opening (admit_fitting m seat op weight outcome).state
+fitting_stands opening m seat op weight outcome stands way none is_one fit = by outcome
+  where
+    failed : (n : Machine) (reply : Reply) (faults : ℕ) → Carries m n → is_refusal reply ≡ true → counted (entry_of seat op reply) ≡ [] → NamesNoOther (Faulted faults) reply
+        → ((before : List Entry) → is_running before ≡ true → MayReply (limits_of n.gears.sizes n.counts.charge) opening before seat op reply)
+        → Stands opening (note seat op reply (stop (Faulted faults) n))
+    failed n reply faults c refused uncounted named may =
+        let stands_n = carries_stands opening m n stands c in
+        let none_n : n.stopped ≡ None = c.stopped ∙ none in
+        failed_stands opening n seat op reply faults stands_n none_n refused uncounted named (may n.book.entries (stands_n.told.running none_n))
+
+    lost : (faults : ℕ) (b : Bool) → Stands opening (note seat op FaultLost (stop (Faulted faults) (cond b m (deep_swapped m))))
+    lost faults true = failed m FaultLost faults (carries_itself m stands.sound) refl refl tt (λ before running. (running, is_one))
+    lost faults false = failed (deep_swapped m) FaultLost faults (deep_swapped_carries m stands.sound) refl refl tt (λ before running. (running, is_one))
+
+    after_failure : (commits faults : ℕ) (b : Bool)
+        → Stands opening (cond b (replied seat op FaultLost (stop (Faulted faults) (cond (commits == 0) m (deep_swapped m)))) (replied seat op FaultUnsure (stop (Faulted faults) (ready_for weight m)))).state
+    after_failure commits faults true = lost faults (commits == 0)
+    after_failure commits faults false = failed (ready_for weight m) FaultUnsure faults (ready_carries weight m stands.sound way) refl refl tt (λ before running. (running, is_one))
+
+    done : (o : Op) → is_write o ≡ true → AllByRecursion (λ w. (added_count w < 2 ^ 64) × (weight_of w ≤ most_weight) × (least_weight ≤ weight_of w)) (writes_of o) → Stands opening (note seat o Done (with_peak (taken_once seat (writes_of o) (ready_for weight m))))
+    done o is fits = one o is fits
+      where
+        ready : Stands opening (ready_for weight m)
+        ready = carries_stands opening m (ready_for weight m) stands (ready_carries weight m stands.sound way)
+
+        still_none : (ready_for weight m).stopped ≡ None
+        still_none = (ready_carries weight m stands.sound way).stopped ∙ none
+
+        one : (o : Op) → is_write o ≡ true → AllByRecursion (λ w. (added_count w < 2 ^ 64) × (weight_of w ≤ most_weight) × (least_weight ≤ weight_of w)) (writes_of o) → Stands opening (note seat o Done (with_peak (taken_once seat (writes_of o) (ready_for weight m))))
+        one (Put key value) is fits = written_stands opening (ready_for weight m) seat (Put key value) (write.Put key value) ready still_none fits.0 refl
+            (λ s. held-still (object_after opening (ready_for weight m).book.entries) (entry_of seat (Put key value) Done) s refl) (ready.told.running still_none, refl)
+        one (Add key count) is fits = written_stands opening (ready_for weight m) seat (Add key count) (write.Add key count) ready still_none fits.0 refl
+            (λ s. held-still (object_after opening (ready_for weight m).book.entries) (entry_of seat (Add key count) Done) s refl) (ready.told.running still_none, refl)
+        one (Del key) is fits = written_stands opening (ready_for weight m) seat (Del key) (write.Del key) ready still_none fits.0 refl
+            (λ s. held-still (object_after opening (ready_for weight m).book.entries) (entry_of seat (Del key) Done) s refl) (ready.told.running still_none, refl)
+        one _ is fits = absurd (false≢true is)
+
+    by : (o : Outcome) → Stands opening (admit_fitting m seat op weight o).state
+    by (FailedAfter commits faults) = after_failure commits faults (nat_lt commits (swaps_due m))
+    by Well = done op is_one fit
+    by (Broken page) = done op is_one fit
+    by NoRoom = done op is_one fit
+
+limit_is : (sizes : Sizes) (at_opening : ℕ) (op : Op) → limit_for (limits_of sizes at_opening) op ≡ charge_limit sizes (is_del op)
+limit_is sizes at_opening (Del key) = refl
+limit_is sizes at_opening _ = refl
+
+pub admit_stands : (opening : List (Key × Value)) (m : Machine) (seat : ℕ) (op : Op) (outcome : Outcome) → Stands opening m → HasWay m → is_write op ≡ true
+    → AllByRecursion (λ w. (added_count w < 2 ^ 64) × (weight_of w ≤ most_weight) × (least_weight ≤ weight_of w)) (writes_of op) → Stands opening (admit m seat op outcome).state
+admit_stands opening m seat op outcome stands way is_one fit =
+    unless_stands opening m seat op
+    (cond (nat_lt (charge_limit m.gears.sizes (is_del op)) (charge m + total_weight (writes_of op))) (replied seat op (Full (charge m)) m) (admit_fitting m seat op (total_weight (writes_of op)) outcome))
+    stands (λ none. by none (nat_lt (charge_limit m.gears.sizes (is_del op)) (charge m + total_weight (writes_of op))) refl)
+  where
+    by : m.stopped ≡ None → (b : Bool) → nat_lt (charge_limit m.gears.sizes (is_del op)) (charge m + total_weight (writes_of op)) ≡ b
+        → Stands opening (cond b (replied seat op (Full (charge m)) m) (admit_fitting m seat op (total_weight (writes_of op)) outcome)).state
+    by none true is =
+        note_stands opening m seat op (Full (charge m))
+        (quiet_ready opening m (entry_of seat op (Full (charge m))) stands refl (λ s. held-refusal (object_after opening m.book.entries) (entry_of seat op (Full (charge m))) s refl))
+        (running_told opening m seat op (Full (charge m)) stands.told none (
+          stands.told.running none,
+          record {
+            write = is_one;
+            past = subst (λ n. n < charge m + total_weight (writes_of op)) (sym (limit_is m.gears.sizes m.counts.charge op))
+                (ltb-true (charge_limit m.gears.sizes (is_del op)) (charge m + total_weight (writes_of op)) is);
+            made = stands.weighs;
+          },
+        ) refl refl)
+    by none false is = fitting_stands opening m seat op (total_weight (writes_of op)) outcome stands way none is_one fit

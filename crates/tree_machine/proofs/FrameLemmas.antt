@@ -1,0 +1,742 @@
+-- What each part of a step leaves to the other seats.
+use Rattle.std.proofs.Common.{subst, ◌≡◌, ◌≢◌, ℕ, zero, suc, ◌+◌, ◌-◌, ◌*◌, ◌%◌, ◌^◌, ◌≤◌, ◌⊎◌, Bool, cond, true, false, not, ◌&&◌, List, [], ◌∷◌, length, take, drop, replicate, Some, None, Option, refl, ap, sym, ◌∙◌, arith}
+use Rattle.std.specs.Prelude.{◌==◌, sum, nat_lt, nat_le, slice_index, slice_index_or, slice_set, is_some}
+use Rattle.std.proofs.lemmas.Bool.{false≢true, leb-true, ltb-false}
+use Rattle.std.proofs.lemmas.List.{get_or-set_other}
+use Rattle.std.proofs.lemmas.List.Sums.{sum_by-cons}
+use Rattle.blsm_model.specs.declared.key.Key.{Key}
+use Rattle.blsm_model.specs.declared.row.Row.{Row}
+use Rattle.blsm_model.specs.declared.op.Op.{Op}
+use Rattle.blsm_model.specs.declared.op.Write.{Write}
+use Rattle.blsm_model.specs.declared.history.Why.{Why}
+use Rattle.blsm_model.specs.declared.history.Why.TheVariants as why
+use Rattle.blsm_model.specs.declared.history.Why.TheVariants.{Faulted}
+use Rattle.blsm_model.specs.declared.op.Write.TheVariants as write
+use Rattle.blsm_model.specs.declared.op.Op.TheVariants.{Put, Add, Del, Get, Hold, Next, Release, Work}
+use Rattle.blsm_model.specs.declared.history.Reply.TheVariants.{Done, Held, Rows, NoHold, Full, NoMemory, FaultLost, FaultUnsure, Fault, Damaged, Stopped}
+use Rattle.blsm_model.specs.Format.{callers}
+use Rattle.blsm_model.specs.Book.{counted_up}
+use Rattle.blsm_model.specs.Histories.{writes_of, answer_to_get, answer_to_release}
+use Rattle.blsm_model.specs.Legal.{total_weight}
+use Rattle.tree_machine.specs.declared.step.Kind.{Kind}
+use Rattle.tree_machine.specs.declared.step.Kind.TheVariants as kind
+use Rattle.blsm_model.specs.declared.history.Reply.{Reply}
+use Rattle.blsm_model.specs.Geometry.{c1_mark, first_gear, second_gear, charge_limit}
+use Rattle.blsm_model.specs.Values.{weight_of}
+use Rattle.record_delta.specs.Entries.{entries_weight}
+use Rattle.tree_machine.specs.Lists.{memory_weight, value_in, rows_in}
+use Rattle.tree_machine.specs.Merges.{Merge, quantum_of}
+use Rattle.gear_sched.specs.Gears.{plan_for, first_debt, second_debt}
+use Rattle.gear_sched.specs.declared.Plan.{Plan}
+use Rattle.gear_sched.specs.declared.Plan.TheVariants.{Snow, Deep, Nothing}
+use Rattle.tree_machine.specs.Machine.{Machine, WorkSoFar, is_worked, seats, no_work, in_pass, in_deep, pass_done, deep_done, is_closed, all_true, charge, held_by, work_of}
+use Rattle.tree_machine.specs.Moves.{begin_pass, rotate, rotate_alone, swap_pass, swap_deep, end_pass, output_of, pass_quantum, deep_quantum, pass_quantum_of, deep_quantum_of, take_write, with_peak, note, stop}
+use Rattle.tree_machine.specs.Steps.{Choice, SwapDeep, SwapPass, DeepQuantum, PassQuantum, Begin, Rotate, Rest, chosen, deep_swapped, pass_swapped, swapped, pass_begun_for, ready_for, taken_once, forgive, count_for_write, holding, work_noted, Outcome, Well, FailedAfter, Broken, NoRoom, Stepped, replied, unless_stopped, is_del, swaps_due, admit, admit_fitting, do_pay, pay_planned, pay, pay_running, reply_unless, hold, do_hold, next_rows, do_next, choice, do_turn, work_turning, worker_turning, with_turn, work_turn, worker_turn, work_reply, work_end, leave}
+use Rattle.tree_machine.specs.Plays.{stepped_as, may}
+use Rattle.tree_machine.proofs.FoldLemmas.{both_hold, both}
+use Rattle.blsm_model.specs.Facts.{Follows}
+use Rattle.tree_machine.specs.Frames.{facts_of, turns_of}
+use Rattle.tree_machine.proofs.GrowLemmas.{notes, step_grows}
+use Rattle.tree_machine.proofs.PlayLemmas.{of_replicate}
+
+-- What a step of one seat leaves to the others, with at most so many quanta more.
+pub record Apart (seat more : ℕ) (old new : Machine) : Type 0 where
+  pub fixed : (new.gears.sizes ≡ old.gears.sizes) × (new.counts.charge ≡ old.counts.charge) × (new.counts.faults ≡ old.counts.faults)
+  pub peak : old.counts.peak ≤ new.counts.peak
+  pub stopped : (why : Why) → old.stopped ≡ Some why → new.stopped ≡ Some why
+  pub closed : is_closed old ≡ true → is_closed new ≡ true
+  pub kept : sum old.seats.quanta ≤ sum new.seats.quanta
+  pub quanta : sum new.seats.quanta ≤ sum old.seats.quanta + more
+  pub held : (other : ℕ) → other ≢ seat → held_by other new ≡ held_by other old
+  pub work : (other : ℕ) → other ≢ seat → work_of other new ≡ work_of other old
+  pub turns : (other : ℕ) → callers ≤ other → other ≢ seat → slice_index new.seats.turns (other - callers) ≡ slice_index old.seats.turns (other - callers)
+  pub left : (other : ℕ) → other ≢ seat → slice_index_or new.seats.left other false ≡ slice_index_or old.seats.left other false
+  pub entries_room : (other : ℕ) → other ≢ seat → slice_index new.book.room.entries other ≡ slice_index old.book.room.entries other
+  pub rows_room : (other : ℕ) → other ≢ seat → slice_index new.book.room.rows other ≡ slice_index old.book.room.rows other
+  pub first : (other : ℕ) → other ≢ seat → slice_index new.gears.first_debts other ≤ slice_index old.gears.first_debts other
+  pub second : (other : ℕ) → other ≢ seat → slice_index new.gears.second_debts other ≤ slice_index old.gears.second_debts other
+
+none_owed : (seat : ℕ) → slice_index (replicate callers 0) seat ≡ 0
+none_owed seat = of_replicate 16 seat 0
+
+-- one number of a list is raised by one
+raised : (xs : List ℕ) (i : ℕ) → (sum xs ≤ sum (slice_set xs i (slice_index xs i + 1))) × (sum (slice_set xs i (slice_index xs i + 1)) ≤ sum xs + 1)
+raised [] i = (omega arith, omega arith)
+raised (x ∷ xs) zero = (omega (arith, sum_by-cons (λ n. n) x xs, sum_by-cons (λ n. n) (x + 1) xs), omega (arith, sum_by-cons (λ n. n) x xs, sum_by-cons (λ n. n) (x + 1) xs))
+raised (x ∷ xs) (suc i) =
+    let rest = raised xs i in (
+      omega (arith, rest.0, sum_by-cons (λ n. n) x xs, sum_by-cons (λ n. n) x (slice_set xs i (slice_index xs i + 1))),
+      omega (arith, rest.1, sum_by-cons (λ n. n) x xs, sum_by-cons (λ n. n) x (slice_set xs i (slice_index xs i + 1))),
+    )
+
+pub apart_itself : (seat : ℕ) (m : Machine) → Apart seat 0 m m
+apart_itself seat m = record {
+  fixed = (refl, refl, refl);
+  peak = omega arith;
+  stopped = λ why is. is;
+  closed = λ is. is;
+  kept = omega arith;
+  quanta = omega arith;
+  held = λ other apart. refl;
+  work = λ other apart. refl;
+  turns = λ other worker apart. refl;
+  left = λ other apart. refl;
+  entries_room = λ other apart. refl;
+  rows_room = λ other apart. refl;
+  first = λ other apart. omega arith;
+  second = λ other apart. omega arith;
+}
+
+pub apart_on : {a b c : Machine} (seat j k : ℕ) → Apart seat j a b → Apart seat k b c → Apart seat (j + k) a c
+apart_on {a} {b} {c} seat j k p q = record {
+  fixed = (q.fixed.0 ∙ p.fixed.0, q.fixed.1 ∙ p.fixed.1, q.fixed.2 ∙ p.fixed.2);
+  peak = omega (arith, p.peak, q.peak);
+  stopped = λ why is. q.stopped why (p.stopped why is);
+  closed = λ is. q.closed (p.closed is);
+  kept = omega (arith, p.kept, q.kept);
+  quanta = omega (arith, p.quanta, q.quanta);
+  held = λ other apart. q.held other apart ∙ p.held other apart;
+  work = λ other apart. q.work other apart ∙ p.work other apart;
+  turns = λ other worker apart. q.turns other worker apart ∙ p.turns other worker apart;
+  left = λ other apart. q.left other apart ∙ p.left other apart;
+  entries_room = λ other apart. q.entries_room other apart ∙ p.entries_room other apart;
+  rows_room = λ other apart. q.rows_room other apart ∙ p.rows_room other apart;
+  first = λ other apart. omega (arith, p.first other apart, q.first other apart);
+  second = λ other apart. omega (arith, p.second other apart, q.second other apart);
+}
+
+-- with more quanta allowed
+pub apart_more : {a b : Machine} (seat j k : ℕ) → j ≤ k → Apart seat j a b → Apart seat k a b
+apart_more {a} {b} seat j k le p = record {
+  fixed = p.fixed;
+  peak = p.peak;
+  stopped = p.stopped;
+  closed = p.closed;
+  kept = p.kept;
+  quanta = omega (arith, p.quanta, le);
+  held = p.held;
+  work = p.work;
+  turns = p.turns;
+  left = p.left;
+  entries_room = p.entries_room;
+  rows_room = p.rows_room;
+  first = p.first;
+  second = p.second;
+}
+
+-- ---- the merges
+
+begin_apart : (seat : ℕ) (m : Machine) → Apart seat 0 m (begin_pass m)
+begin_apart seat m = record {
+  fixed = (refl, refl, refl);
+  peak = omega arith;
+  stopped = λ why is. is;
+  closed = λ is. is;
+  kept = omega arith;
+  quanta = omega arith;
+  held = λ other apart. refl;
+  work = λ other apart. refl;
+  turns = λ other worker apart. refl;
+  left = λ other apart. refl;
+  entries_room = λ other apart. refl;
+  rows_room = λ other apart. refl;
+  first = λ other apart. omega (arith, none_owed other);
+  second = λ other apart. omega arith;
+}
+
+rotate_apart : (seat : ℕ) (m : Machine) → Apart seat 0 m (rotate m)
+rotate_apart seat m = record {
+  fixed = (refl, refl, refl);
+  peak = omega arith;
+  stopped = λ why is. is;
+  closed = λ is. is;
+  kept = omega arith;
+  quanta = omega arith;
+  held = λ other apart. refl;
+  work = λ other apart. refl;
+  turns = λ other worker apart. refl;
+  left = λ other apart. refl;
+  entries_room = λ other apart. refl;
+  rows_room = λ other apart. refl;
+  first = λ other apart. omega arith;
+  second = λ other apart. omega (arith, none_owed other);
+}
+
+rotate_alone_apart : (seat : ℕ) (m : Machine) → Apart seat 0 m (rotate_alone m)
+rotate_alone_apart seat m = record {
+  fixed = (refl, refl, refl);
+  peak = omega arith;
+  stopped = λ why is. is;
+  closed = λ is. is;
+  kept = omega arith;
+  quanta = omega arith;
+  held = λ other apart. refl;
+  work = λ other apart. refl;
+  turns = λ other worker apart. refl;
+  left = λ other apart. refl;
+  entries_room = λ other apart. refl;
+  rows_room = λ other apart. refl;
+  first = λ other apart. omega arith;
+  second = λ other apart. omega (arith, none_owed other);
+}
+
+swap_deep_apart : (seat : ℕ) (m : Machine) → Apart seat 0 m (swap_deep m)
+swap_deep_apart seat m = record {
+  fixed = (refl, refl, refl);
+  peak = omega arith;
+  stopped = λ why is. is;
+  closed = λ is. is;
+  kept = omega arith;
+  quanta = omega arith;
+  held = λ other apart. refl;
+  work = λ other apart. refl;
+  turns = λ other worker apart. refl;
+  left = λ other apart. refl;
+  entries_room = λ other apart. refl;
+  rows_room = λ other apart. refl;
+  first = λ other apart. omega arith;
+  second = λ other apart. omega (arith, none_owed other);
+}
+
+end_pass_apart : (seat : ℕ) (m : Machine) → Apart seat 0 m (end_pass m)
+end_pass_apart seat m = record {
+  fixed = (refl, refl, refl);
+  peak = omega arith;
+  stopped = λ why is. is;
+  closed = λ is. is;
+  kept = omega arith;
+  quanta = omega arith;
+  held = λ other apart. refl;
+  work = λ other apart. refl;
+  turns = λ other worker apart. refl;
+  left = λ other apart. refl;
+  entries_room = λ other apart. refl;
+  rows_room = λ other apart. refl;
+  first = λ other apart. omega (arith, none_owed other);
+  second = λ other apart. omega arith;
+}
+
+swap_pass_apart : (seat : ℕ) (m : Machine) → Apart seat 0 m (swap_pass m)
+swap_pass_apart seat m = by (nat_le (c1_mark m.gears.sizes) (entries_weight (output_of m.merges.pass)))
+  where
+    by : (b : Bool) → Apart seat 0 m (cond b (rotate (end_pass m)) (end_pass m))
+    by true = apart_on seat 0 0 (end_pass_apart seat m) (rotate_apart seat (end_pass m))
+    by false = end_pass_apart seat m
+
+pub pass_quantum_apart : (seat : ℕ) (m : Machine) → Apart seat 1 m (pass_quantum seat m)
+pass_quantum_apart seat m = by m.merges.pass
+  where
+    by : (p : Option Merge) → Apart seat 1 m (pass_quantum_of p seat m)
+    by None = apart_more seat 0 1 (omega arith) (apart_itself seat m)
+    by (Some pass) = record {
+      fixed = (refl, refl, refl);
+      peak = omega arith;
+      stopped = λ why is. is;
+      closed = λ is. is;
+      kept = (raised m.seats.quanta seat).0;
+      quanta = (raised m.seats.quanta seat).1;
+      held = λ other apart. refl;
+      work = λ other apart. refl;
+      turns = λ other worker apart. refl;
+      left = λ other apart. refl;
+      entries_room = λ other apart. refl;
+      rows_room = λ other apart. refl;
+      first = λ other apart. omega (arith, get_or-set_other m.gears.first_debts seat other (slice_index m.gears.first_debts seat - (quantum_of m.gears.sizes.quantum pass m.lists.a m.lists.c1).weight) 0 apart);
+      second = λ other apart. omega arith;
+    }
+
+pub deep_quantum_apart : (seat : ℕ) (m : Machine) → Apart seat 1 m (deep_quantum seat m)
+deep_quantum_apart seat m = by m.merges.deep
+  where
+    by : (p : Option Merge) → Apart seat 1 m (deep_quantum_of p seat m)
+    by None = apart_more seat 0 1 (omega arith) (apart_itself seat m)
+    by (Some deep) = record {
+      fixed = (refl, refl, refl);
+      peak = omega arith;
+      stopped = λ why is. is;
+      closed = λ is. is;
+      kept = (raised m.seats.quanta seat).0;
+      quanta = (raised m.seats.quanta seat).1;
+      held = λ other apart. refl;
+      work = λ other apart. refl;
+      turns = λ other worker apart. refl;
+      left = λ other apart. refl;
+      entries_room = λ other apart. refl;
+      rows_room = λ other apart. refl;
+      first = λ other apart. omega arith;
+      second = λ other apart. omega (arith, get_or-set_other m.gears.second_debts seat other (slice_index m.gears.second_debts seat - (quantum_of m.gears.sizes.quantum deep m.lists.c1x m.lists.c2).weight) 0 apart);
+    }
+
+pub chosen_apart : (c : Choice) (seat : ℕ) (m : Machine) → Apart seat 1 m (chosen c seat m)
+chosen_apart SwapDeep seat m = apart_more seat 0 1 (omega arith) (swap_deep_apart seat m)
+chosen_apart SwapPass seat m = apart_more seat 0 1 (omega arith) (swap_pass_apart seat m)
+chosen_apart DeepQuantum seat m = deep_quantum_apart seat m
+chosen_apart PassQuantum seat m = pass_quantum_apart seat m
+chosen_apart Begin seat m = apart_more seat 0 1 (omega arith) (begin_apart seat m)
+chosen_apart Rotate seat m = apart_more seat 0 1 (omega arith) (rotate_alone_apart seat m)
+chosen_apart Rest seat m = apart_more seat 0 1 (omega arith) (apart_itself seat m)
+
+pub deep_swapped_apart : (seat : ℕ) (m : Machine) → Apart seat 0 m (deep_swapped m)
+deep_swapped_apart seat m = by (deep_done m)
+  where
+    by : (b : Bool) → Apart seat 0 m (cond b (swap_deep m) m)
+    by true = swap_deep_apart seat m
+    by false = apart_itself seat m
+
+pass_swapped_apart : (seat : ℕ) (m : Machine) → Apart seat 0 m (pass_swapped m)
+pass_swapped_apart seat m = by (pass_done m)
+  where
+    by : (b : Bool) → Apart seat 0 m (cond b (swap_pass m) m)
+    by true = swap_pass_apart seat m
+    by false = apart_itself seat m
+
+begun_apart : (seat weight : ℕ) (m : Machine) → Apart seat 0 m (pass_begun_for weight m)
+begun_apart seat weight m = by (not (in_pass m) && nat_lt m.gears.sizes.low (m.spring + weight))
+  where
+    by : (b : Bool) → Apart seat 0 m (cond b (begin_pass m) m)
+    by true = begin_apart seat m
+    by false = apart_itself seat m
+
+pub ready_apart : (seat weight : ℕ) (m : Machine) → Apart seat 0 m (ready_for weight m)
+ready_apart seat weight m =
+    apart_on seat 0 0 (deep_swapped_apart seat m) (apart_on seat 0 0 (pass_swapped_apart seat (deep_swapped m)) (begun_apart seat weight (swapped m)))
+
+-- ---- the rest of a step
+
+pub note_apart : (seat : ℕ) (op : Op) (reply : Reply) (m : Machine) → Apart seat 0 m (note seat op reply m)
+note_apart seat op reply m = record {
+  fixed = (refl, refl, refl);
+  peak = omega arith;
+  stopped = λ why is. is;
+  closed = λ is. is;
+  kept = omega arith;
+  quanta = omega arith;
+  held = λ other apart. refl;
+  work = λ other apart. refl;
+  turns = λ other worker apart. refl;
+  left = λ other apart. refl;
+  entries_room = λ other apart. get_or-set_other m.book.room.entries seat other _ 0 apart;
+  rows_room = λ other apart. get_or-set_other m.book.room.rows seat other _ 0 apart;
+  first = λ other apart. omega arith;
+  second = λ other apart. omega arith;
+}
+
+pub stop_apart : (seat : ℕ) (cause : Why) (m : Machine) → m.stopped ≡ None → Apart seat 0 m (stop cause m)
+stop_apart seat cause m none = record {
+  fixed = (refl, refl, refl);
+  peak = omega arith;
+  stopped = λ why is. absurd (false≢true (sym (ap is_some none) ∙ ap is_some is));
+  closed = λ is. is;
+  kept = omega arith;
+  quanta = omega arith;
+  held = λ other apart. refl;
+  work = λ other apart. refl;
+  turns = λ other worker apart. refl;
+  left = λ other apart. refl;
+  entries_room = λ other apart. refl;
+  rows_room = λ other apart. refl;
+  first = λ other apart. omega arith;
+  second = λ other apart. omega arith;
+}
+
+either : (b : Bool) (x y z : ℕ) → x ≤ z → y ≤ z → cond b x y ≤ z
+either true x y z p q = p
+either false x y z p q = q
+
+same_or_set : (b : Bool) (xs : List ℕ) (seat other n : ℕ) → other ≢ seat → slice_index (cond b (slice_set xs seat n) xs) other ≤ slice_index xs other
+same_or_set true xs seat other n apart = omega (arith, get_or-set_other xs seat other n 0 apart)
+same_or_set false xs seat other n apart = omega arith
+
+pub take_apart : (seat : ℕ) (w : Write) (m : Machine) → Apart seat 0 m (with_peak (take_write seat w m))
+take_apart seat w m = record {
+  fixed = (refl, refl, refl);
+  peak = omega arith;
+  stopped = λ why is. is;
+  closed = λ is. is;
+  kept = omega arith;
+  quanta = omega arith;
+  held = λ other apart. refl;
+  work = λ other apart. refl;
+  turns = λ other worker apart. refl;
+  left = λ other apart. refl;
+  entries_room = λ other apart. refl;
+  rows_room = λ other apart. refl;
+  first = λ other apart. same_or_set (in_pass m) m.gears.first_debts seat other (slice_index m.gears.first_debts seat + first_gear m.gears.sizes * weight_of w) apart;
+  second = λ other apart. same_or_set (in_deep m) m.gears.second_debts seat other (slice_index m.gears.second_debts seat + second_gear m.gears.sizes * weight_of w) apart;
+}
+
+pub forgive_apart : (seat : ℕ) (m : Machine) → Apart seat 0 m (forgive seat m)
+forgive_apart seat m = record {
+  fixed = (refl, refl, refl);
+  peak = omega arith;
+  stopped = λ why is. is;
+  closed = λ is. is;
+  kept = omega arith;
+  quanta = omega arith;
+  held = λ other apart. refl;
+  work = λ other apart. refl;
+  turns = λ other worker apart. refl;
+  left = λ other apart. refl;
+  entries_room = λ other apart. refl;
+  rows_room = λ other apart. refl;
+  first = λ other apart. of_equal (get_or-set_other m.gears.first_debts seat other _ 0 apart);
+  second = λ other apart. of_equal (get_or-set_other m.gears.second_debts seat other _ 0 apart);
+}
+  where
+    of_equal : {x y : ℕ} → x ≡ y → x ≤ y
+    of_equal e = omega (arith, e)
+
+pub count_apart : (seat : ℕ) (m : Machine) → Apart seat 0 m (count_for_write seat m)
+count_apart seat m = record {
+  fixed = (refl, refl, refl);
+  peak = omega arith;
+  stopped = λ why is. is;
+  closed = λ is. is;
+  kept = omega arith;
+  quanta = omega arith;
+  held = λ other apart. refl;
+  work = λ other apart. refl;
+  turns = λ other worker apart. refl;
+  left = λ other apart. refl;
+  entries_room = λ other apart. refl;
+  rows_room = λ other apart. refl;
+  first = λ other apart. omega arith;
+  second = λ other apart. omega arith;
+}
+
+pub holding_apart : (seat : ℕ) (rows : Option (List Row)) (m : Machine) → Apart seat 0 m (holding seat rows m)
+holding_apart seat rows m = record {
+  fixed = (refl, refl, refl);
+  peak = omega arith;
+  stopped = λ why is. is;
+  closed = λ is. is;
+  kept = omega arith;
+  quanta = omega arith;
+  held = λ other apart. get_or-set_other m.holds seat other _ None apart;
+  work = λ other apart. refl;
+  turns = λ other worker apart. refl;
+  left = λ other apart. refl;
+  entries_room = λ other apart. refl;
+  rows_room = λ other apart. refl;
+  first = λ other apart. omega arith;
+  second = λ other apart. omega arith;
+}
+
+pub work_apart : (seat : ℕ) (work : WorkSoFar) (m : Machine) → Apart seat 0 m (work_noted seat work m)
+work_apart seat work m = record {
+  fixed = (refl, refl, refl);
+  peak = omega arith;
+  stopped = λ why is. is;
+  closed = λ is. is;
+  kept = omega arith;
+  quanta = omega arith;
+  held = λ other apart. refl;
+  work = λ other apart. get_or-set_other m.seats.work seat other _ no_work apart;
+  turns = λ other worker apart. refl;
+  left = λ other apart. refl;
+  entries_room = λ other apart. refl;
+  rows_room = λ other apart. refl;
+  first = λ other apart. omega arith;
+  second = λ other apart. omega arith;
+}
+
+-- a record whose other parts only are changed
+recounted_apart : (seat place quanta : ℕ) (m : Machine) → Apart seat 0 m (record m { book = counted_up m.book place quanta })
+recounted_apart seat place quanta m = record {
+  fixed = (refl, refl, refl);
+  peak = omega arith;
+  stopped = λ why is. is;
+  closed = λ is. is;
+  kept = omega arith;
+  quanta = omega arith;
+  held = λ other apart. refl;
+  work = λ other apart. refl;
+  turns = λ other worker apart. refl;
+  left = λ other apart. refl;
+  entries_room = λ other apart. refl;
+  rows_room = λ other apart. refl;
+  first = λ other apart. omega arith;
+  second = λ other apart. omega arith;
+}
+
+-- the swaps and the begin stop nothing
+deep_swapped_runs : (m : Machine) → m.stopped ≡ None → (deep_swapped m).stopped ≡ None
+deep_swapped_runs m none = by (deep_done m)
+  where
+    by : (b : Bool) → (cond b (swap_deep m) m).stopped ≡ None
+    by true = none
+    by false = none
+
+ready_runs : (weight : ℕ) (m : Machine) → m.stopped ≡ None → (ready_for weight m).stopped ≡ None
+ready_runs weight m none = begun (swapped m) (swaps (deep_swapped m) (deep_swapped_runs m none))
+  where
+    rotated : (n : Machine) (b : Bool) → n.stopped ≡ None → (cond b (rotate (end_pass n)) (end_pass n)).stopped ≡ None
+    rotated n true is = is
+    rotated n false is = is
+
+    swap : (n : Machine) (b : Bool) → n.stopped ≡ None → (cond b (swap_pass n) n).stopped ≡ None
+    swap n true is = rotated n (nat_le (c1_mark n.gears.sizes) (entries_weight (output_of n.merges.pass))) is
+    swap n false is = is
+
+    swaps : (n : Machine) → n.stopped ≡ None → (pass_swapped n).stopped ≡ None
+    swaps n is = swap n (pass_done n) is
+
+    begin : (n : Machine) (b : Bool) → n.stopped ≡ None → (cond b (begin_pass n) n).stopped ≡ None
+    begin n true is = is
+    begin n false is = is
+
+    begun : (n : Machine) → n.stopped ≡ None → (pass_begun_for weight n).stopped ≡ None
+    begun n is = begin n (not (in_pass n) && nat_lt n.gears.sizes.low (n.spring + weight)) is
+
+-- ---- each step
+
+noted_apart : (seat : ℕ) (op : Op) (reply : Reply) (m n : Machine) → Apart seat 0 m n → Apart seat 0 m (note seat op reply n)
+noted_apart seat op reply m n p = apart_on seat 0 0 p (note_apart seat op reply n)
+
+-- a step of a stopped tree, and else another
+unless_apart : (seat : ℕ) (op : Op) (m : Machine) (otherwise : Stepped) → (m.stopped ≡ None → Apart seat 0 m otherwise.state) → Apart seat 0 m (unless_stopped m.stopped seat op m otherwise).state
+unless_apart seat op m otherwise runs = by m.stopped refl
+  where
+    by : (o : Option Why) → m.stopped ≡ o → Apart seat 0 m (unless_stopped o seat op m otherwise).state
+    by (Some why) is = note_apart seat op (Stopped why) m
+    by None is = runs is
+
+taken_apart : (seat : ℕ) (op : Op) (m : Machine) → Apart seat 0 m (with_peak (taken_once seat (writes_of op) m))
+taken_apart seat (Put key value) m = take_apart seat (write.Put key value) m
+taken_apart seat (Add key count) m = take_apart seat (write.Add key count) m
+taken_apart seat (Del key) m = take_apart seat (write.Del key) m
+taken_apart seat _ m = peak_apart seat m
+  where
+    peak_apart : (seat : ℕ) (m : Machine) → Apart seat 0 m (with_peak m)
+    peak_apart seat m = record {
+      fixed = (refl, refl, refl);
+      peak = omega arith;
+      stopped = λ why is. is;
+      closed = λ is. is;
+      kept = omega arith;
+      quanta = omega arith;
+      held = λ other apart. refl;
+      work = λ other apart. refl;
+      turns = λ other worker apart. refl;
+      left = λ other apart. refl;
+      entries_room = λ other apart. refl;
+      rows_room = λ other apart. refl;
+      first = λ other apart. omega arith;
+      second = λ other apart. omega arith;
+    }
+
+admit_apart : (m : Machine) (seat : ℕ) (op : Op) (outcome : Outcome) → Apart seat 0 m (admit m seat op outcome).state
+admit_apart m seat op outcome =
+    unless_apart seat op m
+    (cond (nat_lt (charge_limit m.gears.sizes (is_del op)) (charge m + total_weight (writes_of op))) (replied seat op (Full (charge m)) m) (admit_fitting m seat op (total_weight (writes_of op)) outcome))
+    (λ none. by none (nat_lt (charge_limit m.gears.sizes (is_del op)) (charge m + total_weight (writes_of op))))
+  where
+    lost : m.stopped ≡ None → (faults : ℕ) (b : Bool) → Apart seat 0 m (stop (Faulted faults) (cond b m (deep_swapped m)))
+    lost none faults true = stop_apart seat (Faulted faults) m none
+    lost none faults false = apart_on seat 0 0 (deep_swapped_apart seat m) (stop_apart seat (Faulted faults) (deep_swapped m) (deep_swapped_runs m none))
+
+    failed : m.stopped ≡ None → (commits faults : ℕ) (b : Bool)
+        → Apart seat 0 m (cond b (replied seat op FaultLost (stop (Faulted faults) (cond (commits == 0) m (deep_swapped m)))) (replied seat op FaultUnsure (stop (Faulted faults) (ready_for (total_weight (writes_of op)) m)))).state
+    failed none commits faults true = noted_apart seat op FaultLost m (stop (Faulted faults) (cond (commits == 0) m (deep_swapped m))) (lost none faults (commits == 0))
+    failed none commits faults false = noted_apart seat op FaultUnsure m (stop (Faulted faults) (ready_for (total_weight (writes_of op)) m))
+        (apart_on seat 0 0 (ready_apart seat (total_weight (writes_of op)) m) (stop_apart seat (Faulted faults) (ready_for (total_weight (writes_of op)) m) (ready_runs (total_weight (writes_of op)) m none)))
+
+    done : Apart seat 0 m (note seat op Done (with_peak (taken_once seat (writes_of op) (ready_for (total_weight (writes_of op)) m))))
+    done = noted_apart seat op Done m (with_peak (taken_once seat (writes_of op) (ready_for (total_weight (writes_of op)) m)))
+        (apart_on seat 0 0 (ready_apart seat (total_weight (writes_of op)) m) (taken_apart seat op (ready_for (total_weight (writes_of op)) m)))
+
+    fitting : m.stopped ≡ None → (o : Outcome) → Apart seat 0 m (admit_fitting m seat op (total_weight (writes_of op)) o).state
+    fitting none (FailedAfter commits faults) = failed none commits faults (nat_lt commits (swaps_due m))
+    fitting none Well = done
+    fitting none (Broken page) = done
+    fitting none NoRoom = done
+
+    by : m.stopped ≡ None → (b : Bool) → Apart seat 0 m (cond b (replied seat op (Full (charge m)) m) (admit_fitting m seat op (total_weight (writes_of op)) outcome)).state
+    by none true = note_apart seat op (Full (charge m)) m
+    by none false = fitting none outcome
+
+pay_apart : (m : Machine) (seat : ℕ) (outcome : Outcome) → Apart seat 1 m (pay m seat outcome).state
+pay_apart m seat outcome = by m.stopped refl
+  where
+    owing : (quantum : Machine → Machine) → Apart seat 1 (forgive seat m) (quantum (forgive seat m)) → m.stopped ≡ None → (o : Outcome) → Apart seat 1 m (do_pay (forgive seat m) quantum seat o).state
+    owing quantum p none (FailedAfter commits faults) = apart_more seat 0 1 (omega arith) (apart_on seat 0 0 (forgive_apart seat m) (stop_apart seat (Faulted faults) (forgive seat m) none))
+    owing quantum p none (Broken page) = apart_more seat 0 1 (omega arith) (apart_on seat 0 0 (forgive_apart seat m) (stop_apart seat (why.BadPage page) (forgive seat m) none))
+    owing quantum p none Well = apart_on seat 0 1 (forgive_apart seat m) (apart_on seat 1 0 p (count_apart seat (quantum (forgive seat m))))
+    owing quantum p none NoRoom = apart_on seat 0 1 (forgive_apart seat m) (apart_on seat 1 0 p (count_apart seat (quantum (forgive seat m))))
+
+    planned : m.stopped ≡ None → (plan : Plan) → Apart seat 1 m (pay_planned plan (forgive seat m) seat outcome).state
+    planned none Snow = owing (pass_quantum seat) (pass_quantum_apart seat (forgive seat m)) none outcome
+    planned none Deep = owing (deep_quantum seat) (deep_quantum_apart seat (forgive seat m)) none outcome
+    planned none Nothing = apart_more seat 0 1 (omega arith) (forgive_apart seat m)
+
+    by : (o : Option Why) → m.stopped ≡ o → Apart seat 1 m (pay_running o m seat outcome).state
+    by (Some cause) is = apart_more seat 0 1 (omega arith) (apart_itself seat m)
+    by None is = planned is (plan_for (first_debt (forgive seat m).gears seat) (second_debt (forgive seat m).gears seat))
+
+hold_apart : (m : Machine) (seat : ℕ) (low high : Key) (outcome : Outcome) → Apart seat 0 m (hold m seat low high outcome).state
+hold_apart m seat low high outcome = unless_apart seat (Hold low high) m (do_hold m seat low high outcome) (λ none. by outcome)
+  where
+    held : Apart seat 0 m (note seat (Hold low high) Held (holding seat (Some (rows_in m.lists low high)) m))
+    held = noted_apart seat (Hold low high) Held m (holding seat (Some (rows_in m.lists low high)) m) (holding_apart seat (Some (rows_in m.lists low high)) m)
+
+    by : (o : Outcome) → Apart seat 0 m (do_hold m seat low high o).state
+    by NoRoom = note_apart seat (Hold low high) NoMemory m
+    by Well = held
+    by (FailedAfter commits faults) = held
+    by (Broken page) = held
+
+next_apart : (m : Machine) (seat n : ℕ) (outcome : Outcome) → Apart seat 0 m (next_rows m seat n outcome).state
+next_apart m seat n outcome = unless_apart seat (Next n) m (do_next m seat n outcome (held_by seat m)) (λ none. by outcome (held_by seat m))
+  where
+    given : (rows : List Row) → Apart seat 0 m (note seat (Next n) (Rows (take n rows)) (holding seat (Some (drop n rows)) m))
+    given rows = noted_apart seat (Next n) (Rows (take n rows)) m (holding seat (Some (drop n rows)) m) (holding_apart seat (Some (drop n rows)) m)
+
+    by : (o : Outcome) (held : Option (List Row)) → Apart seat 0 m (do_next m seat n o held).state
+    by o None = note_apart seat (Next n) NoHold m
+    by (FailedAfter commits faults) (Some rows) = note_apart seat (Next n) Fault m
+    by (Broken page) (Some rows) = note_apart seat (Next n) (Damaged page) m
+    by Well (Some rows) = given rows
+    by NoRoom (Some rows) = given rows
+
+turn_apart : (c : Choice) (outcome : Outcome) (seat : ℕ) (m : Machine) → m.stopped ≡ None → Apart seat 1 m (do_turn c outcome seat m).state
+turn_apart c (FailedAfter commits faults) seat m none = apart_more seat 0 1 (omega arith) (stop_apart seat (Faulted faults) m none)
+turn_apart c (Broken page) seat m none = apart_more seat 0 1 (omega arith) (stop_apart seat (why.BadPage page) m none)
+turn_apart c Well seat m none = chosen_apart c seat m
+turn_apart c NoRoom seat m none = chosen_apart c seat m
+
+work_turn_apart : (m : Machine) (seat : ℕ) (outcome : Outcome) → Apart seat 1 m (work_turn m seat outcome).state
+work_turn_apart m seat outcome =
+    let turning = work_turning m.stopped m seat outcome in
+    apart_on seat 1 0 (by m.stopped refl) (work_apart seat (with_turn (work_of seat m) turning) turning.state)
+  where
+    by : (o : Option Why) → m.stopped ≡ o → Apart seat 1 m (work_turning o m seat outcome).state
+    by (Some cause) is = apart_more seat 0 1 (omega arith) (apart_itself seat m)
+    by None is = turn_apart (choice (not (memory_weight m.lists == 0)) (not (entries_weight m.lists.c1 == 0)) m) outcome seat m is
+
+worker_turn_apart : (m : Machine) (seat : ℕ) (outcome : Outcome) → callers ≤ seat → Apart seat 1 m (worker_turn m seat outcome).state
+worker_turn_apart m seat outcome worker = counted (worker_turning m.stopped (is_closed m) m seat outcome).state (by m.stopped refl (is_closed m))
+  where
+    counted : (n : Machine) → Apart seat 1 m n → Apart seat 1 m (record n { seats = record n.seats { turns = slice_set n.seats.turns (seat - callers) ((slice_index n.seats.turns (seat - callers) + 1) % 2 ^ 64) } })
+    counted n p = record {
+      fixed = p.fixed;
+      peak = p.peak;
+      stopped = p.stopped;
+      closed = p.closed;
+      kept = p.kept;
+      quanta = p.quanta;
+      held = p.held;
+      work = p.work;
+      turns = λ other here apart. get_or-set_other n.seats.turns (seat - callers) (other - callers) ((slice_index n.seats.turns (seat - callers) + 1) % 2 ^ 64) 0 (λ same. apart (omega (arith, worker, here, same))) ∙ p.turns other here apart;
+      left = p.left;
+      entries_room = p.entries_room;
+      rows_room = p.rows_room;
+      first = p.first;
+      second = p.second;
+    }
+
+    by : (o : Option Why) → m.stopped ≡ o → (b : Bool) → Apart seat 1 m (worker_turning o b m seat outcome).state
+    by (Some cause) is b = apart_more seat 0 1 (omega arith) (apart_itself seat m)
+    by None is true = apart_more seat 0 1 (omega arith) (apart_itself seat m)
+    by None is false = turn_apart (choice (nat_lt m.gears.sizes.low m.spring) false m) outcome seat m is
+
+work_end_apart : (m : Machine) (seat n : ℕ) → Apart seat 0 m (work_end m seat n).state
+work_end_apart m seat n =
+    let reply = work_reply (work_of seat m) m.stopped in
+    apart_on seat 0 0 (note_apart seat (Work n) reply m)
+    (apart_on seat 0 0 (recounted_apart seat (length m.book.entries) (work_of seat m).quanta (note seat (Work n) reply m))
+    (work_apart seat no_work (record (note seat (Work n) reply m) { book = counted_up (note seat (Work n) reply m).book (length m.book.entries) (work_of seat m).quanta })))
+
+still_all : (bs : List Bool) (seat : ℕ) → all_true bs ≡ true → all_true (slice_set bs seat true) ≡ true
+still_all [] seat all = all
+still_all (b ∷ bs) zero all = (both_hold b (all_true bs) all).1
+still_all (b ∷ bs) (suc seat) all =
+    let parts = both_hold b (all_true bs) all in both b (all_true (slice_set bs seat true)) parts.0 (still_all bs seat parts.1)
+
+leave_apart : (m : Machine) (seat : ℕ) → Apart seat 0 m (leave m seat).state
+leave_apart m seat = record {
+  fixed = (refl, refl, refl);
+  peak = omega arith;
+  stopped = λ why is. is;
+  closed = λ is. still_all m.seats.left seat is;
+  kept = omega arith;
+  quanta = omega arith;
+  held = λ other apart. refl;
+  work = λ other apart. refl;
+  turns = λ other worker apart. refl;
+  left = λ other apart. get_or-set_other m.seats.left seat other true false apart;
+  entries_room = λ other apart. refl;
+  rows_room = λ other apart. refl;
+  first = λ other apart. omega arith;
+  second = λ other apart. omega arith;
+}
+
+abbrev is_worker_turn : Kind → Bool
+is_worker_turn kind.WorkerTurn = true
+is_worker_turn _ = false
+
+-- whatever the step and its outcome, where a worker's turn is a worker's
+pub step_apart : (m : Machine) (seat : ℕ) (k : Kind) (outcome : Outcome) → (is_worker_turn k ≡ true → callers ≤ seat) → Apart seat 1 m (stepped_as m seat k outcome).state
+step_apart m seat (kind.Admit op) outcome worker = apart_more seat 0 1 (omega arith) (admit_apart m seat op outcome)
+step_apart m seat kind.Pay outcome worker = pay_apart m seat outcome
+step_apart m seat (kind.Get key) outcome worker = apart_more seat 0 1 (omega arith)
+    (unless_apart seat (Get key) m (replied seat (Get key) (reply_unless outcome (answer_to_get (value_in m.lists key))) m) (λ none. note_apart seat (Get key) (reply_unless outcome (answer_to_get (value_in m.lists key))) m))
+step_apart m seat (kind.Hold low high) outcome worker = apart_more seat 0 1 (omega arith) (hold_apart m seat low high outcome)
+step_apart m seat (kind.Next n) outcome worker = apart_more seat 0 1 (omega arith) (next_apart m seat n outcome)
+step_apart m seat kind.Release outcome worker = apart_more seat 0 1 (omega arith)
+    (unless_apart seat Release m (replied seat Release (answer_to_release (held_by seat m)) (holding seat None m))
+    (λ none. noted_apart seat Release (answer_to_release (held_by seat m)) m (holding seat None m) (holding_apart seat None m)))
+step_apart m seat kind.WorkTurn outcome worker = work_turn_apart m seat outcome
+step_apart m seat (kind.WorkEnd n) outcome worker = apart_more seat 0 1 (omega arith) (work_end_apart m seat n)
+step_apart m seat kind.WorkerTurn outcome worker = worker_turn_apart m seat outcome (worker refl)
+step_apart m seat kind.Leave outcome worker = apart_more seat 0 1 (omega arith) (leave_apart m seat)
+
+-- ---- the facts of a lock's value
+
+same_or_more : (a b : ℕ) → a ≤ b → b ≤ a + 1 → (b ≡ a) ⊎ (b ≡ a + 1)
+same_or_more a b le more = grind (arith, le, more)
+
+some_stays : (o p : Option Why) → ((why : Why) → o ≡ Some why → p ≡ Some why) → is_some o ≡ true → is_some p ≡ true
+some_stays (Some why) p stays is = ap is_some (stays why refl)
+some_stays None p stays is = absurd (false≢true is)
+
+turns_stay : (seat other : ℕ) (old new : Machine) → Apart seat 1 old new → other ≢ seat → turns_of other new ≡ turns_of other old
+turns_stay seat other old new p apart = by (nat_lt other callers) refl
+  where
+    by : (b : Bool) → nat_lt other callers ≡ b → cond b (work_of other new).turns (slice_index new.seats.turns (other - callers)) ≡ cond b (work_of other old).turns (slice_index old.seats.turns (other - callers))
+    by true is = ap (λ w. w.turns) (p.work other apart)
+    by false is = p.turns other (ltb-false other callers is) apart
+
+-- a stopped tree stays stopped, for the same cause
+pub step_stays : (m : Machine) (seat : ℕ) (k : Kind) (outcome : Outcome) (why : Why) → m.stopped ≡ Some why → (stepped_as m seat k outcome).state.stopped ≡ Some why
+step_stays m seat kind.WorkerTurn outcome why is = subst (λ o. (worker_turning o (is_closed m) m seat outcome).state.stopped ≡ Some why) (sym is) is
+step_stays m seat k outcome why is = (step_apart m seat k outcome (λ w. absurd (false≢true w))).stopped why is
+
+worker_turns : (m : Machine) (seat : ℕ) (k : Kind) → may m seat k ≡ true → is_worker_turn k ≡ true → callers ≤ seat
+worker_turns m seat kind.WorkerTurn ok is = leb-true callers seat (both_hold (nat_le callers seat) (nat_lt seat seats) ok).0
+worker_turns m seat k ok is = absurd (false≢true is)
+
+pub step_follows : (m : Machine) (seat : ℕ) (k : Kind) (outcome : Outcome) → may m seat k ≡ true → Follows seat (facts_of m) (facts_of (stepped_as m seat k outcome).state)
+step_follows m seat k outcome ok =
+    let new = (stepped_as m seat k outcome).state in
+    let p = step_apart m seat k outcome (worker_turns m seat k ok) in
+    record {
+      history = notes seat m new (step_grows m seat k outcome);
+      quanta = same_or_more (sum m.seats.quanta) (sum new.seats.quanta) p.kept p.quanta;
+      peak = p.peak;
+      closed = p.closed;
+      stopped = some_stays m.stopped new.stopped p.stopped;
+      others = λ other apart. record {
+        debt1 = p.first other apart;
+        debt2 = p.second other apart;
+        held = p.held other apart;
+        turns = turns_stay seat other m new p apart;
+        worked = ap (λ w. is_worked w.last) (p.work other apart);
+        room = ap (λ n. (n, slice_index new.book.room.rows other)) (p.entries_room other apart) ∙ ap (λ n. (slice_index m.book.room.entries other, n)) (p.rows_room other apart);
+        left = p.left other apart;
+      };
+    }
+
+-- what was fixed at the opening stays
+pub step_fixed : (m : Machine) (seat : ℕ) (k : Kind) (outcome : Outcome) → may m seat k ≡ true
+    → ((stepped_as m seat k outcome).state.gears.sizes ≡ m.gears.sizes) × ((stepped_as m seat k outcome).state.counts.charge ≡ m.counts.charge) × ((stepped_as m seat k outcome).state.counts.faults ≡ m.counts.faults)
+step_fixed m seat k outcome ok = (step_apart m seat k outcome (worker_turns m seat k ok)).fixed

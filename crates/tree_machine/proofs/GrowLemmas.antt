@@ -1,0 +1,257 @@
+-- A step notes one entry of its seat, or none.
+use Rattle.std.proofs.Common.{◌≡◌, ◌<◌, ◌⊎◌, ℕ, ◌+◌, ◌-◌, length, sym, subst, arith, inl, inr, Bool, cond, true, false, not, ◌&&◌, List, [], ◌∷◌, ◌++◌, take, drop, Some, None, Option, refl, ap, ◌∙◌}
+use Rattle.std.specs.Prelude.{◌==◌, nat_lt, nat_le, sum, slice_index, slice_set}
+use Rattle.std.proofs.lemmas.Bool.{ltb-true, ltb-false}
+use Rattle.std.proofs.lemmas.List.{length-append, get_or_past}
+use Rattle.std.proofs.lemmas.List.Sums.{sum_by-set}
+use Rattle.blsm_model.specs.Format.{most_rows}
+use Rattle.blsm_model.specs.Legal.{is_write}
+use Rattle.blsm_model.specs.declared.room.Room.{Room}
+use Rattle.blsm_model.specs.declared.history.Entry.{Entry}
+use Rattle.tree_machine.specs.Plays.{has_room, is_between, may_note, is_even, is_finished, may}
+use Rattle.tree_machine.proofs.FoldLemmas.{both_hold}
+use Rattle.blsm_model.specs.declared.key.Key.{Key}
+use Rattle.blsm_model.specs.declared.row.Row.{Row}
+use Rattle.blsm_model.specs.declared.op.Op.{Op}
+use Rattle.blsm_model.specs.declared.op.Op.TheVariants.{Put, Add, Del, Get, Hold, Next, Release, Work}
+use Rattle.blsm_model.specs.declared.history.Why.{Why}
+use Rattle.blsm_model.specs.declared.history.Why.TheVariants.{Faulted}
+use Rattle.blsm_model.specs.declared.history.Reply.{Reply}
+use Rattle.blsm_model.specs.declared.history.Reply.TheVariants.{Done, Held, Rows, NoHold, Full, NoMemory, FaultLost, FaultUnsure, Fault, Damaged, Stopped}
+use Rattle.blsm_model.specs.Book.{Book, room_after}
+use Rattle.blsm_model.specs.Geometry.{c1_mark, charge_limit}
+use Rattle.blsm_model.specs.Histories.{writes_of, answer_to_get, answer_to_release}
+use Rattle.blsm_model.specs.Legal.{total_weight}
+use Rattle.tree_machine.specs.declared.step.Kind.{Kind}
+use Rattle.tree_machine.specs.declared.step.Kind.TheVariants as kind
+use Rattle.gear_sched.specs.Gears.{plan_for, first_debt, second_debt}
+use Rattle.gear_sched.specs.declared.Plan.{Plan}
+use Rattle.gear_sched.specs.declared.Plan.TheVariants.{Snow, Deep, Nothing}
+use Rattle.record_delta.specs.Entries.{entries_weight}
+use Rattle.tree_machine.specs.Lists.{memory_weight, value_in, rows_in}
+use Rattle.tree_machine.specs.Merges.{Merge}
+use Rattle.tree_machine.specs.Machine.{Machine, is_caller, in_pass, pass_done, deep_done, is_closed, charge, held_by, work_of}
+use Rattle.tree_machine.specs.Moves.{begin_pass, rotate, end_pass, swap_pass, swap_deep, output_of, pass_quantum, deep_quantum, pass_quantum_of, deep_quantum_of, with_peak, note, stop}
+use Rattle.tree_machine.specs.Steps.{Choice, SwapDeep, SwapPass, DeepQuantum, PassQuantum, Begin, Rotate, Rest, choice, chosen, deep_swapped, swapped, ready_for, taken_once, forgive, holding, Outcome, Well, FailedAfter, Broken, NoRoom, Stepped, replied, unless_stopped, is_del, swaps_due, admit, admit_fitting, do_pay, pay_planned, pay, pay_running, reply_unless, do_hold, do_next, do_turn, work_turning, worker_turning, work_reply}
+use Rattle.tree_machine.specs.Plays.{stepped_as}
+use Rattle.blsm_model.specs.Facts.{Notes}
+
+-- ---- the merges note nothing
+
+swap_pass_book : (m : Machine) → (swap_pass m).book ≡ m.book
+swap_pass_book m = by (nat_le (c1_mark m.gears.sizes) (entries_weight (output_of m.merges.pass)))
+  where
+    by : (b : Bool) → (cond b (rotate (end_pass m)) (end_pass m)).book ≡ m.book
+    by true = refl
+    by false = refl
+
+pub deep_swapped_book : (m : Machine) → (deep_swapped m).book ≡ m.book
+deep_swapped_book m = by (deep_done m)
+  where
+    by : (b : Bool) → (cond b (swap_deep m) m).book ≡ m.book
+    by true = refl
+    by false = refl
+
+pub ready_book : (weight : ℕ) (m : Machine) → (ready_for weight m).book ≡ m.book
+ready_book weight m = begun (not (in_pass (swapped m)) && nat_lt (swapped m).gears.sizes.low ((swapped m).spring + weight)) ∙ swap (pass_done (deep_swapped m)) ∙ deep_swapped_book m
+  where
+    swap : (b : Bool) → (cond b (swap_pass (deep_swapped m)) (deep_swapped m)).book ≡ (deep_swapped m).book
+    swap true = swap_pass_book (deep_swapped m)
+    swap false = refl
+
+    begun : (b : Bool) → (cond b (begin_pass (swapped m)) (swapped m)).book ≡ (swapped m).book
+    begun true = refl
+    begun false = refl
+
+pub pass_quantum_book : (seat : ℕ) (m : Machine) → (pass_quantum seat m).book ≡ m.book
+pass_quantum_book seat m = by m.merges.pass
+  where
+    by : (p : Option Merge) → (pass_quantum_of p seat m).book ≡ m.book
+    by None = refl
+    by (Some pass) = refl
+
+pub deep_quantum_book : (seat : ℕ) (m : Machine) → (deep_quantum seat m).book ≡ m.book
+deep_quantum_book seat m = by m.merges.deep
+  where
+    by : (p : Option Merge) → (deep_quantum_of p seat m).book ≡ m.book
+    by None = refl
+    by (Some deep) = refl
+
+chosen_book : (c : Choice) (seat : ℕ) (m : Machine) → (chosen c seat m).book ≡ m.book
+chosen_book SwapDeep seat m = refl
+chosen_book SwapPass seat m = swap_pass_book m
+chosen_book DeepQuantum seat m = deep_quantum_book seat m
+chosen_book PassQuantum seat m = pass_quantum_book seat m
+chosen_book Begin seat m = refl
+chosen_book Rotate seat m = refl
+chosen_book Rest seat m = refl
+
+-- ---- each step
+
+-- the history and the room stay
+abbrev pub Keeps : Machine → Machine → Type 0
+Keeps old new = (new.book.entries ≡ old.book.entries) × (new.book.room ≡ old.book.room)
+
+-- or the history gains one entry of the seat, which takes its room
+abbrev pub Grows : ℕ → Machine → Machine → Type 0
+Grows seat old new = Keeps old new ⊎ ((entry : Entry) × (entry.seat ≡ seat) × (new.book.entries ≡ old.book.entries ++ entry ∷ []) × (new.book.room ≡ room_after old.book.room entry))
+
+pub notes : (seat : ℕ) (old new : Machine) → Grows seat old new → Notes seat old.book.entries new.book.entries
+notes seat old new (inl same) = inl same.0
+notes seat old new (inr noted) = inr (noted.0, noted.1, noted.2)
+
+noted_grows : (seat : ℕ) (op : Op) (reply : Reply) (m n : Machine) → n.book ≡ m.book → Grows seat m (note seat op reply n)
+noted_grows seat op reply m n same = inr (record { seat = seat; op = op; reply = reply }, refl, ap (λ (b : Book). b.entries ++ record { seat = seat; op = op; reply = reply } ∷ []) same, ap (λ (b : Book). room_after b.room (record { seat = seat; op = op; reply = reply })) same)
+
+keeps : (m n : Machine) → n.book ≡ m.book → Keeps m n
+keeps m n same = (ap (λ (b : Book). b.entries) same, ap (λ (b : Book). b.room) same)
+
+unless_grows : (seat : ℕ) (op : Op) (m : Machine) (otherwise : Stepped) → Grows seat m otherwise.state → Grows seat m (unless_stopped m.stopped seat op m otherwise).state
+unless_grows seat op m otherwise grows = by m.stopped
+  where
+    by : (o : Option Why) → Grows seat m (unless_stopped o seat op m otherwise).state
+    by (Some why) = noted_grows seat op (Stopped why) m m refl
+    by None = grows
+
+pub taken_book : (seat : ℕ) (op : Op) (m : Machine) → (taken_once seat (writes_of op) m).book ≡ m.book
+taken_book seat (Put key value) m = refl
+taken_book seat (Add key count) m = refl
+taken_book seat (Del key) m = refl
+taken_book seat _ m = refl
+
+admit_grows : (m : Machine) (seat : ℕ) (op : Op) (outcome : Outcome) → Grows seat m (admit m seat op outcome).state
+admit_grows m seat op outcome =
+    unless_grows seat op m
+    (cond (nat_lt (charge_limit m.gears.sizes (is_del op)) (charge m + total_weight (writes_of op))) (replied seat op (Full (charge m)) m) (admit_fitting m seat op (total_weight (writes_of op)) outcome))
+    (by (nat_lt (charge_limit m.gears.sizes (is_del op)) (charge m + total_weight (writes_of op))))
+  where
+    lost : (faults : ℕ) (b : Bool) → (stop (Faulted faults) (cond b m (deep_swapped m))).book ≡ m.book
+    lost faults true = refl
+    lost faults false = deep_swapped_book m
+
+    failed : (commits faults : ℕ) (b : Bool)
+        → Grows seat m (cond b (replied seat op FaultLost (stop (Faulted faults) (cond (commits == 0) m (deep_swapped m)))) (replied seat op FaultUnsure (stop (Faulted faults) (ready_for (total_weight (writes_of op)) m)))).state
+    failed commits faults true = noted_grows seat op FaultLost m (stop (Faulted faults) (cond (commits == 0) m (deep_swapped m))) (lost faults (commits == 0))
+    failed commits faults false = noted_grows seat op FaultUnsure m (stop (Faulted faults) (ready_for (total_weight (writes_of op)) m)) (ready_book (total_weight (writes_of op)) m)
+
+    done : Grows seat m (note seat op Done (with_peak (taken_once seat (writes_of op) (ready_for (total_weight (writes_of op)) m))))
+    done = noted_grows seat op Done m (with_peak (taken_once seat (writes_of op) (ready_for (total_weight (writes_of op)) m)))
+        (taken_book seat op (ready_for (total_weight (writes_of op)) m) ∙ ready_book (total_weight (writes_of op)) m)
+
+    fitting : (o : Outcome) → Grows seat m (admit_fitting m seat op (total_weight (writes_of op)) o).state
+    fitting (FailedAfter commits faults) = failed commits faults (nat_lt commits (swaps_due m))
+    fitting Well = done
+    fitting (Broken page) = done
+    fitting NoRoom = done
+
+    by : (b : Bool) → Grows seat m (cond b (replied seat op (Full (charge m)) m) (admit_fitting m seat op (total_weight (writes_of op)) outcome)).state
+    by true = noted_grows seat op (Full (charge m)) m m refl
+    by false = fitting outcome
+
+pub pay_keeps : (m : Machine) (seat : ℕ) (outcome : Outcome) → Keeps m (pay m seat outcome).state
+pay_keeps m seat outcome = by m.stopped
+  where
+    owing : (quantum : Machine → Machine) → (quantum (forgive seat m)).book ≡ m.book → (o : Outcome) → Keeps m (do_pay (forgive seat m) quantum seat o).state
+    owing quantum same (FailedAfter commits faults) = (refl, refl)
+    owing quantum same (Broken page) = (refl, refl)
+    owing quantum same Well = (ap (λ (b : Book). b.entries) same, ap (λ (b : Book). b.room) same)
+    owing quantum same NoRoom = (ap (λ (b : Book). b.entries) same, ap (λ (b : Book). b.room) same)
+
+    planned : (plan : Plan) → Keeps m (pay_planned plan (forgive seat m) seat outcome).state
+    planned Snow = owing (pass_quantum seat) (pass_quantum_book seat (forgive seat m)) outcome
+    planned Deep = owing (deep_quantum seat) (deep_quantum_book seat (forgive seat m)) outcome
+    planned Nothing = (refl, refl)
+
+    by : (o : Option Why) → Keeps m (pay_running o m seat outcome).state
+    by (Some cause) = (refl, refl)
+    by None = planned (plan_for (first_debt (forgive seat m).gears seat) (second_debt (forgive seat m).gears seat))
+
+hold_grows : (m : Machine) (seat : ℕ) (low high : Key) (outcome : Outcome) → Grows seat m (do_hold m seat low high outcome).state
+hold_grows m seat low high NoRoom = noted_grows seat (Hold low high) NoMemory m m refl
+hold_grows m seat low high Well = noted_grows seat (Hold low high) Held m (holding seat (Some (rows_in m.lists low high)) m) refl
+hold_grows m seat low high (FailedAfter commits faults) = noted_grows seat (Hold low high) Held m (holding seat (Some (rows_in m.lists low high)) m) refl
+hold_grows m seat low high (Broken page) = noted_grows seat (Hold low high) Held m (holding seat (Some (rows_in m.lists low high)) m) refl
+
+next_grows : (m : Machine) (seat n : ℕ) (outcome : Outcome) (held : Option (List Row)) → Grows seat m (do_next m seat n outcome held).state
+next_grows m seat n outcome None = noted_grows seat (Next n) NoHold m m refl
+next_grows m seat n (FailedAfter commits faults) (Some rows) = noted_grows seat (Next n) Fault m m refl
+next_grows m seat n (Broken page) (Some rows) = noted_grows seat (Next n) (Damaged page) m m refl
+next_grows m seat n Well (Some rows) = noted_grows seat (Next n) (Rows (take n rows)) m (holding seat (Some (drop n rows)) m) refl
+next_grows m seat n NoRoom (Some rows) = noted_grows seat (Next n) (Rows (take n rows)) m (holding seat (Some (drop n rows)) m) refl
+
+pub turn_book : (c : Choice) (outcome : Outcome) (seat : ℕ) (m : Machine) → (do_turn c outcome seat m).state.book ≡ m.book
+turn_book c (FailedAfter commits faults) seat m = refl
+turn_book c (Broken page) seat m = refl
+turn_book c Well seat m = chosen_book c seat m
+turn_book c NoRoom seat m = chosen_book c seat m
+
+work_book : (m : Machine) (seat : ℕ) (outcome : Outcome) → (work_turning m.stopped m seat outcome).state.book ≡ m.book
+work_book m seat outcome = by m.stopped
+  where
+    by : (o : Option Why) → (work_turning o m seat outcome).state.book ≡ m.book
+    by (Some cause) = refl
+    by None = turn_book (choice (not (memory_weight m.lists == 0)) (not (entries_weight m.lists.c1 == 0)) m) outcome seat m
+
+worker_book : (m : Machine) (seat : ℕ) (outcome : Outcome) → (worker_turning m.stopped (is_closed m) m seat outcome).state.book ≡ m.book
+worker_book m seat outcome = by m.stopped (is_closed m)
+  where
+    by : (o : Option Why) (b : Bool) → (worker_turning o b m seat outcome).state.book ≡ m.book
+    by (Some cause) b = refl
+    by None true = refl
+    by None false = turn_book (choice (nat_lt m.gears.sizes.low m.spring) false m) outcome seat m
+
+pub step_grows : (m : Machine) (seat : ℕ) (k : Kind) (outcome : Outcome) → Grows seat m (stepped_as m seat k outcome).state
+step_grows m seat (kind.Admit op) outcome = admit_grows m seat op outcome
+step_grows m seat kind.Pay outcome = inl (pay_keeps m seat outcome)
+step_grows m seat (kind.Get key) outcome =
+    unless_grows seat (Get key) m (replied seat (Get key) (reply_unless outcome (answer_to_get (value_in m.lists key))) m)
+    (noted_grows seat (Get key) (reply_unless outcome (answer_to_get (value_in m.lists key))) m m refl)
+step_grows m seat (kind.Hold low high) outcome = unless_grows seat (Hold low high) m (do_hold m seat low high outcome) (hold_grows m seat low high outcome)
+step_grows m seat (kind.Next n) outcome = unless_grows seat (Next n) m (do_next m seat n outcome (held_by seat m)) (next_grows m seat n outcome (held_by seat m))
+step_grows m seat kind.Release outcome =
+    unless_grows seat Release m (replied seat Release (answer_to_release (held_by seat m)) (holding seat None m))
+    (noted_grows seat Release (answer_to_release (held_by seat m)) m (holding seat None m) refl)
+step_grows m seat kind.WorkTurn outcome = inl (keeps m (work_turning m.stopped m seat outcome).state (work_book m seat outcome))
+step_grows m seat (kind.WorkEnd n) outcome = inr (record { seat = seat; op = Work n; reply = work_reply (work_of seat m) m.stopped }, refl, refl, refl)
+step_grows m seat kind.WorkerTurn outcome = inl (keeps m (worker_turning m.stopped (is_closed m) m seat outcome).state (worker_book m seat outcome))
+step_grows m seat kind.Leave outcome = inl (refl, refl)
+
+-- ---- room
+
+lowered : (xs : List ℕ) (seat : ℕ) → 0 < slice_index xs seat → sum (slice_set xs seat (slice_index xs seat - 1)) + 1 ≡ sum xs
+lowered xs seat some = by (nat_lt seat (length xs)) refl
+  where
+    by : (b : Bool) → nat_lt seat (length xs) ≡ b → sum (slice_set xs seat (slice_index xs seat - 1)) + 1 ≡ sum xs
+    by true there = omega (arith, some, sum_by-set (λ n. n) xs seat (slice_index xs seat - 1) 0 (ltb-true seat (length xs) there))
+    by false past = absurd (omega (arith, some, get_or_past xs seat 0 (ltb-false seat (length xs) past)))
+
+grown : (seat : ℕ) (m n : Machine) → 0 < slice_index m.book.room.entries seat → Grows seat m n → length n.book.entries + sum n.book.room.entries ≡ length m.book.entries + sum m.book.room.entries
+grown seat m n some (inl same) = omega (arith, ap (λ (es : List Entry). length es) same.0, ap (λ (r : Room). sum r.entries) same.1)
+grown seat m n some (inr noted) =
+    let here : 0 < slice_index m.book.room.entries noted.0.seat = subst (λ s. 0 < slice_index m.book.room.entries s) (sym noted.1) some in
+    omega (arith, ap (λ (es : List Entry). length es) noted.2, length-append m.book.entries (noted.0 ∷ []), ap (λ (r : Room). sum r.entries) noted.3, lowered m.book.room.entries noted.0.seat here)
+
+kept : (m n : Machine) → Keeps m n → length n.book.entries + sum n.book.room.entries ≡ length m.book.entries + sum m.book.room.entries
+kept m n same = omega (arith, ap (λ (es : List Entry). length es) same.0, ap (λ (r : Room). sum r.entries) same.1)
+
+of_room : (room : Room) (seat rows : ℕ) → has_room room seat rows ≡ true → 0 < slice_index room.entries seat
+of_room room seat rows ok = ltb-true 0 (slice_index room.entries seat) (both_hold (nat_lt 0 (slice_index room.entries seat)) (nat_le rows (slice_index room.rows seat)) ok).0
+
+noting : (m : Machine) (seat rows : ℕ) → may_note seat rows m ≡ true → 0 < slice_index m.book.room.entries seat
+noting m seat rows ok = of_room m.book.room seat rows (both_hold (is_caller seat) (has_room m.book.room seat rows) (both_hold (is_caller seat && has_room m.book.room seat rows) (is_between seat m) ok).0).1
+
+pub step_room : (m : Machine) (seat : ℕ) (k : Kind) (outcome : Outcome) → may m seat k ≡ true
+    → length (stepped_as m seat k outcome).state.book.entries + sum (stepped_as m seat k outcome).state.book.room.entries ≡ length m.book.entries + sum m.book.room.entries
+step_room m seat (kind.Admit op) outcome ok =
+    grown seat m (stepped_as m seat (kind.Admit op) outcome).state (noting m seat 0 (both_hold (is_write op) (may_note seat 0 m) (both_hold (is_write op && may_note seat 0 m) (is_even seat m) ok).0).1) (step_grows m seat (kind.Admit op) outcome)
+step_room m seat kind.Pay outcome ok = kept m (pay m seat outcome).state (pay_keeps m seat outcome)
+step_room m seat (kind.Get key) outcome ok = grown seat m (stepped_as m seat (kind.Get key) outcome).state (noting m seat 0 ok) (step_grows m seat (kind.Get key) outcome)
+step_room m seat (kind.Hold low high) outcome ok = grown seat m (stepped_as m seat (kind.Hold low high) outcome).state (noting m seat 0 ok) (step_grows m seat (kind.Hold low high) outcome)
+step_room m seat (kind.Next n) outcome ok =
+    grown seat m (stepped_as m seat (kind.Next n) outcome).state (noting m seat n (both_hold (may_note seat n m) (nat_lt 0 n) (both_hold (may_note seat n m && nat_lt 0 n) (nat_le n most_rows) ok).0).0) (step_grows m seat (kind.Next n) outcome)
+step_room m seat kind.Release outcome ok = grown seat m (stepped_as m seat kind.Release outcome).state (noting m seat 0 ok) (step_grows m seat kind.Release outcome)
+step_room m seat kind.WorkTurn outcome ok = kept m (work_turning m.stopped m seat outcome).state (keeps m (work_turning m.stopped m seat outcome).state (work_book m seat outcome))
+step_room m seat (kind.WorkEnd n) outcome ok =
+    grown seat m (stepped_as m seat (kind.WorkEnd n) outcome).state (of_room m.book.room seat 0 (both_hold (is_caller seat) (has_room m.book.room seat 0) (both_hold (is_caller seat && has_room m.book.room seat 0) (is_finished n (work_of seat m)) ok).0).1) (step_grows m seat (kind.WorkEnd n) outcome)
+step_room m seat kind.WorkerTurn outcome ok = kept m (worker_turning m.stopped (is_closed m) m seat outcome).state (keeps m (worker_turning m.stopped (is_closed m) m seat outcome).state (worker_book m seat outcome))
+step_room m seat kind.Leave outcome ok = refl

@@ -1,0 +1,721 @@
+-- What a list of steps tells of the disk's faults and pages.
+use Rattle.std.proofs.Common.{◌≡◌, ◌⊎◌, inl, inr, refl, ap, sym, subst, ◌∙◌, ℕ, ◌+◌, ◌≤◌, Bool, cond, true, false, not, ◌&&◌, List, [], ◌∷◌, ◌++◌, take, drop, length, Option, Some, None, arith}
+use Rattle.std.specs.Prelude.{◌==◌, nat_lt, nat_le, sum_by, unwrap_or, slice_set, slice_index_or}
+use Rattle.std.specs.List.{AllByRecursion}
+use Rattle.std.proofs.lemmas.Bool.{false≢true, eqb-true, eq-eqb, ltb-true, ltb-false}
+use Rattle.std.proofs.lemmas.List.{get_or-set_other, get_or-set_same, get_or_past, length-set}
+use Rattle.std.proofs.lemmas.List.Sums.{sum_by-append}
+use Rattle.blsm_model.specs.declared.key.Key.{Key}
+use Rattle.blsm_model.specs.declared.row.Row.{Row}
+use Rattle.blsm_model.specs.declared.op.Op.{Op}
+use Rattle.blsm_model.specs.declared.op.Op.TheVariants.{Get, Hold, Next, Release, Work}
+use Rattle.blsm_model.specs.declared.history.Why.{Why}
+use Rattle.blsm_model.specs.declared.history.Why.TheVariants as why
+use Rattle.blsm_model.specs.declared.history.Reply.{Reply}
+use Rattle.blsm_model.specs.declared.history.Reply.TheVariants.{Done, Held, Rows, NoHold, Full, NoMemory, FaultLost, FaultUnsure, Fault, Damaged, Stopped}
+use Rattle.blsm_model.specs.declared.history.Entry.{Entry}
+use Rattle.blsm_model.specs.Book.{Book}
+use Rattle.blsm_model.specs.declared.op.Write.{Write}
+use Rattle.blsm_model.specs.Geometry.{c1_mark, charge_limit}
+use Rattle.blsm_model.specs.Histories.{writes_of, answer_to_get, answer_to_release}
+use Rattle.blsm_model.specs.Legal.{total_weight}
+use Rattle.blsm_model.specs.declared.row.Value.{Value}
+use Rattle.record_delta.specs.Entries.{entries_weight}
+use Rattle.gear_sched.specs.Gears.{plan_for, first_debt, second_debt}
+use Rattle.gear_sched.specs.declared.Plan.{Plan}
+use Rattle.gear_sched.specs.declared.Plan.TheVariants.{Snow, Deep, Nothing}
+use Rattle.tree_machine.specs.declared.step.Kind.{Kind}
+use Rattle.tree_machine.specs.declared.step.Kind.TheVariants as kind
+use Rattle.tree_machine.specs.declared.step.Step.{Step}
+use Rattle.tree_machine.specs.Lists.{memory_weight, value_in, rows_in}
+use Rattle.tree_machine.specs.Merges.{Merge}
+use Rattle.tree_machine.specs.Machine.{Machine, WorkSoFar, Turned, Worked, Idle, Closed, Failed, BadPage, Halted, no_work, in_pass, pass_done, deep_done, is_closed, charge, held_by, work_of}
+use Rattle.tree_machine.specs.Moves.{begin_pass, rotate, swap_deep, end_pass, output_of, pass_quantum, deep_quantum, pass_quantum_of, deep_quantum_of, with_peak, note, stop}
+use Rattle.tree_machine.specs.Steps.{Outcome, Well, FailedAfter, Broken, NoRoom, Stepped, Choice, SwapDeep, SwapPass, DeepQuantum, PassQuantum, Begin, Rotate, Rest, choice, chosen, ended_as, replied, unless_stopped, is_del, swaps_due, one_if, admit, admit_fitting, deep_swapped, swapped, ready_for, taken_once, reply_unless, do_hold, do_next, holding, forgive, count_for_write, pay, pay_running, pay_planned, do_pay, do_turn, work_turning, worker_turning, with_turn, work_turn, worker_turn, work_reply, work_end, leave}
+use Rattle.tree_machine.specs.Plays.{may_step, stepped, stepped_as, played, played_one}
+use Rattle.tree_machine.specs.Outcomes.{Rose, last_count, IsPossible, AreTold, is_failed_lookup, is_faulted, faults_told, is_damaged, is_bad_page, is_by_page, is_broken, FindsNone, FaultsAreCounted, StopsNameMore, NoneDamaged, ReachesOnBy}
+use Rattle.tree_machine.proofs.FrameLemmas.{step_stays}
+use Rattle.tree_machine.proofs.ToldLemmas.{some_or_none}
+use Rattle.tree_machine.proofs.GrowLemmas.{taken_book, ready_book, deep_swapped_book, turn_book, pass_quantum_book, deep_quantum_book}
+
+abbrev is_failed : Outcome → Bool
+is_failed (FailedAfter commits faults) = true
+is_failed _ = false
+
+-- the cause of a stop is the outcome's
+abbrev IsCause : Outcome → Why → Type 0
+IsCause (FailedAfter commits faults) cause = cause ≡ why.Faulted faults
+IsCause (Broken page) cause = cause ≡ why.BadPage page
+IsCause _ cause = ⊥
+
+-- A step stops nothing, and the entry that it notes, if any, tells of a fault or a damaged page only where its outcome, or the work that it ends, does;
+record Quiet (m : Machine) (seat : ℕ) (outcome : Outcome) (new : Machine) : Type 0 where
+  pub stopped : new.stopped ≡ m.stopped
+  pub entries : (new.book.entries ≡ m.book.entries)
+      ⊎ ((entry : Entry) × (is_failed_lookup entry.op entry.reply ≡ true → is_failed outcome ≡ true) × (is_damaged entry.reply ≡ true → (is_broken outcome ≡ true) ⊎ (is_bad_page (work_of seat m).last ≡ true))
+      × (new.book.entries ≡ m.book.entries ++ entry ∷ []))
+
+-- or it stops for the outcome's cause, and notes no lookup and no damage.
+record Stops (m : Machine) (outcome : Outcome) (new : Machine) : Type 0 where
+  pub cause : Why
+  pub is_cause : IsCause outcome cause
+  pub was : m.stopped ≡ None
+  pub stopped : new.stopped ≡ Some cause
+  pub entries : (new.book.entries ≡ m.book.entries) ⊎ ((entry : Entry) × (is_failed_lookup entry.op entry.reply ≡ false) × (is_damaged entry.reply ≡ false) × (new.book.entries ≡ m.book.entries ++ entry ∷ []))
+
+abbrev Tells : Machine → ℕ → Outcome → Machine → Type 0
+Tells m seat outcome new = Quiet m seat outcome new ⊎ Stops m outcome new
+
+-- ---- what the merges' moves leave
+
+deep_swapped_stop : (m : Machine) → (deep_swapped m).stopped ≡ m.stopped
+deep_swapped_stop m = by (deep_done m)
+  where
+    by : (b : Bool) → (cond b (swap_deep m) m).stopped ≡ m.stopped
+    by true = refl
+    by false = refl
+
+ready_stop : (weight : ℕ) (m : Machine) → (ready_for weight m).stopped ≡ m.stopped
+ready_stop weight m =
+    begins (swapped m) (not (in_pass (swapped m)) && nat_lt (swapped m).gears.sizes.low ((swapped m).spring + weight))
+    ∙ swap (deep_swapped m) (pass_done (deep_swapped m)) (nat_le (c1_mark (deep_swapped m).gears.sizes) (entries_weight (output_of (deep_swapped m).merges.pass))) ∙ deep_swapped_stop m
+  where
+    begins : (n : Machine) (b : Bool) → (cond b (begin_pass n) n).stopped ≡ n.stopped
+    begins n true = refl
+    begins n false = refl
+
+    swap : (n : Machine) (b c : Bool) → (cond b (cond c (rotate (end_pass n)) (end_pass n)) n).stopped ≡ n.stopped
+    swap n true true = refl
+    swap n true false = refl
+    swap n false c = refl
+
+chosen_stop : (c : Choice) (seat : ℕ) (m : Machine) → (chosen c seat m).stopped ≡ m.stopped
+chosen_stop SwapDeep seat m = refl
+chosen_stop SwapPass seat m = by (nat_le (c1_mark m.gears.sizes) (entries_weight (output_of m.merges.pass)))
+  where
+    by : (b : Bool) → (cond b (rotate (end_pass m)) (end_pass m)).stopped ≡ m.stopped
+    by true = refl
+    by false = refl
+chosen_stop DeepQuantum seat m = by m.merges.deep
+  where
+    by : (p : Option Merge) → (deep_quantum_of p seat m).stopped ≡ m.stopped
+    by None = refl
+    by (Some deep) = refl
+chosen_stop PassQuantum seat m = by m.merges.pass
+  where
+    by : (p : Option Merge) → (pass_quantum_of p seat m).stopped ≡ m.stopped
+    by None = refl
+    by (Some pass) = refl
+chosen_stop Begin seat m = refl
+chosen_stop Rotate seat m = refl
+chosen_stop Rest seat m = refl
+
+taken_stop : (seat : ℕ) (op : Op) (m : Machine) → (taken_once seat (writes_of op) m).stopped ≡ m.stopped
+taken_stop seat op m = by (writes_of op)
+  where
+    by : (ws : List Write) → (taken_once seat ws m).stopped ≡ m.stopped
+    by [] = refl
+    by (w ∷ ws) = refl
+
+-- ---- each step
+
+-- a reply that tells of neither
+plain : (m : Machine) (seat : ℕ) (outcome : Outcome) (op : Op) (reply : Reply) (n : Machine) → is_failed_lookup op reply ≡ false → is_damaged reply ≡ false → n.stopped ≡ m.stopped → n.book.entries ≡ m.book.entries
+    → Tells m seat outcome (note seat op reply n)
+plain m seat outcome op reply n lookup damaged stopped entries = inl (record {
+  stopped = stopped;
+  entries = inr (record { seat = seat; op = op; reply = reply }, λ is. absurd (false≢true (sym lookup ∙ is)), λ is. absurd (false≢true (sym damaged ∙ is)), ap (λ es. es ++ record { seat = seat; op = op; reply = reply } ∷ []) entries);
+})
+
+still : (m : Machine) (seat : ℕ) (outcome : Outcome) (n : Machine) → n.stopped ≡ m.stopped → n.book.entries ≡ m.book.entries → Tells m seat outcome n
+still m seat outcome n stopped entries = inl (record { stopped = stopped; entries = inl entries })
+
+unless_tells : (m : Machine) (seat : ℕ) (outcome : Outcome) (op : Op) (otherwise : Stepped) → ((why : Why) → is_failed_lookup op (Stopped why) ≡ false) → (m.stopped ≡ None → Tells m seat outcome otherwise.state)
+    → Tells m seat outcome (unless_stopped m.stopped seat op m otherwise).state
+unless_tells m seat outcome op otherwise no_lookup runs = by m.stopped refl
+  where
+    by : (o : Option Why) → m.stopped ≡ o → Tells m seat outcome (unless_stopped o seat op m otherwise).state
+    by (Some cause) is = plain m seat outcome op (Stopped cause) m (no_lookup cause) refl refl refl
+    by None is = runs is
+
+admit_tells : (m : Machine) (seat : ℕ) (op : Op) (outcome : Outcome) → Tells m seat outcome (admit m seat op outcome).state
+admit_tells m seat op outcome =
+    unless_tells m seat outcome op (cond (nat_lt (charge_limit m.gears.sizes (is_del op)) (charge m + total_weight (writes_of op))) (replied seat op (Full (charge m)) m) (admit_fitting m seat op (total_weight (writes_of op)) outcome))
+    (λ cause. no_stopped op cause)
+    (λ none. by none (nat_lt (charge_limit m.gears.sizes (is_del op)) (charge m + total_weight (writes_of op))))
+  where
+    no_stopped : (op : Op) (cause : Why) → is_failed_lookup op (Stopped cause) ≡ false
+    no_stopped (Get key) cause = refl
+    no_stopped (Next n) cause = refl
+    no_stopped _ cause = refl
+
+    no_full : (op : Op) (n : ℕ) → is_failed_lookup op (Full n) ≡ false
+    no_full (Get key) n = refl
+    no_full (Next k) n = refl
+    no_full _ n = refl
+
+    no_done : (op : Op) → is_failed_lookup op Done ≡ false
+    no_done (Get key) = refl
+    no_done (Next k) = refl
+    no_done _ = refl
+
+    no_lost : (op : Op) → is_failed_lookup op FaultLost ≡ false
+    no_lost (Get key) = refl
+    no_lost (Next k) = refl
+    no_lost _ = refl
+
+    no_unsure : (op : Op) → is_failed_lookup op FaultUnsure ≡ false
+    no_unsure (Get key) = refl
+    no_unsure (Next k) = refl
+    no_unsure _ = refl
+
+    lost : (faults : ℕ) (c : Bool) → (stop (why.Faulted faults) (cond c m (deep_swapped m))).book.entries ≡ m.book.entries
+    lost faults true = refl
+    lost faults false = ap (λ (b : Book). b.entries) (deep_swapped_book m)
+
+    failed : m.stopped ≡ None → (commits faults : ℕ) (b : Bool)
+        → Stops m (FailedAfter commits faults) (cond b (replied seat op FaultLost (stop (why.Faulted faults) (cond (commits == 0) m (deep_swapped m)))) (replied seat op FaultUnsure (stop (why.Faulted faults) (ready_for (total_weight (writes_of op)) m)))).state
+    failed none commits faults true = record {
+      cause = why.Faulted faults;
+      is_cause = refl;
+      was = none;
+      stopped = refl;
+      entries = inr (record { seat = seat; op = op; reply = FaultLost }, no_lost op, refl, ap (λ es. es ++ record { seat = seat; op = op; reply = FaultLost } ∷ []) (lost faults (commits == 0)));
+    }
+    failed none commits faults false = record {
+      cause = why.Faulted faults;
+      is_cause = refl;
+      was = none;
+      stopped = refl;
+      entries = inr (record { seat = seat; op = op; reply = FaultUnsure }, no_unsure op, refl, ap (λ (b : Book). b.entries ++ record { seat = seat; op = op; reply = FaultUnsure } ∷ []) (ready_book (total_weight (writes_of op)) m));
+    }
+
+    done : (e : Outcome) → Tells m seat e (note seat op Done (with_peak (taken_once seat (writes_of op) (ready_for (total_weight (writes_of op)) m))))
+    done e = plain m seat e op Done (with_peak (taken_once seat (writes_of op) (ready_for (total_weight (writes_of op)) m))) (no_done op) refl
+        (taken_stop seat op (ready_for (total_weight (writes_of op)) m) ∙ ready_stop (total_weight (writes_of op)) m)
+        (ap (λ (b : Book). b.entries) (taken_book seat op (ready_for (total_weight (writes_of op)) m) ∙ ready_book (total_weight (writes_of op)) m))
+
+    fitting : m.stopped ≡ None → (e : Outcome) → Tells m seat e (admit_fitting m seat op (total_weight (writes_of op)) e).state
+    fitting none (FailedAfter commits faults) = inr (failed none commits faults (nat_lt commits (swaps_due m)))
+    fitting none Well = done Well
+    fitting none (Broken page) = done (Broken page)
+    fitting none NoRoom = done NoRoom
+
+    by : m.stopped ≡ None → (b : Bool) → Tells m seat outcome (cond b (replied seat op (Full (charge m)) m) (admit_fitting m seat op (total_weight (writes_of op)) outcome)).state
+    by none true = plain m seat outcome op (Full (charge m)) m (no_full op (charge m)) refl refl refl
+    by none false = fitting none outcome
+
+pay_tells : (m : Machine) (seat : ℕ) (outcome : Outcome) → Tells m seat outcome (pay m seat outcome).state
+pay_tells m seat outcome = by m.stopped refl
+  where
+    owing : (quantum : Machine → Machine) → (quantum (forgive seat m)).stopped ≡ m.stopped → (quantum (forgive seat m)).book ≡ m.book → m.stopped ≡ None → (e : Outcome) → Tells m seat e (do_pay (forgive seat m) quantum seat e).state
+    owing quantum stopped book none (FailedAfter commits faults) = inr (record { cause = why.Faulted faults; is_cause = refl; was = none; stopped = refl; entries = inl refl })
+    owing quantum stopped book none (Broken page) = inr (record { cause = why.BadPage page; is_cause = refl; was = none; stopped = refl; entries = inl refl })
+    owing quantum stopped book none Well = still m seat Well (count_for_write seat (quantum (forgive seat m))) stopped (ap (λ (b : Book). b.entries) book)
+    owing quantum stopped book none NoRoom = still m seat NoRoom (count_for_write seat (quantum (forgive seat m))) stopped (ap (λ (b : Book). b.entries) book)
+
+    planned : m.stopped ≡ None → (plan : Plan) → Tells m seat outcome (pay_planned plan (forgive seat m) seat outcome).state
+    planned none Snow = owing (pass_quantum seat) (chosen_stop PassQuantum seat (forgive seat m)) (pass_quantum_book seat (forgive seat m)) none outcome
+    planned none Deep = owing (deep_quantum seat) (chosen_stop DeepQuantum seat (forgive seat m)) (deep_quantum_book seat (forgive seat m)) none outcome
+    planned none Nothing = still m seat outcome (forgive seat m) refl refl
+
+    by : (o : Option Why) → m.stopped ≡ o → Tells m seat outcome (pay_running o m seat outcome).state
+    by (Some cause) is = still m seat outcome m refl refl
+    by None is = planned is (plan_for (first_debt (forgive seat m).gears seat) (second_debt (forgive seat m).gears seat))
+
+-- a get tells what its outcome does
+get_tells : (m : Machine) (seat : ℕ) (key : Key) (value : Option Value) (outcome : Outcome) → Tells m seat outcome (note seat (Get key) (reply_unless outcome (answer_to_get value)) m)
+get_tells m seat key value (FailedAfter commits faults) = inl (record {
+  stopped = refl;
+  entries = inr (record { seat = seat; op = Get key; reply = Fault }, λ is. refl, λ is. absurd (false≢true is), refl);
+})
+get_tells m seat key value (Broken page) = inl (record {
+  stopped = refl;
+  entries = inr (record { seat = seat; op = Get key; reply = Damaged page }, λ is. absurd (false≢true is), λ is. inl refl, refl);
+})
+get_tells m seat key None Well = plain m seat Well (Get key) (answer_to_get None) m refl refl refl refl
+get_tells m seat key (Some value) Well = plain m seat Well (Get key) (answer_to_get (Some value)) m refl refl refl refl
+get_tells m seat key None NoRoom = plain m seat NoRoom (Get key) (answer_to_get None) m refl refl refl refl
+get_tells m seat key (Some value) NoRoom = plain m seat NoRoom (Get key) (answer_to_get (Some value)) m refl refl refl refl
+
+hold_tells : (m : Machine) (seat : ℕ) (low high : Key) (outcome : Outcome) → Tells m seat outcome (do_hold m seat low high outcome).state
+hold_tells m seat low high NoRoom = plain m seat NoRoom (Hold low high) NoMemory m refl refl refl refl
+hold_tells m seat low high Well = plain m seat Well (Hold low high) Held (holding seat (Some (rows_in m.lists low high)) m) refl refl refl refl
+hold_tells m seat low high (FailedAfter commits faults) = plain m seat (FailedAfter commits faults) (Hold low high) Held (holding seat (Some (rows_in m.lists low high)) m) refl refl refl refl
+hold_tells m seat low high (Broken page) = plain m seat (Broken page) (Hold low high) Held (holding seat (Some (rows_in m.lists low high)) m) refl refl refl refl
+
+next_tells : (m : Machine) (seat n : ℕ) (outcome : Outcome) (held : Option (List Row)) → Tells m seat outcome (do_next m seat n outcome held).state
+next_tells m seat n outcome None = plain m seat outcome (Next n) NoHold m refl refl refl refl
+next_tells m seat n (FailedAfter commits faults) (Some rows) = inl (record {
+  stopped = refl;
+  entries = inr (record { seat = seat; op = Next n; reply = Fault }, λ is. refl, λ is. absurd (false≢true is), refl);
+})
+next_tells m seat n (Broken page) (Some rows) = inl (record {
+  stopped = refl;
+  entries = inr (record { seat = seat; op = Next n; reply = Damaged page }, λ is. absurd (false≢true is), λ is. inl refl, refl);
+})
+next_tells m seat n Well (Some rows) = plain m seat Well (Next n) (Rows (take n rows)) (holding seat (Some (drop n rows)) m) refl refl refl refl
+next_tells m seat n NoRoom (Some rows) = plain m seat NoRoom (Next n) (Rows (take n rows)) (holding seat (Some (drop n rows)) m) refl refl refl refl
+
+drop_tells : (m : Machine) (seat : ℕ) (outcome : Outcome) (held : Option (List Row)) → Tells m seat outcome (note seat Release (answer_to_release held) (holding seat None m))
+drop_tells m seat outcome None = plain m seat outcome Release NoHold (holding seat None m) refl refl refl refl
+drop_tells m seat outcome (Some rows) = plain m seat outcome Release Done (holding seat None m) refl refl refl refl
+
+-- a state that differs in neither
+tells_on : (m : Machine) (seat : ℕ) (outcome : Outcome) (n k : Machine) → k.stopped ≡ n.stopped → k.book.entries ≡ n.book.entries → Tells m seat outcome n → Tells m seat outcome k
+tells_on m seat outcome n k stopped entries (inl q) = inl (record { stopped = stopped ∙ q.stopped; entries = of q.entries })
+  where
+    of : ((n.book.entries ≡ m.book.entries) ⊎ ((entry : Entry) × (is_failed_lookup entry.op entry.reply ≡ true → is_failed outcome ≡ true) × (is_damaged entry.reply ≡ true → (is_broken outcome ≡ true) ⊎ (is_bad_page (work_of seat m).last ≡ true))
+        × (n.book.entries ≡ m.book.entries ++ entry ∷ [])))
+        → ((k.book.entries ≡ m.book.entries) ⊎ ((entry : Entry) × (is_failed_lookup entry.op entry.reply ≡ true → is_failed outcome ≡ true) × (is_damaged entry.reply ≡ true → (is_broken outcome ≡ true) ⊎ (is_bad_page (work_of seat m).last ≡ true))
+        × (k.book.entries ≡ m.book.entries ++ entry ∷ [])))
+    of (inl same) = inl (entries ∙ same)
+    of (inr noted) = inr (noted.0, noted.1, noted.2, entries ∙ noted.3)
+tells_on m seat outcome n k stopped entries (inr s) = inr (record { cause = s.cause; is_cause = s.is_cause; was = s.was; stopped = stopped ∙ s.stopped; entries = of s.entries })
+  where
+    of : ((n.book.entries ≡ m.book.entries) ⊎ ((entry : Entry) × (is_failed_lookup entry.op entry.reply ≡ false) × (is_damaged entry.reply ≡ false) × (n.book.entries ≡ m.book.entries ++ entry ∷ [])))
+        → ((k.book.entries ≡ m.book.entries) ⊎ ((entry : Entry) × (is_failed_lookup entry.op entry.reply ≡ false) × (is_damaged entry.reply ≡ false) × (k.book.entries ≡ m.book.entries ++ entry ∷ [])))
+    of (inl same) = inl (entries ∙ same)
+    of (inr noted) = inr (noted.0, noted.1, noted.2, entries ∙ noted.3)
+
+turn_tells : (c : Choice) (m : Machine) (seat : ℕ) (outcome : Outcome) → m.stopped ≡ None → Tells m seat outcome (do_turn c outcome seat m).state
+turn_tells c m seat (FailedAfter commits faults) none = inr (record { cause = why.Faulted faults; is_cause = refl; was = none; stopped = refl; entries = inl refl })
+turn_tells c m seat (Broken page) none = inr (record { cause = why.BadPage page; is_cause = refl; was = none; stopped = refl; entries = inl refl })
+turn_tells c m seat Well none = still m seat Well (chosen c seat m) (chosen_stop c seat m) (ap (λ (b : Book). b.entries) (turn_book c Well seat m))
+turn_tells c m seat NoRoom none = still m seat NoRoom (chosen c seat m) (chosen_stop c seat m) (ap (λ (b : Book). b.entries) (turn_book c Well seat m))
+
+work_turn_tells : (m : Machine) (seat : ℕ) (outcome : Outcome) → Tells m seat outcome (work_turn m seat outcome).state
+work_turn_tells m seat outcome = tells_on m seat outcome (work_turning m.stopped m seat outcome).state (work_turn m seat outcome).state refl refl (by m.stopped refl)
+  where
+    by : (o : Option Why) → m.stopped ≡ o → Tells m seat outcome (work_turning o m seat outcome).state
+    by (Some cause) is = still m seat outcome m refl refl
+    by None is = turn_tells (choice (not (memory_weight m.lists == 0)) (not (entries_weight m.lists.c1 == 0)) m) m seat outcome is
+
+worker_turn_tells : (m : Machine) (seat : ℕ) (outcome : Outcome) → Tells m seat outcome (worker_turn m seat outcome).state
+worker_turn_tells m seat outcome = tells_on m seat outcome (worker_turning m.stopped (is_closed m) m seat outcome).state (worker_turn m seat outcome).state refl refl (by m.stopped refl (is_closed m))
+  where
+    by : (o : Option Why) → m.stopped ≡ o → (b : Bool) → Tells m seat outcome (worker_turning o b m seat outcome).state
+    by (Some cause) is b = still m seat outcome m refl refl
+    by None is true = still m seat outcome m refl refl
+    by None is false = turn_tells (choice (nat_lt m.gears.sizes.low m.spring) false m) m seat outcome is
+
+work_end_tells : (m : Machine) (seat n : ℕ) (outcome : Outcome) → Tells m seat outcome (work_end m seat n).state
+work_end_tells m seat n outcome = inl (record {
+  stopped = refl;
+  entries = inr (record { seat = seat; op = Work n; reply = work_reply (work_of seat m) m.stopped }, λ is. absurd (false≢true is), damage (work_of seat m).last m.stopped, refl);
+})
+  where
+    damage : (last : Turned) (o : Option Why) → is_damaged (work_reply (record (work_of seat m) { last = last }) o) ≡ true → (is_broken outcome ≡ true) ⊎ (is_bad_page last ≡ true)
+    damage (BadPage page) o is = inr refl
+    damage Failed o is = absurd (false≢true is)
+    damage Worked None is = absurd (false≢true is)
+    damage Worked (Some cause) is = absurd (false≢true is)
+    damage Idle None is = absurd (false≢true is)
+    damage Idle (Some cause) is = absurd (false≢true is)
+    damage Closed None is = absurd (false≢true is)
+    damage Closed (Some cause) is = absurd (false≢true is)
+    damage (Halted w) None is = absurd (false≢true is)
+    damage (Halted w) (Some cause) is = absurd (false≢true is)
+
+step_tells : (m : Machine) (seat : ℕ) (k : Kind) (outcome : Outcome) → Tells m seat outcome (stepped_as m seat k outcome).state
+step_tells m seat (kind.Admit op) outcome = admit_tells m seat op outcome
+step_tells m seat kind.Pay outcome = pay_tells m seat outcome
+step_tells m seat (kind.Get key) outcome =
+    unless_tells m seat outcome (Get key) (replied seat (Get key) (reply_unless outcome (answer_to_get (value_in m.lists key))) m) (λ cause. refl) (λ none. get_tells m seat key (value_in m.lists key) outcome)
+step_tells m seat (kind.Hold low high) outcome = unless_tells m seat outcome (Hold low high) (do_hold m seat low high outcome) (λ cause. refl) (λ none. hold_tells m seat low high outcome)
+step_tells m seat (kind.Next n) outcome = unless_tells m seat outcome (Next n) (do_next m seat n outcome (held_by seat m)) (λ cause. refl) (λ none. next_tells m seat n outcome (held_by seat m))
+step_tells m seat kind.Release outcome =
+    unless_tells m seat outcome Release (replied seat Release (answer_to_release (held_by seat m)) (holding seat None m)) (λ cause. refl) (λ none. drop_tells m seat outcome (held_by seat m))
+step_tells m seat kind.WorkTurn outcome = work_turn_tells m seat outcome
+step_tells m seat (kind.WorkEnd n) outcome = work_end_tells m seat n outcome
+step_tells m seat kind.WorkerTurn outcome = worker_turn_tells m seat outcome
+step_tells m seat kind.Leave outcome = still m seat outcome (leave m seat).state refl refl
+
+-- ---- faults
+
+abbrev lookups : List Entry → ℕ
+lookups entries = sum_by (λ e. one_if (is_failed_lookup e.op e.reply)) entries
+
+lookups_push : (es : List Entry) (e : Entry) → lookups (es ++ e ∷ []) ≡ lookups es + one_if (is_failed_lookup e.op e.reply)
+lookups_push es e = omega (arith, sum_by-append (λ (e : Entry). one_if (is_failed_lookup e.op e.reply)) es (e ∷ []), alone (one_if (is_failed_lookup e.op e.reply)))
+  where
+    alone : (n : ℕ) → n + 0 ≡ n
+    alone n = omega arith
+
+one_at_most : (b : Bool) → one_if b ≤ 1
+one_at_most true = omega arith
+one_at_most false = omega arith
+
+one_where : (b c : Bool) → (b ≡ true → c ≡ true) → one_if b ≤ one_if c
+one_where true c is = subst (λ x. 1 ≤ one_if x) (sym (is refl)) (omega arith)
+one_where false c is = omega arith
+
+-- a stop by a failed call
+cause_failed : (outcome : Outcome) (cause : Why) → IsCause outcome cause → one_if (is_faulted (Some cause)) ≤ one_if (is_failed outcome)
+cause_failed (FailedAfter commits faults) cause is = one_at_most (is_faulted (Some cause))
+cause_failed (Broken page) cause is = omega (arith, ap (λ w. one_if (is_faulted (Some w))) is)
+cause_failed Well cause is = absurd is
+cause_failed NoRoom cause is = absurd is
+
+step_faults : (m : Machine) (seat : ℕ) (k : Kind) (outcome : Outcome) → faults_told (stepped_as m seat k outcome).state ≤ faults_told m + one_if (is_failed outcome)
+step_faults m seat k outcome = by (step_tells m seat k outcome)
+  where
+    quiet : (new : Machine) → Quiet m seat outcome new → faults_told new ≤ faults_told m + one_if (is_failed outcome)
+    quiet new q = of q.entries
+      where
+        stop_same : one_if (is_faulted new.stopped) ≡ one_if (is_faulted m.stopped)
+        stop_same = ap (λ o. one_if (is_faulted o)) q.stopped
+
+        of : (new.book.entries ≡ m.book.entries)
+            ⊎ ((entry : Entry) × (is_failed_lookup entry.op entry.reply ≡ true → is_failed outcome ≡ true) × (is_damaged entry.reply ≡ true → (is_broken outcome ≡ true) ⊎ (is_bad_page (work_of seat m).last ≡ true))
+            × (new.book.entries ≡ m.book.entries ++ entry ∷ [])) → faults_told new ≤ faults_told m + one_if (is_failed outcome)
+        of (inl same) = omega (arith, stop_same, ap lookups same)
+        of (inr noted) = omega (arith, stop_same, ap lookups noted.3, lookups_push m.book.entries noted.0, one_where (is_failed_lookup noted.0.op noted.0.reply) (is_failed outcome) noted.1)
+
+    stops : (new : Machine) → Stops m outcome new → faults_told new ≤ faults_told m + one_if (is_failed outcome)
+    stops new s = of s.entries
+      where
+        stop_is : one_if (is_faulted new.stopped) ≤ one_if (is_failed outcome)
+        stop_is = subst (λ o. one_if (is_faulted o) ≤ one_if (is_failed outcome)) (sym s.stopped) (cause_failed outcome s.cause s.is_cause)
+
+        of : (new.book.entries ≡ m.book.entries) ⊎ ((entry : Entry) × (is_failed_lookup entry.op entry.reply ≡ false) × (is_damaged entry.reply ≡ false) × (new.book.entries ≡ m.book.entries ++ entry ∷ []))
+            → faults_told new ≤ faults_told m + one_if (is_failed outcome)
+        of (inl same) = omega (arith, stop_is, ap lookups same)
+        of (inr noted) = omega (arith, stop_is, ap lookups noted.3, lookups_push m.book.entries noted.0, ap one_if noted.1)
+
+    by : Tells m seat outcome (stepped_as m seat k outcome).state → faults_told (stepped_as m seat k outcome).state ≤ faults_told m + one_if (is_failed outcome)
+    by (inl q) = quiet (stepped_as m seat k outcome).state q
+    by (inr s) = stops (stepped_as m seat k outcome).state s
+
+told_le : (m : Machine) (old new : ℕ) (steps : List (Step × Outcome)) → AreTold m old steps new → old ≤ new
+told_le m old new [] told = told
+told_le m old new (made ∷ steps) told = let rest = told_le (played_one m made) told.0 new steps told.3 in omega (arith, told.1, rest)
+
+-- one step of a list
+one_faults : (m : Machine) (made : Step × Outcome) (old mid : ℕ) → old ≤ mid → (may_step m made.0 ≡ true → IsPossible m made.0.seat made.0.kind made.1 old mid)
+    → (faults_told (played_one m made) + old ≤ faults_told m + mid) ⊎ (mid ≡ last_count)
+one_faults m made old mid le possible = by (may_step m made.0) refl
+  where
+    of : (outcome : Outcome) → IsPossible m made.0.seat made.0.kind outcome old mid → faults_told (stepped m made.0 outcome).state ≤ faults_told m + one_if (is_failed outcome)
+        → (faults_told (stepped m made.0 outcome).state + old ≤ faults_told m + mid) ⊎ (mid ≡ last_count)
+    of Well is few = inl (omega (arith, le, few))
+    of NoRoom is few = inl (omega (arith, le, few))
+    of (Broken page) is few = inl (omega (arith, le, few))
+    of (FailedAfter commits faults) is few = rose is.2
+      where
+        rose : Rose old mid → (faults_told (stepped m made.0 (FailedAfter commits faults)).state + old ≤ faults_told m + mid) ⊎ (mid ≡ last_count)
+        rose (inl less) = inl (omega (arith, less, few))
+        rose (inr last) = inr last.1
+
+    by : (b : Bool) → may_step m made.0 ≡ b → (faults_told (cond b (stepped m made.0 made.1).state m) + old ≤ faults_told m + mid) ⊎ (mid ≡ last_count)
+    by true is = of made.1 (possible is) (step_faults m made.0.seat made.0.kind made.1)
+    by false is = inl (omega (arith, le))
+
+pub faults_are_counted : FaultsAreCounted
+faults_are_counted m old new [] within told = inl (omega (arith, told))
+faults_are_counted m old new (made ∷ steps) within told = both_parts (one_faults m made old told.0 told.1 told.2) (faults_are_counted (played_one m made) told.0 new steps within told.3)
+  where
+    both_parts : (faults_told (played_one m made) + old ≤ faults_told m + told.0) ⊎ (told.0 ≡ last_count)
+        → (faults_told (played (played_one m made) steps) + told.0 ≤ faults_told (played_one m made) + new) ⊎ (new ≡ last_count)
+        → (faults_told (played (played_one m made) steps) + old ≤ faults_told m + new) ⊎ (new ≡ last_count)
+    both_parts first (inr last) = inr last
+    both_parts (inr last) (inl rest) = inr (let le = told_le (played_one m made) told.0 new steps told.3 in omega (arith, le, last, within))
+    both_parts (inl first) (inl rest) = inl (omega (arith, first, rest))
+
+-- ---- stops
+
+rose_on : (old mid faults : ℕ) → old ≤ mid → Rose mid faults → Rose old faults
+rose_on old mid faults le (inl less) = inl (omega (arith, le, less))
+rose_on old mid faults le (inr last) = by (nat_lt old last_count) refl
+  where
+    by : (b : Bool) → nat_lt old last_count ≡ b → Rose old faults
+    by true less = inl (omega (arith, last.1, ltb-true old last_count less))
+    by false at = inr (omega (arith, ltb-false old last_count at, le, last.0), last.1)
+
+-- ---- damage
+
+damage_push : (es : List Entry) (e : Entry) → AllByRecursion (λ e. is_damaged e.reply ≡ false) es → is_damaged e.reply ≡ false → AllByRecursion (λ e. is_damaged e.reply ≡ false) (es ++ e ∷ [])
+damage_push [] e all one = (one, tt)
+damage_push (x ∷ xs) e all one = (all.0, damage_push xs e all.1 one)
+
+cause_sound : (outcome : Outcome) (cause : Why) → is_broken outcome ≡ false → IsCause outcome cause → is_by_page (Some cause) ≡ false
+cause_sound (FailedAfter commits faults) cause whole is = ap (λ w. is_by_page (Some w)) is
+cause_sound (Broken page) cause whole is = absurd (false≢true (sym whole))
+cause_sound Well cause whole is = absurd is
+cause_sound NoRoom cause whole is = absurd is
+
+is_false : (b : Bool) → (b ≡ true → ⊥) → b ≡ false
+is_false true never = absurd (never refl)
+is_false false never = refl
+
+-- works' last turns
+turned_sound : (m : Machine) (seat : ℕ) (outcome : Outcome) → is_broken outcome ≡ false → is_bad_page (work_turning m.stopped m seat outcome).ended ≡ false
+turned_sound m seat outcome whole = by m.stopped
+  where
+    ended : (c : Choice) → is_bad_page (ended_as c) ≡ false
+    ended SwapDeep = refl
+    ended SwapPass = refl
+    ended DeepQuantum = refl
+    ended PassQuantum = refl
+    ended Begin = refl
+    ended Rotate = refl
+    ended Rest = refl
+
+    of : (c : Choice) (e : Outcome) → is_broken e ≡ false → is_bad_page (do_turn c e seat m).ended ≡ false
+    of c (FailedAfter commits faults) whole = refl
+    of c (Broken page) whole = absurd (false≢true (sym whole))
+    of c Well whole = ended c
+    of c NoRoom whole = ended c
+
+    by : (o : Option Why) → is_bad_page (work_turning o m seat outcome).ended ≡ false
+    by (Some cause) = refl
+    by None = of (choice (not (memory_weight m.lists == 0)) (not (entries_weight m.lists.c1 == 0)) m) outcome whole
+
+work_set : (works : List WorkSoFar) (seat : ℕ) (now : WorkSoFar) → is_bad_page now.last ≡ false → ((s : ℕ) → is_bad_page (slice_index_or works s no_work).last ≡ false)
+    → (s : ℕ) → is_bad_page (slice_index_or (slice_set works seat now) s no_work).last ≡ false
+work_set works seat now sound were s = by (s == seat) refl
+  where
+    here : (b : Bool) → nat_lt seat (length works) ≡ b → is_bad_page (slice_index_or (slice_set works seat now) seat no_work).last ≡ false
+    here true less = ap (λ (w : WorkSoFar). is_bad_page w.last) (get_or-set_same works seat now no_work (ltb-true seat (length works) less)) ∙ sound
+    here false past = ap (λ (w : WorkSoFar). is_bad_page w.last) (get_or_past (slice_set works seat now) seat no_work (omega (arith, length-set works seat now, ltb-false seat (length works) past)))
+
+    by : (b : Bool) → (s == seat) ≡ b → is_bad_page (slice_index_or (slice_set works seat now) s no_work).last ≡ false
+    by true is = subst (λ t. is_bad_page (slice_index_or (slice_set works seat now) t no_work).last ≡ false) (sym (eqb-true s seat is)) (here (nat_lt seat (length works)) refl)
+    by false is = ap (λ (w : WorkSoFar). is_bad_page w.last) (get_or-set_other works seat s now no_work (λ same. false≢true (sym is ∙ eq-eqb s seat same))) ∙ were s
+
+-- the works are a caller's, and only its turns and its end touch them
+deep_swapped_work : (m : Machine) → (deep_swapped m).seats.work ≡ m.seats.work
+deep_swapped_work m = by (deep_done m)
+  where
+    by : (b : Bool) → (cond b (swap_deep m) m).seats.work ≡ m.seats.work
+    by true = refl
+    by false = refl
+
+ready_work : (weight : ℕ) (m : Machine) → (ready_for weight m).seats.work ≡ m.seats.work
+ready_work weight m =
+    begins (swapped m) (not (in_pass (swapped m)) && nat_lt (swapped m).gears.sizes.low ((swapped m).spring + weight))
+    ∙ swap (deep_swapped m) (pass_done (deep_swapped m)) (nat_le (c1_mark (deep_swapped m).gears.sizes) (entries_weight (output_of (deep_swapped m).merges.pass))) ∙ deep_swapped_work m
+  where
+    begins : (n : Machine) (b : Bool) → (cond b (begin_pass n) n).seats.work ≡ n.seats.work
+    begins n true = refl
+    begins n false = refl
+
+    swap : (n : Machine) (b c : Bool) → (cond b (cond c (rotate (end_pass n)) (end_pass n)) n).seats.work ≡ n.seats.work
+    swap n true true = refl
+    swap n true false = refl
+    swap n false c = refl
+
+chosen_work : (c : Choice) (seat : ℕ) (m : Machine) → (chosen c seat m).seats.work ≡ m.seats.work
+chosen_work SwapDeep seat m = refl
+chosen_work SwapPass seat m = by (nat_le (c1_mark m.gears.sizes) (entries_weight (output_of m.merges.pass)))
+  where
+    by : (b : Bool) → (cond b (rotate (end_pass m)) (end_pass m)).seats.work ≡ m.seats.work
+    by true = refl
+    by false = refl
+chosen_work DeepQuantum seat m = by m.merges.deep
+  where
+    by : (p : Option Merge) → (deep_quantum_of p seat m).seats.work ≡ m.seats.work
+    by None = refl
+    by (Some deep) = refl
+chosen_work PassQuantum seat m = by m.merges.pass
+  where
+    by : (p : Option Merge) → (pass_quantum_of p seat m).seats.work ≡ m.seats.work
+    by None = refl
+    by (Some pass) = refl
+chosen_work Begin seat m = refl
+chosen_work Rotate seat m = refl
+chosen_work Rest seat m = refl
+
+turn_work : (c : Choice) (outcome : Outcome) (seat : ℕ) (m : Machine) → (do_turn c outcome seat m).state.seats.work ≡ m.seats.work
+turn_work c (FailedAfter commits faults) seat m = refl
+turn_work c (Broken page) seat m = refl
+turn_work c Well seat m = chosen_work c seat m
+turn_work c NoRoom seat m = chosen_work c seat m
+
+unless_work : (m : Machine) (seat : ℕ) (op : Op) (o : Option Why) (otherwise : Stepped) → otherwise.state.seats.work ≡ m.seats.work → (unless_stopped o seat op m otherwise).state.seats.work ≡ m.seats.work
+unless_work m seat op (Some cause) otherwise same = refl
+unless_work m seat op None otherwise same = same
+
+admit_work : (m : Machine) (seat : ℕ) (op : Op) (outcome : Outcome) → (admit m seat op outcome).state.seats.work ≡ m.seats.work
+admit_work m seat op outcome =
+    unless_work m seat op m.stopped (cond (nat_lt (charge_limit m.gears.sizes (is_del op)) (charge m + total_weight (writes_of op))) (replied seat op (Full (charge m)) m) (admit_fitting m seat op (total_weight (writes_of op)) outcome))
+    (full (nat_lt (charge_limit m.gears.sizes (is_del op)) (charge m + total_weight (writes_of op))))
+  where
+    taken : (ws : List Write) (n : Machine) → (taken_once seat ws n).seats.work ≡ n.seats.work
+    taken [] n = refl
+    taken (w ∷ ws) n = refl
+
+    done : (with_peak (taken_once seat (writes_of op) (ready_for (total_weight (writes_of op)) m))).seats.work ≡ m.seats.work
+    done = taken (writes_of op) (ready_for (total_weight (writes_of op)) m) ∙ ready_work (total_weight (writes_of op)) m
+
+    lost : (c : Bool) → (cond c m (deep_swapped m)).seats.work ≡ m.seats.work
+    lost true = refl
+    lost false = deep_swapped_work m
+
+    failed : (commits faults : ℕ) (b : Bool)
+        → (cond b (replied seat op FaultLost (stop (why.Faulted faults) (cond (commits == 0) m (deep_swapped m)))) (replied seat op FaultUnsure (stop (why.Faulted faults) (ready_for (total_weight (writes_of op)) m)))).state.seats.work ≡ m.seats.work
+    failed commits faults true = lost (commits == 0)
+    failed commits faults false = ready_work (total_weight (writes_of op)) m
+
+    fitting : (e : Outcome) → (admit_fitting m seat op (total_weight (writes_of op)) e).state.seats.work ≡ m.seats.work
+    fitting (FailedAfter commits faults) = failed commits faults (nat_lt commits (swaps_due m))
+    fitting Well = done
+    fitting (Broken page) = done
+    fitting NoRoom = done
+
+    full : (b : Bool) → (cond b (replied seat op (Full (charge m)) m) (admit_fitting m seat op (total_weight (writes_of op)) outcome)).state.seats.work ≡ m.seats.work
+    full true = refl
+    full false = fitting outcome
+
+pay_work : (m : Machine) (seat : ℕ) (outcome : Outcome) → (pay m seat outcome).state.seats.work ≡ m.seats.work
+pay_work m seat outcome = by m.stopped
+  where
+    owing : (quantum : Machine → Machine) → (quantum (forgive seat m)).seats.work ≡ m.seats.work → (e : Outcome) → (do_pay (forgive seat m) quantum seat e).state.seats.work ≡ m.seats.work
+    owing quantum same (FailedAfter commits faults) = refl
+    owing quantum same (Broken page) = refl
+    owing quantum same Well = same
+    owing quantum same NoRoom = same
+
+    planned : (plan : Plan) → (pay_planned plan (forgive seat m) seat outcome).state.seats.work ≡ m.seats.work
+    planned Snow = owing (pass_quantum seat) (chosen_work PassQuantum seat (forgive seat m)) outcome
+    planned Deep = owing (deep_quantum seat) (chosen_work DeepQuantum seat (forgive seat m)) outcome
+    planned Nothing = refl
+
+    by : (o : Option Why) → (pay_running o m seat outcome).state.seats.work ≡ m.seats.work
+    by (Some cause) = refl
+    by None = planned (plan_for (first_debt (forgive seat m).gears seat) (second_debt (forgive seat m).gears seat))
+
+hold_work : (m : Machine) (seat : ℕ) (low high : Key) (outcome : Outcome) → (do_hold m seat low high outcome).state.seats.work ≡ m.seats.work
+hold_work m seat low high NoRoom = refl
+hold_work m seat low high Well = refl
+hold_work m seat low high (FailedAfter commits faults) = refl
+hold_work m seat low high (Broken page) = refl
+
+next_work : (m : Machine) (seat n : ℕ) (outcome : Outcome) (held : Option (List Row)) → (do_next m seat n outcome held).state.seats.work ≡ m.seats.work
+next_work m seat n outcome None = refl
+next_work m seat n (FailedAfter commits faults) (Some rows) = refl
+next_work m seat n (Broken page) (Some rows) = refl
+next_work m seat n Well (Some rows) = refl
+next_work m seat n NoRoom (Some rows) = refl
+
+-- what changes the works: a turn of work and its end
+works_sound : (m : Machine) (seat : ℕ) (k : Kind) (outcome : Outcome) → is_broken outcome ≡ false → ((s : ℕ) → is_bad_page (work_of s m).last ≡ false) → (s : ℕ) → is_bad_page (work_of s (stepped_as m seat k outcome).state).last ≡ false
+works_sound m seat kind.WorkTurn outcome whole were s =
+    subst (λ ws. is_bad_page (slice_index_or (slice_set ws seat (with_turn (work_of seat m) (work_turning m.stopped m seat outcome))) s no_work).last ≡ false) (sym (turning_work m.stopped))
+    (work_set m.seats.work seat (with_turn (work_of seat m) (work_turning m.stopped m seat outcome)) (turned_sound m seat outcome whole) were s)
+  where
+    turning_work : (o : Option Why) → (work_turning o m seat outcome).state.seats.work ≡ m.seats.work
+    turning_work (Some cause) = refl
+    turning_work None = turn_work (choice (not (memory_weight m.lists == 0)) (not (entries_weight m.lists.c1 == 0)) m) outcome seat m
+works_sound m seat (kind.WorkEnd n) outcome whole were s = work_set m.seats.work seat no_work refl were s
+works_sound m seat kind.WorkerTurn outcome whole were s = ap (λ ws. is_bad_page (slice_index_or ws s no_work).last) (turning_work m.stopped (is_closed m)) ∙ were s
+  where
+    turning_work : (o : Option Why) (b : Bool) → (worker_turning o b m seat outcome).state.seats.work ≡ m.seats.work
+    turning_work (Some cause) b = refl
+    turning_work None true = refl
+    turning_work None false = turn_work (choice (nat_lt m.gears.sizes.low m.spring) false m) outcome seat m
+works_sound m seat (kind.Admit op) outcome whole were s = ap (λ ws. is_bad_page (slice_index_or ws s no_work).last) (admit_work m seat op outcome) ∙ were s
+works_sound m seat kind.Pay outcome whole were s = ap (λ ws. is_bad_page (slice_index_or ws s no_work).last) (pay_work m seat outcome) ∙ were s
+works_sound m seat (kind.Get key) outcome whole were s = ap (λ ws. is_bad_page (slice_index_or ws s no_work).last) (unless_work m seat (Get key) m.stopped (replied seat (Get key) (reply_unless outcome (answer_to_get (value_in m.lists key))) m) refl) ∙ were s
+works_sound m seat (kind.Hold low high) outcome whole were s = ap (λ ws. is_bad_page (slice_index_or ws s no_work).last) (unless_work m seat (Hold low high) m.stopped (do_hold m seat low high outcome) (hold_work m seat low high outcome)) ∙ were s
+works_sound m seat (kind.Next n) outcome whole were s = ap (λ ws. is_bad_page (slice_index_or ws s no_work).last) (unless_work m seat (Next n) m.stopped (do_next m seat n outcome (held_by seat m)) (next_work m seat n outcome (held_by seat m))) ∙ were s
+works_sound m seat kind.Release outcome whole were s = ap (λ ws. is_bad_page (slice_index_or ws s no_work).last) (unless_work m seat Release m.stopped (replied seat Release (answer_to_release (held_by seat m)) (holding seat None m)) refl) ∙ were s
+works_sound m seat kind.Leave outcome whole were s = were s
+
+step_finds : (m : Machine) (seat : ℕ) (k : Kind) (outcome : Outcome) → is_broken outcome ≡ false → FindsNone m → FindsNone (stepped_as m seat k outcome).state
+step_finds m seat k outcome whole f = by (step_tells m seat k outcome)
+  where
+    quiet : Quiet m seat outcome (stepped_as m seat k outcome).state → FindsNone (stepped_as m seat k outcome).state
+    quiet q = record { entries = of q.entries; stopped = ap is_by_page q.stopped ∙ f.stopped; works = works_sound m seat k outcome whole f.works }
+      where
+        of : ((stepped_as m seat k outcome).state.book.entries ≡ m.book.entries)
+            ⊎ ((entry : Entry) × (is_failed_lookup entry.op entry.reply ≡ true → is_failed outcome ≡ true) × (is_damaged entry.reply ≡ true → (is_broken outcome ≡ true) ⊎ (is_bad_page (work_of seat m).last ≡ true))
+            × ((stepped_as m seat k outcome).state.book.entries ≡ m.book.entries ++ entry ∷ [])) → AllByRecursion (λ e. is_damaged e.reply ≡ false) (stepped_as m seat k outcome).state.book.entries
+        of (inl same) = subst (λ es. AllByRecursion (λ (e : Entry). is_damaged e.reply ≡ false) es) (sym same) f.entries
+        of (inr noted) = subst (λ es. AllByRecursion (λ (e : Entry). is_damaged e.reply ≡ false) es) (sym noted.3) (damage_push m.book.entries noted.0 f.entries (is_false (is_damaged noted.0.reply) (λ is. neither (noted.2 is))))
+          where
+            neither : (is_broken outcome ≡ true) ⊎ (is_bad_page (work_of seat m).last ≡ true) → ⊥
+            neither (inl broken) = false≢true (sym whole ∙ broken)
+            neither (inr bad) = false≢true (sym (f.works seat) ∙ bad)
+
+    stops : Stops m outcome (stepped_as m seat k outcome).state → FindsNone (stepped_as m seat k outcome).state
+    stops s = record { entries = of s.entries; stopped = ap is_by_page s.stopped ∙ cause_sound outcome s.cause whole s.is_cause; works = works_sound m seat k outcome whole f.works }
+      where
+        of : ((stepped_as m seat k outcome).state.book.entries ≡ m.book.entries) ⊎ ((entry : Entry) × (is_failed_lookup entry.op entry.reply ≡ false) × (is_damaged entry.reply ≡ false) × ((stepped_as m seat k outcome).state.book.entries ≡ m.book.entries ++ entry ∷ []))
+            → AllByRecursion (λ e. is_damaged e.reply ≡ false) (stepped_as m seat k outcome).state.book.entries
+        of (inl same) = subst (λ es. AllByRecursion (λ (e : Entry). is_damaged e.reply ≡ false) es) (sym same) f.entries
+        of (inr noted) = subst (λ es. AllByRecursion (λ (e : Entry). is_damaged e.reply ≡ false) es) (sym noted.3) (damage_push m.book.entries noted.0 f.entries noted.2)
+
+    by : Tells m seat outcome (stepped_as m seat k outcome).state → FindsNone (stepped_as m seat k outcome).state
+    by (inl q) = quiet q
+    by (inr s) = stops s
+
+pub none_damaged : NoneDamaged
+none_damaged m [] f whole = f
+none_damaged m (made ∷ steps) f whole = none_damaged (played_one m made) steps (by (may_step m made.0)) whole.1
+  where
+    by : (b : Bool) → FindsNone (cond b (stepped m made.0 made.1).state m)
+    by true = step_finds m made.0.seat made.0.kind made.1 whole.0 f
+    by false = f
+
+-- ---- states that are reached so
+
+possible_from : (m : Machine) (seat : ℕ) (k : Kind) (outcome : Outcome) (old mid new : ℕ) → old ≤ mid → IsPossible m seat k outcome mid new → IsPossible m seat k outcome old new
+possible_from m seat k Well old mid new le is = is
+possible_from m seat k NoRoom old mid new le is = is
+possible_from m seat k (Broken page) old mid new le is = is
+possible_from m seat k (FailedAfter commits faults) old mid new le is = (is.0, is.1, rose_on old mid new le is.2, is.3)
+
+told_on : (m : Machine) (old mid new : ℕ) (steps : List (Step × Outcome)) (made : Step × Outcome) → AreTold m old steps mid → mid ≤ new
+    → (may_step (played m steps) made.0 ≡ true → IsPossible (played m steps) made.0.seat made.0.kind made.1 mid new) → AreTold m old (steps ++ made ∷ []) new
+told_on m old mid new [] made told le possible = (new, omega (arith, told, le), λ ok. possible_from m made.0.seat made.0.kind made.1 old mid new told (possible ok), omega arith)
+told_on m old mid new (first ∷ steps) made told le possible = (told.0, told.1, told.2, told_on (played_one m first) told.0 mid new steps made told.3 le possible)
+
+pub reaches_on_by : ReachesOnBy
+reaches_on_by start m old mid new step outcome reached ok le possible = (
+  reached.0 ++ (step, outcome) ∷ [],
+  told_on start old mid new reached.0 (step, outcome) reached.1 le (λ may_be. subst (λ n. IsPossible n step.seat step.kind outcome mid new) (sym reached.2) possible),
+  played_push start reached.0 (step, outcome) ∙ ap (λ n. played_one n (step, outcome)) reached.2,
+)
+  where
+    played_push : (m : Machine) (steps : List (Step × Outcome)) (made : Step × Outcome) → played m (steps ++ made ∷ []) ≡ played_one (played m steps) made
+    played_push m [] made = refl
+    played_push m (first ∷ steps) made = played_push (played_one m first) steps made
+
+-- ---- stops name more faults
+
+played_stays : (m : Machine) (steps : List (Step × Outcome)) (cause : Why) → m.stopped ≡ Some cause → (played m steps).stopped ≡ Some cause
+played_stays m [] cause is = is
+played_stays m (made ∷ steps) cause is = played_stays (played_one m made) steps cause (by (may_step m made.0))
+  where
+    by : (b : Bool) → (cond b (stepped m made.0 made.1).state m).stopped ≡ Some cause
+    by true = step_stays m made.0.seat made.0.kind made.1 cause is
+    by false = is
+
+abbrev count_of : Option Why → ℕ
+count_of (Some (why.Faulted faults)) = faults
+count_of _ = 0
+
+pub stops_name_more : StopsNameMore
+stops_name_more m old new faults [] told none is = absurd (some_or_none m.stopped (why.Faulted faults) is none)
+stops_name_more m old new faults (made ∷ steps) told none is = by (may_step m made.0) refl (λ none_then. rose_on old told.0 faults told.1 (stops_name_more (played_one m made) told.0 new faults steps told.3 none_then is))
+  where
+    named : (outcome : Outcome) (cause : Why) → IsPossible m made.0.seat made.0.kind outcome old told.0 → IsCause outcome cause → cause ≡ why.Faulted faults → Rose old faults
+    named (FailedAfter commits n) cause possible is_cause same = subst (λ k. Rose old k) (sym possible.3 ∙ ap (λ w. count_of (Some w)) (sym is_cause ∙ same)) possible.2
+    named (Broken page) cause possible is_cause same = absurd (false≢true (ap (λ w. is_faulted (Some w)) (sym is_cause ∙ same)))
+    named Well cause possible is_cause same = absurd is_cause
+    named NoRoom cause possible is_cause same = absurd is_cause
+
+    by : (b : Bool) → may_step m made.0 ≡ b → ((cond b (stepped m made.0 made.1).state m).stopped ≡ None → Rose old faults) → Rose old faults
+    by false same rest = rest none
+    by true ok rest = of (step_tells m made.0.seat made.0.kind made.1)
+      where
+        then_played : (cause : Why) → (stepped m made.0 made.1).state.stopped ≡ Some cause → (played m (made ∷ steps)).stopped ≡ Some cause
+        then_played cause is = played_stays (played_one m made) steps cause (ap (λ b. (cond b (stepped m made.0 made.1).state m).stopped) ok ∙ is)
+
+        of : Tells m made.0.seat made.1 (stepped m made.0 made.1).state → Rose old faults
+        of (inl q) = rest (q.stopped ∙ none)
+        of (inr s) = named made.1 s.cause (told.2 ok) s.is_cause (some_same (sym (then_played s.cause s.stopped) ∙ is))
+          where
+            some_same : Some s.cause ≡ Some (why.Faulted faults) → s.cause ≡ why.Faulted faults
+            some_same same = ap (λ o. unwrap_or o s.cause) same

@@ -1,0 +1,189 @@
+-- What a write does to the lists: it goes to table A where its key is ahead of the pass, else to B, and its record is over
+-- whatever the lists had of its key.
+use Rattle.std.proofs.Common.{◌≡◌, ◌^◌, ◌<◌, inl, inr, Bool, cond, true, false, not, T, List, [], ◌∷◌, ◌++◌, Some, None, Option, refl, ap, sym, subst, ◌∙◌}
+use Rattle.std.specs.Ordering.{eq_by_cmp}
+use Rattle.std.specs.declared.cmp.Ordering.TheVariants.{Less, Equal, Greater}
+use Rattle.std.specs.Cmp.{nat_eq_equiv}
+use Rattle.std.specs.Cmp.Lexicographic.{texts_ties, lists_equiv}
+use Rattle.std.specs.FinMap.{put, is_sorted}
+use Rattle.std.specs.FinMap.Entries.{by_order, find-where_key, is_sorted-where_key, same_entries}
+use Rattle.std.proofs.lemmas.Cmp.{nat_list_cmp_total}
+use Rattle.std.proofs.lemmas.Bool.{false≢true}
+use Rattle.blsm_model.specs.declared.key.Key.{Key}
+use Rattle.blsm_model.specs.declared.op.Write.{Write}
+use Rattle.blsm_model.specs.declared.op.Write.TheVariants.{Put, Add, Del}
+use Rattle.blsm_model.specs.Keys.{key_cmp, same_key}
+use Rattle.blsm_model.specs.Values.{key_of, added_count, value_at}
+use Rattle.record_delta.specs.declared.record.Rec.{Rec}
+use Rattle.record_delta.specs.Records.{settled, record_of}
+use Rattle.record_delta.specs.Folding.{over as rec_over, StandsForMore}
+use Rattle.record_delta.proofs.FoldingLemmas.{stands_put, stands_add, stands_del}
+use Rattle.record_delta.specs.Entries.{AreSorted, Entries, is_above, over_any, record_of_key, up_to, with_record}
+use Rattle.tree_machine.specs.Lists.{Lists, record_at, value_in}
+use Rattle.tree_machine.specs.Merges.{Merge}
+use Rattle.tree_machine.specs.Layers.{IsBehind, IsPassOver, AreLayered}
+use Rattle.tree_machine.specs.Machine.{Merges}
+use Rattle.tree_machine.specs.Moves.{goes_to_a, with_write}
+use Rattle.tree_machine.proofs.FoldLemmas.{by_test, over_any_assoc, find-with_record, sorted_with_record, tied, equal_of}
+
+-- ---- keys of tables
+
+-- a key ahead of the cursor has no record in a list behind it
+pub none_behind : (cursor : Option Key) (key : Key) (es : Entries) → IsBehind cursor es → is_above cursor key ≡ true → record_of_key key es ≡ None
+none_behind cursor key [] behind past = refl
+none_behind cursor key (e ∷ es) behind past =
+    elim (by_test (eq_by_cmp key_cmp key e.0)) [
+      | inl same ↦ absurd (false≢true (sym behind.0 ∙ ap (is_above cursor) (sym (tied key e.0 (equal_of (key_cmp key e.0) same))) ∙ past))
+      | inr apart ↦ ap (λ b. cond b (Some e.1) (record_of_key key es)) apart ∙ none_behind cursor key es behind.1 past
+    ]
+
+behind_put : (cursor : Option Key) (key : Key) (rec : Rec) (es : Entries) → is_above cursor key ≡ false → IsBehind cursor es → IsBehind cursor (put key_cmp key rec es)
+behind_put cursor key rec [] here behind = (here, tt)
+behind_put cursor key rec (e ∷ es) here behind =
+    elim (key_cmp key e.0) as (λ o. IsBehind cursor (by_order o ((key, rec) ∷ e ∷ es) ((e.0, rec) ∷ es) (e ∷ put key_cmp key rec es))) [
+      | Less ↦ (here, behind)
+      | Equal ↦ behind
+      | Greater ↦ (behind.0, behind_put cursor key rec es here behind.1)
+    ]
+
+-- what is behind the cursor keeps its record where a key ahead of it is written
+kept_behind : (cursor : Option Key) (key : Key) (rec : Rec) (es : Entries) (q : Key) → is_above cursor key ≡ true → is_above cursor q ≡ false → record_of_key q (with_record key rec es) ≡ record_of_key q es
+kept_behind cursor key rec es q past behind =
+    find-with_record key rec es q
+    ∙ elim (by_test (eq_by_cmp key_cmp q key)) [
+      | inl same ↦ absurd (false≢true (sym behind ∙ ap (is_above cursor) (tied q key (equal_of (key_cmp q key) same)) ∙ past))
+      | inr apart ↦ ap (λ b. over_any (cond b (Some rec) None) (record_of_key q es)) apart
+    ]
+
+pub find-behind : (cursor : Option Key) (es : Entries) (q : Key) → record_of_key q (up_to cursor es) ≡ cond (not (is_above cursor q)) (record_of_key q es) None
+find-behind cursor es q = find-where_key key_cmp (λ k. not (is_above cursor k)) q (λ x same. ap (λ k. not (is_above cursor k)) (sym (tied q x same))) es
+
+pub sorted_behind : (cursor : Option Key) (es : Entries) → AreSorted es → T (is_sorted key_cmp (up_to cursor es))
+sorted_behind cursor es sorted = is_sorted-where_key key_cmp (λ k. not (is_above cursor k)) es (subst T (sym sorted) tt)
+
+-- so all that is behind the cursor stays
+pub behind_kept : (cursor : Option Key) (key : Key) (rec : Rec) (es : Entries) → is_above cursor key ≡ true → AreSorted es → up_to cursor (with_record key rec es) ≡ up_to cursor es
+behind_kept cursor key rec es past sorted =
+    same_entries key_cmp nat_list_cmp_total tied (up_to cursor (with_record key rec es)) (up_to cursor es)
+    (sorted_behind cursor (with_record key rec es) (sorted_with_record key rec es sorted)) (sorted_behind cursor es sorted)
+    (λ q. find-behind cursor (with_record key rec es) q ∙ by q (is_above cursor q) refl ∙ sym (find-behind cursor es q))
+  where
+    by : (q : Key) (b : Bool) → is_above cursor q ≡ b → cond (not (is_above cursor q)) (record_of_key q (with_record key rec es)) None ≡ cond (not (is_above cursor q)) (record_of_key q es) None
+    by q true ahead = ap (λ b. cond (not b) (record_of_key q (with_record key rec es)) None) ahead ∙ ap (λ b. cond (not b) (record_of_key q es) None) (sym ahead)
+    by q false here = ap (λ r. cond (not (is_above cursor q)) r None) (kept_behind cursor key rec es q past here)
+
+-- ---- the layers stay
+
+abbrev to_a : Key → Rec → Lists → Lists
+to_a key rec lists = record { b = lists.b; a = with_record key rec lists.a; c1 = lists.c1; c1x = lists.c1x; c2 = lists.c2 }
+
+abbrev to_b : Key → Rec → Lists → Lists
+to_b key rec lists = record { b = with_record key rec lists.b; a = lists.a; c1 = lists.c1; c1x = lists.c1x; c2 = lists.c2 }
+
+pass_over_write : (key : Key) (rec : Rec) (lists : Lists) (pass : Option Merge) → IsPassOver lists pass → IsPassOver (with_write pass key rec lists) pass
+pass_over_write key rec lists None over = over
+pass_over_write key rec lists (Some pass) over = by (is_above pass.cursor key) refl
+  where
+    by : (b : Bool) → is_above pass.cursor key ≡ b → IsPassOver (cond b (to_a key rec lists) (to_b key rec lists)) (Some pass)
+    by true past = (
+      over.0,
+      record {
+        folds = λ q. over.1.folds q ∙ elim (by_test (is_above pass.cursor q)) [
+          | inl ahead ↦ ap (λ b. cond b None (over_any (record_of_key q lists.a) (record_of_key q lists.c1))) ahead
+              ∙ ap (λ b. cond b None (over_any (record_of_key q (with_record key rec lists.a)) (record_of_key q lists.c1))) (sym ahead)
+          | inr behind ↦ ap (λ r. cond (is_above pass.cursor q) None (over_any r (record_of_key q lists.c1))) (sym (kept_behind pass.cursor key rec lists.a q past behind))
+        ];
+        sorted = over.1.sorted;
+        behind = over.1.behind;
+      },
+    )
+    by false here = (behind_put pass.cursor key (rec_over rec (record_of_key key lists.b)) lists.b here over.0, over.1)
+
+pub write_layered : (key : Key) (rec : Rec) (lists : Lists) (merges : Merges) → AreLayered lists merges → AreLayered (with_write merges.pass key rec lists) merges
+write_layered key rec lists merges layered = by (goes_to_a merges.pass key) refl (pass_over_write key rec lists merges.pass layered.pass)
+  where
+    by : (b : Bool) → goes_to_a merges.pass key ≡ b → IsPassOver (cond (goes_to_a merges.pass key) (to_a key rec lists) (to_b key rec lists)) merges.pass
+        → AreLayered (cond (goes_to_a merges.pass key) (to_a key rec lists) (to_b key rec lists)) merges
+    by true is over = subst (λ c. AreLayered (cond c (to_a key rec lists) (to_b key rec lists)) merges) (sym is) (record {
+      sorted_b = layered.sorted_b;
+      sorted_a = sorted_with_record key rec lists.a layered.sorted_a;
+      sorted_c1 = layered.sorted_c1;
+      sorted_c1x = layered.sorted_c1x;
+      sorted_c2 = layered.sorted_c2;
+      pass = subst (λ c. IsPassOver (cond c (to_a key rec lists) (to_b key rec lists)) merges.pass) is over;
+      deep = layered.deep;
+    })
+    by false is over = subst (λ c. AreLayered (cond c (to_a key rec lists) (to_b key rec lists)) merges) (sym is) (record {
+      sorted_b = sorted_with_record key rec lists.b layered.sorted_b;
+      sorted_a = layered.sorted_a;
+      sorted_c1 = layered.sorted_c1;
+      sorted_c1x = layered.sorted_c1x;
+      sorted_c2 = layered.sorted_c2;
+      pass = subst (λ c. IsPassOver (cond c (to_a key rec lists) (to_b key rec lists)) merges.pass) is over;
+      deep = layered.deep;
+    })
+
+-- ---- the records after it
+
+-- the written record, at its key alone
+abbrev written_at : Key → Rec → Key → Option Rec
+written_at key rec q = cond (eq_by_cmp key_cmp q key) (Some rec) None
+
+none_in_b : (key : Key) (lists : Lists) (pass : Option Merge) → IsPassOver lists pass → goes_to_a pass key ≡ true → record_of_key key lists.b ≡ None
+none_in_b key lists None over goes = ap (record_of_key key) over
+none_in_b key lists (Some pass) over goes = none_behind pass.cursor key lists.b over.0 goes
+
+-- whichever table it goes to, the record is over what the lists had
+pub record_at-write : (key : Key) (rec : Rec) (lists : Lists) (pass : Option Merge) → IsPassOver lists pass → (q : Key)
+    → record_at (with_write pass key rec lists) q ≡ over_any (written_at key rec q) (record_at lists q)
+record_at-write key rec lists pass over q = by (goes_to_a pass key) refl
+  where
+    rest : Option Rec
+    rest = over_any (record_of_key q lists.c1) (over_any (record_of_key q lists.c1x) (record_of_key q lists.c2))
+
+    by : (b : Bool) → goes_to_a pass key ≡ b → record_at (cond b (to_a key rec lists) (to_b key rec lists)) q ≡ over_any (written_at key rec q) (record_at lists q)
+    by true goes =
+        ap (λ r. over_any (record_of_key q lists.b) (over_any r (over_any (record_of_key q lists.c1) (over_any (record_of_key q lists.c1x) (record_of_key q lists.c2))))) (find-with_record key rec lists.a q)
+        ∙ elim (by_test (eq_by_cmp key_cmp q key)) [
+          | inl same ↦
+              let none : record_of_key q lists.b ≡ None = ap (λ k. record_of_key k lists.b) (tied q key (equal_of (key_cmp q key) same)) ∙ none_in_b key lists pass over goes in
+              ap (λ r. over_any r (over_any (over_any (written_at key rec q) (record_of_key q lists.a)) (over_any (record_of_key q lists.c1) (over_any (record_of_key q lists.c1x) (record_of_key q lists.c2))))) none
+              ∙ over_any_assoc (written_at key rec q) (record_of_key q lists.a) (over_any (record_of_key q lists.c1) (over_any (record_of_key q lists.c1x) (record_of_key q lists.c2)))
+              ∙ ap (λ r. over_any (written_at key rec q) (over_any r (over_any (record_of_key q lists.a) (over_any (record_of_key q lists.c1) (over_any (record_of_key q lists.c1x) (record_of_key q lists.c2)))))) (sym none)
+          | inr apart ↦
+              ap (λ b. over_any (record_of_key q lists.b) (over_any (over_any (cond b (Some rec) None) (record_of_key q lists.a)) (over_any (record_of_key q lists.c1) (over_any (record_of_key q lists.c1x) (record_of_key q lists.c2))))) apart
+              ∙ ap (λ b. over_any (cond b (Some rec) None) (record_at lists q)) (sym apart)
+        ]
+    by false goes =
+        ap (λ r. over_any r (over_any (record_of_key q lists.a) (over_any (record_of_key q lists.c1) (over_any (record_of_key q lists.c1x) (record_of_key q lists.c2))))) (find-with_record key rec lists.b q)
+        ∙ over_any_assoc (written_at key rec q) (record_of_key q lists.b) (over_any (record_of_key q lists.a) (over_any (record_of_key q lists.c1) (over_any (record_of_key q lists.c1x) (record_of_key q lists.c2))))
+
+-- ---- so the value after it is the value with the write
+
+same_as_tie : (q key : Key) → same_key key q ≡ eq_by_cmp key_cmp q key
+same_as_tie q key = sym (sym (texts_ties q key) ∙ (lists_equiv nat_eq_equiv).symm q key)
+
+pub stands_write : (write : Write) → added_count write < 2 ^ 64 → StandsForMore write (record_of write)
+stands_write (Put key value) fits = stands_put key value
+stands_write (Add key count) fits = stands_add key count fits
+stands_write (Del key) fits = stands_del key
+
+over_as_kept : (b : Bool) (rec : Rec) (kept : Option Rec) → over_any (cond b (Some rec) None) kept ≡ cond b (Some (rec_over rec kept)) kept
+over_as_kept true rec kept = refl
+over_as_kept false rec kept = refl
+
+pub value_in-write : (write : Write) (lists : Lists) (pass : Option Merge) (writes : List Write) → added_count write < 2 ^ 64 → IsPassOver lists pass
+    → ((q : Key) → value_in lists q ≡ value_at writes q) → (q : Key) → value_in (with_write pass (key_of write) (record_of write) lists) q ≡ value_at (writes ++ write ∷ []) q
+value_in-write write lists pass writes fits over stood q =
+    ap settled (record_at-write (key_of write) (record_of write) lists pass over q)
+    ∙ ap settled (over_as_kept (eq_by_cmp key_cmp q (key_of write)) (record_of write) (record_at lists q))
+    ∙ ap (λ b. settled (cond b (Some (rec_over (record_of write) (record_at lists q))) (record_at lists q))) (sym (same_as_tie q (key_of write)))
+    ∙ stands_write write fits q (record_at lists q) writes (stood q)
+
+-- ---- where a write goes
+
+pub goes_ahead : (pass : Merge) (key : Key) (rec : Rec) (lists : Lists) → is_above pass.cursor key ≡ true → (with_write (Some pass) key rec lists).b ≡ lists.b
+goes_ahead pass key rec lists past = ap (λ b. (cond b (to_a key rec lists) (to_b key rec lists)).b) past
+
+pub goes_behind : (pass : Merge) (key : Key) (rec : Rec) (lists : Lists) → is_above pass.cursor key ≡ false → (with_write (Some pass) key rec lists).a ≡ lists.a
+goes_behind pass key rec lists behind = ap (λ b. (cond b (to_a key rec lists) (to_b key rec lists)).a) behind

@@ -1,0 +1,73 @@
+-- What a step leaves as it was, and which merge a quantum moves.
+use Rattle.std.specs.Prelude.{◌≡◌, ◌⊎◌, ◌+◌, ◌-◌, ℕ, Bool, true, false, Option, Some, None, IsTrue}
+use Rattle.blsm_model.specs.declared.key.Key.{Key}
+use Rattle.blsm_model.specs.declared.op.Op.{Op}
+use Rattle.blsm_model.specs.declared.op.Op.TheVariants.{Get, Hold, Next, Release}
+use Rattle.blsm_model.specs.declared.history.Reply.{Reply}
+use Rattle.blsm_model.specs.declared.history.Reply.TheVariants.{Done, Is, Absent, NoHold, Full, NoMemory, Fault, Damaged, Stopped}
+use Rattle.record_delta.specs.Entries.{Entries, entries_weight, up_to}
+use Rattle.tree_machine.specs.Merges.{Merge, begun}
+use Rattle.tree_machine.specs.Machine.{Machine, pass_done, deep_done}
+use Rattle.tree_machine.specs.Moves.{note, count_quantum, pass_quantum, deep_quantum}
+use Rattle.tree_machine.specs.Steps.{Outcome, Answer, Replied, Stepped, admit, get, hold, next_rows, drop_hold}
+
+-- ---- refusals
+
+-- these replies change nothing but the history
+abbrev pub is_bare : Reply → Bool
+is_bare (Is value) = true
+is_bare Absent = true
+is_bare NoHold = true
+is_bare (Full charge) = true
+is_bare NoMemory = true
+is_bare Fault = true
+is_bare (Damaged page) = true
+is_bare (Stopped why) = true
+is_bare _ = false
+
+-- what a step of a command replies
+abbrev pub reply_of : Answer → Reply
+reply_of (Replied reply) = reply
+reply_of _ = Done
+
+abbrev pub LeavesAll : Machine → ℕ → Op → Stepped → Type 0
+LeavesAll m seat op made = IsTrue (is_bare (reply_of made.answer)) → made.state ≡ note seat op (reply_of made.answer) m
+
+-- Commands that are refused, or that only look, leave all but the entry: also a lookup that failed, which stops nothing.
+pub record LeaveAll (m : Machine) (seat : ℕ) (outcome : Outcome) : Type 0 where
+  pub admit : (op : Op) → LeavesAll m seat op (admit m seat op outcome)
+  pub get : (key : Key) → LeavesAll m seat (Get key) (get m seat key outcome)
+  pub hold : (low high : Key) → LeavesAll m seat (Hold low high) (hold m seat low high outcome)
+  pub next : (n : ℕ) → LeavesAll m seat (Next n) (next_rows m seat n outcome)
+  pub drop : LeavesAll m seat Release (drop_hold m seat)
+
+-- ---- quanta
+
+-- The merge stands; or, where it was done or didn't run, none runs afterwards, or one that has taken nothing.
+abbrev pub MergeStands : Bool → Option Merge → Option Merge → Type 0
+MergeStands done old new = (new ≡ old) ⊎ ((IsTrue done ⊎ (old ≡ None)) × ((new ≡ None) ⊎ (new ≡ Some begun)))
+
+-- no quantum is done: both merges stand
+pub record Rests (old new : Machine) : Type 0 where
+  pub quanta : new.seats.quanta ≡ old.seats.quanta
+  pub pass : MergeStands (pass_done old) old.merges.pass new.merges.pass
+  pub deep : MergeStands (deep_done old) old.merges.deep new.merges.deep
+
+-- one quantum is done, for the seat, of one merge; the lists and the other merge stand
+pub record TakesQuantum (seat : ℕ) (old new : Machine) : Type 0 where
+  pub quanta : new.seats.quanta ≡ (count_quantum seat old.seats).quanta
+  pub lists : new.lists ≡ old.lists
+  pub merge : (new.merges ≡ (pass_quantum seat old).merges) ⊎ (new.merges ≡ (deep_quantum seat old).merges)
+
+-- ---- work
+
+-- the weight of the records whose keys the merge's cursor passes
+abbrev pub passed_by : Option Merge → Option Merge → Entries → Entries → ℕ
+passed_by (Some old) (Some new) newer older =
+    (entries_weight (up_to new.cursor newer) + entries_weight (up_to new.cursor older)) - (entries_weight (up_to old.cursor newer) + entries_weight (up_to old.cursor older))
+passed_by _ _ newer older = 0
+
+-- what a step takes: what the cursors of both merges pass of their inputs
+abbrev pub work_between : Machine → Machine → ℕ
+work_between old new =
+    passed_by old.merges.pass new.merges.pass old.lists.a old.lists.c1 + passed_by old.merges.deep new.merges.deep old.lists.c1x old.lists.c2

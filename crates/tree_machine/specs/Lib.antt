@@ -1,0 +1,12 @@
+pub mod Lists
+pub mod Merges
+pub mod Machine
+pub mod Moves
+pub mod Layers
+pub mod Steps
+pub mod Stands
+pub mod Effects
+pub mod Frames
+pub mod Plays
+pub mod Outcomes
+pub mod Laws
