@@ -1,0 +1,95 @@
+-- What is known of a value is known of what follows it.
+use Rattle.std.proofs.Common.{◌≡◌, ◌≢◌, ℕ, ◌≤◌, Bool, false, ◌==◌, List, [], ◌∷◌, ◌++◌, length, sym, refl, ap, ◌∙◌, subst, ⊎_elim, arith, append_assoc, ne_eqb, eq-eqb, le_trans, cond, length-append}
+use Rattle.std.proofs.lemmas.List.{append-nil}
+use Rattle.std.proofs.lemmas.List.Elements.{filter-append}
+use mathlib.Core.List.{IsPrefix}
+use Rattle.blsm_model.specs.declared.history.Entry.{Entry}
+use Rattle.blsm_model.specs.Facts.{Part, Facts, Eases, Notes, Follows, Same, entries_of}
+use Rattle.turn_lock.specs.Views.{total, is_number, Each, Fits}
+
+pub prefix_self : {A : Type 0} (xs : List A) → IsPrefix xs xs
+prefix_self xs = ([], append-nil xs)
+
+pub eases_self : (p : Part) → Eases p p
+eases_self p = record { debt1 = omega arith; debt2 = omega arith; held = refl; turns = refl; worked = refl; room = refl; left = refl }
+
+pub eases_trans : (p q r : Part) → Eases p q → Eases q r → Eases p r
+eases_trans p q r a b = record {
+  debt1 = le_trans b.debt1 a.debt1;
+  debt2 = le_trans b.debt2 a.debt2;
+  held = b.held ∙ a.held;
+  turns = b.turns ∙ a.turns;
+  worked = b.worked ∙ a.worked;
+  room = b.room ∙ a.room;
+  left = b.left ∙ a.left;
+}
+
+pub same_self : (i : ℕ) (f : Facts) → Same i f f
+same_self i f = record { entries = refl; part = eases_self (f.part i) }
+
+pub prefix_notes : (seat : ℕ) (xs h k : List Entry) → Notes seat h k → IsPrefix xs h → IsPrefix xs k
+prefix_notes seat xs h k notes p = ⊎_elim
+    (λ (same : k ≡ h). subst (IsPrefix xs) (sym same) p)
+    (λ (t : (e : Entry) × (e.seat ≡ seat) × (k ≡ h ++ e ∷ [])). (p.0 ++ t.0 ∷ [], sym (append_assoc xs p.0 (t.0 ∷ [])) ∙ (ap (λ w. w ++ t.0 ∷ []) p.1 ∙ sym t.2)))
+    notes
+
+not_its : (i seat : ℕ) (e : Entry) → e.seat ≡ seat → i ≢ seat → entries_of i (e ∷ []) ≡ []
+not_its i seat e its apart = let no : (e.seat == i) ≡ false = ne_eqb e.seat i (λ same. apart (sym same ∙ its)) in rw no refl
+
+pub entries_note : (i seat : ℕ) (h k : List Entry) → Notes seat h k → i ≢ seat → entries_of i k ≡ entries_of i h
+entries_note i seat h k notes apart = ⊎_elim
+    (λ (same : k ≡ h). ap (entries_of i) same)
+    (λ (t : (e : Entry) × (e.seat ≡ seat) × (k ≡ h ++ e ∷ [])).
+    ap (entries_of i) t.2 ∙ (filter-append (λ (e : Entry). e.seat == i) h (t.0 ∷ []) ∙ (ap (λ w. entries_of i h ++ w) (not_its i seat t.0 t.1 apart) ∙ append-nil (entries_of i h))))
+    notes
+
+pub same_follows : (i seat : ℕ) (a f g : Facts) → Follows seat f g → i ≢ seat → Same i a f → Same i a g
+same_follows i seat a f g follows apart same = record {
+  entries = entries_note i seat f.history g.history follows.history apart ∙ same.entries;
+  part = eases_trans (a.part i) (f.part i) (g.part i) same.part (follows.others i apart);
+}
+
+pub fits_self : {V : Type 0} (f : V → Facts) (i : ℕ) (v : V) → Fits f (f v).history v (i, v)
+fits_self f i v = (same_self i (f v), refl)
+
+pub fits_seen : {V : Type 0} (f : V → Facts) (seen : List Entry) (v : V) (p : ℕ × V) → Fits f seen v p → Fits f (f v).history v p
+fits_seen f seen v p fits = (fits.0, refl)
+
+pub fits_follows : {V : Type 0} (f : V → Facts) (seat : ℕ) (seen : List Entry) (a b : V) (p : ℕ × V) → Follows seat (f a) (f b) → p.0 ≢ seat → Fits f seen a p → Fits f seen b p
+fits_follows f seat seen a b p follows apart fits = (same_follows p.0 seat (f p.1) (f a) (f b) follows apart fits.0, fits.1 ∙ sym (entries_note p.0 seat (f a).history (f b).history follows.history apart))
+
+pub each_map : {A : Type 0} (P Q : A → Type 0) (xs : List A) → ((x : A) → P x → Q x) → Each P xs → Each Q xs
+each_map P Q [] step each = tt
+each_map P Q (x ∷ xs) step each = (step x each.0, each_map P Q xs step each.1)
+
+-- of two beginnings of one list the shorter begins the longer
+pub prefix_shorter : {A : Type 0} (xs ys zs : List A) → IsPrefix xs zs → IsPrefix ys zs → length xs ≤ length ys → IsPrefix xs ys
+prefix_shorter [] ys zs p q le = (ys, refl)
+prefix_shorter (x ∷ xs) [] zs p q le = absurd (omega arith)
+prefix_shorter (x ∷ xs) (y ∷ ys) [] p q le = absurd (cc (p.1))
+prefix_shorter (x ∷ xs) (y ∷ ys) (z ∷ zs) p q le =
+    let heads : x ≡ y = cc (p.1, q.1) in
+    let rest = prefix_shorter xs ys zs (p.0, cc (p.1)) (q.0, cc (q.1)) (omega arith) in
+    (rest.0, cc (heads, rest.1))
+
+none_more : (xs ys : List Entry) → length (xs ++ ys) ≤ length xs → xs ++ ys ≡ xs
+none_more xs [] le = append-nil xs
+none_more xs (y ∷ ys) le = absurd (omega (arith, length-append xs (y ∷ ys)))
+
+-- what was seen last has all entries of a seat, where an earlier sight had
+pub entries_between : (i : ℕ) (xs ys zs : List Entry) → IsPrefix xs ys → IsPrefix ys zs → entries_of i xs ≡ entries_of i zs → entries_of i ys ≡ entries_of i zs
+entries_between i xs ys zs p q same =
+    let test : Entry → Bool = λ e. e.seat == i in
+    let first : entries_of i ys ≡ entries_of i xs ++ entries_of i p.0 = ap (entries_of i) (sym p.1) ∙ filter-append test xs p.0 in
+    let second : entries_of i zs ≡ entries_of i ys ++ entries_of i q.0 = ap (entries_of i) (sym q.1) ∙ filter-append test ys q.0 in
+    let no_more : entries_of i ys ++ entries_of i q.0 ≡ entries_of i ys = none_more (entries_of i ys) (entries_of i q.0)
+    (omega (arith, ap length first, ap length second, ap length same, length-append (entries_of i xs) (entries_of i p.0))) in
+    sym no_more ∙ sym second
+
+-- numbers among which i isn't
+pub each_but : {V : Type 0} (i : ℕ) (P Q : ℕ × V → Type 0) (ps : List (ℕ × V)) → total (is_number i) ps ≡ 0 → ((p : ℕ × V) → p.0 ≢ i → P p → Q p) → Each P ps → Each Q ps
+each_but i P Q [] none step each = tt
+each_but i P Q (p ∷ ps) none step each = (
+  step p (λ e. let here : is_number i p ≡ 1 = ap (λ b. cond b 1 0) (eq-eqb p.0 i e) in absurd (omega arith)) each.0,
+  each_but i P Q ps (omega arith) step each.1,
+)

@@ -1,0 +1,6 @@
+pub mod Views
+pub mod Rule
+pub mod Plays
+pub mod Callers
+pub mod Tallies
+pub mod Rests

@@ -1,0 +1,106 @@
+// Callers in threads of their own, over the plainest value.
+ghost use Rattle.std.specs.Prelude.{◌≡◌, ◌<◌, ℕ, [], Some, IfOk, slice_index};
+ghost use mathlib.Core.List.{IsPrefix};
+ghost use Rattle.blsm_model.specs.Facts.{Follows};
+ghost use Rattle.turn_lock.specs.declared.tally.Tally.{Tally};
+ghost use Rattle.turn_lock.specs.Callers.{HasTurn, Idles};
+ghost use Rattle.turn_lock.specs.Tallies.{tally_facts, HasRoomFor, IsOf, IsReady};
+
+use crate::{Caller, Tally, TurnLock, do_one, run_all};
+use blsm_model::{Annals, Op, Room};
+use std::alloc::Global;
+use std::sync::Wait;
+use std::test::Fail;
+use std::thread::{join, yield_now};
+
+fn tally(alloc: Global) -> Result<Tally, Fail>
+    ensures { IfOk result (λ t. (t.annals.entries ≡ [])
+        × ((i : ℕ) → i < 16 → slice_index t.annals.room.entries i ≡ 10)) }
+{
+    let room = Room {
+        entries: [10; 16],
+        rows: [0; 16],
+    };
+    Ok(Tally {
+        annals: Annals::reserve(alloc, room)?,
+    })
+}
+
+// One hold of the lock that isn't over yet.
+fn take_and_work<R: Wait>(rt: &R, lock: &TurnLock<Tally>, caller: &mut Caller<Tally>) -> Tally
+    requires lock { IsOf lock.now caller.old }
+    requires number { caller.old.number < 16 }
+    requires room { HasRoomFor (λ t. tally_facts t.annals) 1 caller.old }
+    ensures table { caller.new.table ≡ caller.old.table }
+    ensures turn { (b : Tally) × HasTurn caller.new.me b caller.new.ticket
+        × Follows caller.new.number (tally_facts b.annals) (tally_facts result.annals) }
+    ensures lasts { (a : Tally) → caller.new.me.0.start ≡ Some a → IsPrefix a.annals.entries result.annals.entries }
+{
+    let mut value = lock.take(rt, caller);
+    value.work(caller.number(), 0);
+    value
+}
+
+fn give_late(lock: &TurnLock<Tally>, mut caller: Caller<Tally>, value: Tally) -> Caller<Tally>
+    requires table { caller.table ≡ lock.now.table }
+    requires turn { (b : Tally) × HasTurn caller.me b caller.ticket
+        × Follows caller.number (tally_facts b.annals) (tally_facts value.annals) }
+    requires lasts { (a : Tally) → caller.me.0.start ≡ Some a → IsPrefix a.annals.entries value.annals.entries }
+    ensures { (result.table ≡ caller.table) × Idles result.me }
+{
+    for _ in 0..10_000 {
+        yield_now();
+    }
+    lock.give(&mut caller, value);
+    caller
+}
+
+// Each caller's numbers stand in the history once, in order.
+#[test]
+fn sixteen_callers_note_their_entries(rt: HostRuntime) -> Result<(), Fail> {
+    let value = tally(rt.alloc())?;
+    let Ok(value) = run_all(&rt, rt.alloc(), value, 10) else {
+        panic!(rt; "no memory");
+    };
+    assert_eq!(rt; value.annals.len(), 160);
+    let mut noted = [0_u32; 16];
+    for place in 0..160 {
+        let seat = value.annals.seat(place) as usize;
+        assert!(rt; seat < 16);
+        assert_eq!(rt; *value.annals.op(place), Op::Work(noted[seat]));
+        noted[seat] = noted[seat].saturating_add(1);
+    }
+    assert_eq!(rt; noted, [10; 16]);
+    Ok(())
+}
+
+// One caller has the value before the other draws its ticket: the other waits, and its entry comes second.
+#[test]
+fn a_caller_waits_for_its_turn(rt: HostRuntime) -> Result<(), Fail> {
+    let Ok((lock, mut one)) = TurnLock::new(rt.alloc(), tally(rt.alloc())?) else {
+        panic!(rt; "no memory");
+    };
+    let mut two = lock.split(&mut one);
+    let value = take_and_work(&rt, &lock, &mut one);
+    let shared = &lock;
+    let (mut one, _two) = join(
+        &rt,
+        || -> Caller<Tally>
+            requires { (one.table ≡ shared.now.table)
+                × ((b : Tally) × HasTurn one.me b one.ticket
+                × Follows one.number (tally_facts b.annals) (tally_facts value.annals))
+                × ((a : Tally) → one.me.0.start ≡ Some a → IsPrefix a.annals.entries value.annals.entries) }
+            ensures { (result.table ≡ one.table) × Idles result.me }
+        { give_late(shared, one, value) },
+        || -> Caller<Tally>
+            requires { IsReady shared.now (λ t. tally_facts t.annals) 1 two }
+        {
+            do_one(&rt, shared, &mut two, 0);
+            two
+        },
+    );
+    let value = lock.take(&rt, &mut one);
+    assert_eq!(rt; value.annals.len(), 2);
+    assert_eq!(rt; [value.annals.seat(0), value.annals.seat(1)], [0, 1]);
+    Ok(())
+}
