@@ -18,8 +18,9 @@ const LANES_START: usize = 4_096;
 
 const LANE: usize = 69_632;
 
-// How many images are read at each stop.
-const PICKS: u64 = 24;
+// How many images are read at each stop: all that the write of a slot may leave, which has two digits, below 85 and below 2. Those of
+// two gates are 16.
+const PICKS: u64 = 170;
 
 // A component that has no pages.
 const NOTHING: [u8; 24] = [

@@ -1,7 +1,5 @@
 -- Examples of merges.
-use Rattle.std.proofs.Common.{◌≡◌, [], ◌∷◌, Some, None, refl, codes}
-use Rattle.blsm_model.specs.declared.key.Key.{Key}
-use Rattle.record_delta.specs.declared.record.Rec.{Rec}
+use Rattle.std.proofs.Common.{◌≡◌, [], ◌∷◌, Some, refl, codes}
 use Rattle.record_delta.specs.declared.record.Rec.TheVariants.{Base, Delta, Tomb}
 use Rattle.record_delta.specs.Entries.{Entries, folded_over, settled_entries, above, up_to}
 

@@ -1,6 +1,6 @@
 //! The least key of two runs.
 ghost use Rattle.std.specs.Prelude.{◌≡◌, ◌≤◌, ◌+◌, ◌*◌, IfSome, None};
-ghost use Rattle.blsm_model.specs.Format.{most_weight};
+ghost use Rattle.blsm_model.specs.Format.{least_weight, most_weight};
 ghost use Rattle.merge_step.specs.Group.{least_of, group_of};
 ghost use Rattle.blsm_model.specs.Keys.{key_cmp};
 ghost use Rattle.record_delta.specs.Records.{weight as weight_with};
@@ -13,7 +13,8 @@ use std::cmp::Ordering;
 /// that this takes, in bytes. `None` exactly where both are at their ends.
 pub fn least_group<A: Stream, B: Stream>(newer: &A, older: &B) -> Option<(Key, Rec, u64)>
     ensures group { result ≡ group_of (A.at newer.now) (B.at older.now) }
-    // A step takes at most two records, and the folded one weighs no more than they do.
+    // A step takes one record or two, and the folded one weighs no more than they do.
+    ensures some { IfSome result (λ g. least_weight ≤ g.2) }
     ensures light { IfSome result (λ g. (g.2 ≤ 2 * most_weight) × (weight_with g.0 g.1 ≤ g.2)) }
 {
     match (newer.head(), older.head()) {
@@ -26,6 +27,7 @@ pub fn least_group<A: Stream, B: Stream>(newer: &A, older: &B) -> Option<(Key, R
 // An entry whose key the other run doesn't have.
 fn alone(entry: (Key, Rec)) -> (Key, Rec, u64)
     ensures entry { result ≡ (entry.0, entry.1, weight_with entry.0 entry.1) }
+    ensures some { least_weight ≤ result.2 }
     ensures light { result.2 ≤ most_weight }
 {
     let (key, rec) = entry;
@@ -36,6 +38,7 @@ fn alone(entry: (Key, Rec)) -> (Key, Rec, u64)
 // The lesser of two entries, or one of both.
 fn least(newer: (Key, Rec), older: (Key, Rec)) -> (Key, Rec, u64)
     ensures entry { result ≡ least_of (key_cmp newer.0 older.0) newer older }
+    ensures some { least_weight ≤ result.2 }
     ensures light { (result.2 ≤ 2 * most_weight) × (weight_with result.0 result.1 ≤ result.2) }
 {
     match newer.0.cmp(&older.0) {
@@ -49,6 +52,7 @@ fn least(newer: (Key, Rec), older: (Key, Rec)) -> (Key, Rec, u64)
 fn both(newer: (Key, Rec), older: (Key, Rec)) -> (Key, Rec, u64)
     requires { key_cmp newer.0 older.0 ≡ Ordering.Equal }
     ensures entry { result ≡ least_of Ordering.Equal newer older }
+    ensures some { least_weight ≤ result.2 }
     ensures light { (result.2 ≤ 2 * most_weight) × (weight_with result.0 result.1 ≤ result.2) }
 {
     let (key, rec) = newer;

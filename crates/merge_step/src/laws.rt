@@ -40,8 +40,9 @@ pub fn a_list_is_taken()
         → (above (Some key) entries ≡ above at entries) × (up_to (Some key) entries ≡ up_to at entries) }
 {}
 
-/// The least group of what two lists have above a key is the next entry of what they fold to.
+/// The least group of what two lists have above a key is the next entry of what they fold to, and its weight is what they have less above
+/// it.
 pub fn a_merge_goes_on()
     ensures { (at : Option Key) (newer older : Entries) (key : Key) (rec : Rec) (taken : ℕ) → IsTrue (is_sorted key_cmp newer) → IsTrue (is_sorted key_cmp older)
-        → group_of (first_of (above at newer)) (first_of (above at older)) ≡ Some (key, rec, taken) → IsTaken at newer older key rec }
+        → group_of (first_of (above at newer)) (first_of (above at older)) ≡ Some (key, rec, taken) → IsTaken at newer older key rec taken }
 {}

@@ -1,16 +1,13 @@
 -- The pages ahead of a cursor.
-use Rattle.std.proofs.Common.{◌≡◌, ℕ, ◌≤◌, List, [], ◌∷◌, None, refl, sym, ◌∙◌}
+use Rattle.std.proofs.Common.{◌≡◌, ℕ, List, [], ◌∷◌, None, refl}
 use Rattle.std.specs.List.{Contains}
 use Rattle.blsm_model.specs.Sizes.{Sizes}
-use Rattle.blsm_model.specs.Geometry.{page_count}
 use Rattle.blsm_model.specs.declared.key.Key.{Key}
 use Rattle.record_delta.specs.declared.record.Rec.{Rec}
-use Rattle.blsm_model.specs.Components.{no_page}
-use Rattle.page_file.specs.Component.{numbers_of, HasList}
+use Rattle.page_file.specs.Component.{numbers_of}
 use Rattle.page_file.specs.File.{AreSamePages}
-use Rattle.blsm_model.specs.declared.component.Component.{Component}
-use Rattle.page_file.proofs.ComponentLemmas.{one_chain, chain_kept}
-use Rattle.run_cursor.specs.Cursor.{CursorState, started, HasAhead, IsAdvanced}
+use Rattle.page_file.proofs.ComponentLemmas.{chain_kept}
+use Rattle.run_cursor.specs.Cursor.{CursorState, HasAhead, IsAdvanced}
 
 -- on more pages
 pub advanced_wider : (sizes : Sizes) (new : CursorState) (rest : List (Key × Rec)) (file : List ℕ) (pages more : List ℕ) → ((n : ℕ) → Contains pages n → Contains more n)

@@ -78,6 +78,14 @@ impl Cursor {
         self.entries
     }
 
+    /// The weight of the entries that come after the head, in bytes, by the component's number; before the first `advance` of all of
+    /// them.
+    pub fn weight_left(&self) -> u64
+        ensures { result ≡ self.now.weight }
+    {
+        self.weight
+    }
+
     // The entry behind the head on its page, and its length in bytes.
     fn behind(&self) -> (Key, Rec, usize)
         requires { 0 < length self.now.behind }
@@ -209,10 +217,10 @@ impl Cursor {
             → IsDamageAt geo.now self.old n (D.state disk.new).bytes }
         ensures kept { IsErr result → self.new ≡ self.old }
 
-        // On any disk the keys rise, and what is left falls by each entry, to nothing at the end.
+        // On any disk the keys rise, and what is left falls by each entry; at the end nothing was left.
         ensures rises { OnOk result (Rises self.old.head self.new.head) }
         ensures falls { OnOk result (IfSome self.new.head (λ e. (self.old.entries ≡ self.new.entries + 1) × (self.old.weight ≡ weight_with e.0 e.1 + self.new.weight))) }
-        ensures ended { OnOk result (IfNone self.new.head ((self.new.entries ≡ 0) × (self.new.weight ≡ 0) × (self.new.pages ≡ 0))) }
+        ensures ended { OnOk result (IfNone self.new.head ((self.old.weight ≡ 0) × (self.new.entries ≡ 0) × (self.new.weight ≡ 0) × (self.new.pages ≡ 0))) }
 
         // One call of the disk at most, which reads, and one for each page: none after the last one.
         ensures reads { Reads (file_length geo.now) 1 result (D.state disk.old) (D.state disk.new) }

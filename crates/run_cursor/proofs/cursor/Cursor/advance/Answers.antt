@@ -37,7 +37,7 @@ pub returns-then-self-eq0-clause-ended : goal.returns-then-self-eq0-clause-ended
 returns-then-self-eq0-clause-ended g c =
     let f = c.self.inside in
     let end = ended f.head f.page f.at f.end f.next f.pages f.entries f.weight c.self.invariant c.if-self.false c.if-self-eq0.true in
-    (end.no_entries, end.no_weight, c.if-self-eq0.true)
+    (subst (λ (s : CursorState). s.weight ≡ 0) c.self.view_is end.no_weight, end.no_entries, end.no_weight, c.if-self-eq0.true)
 
 pub returns-in_err-turn-clause-list : goal.returns-in_err-turn-clause-list
 returns-in_err-turn-clause-list g c = λ rest tells ahead other.

@@ -1,0 +1,64 @@
+-- A cursor that goes on, and one whose pages stay.
+use Rattle.std.proofs.Common.{◌≡◌, ◌∙◌, ℕ, false, cond, List, [], ◌∷◌, Option, Some, None, refl, ap, sym, subst, ⊎_elim}
+use Rattle.std.specs.List.{Contains}
+use Rattle.disk_trait.specs.Region.{IsWithin, IsSameOutside, outside, same_wider}
+use Rattle.blsm_model.specs.declared.key.Key.{Key}
+use Rattle.blsm_model.specs.Sizes.{Sizes}
+use Rattle.record_delta.specs.declared.record.Rec.{Rec}
+use Rattle.record_delta.specs.Entries.{Entries, above}
+use Rattle.page_space.specs.Space.{SpaceState, HasRole}
+use Rattle.page_file.specs.File.{pages_region, AreSamePages}
+use Rattle.page_file.specs.Component.{RunPage, numbers_of}
+use Rattle.page_file.proofs.PageLemmas.{others_apart, same_pages}
+use Rattle.run_cursor.specs.Cursor.{CursorState, from_head, HasAhead, IsAdvanced}
+use Rattle.run_writer.specs.Writer.{role_region}
+use Rattle.merge_ends.specs.Input.{head_above, IsInput}
+use Rattle.merge_ends.specs.Output.{TakesPages}
+
+-- a head that isn't above the key is no part of what is
+pub stale_left : (at : Option Key) (head : Option (Key × Rec)) (rest : Entries) → head_above at head ≡ false → above at (from_head head rest) ≡ above at rest
+stale_left at None rest is = refl
+stale_left at (Some e) rest is = ap (λ b. cond b (e ∷ above at rest) (above at rest)) is
+
+pub went_on : (sizes : Sizes) (file : List ℕ) (space : SpaceState) (role : ℕ) (at : Option Key) (old new : CursorState) (entries : Entries) → head_above at old.head ≡ false
+    → (input : IsInput sizes file space role at old entries) → IsAdvanced sizes new (numbers_of input.ahead.coming) input.rest file → IsInput sizes file space role at new entries
+went_on sizes file space role at old new entries stale input advanced = by_rest input.rest refl advanced
+  where
+    by_rest : (rest : Entries) → input.rest ≡ rest → IsAdvanced sizes new (numbers_of input.ahead.coming) rest file → IsInput sizes file space role at new entries
+    by_rest [] is then = record {
+      sorted = input.sorted;
+      rest = [];
+      ahead = then.1;
+      left_is = ap (λ h. above at (from_head h [])) then.0 ∙ sym (ap (above at) is) ∙ sym (stale_left at old.head input.rest stale) ∙ input.left_is;
+      apart = λ n has. input.apart n (then.2 n has);
+      in_use = λ n has. input.in_use n (then.2 n has);
+    }
+    by_rest (e ∷ es) is then = record {
+      sorted = input.sorted;
+      rest = es;
+      ahead = then.1;
+      left_is = ap (λ h. above at (from_head h es)) then.0 ∙ sym (ap (above at) is) ∙ sym (stale_left at old.head input.rest stale) ∙ input.left_is;
+      apart = λ n has. input.apart n (then.2 n has);
+      in_use = λ n has. input.in_use n (then.2 n has);
+    }
+
+-- An input stays where the role's pages alone are written, and the pages that the role takes were free.
+pub input_kept : ((sizes : Sizes) (cursor : CursorState) (rest : Entries) (old new : List ℕ) (before : HasAhead sizes cursor rest old) → AreSamePages sizes (numbers_of before.coming) old new
+    → (now : HasAhead sizes cursor rest new) × (now.coming ≡ before.coming))
+    → (sizes : Sizes) (old new : List ℕ) (space after : SpaceState) (role : ℕ) (at : Option Key) (cursor : CursorState) (entries : Entries)
+    → IsSameOutside (role_region sizes space role) old new → TakesPages role space after → IsInput sizes old space role at cursor entries → IsInput sizes new after role at cursor entries
+input_kept ahead_kept sizes old new space after role at cursor entries same takes input =
+    let now = ahead_kept sizes cursor input.rest old new input.ahead (same_pages sizes (numbers_of input.ahead.coming) old new (same_wider elsewhere same)) in
+    let back = λ (n : ℕ) (has : Contains (numbers_of now.0.coming) n). subst (λ (ps : List RunPage). Contains (numbers_of ps) n) now.1 has in
+    record {
+      sorted = input.sorted;
+      rest = input.rest;
+      ahead = now.0;
+      left_is = input.left_is;
+      apart = λ n has tagged. ⊎_elim (input.apart n (back n has)) (input.in_use n (back n has)) (takes.only_free n tagged);
+      in_use = λ n has free. input.in_use n (back n has) (takes.free n free);
+    }
+  where
+    elsewhere : IsWithin (role_region sizes space role) (outside (pages_region sizes (numbers_of input.ahead.coming)))
+    elsewhere i inside page =
+        others_apart sizes inside.0 page.0 (λ is. input.apart page.0 page.1 (subst (λ (n : ℕ). HasRole space role n) is inside.1)) i inside.2 page.2

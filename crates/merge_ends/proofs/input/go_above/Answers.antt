@@ -1,0 +1,14 @@
+use Rattle.std.proofs.Common.{◌∙◌, ℕ, List, sym, subst}
+use Rattle.disk_trait.specs.Reads.{only_reads_same}
+use Rattle.merge_ends.specs.Input.{IsInput}
+use Rattle.merge_ends.proofs.InputLemmas.{went_on}
+use Rattle.merge_ends.proofs.input.go_above.Goals as goal
+
+pub returns-clause-input : goal.returns-clause-input
+returns-clause-input g c = λ space role entries honest input other.
+    let sizes = c.args.geo.now in
+    let at = c.args.at.now in
+    let new = (g.D.Disk.state c.advance.new.disk).bytes in
+    let here = subst (λ (b : List ℕ). IsInput sizes b space role at c.args.cursor.now entries) (sym (only_reads_same c.advance.ensures.reads.effect honest)) input in
+    let advanced = c.advance.ensures.list here.rest (g.met.D.Disk.honest_tells c.args.disk.now honest) here.ahead other in
+    (advanced.0, went_on sizes new space role at c.args.cursor.now c.advance.new.self entries (sym c.is_above.ensures ∙ c.if-is_above.false) here advanced.1)

@@ -1,0 +1,39 @@
+-- The run that a merge writes: which pages it takes, and how much room it wants. Weights are in bytes.
+use Rattle.std.specs.Prelude.{◌≡◌, ◌⊎◌, ℕ, ◌+◌, ◌*◌, ◌/◌, ◌≤◌, Bool, false, List, Option}
+use Rattle.std.specs.List.{AllByRecursion}
+use Rattle.blsm_model.specs.declared.key.Key.{Key}
+use Rattle.blsm_model.specs.Format.{least_full}
+use Rattle.blsm_model.specs.Sizes.{Sizes}
+use Rattle.record_delta.specs.Entries.{Entries, is_above}
+use Rattle.page_space.specs.Space.{SpaceState, HasRole, IsFree, IsWithin, KeepsOtherRoles, seat_count}
+use Rattle.run_writer.specs.Writer.{WriterState, HasPushed}
+
+-- The role's pages are those that had its tag and some that were free. Nothing else changes.
+pub record TakesPages (role : ℕ) (old new : SpaceState) : Type 0 where
+  pub others : KeepsOtherRoles role old new
+  pub pins : new.pins ≡ old.pins
+  pub pages : new.pages ≡ old.pages
+  pub kept : (page : ℕ) → HasRole old role page → HasRole new role page
+  pub only_free : (page : ℕ) → HasRole new role page → HasRole old role page ⊎ IsFree old page
+  pub free : (page : ℕ) → IsFree new page → IsFree old page
+
+-- how many pages a run of this weight has at most
+abbrev pub most_pages : ℕ → ℕ
+most_pages weight = weight / least_full + 1
+
+-- As many pages are free as the run may yet take, where entries of so much weight are left to be pushed.
+pub record HasRoom (space : SpaceState) (writer : WriterState) (left : ℕ) : Type 0 where
+  pub live : ℕ
+  pub share : ℕ
+  pub within : IsWithin live share space
+  pub room : live + most_pages (writer.component.weight + left) + seat_count * share ≤ space.pages + writer.component.pages
+
+-- none of the keys is above this one
+abbrev pub EndBy : Option Key → Entries → Type 0
+EndBy at entries = AllByRecursion (λ e. is_above at e.0 ≡ false) entries
+
+-- On any disk: a list was pushed, none of whose keys is above this one.
+pub record HasRun (sizes : Sizes) (honest : Bool) (file : List ℕ) (space : SpaceState) (writer : WriterState) (at : Option Key) : Type 0 where
+  pub out : Entries
+  pub pushed : HasPushed sizes honest file space writer out
+  pub ends : EndBy at out

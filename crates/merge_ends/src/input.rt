@@ -1,0 +1,56 @@
+//! A component as an input of a merge.
+ghost use Rattle.std.specs.Prelude.{◌≡◌, ◌≢◌, ◌↔◌, ◌+◌, ◌≤◌, ℕ, Ok, Err, length, IsTrue, IsErr, OnOk};
+ghost use Rattle.blsm_model.specs.Sizes.{Sizes};
+ghost use Rattle.blsm_model.specs.Geometry.{file_length};
+ghost use Rattle.record_delta.specs.Entries.{Entries};
+ghost use Rattle.page_space.specs.Space.{SpaceState};
+ghost use Rattle.page_file.specs.File.{Reads};
+ghost use Rattle.merge_ends.specs.Input.{head_above, left_in, IsReady, IsBehind, IsInput};
+
+use blsm_model::{Geometry, Key};
+use disk_trait::Disk;
+use page_file::Broken;
+use record_delta::Stream;
+use run_cursor::Cursor;
+
+// Whether a cursor is at an entry above a key.
+fn is_above(cursor: &Cursor, at: &Option<Key>) -> bool
+    ensures { result ≡ head_above at.now cursor.now.head }
+{
+    match (cursor.head(), at) {
+        (None, _) => false,
+        (Some(_), None) => true,
+        (Some((key, _)), Some(low)) => *low < key,
+    }
+}
+
+/// Whether nothing of an input is left above a key.
+pub fn is_through(cursor: &Cursor, at: &Option<Key>) -> bool
+    ensures { IsTrue result ↔ (left_in at.now cursor.now ≡ 0) }
+{
+    cursor.weight_left() == 0 && !is_above(cursor, at)
+}
+
+/// Goes on to the first entry above the greatest key that was taken, or to the end. It makes one call of the disk at most, which
+/// reads. What is left of the input stays. After an `Err` the cursor is where it was.
+pub fn go_above<D: Disk>(
+    cursor: &mut Cursor,
+    disk: &mut D,
+    geo: &Geometry,
+    at: &Option<Key>,
+) -> Result<(), Broken>
+    requires behind { IsBehind at.now cursor.old }
+    requires length { IsTrue (D.state disk.old).tells_bytes → length (D.state disk.old).bytes ≡ file_length geo.now }
+    ensures input { (space : SpaceState) (role : ℕ) (entries : Entries) → IsTrue (D.state disk.old).is_honest
+        → IsInput geo.now (D.state disk.old).bytes space role at.now cursor.old entries → result ≢ Err Broken.Fault
+        → (result ≡ Ok tt) × IsInput geo.now (D.state disk.new).bytes space role at.now cursor.new entries }
+    ensures ready { OnOk result (IsReady at.now cursor.new × (left_in at.now cursor.new ≡ left_in at.now cursor.old)) }
+    ensures kept { IsErr result → cursor.new ≡ cursor.old }
+    ensures one_a_page { OnOk result ((D.state disk.new).clock + cursor.new.pages ≤ (D.state disk.old).clock + cursor.old.pages) }
+    ensures reads { Reads (file_length geo.now) 1 result (D.state disk.old) (D.state disk.new) }
+{
+    if is_above(cursor, at) {
+        return Ok(());
+    }
+    cursor.advance(disk, geo)
+}

@@ -1,0 +1,11 @@
+//! The two ends of a merge: a component that it reads, as an input of which all up to a key was taken, and the run that it writes.
+//! The merges use it.
+#![tactic(auto)]
+
+mod input;
+mod laws;
+mod output;
+
+pub use input::{go_above, is_through};
+pub use laws::an_input_stays;
+pub use output::put;

@@ -1,0 +1,134 @@
+-- A pass that takes one key group.
+use Rattle.std.proofs.Common.{◌≡◌, ◌∙◌, ◌+◌, ◌<◌, ◌≤◌, ◌⊎◌, ℕ, true, List, [], Option, Some, None, refl, ap, sym, subst, inl, inr, arith}
+use Rattle.blsm_model.specs.declared.key.Key.{Key}
+use Rattle.record_delta.specs.declared.record.Rec.{Rec}
+use Rattle.record_delta.specs.Records.{weight}
+use Rattle.record_delta.specs.Entries.{Entries, AreSorted, entries_weight, folded_over, first_of, above, up_to}
+use Rattle.run_cursor.specs.Cursor.{CursorState, from_head}
+use Rattle.blsm_model.specs.Sizes.{Sizes}
+use Rattle.page_space.specs.Space.{SpaceState}
+use Rattle.run_writer.specs.Writer.{WriterState, HasPushed}
+use Rattle.merge_step.specs.Group.{group_of}
+use Rattle.merge_step.specs.Merged.{IsTaken}
+use Rattle.merge_ends.specs.Input.{left_in, IsReady}
+use Rattle.merge_ends.proofs.GroupLemmas.{further, head_first, head_sorted, end_left, first_none, group_none, weightless, input_done, all_up_to}
+use Rattle.merge_ends.specs.Quantum.{IsNext, NoneAbove, HasTaken}
+use Rattle.snow_merge.specs.Pass.{SnowState, left_weight, IsPass, Takes, TakesGroup}
+
+-- ---- nothing is left
+
+pub nothing_left : (writer : WriterState) (cursor : CursorState) (at : Option Key) (a : Entries) → IsReady at cursor → group_of (first_of (above at a)) cursor.head ≡ None
+    → left_weight (record { writer = writer; c1 = cursor; at = at }) a ≡ 0
+nothing_left writer cursor at a ready none =
+    let parts = group_none (first_of (above at a)) cursor.head none in
+    omega (arith, ap (λ (l : Entries). entries_weight l) (first_none (above at a) parts.0), end_left at cursor ready parts.1)
+
+pub takes_nothing : (writer : WriterState) (old cursor : CursorState) (at : Option Key) (a : Entries) → IsReady at cursor → left_in at cursor ≡ left_in at old
+    → group_of (first_of (above at a)) cursor.head ≡ None
+    → TakesGroup (record { writer = writer; c1 = old; at = at }) (record { writer = writer; c1 = cursor; at = at }) a 0
+takes_nothing writer old cursor at a ready same none = record {
+  takes = record { of_table = 0; of_c1 = 0; taken_is = refl; table = omega arith; c1 = omega (arith, same); light = omega arith; onward = λ key is. is };
+  light = omega arith;
+  some = inr (refl, nothing_left writer cursor at a ready none);
+}
+
+-- ---- a group
+
+-- what the law of merge steps says of table A and of the cursor's head
+abbrev pub GoesOn : Type 0
+GoesOn = (at : Option Key) (newer older : Entries) (key : Key) (rec : Rec) (taken : ℕ) → AreSorted newer → AreSorted older
+    → group_of (first_of (above at newer)) (first_of (above at older)) ≡ Some (key, rec, taken) → IsTaken at newer older key rec taken
+
+pub group_taken : GoesOn → (cursor : CursorState) (at : Option Key) (a : Entries) (key : Key) (rec : Rec) (taken : ℕ) → AreSorted a → IsReady at cursor
+    → group_of (first_of (above at a)) cursor.head ≡ Some (key, rec, taken) → IsTaken at a (from_head cursor.head []) key rec taken
+group_taken goes_on cursor at a key rec taken sorted ready group =
+    goes_on at a (from_head cursor.head []) key rec taken sorted (head_sorted cursor.head) (ap (group_of (first_of (above at a))) (head_first at cursor ready) ∙ group)
+
+pub takes_group : (writer new_writer : WriterState) (old cursor : CursorState) (at : Option Key) (a : Entries) (key : Key) (rec : Rec) (taken : ℕ) → left_in at cursor ≡ left_in at old
+    → IsTaken at a (from_head cursor.head []) key rec taken → 14 ≤ taken → taken ≤ 1024 → weight key rec ≤ taken → new_writer.component.weight ≡ writer.component.weight + weight key rec
+    → TakesGroup (record { writer = writer; c1 = old; at = at }) (record { writer = new_writer; c1 = cursor; at = Some key }) a taken
+takes_group writer new_writer old cursor at a key rec taken same group some few light weighs = record {
+  takes = record {
+    of_table = group.of_newer;
+    of_c1 = group.of_older;
+    taken_is = group.taken_is;
+    table = group.newer_left;
+    c1 = omega (arith, same, group.older_left);
+    light = omega (arith, light, weighs);
+    onward = λ q is. further at key q group.above_at is;
+  };
+  light = few;
+  some = inl some;
+}
+
+-- what is left is less by what was taken
+pub left_less : (old new : SnowState) (a : Entries) (taken : ℕ) → Takes old new a taken → taken + left_weight new a ≡ left_weight old a
+left_less old new a taken takes = omega (arith, takes.taken_is, takes.table, takes.c1)
+
+-- ---- several groups
+
+pub takes_run : (old mid new : SnowState) (a : Entries) (m n : ℕ) → Takes old mid a m → Takes mid new a n → Takes old new a (m + n)
+takes_run old mid new a m n first second = record {
+  of_table = first.of_table + second.of_table;
+  of_c1 = first.of_c1 + second.of_c1;
+  taken_is = omega (arith, first.taken_is, second.taken_is);
+  table = omega (arith, first.table, second.table);
+  c1 = omega (arith, first.c1, second.c1);
+  light = omega (arith, first.light, second.light);
+  onward = λ key is. first.onward key (second.onward key is);
+}
+
+pub takes_none : (snow : SnowState) (a : Entries) → Takes snow snow a 0
+takes_none snow a = record { of_table = 0; of_c1 = 0; taken_is = refl; table = omega arith; c1 = omega arith; light = omega arith; onward = λ key is. is }
+
+-- a group more, where what was taken before it isn't enough
+pub has_more : GoesOn → (least : ℕ) (from mid to : Option Key) (a c1 : Entries) (taken group : ℕ) → AreSorted a → AreSorted c1 → taken < least → HasTaken least from mid a c1 taken
+    → IsNext mid to a c1 group → HasTaken least from to a c1 (taken + group)
+has_more goes_on least from mid to a c1 taken group sorted_a sorted_c1 few has next =
+    let step = goes_on mid a c1 next.0 next.1 group sorted_a sorted_c1 next.2 in
+    subst (λ (k : Option Key). HasTaken least from k a c1 (taken + group)) (sym next.3)
+    (record {
+      taken_is = omega (arith, has.taken_is, step.taken_is, step.newer_left, step.older_left);
+      last = inr (record { before = mid; group = group; few = omega (arith, has.taken_is, few); next = (next.0, next.1, next.2, refl) });
+    })
+
+pub has_same : (least : ℕ) (from mid to : Option Key) (a c1 : Entries) (taken group : ℕ) → to ≡ mid → group ≡ 0 → HasTaken least from mid a c1 taken → HasTaken least from to a c1 (taken + group)
+has_same least from mid to a c1 taken group same none has =
+    let sum : taken ≡ taken + group = omega (arith, none) in
+    subst (λ (n : ℕ). HasTaken least from to a c1 n) sum (subst (λ (k : Option Key). HasTaken least from k a c1 taken) (sym same) has)
+
+pub has_step : GoesOn → (least : ℕ) (from mid to : Option Key) (a c1 : Entries) (taken group : ℕ) → AreSorted a → AreSorted c1 → taken < least → HasTaken least from mid a c1 taken
+    → IsNext mid to a c1 group ⊎ (NoneAbove mid a c1 × (to ≡ mid) × (group ≡ 0)) → HasTaken least from to a c1 (taken + group)
+has_step goes_on least from mid to a c1 taken group sorted_a sorted_c1 few has (inl next) = has_more goes_on least from mid to a c1 taken group sorted_a sorted_c1 few has next
+has_step goes_on least from mid to a c1 taken group sorted_a sorted_c1 few has (inr none) = has_same least from mid to a c1 taken group none.1 none.2 has
+
+pub some_weight : {P : Type 0} (group : ℕ) → (14 ≤ group) ⊎ ((group ≡ 0) × P) → (group ≡ 0 → ⊥) → 14 ≤ group
+some_weight group (inl some) other = some
+some_weight group (inr none) other = absurd (other none.0)
+
+pub no_weight : {P : Type 0} (group : ℕ) → (14 ≤ group) ⊎ ((group ≡ 0) × P) → group ≡ 0 → P
+no_weight group (inl some) is = absurd (omega (arith, some, is))
+no_weight group (inr none) is = none.1
+
+-- ---- the end
+
+first_part : (m n : ℕ) → m + n ≡ 0 → m ≡ 0
+first_part m n is = omega arith
+
+last_part : (m n : ℕ) → m + n ≡ 0 → n ≡ 0
+last_part m n is = omega arith
+
+-- Where nothing is left by the numbers, nothing is left of the lists.
+pub none_above : (sizes : Sizes) (file : List ℕ) (space : SpaceState) (snow : SnowState) (a c1 : Entries) → left_weight snow a ≡ 0 → IsPass sizes file space snow a c1 → NoneAbove snow.at a c1
+none_above sizes file space snow a c1 done pass = (
+  weightless (above snow.at a) (first_part (entries_weight (above snow.at a)) (left_in snow.at snow.c1) done),
+  input_done sizes file space snow.writer.role snow.at snow.c1 c1 (last_part (entries_weight (above snow.at a)) (left_in snow.at snow.c1) done) pass.older,
+)
+
+-- All was pushed.
+pub pushed_all : (sizes : Sizes) (file : List ℕ) (space : SpaceState) (snow : SnowState) (a c1 : Entries) → left_weight snow a ≡ 0 → IsPass sizes file space snow a c1
+    → HasPushed sizes true file space snow.writer (folded_over a c1)
+pushed_all sizes file space snow a c1 done pass =
+    let none = none_above sizes file space snow a c1 done pass in
+    subst (λ (l : Entries). HasPushed sizes true file space snow.writer (folded_over l c1)) (all_up_to snow.at a none.0)
+    (subst (λ (l : Entries). HasPushed sizes true file space snow.writer (folded_over (up_to snow.at a) l)) (all_up_to snow.at c1 none.1) pass.pushed)

@@ -1,0 +1,210 @@
+//! A pass.
+ghost use Rattle.std.specs.Prelude.{◌≡◌, ◌≢◌, ◌↔◌, ◌⊎◌, ◌+◌, ◌*◌, ◌/◌, ◌≤◌, [], ℕ, Bool, List, Option, Ok, Err, length, IsTrue, IsErr, IfOk, OnOk};
+ghost use Rattle.std.specs.List.{Contains};
+ghost use Rattle.disk_trait.specs.Disk.{TellsFaultsBy};
+ghost use Rattle.blsm_model.specs.Components.{empty_component};
+ghost use Rattle.blsm_model.specs.Format.{most_weight};
+ghost use Rattle.blsm_model.specs.Sizes.{Sizes};
+ghost use Rattle.blsm_model.specs.Geometry.{page_count, file_length};
+ghost use Rattle.record_delta.specs.Entries.{Entries, entries_weight, folded_over, above};
+ghost use Rattle.page_space.specs.Space.{SpaceState, HasRole, IsFree, role_size};
+ghost use Rattle.page_file.specs.Component.{numbers_of, HasList};
+ghost use Rattle.page_file.specs.File.{Writes};
+ghost use Rattle.run_writer.specs.Writer.{IsInside, role_region};
+ghost use Rattle.merge_ends.specs.Quantum.{IsNext, NoneAbove, IsQuantum, Works, Counts};
+ghost use Rattle.snow_merge.specs.Pass.{started, left_weight, IsRunning, IsPass, Takes, TakesGroup, MayGoOn};
+
+use blsm_model::{Component, Geometry, Key};
+use disk_trait::Disk;
+use mem_table::{Above, Table};
+use merge_ends::{an_input_stays, go_above, is_through, put};
+use merge_step::{a_merge_goes_on, least_group};
+use page_file::{Broken, one_order};
+use page_space::{Role, Space};
+use refusal::Failed;
+use run_cursor::Cursor;
+use run_writer::{Writer, where_a_run_writes};
+use std::marker::Model;
+
+/// A pass. Contracts see the run that it writes, its cursor over C1, and the greatest key that it took.
+#[derive(Debug, Drop)]
+pub struct Snow {
+    writer: Writer,
+    c1: Cursor,
+    at: Option<Key>,
+}
+
+impl Model for Snow {
+    ghost use Rattle.snow_merge.specs.Pass.{SnowState};
+
+    ghost Value = { SnowState };
+
+    ghost view = { λ s. record { writer = s.writer; c1 = s.c1; at = s.at } };
+}
+
+impl Snow {
+    /// A pass over C1 that has taken nothing. It calls no device.
+    pub fn begin(c1: &Component, role: Role) -> Snow
+        requires { c1.now.pages ≡ 0 → c1.now ≡ empty_component }
+        ensures started { result ≡ started role c1.now }
+        ensures running { (sizes : Sizes) (honest : Bool) (file : List ℕ) (space : SpaceState) → IsRunning sizes honest file space result }
+        // No page of C1 has the run's tag, and none is free.
+        ensures pass { (sizes : Sizes) (file : List ℕ) (space : SpaceState) (a entries : Entries) → (list : HasList sizes c1.now entries file)
+            → ((n : ℕ) → Contains (numbers_of list.pages) n → (HasRole space role n → ⊥) × (IsFree space n → ⊥))
+            → IsPass sizes file space result a entries }
+    {
+        one_order();
+        Snow {
+            writer: Writer::start(role),
+            c1: Cursor::start(c1),
+            at: None,
+        }
+    }
+
+    /// The greatest key that was taken; `None` where none was.
+    pub fn cursor(&self) -> Option<Key>
+        ensures { result ≡ self.now.at }
+    {
+        match &self.at {
+            Some(key) => Some(key.copy()),
+            None => None,
+        }
+    }
+
+    /// Whether table A, as it is now, and C1 are wholly taken. A record that comes into the table ahead of the cursor makes it false again.
+    pub fn is_done(&self, a: &Table) -> bool
+        ensures { IsTrue result ↔ (left_weight self.now a.now.entries ≡ 0) }
+    {
+        is_through(&self.c1, &self.at) && has_none_above(a, self.cursor())
+    }
+
+    // Takes the next key group, and gives the weight of its records; 0 where nothing is left.
+    fn step<D: Disk>(
+        &mut self,
+        disk: &mut D,
+        geo: &Geometry,
+        a: &Table,
+        space: &mut Space,
+    ) -> Result<u64, Broken>
+        requires pages { space.old.pages ≡ page_count geo.now }
+        requires length { IsTrue (D.state disk.old).tells_bytes → length (D.state disk.old).bytes ≡ file_length geo.now }
+        requires runs { MayGoOn geo.now (D.state disk.old).is_honest (D.state disk.old).bytes space.old self.old a.now.entries }
+        ensures pass { (c1 : Entries) → IsTrue (D.state disk.old).is_honest → IsPass geo.now (D.state disk.old).bytes space.old self.old a.now.entries c1
+            → result ≢ Err Broken.Fault
+            → (n : ℕ) × (result ≡ Ok n) × IsPass geo.now (D.state disk.new).bytes space.new self.new a.now.entries c1
+            × (IsNext self.old.at self.new.at a.now.entries c1 n ⊎ (NoneAbove self.old.at a.now.entries c1 × (self.new.at ≡ self.old.at) × (n ≡ 0))) }
+        ensures runs { OnOk result (MayGoOn geo.now (D.state disk.new).is_honest (D.state disk.new).bytes space.new self.new a.now.entries) }
+        ensures takes { IfOk result (TakesGroup self.old self.new a.now.entries) }
+        ensures size { OnOk result (role_size space.new self.old.writer.role + self.old.writer.component.pages ≡ role_size space.old self.old.writer.role + self.new.writer.component.pages) }
+        ensures role { self.new.writer.role ≡ self.old.writer.role }
+        ensures works { Works geo.now self.old.writer.role 2 space.old space.new (D.state disk.old) (D.state disk.new) }
+        ensures counted { OnOk result (Counts 0 self.old.c1.pages self.new.c1.pages self.old.writer.component.pages self.new.writer.component.pages (D.state disk.old) (D.state disk.new)) }
+        ensures counts { Counts 1 self.old.c1.pages self.new.c1.pages self.old.writer.component.pages self.new.writer.component.pages (D.state disk.old) (D.state disk.new) }
+        ensures faults { TellsFaultsBy (Err Broken.Fault) result (D.state disk.old) (D.state disk.new) }
+    {
+        let _weight = a.weight();
+        an_input_stays();
+        a_merge_goes_on();
+        go_above(&mut self.c1, disk, geo, &self.at)?;
+        let table = Above {
+            table: a,
+            key: self.cursor(),
+        };
+        let Some((key, rec, weight)) = least_group(&table, &self.c1) else {
+            return Ok(0);
+        };
+        put(&mut self.writer, disk, geo, space, &key, &rec)?;
+        self.at = Some(key);
+        Ok(weight)
+    }
+
+    /// Takes whole key groups, the least key first, until they weigh a quantum or nothing is left. Gives the weight that it took.
+    ///
+    /// `Damaged` names a page of C1 that isn't valid or doesn't go on; it never comes where the pass stands over lists. `Fault` comes
+    /// just where the disk's count of faults rose. After an `Err` the quantum isn't counted: the cursor is told as before, and the
+    /// pass is not to be gone on with.
+    pub fn quantum<D: Disk>(
+        &mut self,
+        disk: &mut D,
+        geo: &Geometry,
+        a: &Table,
+        space: &mut Space,
+    ) -> Result<u64, Broken>
+        requires pages { space.old.pages ≡ page_count geo.now }
+        requires length { IsTrue (D.state disk.old).tells_bytes → length (D.state disk.old).bytes ≡ file_length geo.now }
+        requires runs { MayGoOn geo.now (D.state disk.old).is_honest (D.state disk.old).bytes space.old self.old a.now.entries }
+
+        // On an honest disk the pass stands as before, further on by one quantum.
+        ensures pass { (c1 : Entries) → IsTrue (D.state disk.old).is_honest → IsPass geo.now (D.state disk.old).bytes space.old self.old a.now.entries c1
+            → result ≢ Err Broken.Fault
+            → (n : ℕ) × (result ≡ Ok n) × IsPass geo.now (D.state disk.new).bytes space.new self.new a.now.entries c1
+            × IsQuantum geo.now.quantum self.old.at self.new.at a.now.entries c1 n }
+
+        // On any disk what was taken and what is left add up, and it is a quantum or all that was left, and less than one group more.
+        ensures runs { OnOk result (MayGoOn geo.now (D.state disk.new).is_honest (D.state disk.new).bytes space.new self.new a.now.entries) }
+        ensures takes { IfOk result (Takes self.old self.new a.now.entries) }
+        ensures bound { IfOk result (λ n. n + 1 ≤ geo.now.quantum + 2 * most_weight) }
+        ensures enough { IfOk result (λ n. (geo.now.quantum ≤ n) ⊎ (left_weight self.new a.now.entries ≡ 0)) }
+        ensures size { OnOk result (role_size space.new self.old.writer.role + self.old.writer.component.pages ≡ role_size space.old self.old.writer.role + self.new.writer.component.pages) }
+        ensures kept { IsErr result → self.new.at ≡ self.old.at }
+
+        // Whatever it answers: it takes free pages, and writes its run's alone. Each group weighs 14 bytes at least, and makes two calls at most.
+        ensures role { self.new.writer.role ≡ self.old.writer.role }
+        ensures works { Works geo.now self.old.writer.role (geo.now.quantum / 7 + 2) space.old space.new (D.state disk.old) (D.state disk.new) }
+        ensures counts { Counts 1 self.old.c1.pages self.new.c1.pages self.old.writer.component.pages self.new.writer.component.pages (D.state disk.old) (D.state disk.new) }
+        ensures faults { TellsFaultsBy (Err Broken.Fault) result (D.state disk.old) (D.state disk.new) }
+    {
+        let _weight = a.weight();
+        a_merge_goes_on();
+        let at = self.cursor();
+        let quantum = geo.quantum();
+        let mut taken = 0;
+        while taken < quantum {
+            let weight = match self.step(disk, geo, a, space) {
+                Ok(weight) => weight,
+                Err(broken) => {
+                    self.at = at;
+                    return Err(broken);
+                }
+            };
+            if weight == 0 {
+                return Ok(taken);
+            }
+            taken += weight;
+        }
+        Ok(taken)
+    }
+
+    /// Writes the run's last page, and gives the new C1. The pass stays as it was. After an `Err`, whose cause is a fault of the
+    /// disk, nobody knows what that page has.
+    pub fn finish<D: Disk>(
+        &mut self,
+        disk: &mut D,
+        geo: &Geometry,
+        a: &Table,
+    ) -> Result<Component, Failed>
+        requires done { left_weight self.old a.now.entries ≡ 0 }
+        requires inside { IsInside (page_count geo.now) self.old.writer }
+        requires length { IsTrue (D.state disk.old).tells_bytes → length (D.state disk.old).bytes ≡ file_length geo.now }
+        ensures component { IfOk result (λ c. c ≡ self.old.writer.component) }
+        // It reads as table A folded over C1, on pages that have the run's tag.
+        ensures list { (space : SpaceState) (c1 : Entries) → IsTrue (D.state disk.old).is_honest
+            → IsPass geo.now (D.state disk.old).bytes space self.old a.now.entries c1
+            → IfOk result (λ c. (list : HasList geo.now c (folded_over a.now.entries c1) (D.state disk.new).bytes)
+            × ((n : ℕ) → Contains (numbers_of list.pages) n → HasRole space self.old.writer.role n)) }
+        ensures same { self.new ≡ self.old }
+        // One call of the disk at most. No byte outside the run's pages changes, in no image of any moment.
+        ensures writes { (space : SpaceState) → IsRunning geo.now (D.state disk.old).is_honest (D.state disk.old).bytes space self.old
+            → Writes (role_region geo.now space self.old.writer.role) (file_length geo.now) result (D.state disk.old) (D.state disk.new) }
+    {
+        where_a_run_writes();
+        self.writer.end(disk, geo)
+    }
+}
+
+// Whether a table has nothing above a key.
+fn has_none_above(a: &Table, at: Option<Key>) -> bool
+    ensures { IsTrue result ↔ (entries_weight (above at a.now.entries) ≡ 0) }
+{
+    a.least_above(at).is_none()
+}
