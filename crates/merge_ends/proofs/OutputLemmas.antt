@@ -12,7 +12,7 @@ use Rattle.record_delta.specs.declared.record.Rec.{Rec}
 use Rattle.record_delta.specs.Records.{weight}
 use Rattle.record_delta.specs.Entries.{Entries, is_above}
 use Rattle.page_space.specs.PageSet.{Members, size}
-use Rattle.page_space.specs.Space.{SpaceState, IsFree, IsLeastFree, Claims, role_size, role_count, seat_count}
+use Rattle.page_space.specs.Space.{SpaceState, IsFree, IsLeastFree, IsWithin, Claims, role_size, role_count, seat_count}
 use Rattle.page_file.specs.Entry.{keys_of, AreRising}
 use Rattle.run_writer.specs.Writer.{WriterState, has_place, put_in, turned, IsCounted}
 use Rattle.merge_step.proofs.TakenLemmas.{below_above}
@@ -76,15 +76,26 @@ room_same space writer new n left weighs pages room = record {
   room = let sum : new.component.weight + left ≡ writer.component.weight + (n + left) = omega arith in omega (arith, room.room, ap (λ w. w / 3577) sum, pages);
 }
 
--- the sums of five numbers, of which one rose
-one_more : (old new : ℕ → ℕ) (role : ℕ) → role < 5 → new role ≡ old role + 1 → ((k : ℕ) → k ≢ role → new k ≡ old k)
-    → new 0 + new 1 + new 2 + new 3 + new 4 ≤ old 0 + old 1 + old 2 + old 3 + old 4 + 1
-one_more old new zero within this others = omega (arith, this, others 1 (λ is. omega (arith, is)), others 2 (λ is. omega (arith, is)), others 3 (λ is. omega (arith, is)), others 4 (λ is. omega (arith, is)))
-one_more old new (suc zero) within this others = omega (arith, this, others 0 (λ is. omega (arith, is)), others 2 (λ is. omega (arith, is)), others 3 (λ is. omega (arith, is)), others 4 (λ is. omega (arith, is)))
-one_more old new (suc (suc zero)) within this others = omega (arith, this, others 0 (λ is. omega (arith, is)), others 1 (λ is. omega (arith, is)), others 3 (λ is. omega (arith, is)), others 4 (λ is. omega (arith, is)))
-one_more old new (suc (suc (suc zero))) within this others = omega (arith, this, others 0 (λ is. omega (arith, is)), others 1 (λ is. omega (arith, is)), others 2 (λ is. omega (arith, is)), others 4 (λ is. omega (arith, is)))
-one_more old new (suc (suc (suc (suc zero)))) within this others = omega (arith, this, others 0 (λ is. omega (arith, is)), others 1 (λ is. omega (arith, is)), others 2 (λ is. omega (arith, is)), others 3 (λ is. omega (arith, is)))
-one_more old new (suc (suc (suc (suc (suc k))))) within this others = absurd (omega (arith, within))
+-- the sums of five numbers, of which one changed
+one_changed : (old new : ℕ → ℕ) (role p q : ℕ) → role < 5 → new role + p ≡ old role + q → ((k : ℕ) → k ≢ role → new k ≡ old k)
+    → new 0 + new 1 + new 2 + new 3 + new 4 + p ≡ old 0 + old 1 + old 2 + old 3 + old 4 + q
+one_changed old new zero p q within this others = omega (arith, this, others 1 (λ is. omega (arith, is)), others 2 (λ is. omega (arith, is)), others 3 (λ is. omega (arith, is)), others 4 (λ is. omega (arith, is)))
+one_changed old new (suc zero) p q within this others = omega (arith, this, others 0 (λ is. omega (arith, is)), others 2 (λ is. omega (arith, is)), others 3 (λ is. omega (arith, is)), others 4 (λ is. omega (arith, is)))
+one_changed old new (suc (suc zero)) p q within this others =
+    omega (arith, this, others 0 (λ is. omega (arith, is)), others 1 (λ is. omega (arith, is)), others 3 (λ is. omega (arith, is)), others 4 (λ is. omega (arith, is)))
+one_changed old new (suc (suc (suc zero))) p q within this others =
+    omega (arith, this, others 0 (λ is. omega (arith, is)), others 1 (λ is. omega (arith, is)), others 2 (λ is. omega (arith, is)), others 4 (λ is. omega (arith, is)))
+one_changed old new (suc (suc (suc (suc zero)))) p q within this others =
+    omega (arith, this, others 0 (λ is. omega (arith, is)), others 1 (λ is. omega (arith, is)), others 2 (λ is. omega (arith, is)), others 3 (λ is. omega (arith, is)))
+one_changed old new (suc (suc (suc (suc (suc k))))) p q within this others = absurd (omega (arith, within))
+
+-- The roles have as many pages more as the run has.
+pub within_taken : (live share role p q : ℕ) (old new : SpaceState) → role < role_count → TakesPages role old new → role_size new role + p ≡ role_size old role + q
+    → IsWithin (live + p) share old → IsWithin (live + q) share new
+within_taken live share role p q old new below takes this within = record {
+  roles = omega (arith, within.roles, one_changed (role_size old) (role_size new) role p q below this (λ k differs. ap size (takes.others k differs)));
+  seats = λ seat in_range. subst (λ (pins : List Members). size (slice_index_or pins seat []) ≤ share) (sym takes.pins) (within.seats seat in_range);
+}
 
 pub room_claimed : (space after : SpaceState) (writer new : WriterState) (role page n left : ℕ) → role < role_count → IsFree space page → Claims role page space after
     → new.component.weight ≡ writer.component.weight + n → new.component.pages ≡ writer.component.pages + 1
@@ -92,10 +103,8 @@ pub room_claimed : (space after : SpaceState) (writer new : WriterState) (role p
 room_claimed space after writer new role page n left within free claims weighs pages room = record {
   live = room.live + 1;
   share = room.share;
-  within = record {
-    roles = omega (arith, room.within.roles, one_more (role_size space) (role_size after) role within (claims.size (free.no_role role)) (λ k differs. ap size (claims.others k differs)));
-    seats = λ seat below. subst (λ (pins : List Members). size (slice_index_or pins seat []) ≤ room.share) (sym claims.pins) (room.within.seats seat below);
-  };
+  within = within_taken room.live room.share role 0 1 space after within (takes_one role page space after free claims) (omega (arith, claims.size (free.no_role role)))
+      (let same : room.live ≡ room.live + 0 = omega arith in subst (λ (n : ℕ). IsWithin n room.share space) same room.within);
   room = let sum : new.component.weight + left ≡ writer.component.weight + (n + left) = omega arith in omega (arith, room.room, ap (λ w. w / 3577) sum, pages, claims.pages);
 }
 

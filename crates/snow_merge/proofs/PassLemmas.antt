@@ -1,9 +1,10 @@
 -- A pass that takes one key group.
-use Rattle.std.proofs.Common.{◌≡◌, ◌∙◌, ◌+◌, ◌<◌, ◌≤◌, ◌⊎◌, ℕ, true, List, [], Option, Some, None, refl, ap, sym, subst, inl, inr, arith}
+use Rattle.std.proofs.lemmas.List.Sums.{sum_by-cons}
+use Rattle.std.proofs.Common.{cond, false, ◌∷◌, ◌≡◌, ◌∙◌, ◌+◌, ◌<◌, ◌≤◌, ◌⊎◌, ℕ, true, List, [], Option, Some, None, refl, ap, sym, subst, inl, inr, arith}
 use Rattle.blsm_model.specs.declared.key.Key.{Key}
 use Rattle.record_delta.specs.declared.record.Rec.{Rec}
 use Rattle.record_delta.specs.Records.{weight}
-use Rattle.record_delta.specs.Entries.{Entries, AreSorted, entries_weight, folded_over, first_of, above, up_to}
+use Rattle.record_delta.specs.Entries.{is_above, Entries, AreSorted, entries_weight, folded_over, first_of, above, up_to}
 use Rattle.run_cursor.specs.Cursor.{CursorState, from_head}
 use Rattle.blsm_model.specs.Sizes.{Sizes}
 use Rattle.page_space.specs.Space.{SpaceState}
@@ -132,3 +133,13 @@ pushed_all sizes file space snow a c1 done pass =
     let none = none_above sizes file space snow a c1 done pass in
     subst (λ (l : Entries). HasPushed sizes true file space snow.writer (folded_over l c1)) (all_up_to snow.at a none.0)
     (subst (λ (l : Entries). HasPushed sizes true file space snow.writer (folded_over (up_to snow.at a) l)) (all_up_to snow.at c1 none.1) pass.pushed)
+
+-- what is above a key weighs no more than all
+pub above_light : (at : Option Key) (es : Entries) → entries_weight (above at es) ≤ entries_weight es
+above_light at [] = omega arith
+above_light at (e ∷ es) =
+    let all = sum_by-cons (λ (x : Key × Rec). weight x.0 x.1) e es in
+    elim (is_above at e.0) as (λ b. entries_weight (cond b (e ∷ above at es) (above at es)) ≤ entries_weight (e ∷ es)) [
+      | true ↦ omega (arith, all, sum_by-cons (λ (x : Key × Rec). weight x.0 x.1) e (above at es), above_light at es)
+      | false ↦ omega (arith, all, above_light at es)
+    ]

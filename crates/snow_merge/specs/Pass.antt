@@ -2,7 +2,7 @@
 use Rattle.std.specs.Prelude.{◌≡◌, ◌⊎◌, ℕ, ◌+◌, ◌*◌, ◌≤◌, Bool, true, List, Option, None}
 use Rattle.blsm_model.specs.declared.component.Component.{Component}
 use Rattle.blsm_model.specs.declared.key.Key.{Key}
-use Rattle.blsm_model.specs.Format.{most_weight}
+use Rattle.blsm_model.specs.Format.{least_weight, most_weight}
 use Rattle.blsm_model.specs.Sizes.{Sizes}
 use Rattle.record_delta.specs.Entries.{Entries, entries_weight, folded_over, is_above, above, up_to}
 use Rattle.page_space.specs.Space.{SpaceState}
@@ -50,7 +50,7 @@ pub record Takes (old new : SnowState) (a : Entries) (taken : ℕ) : Type 0 wher
 pub record TakesGroup (old new : SnowState) (a : Entries) (taken : ℕ) : Type 0 where
   pub takes : Takes old new a taken
   pub light : taken ≤ 2 * most_weight
-  pub some : (14 ≤ taken) ⊎ ((taken ≡ 0) × (left_weight new a ≡ 0))
+  pub some : (least_weight ≤ taken) ⊎ ((taken ≡ 0) × (left_weight new a ≡ 0))
 
 -- On any disk: the pass runs, and the run has room for all that is left.
 pub record MayGoOn (sizes : Sizes) (honest : Bool) (file : List ℕ) (space : SpaceState) (snow : SnowState) (a : Entries) : Type 0 where

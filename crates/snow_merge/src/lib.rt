@@ -5,3 +5,6 @@
 mod snow;
 
 pub use snow::Snow;
+
+#[cfg(test)]
+mod tests;
