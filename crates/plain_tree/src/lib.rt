@@ -19,7 +19,7 @@ pub use answer::{Answer, Outcome};
 pub use gave_up::GaveUp;
 pub use plays::run_steps;
 pub use seats::Turned;
-pub use tree::{Lanes, PlainTree};
+pub use tree::{Catalogue, PlainTree};
 
 #[cfg(test)]
 mod tests;

@@ -49,7 +49,7 @@ fn is(count: u64) -> Reply {
 
 // A fresh tree with room enough.
 fn fresh(alloc: Global, geometry: Geometry) -> Result<PlainTree, GaveUp> {
-    let lanes = Lanes {
+    let catalogue = Catalogue {
         version: 1,
         lane_a: 0,
         lane_b: 1,
@@ -59,7 +59,7 @@ fn fresh(alloc: Global, geometry: Geometry) -> Result<PlainTree, GaveUp> {
         entries: [1_000; 16],
         rows: [1_000; 16],
     };
-    PlainTree::open(alloc, geometry, &[], &[], lanes, 0, room)
+    PlainTree::open(alloc, geometry, &[], &[], catalogue, 0, room)
 }
 
 // Caller 0 makes a step, which ends well.
@@ -117,6 +117,19 @@ fn have_replies(entries: &[Entry], replies: &[Reply]) -> bool {
         }
     }
     true
+}
+
+// Whether so many entries are done, and the ones behind them have these replies.
+fn are_done_and_then(entries: &[Entry], done: usize, replies: &[Reply]) -> bool {
+    if entries.len() < done {
+        return false;
+    }
+    for entry in &entries[..done] {
+        if entry.reply != Reply::Done {
+            return false;
+        }
+    }
+    have_replies(&entries[done..], replies)
 }
 
 // The peak, the quanta of callers, and the swaps.
@@ -288,5 +301,32 @@ fn a_list_of_steps_with_a_fault(rt: HostRuntime) -> Result<(), Fail> {
     assert!(rt; answers.as_slice() == expected.as_slice());
     assert_eq!(rt; told(&tree.totals()?), (14, 0, 0, 0));
     assert_eq!(rt; tree.stopped(), Some(why));
+    Ok(())
+}
+
+// A put or an add leaves half a spring of the capacity free, and a del may fill it.
+#[test]
+fn a_small_tree_is_full_at_its_edge(rt: HostRuntime) -> Result<(), Fail> {
+    let long = [b'x'; 435];
+    let mut tree = fresh(rt.alloc(), Geometry::new(17_408, 2, 16_384, 4_096)?)?;
+    for first in 0..14u8 {
+        for second in 0..17u8 {
+            let mut name = [b'k'; 64];
+            name[1] = b'a' + first;
+            name[2] = b'a' + second;
+            command(&mut tree, &put(&name, 0, &long))?;
+        }
+    }
+    command(&mut tree, &put(b"a", 1, b""))?;
+    command(&mut tree, &del(b"a"))?;
+    command(&mut tree, &put(b"a", 1, b""))?;
+    let last = [Reply::Full(121_856), Reply::Done, Reply::Full(121_870)];
+    assert!(rt; are_done_and_then(tree.entries(), 238, &last));
+    for quanta in tree.quanta() {
+        assert!(rt; *quanta <= 3);
+    }
+    let totals = tree.totals()?;
+    assert!(rt; totals.peak <= totals.high);
+    assert!(rt; 0 < totals.deeps);
     Ok(())
 }

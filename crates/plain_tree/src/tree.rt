@@ -37,7 +37,7 @@ use std::mem::replace;
 
 /// The catalogue's version, and the numbers of the log's lanes.
 #[derive(Clone, Copy, PartialEq, Eq, Debug)]
-pub struct Lanes {
+pub struct Catalogue {
     /// The catalogue's version.
     pub version: u64,
     /// The lane of table A.
@@ -625,10 +625,10 @@ impl PlainTree {
     }
 
     /// The catalogue's version, and the lanes.
-    pub fn lanes(&self) -> Lanes
+    pub fn catalogue(&self) -> Catalogue
         ensures { result ≡ record { version = self.now.catalogue.version; lane_a = self.now.catalogue.lane_a; lane_b = self.now.catalogue.lane_b; lane_spare = self.now.catalogue.lane_spare } }
     {
-        Lanes {
+        Catalogue {
             version: self.version,
             lane_a: self.lane_a,
             lane_b: self.lane_b,
@@ -667,17 +667,18 @@ impl PlainTree {
         })
     }
 
-    /// A tree that was just opened, with these components, lanes, faults of the disk so far, and room. Nothing was asked yet.
+    /// A tree that was just opened, with these components and catalogue, so many faults of the disk before, and this room.
+    /// Nothing was asked yet.
     pub fn open(
         alloc: Global,
         geometry: Geometry,
         c1: &[(Key, Rec)],
         c2: &[(Key, Rec)],
-        lanes: Lanes,
+        catalogue: Catalogue,
         faults: u64,
         room: Room,
     ) -> Result<PlainTree, GaveUp>
-        ensures { IfOk result (λ tree. tree ≡ opened geometry c1.now c2.now (record { version = lanes.version; lane_a = lanes.lane_a; lane_b = lanes.lane_b; lane_spare = lanes.lane_spare }) faults room) }
+        ensures { IfOk result (λ tree. tree ≡ opened geometry c1.now c2.now (record { version = catalogue.version; lane_a = catalogue.lane_a; lane_b = catalogue.lane_b; lane_spare = catalogue.lane_spare }) faults room) }
     {
         let c1 = copy_of(alloc, c1)?;
         let c2 = copy_of(alloc, c2)?;
@@ -693,10 +694,10 @@ impl PlainTree {
             deep: None,
             gears: PlainGears::at_rest(geometry),
             spring: 0,
-            version: lanes.version,
-            lane_a: lanes.lane_a,
-            lane_b: lanes.lane_b,
-            lane_spare: lanes.lane_spare,
+            version: catalogue.version,
+            lane_a: catalogue.lane_a,
+            lane_b: catalogue.lane_b,
+            lane_spare: catalogue.lane_spare,
             holds: no_holds(alloc)?,
             book: PlainBook::new(alloc, room),
             seats: PlainSeats::fresh(alloc)?,
