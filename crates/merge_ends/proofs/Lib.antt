@@ -2,3 +2,4 @@ pub mod InputLemmas
 pub mod OutputLemmas
 pub mod GroupLemmas
 pub mod WorkLemmas
+pub mod QuantumLemmas

@@ -44,6 +44,24 @@ works_step sizes role space after old mid new result timed calm reads takes writ
     works_run sizes role 1 1 space space after old mid new timed calm (works_read sizes role 1 space old mid (omega arith) reads)
     (record { takes = takes; effect = affects_wider (role_wider sizes role space after takes) (omega arith) (omega arith) writes.effect; no_sync = writes.no_sync })
 
+-- so many calls more may be made
+pub works_more : (sizes : Sizes) (role most more : ℕ) (space after : SpaceState) (old new : DiskState) → most ≤ more → Works sizes role most space after old new → Works sizes role more space after old new
+works_more sizes role most more space after old new calls works = works_counted sizes role most more space after old new (omega (arith, works.effect.calls, calls)) works
+
+-- two reads
+pub works_reads : (sizes : Sizes) (role : ℕ) (space : SpaceState) (old mid new : DiskState) → IsTimed mid → mid.faults ≡ old.faults
+    → OnlyReads (file_length sizes) 1 old mid → OnlyReads (file_length sizes) 1 mid new → Works sizes role 2 space space old new
+works_reads sizes role space old mid new timed calm first second =
+    works_run sizes role 1 1 space space space old mid new timed calm (works_read sizes role 1 space old mid (omega arith) first) (works_read sizes role 1 space mid new (omega arith) second)
+
+-- a write of the run's, behind what only read
+pub works_written : {A E : Type 0} (sizes : Sizes) (role most : ℕ) (space after : SpaceState) (old mid new : DiskState) (result : Result A E) → IsTimed mid → mid.faults ≡ old.faults
+    → Works sizes role most space space old mid → TakesPages role space after → Writes (role_region sizes space role) (file_length sizes) result mid new
+    → Works sizes role (most + 1) space after old new
+works_written sizes role most space after old mid new result timed calm so_far takes writes =
+    works_run sizes role most 1 space space after old mid new timed calm so_far
+    (record { takes = takes; effect = affects_wider (role_wider sizes role space after takes) (omega arith) (omega arith) writes.effect; no_sync = writes.no_sync })
+
 -- ---- what was pushed
 
 pub pushed_read : (sizes : Sizes) (honest : Bool) (old new : List ℕ) (space : SpaceState) (writer : WriterState) (out : Entries) → (IsTrue honest → new ≡ old)

@@ -7,7 +7,8 @@ use Rattle.page_space.specs.Space.{role_size}
 use Rattle.merge_ends.specs.Quantum.{Works, HasTaken}
 use Rattle.merge_ends.proofs.WorkLemmas.{works_start, works_run, works_counted}
 use Rattle.snow_merge.specs.Pass.{Takes}
-use Rattle.snow_merge.proofs.PassLemmas.{takes_none, takes_run, has_step, some_weight, no_weight, none_above}
+use Rattle.merge_ends.proofs.QuantumLemmas.{has_step, some_weight, no_weight}
+use Rattle.snow_merge.proofs.PassLemmas.{takes_none, takes_run, none_above}
 use Rattle.snow_merge.proofs.snow.Snow.quantum.Goals as goal
 
 ok_not_fault : (n : ℕ) → ◌≡◌ {A = Result ℕ Broken} (Ok n) (Err Fault) → ⊥

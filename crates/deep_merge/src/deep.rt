@@ -1,0 +1,195 @@
+//! A deep merge.
+ghost use Rattle.std.specs.Prelude.{◌≡◌, ◌≢◌, ◌↔◌, ◌⊎◌, ◌+◌, ◌*◌, ◌/◌, ◌≤◌, ℕ, Bool, List, Option, Ok, Err, length, IsTrue, IsErr, IfOk, OnOk};
+ghost use Rattle.std.specs.List.{Contains};
+ghost use Rattle.disk_trait.specs.Disk.{TellsFaultsBy};
+ghost use Rattle.blsm_model.specs.Components.{empty_component};
+ghost use Rattle.blsm_model.specs.Format.{most_weight};
+ghost use Rattle.blsm_model.specs.Sizes.{Sizes};
+ghost use Rattle.blsm_model.specs.Geometry.{page_count, file_length};
+ghost use Rattle.record_delta.specs.Entries.{Entries, folded_over, settled_entries};
+ghost use Rattle.page_space.specs.Space.{SpaceState, HasRole, IsFree, role_size};
+ghost use Rattle.page_file.specs.Component.{numbers_of, HasList};
+ghost use Rattle.page_file.specs.File.{Writes};
+ghost use Rattle.run_writer.specs.Writer.{IsInside, role_region};
+ghost use Rattle.merge_ends.specs.Quantum.{IsNext, NoneAbove, IsQuantum, Works, Counts};
+ghost use Rattle.deep_merge.specs.Merge.{started, left_weight, pages_ahead, IsRunning, IsMerge, Takes, TakesGroup, MayGoOn};
+
+use crate::settled::put_settled;
+use blsm_model::{Component, Geometry, Key};
+use disk_trait::Disk;
+use merge_ends::{an_input_stays, go_above, is_through};
+use merge_step::{a_merge_goes_on, least_group};
+use page_file::{Broken, one_order};
+use page_space::{Role, Space};
+use refusal::Failed;
+use run_cursor::Cursor;
+use run_writer::{Writer, where_a_run_writes};
+use std::marker::Model;
+
+/// A deep merge. Contracts see the run that it writes, its cursors over C1' and C2, and the greatest key that it took.
+#[derive(Debug, Drop)]
+pub struct Deep {
+    writer: Writer,
+    c1x: Cursor,
+    c2: Cursor,
+    at: Option<Key>,
+}
+
+impl Model for Deep {
+    ghost use Rattle.deep_merge.specs.Merge.{DeepState};
+
+    ghost Value = { DeepState };
+
+    ghost view = { λ d. record { writer = d.writer; c1x = d.c1x; c2 = d.c2; at = d.at } };
+}
+
+impl Deep {
+    /// A merge of C1' and C2 that has taken nothing. It calls no device.
+    pub fn begin(c1x: &Component, c2: &Component, role: Role) -> Deep
+        requires newer { c1x.now.pages ≡ 0 → c1x.now ≡ empty_component }
+        requires older { c2.now.pages ≡ 0 → c2.now ≡ empty_component }
+        ensures started { result ≡ started role c1x.now c2.now }
+        ensures running { (sizes : Sizes) (honest : Bool) (file : List ℕ) (space : SpaceState) → IsRunning sizes honest file space result }
+        // No page of either has the run's tag, and none is free.
+        ensures merge { (sizes : Sizes) (file : List ℕ) (space : SpaceState) (newer older : Entries)
+            → (list : HasList sizes c1x.now newer file) → ((n : ℕ) → Contains (numbers_of list.pages) n → (HasRole space role n → ⊥) × (IsFree space n → ⊥))
+            → (below : HasList sizes c2.now older file) → ((n : ℕ) → Contains (numbers_of below.pages) n → (HasRole space role n → ⊥) × (IsFree space n → ⊥))
+            → IsMerge sizes file space result newer older }
+    {
+        one_order();
+        Deep {
+            writer: Writer::start(role),
+            c1x: Cursor::start(c1x),
+            c2: Cursor::start(c2),
+            at: None,
+        }
+    }
+
+    /// The greatest key that was taken; `None` where none was.
+    pub fn cursor(&self) -> Option<Key>
+        ensures { result ≡ self.now.at }
+    {
+        match &self.at {
+            Some(key) => Some(key.copy()),
+            None => None,
+        }
+    }
+
+    /// Whether C1' and C2 are wholly taken.
+    pub fn is_done(&self) -> bool
+        ensures { IsTrue result ↔ (left_weight self.now ≡ 0) }
+    {
+        is_through(&self.c1x, &self.at) && is_through(&self.c2, &self.at)
+    }
+
+    // Takes the next key group, and gives the weight of its records; 0 where nothing is left.
+    fn step<D: Disk>(
+        &mut self,
+        disk: &mut D,
+        geo: &Geometry,
+        space: &mut Space,
+    ) -> Result<u64, Broken>
+        requires pages { space.old.pages ≡ page_count geo.now }
+        requires length { IsTrue (D.state disk.old).tells_bytes → length (D.state disk.old).bytes ≡ file_length geo.now }
+        requires runs { MayGoOn geo.now (D.state disk.old).is_honest (D.state disk.old).bytes space.old self.old }
+        ensures merge { (c1x c2 : Entries) → IsTrue (D.state disk.old).is_honest → IsMerge geo.now (D.state disk.old).bytes space.old self.old c1x c2
+            → result ≢ Err Broken.Fault
+            → (n : ℕ) × (result ≡ Ok n) × IsMerge geo.now (D.state disk.new).bytes space.new self.new c1x c2
+            × (IsNext self.old.at self.new.at c1x c2 n ⊎ (NoneAbove self.old.at c1x c2 × (self.new.at ≡ self.old.at) × (n ≡ 0))) }
+        ensures runs { OnOk result (MayGoOn geo.now (D.state disk.new).is_honest (D.state disk.new).bytes space.new self.new) }
+        ensures takes { IfOk result (TakesGroup self.old self.new) }
+        ensures size { OnOk result (role_size space.new self.old.writer.role + self.old.writer.component.pages ≡ role_size space.old self.old.writer.role + self.new.writer.component.pages) }
+        ensures role { self.new.writer.role ≡ self.old.writer.role }
+        ensures works { Works geo.now self.old.writer.role 3 space.old space.new (D.state disk.old) (D.state disk.new) }
+        ensures counted { OnOk result (Counts 0 (pages_ahead self.old) (pages_ahead self.new) self.old.writer.component.pages self.new.writer.component.pages (D.state disk.old) (D.state disk.new)) }
+        ensures counts { Counts 1 (pages_ahead self.old) (pages_ahead self.new) self.old.writer.component.pages self.new.writer.component.pages (D.state disk.old) (D.state disk.new) }
+        ensures faults { TellsFaultsBy (Err Broken.Fault) result (D.state disk.old) (D.state disk.new) }
+    {
+        an_input_stays();
+        a_merge_goes_on();
+        go_above(&mut self.c1x, disk, geo, &self.at)?;
+        go_above(&mut self.c2, disk, geo, &self.at)?;
+        let Some((key, rec, weight)) = least_group(&self.c1x, &self.c2) else {
+            return Ok(0);
+        };
+        put_settled(&mut self.writer, disk, geo, space, &key, rec)?;
+        self.at = Some(key);
+        Ok(weight)
+    }
+
+    /// Takes whole key groups, the least key first, until they weigh a quantum or nothing is left. Gives the weight that it took.
+    ///
+    /// `Damaged` names a page of C1' or C2 that isn't valid or doesn't go on; it never comes where the merge stands over lists. `Fault`
+    /// comes just where the disk's count of faults rose. After an `Err` the quantum isn't counted: the cursor is told as before, and the
+    /// merge is not to be gone on with.
+    pub fn quantum<D: Disk>(
+        &mut self,
+        disk: &mut D,
+        geo: &Geometry,
+        space: &mut Space,
+    ) -> Result<u64, Broken>
+        requires pages { space.old.pages ≡ page_count geo.now }
+        requires length { IsTrue (D.state disk.old).tells_bytes → length (D.state disk.old).bytes ≡ file_length geo.now }
+        requires runs { MayGoOn geo.now (D.state disk.old).is_honest (D.state disk.old).bytes space.old self.old }
+
+        // On an honest disk the merge stands as before, further on by one quantum.
+        ensures merge { (c1x c2 : Entries) → IsTrue (D.state disk.old).is_honest → IsMerge geo.now (D.state disk.old).bytes space.old self.old c1x c2
+            → result ≢ Err Broken.Fault
+            → (n : ℕ) × (result ≡ Ok n) × IsMerge geo.now (D.state disk.new).bytes space.new self.new c1x c2
+            × IsQuantum geo.now.quantum self.old.at self.new.at c1x c2 n }
+
+        // On any disk what was taken and what is left add up, and it is a quantum or all that was left, and less than one group more.
+        ensures runs { OnOk result (MayGoOn geo.now (D.state disk.new).is_honest (D.state disk.new).bytes space.new self.new) }
+        ensures takes { IfOk result (Takes self.old self.new) }
+        ensures bound { IfOk result (λ n. n + 1 ≤ geo.now.quantum + 2 * most_weight) }
+        ensures enough { IfOk result (λ n. (geo.now.quantum ≤ n) ⊎ (left_weight self.new ≡ 0)) }
+        ensures size { OnOk result (role_size space.new self.old.writer.role + self.old.writer.component.pages ≡ role_size space.old self.old.writer.role + self.new.writer.component.pages) }
+        ensures kept { IsErr result → self.new.at ≡ self.old.at }
+
+        // Whatever it answers: it takes free pages, and writes its run's alone. Each group weighs 14 bytes at least, and makes three calls at most.
+        ensures role { self.new.writer.role ≡ self.old.writer.role }
+        ensures works { Works geo.now self.old.writer.role (geo.now.quantum / 4 + 3) space.old space.new (D.state disk.old) (D.state disk.new) }
+        ensures counts { Counts 1 (pages_ahead self.old) (pages_ahead self.new) self.old.writer.component.pages self.new.writer.component.pages (D.state disk.old) (D.state disk.new) }
+        ensures faults { TellsFaultsBy (Err Broken.Fault) result (D.state disk.old) (D.state disk.new) }
+    {
+        a_merge_goes_on();
+        let at = self.cursor();
+        let quantum = geo.quantum();
+        let mut taken = 0;
+        while taken < quantum {
+            let weight = match self.step(disk, geo, space) {
+                Ok(weight) => weight,
+                Err(broken) => {
+                    self.at = at;
+                    return Err(broken);
+                }
+            };
+            if weight == 0 {
+                return Ok(taken);
+            }
+            taken += weight;
+        }
+        Ok(taken)
+    }
+
+    /// Writes the run's last page, and gives the new C2. The merge stays as it was. After an `Err`, whose cause is a fault of the
+    /// disk, nobody knows what that page has.
+    pub fn finish<D: Disk>(&mut self, disk: &mut D, geo: &Geometry) -> Result<Component, Failed>
+        requires done { left_weight self.old ≡ 0 }
+        requires inside { IsInside (page_count geo.now) self.old.writer }
+        requires length { IsTrue (D.state disk.old).tells_bytes → length (D.state disk.old).bytes ≡ file_length geo.now }
+        ensures component { IfOk result (λ c. c ≡ self.old.writer.component) }
+        // It reads as C1' folded over C2, settled, on pages that have the run's tag.
+        ensures list { (space : SpaceState) (c1x c2 : Entries) → IsTrue (D.state disk.old).is_honest
+            → IsMerge geo.now (D.state disk.old).bytes space self.old c1x c2
+            → IfOk result (λ c. (list : HasList geo.now c (settled_entries (folded_over c1x c2)) (D.state disk.new).bytes)
+            × ((n : ℕ) → Contains (numbers_of list.pages) n → HasRole space self.old.writer.role n)) }
+        ensures same { self.new ≡ self.old }
+        // One call of the disk at most. No byte outside the run's pages changes, in no image of any moment.
+        ensures writes { (space : SpaceState) → IsRunning geo.now (D.state disk.old).is_honest (D.state disk.old).bytes space self.old
+            → Writes (role_region geo.now space self.old.writer.role) (file_length geo.now) result (D.state disk.old) (D.state disk.new) }
+    {
+        where_a_run_writes();
+        self.writer.end(disk, geo)
+    }
+}
