@@ -1,8 +1,6 @@
 //! The history, entry by entry.
-ghost use Rattle.std.specs.Prelude.{◌≡◌, ◌<◌, ◌≤◌, ◌&&◌, ◌-◌, [], length, nat_lt, nat_le, slice_index, slice_set, IfOk, ◌==◌};
+ghost use Rattle.std.specs.Prelude.{◌≡◌, ◌-◌, [], length, slice_index, slice_set, IfOk};
 ghost use Rattle.blsm_model.specs.Book.{Book as BookState, noted, counted_up, rows_given};
-ghost use Rattle.blsm_model.specs.Legal.{is_write as is_write_of};
-ghost use Rattle.blsm_model.specs.Histories.{is_done};
 ghost use Rattle.tree_machine.specs.Steps.{last_write, is_write_by};
 ghost use Rattle.tree_machine.specs.Plays.{has_room};
 

@@ -1,7 +1,6 @@
 //! What pays for the merges, number by number.
-ghost use Rattle.std.specs.Prelude.{◌≡◌, ◌+◌, ◌-◌, ◌*◌, ◌||◌, nat_le, nat_lt, sum, slice_index, slice_set, IfOk};
-ghost use Rattle.blsm_model.specs.Geometry.{first_gear, second_gear};
-ghost use Rattle.gear_sched.specs.Gears.{GearState, at_rest, first_debt, second_debt, entered, forgiven, forgives_first, forgives_second, left_of, plan_for, took_first, took_second, passing, pass_ended, rotated, deep_ended, deep_is_behind};
+ghost use Rattle.std.specs.Prelude.{◌≡◌, ◌≤◌, ◌+◌, ◌-◌, ◌*◌, ◌^◌, ◌||◌, nat_le, nat_lt, sum, slice_index, slice_set, IfOk, OnErr};
+ghost use Rattle.gear_sched.specs.Gears.{GearState, at_rest, first_debt, second_debt, entered, forgiven, left_of, plan_for, took_first, took_second, passing, pass_ended, rotated, deep_ended, deep_is_behind};
 
 use crate::GaveUp;
 use crate::lists::plus;
@@ -76,7 +75,8 @@ fn product(a: u64, b: u64) -> u128
 
 // The product, if it fits.
 fn times(a: u64, b: u64) -> Result<u64, GaveUp>
-    ensures { IfOk result (λ product. product ≡ a * b) }
+    ensures product { IfOk result (λ product. product ≡ a * b) }
+    ensures err { OnErr result (2 ^ 64 ≤ a * b) }
 {
     let all = product(a, b);
     if all > u128::from(u64::MAX) {

@@ -1,6 +1,5 @@
 //! Lists of keys and records, by plain loops.
-ghost use Rattle.std.specs.Prelude.{◌≡◌, ◌≤◌, ◌+◌, ◌-◌, ◌++◌, ◌∷◌, [], Some, IfOk, sum_by};
-ghost use Rattle.record_delta.specs.Records.{weight as weight_with};
+ghost use Rattle.std.specs.Prelude.{◌≡◌, ◌≤◌, ◌+◌, ◌^◌, ◌++◌, IfOk, OnErr};
 ghost use Rattle.record_delta.specs.Folding.{over as over_of};
 ghost use Rattle.record_delta.specs.Entries.{entries_weight, record_of_key as record_of_key_in, with_record as with_record_in, folded_over as folded_over_in, over_any as over_any_of, is_above as is_above_of, above as above_in, settled_entries as settled_entries_of};
 ghost use Rattle.blsm_model.specs.Keys.{key_cmp};
@@ -33,7 +32,8 @@ pub fn copy_of(alloc: Global, entries: &[(Key, Rec)]) -> Result<Vec<(Key, Rec)>,
 
 // The sum, if it fits.
 pub fn plus(a: u64, b: u64) -> Result<u64, GaveUp>
-    ensures { IfOk result (λ sum. sum ≡ a + b) }
+    ensures sum { IfOk result (λ sum. sum ≡ a + b) }
+    ensures err { OnErr result (2 ^ 64 ≤ a + b) }
 {
     if u64::MAX - a < b {
         return Err(GaveUp::TooLarge);

@@ -1,5 +1,5 @@
 //! Merges of two lists.
-ghost use Rattle.std.specs.Prelude.{◌≡◌, ◌≤◌, ◌+◌, ◌-◌, ◌++◌, ◌∷◌, [], Some, IfOk, sum_by};
+ghost use Rattle.std.specs.Prelude.{◌≡◌, ◌≤◌, Some, IfOk, sum_by};
 ghost use Rattle.record_delta.specs.Entries.{folded_over, settled_entries as settled_entries_of};
 ghost use Rattle.tree_machine.specs.Merges.{Merge as MergeState, Taken as TakenState, begun, is_done, weight_of_any as weight_of_any_of, group_weight as group_weight_of, until, quantum_of, cursor_after as cursor_after_of, moved_on};
 

@@ -1,7 +1,6 @@
 //! Lists of steps.
-ghost use Rattle.std.specs.Prelude.{◌≡◌, ◌&&◌, ◌||◌, not, nat_lt, nat_le, is_some, ◌==◌, [], ◌∷◌, ◌++◌, IfOk, map};
-ghost use Rattle.tree_machine.specs.Machine.{is_caller, is_worker, work_of, owes};
-ghost use Rattle.tree_machine.specs.Plays.{may_note, is_even, may, may_step, stepped, stepped_as, played_one, played};
+ghost use Rattle.std.specs.Prelude.{◌≡◌, IfOk, map};
+ghost use Rattle.tree_machine.specs.Plays.{may_note, is_even, may, may_step, stepped, played_one, played};
 ghost use Rattle.tree_machine.specs.declared.step.Kind.TheVariants.{WorkTurn, WorkEnd};
 ghost use Rattle.plain_tree.specs.Outcomes.{IsStepped, outcome_of};
 ghost use Rattle.plain_tree.specs.Answers.{answered, all_answered, made_of, told_of};

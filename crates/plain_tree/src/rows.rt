@@ -1,6 +1,7 @@
 //! The rows of a range, and those that a caller still holds.
-ghost use Rattle.std.specs.Prelude.{◌≡◌, ◌++◌, ◌∷◌, [], IfOk, take, drop, map, filter};
+ghost use Rattle.std.specs.Prelude.{◌≡◌, ◌<◌, ◌++◌, IfOk, OnErr, take, drop, map, filter};
 ghost use Rattle.std.specs.FinMap.{put as put_in};
+ghost use Rattle.blsm_model.specs.Format.{most_rows};
 ghost use Rattle.blsm_model.specs.Keys.{key_cmp, in_range as in_range_of};
 ghost use Rattle.tree_machine.specs.Lists.{settled_pairs as settled_pairs_of};
 
@@ -113,7 +114,8 @@ impl Rows {
 
     // The first n rows, or all where there are fewer.
     pub fn first(&self, n: u32) -> Result<RowList, GaveUp>
-        ensures { IfOk result (λ list. list ≡ take n self.now) }
+        ensures rows { IfOk result (λ list. list ≡ take n self.now) }
+        ensures err { OnErr result (most_rows < n) }
     {
         let most = self.rows.len().min(n as usize);
         if most > RowList::MAX_LEN {

@@ -1,5 +1,5 @@
 //! What the seats did.
-ghost use Rattle.std.specs.Prelude.{◌≡◌, ◌+◌, ◌-◌, ◌%◌, ◌^◌, List, length, true, IfOk, slice_index, slice_index_or, slice_set, if◌then◌else◌, ◌==◌, nat_lt, ◌&&◌, ◌||◌, not, sum, take, drop};
+ghost use Rattle.std.specs.Prelude.{◌≡◌, ◌≤◌, ◌+◌, ◌%◌, ◌^◌, true, IfOk, OnErr, slice_index, slice_index_or, slice_set, sum, take, drop};
 ghost use Rattle.blsm_model.specs.Format.{callers};
 ghost use Rattle.tree_machine.specs.Machine.{WorkSoFar as WorkState, Seats as SeatsState, fresh_seats, no_work, all_true, is_worked as is_worked_of};
 ghost use Rattle.tree_machine.specs.Moves.{count_quantum};
@@ -63,7 +63,8 @@ impl Model for WorkSoFar {
 
 // One more, if it fits.
 fn one_more(n: u32) -> Result<u32, GaveUp>
-    ensures { IfOk result (λ sum. sum ≡ n + 1) }
+    ensures sum { IfOk result (λ sum. sum ≡ n + 1) }
+    ensures err { OnErr result (2 ^ 32 ≤ n + 1) }
 {
     if n == u32::MAX {
         return Err(GaveUp::TooLarge);

@@ -1,8 +1,8 @@
 //! The steps of the tree.
 ghost use Rattle.std.specs.Prelude.{◌≡◌, IfOk};
-ghost use Rattle.blsm_model.specs.Histories.{answer_to_get, answer_to_release};
+ghost use Rattle.blsm_model.specs.Histories.{answer_to_get};
 ghost use Rattle.tree_machine.specs.Machine.{held_by};
-ghost use Rattle.tree_machine.specs.Steps.{replied, unless_stopped, admit, admit_fitting, do_pay, pay_planned, pay_forgiven, pay_running, pay, reply_unless, get, do_hold, hold, do_next, next_rows, drop_hold, FailedAfter};
+ghost use Rattle.tree_machine.specs.Steps.{replied, admit, admit_fitting, do_pay, pay_planned, pay, reply_unless, get, hold, do_next, next_rows, drop_hold, FailedAfter};
 ghost use Rattle.tree_machine.specs.Moves.{pass_quantum, deep_quantum};
 ghost use Rattle.plain_tree.specs.Outcomes.{IsStepped, outcome_of};
 

@@ -1,18 +1,16 @@
 //! The state of the tree, and what its steps are made of.
-ghost use Rattle.std.specs.Prelude.{◌≡◌, ◌+◌, [], Some, None, IfOk, nat_lt, not, ◌||◌, ◌==◌, is_some, option_map, take, drop, length, replicate};
-ghost use Rattle.blsm_model.specs.declared.key.Key.{Key};
+ghost use Rattle.std.specs.Prelude.{◌≡◌, ◌+◌, None, IfOk, nat_lt, is_some, option_map, take, drop, length, replicate};
 ghost use Rattle.blsm_model.specs.Histories.{writes_of};
 ghost use Rattle.blsm_model.specs.Values.{key_of};
 ghost use Rattle.blsm_model.specs.Format.{callers};
 ghost use Rattle.blsm_model.specs.Legal.{total_weight};
 ghost use Rattle.blsm_model.specs.Geometry.{charge_limit};
-ghost use Rattle.record_delta.specs.Records.{record_of};
 ghost use Rattle.record_delta.specs.Entries.{entries_weight};
 ghost use Rattle.gear_sched.specs.Gears.{plan_for, deep_is_behind, first_debt, second_debt};
 ghost use Rattle.tree_machine.specs.Lists.{memory_weight, value_in, rows_in, map_in};
 ghost use Rattle.tree_machine.specs.Machine.{Machine, pass_done, deep_done, charge, in_pass, in_deep, opened, held_by, is_closed, work_of, owes, totals};
-ghost use Rattle.tree_machine.specs.Moves.{begin_pass, rotate, swap_deep, end_pass, rotate_if_full, swap_pass, rotate_alone, pass_quantum, deep_quantum, goes_to_a, take_write, with_peak, note, stop};
-ghost use Rattle.tree_machine.specs.Steps.{is_del, deep_swapped, pass_swapped, swapped, swaps_due, pass_begun_for, ready_for, taken_once, count_for_write, forgive, holding, work_noted, leave};
+ghost use Rattle.tree_machine.specs.Moves.{begin_pass, rotate, swap_deep, end_pass, rotate_if_full, swap_pass, rotate_alone, pass_quantum, deep_quantum, output_of, goes_to_a, take_write, with_peak, note, stop};
+ghost use Rattle.tree_machine.specs.Steps.{is_del, deep_swapped, pass_swapped, swaps_due, pass_begun_for, ready_for, taken_once, count_for_write, forgive, holding, work_noted, leave};
 ghost use Rattle.tree_machine.specs.Plays.{has_room};
 ghost use Rattle.plain_tree.specs.Turns.{turn_counted, quanta_counted};
 ghost use Rattle.plain_tree.specs.Outcomes.{IsStepped};
@@ -97,7 +95,7 @@ impl Model for PlainTree {
 
 // What a running merge wrote.
 fn output_of(alloc: Global, merge: Option<Merge>) -> Vec<(Key, Rec)>
-    ensures { result.items ≡ Rattle.tree_machine.specs.Moves.output_of merge }
+    ensures { result.items ≡ output_of merge }
 {
     match merge {
         Some(merge) => merge.into_output(),

@@ -1,8 +1,7 @@
 //! Turns of work and of workers, and when a step may be made.
-ghost use Rattle.std.specs.Prelude.{◌≡◌, ◌+◌, ◌-◌, IfOk, not, ◌==◌, ◌&&◌, ◌||◌, nat_lt, nat_le, Bool};
-ghost use Rattle.tree_machine.specs.Machine.{work_of, is_closed, no_work};
-ghost use Rattle.tree_machine.specs.Steps.{choice as choice_in, chosen, do_turn, work_turning, worker_turning, work_noted, work_turn, worker_turn, reply_by, work_reply, work_end, leave, with_turn};
-ghost use Rattle.tree_machine.specs.Plays.{may as may_in, may_note, is_even, has_room};
+ghost use Rattle.std.specs.Prelude.{◌≡◌, IfOk};
+ghost use Rattle.tree_machine.specs.Machine.{is_closed};
+ghost use Rattle.tree_machine.specs.Steps.{choice as choice_in, chosen, do_turn, work_turning, worker_turning, work_turn, worker_turn, reply_by, work_reply, work_end};
 ghost use Rattle.plain_tree.specs.Turns.{turned_of};
 ghost use Rattle.plain_tree.specs.Outcomes.{IsStepped, IsTurned, outcome_of, choice_of};
 

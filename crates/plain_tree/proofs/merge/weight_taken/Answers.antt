@@ -11,4 +11,4 @@ loop-group-preserved c =
     let older = c.args.older.now in
     let more = sum_by_more (λ (e : Key × Rec). group_weight newer older e.0) c.args.groups.now c.loop-group.group-index c.group-item.result c.loop-group-test.true in
     let is = ap (λ (e : Key × Rec). group_weight newer older e.0) c.group-item.is in
-    omega (arith, c.in_ok-all.ensures)
+    omega (arith, c.in_ok-all.ensures.sum)
