@@ -42,6 +42,10 @@ most_rows_asked = 131072
 abbrev pub most_entries : ℕ
 most_entries = 65537
 
+-- the greatest half spring of any geometry
+abbrev pub most_half : ℕ
+most_half = 67108864
+
 -- what stands before the lanes of the log: superblock and catalogue
 abbrev pub head_length : ℕ
 head_length = 4096

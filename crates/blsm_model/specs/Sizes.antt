@@ -1,5 +1,6 @@
 -- The four numbers of a store's geometry, and their ranges. All but the ratio are in bytes.
 use Rattle.std.specs.Prelude.{ℕ, ◌≤◌}
+use Rattle.blsm_model.specs.Format.{most_half}
 
 -- The half spring, the ratio, the low mark and the quantum.
 pub record Sizes : Type 0 where
@@ -10,7 +11,7 @@ pub record Sizes : Type 0 where
 
 -- at least twice the heaviest entry of each caller and of one more
 abbrev pub HalfFits : Sizes → Type 0
-HalfFits sizes = (17408 ≤ sizes.half) × (sizes.half ≤ 67108864)
+HalfFits sizes = (17408 ≤ sizes.half) × (sizes.half ≤ most_half)
 
 abbrev pub RatioFits : Sizes → Type 0
 RatioFits sizes = (2 ≤ sizes.ratio) × (sizes.ratio ≤ 8)

@@ -26,19 +26,3 @@ pub struct NoGate;
 impl Gate for NoGate {
     fn at(&self, _seat: u32, _point: Point) {}
 }
-
-#[cfg(test)]
-mod tests {
-    use super::*;
-
-    fn pass<G: Gate>(gate: &G) {
-        for point in [Point::Admitted, Point::Paid, Point::Answered, Point::Turned] {
-            gate.at(15, point);
-        }
-    }
-
-    #[test]
-    fn the_shipped_gate_lets_through(_rt: HostRuntime) {
-        pass(&NoGate);
-    }
-}

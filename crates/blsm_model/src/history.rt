@@ -190,36 +190,3 @@ pub struct Totals {
     /// Why the store is stopped, if it is.
     pub stopped: Option<Why>,
 }
-
-#[cfg(test)]
-mod tests {
-    use super::*;
-    use crate::{Key, Row, Text, Write};
-    use std::test::Fail;
-
-    #[test]
-    fn copies_are_the_same(rt: HostRuntime) -> Result<(), Fail> {
-        let key = Key::from_bytes(b"a").ok_or("no key")?;
-        let text = Text::from_bytes(b"hi").ok_or("no text")?;
-        let value = Value { count: 5, text };
-        let put = Write::Put(key.copy(), value.copy());
-        assert!(rt; put.copy() == put);
-        let row = Row { key, value };
-        let mut rows = RowList::new();
-        rows.push(row.copy());
-        let entry = Entry {
-            seat: 15,
-            op: Op::Put(row.key, row.value),
-            reply: Reply::Rows(rows),
-        };
-        let copy = entry.copy();
-        assert!(rt; copy == entry);
-        let line = Line {
-            seat: 15,
-            op: copy.op,
-        };
-        assert!(rt; line.copy() == line);
-        assert!(rt; line.op == entry.op);
-        Ok(())
-    }
-}

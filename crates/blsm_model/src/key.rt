@@ -96,6 +96,3 @@ impl Key {
         }
     }
 }
-
-#[cfg(test)]
-mod tests;

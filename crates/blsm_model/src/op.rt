@@ -111,28 +111,3 @@ impl Op {
         }
     }
 }
-
-#[cfg(test)]
-mod tests {
-    use super::*;
-    use crate::Text;
-    use std::test::Fail;
-
-    #[test]
-    fn writes_weigh_their_entry(rt: HostRuntime) -> Result<(), Fail> {
-        let bytes = [b'x'; 435];
-        let longest = Key::from_bytes(&bytes[..64]).ok_or("no key")?;
-        let text = Text::from_bytes(&bytes).ok_or("no text")?;
-        let short = Key::from_bytes(b"a").ok_or("no key")?;
-        let hi = Text::from_bytes(b"hi").ok_or("no text")?;
-        let heaviest = Op::Put(longest, Value { count: 9, text });
-        assert_eq!(rt; heaviest.weight(), Op::MAX_WEIGHT);
-        assert_eq!(rt;
-            Op::Put(short.copy(), Value { count: 5, text: hi }).weight(),
-            16
-        );
-        assert_eq!(rt; Op::Add(short.copy(), 7).weight(), 14);
-        assert_eq!(rt; Op::Del(short).weight(), 14);
-        Ok(())
-    }
-}

@@ -2,7 +2,7 @@
 use Rattle.std.specs.Prelude.{◌≡◌, ◌⊎◌, ◌≤◌, ℕ, List, [], ◌∷◌, length, map, ◌+◌, ◌/◌}
 use Rattle.blsm_model.specs.declared.key.Key.{Key}
 use Rattle.blsm_model.specs.declared.op.Write.{Write}
-use Rattle.blsm_model.specs.Format.{least_weight}
+use Rattle.blsm_model.specs.Format.{least_weight, most_half}
 use Rattle.blsm_model.specs.Sizes.{Sizes, default_sizes}
 use Rattle.blsm_model.specs.Values.{key_of}
 use Rattle.blsm_model.specs.Legal.{total_weight}
@@ -42,10 +42,6 @@ IsYet first P file = P file ⊎ ((first ≡ []) × ¬ (IsStore file))
 abbrev pub opening_calls : List ℕ → List Write → ℕ
 opening_calls [] writes = 1 + making_calls default_sizes
 opening_calls (b ∷ bs) writes = 7 + length writes
-
--- the greatest half spring of any geometry
-abbrev pub most_half : ℕ
-most_half = 67108864
 
 -- How many any opening takes at most, of any disk and whatever it answers: a write has its least weight at least, and the writes of a log weigh no more than the greatest half spring.
 abbrev pub most_opening_calls : ℕ

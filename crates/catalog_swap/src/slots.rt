@@ -1,6 +1,6 @@
 //! The slots, and the newest catalogue.
-ghost use Rattle.std.specs.Prelude.{◌≡◌, ◌≤◌, ◌<◌, ◌+◌, ◌∷◌, ◌^◌, List, ℕ, length, drop, IsTrue, IfOk, IfSome, IfNone, IfErr, Ok};
-ghost use Rattle.disk_trait.specs.Disk.{part};
+ghost use Rattle.std.specs.Prelude.{◌≡◌, ◌≤◌, ◌<◌, ◌+◌, ◌∷◌, ◌^◌, List, ℕ, length, drop, IsTrue, IfOk, IfSome, IfNone, IfErr, Ok, Err};
+ghost use Rattle.disk_trait.specs.Disk.{part, TellsFaultsBy};
 ghost use Rattle.disk_trait.specs.Reads.{OnlyReads};
 ghost use Rattle.blsm_model.specs.Sizes.{Sizes};
 ghost use Rattle.blsm_model.specs.Geometry.{file_length};
@@ -8,7 +8,7 @@ ghost use Rattle.catalog_swap.specs.declared.catalog.Catalog.{Catalog};
 ghost use Rattle.catalog_swap.specs.declared.slots.SlotsBroken.TheVariants.{Damaged};
 ghost use Rattle.catalog_swap.specs.Text.{IsCatalog, body_text};
 ghost use Rattle.catalog_swap.specs.Slots.{slot_of, other_slot, odd_slot, even_slot};
-ghost use Rattle.catalog_swap.specs.Reading.{TellsNewest, TellsSlot, HasReadCause};
+ghost use Rattle.catalog_swap.specs.Reading.{TellsNewest, TellsSlot};
 
 use crate::catalog::{BODY_LEN, Catalog, catalog_in, is_catalog};
 use blsm_model::Geometry;
@@ -90,7 +90,7 @@ fn read_slot<D: Disk>(disk: &mut D, geo: &Geometry, at: u64) -> Result<Option<Ca
     requires small { at + SLOT_LEN < 2 ^ 64 }
     ensures tells { IsTrue (D.state disk.old).is_honest → TellsSlot geo.now at (D.state disk.old).bytes result }
     ensures fits { IfOk result (λ found. IfSome found (IsCatalog geo.now)) }
-    ensures cause { HasReadCause (D.state disk.old) (D.state disk.new) result }
+    ensures faults { TellsFaultsBy (Err SlotsBroken.Fault) result (D.state disk.old) (D.state disk.new) }
     ensures effect { OnlyReads (at + SLOT_LEN) 1 (D.state disk.old) (D.state disk.new) }
 {
     let mut slot = [0; SLOT_LEN];
@@ -134,7 +134,7 @@ pub fn newest<D: Disk>(disk: &mut D, geo: &Geometry) -> Result<Catalog, SlotsBro
     requires { IsTrue (D.state disk.old).tells_bytes → length (D.state disk.old).bytes ≡ file_length geo.now }
     ensures tells { IsTrue (D.state disk.old).is_honest → TellsNewest geo.now (D.state disk.old).bytes result }
     ensures fits { IfOk result (IsCatalog geo.now) }
-    ensures cause { HasReadCause (D.state disk.old) (D.state disk.new) result }
+    ensures faults { TellsFaultsBy (Err SlotsBroken.Fault) result (D.state disk.old) (D.state disk.new) }
     ensures effect { OnlyReads (EVEN_SLOT + SLOT_LEN) 2 (D.state disk.old) (D.state disk.new) }
 {
     let odd = read_slot(disk, geo, ODD_SLOT)?;

@@ -16,6 +16,3 @@ mod stock;
 pub use disk::MemDisk;
 pub use faultless::FaultlessDisk;
 pub use shelf::MemShelf;
-
-#[cfg(test)]
-mod tests;

@@ -10,6 +10,3 @@ mod laws;
 pub use decoding::decode;
 pub use encoding::encode;
 pub use laws::{one_spelling, whatever_follows};
-
-#[cfg(test)]
-mod tests;

@@ -10,6 +10,3 @@ mod replay;
 pub use lanes::Lanes;
 pub use region::{HEAD_LEN, kept_lanes, one_list, place_in_file};
 pub use replay::{LaneBroken, Replay};
-
-#[cfg(test)]
-mod tests;

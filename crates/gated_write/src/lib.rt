@@ -49,6 +49,3 @@ pub fn write_gated<D: Disk>(disk: &mut D, at: u64, text: &[u8]) -> Result<(), Fa
     write_through(disk, at, &[OPEN])?;
     Ok(())
 }
-
-#[cfg(test)]
-mod tests;

@@ -7,6 +7,3 @@ mod table;
 
 pub use above::Above;
 pub use table::Table;
-
-#[cfg(test)]
-mod tests;

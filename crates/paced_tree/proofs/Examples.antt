@@ -10,8 +10,7 @@ use Rattle.pacing.specs.Steps.{Admit, after}
 use Rattle.pacing.specs.Fronts.{no_fronts, fronts_after}
 use Rattle.blsm_model.specs.declared.key.Key.{Key}
 use Rattle.record_delta.specs.declared.record.Rec.TheVariants.{Base, Tomb}
-use Rattle.record_delta.specs.Entries.{Entries, entries_weight}
-use Rattle.paced_tree.specs.Lanes.{replayed}
+use Rattle.record_delta.specs.Entries.{Entries, entries_weight, replayed}
 use Rattle.tree_machine.specs.declared.step.Kind.TheVariants as kind
 use Rattle.tree_machine.specs.declared.step.Step.{Step}
 use Rattle.tree_machine.specs.Machine.{Machine, opened}

@@ -5,9 +5,9 @@ use Rattle.std.proofs.lemmas.Bool.{ltb-true, ltb-false}
 use Rattle.std.proofs.lemmas.List.{take-append-le, take_all, length-append}
 use Rattle.blsm_model.specs.declared.key.Key.{Key}
 use Rattle.record_delta.specs.declared.record.Rec.{Rec}
-use Rattle.record_delta.specs.Entries.{Entries, entries_weight, with_record}
+use Rattle.record_delta.specs.Entries.{Entries, entries_weight, replayed, with_record}
 use Rattle.pacing.proofs.Fronts.{fronts_fit}
-use Rattle.paced_tree.specs.Lanes.{replayed, EmptyLane, LaneGrows, LanesReplay}
+use Rattle.paced_tree.specs.Lanes.{EmptyLane, LaneGrows, LanesReplay}
 
 abbrev none : Entries
 none = []

@@ -1,16 +1,12 @@
 -- The log's lanes over lists: the records of a lane as they were appended, and what a replay of them meets.
-use Rattle.std.specs.Prelude.{◌≡◌, ℕ, ◌+◌, ◌≤◌, max, [], ◌∷◌, ◌++◌, take, fold}
+use Rattle.std.specs.Prelude.{◌≡◌, ℕ, ◌+◌, ◌≤◌, max, [], ◌∷◌, ◌++◌, take}
 use Rattle.blsm_model.specs.declared.key.Key.{Key}
-use Rattle.blsm_model.specs.Geometry.{high_mark, capacity}
 use Rattle.record_delta.specs.declared.record.Rec.{Rec}
-use Rattle.record_delta.specs.Entries.{Entries, entries_weight, with_record}
+use Rattle.record_delta.specs.Entries.{Entries, entries_weight, replayed, with_record}
+use Rattle.record_delta.specs.Replays.{ReplaysWithin}
 use Rattle.pacing.specs.Pace.{Pace}
 use Rattle.pacing.specs.Kept.{IsPaced}
 use Rattle.pacing.specs.Fronts.{Fronts, AreFronts}
-
--- the table that a lane replays to, later records over earlier ones
-abbrev pub replayed : Entries → Entries
-replayed lane = fold (λ table e. with_record e.0 e.1 table) [] lane
 
 -- The lane replays to the table, and no front of it weighs more than this.
 pub record IsLane (lane table : Entries) (most : ℕ) : Type 0 where
@@ -24,13 +20,6 @@ EmptyLane = IsLane [] [] 0
 abbrev pub LaneGrows : Type 0
 LaneGrows = (lane table : Entries) (most : ℕ) (key : Key) (rec : Rec) → IsLane lane table most → IsLane (lane ++ (key, rec) ∷ []) (with_record key rec table) (max most (entries_weight (with_record key rec table)))
 
--- The opening's bounds, before and after each record of lane A, and then of lane B.
-pub record ReplaysWithin (pace : Pace) (lane_a lane_b : Entries) : Type 0 where
-  pub high_a : (n : ℕ) → entries_weight (replayed (take n lane_a)) ≤ high_mark pace.gears.sizes
-  pub full_a : (n : ℕ) → pace.c1 + pace.c1x + pace.c2 + entries_weight (replayed (take n lane_a)) ≤ capacity pace.gears.sizes
-  pub high_b : (n : ℕ) → entries_weight (replayed lane_a) + entries_weight (replayed (take n lane_b)) ≤ high_mark pace.gears.sizes
-  pub full_b : (n : ℕ) → pace.c1 + pace.c1x + pace.c2 + (entries_weight (replayed lane_a) + entries_weight (replayed (take n lane_b))) ≤ capacity pace.gears.sizes
-
 abbrev pub LanesReplay : Type 0
 LanesReplay = (pace : Pace) (fronts : Fronts) (lane_a lane_b a b : Entries) → IsPaced pace → AreFronts pace fronts → IsLane lane_a a fronts.lane_a → IsLane lane_b b fronts.lane_b
-    → pace.a ≡ entries_weight a → ReplaysWithin pace lane_a lane_b
+    → pace.a ≡ entries_weight a → ReplaysWithin pace.gears.sizes (pace.c1 + pace.c1x + pace.c2) lane_a lane_b

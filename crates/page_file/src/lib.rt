@@ -15,6 +15,3 @@ pub use laws::{
     chains, one_component, one_order, one_page, pages_are_apart, what_stays, where_entries_stand,
 };
 pub use page::{LEAST_FULL, MOST_USED, PAGE_HEAD_LEN, PAGE_LEN, PageHead, number_of};
-
-#[cfg(test)]
-mod tests;

@@ -11,6 +11,3 @@ mod space;
 pub use laws::room_is_free;
 pub use role::Role;
 pub use space::Space;
-
-#[cfg(test)]
-mod tests;

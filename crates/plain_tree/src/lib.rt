@@ -20,6 +20,3 @@ pub use gave_up::GaveUp;
 pub use plays::run_steps;
 pub use seats::Turned;
 pub use tree::{Catalogue, PlainTree};
-
-#[cfg(test)]
-mod tests;

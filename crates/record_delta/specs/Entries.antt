@@ -1,5 +1,5 @@
 -- Lists of keys and records: what memory tables, sorted runs and merges hold. Weights are in bytes.
-use Rattle.std.specs.Prelude.{ℕ, Bool, true, not, List, [], ◌∷◌, Option, Some, None, filter, sum_by, IsTrue}
+use Rattle.std.specs.Prelude.{ℕ, Bool, true, not, List, [], ◌∷◌, Option, Some, None, filter, fold, sum_by, IsTrue}
 use Rattle.std.specs.Ordering.{is_lt}
 use Rattle.std.specs.FinMap.{find, put, is_sorted}
 use Rattle.blsm_model.specs.declared.key.Key.{Key}
@@ -28,6 +28,10 @@ entries_weight entries = sum_by (λ e. weight e.0 e.1) entries
 -- with the record folded over the one of its key, or with it alone where the key is new
 abbrev pub with_record : Key → Rec → Entries → Entries
 with_record key rec entries = put key_cmp key (over rec (record_of_key key entries)) entries
+
+-- The table that records make, one after the other, each folded over the one of its key: what a lane of the log replays to.
+abbrev pub replayed : Entries → Entries
+replayed lane = fold (λ table e. with_record e.0 e.1 table) [] lane
 
 -- one list folded over an older one: each of its records over the older one's of the same key
 abbrev pub folded_over : Entries → Entries → Entries

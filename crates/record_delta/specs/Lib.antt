@@ -1,3 +1,4 @@
 pub mod Records
 pub mod Folding
 pub mod Entries
+pub mod Replays

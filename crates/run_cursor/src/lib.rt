@@ -8,6 +8,3 @@ mod lookup;
 pub use cursor::Cursor;
 pub use laws::what_is_ahead;
 pub use lookup::find;
-
-#[cfg(test)]
-mod tests;

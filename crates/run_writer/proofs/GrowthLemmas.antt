@@ -1,22 +1,19 @@
 -- Runs that grow: their keys rise, no page is there twice, and they don't have all pages.
-use Rattle.std.proofs.Common.{◌≡◌, Bool, false, ℕ, zero, suc, ◌<◌, ◌≤◌, List, [], ◌∷◌, ◌++◌, length, take, drop, refl, ap, sym, subst, ◌∙◌, ◌⊎◌, ⊎_elim, inl, inr, arith}
+use Rattle.std.proofs.Common.{◌≡◌, Bool, false, ℕ, zero, suc, ◌<◌, ◌≤◌, List, [], ◌∷◌, ◌++◌, length, refl, ap, sym, subst, ◌∙◌, ◌⊎◌, ⊎_elim, inl, inr, arith}
 use Rattle.record_delta.specs.Entries.{Entries}
 use Rattle.std.specs.List.{Contains, AllByRecursion, IsDistinct}
-use Rattle.std.specs.List.Sorted.{IsStrictlySortedBy}
-use Rattle.std.specs.declared.cmp.Ordering.TheVariants.{Less}
 use Rattle.std.specs.Prelude.{nat_eq, IsTrue}
 use Rattle.std.proofs.lemmas.Bool.{cases_lt, false≢true, eqb-true, eq-eqb, ne_eqb}
-use Rattle.std.proofs.lemmas.List.{get_or_past, length-map, take-append-drop}
+use Rattle.std.proofs.lemmas.List.{get_or_past, length-map}
 use Rattle.std.proofs.lemmas.List.Elements.{Contains-append_left, Contains-append_right, Contains-append_cases}
 use Rattle.std.proofs.lemmas.Map.Views.{Contains-from_any}
 use Rattle.std.proofs.lemmas.Map.Steps.{length-le_from_distinct_below}
 use Rattle.blsm_model.specs.declared.key.Key.{Key}
-use Rattle.blsm_model.specs.Keys.{key_cmp}
 use Rattle.blsm_model.specs.Sizes.{Sizes}
 use Rattle.record_delta.specs.declared.record.Rec.{Rec}
 use Rattle.page_space.specs.PageSet.{Members, IsIn}
 use Rattle.page_space.specs.Space.{SpaceState, IsFree, HasFree, IsSpace, Claims, role_count}
-use Rattle.page_file.specs.Entry.{keys_of, AreRising}
+use Rattle.page_file.specs.Entry.{AreRising}
 use Rattle.page_file.specs.Component.{RunPage, numbers_of, entries_of}
 use Rattle.run_writer.specs.Run.{Run, page_of, pages_of, IsRun, AreTagged}
 use Rattle.run_writer.specs.Writer.{WriterState, IsCounted, Holds, Stands, HasPushed}
@@ -185,19 +182,3 @@ more_on sizes honest old_file file old space writer new page key rec entries ris
       entries_are = entries_on page key rec run ∙ is;
       stands = λ told. closed run has.held has.is_run told (has.stands told);
     }
-
--- ---- the front of a list whose keys rise
-
-all_front : (P : Key → Type 0) (es fs : Entries) → AllByRecursion P (keys_of (es ++ fs)) → AllByRecursion P (keys_of es)
-all_front P [] fs all = tt
-all_front P (e ∷ es) fs all = (all.0, all_front P es fs all.1)
-
-rise_front : (es fs : Entries) → AreRising (es ++ fs) → AreRising es
-unfolding IsStrictlySortedBy
-rise_front [] fs rise = tt
-rise_front (e ∷ es) fs rise = (all_front (λ (k : Key). key_cmp e.0 k ≡ Less) es fs rise.0, rise_front es fs rise.1)
-
-pub front_rises : (entries : List (Key × Rec)) (n : ℕ) → AreRising entries → AreRising ((take n entries))
-front_rises entries n rise =
-    rise_front ((take n entries)) ((drop n entries))
-    (subst AreRising (sym (take-append-drop n entries)) rise)

@@ -10,6 +10,3 @@ mod writer;
 
 pub use laws::{a_run_has_room, where_a_run_writes};
 pub use writer::Writer;
-
-#[cfg(test)]
-mod tests;

@@ -12,6 +12,3 @@ mod script;
 
 pub use print::print_history;
 pub use script::{MOST_LINES, Script, ScriptFault, read_script};
-
-#[cfg(test)]
-mod tests;

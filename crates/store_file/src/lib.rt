@@ -8,6 +8,3 @@ mod reading;
 
 pub use making::make_store;
 pub use reading::{StoreBroken, one_geometry, read_geometry, read_store};
-
-#[cfg(test)]
-mod tests;

@@ -1,0 +1,113 @@
+// The numbers of a store's geometry.
+use blsm_model::{Geometry, GeometryFault};
+use std::test::Fail;
+
+#[derive(Drop)]
+struct Case {
+    numbers: (u64, u64, u64, u64),
+    marks: (u64, u64, u64),
+    limit: u64,
+    way: u64,
+    gears: (u64, u64),
+    bounds: (u64, u64),
+    disk: (u64, u64),
+}
+
+// The default geometry, the smallest one and the one with the steepest gears at the default half spring.
+fn cases() -> [Case; 3] {
+    [
+        Case {
+            numbers: (32_768, 4, 16_384, 4_096),
+            marks: (65_536, 262_144, 1_048_576),
+            limit: 1_015_808,
+            way: 229_376,
+            gears: (20, 6),
+            bounds: (2, 4),
+            disk: (5_643, 23_511_040),
+        },
+        Case {
+            numbers: (17_408, 2, 16_384, 4_096),
+            marks: (34_816, 69_632, 139_264),
+            limit: 121_856,
+            way: 52_224,
+            gears: (12, 4),
+            bounds: (2, 3),
+            disk: (798, 3_481_600),
+        },
+        Case {
+            numbers: (32_768, 8, 16_384, 1_024),
+            marks: (65_536, 524_288, 4_194_304),
+            limit: 4_161_536,
+            way: 491_520,
+            gears: (36, 10),
+            bounds: (2, 23),
+            disk: (22_344, 91_918_336),
+        },
+    ]
+}
+
+#[test]
+fn three_geometries_have_their_numbers(rt: HostRuntime) -> Result<(), Fail> {
+    for case in &cases() {
+        let (half, ratio, low, quantum) = case.numbers;
+        let geometry = Geometry::new(half, ratio, low, quantum)?;
+        assert_eq!(rt; (geometry.half(), geometry.ratio()), (half, ratio));
+        assert_eq!(rt; (geometry.low(), geometry.quantum()), (low, quantum));
+        let marks = (
+            geometry.high_mark(),
+            geometry.c1_mark(),
+            geometry.capacity(),
+        );
+        assert_eq!(rt; marks, case.marks);
+        assert_eq!(rt; geometry.c1_way(), case.way);
+        assert_eq!(rt; (geometry.first_gear(), geometry.second_gear()), case.gears);
+        assert_eq!(rt; (geometry.bound(14), geometry.bound(512)), case.bounds);
+        assert_eq!(rt; (geometry.pages(), geometry.length()), case.disk);
+        let (_, _, capacity) = case.marks;
+        assert!(rt; geometry.admits(false, case.limit.saturating_sub(14), 14));
+        assert!(rt; !geometry.admits(false, case.limit.saturating_sub(13), 14));
+        assert!(rt; geometry.admits(true, capacity.saturating_sub(14), 14));
+        assert!(rt; !geometry.admits(true, capacity.saturating_sub(13), 14));
+    }
+    Ok(())
+}
+
+#[test]
+fn the_smallest_store_is_full_at_its_edges(rt: HostRuntime) -> Result<(), Fail> {
+    let geometry = Geometry::new(17_408, 2, 16_384, 4_096)?;
+    let cases = [
+        (true, 139_250, true),
+        (true, 139_251, false),
+        (false, 121_842, true),
+        (false, 121_843, false),
+        (false, u64::MAX, false),
+    ];
+    for (is_del, charge, taken) in cases {
+        assert_eq!(rt; geometry.admits(is_del, charge, 14), taken, "at {charge}");
+    }
+    Ok(())
+}
+
+#[test]
+fn the_first_number_out_of_range_is_named(rt: HostRuntime) {
+    let cases = [
+        ((17_407, 1, 70_000, 1), Err(GeometryFault::Half)),
+        ((67_108_865, 2, 0, 1_024), Err(GeometryFault::Half)),
+        ((17_408, 1, 70_000, 1), Err(GeometryFault::Ratio)),
+        ((17_408, 9, 70_000, 1), Err(GeometryFault::Ratio)),
+        ((17_408, 2, 17_409, 1), Err(GeometryFault::Low)),
+        ((17_408, 2, 17_408, 1_023), Err(GeometryFault::Quantum)),
+        ((17_408, 2, 17_408, 65_537), Err(GeometryFault::Quantum)),
+        ((17_408, 2, 0, 1_024), Ok(())),
+        ((67_108_864, 8, 67_108_864, 65_536), Ok(())),
+        ((32_768, 4, 16_384, 4_096), Ok(())),
+    ];
+    for ((half, ratio, low, quantum), outcome) in cases {
+        let made = Geometry::new(half, ratio, low, quantum).map(|_| ());
+        assert_eq!(rt; made, outcome, "at {half} {ratio} {low} {quantum}");
+    }
+    assert_eq!(rt;
+        Geometry::new(32_768, 4, 16_384, 4_096),
+        Ok(Geometry::default())
+    );
+}

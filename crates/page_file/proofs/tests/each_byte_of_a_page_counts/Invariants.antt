@@ -1,6 +1,0 @@
-use Rattle.std.proofs.Common.{◌≡◌, length}
-use Rattle.blsm_model.specs.Geometry.{file_length}
-use Rattle.page_file.proofs.tests.each_byte_of_a_page_counts.Given as goal
-
-abbrev pub invariant-loop-change : goal.invariant-loop-change
-invariant-loop-change g l = length l.disk.bytes ≡ file_length l.geo

@@ -1,7 +1,0 @@
-use Rattle.std.proofs.Common.{◌≡◌, length}
-use Rattle.blsm_model.specs.Geometry.{file_length}
-use Rattle.disk_mem.specs.Recorded.{told}
-use Rattle.run_cursor.proofs.tests.walk.Given as goal
-
-abbrev pub invariant-loop-given : goal.invariant-loop-given
-invariant-loop-given g l = length (told l.disk).bytes ≡ file_length l.geo

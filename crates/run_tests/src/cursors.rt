@@ -1,0 +1,362 @@
+// Components of the smallest store, whose pages are written byte by byte on a disk in memory.
+ghost use Rattle.std.specs.Prelude.{◌≡◌, length};
+ghost use Rattle.blsm_model.specs.Geometry.{file_length};
+ghost use Rattle.disk_mem.specs.Recorded.{told};
+
+use crate::drafts::Draft;
+use crate::samples::{FIRST_PAGE, NO_PAGE, blank, smallest};
+use blsm_model::{Component, Geometry, Key, Text, Value};
+use disk_mem::MemDisk;
+use disk_trait::Disk;
+use page_file::{Broken, PAGE_LEN, no_component, write_page};
+use record_delta::{Rec, Stream};
+use run_cursor::{Cursor, find, what_is_ahead};
+use std::process::Abort;
+use std::test::Fail;
+
+// A key of 64 bytes, all k but the last two, which are the number's.
+fn key_bytes(number: u16) -> [u8; 64] {
+    let mut key = [b'k'; 64];
+    key[62..].copy_from_slice(&number.to_be_bytes());
+    key
+}
+
+fn key(number: u16) -> Result<Key, Fail> {
+    Ok(Key::from_bytes(&key_bytes(number)).ok_or("no key")?)
+}
+
+// A base of 512 bytes with its key.
+fn base(count: u64) -> Result<Rec, Fail> {
+    Ok(Rec::Base(Value {
+        count,
+        text: Text::from_bytes(&[b't'; 435]).ok_or("too long a text")?,
+    }))
+}
+
+// Seven bases of 512 bytes each, with the keys of twice their numbers, from this one on: enough for a next page.
+fn seven(rt: &impl Abort, first: u16) -> Draft {
+    let mut draft = Draft::new();
+    for i in 0..7u16 {
+        draft.entry(
+            rt,
+            1,
+            &key_bytes(first.saturating_add(i).saturating_mul(2)),
+            &[b't'; 435],
+            u64::from(i),
+        );
+    }
+    draft
+}
+
+fn write(rt: &impl Abort, disk: &mut MemDisk, geo: &Geometry, n: u32, page: &[u8; PAGE_LEN])
+    requires { length (told disk.old).bytes ≡ file_length geo.now }
+    ensures { length (told disk.new).bytes ≡ file_length geo.now }
+{
+    assert!(rt; u64::from(n) < geo.pages());
+    assert!(rt; write_page(disk, geo, n, page).is_ok());
+}
+
+// The component of three pages, 5, 2 and 9, with 15 entries: seven, seven and one.
+const THREE: Component = Component {
+    first: 5,
+    pages: 3,
+    entries: 15,
+    weight: 7_182,
+};
+
+fn last_page(rt: &impl Abort) -> Draft {
+    let mut draft = Draft::new();
+    draft.entry(rt, 3, b"l", b"", 0);
+    draft
+}
+
+fn write_three(rt: &impl Abort, disk: &mut MemDisk, geo: &Geometry)
+    requires { length (told disk.old).bytes ≡ file_length geo.now }
+    ensures { length (told disk.new).bytes ≡ file_length geo.now }
+{
+    write(rt, disk, geo, 5, &seven(rt, 0).page(rt, 2));
+    write(rt, disk, geo, 2, &seven(rt, 7).page(rt, 9));
+    write(rt, disk, geo, 9, &last_page(rt).page(rt, NO_PAGE));
+}
+
+// The entry of this place in the three pages.
+fn entry_of(place: u16) -> Result<(Key, Rec), Fail> {
+    if place == 14 {
+        return Ok((Key::from_bytes(b"l").ok_or("no key")?, Rec::Tomb));
+    }
+    Ok((key(place.saturating_mul(2))?, base(u64::from(place % 7))?))
+}
+
+#[test]
+fn a_cursor_gives_the_entries_in_order(rt: HostRuntime) -> Result<(), Fail> {
+    let geo = smallest()?;
+    let mut disk = blank(rt.alloc(), &geo, 200_000)?;
+    write_three(&rt, &mut disk, &geo);
+    let mut cursor = Cursor::start(&THREE);
+    assert_eq!(rt; cursor.head(), None);
+    assert_eq!(rt; cursor.left(), 15);
+    for place in 0..15u16 {
+        assert_eq!(rt; cursor.advance(&mut disk, &geo), Ok(()));
+        assert_eq!(rt; cursor.head(), Some(entry_of(place)?));
+        assert_eq!(rt; cursor.left(), 14 - u64::from(place));
+    }
+    // At the end it stays, and reads nothing more.
+    for _ in 0..2u8 {
+        assert_eq!(rt; cursor.advance(&mut disk, &geo), Ok(()));
+        assert_eq!(rt; cursor.head(), None);
+        assert_eq!(rt; cursor.left(), 0);
+    }
+    Ok(())
+}
+
+#[test]
+fn an_empty_component(rt: HostRuntime) -> Result<(), Fail> {
+    let geo = smallest()?;
+    let mut disk = blank(rt.alloc(), &geo, 200_000)?;
+    let run = no_component();
+    let mut cursor = Cursor::start(&run);
+    assert_eq!(rt; cursor.left(), 0);
+    assert_eq!(rt; cursor.advance(&mut disk, &geo), Ok(()));
+    assert_eq!(rt; cursor.head(), None);
+    assert_eq!(rt; find(&mut disk, &geo, &run, &key(0)?), Ok(None));
+    what_is_ahead();
+    Ok(())
+}
+
+#[test]
+fn a_key_is_found_or_not(rt: HostRuntime) -> Result<(), Fail> {
+    let geo = smallest()?;
+    let mut disk = blank(rt.alloc(), &geo, 200_000)?;
+    write_three(&rt, &mut disk, &geo);
+    for place in 0..15u16 {
+        let (key, rec) = entry_of(place)?;
+        assert_eq!(rt; find(&mut disk, &geo, &THREE, &key), Ok(Some(rec)));
+    }
+    for place in 0..14u16 {
+        let between = key(place.saturating_mul(2).saturating_add(1))?;
+        assert_eq!(rt; find(&mut disk, &geo, &THREE, &between), Ok(None));
+    }
+    for absent in [b"a".as_slice(), b"kz", b"ll", b"m"] {
+        let absent = Key::from_bytes(absent).ok_or("no key")?;
+        assert_eq!(rt; find(&mut disk, &geo, &THREE, &absent), Ok(None));
+    }
+    Ok(())
+}
+
+// A component of one page.
+#[test]
+fn one_page(rt: HostRuntime) -> Result<(), Fail> {
+    let geo = smallest()?;
+    let mut disk = blank(rt.alloc(), &geo, 200_000)?;
+    write(
+        &rt,
+        &mut disk,
+        &geo,
+        797,
+        &last_page(&rt).page(&rt, NO_PAGE),
+    );
+    let run = Component {
+        first: 797,
+        pages: 1,
+        entries: 1,
+        weight: 14,
+    };
+    let (last, tomb) = entry_of(14)?;
+    assert_eq!(rt; find(&mut disk, &geo, &run, &last), Ok(Some(tomb)));
+    assert_eq!(rt; find(&mut disk, &geo, &run, &key(0)?), Ok(None));
+    Ok(())
+}
+
+// Bytes of a page that are changed, numbers of the component, which page is damaged then, and how many entries come before.
+#[derive(Drop)]
+struct Damage {
+    page: u32,
+    bytes: &'static [(u16, u8)],
+    run: Component,
+    damaged: u32,
+    given: u64,
+}
+
+fn damages() -> [Damage; 20] {
+    let bytes = |page, bytes, damaged, given| Damage {
+        page,
+        bytes,
+        run: THREE,
+        damaged,
+        given,
+    };
+    let numbers = |run, damaged, given| Damage {
+        page: 0,
+        bytes: &[],
+        run,
+        damaged,
+        given,
+    };
+    [
+        // No entries, 4,089 bytes of them.
+        bytes(2, &[(1, 0)], 2, 7),
+        bytes(9, &[(2, 0x0f), (3, 0xf9)], 9, 14),
+        // The next page: itself, the first one, one behind the last of the store, none.
+        bytes(2, &[(7, 2)], 2, 14),
+        bytes(2, &[(7, 5)], 5, 14),
+        bytes(5, &[(6, 3), (7, 0x1e)], 5, 0),
+        bytes(5, &[(4, 0xff), (5, 0xff), (6, 0xff), (7, 0xff)], 5, 0),
+        // A byte behind the entries; an entry of kind 0.
+        bytes(9, &[(22, 1)], 9, 14),
+        bytes(5, &[(8, 0)], 5, 0),
+        // Keys that fall, on a page and over its end; the same key on both sides.
+        bytes(2, &[(596, 13)], 2, 7),
+        bytes(9, &[(21, b'a')], 9, 14),
+        bytes(2, &[(84, 12)], 2, 7),
+        // A weight of one more and of one less; an entry more and one less.
+        numbers(
+            Component {
+                weight: 7_183,
+                ..THREE
+            },
+            9,
+            14,
+        ),
+        numbers(
+            Component {
+                weight: 7_181,
+                ..THREE
+            },
+            9,
+            14,
+        ),
+        numbers(
+            Component {
+                entries: 16,
+                ..THREE
+            },
+            9,
+            14,
+        ),
+        numbers(
+            Component {
+                entries: 14,
+                ..THREE
+            },
+            9,
+            14,
+        ),
+        // Fewer than are on the first page, and a page less and one more.
+        numbers(
+            Component {
+                entries: 6,
+                ..THREE
+            },
+            5,
+            0,
+        ),
+        numbers(Component { pages: 2, ..THREE }, 2, 7),
+        numbers(Component { pages: 4, ..THREE }, 9, 14),
+        // A first page that the store doesn't have, and one that is zeros.
+        numbers(
+            Component {
+                first: 798,
+                ..THREE
+            },
+            798,
+            0,
+        ),
+        numbers(
+            Component {
+                first: 797,
+                ..THREE
+            },
+            797,
+            0,
+        ),
+    ]
+}
+
+// How many entries a cursor gives before it tells of damage, and what it tells. It stays where it was.
+fn walk(
+    rt: &impl Abort,
+    disk: &mut MemDisk,
+    geo: &Geometry,
+    run: &Component,
+) -> (u64, Result<(), Broken>)
+    requires { length (told disk.old).bytes ≡ file_length geo.now }
+    ensures { length (told disk.new).bytes ≡ file_length geo.now }
+{
+    assert!(rt; run.pages > 0);
+    let mut cursor = Cursor::start(run);
+    for given in 0..20u64 {
+        let head = cursor.head();
+        let left = cursor.left();
+        let outcome = cursor.advance(disk, geo);
+        if outcome.is_err() {
+            assert_eq!(rt; cursor.head(), head);
+            assert_eq!(rt; cursor.left(), left);
+            return (given, outcome);
+        }
+        if cursor.head().is_none() {
+            return (given, outcome);
+        }
+    }
+    (20, Ok(()))
+}
+
+#[test]
+fn damage_names_the_page(rt: HostRuntime) -> Result<(), Fail> {
+    let geo = smallest()?;
+    let before_all = Key::from_bytes(b"a").ok_or("no key")?;
+    let behind_all = Key::from_bytes(b"z").ok_or("no key")?;
+    for damage in &damages() {
+        let mut disk = blank(rt.alloc(), &geo, 200_000)?;
+        write_three(&rt, &mut disk, &geo);
+        let mut page = [0; PAGE_LEN];
+        assert!(rt; u64::from(damage.page) < geo.pages());
+        let at = FIRST_PAGE + 4_096 * u64::from(damage.page);
+        assert_eq!(rt; disk.read(at, &mut page), Ok(()));
+        for (at, byte) in damage.bytes {
+            assert!(rt; (*at as usize) < PAGE_LEN);
+            page[*at as usize] = *byte;
+        }
+        write(&rt, &mut disk, &geo, damage.page, &page);
+        let expected = Err(Broken::Damaged(damage.damaged));
+        assert_eq!(rt;
+            walk(&rt, &mut disk, &geo, &damage.run),
+            (damage.given, expected),
+            "page {}: {:?}, {:?}",
+            damage.page,
+            damage.bytes,
+            damage.run
+        );
+        // A lookup tells of it where its key is behind, and doesn't see it where the key is before.
+        assert!(rt; damage.run.pages > 0);
+        assert_eq!(rt;
+            find(&mut disk, &geo, &damage.run, &behind_all),
+            Err(Broken::Damaged(damage.damaged))
+        );
+        let before = find(&mut disk, &geo, &damage.run, &before_all);
+        if damage.given == 0 {
+            assert_eq!(rt; before, Err(Broken::Damaged(damage.damaged)));
+        } else {
+            assert_eq!(rt; before, Ok(None));
+        }
+    }
+    Ok(())
+}
+
+// The second read of a page fails. The cursor stays at the seventh entry, and goes on from there.
+#[test]
+fn a_fault_leaves_the_cursor(rt: HostRuntime) -> Result<(), Fail> {
+    let geo = smallest()?;
+    let mut disk = blank(rt.alloc(), &geo, 200_000)?;
+    write_three(&rt, &mut disk, &geo);
+    disk.fail(7)?;
+    disk.fail(12)?;
+    assert_eq!(rt; walk(&rt, &mut disk, &geo, &THREE), (7, Err(Broken::Fault)));
+    assert_eq!(rt; disk.faults(), 1);
+    assert_eq!(rt; walk(&rt, &mut disk, &geo, &THREE), (15, Ok(())));
+    assert_eq!(rt;
+        find(&mut disk, &geo, &THREE, &entry_of(14)?.0),
+        Err(Broken::Fault)
+    );
+    assert_eq!(rt; disk.faults(), 2);
+    Ok(())
+}
