@@ -72,7 +72,7 @@ last_part : (m n : ℕ) → m + n ≡ 0 → n ≡ 0
 last_part m n is = omega arith
 
 -- Where nothing is left by the numbers, nothing is left of the lists.
-pub none_above : (sizes : Sizes) (file : List ℕ) (space : SpaceState) (deep : DeepState) (newer older : Entries) → left_weight deep ≡ 0 → IsMerge sizes file space deep newer older
+pub none_above : {news olds : List ℕ} (sizes : Sizes) (file : List ℕ) (space : SpaceState) (deep : DeepState) (newer older : Entries) → left_weight deep ≡ 0 → IsMerge sizes file space deep news olds newer older
     → NoneAbove deep.at newer older
 none_above sizes file space deep newer older done merge = (
   input_done sizes file space deep.writer.role deep.at deep.c1x newer (first_part (left_in deep.at deep.c1x) (left_in deep.at deep.c2) done) merge.newer,
@@ -80,7 +80,7 @@ none_above sizes file space deep newer older done merge = (
 )
 
 -- All was pushed.
-pub pushed_all : (sizes : Sizes) (file : List ℕ) (space : SpaceState) (deep : DeepState) (newer older : Entries) → left_weight deep ≡ 0 → IsMerge sizes file space deep newer older
+pub pushed_all : {news olds : List ℕ} (sizes : Sizes) (file : List ℕ) (space : SpaceState) (deep : DeepState) (newer older : Entries) → left_weight deep ≡ 0 → IsMerge sizes file space deep news olds newer older
     → HasPushed sizes true file space deep.writer (settled_entries (folded_over newer older))
 pushed_all sizes file space deep newer older done merge =
     let none = none_above sizes file space deep newer older done merge in

@@ -36,10 +36,10 @@ pub record IsRunning (sizes : Sizes) (honest : Bool) (file : List ℕ) (space : 
   pub newer : IsBehind deep.at deep.c1x
   pub older : IsBehind deep.at deep.c2
 
--- Of both lists what is up to the greatest key taken was taken, folded key by key, settled, and pushed: bases only. What is above it is left.
-pub record IsMerge (sizes : Sizes) (file : List ℕ) (space : SpaceState) (deep : DeepState) (c1x c2 : Entries) : Type 0 where
-  pub newer : IsInput sizes file space deep.writer.role deep.at deep.c1x c1x
-  pub older : IsInput sizes file space deep.writer.role deep.at deep.c2 c2
+-- Of both lists, which stand on these pages, what is up to the greatest key taken was taken, folded key by key, settled, and pushed: bases only. What is above it is left.
+pub record IsMerge (sizes : Sizes) (file : List ℕ) (space : SpaceState) (deep : DeepState) (newer_pages older_pages : List ℕ) (c1x c2 : Entries) : Type 0 where
+  pub newer : IsInput sizes file space deep.writer.role deep.at deep.c1x newer_pages c1x
+  pub older : IsInput sizes file space deep.writer.role deep.at deep.c2 older_pages c2
   pub run : HasRun sizes true file space deep.writer deep.at
   pub out_is : run.out ≡ settled_entries (folded_over (up_to deep.at c1x) (up_to deep.at c2))
 

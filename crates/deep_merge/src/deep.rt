@@ -54,7 +54,7 @@ impl Deep {
         ensures merge { (sizes : Sizes) (file : List ℕ) (space : SpaceState) (newer older : Entries)
             → (list : HasList sizes c1x.now newer file) → ((n : ℕ) → Contains (numbers_of list.pages) n → (HasRole space role n → ⊥) × (IsFree space n → ⊥))
             → (below : HasList sizes c2.now older file) → ((n : ℕ) → Contains (numbers_of below.pages) n → (HasRole space role n → ⊥) × (IsFree space n → ⊥))
-            → IsMerge sizes file space result newer older }
+            → IsMerge sizes file space result (numbers_of list.pages) (numbers_of below.pages) newer older }
     {
         one_order();
         Deep {
@@ -92,9 +92,9 @@ impl Deep {
         requires pages { space.old.pages ≡ page_count geo.now }
         requires length { IsTrue (D.state disk.old).tells_bytes → length (D.state disk.old).bytes ≡ file_length geo.now }
         requires runs { MayGoOn geo.now (D.state disk.old).is_honest (D.state disk.old).bytes space.old self.old }
-        ensures merge { (c1x c2 : Entries) → IsTrue (D.state disk.old).is_honest → IsMerge geo.now (D.state disk.old).bytes space.old self.old c1x c2
+        ensures merge { (newer older : List ℕ) (c1x c2 : Entries) → IsTrue (D.state disk.old).is_honest → IsMerge geo.now (D.state disk.old).bytes space.old self.old newer older c1x c2
             → result ≢ Err Broken.Fault
-            → (n : ℕ) × (result ≡ Ok n) × IsMerge geo.now (D.state disk.new).bytes space.new self.new c1x c2
+            → (n : ℕ) × (result ≡ Ok n) × IsMerge geo.now (D.state disk.new).bytes space.new self.new newer older c1x c2
             × (IsNext self.old.at self.new.at c1x c2 n ⊎ (NoneAbove self.old.at c1x c2 × (self.new.at ≡ self.old.at) × (n ≡ 0))) }
         ensures runs { OnOk result (MayGoOn geo.now (D.state disk.new).is_honest (D.state disk.new).bytes space.new self.new) }
         ensures takes { IfOk result (TakesGroup self.old self.new) }
@@ -133,9 +133,9 @@ impl Deep {
         requires runs { MayGoOn geo.now (D.state disk.old).is_honest (D.state disk.old).bytes space.old self.old }
 
         // On an honest disk the merge stands as before, further on by one quantum.
-        ensures merge { (c1x c2 : Entries) → IsTrue (D.state disk.old).is_honest → IsMerge geo.now (D.state disk.old).bytes space.old self.old c1x c2
+        ensures merge { (newer older : List ℕ) (c1x c2 : Entries) → IsTrue (D.state disk.old).is_honest → IsMerge geo.now (D.state disk.old).bytes space.old self.old newer older c1x c2
             → result ≢ Err Broken.Fault
-            → (n : ℕ) × (result ≡ Ok n) × IsMerge geo.now (D.state disk.new).bytes space.new self.new c1x c2
+            → (n : ℕ) × (result ≡ Ok n) × IsMerge geo.now (D.state disk.new).bytes space.new self.new newer older c1x c2
             × IsQuantum geo.now.quantum self.old.at self.new.at c1x c2 n }
 
         // On any disk what was taken and what is left add up, and it is a quantum or all that was left, and less than one group more.
@@ -180,8 +180,8 @@ impl Deep {
         requires length { IsTrue (D.state disk.old).tells_bytes → length (D.state disk.old).bytes ≡ file_length geo.now }
         ensures component { IfOk result (λ c. c ≡ self.old.writer.component) }
         // It reads as C1' folded over C2, settled, on pages that have the run's tag.
-        ensures list { (space : SpaceState) (c1x c2 : Entries) → IsTrue (D.state disk.old).is_honest
-            → IsMerge geo.now (D.state disk.old).bytes space self.old c1x c2
+        ensures list { (space : SpaceState) (newer older : List ℕ) (c1x c2 : Entries) → IsTrue (D.state disk.old).is_honest
+            → IsMerge geo.now (D.state disk.old).bytes space self.old newer older c1x c2
             → IfOk result (λ c. (list : HasList geo.now c (settled_entries (folded_over c1x c2)) (D.state disk.new).bytes)
             × ((n : ℕ) → Contains (numbers_of list.pages) n → HasRole space self.old.writer.role n)) }
         ensures same { self.new ≡ self.old }

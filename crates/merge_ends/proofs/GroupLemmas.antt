@@ -69,8 +69,8 @@ none_of [] is = refl
 none_of (e ∷ es) is = absurd (omega (arith, is))
 
 -- It is the first of what the input has left.
-pub head_is : (sizes : Sizes) (file : List ℕ) (space : SpaceState) (role : ℕ) (at : Option Key) (cursor : CursorState) (entries : Entries) → IsReady at cursor
-    → IsInput sizes file space role at cursor entries → first_of (above at entries) ≡ cursor.head
+pub head_is : {pages : List ℕ} (sizes : Sizes) (file : List ℕ) (space : SpaceState) (role : ℕ) (at : Option Key) (cursor : CursorState) (entries : Entries) → IsReady at cursor
+    → IsInput sizes file space role at cursor pages entries → first_of (above at entries) ≡ cursor.head
 head_is sizes file space role at cursor entries (inl is) input = ap first_of (sym input.left_is) ∙ by_head cursor.head is
   where
     by_head : (head : Option (Key × Rec)) → head_above at head ≡ true → first_of (above at (from_head head input.rest)) ≡ head
@@ -142,13 +142,14 @@ behind_group at cursor key (inr end) (inl (inr none)) = inl (inr end)
 behind_group at cursor key ready (inr is) = inr is
 
 -- What is left above the group is left of the input.
-pub input_further : (sizes : Sizes) (file : List ℕ) (space : SpaceState) (role : ℕ) (at : Option Key) (key : Key) (cursor : CursorState) (entries : Entries) → is_above at key ≡ true
-    → IsInput sizes file space role at cursor entries → IsInput sizes file space role (Some key) cursor entries
+pub input_further : {pages : List ℕ} (sizes : Sizes) (file : List ℕ) (space : SpaceState) (role : ℕ) (at : Option Key) (key : Key) (cursor : CursorState) (entries : Entries) → is_above at key ≡ true
+    → IsInput sizes file space role at cursor pages entries → IsInput sizes file space role (Some key) cursor pages entries
 input_further sizes file space role at key cursor entries key_above input = record {
   sorted = input.sorted;
   rest = input.rest;
   ahead = input.ahead;
   left_is = above_further at key (from_head cursor.head input.rest) key_above ∙ ap (above (Some key)) input.left_is ∙ sym (above_further at key entries key_above);
+  among = input.among;
   apart = input.apart;
   in_use = input.in_use;
 }
@@ -163,8 +164,8 @@ weightless [] is = refl
 weightless (e ∷ es) is = absurd (weight_some e es is)
 
 -- An input of which nothing is left by the numbers has nothing left.
-pub input_done : (sizes : Sizes) (file : List ℕ) (space : SpaceState) (role : ℕ) (at : Option Key) (cursor : CursorState) (entries : Entries) → left_in at cursor ≡ 0
-    → IsInput sizes file space role at cursor entries → above at entries ≡ []
+pub input_done : {pages : List ℕ} (sizes : Sizes) (file : List ℕ) (space : SpaceState) (role : ℕ) (at : Option Key) (cursor : CursorState) (entries : Entries) → left_in at cursor ≡ 0
+    → IsInput sizes file space role at cursor pages entries → above at entries ≡ []
 input_done sizes file space role at cursor entries none input =
     let rest_none : input.rest ≡ [] = weightless input.rest (input.ahead.weight_is ∙ later (entries_weight (above at (from_head cursor.head []))) cursor.weight none) in
     let head_none : above at (from_head cursor.head []) ≡ [] = weightless _ (earlier (entries_weight (above at (from_head cursor.head []))) cursor.weight none) in

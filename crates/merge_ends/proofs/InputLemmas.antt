@@ -20,16 +20,17 @@ pub stale_left : (at : Option Key) (head : Option (Key × Rec)) (rest : Entries)
 stale_left at None rest is = refl
 stale_left at (Some e) rest is = ap (λ b. cond b (e ∷ above at rest) (above at rest)) is
 
-pub went_on : (sizes : Sizes) (file : List ℕ) (space : SpaceState) (role : ℕ) (at : Option Key) (old new : CursorState) (entries : Entries) → head_above at old.head ≡ false
-    → (input : IsInput sizes file space role at old entries) → IsAdvanced sizes new (numbers_of input.ahead.coming) input.rest file → IsInput sizes file space role at new entries
-went_on sizes file space role at old new entries stale input advanced = by_rest input.rest refl advanced
+pub went_on : (sizes : Sizes) (file : List ℕ) (space : SpaceState) (role : ℕ) (at : Option Key) (old new : CursorState) (pages : List ℕ) (entries : Entries) → head_above at old.head ≡ false
+    → (input : IsInput sizes file space role at old pages entries) → IsAdvanced sizes new (numbers_of input.ahead.coming) input.rest file → IsInput sizes file space role at new pages entries
+went_on sizes file space role at old new pages entries stale input advanced = by_rest input.rest refl advanced
   where
-    by_rest : (rest : Entries) → input.rest ≡ rest → IsAdvanced sizes new (numbers_of input.ahead.coming) rest file → IsInput sizes file space role at new entries
+    by_rest : (rest : Entries) → input.rest ≡ rest → IsAdvanced sizes new (numbers_of input.ahead.coming) rest file → IsInput sizes file space role at new pages entries
     by_rest [] is then = record {
       sorted = input.sorted;
       rest = [];
       ahead = then.1;
       left_is = ap (λ h. above at (from_head h [])) then.0 ∙ sym (ap (above at) is) ∙ sym (stale_left at old.head input.rest stale) ∙ input.left_is;
+      among = λ n has. input.among n (then.2 n has);
       apart = λ n has. input.apart n (then.2 n has);
       in_use = λ n has. input.in_use n (then.2 n has);
     }
@@ -38,6 +39,7 @@ went_on sizes file space role at old new entries stale input advanced = by_rest 
       rest = es;
       ahead = then.1;
       left_is = ap (λ h. above at (from_head h es)) then.0 ∙ sym (ap (above at) is) ∙ sym (stale_left at old.head input.rest stale) ∙ input.left_is;
+      among = λ n has. input.among n (then.2 n has);
       apart = λ n has. input.apart n (then.2 n has);
       in_use = λ n has. input.in_use n (then.2 n has);
     }
@@ -45,9 +47,9 @@ went_on sizes file space role at old new entries stale input advanced = by_rest 
 -- An input stays where the role's pages alone are written, and the pages that the role takes were free.
 pub input_kept : ((sizes : Sizes) (cursor : CursorState) (rest : Entries) (old new : List ℕ) (before : HasAhead sizes cursor rest old) → AreSamePages sizes (numbers_of before.coming) old new
     → (now : HasAhead sizes cursor rest new) × (now.coming ≡ before.coming))
-    → (sizes : Sizes) (old new : List ℕ) (space after : SpaceState) (role : ℕ) (at : Option Key) (cursor : CursorState) (entries : Entries)
-    → IsSameOutside (role_region sizes space role) old new → TakesPages role space after → IsInput sizes old space role at cursor entries → IsInput sizes new after role at cursor entries
-input_kept ahead_kept sizes old new space after role at cursor entries same takes input =
+    → (sizes : Sizes) (old new : List ℕ) (space after : SpaceState) (role : ℕ) (at : Option Key) (cursor : CursorState) (pages : List ℕ) (entries : Entries)
+    → IsSameOutside (role_region sizes space role) old new → TakesPages role space after → IsInput sizes old space role at cursor pages entries → IsInput sizes new after role at cursor pages entries
+input_kept ahead_kept sizes old new space after role at cursor pages entries same takes input =
     let now = ahead_kept sizes cursor input.rest old new input.ahead (same_pages sizes (numbers_of input.ahead.coming) old new (same_wider elsewhere same)) in
     let back = λ (n : ℕ) (has : Contains (numbers_of now.0.coming) n). subst (λ (ps : List RunPage). Contains (numbers_of ps) n) now.1 has in
     record {
@@ -55,6 +57,7 @@ input_kept ahead_kept sizes old new space after role at cursor entries same take
       rest = input.rest;
       ahead = now.0;
       left_is = input.left_is;
+      among = λ n has. input.among n (back n has);
       apart = λ n has tagged. ⊎_elim (input.apart n (back n has)) (input.in_use n (back n has)) (takes.only_free n tagged);
       in_use = λ n has free. input.in_use n (back n has) (takes.free n free);
     }

@@ -7,7 +7,7 @@ use Rattle.record_delta.specs.declared.record.Rec.{Rec}
 use Rattle.record_delta.specs.Entries.{Entries, AreSorted, entries_weight, is_above, above}
 use Rattle.page_space.specs.Space.{SpaceState, HasRole, IsFree}
 use Rattle.page_file.specs.Component.{numbers_of}
-use Rattle.run_cursor.specs.Cursor.{CursorState, from_head, HasAhead}
+use Rattle.run_cursor.specs.Cursor.{CursorState, from_head, HasAhead, AreAmong}
 
 -- the key of an entry, if there is one
 abbrev pub key_of : Option (Key × Rec) → Option Key
@@ -37,11 +37,12 @@ IsReady at cursor = (head_above at cursor.head ≡ true) ⊎ IsAtEnd cursor
 abbrev pub IsBehind : Option Key → CursorState → Type 0
 IsBehind at cursor = IsReady at cursor ⊎ (key_of cursor.head ≡ at)
 
--- In this file the cursor has what the entries have above the key, on pages that aren't the role's and aren't free.
-pub record IsInput (sizes : Sizes) (file : List ℕ) (space : SpaceState) (role : ℕ) (at : Option Key) (cursor : CursorState) (entries : Entries) : Type 0 where
+-- In this file the cursor has what the entries have above the key, on some of these pages, which aren't the role's and aren't free.
+pub record IsInput (sizes : Sizes) (file : List ℕ) (space : SpaceState) (role : ℕ) (at : Option Key) (cursor : CursorState) (pages : List ℕ) (entries : Entries) : Type 0 where
   pub sorted : AreSorted entries
   pub rest : Entries
   pub ahead : HasAhead sizes cursor rest file
   pub left_is : above at (from_head cursor.head rest) ≡ above at entries
+  pub among : AreAmong ahead.coming pages
   pub apart : (n : ℕ) → Contains (numbers_of ahead.coming) n → HasRole space role n → ⊥
   pub in_use : (n : ℕ) → Contains (numbers_of ahead.coming) n → IsFree space n → ⊥

@@ -1,5 +1,5 @@
 //! A component as an input of a merge.
-ghost use Rattle.std.specs.Prelude.{◌≡◌, ◌≢◌, ◌↔◌, ◌+◌, ◌≤◌, ℕ, Ok, Err, length, IsTrue, IsErr, OnOk};
+ghost use Rattle.std.specs.Prelude.{◌≡◌, ◌≢◌, ◌↔◌, ◌+◌, ◌≤◌, ℕ, List, Ok, Err, length, IsTrue, IsErr, OnOk};
 ghost use Rattle.blsm_model.specs.Sizes.{Sizes};
 ghost use Rattle.blsm_model.specs.Geometry.{file_length};
 ghost use Rattle.record_delta.specs.Entries.{Entries};
@@ -41,9 +41,9 @@ pub fn go_above<D: Disk>(
 ) -> Result<(), Broken>
     requires behind { IsBehind at.now cursor.old }
     requires length { IsTrue (D.state disk.old).tells_bytes → length (D.state disk.old).bytes ≡ file_length geo.now }
-    ensures input { (space : SpaceState) (role : ℕ) (entries : Entries) → IsTrue (D.state disk.old).is_honest
-        → IsInput geo.now (D.state disk.old).bytes space role at.now cursor.old entries → result ≢ Err Broken.Fault
-        → (result ≡ Ok tt) × IsInput geo.now (D.state disk.new).bytes space role at.now cursor.new entries }
+    ensures input { (space : SpaceState) (role : ℕ) (pages : List ℕ) (entries : Entries) → IsTrue (D.state disk.old).is_honest
+        → IsInput geo.now (D.state disk.old).bytes space role at.now cursor.old pages entries → result ≢ Err Broken.Fault
+        → (result ≡ Ok tt) × IsInput geo.now (D.state disk.new).bytes space role at.now cursor.new pages entries }
     ensures ready { OnOk result (IsReady at.now cursor.new × (left_in at.now cursor.new ≡ left_in at.now cursor.old)) }
     ensures kept { IsErr result → cursor.new ≡ cursor.old }
     ensures one_a_page { OnOk result ((D.state disk.new).clock + cursor.new.pages ≤ (D.state disk.old).clock + cursor.old.pages) }

@@ -14,9 +14,9 @@ use run_cursor::what_is_ahead;
 
 /// An input stays where no byte has changed but on the role's pages, and the pages that the role took were free.
 pub fn an_input_stays()
-    ensures { (sizes : Sizes) (old new : List ℕ) (space after : SpaceState) (role : ℕ) (at : Option Key) (cursor : CursorState) (entries : Entries)
+    ensures { (sizes : Sizes) (old new : List ℕ) (space after : SpaceState) (role : ℕ) (at : Option Key) (cursor : CursorState) (pages : List ℕ) (entries : Entries)
         → IsSameOutside (role_region sizes space role) old new → TakesPages role space after
-        → IsInput sizes old space role at cursor entries → IsInput sizes new after role at cursor entries }
+        → IsInput sizes old space role at cursor pages entries → IsInput sizes new after role at cursor pages entries }
 {
     what_is_ahead();
 }

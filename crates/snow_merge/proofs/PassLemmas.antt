@@ -87,14 +87,14 @@ last_part : (m n : ℕ) → m + n ≡ 0 → n ≡ 0
 last_part m n is = omega arith
 
 -- Where nothing is left by the numbers, nothing is left of the lists.
-pub none_above : (sizes : Sizes) (file : List ℕ) (space : SpaceState) (snow : SnowState) (a c1 : Entries) → left_weight snow a ≡ 0 → IsPass sizes file space snow a c1 → NoneAbove snow.at a c1
+pub none_above : {pages : List ℕ} (sizes : Sizes) (file : List ℕ) (space : SpaceState) (snow : SnowState) (a c1 : Entries) → left_weight snow a ≡ 0 → IsPass sizes file space snow pages a c1 → NoneAbove snow.at a c1
 none_above sizes file space snow a c1 done pass = (
   weightless (above snow.at a) (first_part (entries_weight (above snow.at a)) (left_in snow.at snow.c1) done),
   input_done sizes file space snow.writer.role snow.at snow.c1 c1 (last_part (entries_weight (above snow.at a)) (left_in snow.at snow.c1) done) pass.older,
 )
 
 -- All was pushed.
-pub pushed_all : (sizes : Sizes) (file : List ℕ) (space : SpaceState) (snow : SnowState) (a c1 : Entries) → left_weight snow a ≡ 0 → IsPass sizes file space snow a c1
+pub pushed_all : {pages : List ℕ} (sizes : Sizes) (file : List ℕ) (space : SpaceState) (snow : SnowState) (a c1 : Entries) → left_weight snow a ≡ 0 → IsPass sizes file space snow pages a c1
     → HasPushed sizes true file space snow.writer (folded_over a c1)
 pushed_all sizes file space snow a c1 done pass =
     let none = none_above sizes file space snow a c1 done pass in

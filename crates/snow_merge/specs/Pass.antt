@@ -30,9 +30,9 @@ pub record IsRunning (sizes : Sizes) (honest : Bool) (file : List ℕ) (space : 
   pub run : HasRun sizes honest file space snow.writer snow.at
   pub behind : IsBehind snow.at snow.c1
 
--- Of table A and of C1's list what is up to the greatest key taken was taken, folded key by key, and pushed; what is above it is left.
-pub record IsPass (sizes : Sizes) (file : List ℕ) (space : SpaceState) (snow : SnowState) (a c1 : Entries) : Type 0 where
-  pub older : IsInput sizes file space snow.writer.role snow.at snow.c1 c1
+-- Of table A and of C1's list, which stands on these pages, what is up to the greatest key taken was taken, folded key by key, and pushed; what is above it is left.
+pub record IsPass (sizes : Sizes) (file : List ℕ) (space : SpaceState) (snow : SnowState) (pages : List ℕ) (a c1 : Entries) : Type 0 where
+  pub older : IsInput sizes file space snow.writer.role snow.at snow.c1 pages c1
   pub pushed : HasPushed sizes true file space snow.writer (folded_over (up_to snow.at a) (up_to snow.at c1))
 
 -- What was taken, by the numbers: so much of table A and so much of C1. The run weighs no more than by that.

@@ -5,6 +5,3 @@
 mod snow;
 
 pub use snow::Snow;
-
-#[cfg(test)]
-mod tests;

@@ -51,7 +51,7 @@ impl Snow {
         // No page of C1 has the run's tag, and none is free.
         ensures pass { (sizes : Sizes) (file : List ℕ) (space : SpaceState) (a entries : Entries) → (list : HasList sizes c1.now entries file)
             → ((n : ℕ) → Contains (numbers_of list.pages) n → (HasRole space role n → ⊥) × (IsFree space n → ⊥))
-            → IsPass sizes file space result a entries }
+            → IsPass sizes file space result (numbers_of list.pages) a entries }
     {
         one_order();
         Snow {
@@ -89,9 +89,9 @@ impl Snow {
         requires pages { space.old.pages ≡ page_count geo.now }
         requires length { IsTrue (D.state disk.old).tells_bytes → length (D.state disk.old).bytes ≡ file_length geo.now }
         requires runs { MayGoOn geo.now (D.state disk.old).is_honest (D.state disk.old).bytes space.old self.old a.now.entries }
-        ensures pass { (c1 : Entries) → IsTrue (D.state disk.old).is_honest → IsPass geo.now (D.state disk.old).bytes space.old self.old a.now.entries c1
+        ensures pass { (pages : List ℕ) (c1 : Entries) → IsTrue (D.state disk.old).is_honest → IsPass geo.now (D.state disk.old).bytes space.old self.old pages a.now.entries c1
             → result ≢ Err Broken.Fault
-            → (n : ℕ) × (result ≡ Ok n) × IsPass geo.now (D.state disk.new).bytes space.new self.new a.now.entries c1
+            → (n : ℕ) × (result ≡ Ok n) × IsPass geo.now (D.state disk.new).bytes space.new self.new pages a.now.entries c1
             × (IsNext self.old.at self.new.at a.now.entries c1 n ⊎ (NoneAbove self.old.at a.now.entries c1 × (self.new.at ≡ self.old.at) × (n ≡ 0))) }
         ensures runs { OnOk result (MayGoOn geo.now (D.state disk.new).is_honest (D.state disk.new).bytes space.new self.new a.now.entries) }
         ensures takes { IfOk result (TakesGroup self.old self.new a.now.entries) }
@@ -135,9 +135,9 @@ impl Snow {
         requires runs { MayGoOn geo.now (D.state disk.old).is_honest (D.state disk.old).bytes space.old self.old a.now.entries }
 
         // On an honest disk the pass stands as before, further on by one quantum.
-        ensures pass { (c1 : Entries) → IsTrue (D.state disk.old).is_honest → IsPass geo.now (D.state disk.old).bytes space.old self.old a.now.entries c1
+        ensures pass { (pages : List ℕ) (c1 : Entries) → IsTrue (D.state disk.old).is_honest → IsPass geo.now (D.state disk.old).bytes space.old self.old pages a.now.entries c1
             → result ≢ Err Broken.Fault
-            → (n : ℕ) × (result ≡ Ok n) × IsPass geo.now (D.state disk.new).bytes space.new self.new a.now.entries c1
+            → (n : ℕ) × (result ≡ Ok n) × IsPass geo.now (D.state disk.new).bytes space.new self.new pages a.now.entries c1
             × IsQuantum geo.now.quantum self.old.at self.new.at a.now.entries c1 n }
 
         // On any disk what was taken and what is left add up, and it is a quantum or all that was left, and less than one group more.
@@ -188,8 +188,8 @@ impl Snow {
         requires length { IsTrue (D.state disk.old).tells_bytes → length (D.state disk.old).bytes ≡ file_length geo.now }
         ensures component { IfOk result (λ c. c ≡ self.old.writer.component) }
         // It reads as table A folded over C1, on pages that have the run's tag.
-        ensures list { (space : SpaceState) (c1 : Entries) → IsTrue (D.state disk.old).is_honest
-            → IsPass geo.now (D.state disk.old).bytes space self.old a.now.entries c1
+        ensures list { (space : SpaceState) (pages : List ℕ) (c1 : Entries) → IsTrue (D.state disk.old).is_honest
+            → IsPass geo.now (D.state disk.old).bytes space self.old pages a.now.entries c1
             → IfOk result (λ c. (list : HasList geo.now c (folded_over a.now.entries c1) (D.state disk.new).bytes)
             × ((n : ℕ) → Contains (numbers_of list.pages) n → HasRole space self.old.writer.role n)) }
         ensures same { self.new ≡ self.old }

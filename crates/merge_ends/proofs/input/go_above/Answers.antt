@@ -5,10 +5,10 @@ use Rattle.merge_ends.proofs.InputLemmas.{went_on}
 use Rattle.merge_ends.proofs.input.go_above.Goals as goal
 
 pub returns-clause-input : goal.returns-clause-input
-returns-clause-input g c = λ space role entries honest input other.
+returns-clause-input g c = λ space role pages entries honest input other.
     let sizes = c.args.geo.now in
     let at = c.args.at.now in
     let new = (g.D.Disk.state c.advance.new.disk).bytes in
-    let here = subst (λ (b : List ℕ). IsInput sizes b space role at c.args.cursor.now entries) (sym (only_reads_same c.advance.ensures.reads.effect honest)) input in
+    let here = subst (λ (b : List ℕ). IsInput sizes b space role at c.args.cursor.now pages entries) (sym (only_reads_same c.advance.ensures.reads.effect honest)) input in
     let advanced = c.advance.ensures.list here.rest (g.met.D.Disk.honest_tells c.args.disk.now honest) here.ahead other in
-    (advanced.0, went_on sizes new space role at c.args.cursor.now c.advance.new.self entries (sym c.is_above.ensures ∙ c.if-is_above.false) here advanced.1)
+    (advanced.0, went_on sizes new space role at c.args.cursor.now c.advance.new.self pages entries (sym c.is_above.ensures ∙ c.if-is_above.false) here advanced.1)

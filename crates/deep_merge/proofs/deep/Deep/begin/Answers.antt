@@ -20,6 +20,7 @@ returns-clause-merge c = λ sizes file space newer older list elsewhere below be
         rest = newer;
         ahead = ahead.0;
         left_is = ap (λ (s : CursorState). above None (from_head s.head newer)) c.start-2.ensures.start;
+        among = λ n has. subst (λ (ps : List RunPage). Contains (numbers_of ps) n) ahead.1 has;
         apart = λ n has tagged. (elsewhere n (subst (λ (ps : List RunPage). Contains (numbers_of ps) n) ahead.1 has)).0 (subst (λ (r : ℕ). HasRole space r n) role tagged);
         in_use = λ n has. (elsewhere n (subst (λ (ps : List RunPage). Contains (numbers_of ps) n) ahead.1 has)).1;
       };
@@ -28,6 +29,7 @@ returns-clause-merge c = λ sizes file space newer older list elsewhere below be
         rest = older;
         ahead = behind.0;
         left_is = ap (λ (s : CursorState). above None (from_head s.head older)) c.start-3.ensures.start;
+        among = λ n has. subst (λ (ps : List RunPage). Contains (numbers_of ps) n) behind.1 has;
         apart = λ n has tagged. (below_elsewhere n (subst (λ (ps : List RunPage). Contains (numbers_of ps) n) behind.1 has)).0 (subst (λ (r : ℕ). HasRole space r n) role tagged);
         in_use = λ n has. (below_elsewhere n (subst (λ (ps : List RunPage). Contains (numbers_of ps) n) behind.1 has)).1;
       };

@@ -13,10 +13,10 @@ use Rattle.deep_merge.proofs.MergeLemmas.{pushed_all}
 use Rattle.deep_merge.proofs.deep.Deep.finish.Goals as goal
 
 pub returns-clause-list : goal.returns-clause-list
-returns-clause-list g c = λ space newer older honest merge.
+returns-clause-list g c = λ space news olds newer older honest merge.
     let sizes = c.args.geo.now in
     let d = g.D.Disk.state c.args.disk.now in
-    let old = subst (λ (s : DeepState). IsMerge sizes d.bytes space s newer older) (sym c.self.view_is) merge in
+    let old = subst (λ (s : DeepState). IsMerge sizes d.bytes space s news olds newer older) (sym c.self.view_is) merge in
     let done = subst (λ (s : DeepState). left_weight s ≡ 0) (sym c.self.view_is) c.requires.done in
     let pushed = pushed_all sizes d.bytes space (record { writer = c.self.inside.writer; c1x = c.self.inside.c1x; c2 = c.self.inside.c2; at = c.self.inside.at }) newer older done old in
     subst (λ (s : DeepState). IfOk c.end.result (λ run. (list : HasList sizes run (settled_entries (folded_over newer older)) (g.D.Disk.state c.end.new.disk).bytes)

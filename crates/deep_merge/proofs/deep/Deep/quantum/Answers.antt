@@ -34,7 +34,7 @@ loop-taken-init g c = record {
   works = works_start c.args.geo.now c.args.self.now.writer.role (c.args.geo.now.quantum / 4 + 3) c.args.space.now (g.D.Disk.state c.args.disk.now) (g.met.D.Disk.timed c.args.disk.now);
   counts = record { onward = omega arith; grows = omega arith; calls = omega arith };
   faults = refl;
-  merge = λ newer older honest merge. (merge, record { taken_is = omega arith; last = inl refl });
+  merge = λ news olds newer older honest merge. (merge, record { taken_is = omega arith; last = inl refl });
 }
 
 -- ---- after a step
@@ -60,10 +60,10 @@ returns-in-Err-clause-faults g c =
     }
 
 pub returns-in-Err-clause-merge : goal.returns-in-Err-clause-merge
-returns-in-Err-clause-merge g c = λ newer older honest merge other.
+returns-in-Err-clause-merge g c = λ news olds newer older honest merge other.
     let inv = c.loop-taken.invariant in
-    let was = inv.merge newer older honest merge in
-    let went = c.in-Err.ensures.merge newer older (subst IsTrue (sym inv.works.effect.goes_on.is_honest) honest) was.0 other in
+    let was = inv.merge news olds newer older honest merge in
+    let went = c.in-Err.ensures.merge news olds newer older (subst IsTrue (sym inv.works.effect.goes_on.is_honest) honest) was.0 other in
     absurd (err_not_ok c.in-Err.broken went.0 went.1)
 
 pub returns-then-weight-eq0-clause-works : goal.returns-then-weight-eq0-clause-works
@@ -95,11 +95,11 @@ pub returns-then-weight-eq0-clause-enough : goal.returns-then-weight-eq0-clause-
 returns-then-weight-eq0-clause-enough g c = inr (no_weight c.in-Ok.weight c.in-Ok.ensures.takes.some c.if-weight-eq0.true)
 
 pub returns-then-weight-eq0-clause-merge : goal.returns-then-weight-eq0-clause-merge
-returns-then-weight-eq0-clause-merge g c = λ newer older honest merge other.
+returns-then-weight-eq0-clause-merge g c = λ news olds newer older honest merge other.
     let inv = c.loop-taken.invariant in
     let least = c.args.geo.now.quantum in
-    let was = inv.merge newer older honest merge in
-    let went = c.in-Ok.ensures.merge newer older (subst IsTrue (sym inv.works.effect.goes_on.is_honest) honest) was.0 (ok_not_fault c.in-Ok.weight) in
+    let was = inv.merge news olds newer older honest merge in
+    let went = c.in-Ok.ensures.merge news olds newer older (subst IsTrue (sym inv.works.effect.goes_on.is_honest) honest) was.0 (ok_not_fault c.in-Ok.weight) in
     let same = same_weight c.in-Ok.weight went.0 went.1 in
     let none : c.loop-taken.taken + went.0 ≡ c.loop-taken.taken = omega (arith, same) in
     let few : c.loop-taken.taken < least = omega (arith, inv.quantum) in (
@@ -147,9 +147,9 @@ loop-taken-preserved g c =
         calls = omega (arith, inv.counts.calls, counted.calls, inv.counts.onward, counted.onward, inv.counts.grows, counted.grows);
       };
       faults = c.in-Ok.ensures.faults.stands (ok_not_fault c.in-Ok.weight) ∙ inv.faults;
-      merge = λ newer older honest merge.
-          let was = inv.merge newer older honest merge in
-          let went = c.in-Ok.ensures.merge newer older (subst IsTrue (sym inv.works.effect.goes_on.is_honest) honest) was.0 (ok_not_fault c.in-Ok.weight) in (
+      merge = λ news olds newer older honest merge.
+          let was = inv.merge news olds newer older honest merge in
+          let went = c.in-Ok.ensures.merge news olds newer older (subst IsTrue (sym inv.works.effect.goes_on.is_honest) honest) was.0 (ok_not_fault c.in-Ok.weight) in (
             went.2,
             subst (λ (n : ℕ). HasTaken least c.args.self.now.at c.step.new.self.at newer older (c.loop-taken.taken + n)) (same_weight c.in-Ok.weight went.0 went.1)
                 (has_step c.a_merge_goes_on.ensures least c.args.self.now.at c.loop-taken.self.at c.step.new.self.at newer older c.loop-taken.taken went.0 was.0.newer.sorted was.0.older.sorted few was.1 went.3),
@@ -157,6 +157,6 @@ loop-taken-preserved g c =
     }
 
 pub returns-clause-merge : goal.returns-clause-merge
-returns-clause-merge g c = λ newer older honest merge other.
-    let was = c.loop-taken.invariant.merge newer older honest merge in
+returns-clause-merge g c = λ news olds newer older honest merge other.
+    let was = c.loop-taken.invariant.merge news olds newer older honest merge in
     (c.loop-taken.taken, refl, was.0, record { has_taken = was.1; enough = inl (omega (arith, c.loop-taken.invariant.quantum)) })

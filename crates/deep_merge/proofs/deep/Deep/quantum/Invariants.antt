@@ -1,4 +1,4 @@
-use Rattle.std.proofs.Common.{◌-◌, ◌≡◌, ◌+◌, ◌*◌, ◌/◌, ◌≤◌, length, IsTrue}
+use Rattle.std.proofs.Common.{◌-◌, ◌≡◌, ◌+◌, ◌*◌, ◌/◌, ◌≤◌, length, IsTrue, List, ℕ}
 use Rattle.blsm_model.specs.Format.{most_weight}
 use Rattle.blsm_model.specs.Geometry.{page_count, file_length}
 use Rattle.record_delta.specs.Entries.{Entries}
@@ -21,8 +21,8 @@ invariant-loop-taken g l = record {
   works : Works l.geo l.fn.self.writer.role (l.geo.quantum / 4 + 3) l.fn.space l.space (g.D.Disk.state l.fn.disk) (g.D.Disk.state l.disk);
   counts : Counts 0 (pages_ahead l.fn.self) (pages_ahead l.self) l.fn.self.writer.component.pages l.self.writer.component.pages (g.D.Disk.state l.fn.disk) (g.D.Disk.state l.disk);
   faults : (g.D.Disk.state l.disk).faults ≡ (g.D.Disk.state l.fn.disk).faults;
-  merge : (newer older : Entries) → IsTrue (g.D.Disk.state l.fn.disk).is_honest → IsMerge l.geo (g.D.Disk.state l.fn.disk).bytes l.fn.space l.fn.self newer older
-      → IsMerge l.geo (g.D.Disk.state l.disk).bytes l.space l.self newer older × HasTaken l.geo.quantum l.fn.self.at l.self.at newer older l.taken;
+  merge : (news olds : List ℕ) (newer older : Entries) → IsTrue (g.D.Disk.state l.fn.disk).is_honest → IsMerge l.geo (g.D.Disk.state l.fn.disk).bytes l.fn.space l.fn.self news olds newer older
+      → IsMerge l.geo (g.D.Disk.state l.disk).bytes l.space l.self news olds newer older × HasTaken l.geo.quantum l.fn.self.at l.self.at newer older l.taken;
 }
 
 abbrev pub decreases-loop-taken : goal.decreases-loop-taken

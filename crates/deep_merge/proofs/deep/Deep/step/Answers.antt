@@ -29,11 +29,11 @@ calm_of : (a : Result (Unit {0}) Broken) → a ≡ Ok tt → a ≡ Err Fault →
 calm_of a is fault = not_both a Fault fault is
 
 pub returns-in_err-go_above-clause-merge : goal.returns-in_err-go_above-clause-merge
-returns-in_err-go_above-clause-merge g c = λ newer older honest merge other.
+returns-in_err-go_above-clause-merge g c = λ news olds newer older honest merge other.
     let p = err_from_is_err_and c.from_residual.result c.from_residual.ensures.1 in
-    let old = subst (λ (s : DeepState). IsMerge c.args.geo.now (g.D.Disk.state c.args.disk.now).bytes c.args.space.now s newer older) (sym c.self.view_is) merge in
+    let old = subst (λ (s : DeepState). IsMerge c.args.geo.now (g.D.Disk.state c.args.disk.now).bytes c.args.space.now s news olds newer older) (sym c.self.view_is) merge in
     absurd (not_both c.go_above.result c.in_err-go_above.field-0.0 c.in_err-go_above.was
-    (c.go_above.ensures.input c.args.space.now c.self.inside.writer.role newer honest old.newer
+    (c.go_above.ensures.input c.args.space.now c.self.inside.writer.role news newer honest old.newer
     (λ fault. other (p.1 ∙ ap Err (p.2 ∙ fault_is c.go_above.result c.in_err-go_above.field-0.0 c.in_err-go_above.was fault)))).0)
 
 pub returns-in_err-go_above-clause-works : goal.returns-in_err-go_above-clause-works
@@ -41,16 +41,16 @@ returns-in_err-go_above-clause-works g c =
     works_read c.args.geo.now c.args.self.now.writer.role 3 c.args.space.now (g.D.Disk.state c.args.disk.now) (g.D.Disk.state c.go_above.new.disk) (omega arith) c.go_above.ensures.reads.effect
 
 pub returns-in_err-go_above-2-clause-merge : goal.returns-in_err-go_above-2-clause-merge
-returns-in_err-go_above-2-clause-merge g c = λ newer older honest merge other.
+returns-in_err-go_above-2-clause-merge g c = λ news olds newer older honest merge other.
     let sizes = c.args.geo.now in
     let space = c.args.space.now in
     let role = c.self.inside.writer.role in
     let p = err_from_is_err_and c.from_residual-in_err-go_above-2.result c.from_residual-in_err-go_above-2.ensures.1 in
-    let old = subst (λ (s : DeepState). IsMerge sizes (g.D.Disk.state c.args.disk.now).bytes space s newer older) (sym c.self.view_is) merge in
+    let old = subst (λ (s : DeepState). IsMerge sizes (g.D.Disk.state c.args.disk.now).bytes space s news olds newer older) (sym c.self.view_is) merge in
     let first = c.go_above.ensures.reads.effect in
-    let below = subst (λ (b : List ℕ). IsInput sizes b space role c.self.inside.at c.self.inside.c2 older) (sym (only_reads_same first honest)) old.older in
+    let below = subst (λ (b : List ℕ). IsInput sizes b space role c.self.inside.at c.self.inside.c2 olds older) (sym (only_reads_same first honest)) old.older in
     absurd (not_both c.go_above-2.result c.in_err-go_above-2.field-0.0 c.in_err-go_above-2.was
-    (c.go_above-2.ensures.input space role older (first.effect.goes_on.is_honest ∙ honest) below
+    (c.go_above-2.ensures.input space role olds older (first.effect.goes_on.is_honest ∙ honest) below
     (λ fault. other (p.1 ∙ ap Err (p.2 ∙ fault_is c.go_above-2.result c.in_err-go_above-2.field-0.0 c.in_err-go_above-2.was fault)))).0)
 
 pub returns-in_err-go_above-2-clause-works : goal.returns-in_err-go_above-2-clause-works
@@ -104,22 +104,22 @@ returns-in_default-clause-runs g c =
     }
 
 pub returns-in_default-clause-merge : goal.returns-in_default-clause-merge
-returns-in_default-clause-merge g c = λ newer older honest merge other.
+returns-in_default-clause-merge g c = λ news olds newer older honest merge other.
     let sizes = c.args.geo.now in
     let space = c.args.space.now in
     let role = c.self.inside.writer.role in
     let at = c.self.inside.at in
     let before = (g.D.Disk.state c.args.disk.now).bytes in
     let new = (g.D.Disk.state c.go_above-2.new.disk).bytes in
-    let old = subst (λ (s : DeepState). IsMerge sizes before space s newer older) (sym c.self.view_is) merge in
+    let old = subst (λ (s : DeepState). IsMerge sizes before space s news olds newer older) (sym c.self.view_is) merge in
     let first = c.go_above.ensures.reads.effect in
     let second = c.go_above-2.ensures.reads.effect in
     let still = first.effect.goes_on.is_honest ∙ honest in
     let same = only_reads_same second still in
-    let upper = (c.go_above.ensures.input space role newer honest old.newer (calm_of c.go_above.result c.in_ok-go_above.was)).1 in
-    let below = subst (λ (b : List ℕ). IsInput sizes b space role at c.self.inside.c2 older) (sym (only_reads_same first honest)) old.older in
-    let lower = (c.go_above-2.ensures.input space role older still below (calm_of c.go_above-2.result c.in_ok-go_above-2.was)).1 in
-    let here = subst (λ (b : List ℕ). IsInput sizes b space role at c.go_above.new.cursor newer) (sym same) upper in
+    let upper = (c.go_above.ensures.input space role news newer honest old.newer (calm_of c.go_above.result c.in_ok-go_above.was)).1 in
+    let below = subst (λ (b : List ℕ). IsInput sizes b space role at c.self.inside.c2 olds older) (sym (only_reads_same first honest)) old.older in
+    let lower = (c.go_above-2.ensures.input space role olds older still below (calm_of c.go_above-2.result c.in_ok-go_above-2.was)).1 in
+    let here = subst (λ (b : List ℕ). IsInput sizes b space role at c.go_above.new.cursor news newer) (sym same) upper in
     let parts = group_none c.go_above.new.cursor.head c.go_above-2.new.cursor.head (sym c.in_default.ensures.group) in
     let newer_none : above at newer ≡ [] = first_none (above at newer) (head_is sizes new space role at c.go_above.new.cursor newer c.in_ok-go_above.ensures.ready.0 here ∙ parts.0) in
     let older_none : above at older ≡ [] = first_none (above at older) (head_is sizes new space role at c.go_above-2.new.cursor older c.in_ok-go_above-2.ensures.ready.0 lower ∙ parts.1) in
@@ -233,7 +233,7 @@ returns-clause-runs g c =
     }
 
 pub returns-clause-merge : goal.returns-clause-merge
-returns-clause-merge g c = λ upper lower honest merge other.
+returns-clause-merge g c = λ news olds upper lower honest merge other.
     let sizes = c.args.geo.now in
     let space = c.args.space.now in
     let after_space = c.put_settled.new.space in
@@ -252,11 +252,11 @@ returns-clause-merge g c = λ upper lower honest merge other.
     let second = c.go_above-2.ensures.reads.effect in
     let still = first.effect.goes_on.is_honest ∙ honest in
     let same = only_reads_same second still in
-    let old = subst (λ (s : DeepState). IsMerge sizes before.bytes space s upper lower) (sym c.self.view_is) merge in
-    let upper_mid = (c.go_above.ensures.input space role upper honest old.newer (calm_of c.go_above.result c.in_ok-go_above.was)).1 in
-    let below = subst (λ (b : List ℕ). IsInput sizes b space role at c.self.inside.c2 lower) (sym (only_reads_same first honest)) old.older in
-    let lower_here = (c.go_above-2.ensures.input space role lower still below (calm_of c.go_above-2.result c.in_ok-go_above-2.was)).1 in
-    let upper_here = subst (λ (b : List ℕ). IsInput sizes b space role at newer upper) (sym same) upper_mid in
+    let old = subst (λ (s : DeepState). IsMerge sizes before.bytes space s news olds upper lower) (sym c.self.view_is) merge in
+    let upper_mid = (c.go_above.ensures.input space role news upper honest old.newer (calm_of c.go_above.result c.in_ok-go_above.was)).1 in
+    let below = subst (λ (b : List ℕ). IsInput sizes b space role at c.self.inside.c2 olds lower) (sym (only_reads_same first honest)) old.older in
+    let lower_here = (c.go_above-2.ensures.input space role olds lower still below (calm_of c.go_above-2.result c.in_ok-go_above-2.was)).1 in
+    let upper_here = subst (λ (b : List ℕ). IsInput sizes b space role at newer news upper) (sym same) upper_mid in
     let both : group_of (first_of (above at upper)) (first_of (above at lower)) ≡ Some (key, rec, weighs) =
     ap (λ (x : Option (Key × Rec)). group_of x (first_of (above at lower))) (head_is sizes mid.bytes space role at newer upper c.in_ok-go_above.ensures.ready.0 upper_here)
     ∙ ap (group_of newer.head) (head_is sizes mid.bytes space role at older lower c.in_ok-go_above-2.ensures.ready.0 lower_here) ∙ sym c.in-Some.ensures.group in
@@ -273,10 +273,10 @@ returns-clause-merge g c = λ upper lower honest merge other.
       weighs,
       refl,
       record {
-        newer = subst (λ (r : ℕ). IsInput sizes after.bytes after_space r (Some key) newer upper) (sym c.put_settled.ensures.role)
-            (input_further sizes after.bytes after_space role at key newer upper taken.above_at (c.an_input_stays.ensures sizes mid.bytes after.bytes space after_space role at newer upper change takes upper_here));
-        older = subst (λ (r : ℕ). IsInput sizes after.bytes after_space r (Some key) older lower) (sym c.put_settled.ensures.role)
-            (input_further sizes after.bytes after_space role at key older lower taken.above_at (c.an_input_stays.ensures sizes mid.bytes after.bytes space after_space role at older lower change takes lower_here));
+        newer = subst (λ (r : ℕ). IsInput sizes after.bytes after_space r (Some key) newer news upper) (sym c.put_settled.ensures.role)
+            (input_further sizes after.bytes after_space role at key newer upper taken.above_at (c.an_input_stays.ensures sizes mid.bytes after.bytes space after_space role at newer news upper change takes upper_here));
+        older = subst (λ (r : ℕ). IsInput sizes after.bytes after_space r (Some key) older olds lower) (sym c.put_settled.ensures.role)
+            (input_further sizes after.bytes after_space role at key older lower taken.above_at (c.an_input_stays.ensures sizes mid.bytes after.bytes space after_space role at older olds lower change takes lower_here));
         run = record {
           out = out ++ settled_entries ((key, rec) ∷ []);
           pushed = subst (λ (h : Bool). HasPushed sizes h after.bytes after_space c.put_settled.new.writer (out ++ settled_entries ((key, rec) ∷ []))) after_honest

@@ -19,6 +19,7 @@ returns-clause-pass c = λ sizes file space a entries list elsewhere.
         rest = entries;
         ahead = ahead.0;
         left_is = ap (λ (s : CursorState). above None (from_head s.head entries)) c.start-2.ensures.start;
+        among = λ n has. subst (λ (ps : List RunPage). Contains (numbers_of ps) n) ahead.1 has;
         apart = λ n has tagged. (elsewhere n (subst (λ (ps : List RunPage). Contains (numbers_of ps) n) ahead.1 has)).0 (subst (λ (r : ℕ). HasRole space r n) role tagged);
         in_use = λ n has. (elsewhere n (subst (λ (ps : List RunPage). Contains (numbers_of ps) n) ahead.1 has)).1;
       };

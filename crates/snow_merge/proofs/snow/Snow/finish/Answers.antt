@@ -13,11 +13,11 @@ use Rattle.snow_merge.proofs.PassLemmas.{pushed_all}
 use Rattle.snow_merge.proofs.snow.Snow.finish.Goals as goal
 
 pub returns-clause-list : goal.returns-clause-list
-returns-clause-list g c = λ space c1 honest pass.
+returns-clause-list g c = λ space pages c1 honest pass.
     let sizes = c.args.geo.now in
     let d = g.D.Disk.state c.args.disk.now in
     let a = c.args.a.now.entries in
-    let old = subst (λ (s : SnowState). IsPass sizes d.bytes space s a c1) (sym c.self.view_is) pass in
+    let old = subst (λ (s : SnowState). IsPass sizes d.bytes space s pages a c1) (sym c.self.view_is) pass in
     let done = subst (λ (s : SnowState). left_weight s a ≡ 0) (sym c.self.view_is) c.requires.done in
     let pushed = pushed_all sizes d.bytes space (record { writer = c.self.inside.writer; c1 = c.self.inside.c1; at = c.self.inside.at }) a c1 done old in
     subst (λ (s : SnowState). IfOk c.end.result (λ run. (list : HasList sizes run (folded_over a c1) (g.D.Disk.state c.end.new.disk).bytes)

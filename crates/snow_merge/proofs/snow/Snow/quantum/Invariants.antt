@@ -1,4 +1,4 @@
-use Rattle.std.proofs.Common.{◌-◌, ◌≡◌, ◌+◌, ◌*◌, ◌/◌, ◌≤◌, length, IsTrue}
+use Rattle.std.proofs.Common.{◌-◌, ◌≡◌, ◌+◌, ◌*◌, ◌/◌, ◌≤◌, length, IsTrue, List, ℕ}
 use Rattle.blsm_model.specs.Format.{most_weight}
 use Rattle.blsm_model.specs.Geometry.{page_count, file_length}
 use Rattle.record_delta.specs.Entries.{Entries}
@@ -21,8 +21,8 @@ invariant-loop-taken g l = record {
   works : Works l.geo l.fn.self.writer.role (l.geo.quantum / 7 + 2) l.fn.space l.space (g.D.Disk.state l.fn.disk) (g.D.Disk.state l.disk);
   counts : Counts 0 l.fn.self.c1.pages l.self.c1.pages l.fn.self.writer.component.pages l.self.writer.component.pages (g.D.Disk.state l.fn.disk) (g.D.Disk.state l.disk);
   faults : (g.D.Disk.state l.disk).faults ≡ (g.D.Disk.state l.fn.disk).faults;
-  pass : (c1 : Entries) → IsTrue (g.D.Disk.state l.fn.disk).is_honest → IsPass l.geo (g.D.Disk.state l.fn.disk).bytes l.fn.space l.fn.self l.a.entries c1
-      → IsPass l.geo (g.D.Disk.state l.disk).bytes l.space l.self l.a.entries c1 × HasTaken l.geo.quantum l.fn.self.at l.self.at l.a.entries c1 l.taken;
+  pass : (pages : List ℕ) (c1 : Entries) → IsTrue (g.D.Disk.state l.fn.disk).is_honest → IsPass l.geo (g.D.Disk.state l.fn.disk).bytes l.fn.space l.fn.self pages l.a.entries c1
+      → IsPass l.geo (g.D.Disk.state l.disk).bytes l.space l.self pages l.a.entries c1 × HasTaken l.geo.quantum l.fn.self.at l.self.at l.a.entries c1 l.taken;
 }
 
 abbrev pub decreases-loop-taken : goal.decreases-loop-taken

@@ -26,25 +26,25 @@ not_both : (a : Result (Unit {0}) Broken) (broken : Broken) → a ≡ Err broken
 not_both a broken was is = cc
 
 pub returns-in_err-go_above-clause-pass : goal.returns-in_err-go_above-clause-pass
-returns-in_err-go_above-clause-pass g c = λ c1 honest pass other.
+returns-in_err-go_above-clause-pass g c = λ pages c1 honest pass other.
     let p = err_from_is_err_and c.from_residual.result c.from_residual.ensures.1 in
-    let old = subst (λ (s : SnowState). IsPass c.args.geo.now (g.D.Disk.state c.args.disk.now).bytes c.args.space.now s c.args.a.now.entries c1) (sym c.self.view_is) pass in
+    let old = subst (λ (s : SnowState). IsPass c.args.geo.now (g.D.Disk.state c.args.disk.now).bytes c.args.space.now s pages c.args.a.now.entries c1) (sym c.self.view_is) pass in
     absurd (not_both c.go_above.result c.in_err-go_above.field-0.0 c.in_err-go_above.was
-    (c.go_above.ensures.input c.args.space.now c.self.inside.writer.role c1 honest old.older
+    (c.go_above.ensures.input c.args.space.now c.self.inside.writer.role pages c1 honest old.older
     (λ fault. other (p.1 ∙ ap Err (p.2 ∙ fault_is c.go_above.result c.in_err-go_above.field-0.0 c.in_err-go_above.was fault)))).0)
 
 -- ---- nothing is left
 
 pub returns-in_default-clause-pass : goal.returns-in_default-clause-pass
-returns-in_default-clause-pass g c = λ c1 honest pass other.
+returns-in_default-clause-pass g c = λ pages c1 honest pass other.
     let sizes = c.args.geo.now in
     let space = c.args.space.now in
     let a = c.args.a.now.entries in
     let cursor = c.go_above.new.cursor in
     let at = c.self.inside.at in
     let new = (g.D.Disk.state c.go_above.new.disk).bytes in
-    let old = subst (λ (s : SnowState). IsPass sizes (g.D.Disk.state c.args.disk.now).bytes space s a c1) (sym c.self.view_is) pass in
-    let here = (c.go_above.ensures.input space c.self.inside.writer.role c1 honest old.older (λ fault. not_both c.go_above.result Fault fault c.in_ok-go_above.was)).1 in
+    let old = subst (λ (s : SnowState). IsPass sizes (g.D.Disk.state c.args.disk.now).bytes space s pages a c1) (sym c.self.view_is) pass in
+    let here = (c.go_above.ensures.input space c.self.inside.writer.role pages c1 honest old.older (λ fault. not_both c.go_above.result Fault fault c.in_ok-go_above.was)).1 in
     let none = subst (λ (k : Option Key). group_of (first_of (above k a)) cursor.head ≡ None) c.cursor.ensures (sym c.in_default.ensures.group) in
     let parts = group_none (first_of (above at a)) cursor.head none in
     let c1_none : above at c1 ≡ [] = first_none (above at c1) (head_is sizes new space c.self.inside.writer.role at cursor c1 c.in_ok-go_above.ensures.ready.0 here ∙ parts.1) in
@@ -173,7 +173,7 @@ returns-clause-runs g c =
     }
 
 pub returns-clause-pass : goal.returns-clause-pass
-returns-clause-pass g c = λ c1 honest pass other.
+returns-clause-pass g c = λ pages c1 honest pass other.
     let sizes = c.args.geo.now in
     let space = c.args.space.now in
     let a = c.args.a.now.entries in
@@ -188,8 +188,8 @@ returns-clause-pass g c = λ c1 honest pass other.
     let weighs = c.in-Some.weight in
     let reads = c.go_above.ensures.reads.effect in
     let ready = c.in_ok-go_above.ensures.ready.0 in
-    let old = subst (λ (s : SnowState). IsPass sizes before.bytes space s a c1) (sym c.self.view_is) pass in
-    let here = (c.go_above.ensures.input space writer.role c1 honest old.older (λ fault. not_both c.go_above.result Fault fault c.in_ok-go_above.was)).1 in
+    let old = subst (λ (s : SnowState). IsPass sizes before.bytes space s pages a c1) (sym c.self.view_is) pass in
+    let here = (c.go_above.ensures.input space writer.role pages c1 honest old.older (λ fault. not_both c.go_above.result Fault fault c.in_ok-go_above.was)).1 in
     let group = subst (λ (k : Option Key). group_of (first_of (above k a)) cursor.head ≡ Some (key, rec, weighs)) c.cursor.ensures (sym c.in-Some.ensures.group) in
     let both : group_of (first_of (above at a)) (first_of (above at c1)) ≡ Some (key, rec, weighs) =
     ap (group_of (first_of (above at a))) (head_is sizes mid.bytes space writer.role at cursor c1 ready here) ∙ group in
@@ -201,12 +201,12 @@ returns-clause-pass g c = λ c1 honest pass other.
     (pushed_read sizes true before.bytes mid.bytes space writer list (λ told. only_reads_same reads honest) old.pushed) in
     let rise : AreRising (folded_over (up_to (Some key) a) (up_to (Some key) c1)) =
     (orders (folded_over (up_to (Some key) a) (up_to (Some key) c1))).1 (sorted_folded (up_to (Some key) a) (up_to (Some key) c1) (up_to_sorted (Some key) c1 here.sorted)) in
-    let stays = c.an_input_stays.ensures sizes mid.bytes after.bytes space c.put.new.space writer.role at cursor c1 (c.put.ensures.writes.effect.bytes mid_honest) c.put.ensures.takes here in
+    let stays = c.an_input_stays.ensures sizes mid.bytes after.bytes space c.put.new.space writer.role at cursor pages c1 (c.put.ensures.writes.effect.bytes mid_honest) c.put.ensures.takes here in
     let next : IsNext at (Some key) a c1 weighs = (key, rec, both, refl) in (
       weighs,
       refl,
       record {
-        older = subst (λ (role : ℕ). IsInput sizes after.bytes c.put.new.space role (Some key) cursor c1) (sym c.put.ensures.role)
+        older = subst (λ (role : ℕ). IsInput sizes after.bytes c.put.new.space role (Some key) cursor pages c1) (sym c.put.ensures.role)
             (input_further sizes after.bytes c.put.new.space writer.role at key cursor c1 taken.above_at stays);
         pushed = subst (λ (l : Entries). HasPushed sizes true after.bytes c.put.new.space c.put.new.writer l) (sym taken.out)
             (subst (λ (h : Bool). HasPushed sizes h after.bytes c.put.new.space c.put.new.writer (list ++ (key, rec) ∷ [])) after_honest

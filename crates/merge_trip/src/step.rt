@@ -1,5 +1,6 @@
-use crate::least_group;
+// One step of a merge.
 use blsm_model::Key;
+use merge_step::least_group;
 use record_delta::{Rec, Stream};
 use std::test::Fail;
 

@@ -1,0 +1,347 @@
+// Stores over disks in memory, and merges over them from their begin to their end.
+ghost use Rattle.std.specs.Prelude.{◌≡◌, ◌+◌, ◌<◌, ◌≤◌, ℕ, length, IfOk, IfSome};
+ghost use Rattle.blsm_model.specs.Geometry.{page_count, file_length};
+ghost use Rattle.disk_mem.specs.Recorded.{told};
+ghost use Rattle.page_space.specs.Space.{SpaceState, IsWithin, role_size, pin_size, seat_count};
+ghost use Rattle.merge_ends.specs.Output.{TakesPages};
+
+use crate::plain::key_of;
+use blsm_model::{Component, Geometry, Key};
+use deep_merge::Deep;
+use disk_mem::MemDisk;
+use disk_trait::Disk;
+use mem_table::Table;
+use page_file::{Broken, no_component};
+use page_space::{Role, Space};
+use record_delta::{Rec, Stream, weight};
+use run_cursor::Cursor;
+use run_writer::a_run_has_room;
+use snow_merge::Snow;
+use std::alloc::Global;
+use std::process::Abort;
+use std::test::Fail;
+
+/// How much a table may weigh, in bytes.
+pub const RESERVED: u64 = 65_536;
+
+/// A disk of the length of a store.
+#[derive(Drop)]
+pub struct File {
+    pub geo: Geometry,
+    pub disk: MemDisk,
+    ghost long: { length (told disk).bytes ≡ file_length geo },
+}
+
+impl File {
+    /// The smallest store's length of zeros, durable, by two calls, with this quantum and room for two megabytes of record.
+    pub fn blank(alloc: Global, quantum: u64) -> Result<File, Fail> {
+        let geo = Geometry::new(17_408, 2, 16_384, quantum)?;
+        let length = geo.length();
+        let mut disk = MemDisk::new(alloc, length, length.saturating_add(2_000_000))?;
+        let zeros = vec![in alloc; 0; length as usize]?;
+        disk.write(0, &zeros)?;
+        disk.sync()?;
+        Ok(File { geo, disk })
+    }
+
+    /// One of the images that a crash may leave. One call of it was answered.
+    pub fn image(&self, rt: &impl Abort, pick: u64) -> Result<File, Fail> {
+        let geo = Geometry::new(
+            self.geo.half(),
+            self.geo.ratio(),
+            self.geo.low(),
+            self.geo.quantum(),
+        )?;
+        let mut disk = self.disk.image(pick)?;
+        assert_eq!(rt; disk.len()?, geo.length());
+        Ok(File { geo, disk })
+    }
+
+    /// Asserts that a run has just the records of a list.
+    pub fn check(
+        &mut self,
+        rt: &impl Abort,
+        run: &Component,
+        list: &[Option<Rec>],
+    ) -> Result<(), Fail> {
+        assert!(rt; run.pages != 0 || *run == no_component());
+        let mut cursor = Cursor::start(run);
+        for (number, rec) in list.iter().enumerate() {
+            if let Some(rec) = rec {
+                let entry = (key_of(number)?, rec.copy());
+                assert_eq!(rt; self.next(rt, &mut cursor), Some(entry));
+            }
+        }
+        assert!(rt; self.next(rt, &mut cursor).is_none());
+        Ok(())
+    }
+
+    /// The next entry of a run, if there is one.
+    pub fn next(&mut self, rt: &impl Abort, cursor: &mut Cursor) -> Option<(Key, Rec)> {
+        assert_eq!(rt; cursor.advance(&mut self.disk, &self.geo), Ok(()));
+        cursor.head()
+    }
+}
+
+// A map of the store's pages, all of them free.
+fn free_map(rt: &impl Abort, alloc: Global, geo: &Geometry) -> Result<Space, Fail>
+    ensures pages { IfOk result (λ s. s.pages ≡ page_count geo.now) }
+    ensures within { IfOk result (λ s. IsWithin 0 0 s) }
+{
+    let space = Space::reserve(alloc, geo.pages() as u32)?;
+    assert!(rt; u64::from(space.pages()) == geo.pages());
+    Ok(space)
+}
+
+/// A table with room for so much.
+#[derive(Drop)]
+pub struct Memory {
+    pub table: Table,
+    ghost reserved: { table.reserved ≡ 65_536 },
+}
+
+impl Memory {
+    pub fn reserve(alloc: Global) -> Result<Memory, Fail> {
+        Ok(Memory {
+            table: Table::reserve(alloc, RESERVED)?,
+        })
+    }
+
+    /// A table of the records of a list.
+    pub fn of_list(rt: &impl Abort, alloc: Global, list: &[Option<Rec>]) -> Result<Memory, Fail> {
+        let mut memory = Memory::reserve(alloc)?;
+        for (number, rec) in list.iter().enumerate() {
+            if let Some(rec) = rec {
+                memory.fold_in(rt, &key_of(number)?, rec);
+            }
+        }
+        Ok(memory)
+    }
+
+    pub fn fold_in(&mut self, rt: &impl Abort, key: &Key, rec: &Rec) {
+        assert!(rt; self.table.weight() + weight(key, rec) <= RESERVED);
+        self.table.fold_in(key, rec);
+    }
+}
+
+/// Into which table that goes which comes in at or behind the cursor of a pass: into the next one, as a store has it, or into the pass's
+/// own, where the pass doesn't take it.
+#[derive(Clone, Copy, PartialEq, Eq, Debug)]
+pub enum Behind {
+    Next,
+    Own,
+}
+
+/// What comes in while a pass runs, behind each quantum, and the table that takes what the pass's own doesn't.
+#[derive(Drop)]
+pub struct Coming {
+    pub rounds: Vec<Vec<(Key, Rec)>>,
+    pub behind: Behind,
+    pub next: Memory,
+}
+
+impl Coming {
+    /// Nothing comes in.
+    pub fn nothing(alloc: Global) -> Result<Coming, Fail> {
+        Ok(Coming {
+            rounds: Vec::new(alloc),
+            behind: Behind::Next,
+            next: Memory::reserve(alloc)?,
+        })
+    }
+
+    // What comes in behind the quantum of this number, where the cursor is at this key.
+    fn come_in(&mut self, rt: &impl Abort, round: usize, at: &Option<Key>, own: &mut Memory) {
+        let Some(entries) = self.rounds.get(round) else {
+            return;
+        };
+        for (key, rec) in entries {
+            if self.behind == Behind::Own || is_ahead(at, key) {
+                own.fold_in(rt, key, rec);
+            } else {
+                self.next.fold_in(rt, key, rec);
+            }
+        }
+    }
+}
+
+/// Whether a key is ahead of a cursor.
+pub fn is_ahead(at: &Option<Key>, key: &Key) -> bool {
+    match at {
+        None => true,
+        Some(at) => *at < *key,
+    }
+}
+
+/// What came of a merge: the new run, or none where the disk failed, and what each quantum took, with the cursor behind it.
+#[derive(Drop)]
+pub struct Merged {
+    pub run: Option<Component>,
+    pub quanta: Vec<(u64, Option<Key>)>,
+}
+
+/// A store: its file, the map of its pages, and how many of these have a tag at most.
+#[derive(Drop)]
+pub struct Store {
+    pub file: File,
+    pub space: Space,
+    pub live: u64,
+    ghost pages: { space.pages ≡ page_count file.geo },
+    ghost roles: { role_size space 0 + role_size space 1 + role_size space 2 + role_size space 3 + role_size space 4 ≤ live },
+    ghost seats: { (seat : ℕ) → seat < seat_count → pin_size space seat ≤ 0 },
+}
+
+impl Store {
+    /// The smallest store, with this quantum and no run.
+    pub fn blank(rt: &impl Abort, alloc: Global, quantum: u64) -> Result<Store, Fail> {
+        let file = File::blank(alloc, quantum)?;
+        let space = free_map(rt, alloc, &file.geo)?;
+        Ok(Store {
+            file,
+            space,
+            live: 0,
+        })
+    }
+
+    /// The same store over an image of its disk.
+    pub fn over_image(self, rt: &impl Abort, pick: u64) -> Result<Store, Fail> {
+        let Store { file, space, live } = self;
+        let file = file.image(rt, pick)?;
+        assert!(rt; u64::from(space.pages()) == file.geo.pages());
+        Ok(Store { file, space, live })
+    }
+
+    /// A pass of a table over C1, from its begin to its end. It runs on while something is to come in.
+    pub fn pass(
+        self,
+        rt: &impl Abort,
+        alloc: Global,
+        c1: &Component,
+        role: Role,
+        own: &mut Memory,
+        coming: &mut Coming,
+    ) -> Result<(Store, Merged), Fail> {
+        let Store {
+            file,
+            mut space,
+            live,
+        } = self;
+        let File { geo, mut disk } = file;
+        assert!(rt; c1.pages != 0 || *c1 == no_component());
+        assert!(rt; live < 1_000_000 && c1.weight < 1_000_000);
+        let _role = role.number();
+        a_run_has_room();
+        let mut snow = Snow::begin(c1, role);
+        let mut quanta = Vec::new(alloc);
+        let mut total = 0u64;
+        'quanta: for round in 0..1_000usize {
+            let _pages = space.pages();
+            if snow.is_done(&own.table) && round >= coming.rounds.len() {
+                let run = snow.finish(&mut disk, &geo, &own.table).ok();
+                return Ok(ended(File { geo, disk }, space, live, role, run, quanta));
+            }
+            assert!(rt; total < 1_000_000);
+            let most = total + own.table.weight() + c1.weight;
+            assert!(rt; live + most / 3_577 + 1 <= geo.pages());
+            let at = snow.cursor();
+            let taken = match snow.quantum(&mut disk, &geo, &own.table, &mut space) {
+                Ok(taken) => taken,
+                Err(broken) => {
+                    assert_eq!(rt; broken, Broken::Fault);
+                    assert_eq!(rt; snow.cursor(), at);
+                    return Ok(ended(File { geo, disk }, space, live, role, None, quanta));
+                }
+            };
+            assert!(rt; taken < 1_000_000);
+            total += taken;
+            quanta.push((taken, snow.cursor()))?;
+            coming.come_in(rt, round, &snow.cursor(), own);
+        }
+        rt.abort()
+    }
+
+    /// A pass of a table over no C1, while nothing comes in. Gives the run that it made.
+    pub fn pass_alone(
+        self,
+        rt: &impl Abort,
+        alloc: Global,
+        role: Role,
+        own: &mut Memory,
+    ) -> Result<(Store, Component), Fail> {
+        let mut coming = Coming::nothing(alloc)?;
+        let (store, merged) = self.pass(rt, alloc, &no_component(), role, own, &mut coming)?;
+        Ok((store, merged.run.ok_or("a fault")?))
+    }
+
+    /// A deep merge, from its begin to its end.
+    pub fn deep(
+        self,
+        rt: &impl Abort,
+        alloc: Global,
+        c1x: &Component,
+        c2: &Component,
+        role: Role,
+    ) -> Result<(Store, Merged), Fail> {
+        let Store {
+            file,
+            mut space,
+            live,
+        } = self;
+        let File { geo, mut disk } = file;
+        assert!(rt; c1x.pages != 0 || *c1x == no_component());
+        assert!(rt; c2.pages != 0 || *c2 == no_component());
+        assert!(rt; live < 1_000_000 && c1x.weight < 1_000_000 && c2.weight < 1_000_000);
+        let _role = role.number();
+        a_run_has_room();
+        let mut deep = Deep::begin(c1x, c2, role);
+        let mut quanta = Vec::new(alloc);
+        let mut total = 0u64;
+        'quanta: for _ in 0..1_000usize {
+            let _pages = space.pages();
+            if deep.is_done() {
+                let run = deep.finish(&mut disk, &geo).ok();
+                return Ok(ended(File { geo, disk }, space, live, role, run, quanta));
+            }
+            assert!(rt; total < 1_000_000);
+            let most = total + c1x.weight + c2.weight;
+            assert!(rt; live + most / 3_577 + 1 <= geo.pages());
+            let at = deep.cursor();
+            let taken = match deep.quantum(&mut disk, &geo, &mut space) {
+                Ok(taken) => taken,
+                Err(broken) => {
+                    assert_eq!(rt; broken, Broken::Fault);
+                    assert_eq!(rt; deep.cursor(), at);
+                    return Ok(ended(File { geo, disk }, space, live, role, None, quanta));
+                }
+            };
+            assert!(rt; taken < 1_000_000);
+            total += taken;
+            quanta.push((taken, deep.cursor()))?;
+        }
+        rt.abort()
+    }
+}
+
+// The end of a merge. The pages that its run took are in use, or, where the disk failed, free again.
+fn ended(
+    file: File,
+    mut space: Space,
+    live: u64,
+    role: Role,
+    run: Option<Component>,
+    quanta: Vec<(u64, Option<Key>)>,
+) -> (Store, Merged)
+    requires pages { space.pages ≡ page_count file.geo }
+    requires few { live < 1_000_000 }
+    requires taken { (old : SpaceState) × IsWithin live 0 old × TakesPages role old space
+        × IfSome run (λ c. role_size space role ≡ role_size old role + c.pages) }
+{
+    let live = match &run {
+        Some(run) => live + u64::from(run.pages),
+        None => {
+            space.release(role);
+            live
+        }
+    };
+    (Store { file, space, live }, Merged { run, quanta })
+}

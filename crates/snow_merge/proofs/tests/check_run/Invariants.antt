@@ -1,7 +1,0 @@
-use Rattle.std.proofs.Common.{◌≡◌, length}
-use Rattle.blsm_model.specs.Geometry.{file_length}
-use Rattle.disk_mem.specs.Recorded.{told}
-use Rattle.snow_merge.proofs.tests.check_run.Given as goal
-
-abbrev pub invariant-keys : goal.invariant-keys
-invariant-keys g l = length (told l.disk).bytes ≡ file_length l.geo
