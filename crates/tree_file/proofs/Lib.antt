@@ -1,0 +1,7 @@
+pub mod HoldsLemmas
+pub mod StandLemmas
+pub mod OneTree
+pub mod ListLemmas
+pub mod MapLemmas
+pub mod NextLemmas
+mod Examples

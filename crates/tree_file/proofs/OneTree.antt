@@ -1,0 +1,115 @@
+-- A file holds one tree at most; that of a store that was just made holds the empty one.
+use Rattle.std.specs.Prelude.{◌≡◌, ◌↔◌, ℕ, ◌*◌, ◌≤◌, List, [], take, refl, nat_eq}
+use Rattle.std.specs.List.{IsDistinct}
+use Rattle.std.proofs.Common.{sym, subst, ◌∙◌, ap, arith}
+use Rattle.std.proofs.Math.Seq.{take-nil}
+use Rattle.std.specs.List.Sorted.{IsStrictlySortedBy}
+use Rattle.blsm_model.specs.Sizes.{Sizes, IsGeometry}
+use Rattle.blsm_model.specs.Lanes.{a_of, b_of}
+use Rattle.blsm_model.specs.Components.{empty_component}
+use Rattle.blsm_model.specs.declared.key.Key.{Key}
+use Rattle.blsm_model.specs.declared.row.Value.{Value}
+use Rattle.blsm_model.specs.declared.component.Component.{Component}
+use Rattle.blsm_model.proofs.GeometryLemmas.{half_below}
+use Rattle.record_delta.specs.Entries.{Entries, entries_weight, replayed}
+use Rattle.page_file.specs.Component.{RunPage, ReadsAs}
+use Rattle.page_file.proofs.PageLemmas.{few_pages}
+use Rattle.page_file.proofs.ComponentLemmas.{one_component}
+use Rattle.gated_log.specs.Lane.{HasEntries}
+use Rattle.gated_log.proofs.OneList.{one_list}
+use Rattle.catalog_swap.specs.declared.catalog.Catalog.{Catalog}
+use Rattle.catalog_swap.proofs.SlotLemmas.{one_newest, first_newest}
+use Rattle.store_file.specs.Layout.{IsMade}
+use Rattle.store_file.proofs.LayoutLaws.{only_sizes}
+use Rattle.tree_file.specs.Tree.{Tree, HoldsTree, FitsSizes, ReadsAsMap, first_tree, map_of_tree}
+
+-- ---- one tree
+
+pub one_size : (a b : Sizes) (one other : Tree) (file : List ℕ) → HoldsTree a one file → HoldsTree b other file → a ≡ b
+one_size a b one other file holds also = only_sizes a b file holds.store also.store
+
+same_tree : (one other : Tree) → one.catalogue ≡ other.catalogue → one.c1 ≡ other.c1 → one.c1x ≡ other.c1x → one.c2 ≡ other.c2 → one.lane_a ≡ other.lane_a → one.lane_b ≡ other.lane_b
+    → one ≡ other
+same_tree one other catalogue c1 c1x c2 a b = λ i. record { catalogue = catalogue i; c1 = c1 i; c1x = c1x i; c2 = c2 i; lane_a = a i; lane_b = b i }
+
+pub one_tree : (sizes : Sizes) (one other : Tree) (file : List ℕ) → HoldsTree sizes one file → HoldsTree sizes other file → one ≡ other
+one_tree sizes one other file holds also =
+    same_tree one other catalogue
+    (component (λ (c : Catalog). c.c1) one.c1 other.c1 holds.c1 also.c1)
+    (component (λ (c : Catalog). c.c1x) one.c1x other.c1x holds.c1x also.c1x)
+    (component (λ (c : Catalog). c.c2) one.c2 other.c2 holds.c2 also.c2)
+    (lane a_of one.lane_a other.lane_a holds.lane_a also.lane_a)
+    (lane b_of one.lane_b other.lane_b holds.lane_b also.lane_b)
+  where
+    catalogue : one.catalogue ≡ other.catalogue
+    catalogue = one_newest sizes one.catalogue other.catalogue file holds.newest also.newest
+
+    component : (of : Catalog → Component) (ps qs : List RunPage) → ReadsAs sizes (of one.catalogue) ps file → ReadsAs sizes (of other.catalogue) qs file → ps ≡ qs
+    component of ps qs reads other_reads =
+        one_component sizes (of other.catalogue) ps qs file (few_pages sizes holds.store.geometry) (subst (λ (c : Catalog). ReadsAs sizes (of c) ps file) catalogue reads) other_reads
+
+    lane : (of : List ℕ → ℕ) (es fs : Entries) → HasEntries sizes (of one.catalogue.lanes) es file → HasEntries sizes (of other.catalogue.lanes) fs file → es ≡ fs
+    lane of es fs has other_has = one_list sizes (of other.catalogue.lanes) es fs file (subst (λ (c : Catalog). HasEntries sizes (of c.lanes) es file) catalogue has) other_has
+
+-- so it reads as one map
+pub one_map : (a b : Sizes) (one other : List (Key × Value)) (file : List ℕ) → ReadsAsMap a one file → ReadsAsMap b other file → one ≡ other
+one_map a b one other file reads also =
+    let sizes : a ≡ b = one_size a b reads.tree also.tree file reads.holds also.holds in
+    let tree : reads.tree ≡ also.tree = one_tree b reads.tree also.tree file (subst (λ (s : Sizes). HoldsTree s reads.tree file) sizes reads.holds) also.holds in
+    sym reads.map_is ∙ ap map_of_tree tree ∙ also.map_is
+
+-- It does so exactly where its tree fits, and that map is the tree's.
+pub reads_exactly : (sizes : Sizes) (tree : Tree) (pairs : List (Key × Value)) (file : List ℕ) → HoldsTree sizes tree file
+    → ReadsAsMap sizes pairs file ↔ (FitsSizes sizes tree × (map_of_tree tree ≡ pairs))
+reads_exactly sizes tree pairs file holds = (
+  λ reads.
+      let same : reads.tree ≡ tree = one_tree sizes reads.tree tree file reads.holds holds in
+      (subst (FitsSizes sizes) same reads.fits, ap map_of_tree (sym same) ∙ reads.map_is),
+  λ is. record { tree = tree; holds = holds; fits = is.0; map_is = is.1 },
+)
+
+-- ---- the empty tree
+
+pub no_pages : (sizes : Sizes) (file : List ℕ) → ReadsAs sizes empty_component [] file
+unfolding IsStrictlySortedBy IsDistinct
+no_pages sizes file = record { first_is = refl; chained = tt; rise = tt; apart = tt; pages_is = refl; entries_is = refl; weight_is = refl }
+
+pub none_apart : IsDistinct nat_eq []
+unfolding IsDistinct
+none_apart = tt
+
+pub first_holds : (sizes : Sizes) (file : List ℕ) → IsMade sizes file → HoldsTree sizes first_tree file
+first_holds sizes file made = record {
+  store = made.store;
+  newest = first_newest sizes file made.slots.odd made.slots.even;
+  c1 = no_pages sizes file;
+  c1x = no_pages sizes file;
+  c2 = no_pages sizes file;
+  apart = none_apart;
+  bases = tt;
+  lane_a = made.lanes 0 (omega arith);
+  lane_b = made.lanes 1 (omega arith);
+}
+
+-- nothing is replayed of an empty lane
+none_replayed : (n : ℕ) → entries_weight (replayed (take n [])) ≡ 0
+none_replayed n = ap (λ (es : Entries). entries_weight (replayed es)) (take-nil n)
+
+pub first_fits : (sizes : Sizes) → IsGeometry sizes → FitsSizes sizes first_tree
+first_fits sizes geometry =
+    let half = geometry.half.0 in
+    let ratio = geometry.ratio.0 in
+    let mark : 2 * sizes.half ≤ sizes.ratio * sizes.half = half_below sizes.ratio sizes.half ratio in
+    record {
+      mark = grind (arith, mark, half);
+      full = omega arith;
+      replays = record {
+        high_a = λ n. omega (arith, none_replayed n);
+        full_a = λ n. omega (arith, none_replayed n);
+        high_b = λ n. omega (arith, none_replayed n);
+        full_b = λ n. omega (arith, none_replayed n);
+      };
+    }
+
+pub first_map : (sizes : Sizes) (file : List ℕ) → IsMade sizes file → ReadsAsMap sizes [] file
+first_map sizes file made = record { tree = first_tree; holds = first_holds sizes file made; fits = first_fits sizes made.store.geometry; map_is = refl }
