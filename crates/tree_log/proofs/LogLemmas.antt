@@ -1,0 +1,100 @@
+-- An append to a lane, and the tree whose log it is.
+use Rattle.std.specs.Prelude.{◌≡◌, ℕ, ◌+◌, Bool, true, false, IsTrue, List, [], ◌∷◌, length, Result, Ok, Err, OnOk, is_ok, if◌then◌else◌, refl}
+use Rattle.std.proofs.Common.{◌∙◌, sym, ap, subst, arith, length-append}
+use Rattle.std.proofs.lemmas.List.{get_or-set_other}
+use Rattle.std.proofs.lemmas.List.Sums.{sum_by-cons}
+use Rattle.disk_trait.specs.Disk.{DiskState}
+use Rattle.disk_trait.specs.Effects.{Affects}
+use Rattle.disk_trait.specs.Moments.{IsTimed}
+use Rattle.blsm_model.specs.Geometry.{file_length}
+use Rattle.blsm_model.specs.Lanes.{a_of, b_of, AreRoles}
+use Rattle.blsm_model.specs.declared.key.Key.{Key}
+use Rattle.record_delta.specs.declared.record.Rec.{Rec}
+use Rattle.record_delta.specs.Records.{weight}
+use Rattle.record_delta.specs.Entries.{Entries, entries_weight, with_record}
+use Rattle.entry_codec.specs.Spelling.{spelling}
+use Rattle.entry_codec.proofs.SpellingLemmas.{length-spelling}
+use Rattle.mem_table.specs.Tables.{Contents}
+use Rattle.gated_log.specs.Lane.{lane_region, blocks, Appends}
+use Rattle.gated_log.specs.Lanes.{LanesState, end_of, moved}
+use Rattle.gated_log.proofs.BlockLemmas.{length-blocks-push}
+use Rattle.tree_file.specs.Tree.{Tree}
+use Rattle.tree_file.specs.Places.{StandsOn, Becomes}
+use Rattle.tree_file.proofs.ListLemmas.{lists_appended_a, lists_appended_b}
+use Rattle.tree_file.proofs.StandLemmas.{stands_appended_a, stands_appended_b}
+use Rattle.tree_machine.specs.Lists.{Lists}
+use Rattle.tree_log.specs.Log.{LogState, IsLogOf, appended, end_of_a, end_of_b, folded_into}
+
+-- a lane is as long as its entries weigh, with a gate for each
+pub lane_ends : (entries : Entries) → length (blocks entries) ≡ entries_weight entries + length entries
+lane_ends [] = refl
+lane_ends (e ∷ es) =
+    omega (arith, lane_ends es, length-append (spelling e.0 e.1) (blocks es), length-spelling e.0 e.1, sum_by-cons (λ (x : Key × Rec). weight x.0 x.1) e es)
+
+-- ---- what the disk holds then
+
+pub becomes_a : {done : Bool} {old new : DiskState} (log : LogState) (tree : Tree) (lane : ℕ) (e : Key × Rec) → lane ≡ a_of log.lanes.roles
+    → Appends log.lanes.sizes lane (end_of log.lanes lane) e done old new → Affects (lane_region log.lanes.sizes lane) (file_length log.lanes.sizes) 4 old new
+    → IsTrue old.is_honest → IsTimed new → IsLogOf tree log → StandsOn log.lanes.sizes tree old → Becomes log.lanes.sizes tree (appended true e tree) done old new
+becomes_a {done} {old} {new} log tree lane e here appends run honest timed is stands =
+    let sizes = log.lanes.sizes in
+    let same : lane ≡ a_of tree.catalogue.lanes = here ∙ ap a_of is.roles in
+    stands_appended_a {done = done} {at = end_of log.lanes lane} {end = file_length sizes} {most = 4} {old = old} {new = new} sizes tree e
+    (subst (λ (n : ℕ). Appends sizes n (end_of log.lanes lane) e done old new) same appends)
+    (sym is.end_a ∙ ap (end_of log.lanes) (sym here))
+    (subst (λ (n : ℕ). Affects (lane_region sizes n) (file_length sizes) 4 old new) same run)
+    honest timed stands
+
+pub becomes_b : {done : Bool} {old new : DiskState} (log : LogState) (tree : Tree) (lane : ℕ) (e : Key × Rec) → lane ≡ b_of log.lanes.roles
+    → Appends log.lanes.sizes lane (end_of log.lanes lane) e done old new → Affects (lane_region log.lanes.sizes lane) (file_length log.lanes.sizes) 4 old new
+    → IsTrue old.is_honest → IsTimed new → IsLogOf tree log → StandsOn log.lanes.sizes tree old → Becomes log.lanes.sizes tree (appended false e tree) done old new
+becomes_b {done} {old} {new} log tree lane e here appends run honest timed is stands =
+    let sizes = log.lanes.sizes in
+    let same : lane ≡ b_of tree.catalogue.lanes = here ∙ ap b_of is.roles in
+    stands_appended_b {done = done} {at = end_of log.lanes lane} {end = file_length sizes} {most = 4} {old = old} {new = new} sizes tree e
+    (subst (λ (n : ℕ). Appends sizes n (end_of log.lanes lane) e done old new) same appends)
+    (sym is.end_b ∙ ap (end_of log.lanes) (sym here))
+    (subst (λ (n : ℕ). Affects (lane_region sizes n) (file_length sizes) 4 old new) same run)
+    honest timed stands
+
+-- ---- whose log it is then
+
+pub is_of_a : {T E : Type 0} (result : Result T E) (key : Key) (rec : Rec) (old : LogState) (lane : ℕ) (table : Contents) (lanes : LanesState) → AreRoles old.lanes.roles → lane ≡ a_of old.lanes.roles
+    → lanes ≡ (if is_ok result then moved old.lanes lane (weight key rec + 1) else old.lanes) → OnOk result (end_of lanes lane ≡ end_of old.lanes lane + (weight key rec + 1))
+    → table ≡ (if is_ok result then folded_into key rec old.a else old.a)
+    → OnOk result ((tree : Tree) → IsLogOf tree old → IsLogOf (appended true (key, rec) tree) (record { a = table; b = old.b; lanes = lanes }))
+is_of_a (Ok value) key rec old lane table lanes roles here lanes_are ended table_is = λ tree is.
+    let same : lanes.roles ≡ old.lanes.roles = ap (λ (l : LanesState). l.roles) lanes_are in
+    let own : end_of lanes (a_of old.lanes.roles) ≡ end_of_a old + (weight key rec + 1) =
+    subst (λ (n : ℕ). end_of lanes n ≡ end_of old.lanes n + (weight key rec + 1)) here ended in
+    let other : end_of lanes (b_of old.lanes.roles) ≡ end_of_b old =
+    ap (λ (l : LanesState). end_of l (b_of old.lanes.roles)) lanes_are
+    ∙ get_or-set_other old.lanes.ends lane (b_of old.lanes.roles) (end_of old.lanes lane + (weight key rec + 1)) 0 (λ is_lane. roles.a_not_b (sym (is_lane ∙ here))) in
+    record {
+      roles = same ∙ is.roles;
+      end_a = ap (λ (l : List ℕ). end_of lanes (a_of l)) same ∙ omega (arith, own, is.end_a, length-blocks-push tree.lane_a (key, rec));
+      end_b = ap (λ (l : List ℕ). end_of lanes (b_of l)) same ∙ other ∙ is.end_b;
+      a = ap (λ (t : Contents). t.entries) table_is ∙ ap (λ (es : Entries). with_record key rec es) is.a ∙ sym (ap (λ (l : Lists). l.a) (lists_appended_a (key, rec) tree));
+      b = is.b;
+    }
+is_of_a (Err error) key rec old lane table lanes roles here lanes_are ended table_is = tt
+
+pub is_of_b : {T E : Type 0} (result : Result T E) (key : Key) (rec : Rec) (old : LogState) (lane : ℕ) (table : Contents) (lanes : LanesState) → AreRoles old.lanes.roles → lane ≡ b_of old.lanes.roles
+    → lanes ≡ (if is_ok result then moved old.lanes lane (weight key rec + 1) else old.lanes) → OnOk result (end_of lanes lane ≡ end_of old.lanes lane + (weight key rec + 1))
+    → table ≡ (if is_ok result then folded_into key rec old.b else old.b)
+    → OnOk result ((tree : Tree) → IsLogOf tree old → IsLogOf (appended false (key, rec) tree) (record { a = old.a; b = table; lanes = lanes }))
+is_of_b (Ok value) key rec old lane table lanes roles here lanes_are ended table_is = λ tree is.
+    let same : lanes.roles ≡ old.lanes.roles = ap (λ (l : LanesState). l.roles) lanes_are in
+    let own : end_of lanes (b_of old.lanes.roles) ≡ end_of_b old + (weight key rec + 1) =
+    subst (λ (n : ℕ). end_of lanes n ≡ end_of old.lanes n + (weight key rec + 1)) here ended in
+    let other : end_of lanes (a_of old.lanes.roles) ≡ end_of_a old =
+    ap (λ (l : LanesState). end_of l (a_of old.lanes.roles)) lanes_are
+    ∙ get_or-set_other old.lanes.ends lane (a_of old.lanes.roles) (end_of old.lanes lane + (weight key rec + 1)) 0 (λ is_lane. roles.a_not_b (is_lane ∙ here)) in
+    record {
+      roles = same ∙ is.roles;
+      end_a = ap (λ (l : List ℕ). end_of lanes (a_of l)) same ∙ other ∙ is.end_a;
+      end_b = ap (λ (l : List ℕ). end_of lanes (b_of l)) same ∙ omega (arith, own, is.end_b, length-blocks-push tree.lane_b (key, rec));
+      a = is.a;
+      b = ap (λ (t : Contents). t.entries) table_is ∙ ap (λ (es : Entries). with_record key rec es) is.b ∙ sym (ap (λ (l : Lists). l.b) (lists_appended_b (key, rec) tree));
+    }
+is_of_b (Err error) key rec old lane table lanes roles here lanes_are ended table_is = tt

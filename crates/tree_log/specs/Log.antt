@@ -1,0 +1,92 @@
+-- The memory table of a tree, as contracts see it, and of which tree it is. Weights are in bytes.
+use Rattle.std.specs.Prelude.{◌≡◌, ℕ, ◌+◌, ◌<◌, ◌^◌, Bool, true, false, [], length, if◌then◌else◌}
+use Rattle.blsm_model.specs.Lanes.{a_of, b_of, AreRoles}
+use Rattle.blsm_model.specs.declared.key.Key.{Key}
+use Rattle.record_delta.specs.declared.record.Rec.{Rec}
+use Rattle.record_delta.specs.Records.{weight}
+use Rattle.record_delta.specs.Entries.{entries_weight, replayed, with_record}
+use Rattle.mem_table.specs.Tables.{Contents}
+use Rattle.gated_log.specs.Lane.{blocks}
+use Rattle.gated_log.specs.Lanes.{LanesState, end_of, moved, turned}
+use Rattle.tree_machine.specs.Lists.{Lists}
+use Rattle.tree_file.specs.Tree.{Tree}
+use Rattle.tree_file.specs.Places.{appended_a, appended_b}
+
+-- Table A, which the pass takes from; table B, of the next pass; and the lanes of the log, of which lane A is table A's and lane B table B's.
+pub record LogState : Type 0 where
+  pub a : Contents
+  pub b : Contents
+  pub lanes : LanesState
+
+-- what holds of it always: three lanes have the three roles, and the weight of both tables is a number of the program
+pub record IsLog (log : LogState) : Type 0 where
+  pub roles : AreRoles log.lanes.roles
+  pub small : log.a.reserved + log.b.reserved < 2 ^ 64
+
+-- ---- what is read off it
+
+-- The closed gates of lanes A and B, in bytes from each region's start: how much the lane's entries weigh, as they were appended, and one
+-- byte for each of them.
+abbrev pub end_of_a : LogState → ℕ
+end_of_a log = end_of log.lanes (a_of log.lanes.roles)
+
+abbrev pub end_of_b : LogState → ℕ
+end_of_b log = end_of log.lanes (b_of log.lanes.roles)
+
+-- the weight of the memory table
+abbrev pub weight_of_tables : LogState → ℕ
+weight_of_tables log = entries_weight log.a.entries + entries_weight log.b.entries
+
+-- A write ahead of the pass goes to table A and its lane, one behind it to table B and its own.
+abbrev pub lane_for : Bool → LogState → ℕ
+lane_for true log = a_of log.lanes.roles
+lane_for false log = b_of log.lanes.roles
+
+abbrev pub table_for : Bool → LogState → Contents
+table_for true log = log.a
+table_for false log = log.b
+
+-- ---- what is made of it
+
+-- with the record folded in
+abbrev pub folded_into : Key → Rec → Contents → Contents
+folded_into key rec table = record { entries = with_record key rec table.entries; reserved = table.reserved }
+
+-- with one entry more: its lane ends behind it, and it is in its table
+abbrev pub with_entry : Bool → Key → Rec → LogState → LogState
+with_entry true key rec log = record log { a = folded_into key rec log.a; lanes = moved log.lanes (lane_for true log) (weight key rec + 1) }
+with_entry false key rec log = record log { b = folded_into key rec log.b; lanes = moved log.lanes (lane_for false log) (weight key rec + 1) }
+
+-- table A is dropped, B is A, and B is empty; the lanes turn
+abbrev pub turned_log : LogState → LogState
+turned_log log = record { a = log.b; b = record { entries = []; reserved = log.a.reserved }; lanes = turned log.lanes }
+
+-- An entry of this weight was appended: its lane is longer by it and its gate, and the other lane ends where it did.
+pub record Grows (ahead : Bool) (w : ℕ) (old new : LogState) : Type 0 where
+  pub a : end_of_a new ≡ (if ahead then end_of_a old + (w + 1) else end_of_a old)
+  pub b : end_of_b new ≡ (if ahead then end_of_b old else end_of_b old + (w + 1))
+
+-- The lanes turned: A ends where B did, and B has no entries.
+pub record Turns (old new : LogState) : Type 0 where
+  pub a : end_of_a new ≡ end_of_b old
+  pub b : end_of_b new ≡ 0
+
+-- ---- whose it is
+
+-- The log of this tree: the lanes have its roles, each ends behind its entries, and each table is what its lane replays to.
+pub record IsLogOf (tree : Tree) (log : LogState) : Type 0 where
+  pub roles : log.lanes.roles ≡ tree.catalogue.lanes
+  pub end_a : end_of_a log ≡ length (blocks tree.lane_a)
+  pub end_b : end_of_b log ≡ length (blocks tree.lane_b)
+  pub a : log.a.entries ≡ replayed tree.lane_a
+  pub b : log.b.entries ≡ replayed tree.lane_b
+
+-- the tree with one entry more in the one lane or the other
+abbrev pub appended : Bool → Key × Rec → Tree → Tree
+appended true entry tree = appended_a entry tree
+appended false entry tree = appended_b entry tree
+
+-- The machine's tables are these.
+pub record AreTables (lists : Lists) (log : LogState) : Type 0 where
+  pub a : lists.a ≡ log.a.entries
+  pub b : lists.b ≡ log.b.entries

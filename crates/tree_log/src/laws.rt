@@ -1,0 +1,31 @@
+//! What holds of the memory table of a tree. The functions do nothing: each stands for the laws that its clauses name.
+ghost use Rattle.std.specs.Prelude.{◌≡◌, ◌+◌, [], ℕ, Option, length};
+ghost use Rattle.blsm_model.specs.declared.key.Key.{Key};
+ghost use Rattle.record_delta.specs.declared.record.Rec.{Rec};
+ghost use Rattle.record_delta.specs.Entries.{Entries, entries_weight};
+ghost use Rattle.gated_log.specs.Lane.{blocks};
+ghost use Rattle.tree_machine.specs.Lists.{Lists};
+ghost use Rattle.tree_machine.specs.Machine.{Machine};
+ghost use Rattle.tree_machine.specs.Merges.{Merge};
+ghost use Rattle.tree_machine.specs.Moves.{goes_to_a, with_write, end_pass};
+ghost use Rattle.tree_file.specs.Tree.{Tree, lists_of};
+ghost use Rattle.tree_log.specs.Log.{LogState, AreTables, IsLogOf, appended, turned_log, with_entry};
+
+/// An append is the machine's write: of the tables, and of the tree whose log it is. A write whose key the pass hasn't come to goes ahead.
+pub fn entries_join()
+    ensures tables { (pass : Option Merge) (key : Key) (rec : Rec) (lists : Lists) (log : LogState) → AreTables lists log
+        → AreTables (with_write pass key rec lists) (with_entry (goes_to_a pass key) key rec log) }
+    ensures tree { (pass : Option Merge) (key : Key) (rec : Rec) (tree : Tree)
+        → lists_of (appended (goes_to_a pass key) (key, rec) tree) ≡ with_write pass key rec (lists_of tree) }
+    ensures is_of { (tree : Tree) (log : LogState) → IsLogOf tree log → AreTables (lists_of tree) log }
+{}
+
+/// A turn makes of the tables what the machine makes of them where the pass ends.
+pub fn tables_turn()
+    ensures tables { (m : Machine) (log : LogState) → AreTables m.lists log → AreTables (end_pass m).lists (turned_log log) }
+{}
+
+/// A lane ends behind so many bytes as its entries weigh, as they were appended, and one more for the gate of each.
+pub fn a_lane_ends_by_weight()
+    ensures { (entries : Entries) → length (blocks entries) ≡ entries_weight entries + length entries }
+{}
