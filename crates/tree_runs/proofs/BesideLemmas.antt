@@ -1,0 +1,101 @@
+-- What the components and the runs keep where no byte of their pages changes.
+use Rattle.std.specs.Prelude.{◌≡◌, ℕ, Bool, true, IsTrue, List, Option, Some, None}
+use Rattle.std.proofs.Common.{◌∙◌, sym, subst, ap, refl, arith}
+use Rattle.disk_trait.specs.Region.{outside}
+use Rattle.record_delta.specs.Entries.{Entries, entries_weight, up_to, with_record, folded_over}
+use Rattle.blsm_model.specs.Sizes.{Sizes}
+use Rattle.page_space.specs.Space.{SpaceState}
+use Rattle.page_file.specs.Component.{RunPage, entries_of}
+use Rattle.page_file.proofs.PageLemmas.{before_apart}
+use Rattle.run_writer.specs.Writer.{HasPushed}
+use Rattle.merge_step.proofs.MergedLemmas.{ahead as grown_ahead}
+use Rattle.snow_merge.specs.Pass.{SnowState}
+use Rattle.deep_merge.specs.Merge.{DeepState}
+use Rattle.tree_machine.proofs.QuantumLemmas.{weight_parts}
+use Rattle.tree_file.specs.Tree.{Tree, HoldsTree}
+use Rattle.tree_file.specs.Places.{appended_a, appended_b}
+use Rattle.tree_runs.specs.Runs.{RunsState, PassHasTag, DeepHasTag}
+use Rattle.tree_runs.specs.Holding.{AreOf, AreTagged, IsPassOver, IsDeepOver, cursor_of_pass}
+use Rattle.tree_runs.specs.Laws.{used_region, IsBesideRuns, HeadIsBeside, RunsStay, ListsStay, EntriesJoin, EntriesWait, LeftGrows}
+use Rattle.tree_runs.proofs.KeptMerges.{KeepsRun, KeepsPages, KeepsPushed, KeepsAhead, pass_runs_still, deep_runs_still, pass_over_still, deep_over_still}
+
+pub head_is_beside : HeadIsBeside
+head_is_beside sizes space at n ends i inside used = before_apart sizes used.1.0 at n ends i used.1.2 inside
+
+-- ---- the merges
+
+keeps_used : (runs : RunsState) (honest : Bool) (old new : List ℕ) (tag : ℕ) → (IsTrue honest → IsBesideRuns runs old new)
+    → KeepsRun runs.sizes honest (outside (used_region runs.sizes runs.space)) old new runs.space runs.space tag
+keeps_used runs honest old new tag same = record { no_more = λ n has. has; tagged = λ n has. has; same = same; apart = λ i out there. out (tag, there) }
+
+pages_used : (runs : RunsState) (tag : ℕ) → KeepsPages runs.sizes runs.space runs.space (outside (used_region runs.sizes runs.space)) tag
+pages_used runs tag = record { tagged = λ n has. has; apart = λ i out there. out (tag, there) }
+
+pub runs_stay : KeepsPushed → RunsStay
+runs_stay pushed runs honest old new same running = record {
+  in_order = running.in_order;
+  pass = pass_runs_still pushed runs.tags.pass runs.pass (keeps_used runs honest old new runs.tags.pass same) running.in_order.pass_tag running.pass;
+  deep = deep_runs_still pushed runs.tags.deep runs.deep (keeps_used runs honest old new runs.tags.deep same) running.in_order.deep_tag running.deep;
+}
+
+-- which tag a running merge's pages have
+abbrev tag_of_pass : Option SnowState → ℕ
+tag_of_pass None = 0
+tag_of_pass (Some snow) = snow.writer.role
+
+pass_has_it : (snow : Option SnowState) → PassHasTag (tag_of_pass snow) snow
+pass_has_it None = tt
+pass_has_it (Some snow) = refl
+
+abbrev tag_of_deep : Option DeepState → ℕ
+tag_of_deep None = 0
+tag_of_deep (Some merge) = merge.writer.role
+
+deep_has_it : (merge : Option DeepState) → DeepHasTag (tag_of_deep merge) merge
+deep_has_it None = tt
+deep_has_it (Some merge) = refl
+
+-- a pass over a table that grew ahead of its cursor
+grown_over : (sizes : Sizes) (file : List ℕ) (space : SpaceState) (snow : Option SnowState) (a grown : Entries) (c1 : List RunPage) → up_to (cursor_of_pass snow) grown ≡ up_to (cursor_of_pass snow) a
+    → IsPassOver sizes file space snow a c1 → IsPassOver sizes file space snow grown c1
+grown_over sizes file space None a grown c1 behind over = tt
+grown_over sizes file space (Some snow) a grown c1 behind over = record {
+  older = over.older;
+  pushed = subst (λ (es : Entries). HasPushed sizes true file space snow.writer (folded_over es (up_to snow.at (entries_of c1)))) (sym behind) over.pushed;
+}
+
+-- over the tree's lists and this table, where the file holds a tree of the same components
+over_tree : KeepsPushed → KeepsAhead → (runs : RunsState) (tree next : Tree) (a grown : Entries) (old new : List ℕ) → IsBesideRuns runs old new
+    → up_to (cursor_of_pass runs.pass) grown ≡ up_to (cursor_of_pass runs.pass) a → AreOf runs tree a old → HoldsTree runs.sizes next new
+    → next.catalogue ≡ tree.catalogue → next.c1 ≡ tree.c1 → next.c1x ≡ tree.c1x → next.c2 ≡ tree.c2 → AreOf runs next grown new
+over_tree pushed ahead runs tree next a grown old new same behind is holds catalogue c1 c1x c2 = record {
+  holds = holds;
+  catalogue = catalogue ∙ is.catalogue;
+  c1 = subst (λ (ps : List RunPage). AreTagged runs.space runs.tags.c1 ps) (sym c1) is.c1;
+  c1x = subst (λ (ps : List RunPage). AreTagged runs.space runs.tags.c1x ps) (sym c1x) is.c1x;
+  c2 = subst (λ (ps : List RunPage). AreTagged runs.space runs.tags.c2 ps) (sym c2) is.c2;
+  pass = subst (λ (ps : List RunPage). IsPassOver runs.sizes new runs.space runs.pass grown ps) (sym c1)
+      (grown_over runs.sizes new runs.space runs.pass a grown tree.c1 behind
+      (pass_over_still pushed ahead runs.pass a tree.c1 (keeps_used runs true old new (tag_of_pass runs.pass) (λ told. same)) (pages_used runs runs.tags.c1) (pass_has_it runs.pass) is.c1 is.pass));
+  deep = subst (λ (ps : List RunPage). IsDeepOver runs.sizes new runs.space runs.deep ps next.c2) (sym c1x)
+      (subst (λ (ps : List RunPage). IsDeepOver runs.sizes new runs.space runs.deep tree.c1x ps) (sym c2)
+      (deep_over_still pushed ahead runs.deep tree.c1x tree.c2 (keeps_used runs true old new (tag_of_deep runs.deep) (λ told. same)) (pages_used runs runs.tags.c1x) (pages_used runs runs.tags.c2) (deep_has_it runs.deep) is.c1x is.c2 is.deep));
+}
+
+pub lists_stay : KeepsPushed → KeepsAhead → ListsStay
+lists_stay pushed ahead runs tree a old new same is holds =
+    over_tree pushed ahead runs tree tree a a old new same refl is holds refl refl refl refl
+
+pub entries_join : KeepsPushed → KeepsAhead → EntriesJoin
+entries_join pushed ahead runs tree a old new key rec same is_ahead is holds =
+    over_tree pushed ahead runs tree (appended_a (key, rec) tree) a (with_record key rec a) old new same (grown_ahead (cursor_of_pass runs.pass) key rec a is_ahead) is holds refl refl refl refl
+
+pub entries_wait : KeepsPushed → KeepsAhead → EntriesWait
+entries_wait pushed ahead runs tree a old new key rec same is holds =
+    over_tree pushed ahead runs tree (appended_b (key, rec) tree) a a old new same refl is holds refl refl refl refl
+
+-- ---- numbers
+
+pub left_grows : LeftGrows
+left_grows snow a key rec is_ahead =
+    omega (arith, weight_parts snow.at a, weight_parts snow.at (with_record key rec a), ap (λ (es : Entries). entries_weight es) (grown_ahead snow.at key rec a is_ahead))

@@ -1,0 +1,112 @@
+-- The next catalogue is one that a slot may have: each of its components is empty, or within the store's pages.
+use Rattle.std.specs.Prelude.{◌≡◌, ◌⊎◌, ℕ, ◌+◌, ◌<◌, ◌≤◌, ◌^◌, List, [], ◌∷◌, length, refl, Option, None}
+use Rattle.std.proofs.Common.{⊎_elim, inl, inr, sym, subst, ap, ◌∙◌, arith, length-append}
+use Rattle.blsm_model.specs.declared.component.Component.{Component}
+use Rattle.blsm_model.specs.Components.{no_page, empty_component}
+use Rattle.blsm_model.specs.Sizes.{Sizes, IsGeometry}
+use Rattle.blsm_model.specs.Geometry.{page_count}
+use Rattle.blsm_model.specs.Lanes.{AreRoles, a_of, b_of, spare_of}
+use Rattle.catalog_swap.specs.declared.catalog.Catalog.{Catalog}
+use Rattle.catalog_swap.specs.Text.{AreNumbers, IsEmpty, IsInRange, IsComponent, IsCatalog}
+use Rattle.catalog_swap.specs.Swap.{IsNext}
+use Rattle.record_delta.specs.Entries.{Entries, entries_weight}
+use Rattle.page_file.specs.Page.{IsPageOf}
+use Rattle.page_file.specs.File.{page_at}
+use Rattle.page_file.specs.Component.{RunPage, ReadsAs, entries_of, first_number}
+use Rattle.page_file.proofs.EntryLemmas.{few_entries}
+use Rattle.page_file.proofs.ComponentLemmas.{weight_join, weight_is_length}
+use Rattle.page_file.proofs.PageLemmas.{few_pages}
+use Rattle.run_writer.specs.Writer.{WriterState, IsCounted}
+use Rattle.tree_file.specs.Places.{KeepsRoles, TurnsRoles}
+
+-- what a catalogue of these sizes may say of a component
+pub record Suits (sizes : Sizes) (component : Component) : Type 0 where
+  pub numbers : AreNumbers component
+  pub is : IsComponent (page_count sizes) component
+
+pub empty_suits : (sizes : Sizes) → Suits sizes empty_component
+empty_suits sizes = record {
+  numbers = record { first = omega arith; pages = omega arith; entries = omega arith; weight = omega arith };
+  is = inl (record { first = refl; pages = refl; entries = refl; weight = refl });
+}
+
+-- those of a catalogue do
+pub c1_suits : {sizes : Sizes} {catalog : Catalog} → IsCatalog sizes catalog → Suits sizes catalog.c1
+c1_suits is = record { numbers = is.fits.c1; is = is.c1 }
+
+pub c1x_suits : {sizes : Sizes} {catalog : Catalog} → IsCatalog sizes catalog → Suits sizes catalog.c1x
+c1x_suits is = record { numbers = is.fits.c1x; is = is.c1x }
+
+pub c2_suits : {sizes : Sizes} {catalog : Catalog} → IsCatalog sizes catalog → Suits sizes catalog.c2
+c2_suits is = record { numbers = is.fits.c2; is = is.c2 }
+
+-- ---- a run
+
+-- its entries weigh at least as much as the lightest one
+page_weighs : (sizes : Sizes) (next : Option ℕ) (entries : Entries) (bytes : List ℕ) → IsPageOf (page_count sizes) next entries bytes → (14 ≤ entries_weight entries) × (1 ≤ length entries)
+page_weighs sizes next entries bytes is =
+    (omega (arith, few_entries entries is.content.each, is.content.head.some, weight_is_length entries), is.content.head.some)
+
+pub run_in_range : (sizes : Sizes) (component : Component) (run : List RunPage) (file : List ℕ) → ReadsAs sizes component run file → component.pages ≤ page_count sizes → IsComponent (page_count sizes) component
+run_in_range sizes component [] file reads few =
+    inl (record { first = sym reads.first_is; pages = sym reads.pages_is; entries = sym reads.entries_is; weight = sym reads.weight_is })
+run_in_range sizes component (p ∷ ps) file reads few =
+    let weighs = page_weighs sizes (first_number ps None) p.entries (page_at sizes p.number file) reads.chained.1 in
+    inr (record {
+      first = subst (λ (n : ℕ). n < page_count sizes) reads.first_is reads.chained.0;
+      some_page = omega (arith, reads.pages_is);
+      no_more_pages = few;
+      some_entry = omega (arith, reads.entries_is, weighs.1, length-append p.entries (entries_of ps));
+      some_weight = omega (arith, reads.weight_is, weighs.0, weight_join p.entries (entries_of ps));
+    })
+
+-- the numbers of a run fit their fields
+pub run_suits : (sizes : Sizes) (writer : WriterState) (component : Component) (run : List RunPage) (file : List ℕ) → IsGeometry sizes → IsCounted writer → component ≡ writer.component → ReadsAs sizes component run file
+    → component.pages ≤ page_count sizes → Suits sizes component
+run_suits sizes writer component run file geometry counted is reads few = record {
+  numbers = record {
+    first = ⊎_elim (λ (none : IsEmpty component). omega (arith, none.first)) (λ (some : IsInRange (page_count sizes) component). omega (arith, some.first, small)) in_range;
+    pages = omega (arith, few, small);
+    entries = omega (arith, counted.entries, counted.weight, counted.fits, few, small, ap (λ (k : Component). k.pages) is, ap (λ (k : Component). k.entries) is);
+    weight = omega (arith, counted.weight, counted.fits, few, small, ap (λ (k : Component). k.pages) is, ap (λ (k : Component). k.weight) is);
+  };
+  is = in_range;
+}
+  where
+    in_range : IsComponent (page_count sizes) component
+    in_range = run_in_range sizes component run file reads few
+
+    small : page_count sizes ≤ no_page
+    small = few_pages sizes geometry
+
+-- ---- the next catalogue
+
+pub roles_turned : (roles : List ℕ) → AreRoles roles → AreRoles (b_of roles ∷ spare_of roles ∷ a_of roles ∷ [])
+roles_turned roles are = record {
+  a_below = are.b_below;
+  b_below = are.spare_below;
+  spare_below = are.a_below;
+  a_not_b = are.b_not_spare;
+  a_not_spare = λ is. are.a_not_b (sym is);
+  b_not_spare = λ is. are.a_not_spare (sym is);
+}
+
+pub may_be_next : (sizes : Sizes) (now next : Catalog) → IsCatalog sizes now → next.version ≡ now.version + 1 → now.version + 1 < 2 ^ 64 → KeepsRoles now next ⊎ TurnsRoles now next
+    → Suits sizes next.c1 → Suits sizes next.c1x → Suits sizes next.c2 → IsNext sizes now next
+may_be_next sizes now next is follows few lanes c1 c1x c2 = record {
+  fits = record {
+    fits = record {
+      version = omega (arith, follows, few);
+      lanes = ⊎_elim (λ (keeps : KeepsRoles now next). ap (λ (l : List ℕ). length l) keeps ∙ is.fits.lanes) (λ (turns : TurnsRoles now next). ap (λ (l : List ℕ). length l) turns) lanes;
+      c1 = c1.numbers;
+      c1x = c1x.numbers;
+      c2 = c2.numbers;
+    };
+    some_version = omega (arith, follows);
+    lanes = ⊎_elim (λ (keeps : KeepsRoles now next). subst (λ (l : List ℕ). AreRoles l) (sym keeps) is.lanes) (λ (turns : TurnsRoles now next). subst (λ (l : List ℕ). AreRoles l) (sym turns) (roles_turned now.lanes is.lanes)) lanes;
+    c1 = c1.is;
+    c1x = c1x.is;
+    c2 = c2.is;
+  };
+  follows = follows;
+}

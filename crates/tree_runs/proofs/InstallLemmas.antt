@@ -1,0 +1,224 @@
+-- What the components and merges keep when a run becomes a component.
+use Rattle.std.specs.Prelude.{◌≡◌, ◌≢◌, ℕ, Option, Some, None, refl}
+use Rattle.std.proofs.Common.{sym, subst, ap, ◌∙◌, arith}
+use Rattle.blsm_model.specs.Components.{empty_component}
+use Rattle.blsm_model.specs.declared.component.Component.{Component}
+use Rattle.catalog_swap.specs.declared.catalog.Catalog.{Catalog}
+use Rattle.page_space.specs.Space.{SpaceState, role_size}
+use Rattle.deep_merge.specs.Merge.{DeepState, started as deep_started}
+use Rattle.tree_runs.specs.Runs.{RunsState, Tags, AreRuns, AreTags, HasOneTag, IsFilled, IsHeld, RestsEmpty, made_by_pass, made_by_deep}
+use Rattle.tree_runs.proofs.ReleasedTags.{Released, has_before, size_still, sizes_released}
+use Rattle.tree_runs.proofs.CountLemmas.{pins_same}
+
+-- the components of a catalogue
+pub record HasParts (next : Catalog) (c1 c1x c2 : Component) : Type 0 where
+  pub c1_is : next.c1 ≡ c1
+  pub c1x_is : next.c1x ≡ c1x
+  pub c2_is : next.c2 ≡ c2
+
+-- ---- which tags are which
+
+tags_for_deep : (tags : Tags) → AreTags tags → AreTags (record tags { c2 = tags.deep; deep = tags.c2 })
+tags_for_deep tags are = record {
+  c1_below = are.c1_below;
+  c1x_below = are.c1x_below;
+  c2_below = are.deep_below;
+  pass_below = are.pass_below;
+  deep_below = are.c2_below;
+  c1_c1x = are.c1_c1x;
+  c1_c2 = are.c1_deep;
+  c1_pass = are.c1_pass;
+  c1_deep = are.c1_c2;
+  c1x_c2 = are.c1x_deep;
+  c1x_pass = are.c1x_pass;
+  c1x_deep = are.c1x_c2;
+  c2_pass = λ is. are.pass_deep (sym is);
+  c2_deep = λ is. are.c2_deep (sym is);
+  pass_deep = λ is. are.c2_pass (sym is);
+}
+
+tags_for_pass : (tags : Tags) → AreTags tags → AreTags (record tags { c1 = tags.pass; pass = tags.c1 })
+tags_for_pass tags are = record {
+  c1_below = are.pass_below;
+  c1x_below = are.c1x_below;
+  c2_below = are.c2_below;
+  pass_below = are.c1_below;
+  deep_below = are.deep_below;
+  c1_c1x = λ is. are.c1x_pass (sym is);
+  c1_c2 = λ is. are.c2_pass (sym is);
+  c1_pass = λ is. are.c1_pass (sym is);
+  c1_deep = are.pass_deep;
+  c1x_c2 = are.c1x_c2;
+  c1x_pass = λ is. are.c1_c1x (sym is);
+  c1x_deep = are.c1x_deep;
+  c2_pass = λ is. are.c1_c2 (sym is);
+  c2_deep = are.c2_deep;
+  pass_deep = are.c1_deep;
+}
+
+tags_for_rotation : (tags : Tags) → AreTags tags → AreTags (record tags { c1 = tags.c1x; c1x = tags.c1 })
+tags_for_rotation tags are = record {
+  c1_below = are.c1x_below;
+  c1x_below = are.c1_below;
+  c2_below = are.c2_below;
+  pass_below = are.pass_below;
+  deep_below = are.deep_below;
+  c1_c1x = λ is. are.c1_c1x (sym is);
+  c1_c2 = are.c1x_c2;
+  c1_pass = are.c1x_pass;
+  c1_deep = are.c1x_deep;
+  c1x_c2 = are.c1_c2;
+  c1x_pass = are.c1_pass;
+  c1x_deep = are.c1_deep;
+  c2_pass = are.c2_pass;
+  c2_deep = are.c2_deep;
+  pass_deep = are.pass_deep;
+}
+
+-- C1 gets the tag of C1', C1' that of the pass, and the pass that of C1
+tags_for_rotated : (tags : Tags) → AreTags tags → AreTags (record tags { c1 = tags.c1x; c1x = tags.pass; pass = tags.c1 })
+tags_for_rotated tags are = tags_for_rotation (record tags { c1 = tags.pass; pass = tags.c1 }) (tags_for_pass tags are)
+
+-- ---- what is held
+
+empty_filled : IsFilled empty_component
+empty_filled = record { none = λ is. refl; full = omega arith }
+
+nothing_held : (space : SpaceState) (tag : ℕ) → role_size space tag ≡ 0 → IsHeld space tag empty_component
+nothing_held space tag none = record { filled = empty_filled; size = none }
+
+held_still : {role : ℕ} {old new : SpaceState} {tag : ℕ} {component : Component} → Released role old new → tag ≢ role → IsHeld old tag component → IsHeld new tag component
+held_still {role} {old} {new} {tag} is differs held = record { filled = held.filled; size = size_still is tag differs ∙ held.size }
+
+pub one_tag_still : {role : ℕ} {old new : SpaceState} → Released role old new → HasOneTag old → HasOneTag new
+one_tag_still is once page one other has also = once page one other (has_before is one page has) (has_before is other page also)
+
+-- ---- the deep merge's run becomes C2
+
+pub runs_for_deep : (old : RunsState) (next : Catalog) (mid after : SpaceState) → AreRuns old → HasParts next old.catalogue.c1 empty_component (made_by_deep old.deep)
+    → Released old.tags.c1x old.space mid → Released old.tags.c2 mid after
+    → AreRuns (record { sizes = old.sizes; catalogue = next; space = after; tags = record old.tags { c2 = old.tags.deep; deep = old.tags.c2 }; pass = old.pass; deep = None })
+runs_for_deep old next mid after are parts first second = record {
+  geometry = are.geometry;
+  pages = second.pages ∙ first.pages ∙ are.pages;
+  shape = second.shape;
+  tags = tags_for_deep tags are.tags;
+  one_tag = one_tag_still second (one_tag_still first are.one_tag);
+  c1 = subst (λ (k : Component). IsHeld after tags.c1 k) (sym parts.c1_is) (held_still second are.tags.c1_c2 (held_still first are.tags.c1_c1x are.c1));
+  c1x = subst (λ (k : Component). IsHeld after tags.c1x k) (sym parts.c1x_is) (nothing_held after tags.c1x (size_still second tags.c1x are.tags.c1x_c2 ∙ first.size));
+  c2 = subst (λ (k : Component). IsHeld after tags.deep k) (sym parts.c2_is)
+      (held_still second (λ is. are.tags.c2_deep (sym is)) (held_still first (λ is. are.tags.c1x_deep (sym is)) are.deep));
+  pass = held_still second (λ is. are.tags.c2_pass (sym is)) (held_still first (λ is. are.tags.c1x_pass (sym is)) are.pass);
+  deep = nothing_held after tags.c2 second.size;
+  pass_tag = are.pass_tag;
+  deep_tag = tt;
+  rests = parts.c1x_is;
+  within = record {
+    roles = omega (
+      arith,
+      sizes_released first are.tags.c1x_below,
+      sizes_released second are.tags.c2_below,
+      size_still first tags.c2 (λ is. are.tags.c1x_c2 (sym is)),
+      are.c1x.size,
+      are.c2.size,
+      are.within.roles,
+      ap (λ (k : Component). k.pages) parts.c1_is,
+      ap (λ (k : Component). k.pages) parts.c1x_is,
+      ap (λ (k : Component). k.pages) parts.c2_is,
+    );
+    seats = pins_same old.space after _ (second.pins ∙ first.pins) are.within.seats;
+  };
+}
+  where
+    tags : Tags
+    tags = old.tags
+
+-- ---- the pass's run becomes C1
+
+pub runs_for_pass : (old : RunsState) (next : Catalog) (after : SpaceState) → AreRuns old → HasParts next (made_by_pass old.pass) old.catalogue.c1x old.catalogue.c2
+    → Released old.tags.c1 old.space after
+    → AreRuns (record { sizes = old.sizes; catalogue = next; space = after; tags = record old.tags { c1 = old.tags.pass; pass = old.tags.c1 }; pass = None; deep = old.deep })
+runs_for_pass old next after are parts gone = record {
+  geometry = are.geometry;
+  pages = gone.pages ∙ are.pages;
+  shape = gone.shape;
+  tags = tags_for_pass tags are.tags;
+  one_tag = one_tag_still gone are.one_tag;
+  c1 = subst (λ (k : Component). IsHeld after tags.pass k) (sym parts.c1_is) (held_still gone (λ is. are.tags.c1_pass (sym is)) are.pass);
+  c1x = subst (λ (k : Component). IsHeld after tags.c1x k) (sym parts.c1x_is) (held_still gone (λ is. are.tags.c1_c1x (sym is)) are.c1x);
+  c2 = subst (λ (k : Component). IsHeld after tags.c2 k) (sym parts.c2_is) (held_still gone (λ is. are.tags.c1_c2 (sym is)) are.c2);
+  pass = nothing_held after tags.c1 gone.size;
+  deep = held_still gone (λ is. are.tags.c1_deep (sym is)) are.deep;
+  pass_tag = tt;
+  deep_tag = are.deep_tag;
+  rests = subst (λ (k : Component). RestsEmpty old.deep k) (sym parts.c1x_is) are.rests;
+  within = record {
+    roles = omega (
+      arith,
+      sizes_released gone are.tags.c1_below,
+      are.c1.size,
+      are.within.roles,
+      ap (λ (k : Component). k.pages) parts.c1_is,
+      ap (λ (k : Component). k.pages) parts.c1x_is,
+      ap (λ (k : Component). k.pages) parts.c2_is,
+    );
+    seats = pins_same old.space after _ gone.pins are.within.seats;
+  };
+}
+  where
+    tags : Tags
+    tags = old.tags
+
+-- C1' has no page where no deep merge runs
+c1x_empty : (old : RunsState) → AreRuns old → old.deep ≡ None → old.catalogue.c1x ≡ empty_component
+c1x_empty old are rests = subst (λ (d : Option DeepState). RestsEmpty d old.catalogue.c1x) rests are.rests
+
+-- or it becomes C1', and C1 is empty
+pub runs_for_rotated_pass : (old : RunsState) (next : Catalog) (after : SpaceState) → AreRuns old → HasParts next empty_component (made_by_pass old.pass) old.catalogue.c2 → old.deep ≡ None
+    → Released old.tags.c1 old.space after
+    → AreRuns (record {
+      sizes = old.sizes;
+      catalogue = next;
+      space = after;
+      tags = record old.tags { c1 = old.tags.c1x; c1x = old.tags.pass; pass = old.tags.c1 };
+      pass = None;
+      deep = Some (deep_started old.tags.deep next.c1x next.c2);
+    })
+runs_for_rotated_pass old next after are parts rests gone = record {
+  geometry = are.geometry;
+  pages = gone.pages ∙ are.pages;
+  shape = gone.shape;
+  tags = tags_for_rotated tags are.tags;
+  one_tag = one_tag_still gone are.one_tag;
+  c1 = subst (λ (k : Component). IsHeld after tags.c1x k) (sym parts.c1_is) (nothing_held after tags.c1x (size_still gone tags.c1x (λ is. are.tags.c1_c1x (sym is)) ∙ are.c1x.size ∙ none));
+  c1x = subst (λ (k : Component). IsHeld after tags.pass k) (sym parts.c1x_is) (held_still gone (λ is. are.tags.c1_pass (sym is)) are.pass);
+  c2 = subst (λ (k : Component). IsHeld after tags.c2 k) (sym parts.c2_is) (held_still gone (λ is. are.tags.c1_c2 (sym is)) are.c2);
+  pass = nothing_held after tags.c1 gone.size;
+  deep = nothing_held after tags.deep (size_still gone tags.deep (λ is. are.tags.c1_deep (sym is)) ∙ are.deep.size ∙ no_run);
+  pass_tag = tt;
+  deep_tag = refl;
+  rests = tt;
+  within = record {
+    roles = omega (
+      arith,
+      sizes_released gone are.tags.c1_below,
+      are.c1.size,
+      are.within.roles,
+      none,
+      no_run,
+      ap (λ (k : Component). k.pages) parts.c1_is,
+      ap (λ (k : Component). k.pages) parts.c1x_is,
+      ap (λ (k : Component). k.pages) parts.c2_is,
+    );
+    seats = pins_same old.space after _ gone.pins are.within.seats;
+  };
+}
+  where
+    tags : Tags
+    tags = old.tags
+
+    none : old.catalogue.c1x.pages ≡ 0
+    none = ap (λ (k : Component). k.pages) (c1x_empty old are rests)
+
+    no_run : (made_by_deep old.deep).pages ≡ 0
+    no_run = ap (λ (d : Option DeepState). (made_by_deep d).pages) rests

@@ -1,0 +1,132 @@
+-- What merges keep that go on while another run becomes a component: their pages keep their tags, and read the same.
+use Rattle.std.specs.Prelude.{◌≡◌, ◌≢◌, ℕ, Bool, true, IsTrue, Option, Some, None, List, refl}
+use Rattle.std.specs.List.{Contains}
+use Rattle.std.proofs.Common.{inr, sym, subst}
+use Rattle.disk_trait.specs.Region.{Region, nowhere, AreApart, IsSameOutside, same_file, same_wider, part_apart}
+use Rattle.blsm_model.specs.Format.{page_length}
+use Rattle.blsm_model.specs.declared.key.Key.{Key}
+use Rattle.blsm_model.specs.Sizes.{Sizes}
+use Rattle.record_delta.specs.Entries.{Entries, folded_over, up_to}
+use Rattle.page_space.specs.Space.{SpaceState, HasRole, IsFree}
+use Rattle.page_file.specs.Component.{RunPage, numbers_of, entries_of}
+use Rattle.page_file.specs.File.{page_start, AreSamePages}
+use Rattle.run_cursor.specs.Cursor.{CursorState, HasAhead}
+use Rattle.run_writer.specs.Writer.{WriterState, HasPushed, role_region, loose_region}
+use Rattle.merge_ends.specs.Input.{IsInput}
+use Rattle.merge_ends.specs.Output.{HasRun}
+use Rattle.snow_merge.specs.Pass.{SnowState}
+use Rattle.deep_merge.specs.Merge.{DeepState}
+use Rattle.tree_runs.proofs.ReleasedTags.{Released, has_before, has_still}
+use Rattle.tree_runs.specs.Runs.{HasOneTag, PassHasTag, DeepHasTag, PassRuns, DeepRuns}
+use Rattle.tree_runs.specs.Holding.{AreTagged, IsPassOver, IsDeepOver}
+
+-- From one file and map to other ones: the pages that have a run's tag had it, and those that had it keep it and read the same.
+pub record KeepsRun (sizes : Sizes) (honest : Bool) (region : Region) (old new : List ℕ) (space after : SpaceState) (tag : ℕ) : Type 0 where
+  pub no_more : (n : ℕ) → HasRole after tag n → HasRole space tag n
+  pub tagged : (n : ℕ) → HasRole space tag n → HasRole after tag n
+  pub same : IsTrue honest → IsSameOutside region old new
+  pub apart : AreApart region (role_region sizes space tag)
+
+-- the pages of an input, too
+pub record KeepsPages (sizes : Sizes) (space after : SpaceState) (region : Region) (tag : ℕ) : Type 0 where
+  pub tagged : (n : ℕ) → HasRole space tag n → HasRole after tag n
+  pub apart : AreApart region (role_region sizes space tag)
+
+-- The list that was pushed stays where other pages are written and other tags change hands: a law of runs.
+abbrev pub KeepsPushed : Type 0
+KeepsPushed =
+    (sizes : Sizes) (honest : Bool) (old new : List ℕ) (space after : SpaceState) (writer : WriterState) (entries : Entries) → ((n : ℕ) → HasRole space writer.role n → HasRole after writer.role n)
+    → (IsTrue honest → IsSameOutside (loose_region sizes space writer) old new) → HasPushed sizes honest old space writer entries → HasPushed sizes honest new after writer entries
+
+-- What a cursor has ahead it still has where the pages that it hasn't read read the same: a law of cursors.
+abbrev pub KeepsAhead : Type 0
+KeepsAhead =
+    (sizes : Sizes) (cursor : CursorState) (rest : Entries) (old new : List ℕ) (before : HasAhead sizes cursor rest old) → AreSamePages sizes (numbers_of before.coming) old new
+    → (now : HasAhead sizes cursor rest new) × (now.coming ≡ before.coming)
+
+module _ (pushed_kept : KeepsPushed) {sizes : Sizes} {honest : Bool} {region : Region} {old new : List ℕ} {space after : SpaceState} where
+  pushed_still : {tag : ℕ} {writer : WriterState} (entries : Entries) → KeepsRun sizes honest region old new space after tag → writer.role ≡ tag → HasPushed sizes honest old space writer entries
+      → HasPushed sizes honest new after writer entries
+  pushed_still {tag} {writer} entries keeps role pushed =
+      pushed_kept sizes honest old new space after writer entries (λ n has. subst (λ (r : ℕ). HasRole after r n) (sym role) (keeps.tagged n (subst (λ (r : ℕ). HasRole space r n) role has)))
+      (λ told. same_wider (λ i here. inr (λ page. keeps.apart i here (subst (λ (r : ℕ). role_region sizes space r i) role page))) (keeps.same told)) pushed
+
+  run_still : {tag : ℕ} {writer : WriterState} {at : Option Key} → KeepsRun sizes honest region old new space after tag → writer.role ≡ tag → HasRun sizes honest old space writer at → HasRun sizes honest new after writer at
+  run_still keeps role run = record { out = run.out; pushed = pushed_still run.out keeps role run.pushed; ends = run.ends }
+
+  -- on any disk
+  pub pass_runs_still : (tag : ℕ) (snow : Option SnowState) → KeepsRun sizes honest region old new space after tag → PassHasTag tag snow → PassRuns sizes honest old space snow → PassRuns sizes honest new after snow
+  pass_runs_still tag None keeps role runs = tt
+  pass_runs_still tag (Some snow) keeps role runs = record { run = run_still keeps role runs.run; behind = runs.behind }
+
+  pub deep_runs_still : (tag : ℕ) (merge : Option DeepState) → KeepsRun sizes honest region old new space after tag → DeepHasTag tag merge → DeepRuns sizes honest old space merge → DeepRuns sizes honest new after merge
+  deep_runs_still tag None keeps role runs = tt
+  deep_runs_still tag (Some merge) keeps role runs = record { run = run_still keeps role runs.run; newer = runs.newer; older = runs.older }
+
+-- the lists, on an honest disk
+module _ (pushed_kept : KeepsPushed) (ahead_kept : KeepsAhead) {sizes : Sizes} {region : Region} {old new : List ℕ} {space after : SpaceState} where
+  input_still : {tag of_input role : ℕ} {at : Option Key} {cursor : CursorState} {entries : Entries} (pages : List RunPage) (keeps : KeepsRun sizes true region old new space after tag) → role ≡ tag
+      → KeepsPages sizes space after region of_input → AreTagged space of_input pages
+      → IsInput sizes old space role at cursor (numbers_of pages) entries → IsInput sizes new after role at cursor (numbers_of pages) entries
+  input_still {tag} {of_input} {role} {at} {cursor} {entries} pages keeps role_is stays tagged input =
+      let now = ahead_kept sizes cursor input.rest old new input.ahead same in
+      let back = λ (n : ℕ) (has : Contains (numbers_of now.0.coming) n). subst (λ (ps : List RunPage). Contains (numbers_of ps) n) now.1 has in
+      record {
+        sorted = input.sorted;
+        rest = input.rest;
+        ahead = now.0;
+        left_is = input.left_is;
+        among = λ n has. input.among n (back n has);
+        apart = λ n has is. input.apart n (back n has) (subst (λ (r : ℕ). HasRole space r n) (sym role_is) (keeps.no_more n (subst (λ (r : ℕ). HasRole after r n) role_is is)));
+        in_use = λ n has free. free.no_role of_input (stays.tagged n (tagged n (input.among n (back n has))));
+      }
+    where
+      same : AreSamePages sizes (numbers_of input.ahead.coming) old new
+      same n has = part_apart (page_start sizes n) page_length (λ i here page. stays.apart i here (n, tagged n (input.among n has), page)) (keeps.same refl)
+
+  pub pass_over_still : {tag of_c1 : ℕ} (snow : Option SnowState) (a : Entries) (c1 : List RunPage) (keeps : KeepsRun sizes true region old new space after tag) → KeepsPages sizes space after region of_c1
+      → PassHasTag tag snow → AreTagged space of_c1 c1 → IsPassOver sizes old space snow a c1 → IsPassOver sizes new after snow a c1
+  pass_over_still None a c1 keeps stays role tagged over = tt
+  pass_over_still (Some snow) a c1 keeps stays role tagged over = record {
+    older = input_still c1 keeps role stays tagged over.older;
+    pushed = pushed_still pushed_kept (folded_over (up_to snow.at a) (up_to snow.at (entries_of c1))) keeps role over.pushed;
+  }
+
+  pub deep_over_still : {tag of_c1x of_c2 : ℕ} (merge : Option DeepState) (c1x c2 : List RunPage) (keeps : KeepsRun sizes true region old new space after tag) → KeepsPages sizes space after region of_c1x
+      → KeepsPages sizes space after region of_c2 → DeepHasTag tag merge → AreTagged space of_c1x c1x → AreTagged space of_c2 c2 → IsDeepOver sizes old space merge c1x c2
+      → IsDeepOver sizes new after merge c1x c2
+  unfolding run_still
+  deep_over_still None c1x c2 keeps newer older role tagged tagged_c2 over = over
+  deep_over_still (Some merge) c1x c2 keeps newer older role tagged tagged_c2 over = record {
+    newer = input_still c1x keeps role newer tagged over.newer;
+    older = input_still c2 keeps role older tagged_c2 over.older;
+    run = run_still pushed_kept keeps role over.run;
+    out_is = over.out_is;
+  }
+
+-- ---- where tags were released alone
+
+pub keeps_one : {sizes : Sizes} {honest : Bool} (file : List ℕ) {role : ℕ} {space after : SpaceState} (tag : ℕ) → Released role space after → tag ≢ role → KeepsRun sizes honest nowhere file file space after tag
+keeps_one file tag gone differs = record { no_more = has_before gone tag; tagged = λ n. has_still gone tag n differs; same = λ told. same_file nowhere file; apart = λ i here. absurd here }
+
+pub pages_one : {sizes : Sizes} {role : ℕ} {space after : SpaceState} (tag : ℕ) → Released role space after → tag ≢ role → KeepsPages sizes space after nowhere tag
+pages_one tag gone differs = record { tagged = λ n. has_still gone tag n differs; apart = λ i here. absurd here }
+
+pub keeps_two : {sizes : Sizes} {honest : Bool} (file : List ℕ) {role other : ℕ} {space mid after : SpaceState} (tag : ℕ) → Released role space mid → Released other mid after → tag ≢ role → tag ≢ other
+    → KeepsRun sizes honest nowhere file file space after tag
+keeps_two file tag first second differs differs_too = record {
+  no_more = λ n has. has_before first tag n (has_before second tag n has);
+  tagged = λ n has. has_still second tag n differs_too (has_still first tag n differs has);
+  same = λ told. same_file nowhere file;
+  apart = λ i here. absurd here;
+}
+
+pub pages_two : {sizes : Sizes} {role other : ℕ} {space mid after : SpaceState} (tag : ℕ) → Released role space mid → Released other mid after → tag ≢ role → tag ≢ other
+    → KeepsPages sizes space after nowhere tag
+pages_two tag first second differs differs_too = record { tagged = λ n has. has_still second tag n differs_too (has_still first tag n differs has); apart = λ i here. absurd here }
+
+-- ---- where a deep merge begins
+
+-- a page that has one tag has no other, and isn't free
+pub elsewhere : (space : SpaceState) (tag role : ℕ) (pages : List RunPage) → HasOneTag space → tag ≢ role → AreTagged space tag pages → (n : ℕ) → Contains (numbers_of pages) n → (HasRole space role n → ⊥) × (IsFree space n → ⊥)
+elsewhere space tag role pages once differs tagged n has = (λ also. differs (once n tag role (tagged n has) also), λ free. free.no_role tag (tagged n has))

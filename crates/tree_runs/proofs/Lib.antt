@@ -1,0 +1,15 @@
+mod CountLemmas
+mod ReleasedTags
+mod KeptMerges
+mod StayLemmas
+mod QuantumLemmas
+mod FindLemmas
+mod BesideLemmas
+mod QuantaLemmas
+mod InstallLemmas
+mod CommitLemmas
+mod SwapRegions
+mod CatalogLemmas
+mod SwapLemmas
+mod NextTrees
+mod Swapped

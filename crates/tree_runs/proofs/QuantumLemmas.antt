@@ -1,0 +1,263 @@
+-- A quantum of a merge: what the components, the other merge and the tree keep, and what the one that took it has.
+use Rattle.std.specs.Prelude.{◌≡◌, ◌≢◌, ℕ, ◌+◌, ◌/◌, ◌<◌, Bool, IsTrue, List, Option, Some, Result, Ok, Err, OnOk}
+use Rattle.std.proofs.Common.{◌∙◌, ap, sym, subst, arith}
+use Rattle.disk_trait.specs.Disk.{DiskState}
+use Rattle.disk_trait.specs.Moments.{IsTimed, LeavesOnly}
+use Rattle.blsm_model.specs.Sizes.{Sizes}
+use Rattle.record_delta.specs.Entries.{Entries}
+use Rattle.page_space.specs.Space.{SpaceState, IsSpace, role_size, role_count}
+use Rattle.page_file.specs.declared.file.Broken.{Broken}
+use Rattle.page_file.specs.declared.file.Broken.TheVariants.{Fault}
+use Rattle.page_file.specs.Component.{numbers_of, entries_of}
+use Rattle.merge_ends.specs.Output.{TakesPages}
+use Rattle.merge_ends.specs.Quantum.{IsQuantum, Works}
+use Rattle.snow_merge.specs.Pass as pass
+use Rattle.snow_merge.specs.Pass.{SnowState, IsPass}
+use Rattle.deep_merge.specs.Merge as deep
+use Rattle.deep_merge.specs.Merge.{DeepState, IsMerge}
+use Rattle.tree_file.specs.Tree.{Tree, HoldsTree}
+use Rattle.tree_file.specs.Places.{StandsOn}
+use Rattle.tree_file.proofs.StandLemmas.{stands_beside}
+use Rattle.tree_runs.specs.Runs.{RunsState, Tags, AreRuns, AreRunning, HasOneTag, IsFilled, PassRuns, DeepRuns, PassHasTag, DeepHasTag, made_by_pass, made_by_deep, pages_in_use, page_share}
+use Rattle.tree_runs.specs.Holding.{IsPassOver, IsDeepOver, StandOver, KeepsAllButPass, KeepsAllButDeep, PassTook, DeepTook}
+use Rattle.tree_runs.proofs.CountLemmas.{within_more, other_size}
+use Rattle.tree_runs.proofs.KeptMerges.{KeepsPushed, KeepsAhead, deep_runs_still, pass_runs_still, deep_over_still, pass_over_still}
+use Rattle.tree_runs.proofs.StayLemmas.{one_tag_after, tag_kept, keeps_other, pages_other, role_is_beside, not_live, run_filled}
+
+-- ---- results
+
+pub both_ok : {T E P Q R : Type 0} (result : Result T E) → OnOk result P → OnOk result Q → (P → Q → R) → OnOk result R
+both_ok (Ok value) p q so = so p q
+both_ok (Err error) p q so = tt
+
+-- ---- the tree
+
+-- which tags a run's tag isn't
+pub record IsRunTag (tags : Tags) (role : ℕ) : Type 0 where
+  pub below : role < role_count
+  pub c1 : tags.c1 ≡ role → ⊥
+  pub c1x : tags.c1x ≡ role → ⊥
+  pub c2 : tags.c2 ≡ role → ⊥
+
+pub pass_is_run : (runs : RunsState) → AreRuns runs → IsRunTag runs.tags runs.tags.pass
+pass_is_run runs are = record { below = are.tags.pass_below; c1 = are.tags.c1_pass; c1x = are.tags.c1x_pass; c2 = are.tags.c2_pass }
+
+pub deep_is_run : (runs : RunsState) → AreRuns runs → IsRunTag runs.tags runs.tags.deep
+deep_is_run runs are = record { below = are.tags.deep_below; c1 = are.tags.c1_deep; c1x = are.tags.c1x_deep; c2 = are.tags.c2_deep }
+
+-- A run that takes pages and writes them leaves the tree, in each image of each moment.
+pub tree_stays : (runs : RunsState) (tree : Tree) (a : Entries) (role most : ℕ) (after : SpaceState) (old new : DiskState) → AreRuns runs → IsRunTag runs.tags role → IsSpace after
+    → Works runs.sizes role most runs.space after old new → IsTrue old.is_honest → IsTimed new → StandOver runs tree a old
+    → StandsOn runs.sizes tree new × LeavesOnly old new (HoldsTree runs.sizes tree)
+tree_stays runs tree a role most after old new are tag shape works honest timed stand =
+    stands_beside runs.sizes tree works.effect
+    (role_is_beside runs.sizes tree after role old.bytes stand.stands.reads shape (works.takes.pages ∙ are.pages) tag.below
+    (not_live runs.tags tree after role (one_tag_after works.takes are.one_tag) tag.c1 tag.c1x tag.c2
+    (λ n has. tag_kept works.takes runs.tags.c1 tag.c1 n (stand.are_of.c1 n has))
+    (λ n has. tag_kept works.takes runs.tags.c1x tag.c1x n (stand.are_of.c1x n has))
+    (λ n has. tag_kept works.takes runs.tags.c2 tag.c2 n (stand.are_of.c2 n has))))
+    honest timed stand.stands
+
+-- ---- the pass
+
+abbrev pub passed : RunsState → SpaceState → SnowState → RunsState
+passed runs space snow = record runs { space = space; pass = Some snow }
+
+pub passed_is : {old new : RunsState} (space : SpaceState) (snow : SnowState) → KeepsAllButPass old new → new.space ≡ space → new.pass ≡ Some snow → new ≡ passed old space snow
+passed_is space snow keeps s p = λ j. record { sizes = keeps.sizes j; catalogue = keeps.catalogue j; space = s j; tags = keeps.tags j; pass = p j; deep = keeps.deep j }
+
+-- what its quantum ensures
+pub record PassQuantum (sizes : Sizes) (space after : SpaceState) (snow next : SnowState) (a : Entries) (result : Result ℕ Broken) (old new : DiskState) : Type 0 where
+  pub took : (pages : List ℕ) (c1 : Entries) → IsTrue old.is_honest → IsPass sizes old.bytes space snow pages a c1 → result ≢ Err Fault
+      → (n : ℕ) × (result ≡ Ok n) × IsPass sizes new.bytes after next pages a c1 × IsQuantum sizes.quantum snow.at next.at a c1 n
+  pub runs : OnOk result (pass.MayGoOn sizes new.is_honest new.bytes after next a)
+  pub size : OnOk result (role_size after snow.writer.role + snow.writer.component.pages ≡ role_size space snow.writer.role + next.writer.component.pages)
+  pub role : next.writer.role ≡ snow.writer.role
+  pub works : Works sizes snow.writer.role (sizes.quantum / 7 + 2) space after old new
+
+pass_role : (runs : RunsState) (snow : SnowState) → runs.pass ≡ Some snow → AreRuns runs → snow.writer.role ≡ runs.tags.pass
+pass_role runs snow is are = subst (λ (p : Option SnowState). PassHasTag runs.tags.pass p) is are.pass_tag
+
+pub pass_works : (runs : RunsState) (after : SpaceState) (snow next : SnowState) (a : Entries) (result : Result ℕ Broken) (old new : DiskState) → runs.pass ≡ Some snow → AreRuns runs
+    → PassQuantum runs.sizes runs.space after snow next a result old new → Works runs.sizes runs.tags.pass (runs.sizes.quantum / 7 + 2) runs.space after old new
+pass_works runs after snow next a result old new is are quantum =
+    subst (λ (r : ℕ). Works runs.sizes r (runs.sizes.quantum / 7 + 2) runs.space after old new) (pass_role runs snow is are) quantum.works
+
+pass_in_order : (runs : RunsState) (after : SpaceState) (snow next : SnowState) → runs.pass ≡ Some snow → AreRuns runs → IsSpace after
+    → TakesPages runs.tags.pass runs.space after → role_size after runs.tags.pass + snow.writer.component.pages ≡ role_size runs.space runs.tags.pass + next.writer.component.pages
+    → next.writer.role ≡ runs.tags.pass → IsFilled next.writer.component → AreRuns (passed runs after next)
+pass_in_order runs after snow next is are shape takes size role filled =
+    let made = ap (λ (p : Option SnowState). (made_by_pass p).pages) is in
+    record {
+      geometry = are.geometry;
+      pages = takes.pages ∙ are.pages;
+      shape = shape;
+      tags = are.tags;
+      one_tag = one_tag_after takes are.one_tag;
+      c1 = record { filled = are.c1.filled; size = other_size takes runs.tags.c1 are.tags.c1_pass ∙ are.c1.size };
+      c1x = record { filled = are.c1x.filled; size = other_size takes runs.tags.c1x are.tags.c1x_pass ∙ are.c1x.size };
+      c2 = record { filled = are.c2.filled; size = other_size takes runs.tags.c2 are.tags.c2_pass ∙ are.c2.size };
+      pass = record { filled = filled; size = omega (arith, size, are.pass.size, made) };
+      deep = record { filled = are.deep.filled; size = other_size takes runs.tags.deep (λ same. are.tags.pass_deep (sym same)) ∙ are.deep.size };
+      pass_tag = role;
+      deep_tag = are.deep_tag;
+      rests = are.rests;
+      within = within_more snow.writer.component.pages next.writer.component.pages (pages_in_use runs) (pages_in_use (passed runs after next)) (page_share runs.sizes) takes are.tags.pass_below size (omega (arith, made)) are.within;
+    }
+
+-- On any disk.
+pub pass_ran : KeepsPushed → (runs : RunsState) (after : SpaceState) (snow next : SnowState) (a : Entries) (result : Result ℕ Broken) (old new : DiskState) → runs.pass ≡ Some snow
+    → AreRunning old.is_honest old.bytes runs → IsSpace after → PassQuantum runs.sizes runs.space after snow next a result old new
+    → OnOk result (AreRunning new.is_honest new.bytes (passed runs after next))
+pass_ran pushed runs after snow next a result old new is running shape quantum =
+    both_ok result quantum.runs quantum.size
+    (λ goes size. record {
+      in_order = pass_in_order runs after snow next is running.in_order shape works.takes
+          (subst (λ (r : ℕ). role_size after r + snow.writer.component.pages ≡ role_size runs.space r + next.writer.component.pages) role size) (quantum.role ∙ role)
+          (run_filled runs.sizes new.is_honest new.bytes after next.writer goes.running.run.out goes.running.run.pushed);
+      pass = goes.running;
+      deep = deep_runs_still pushed runs.tags.deep runs.deep
+          (keeps_other runs.sizes runs.tags.deep (λ same. running.in_order.tags.pass_deep (sym same)) (one_tag_after works.takes running.in_order.one_tag) works.takes
+          (λ told. works.effect.bytes (subst IsTrue works.effect.goes_on.is_honest told)))
+          running.in_order.deep_tag (subst (λ (b : Bool). DeepRuns runs.sizes b old.bytes runs.space runs.deep) (sym works.effect.goes_on.is_honest) running.deep);
+    })
+  where
+    role : snow.writer.role ≡ runs.tags.pass
+    role = pass_role runs snow is running.in_order
+
+    works : Works runs.sizes runs.tags.pass (runs.sizes.quantum / 7 + 2) runs.space after old new
+    works = pass_works runs after snow next a result old new is running.in_order quantum
+
+-- On an honest disk.
+pub pass_stands : KeepsPushed → KeepsAhead → (runs : RunsState) (after : SpaceState) (snow next : SnowState) (a : Entries) (result : Result ℕ Broken) (old new : DiskState) → runs.pass ≡ Some snow → AreRuns runs → IsSpace after
+    → PassQuantum runs.sizes runs.space after snow next a result old new → IsTimed new → (tree : Tree) → IsTrue old.is_honest → StandOver runs tree a old → result ≢ Err Fault
+    → (n : ℕ) × (result ≡ Ok n) × StandOver (passed runs after next) tree a new × PassTook runs.sizes.quantum runs.pass (Some next) a (entries_of tree.c1) n
+pass_stands pushed ahead runs after snow next a result old new is are shape quantum timed tree honest stand other =
+    let over = subst (λ (p : Option SnowState). IsPassOver runs.sizes old.bytes runs.space p a tree.c1) is stand.are_of.pass in
+    let took = quantum.took (numbers_of tree.c1) (entries_of tree.c1) honest over other in
+    let stood = (tree_stays runs tree a runs.tags.pass (runs.sizes.quantum / 7 + 2) after old new are (pass_is_run runs are) shape works honest timed stand).0 in (
+      took.0,
+      took.1,
+      record {
+        stands = stood;
+        are_of = record {
+          holds = stood.reads;
+          catalogue = stand.are_of.catalogue;
+          c1 = λ n has. tag_kept works.takes runs.tags.c1 are.tags.c1_pass n (stand.are_of.c1 n has);
+          c1x = λ n has. tag_kept works.takes runs.tags.c1x are.tags.c1x_pass n (stand.are_of.c1x n has);
+          c2 = λ n has. tag_kept works.takes runs.tags.c2 are.tags.c2_pass n (stand.are_of.c2 n has);
+          pass = took.2;
+          deep = deep_over_still pushed ahead runs.deep tree.c1x tree.c2 (keeps_other runs.sizes runs.tags.deep (λ same. are.tags.pass_deep (sym same)) one_tag works.takes (λ told. works.effect.bytes honest))
+              (pages_other runs.sizes runs.tags.c1x are.tags.c1x_pass one_tag works.takes) (pages_other runs.sizes runs.tags.c2 are.tags.c2_pass one_tag works.takes) are.deep_tag stand.are_of.c1x stand.are_of.c2 stand.are_of.deep;
+        };
+      },
+      subst (λ (p : Option SnowState). PassTook runs.sizes.quantum p (Some next) a (entries_of tree.c1) took.0) (sym is) took.3,
+    )
+  where
+    works : Works runs.sizes runs.tags.pass (runs.sizes.quantum / 7 + 2) runs.space after old new
+    works = pass_works runs after snow next a result old new is are quantum
+
+    one_tag : HasOneTag after
+    one_tag = one_tag_after works.takes are.one_tag
+
+-- ---- the deep merge
+
+abbrev pub deepened : RunsState → SpaceState → DeepState → RunsState
+deepened runs space merge = record runs { space = space; deep = Some merge }
+
+pub deepened_is : {old new : RunsState} (space : SpaceState) (merge : DeepState) → KeepsAllButDeep old new → new.space ≡ space → new.deep ≡ Some merge → new ≡ deepened old space merge
+deepened_is space merge keeps s d = λ j. record { sizes = keeps.sizes j; catalogue = keeps.catalogue j; space = s j; tags = keeps.tags j; pass = keeps.pass j; deep = d j }
+
+-- what its quantum ensures
+pub record DeepQuantum (sizes : Sizes) (space after : SpaceState) (merge next : DeepState) (result : Result ℕ Broken) (old new : DiskState) : Type 0 where
+  pub took : (newer older : List ℕ) (c1x c2 : Entries) → IsTrue old.is_honest → IsMerge sizes old.bytes space merge newer older c1x c2 → result ≢ Err Fault
+      → (n : ℕ) × (result ≡ Ok n) × IsMerge sizes new.bytes after next newer older c1x c2 × IsQuantum sizes.quantum merge.at next.at c1x c2 n
+  pub runs : OnOk result (deep.MayGoOn sizes new.is_honest new.bytes after next)
+  pub size : OnOk result (role_size after merge.writer.role + merge.writer.component.pages ≡ role_size space merge.writer.role + next.writer.component.pages)
+  pub role : next.writer.role ≡ merge.writer.role
+  pub works : Works sizes merge.writer.role (sizes.quantum / 4 + 3) space after old new
+
+deep_role : (runs : RunsState) (merge : DeepState) → runs.deep ≡ Some merge → AreRuns runs → merge.writer.role ≡ runs.tags.deep
+deep_role runs merge is are = subst (λ (d : Option DeepState). DeepHasTag runs.tags.deep d) is are.deep_tag
+
+pub deep_works : (runs : RunsState) (after : SpaceState) (merge next : DeepState) (result : Result ℕ Broken) (old new : DiskState) → runs.deep ≡ Some merge → AreRuns runs
+    → DeepQuantum runs.sizes runs.space after merge next result old new → Works runs.sizes runs.tags.deep (runs.sizes.quantum / 4 + 3) runs.space after old new
+deep_works runs after merge next result old new is are quantum =
+    subst (λ (r : ℕ). Works runs.sizes r (runs.sizes.quantum / 4 + 3) runs.space after old new) (deep_role runs merge is are) quantum.works
+
+deep_in_order : (runs : RunsState) (after : SpaceState) (merge next : DeepState) → runs.deep ≡ Some merge → AreRuns runs → IsSpace after → TakesPages runs.tags.deep runs.space after
+    → role_size after runs.tags.deep + merge.writer.component.pages ≡ role_size runs.space runs.tags.deep + next.writer.component.pages
+    → next.writer.role ≡ runs.tags.deep → IsFilled next.writer.component → AreRuns (deepened runs after next)
+deep_in_order runs after merge next is are shape takes size role filled =
+    let made = ap (λ (d : Option DeepState). (made_by_deep d).pages) is in
+    record {
+      geometry = are.geometry;
+      pages = takes.pages ∙ are.pages;
+      shape = shape;
+      tags = are.tags;
+      one_tag = one_tag_after takes are.one_tag;
+      c1 = record { filled = are.c1.filled; size = other_size takes runs.tags.c1 are.tags.c1_deep ∙ are.c1.size };
+      c1x = record { filled = are.c1x.filled; size = other_size takes runs.tags.c1x are.tags.c1x_deep ∙ are.c1x.size };
+      c2 = record { filled = are.c2.filled; size = other_size takes runs.tags.c2 are.tags.c2_deep ∙ are.c2.size };
+      pass = record { filled = are.pass.filled; size = other_size takes runs.tags.pass are.tags.pass_deep ∙ are.pass.size };
+      deep = record { filled = filled; size = omega (arith, size, are.deep.size, made) };
+      pass_tag = are.pass_tag;
+      deep_tag = role;
+      rests = tt;
+      within = within_more merge.writer.component.pages next.writer.component.pages (pages_in_use runs) (pages_in_use (deepened runs after next)) (page_share runs.sizes) takes are.tags.deep_below size (omega (arith, made)) are.within;
+    }
+
+-- On any disk.
+pub deep_ran : KeepsPushed → (runs : RunsState) (after : SpaceState) (merge next : DeepState) (result : Result ℕ Broken) (old new : DiskState) → runs.deep ≡ Some merge
+    → AreRunning old.is_honest old.bytes runs → IsSpace after → DeepQuantum runs.sizes runs.space after merge next result old new
+    → OnOk result (AreRunning new.is_honest new.bytes (deepened runs after next))
+deep_ran pushed runs after merge next result old new is running shape quantum =
+    both_ok result quantum.runs quantum.size
+    (λ goes size. record {
+      in_order = deep_in_order runs after merge next is running.in_order shape works.takes
+          (subst (λ (r : ℕ). role_size after r + merge.writer.component.pages ≡ role_size runs.space r + next.writer.component.pages) role size) (quantum.role ∙ role)
+          (run_filled runs.sizes new.is_honest new.bytes after next.writer goes.running.run.out goes.running.run.pushed);
+      pass = pass_runs_still pushed runs.tags.pass runs.pass
+          (keeps_other runs.sizes runs.tags.pass running.in_order.tags.pass_deep (one_tag_after works.takes running.in_order.one_tag) works.takes
+          (λ told. works.effect.bytes (subst IsTrue works.effect.goes_on.is_honest told)))
+          running.in_order.pass_tag (subst (λ (b : Bool). PassRuns runs.sizes b old.bytes runs.space runs.pass) (sym works.effect.goes_on.is_honest) running.pass);
+      deep = goes.running;
+    })
+  where
+    role : merge.writer.role ≡ runs.tags.deep
+    role = deep_role runs merge is running.in_order
+
+    works : Works runs.sizes runs.tags.deep (runs.sizes.quantum / 4 + 3) runs.space after old new
+    works = deep_works runs after merge next result old new is running.in_order quantum
+
+-- On an honest disk.
+pub deep_stands : KeepsPushed → KeepsAhead → (runs : RunsState) (after : SpaceState) (merge next : DeepState) (result : Result ℕ Broken) (old new : DiskState) → runs.deep ≡ Some merge → AreRuns runs → IsSpace after
+    → DeepQuantum runs.sizes runs.space after merge next result old new → IsTimed new → (tree : Tree) (a : Entries) → IsTrue old.is_honest → StandOver runs tree a old → result ≢ Err Fault
+    → (n : ℕ) × (result ≡ Ok n) × StandOver (deepened runs after next) tree a new × DeepTook runs.sizes.quantum runs.deep (Some next) (entries_of tree.c1x) (entries_of tree.c2) n
+deep_stands pushed ahead runs after merge next result old new is are shape quantum timed tree a honest stand other =
+    let over = subst (λ (d : Option DeepState). IsDeepOver runs.sizes old.bytes runs.space d tree.c1x tree.c2) is stand.are_of.deep in
+    let took = quantum.took (numbers_of tree.c1x) (numbers_of tree.c2) (entries_of tree.c1x) (entries_of tree.c2) honest over other in
+    let stood = (tree_stays runs tree a runs.tags.deep (runs.sizes.quantum / 4 + 3) after old new are (deep_is_run runs are) shape works honest timed stand).0 in (
+      took.0,
+      took.1,
+      record {
+        stands = stood;
+        are_of = record {
+          holds = stood.reads;
+          catalogue = stand.are_of.catalogue;
+          c1 = λ n has. tag_kept works.takes runs.tags.c1 are.tags.c1_deep n (stand.are_of.c1 n has);
+          c1x = λ n has. tag_kept works.takes runs.tags.c1x are.tags.c1x_deep n (stand.are_of.c1x n has);
+          c2 = λ n has. tag_kept works.takes runs.tags.c2 are.tags.c2_deep n (stand.are_of.c2 n has);
+          pass = pass_over_still pushed ahead runs.pass a tree.c1 (keeps_other runs.sizes runs.tags.pass are.tags.pass_deep one_tag works.takes (λ told. works.effect.bytes honest))
+              (pages_other runs.sizes runs.tags.c1 are.tags.c1_deep one_tag works.takes) are.pass_tag stand.are_of.c1 stand.are_of.pass;
+          deep = took.2;
+        };
+      },
+      subst (λ (d : Option DeepState). DeepTook runs.sizes.quantum d (Some next) (entries_of tree.c1x) (entries_of tree.c2) took.0) (sym is) took.3,
+    )
+  where
+    works : Works runs.sizes runs.tags.deep (runs.sizes.quantum / 4 + 3) runs.space after old new
+    works = deep_works runs after merge next result old new is are quantum
+
+    one_tag : HasOneTag after
+    one_tag = one_tag_after works.takes are.one_tag

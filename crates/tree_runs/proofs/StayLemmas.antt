@@ -1,0 +1,144 @@
+-- What the components and the runs keep while one tag takes pages and only its pages are written.
+use Rattle.std.specs.Prelude.{◌≡◌, ◌⊎◌, ℕ, zero, suc, false, ◌<◌, Bool, IsTrue, List, [], ◌∷◌, ◌++◌, length, None}
+use Rattle.std.specs.List.{Contains}
+use Rattle.std.proofs.Common.{◌∙◌, ap, sym, subst, inl, inr, ⊎_elim, refl, arith}
+use Rattle.std.proofs.lemmas.Bool.{cases_eq, cases_lt, false≢true}
+use Rattle.std.proofs.lemmas.List.{get_or_past}
+use Rattle.std.proofs.lemmas.List.Elements.{Contains-append_left, Contains-append_cases}
+use Rattle.disk_trait.specs.Region.{AreApart, IsSameOutside}
+use Rattle.blsm_model.specs.Components.{empty_component}
+use Rattle.blsm_model.specs.Sizes.{Sizes}
+use Rattle.blsm_model.specs.Geometry.{page_count}
+use Rattle.record_delta.specs.Entries.{Entries, entries_weight}
+use Rattle.page_space.specs.Space.{SpaceState, IsSpace, IsFree, HasRole, pages_with, role_count}
+use Rattle.page_space.specs.PageSet.{Members, IsIn}
+use Rattle.page_file.specs.File.{page_region, pages_region}
+use Rattle.page_file.specs.Component.{RunPage, numbers_of, entries_of, first_number}
+use Rattle.page_file.specs.Page.{page_number}
+use Rattle.page_file.proofs.PageLemmas.{others_apart}
+use Rattle.run_writer.specs.Writer.{WriterState, Holds, HasPushed, role_region}
+use Rattle.run_writer.specs.Run.{Run, pages_of}
+use Rattle.merge_ends.specs.Output.{TakesPages}
+use Rattle.tree_file.specs.Tree.{Tree, HoldsTree, live_pages}
+use Rattle.tree_file.specs.Places.{IsBeside}
+use Rattle.tree_file.proofs.HoldsLemmas.{pages_are_beside, roles_of}
+use Rattle.tree_runs.proofs.KeptMerges.{KeepsRun, KeepsPages}
+use Rattle.tree_runs.specs.Runs.{Tags, HasOneTag, IsFilled}
+use Rattle.tree_runs.specs.Holding.{AreTagged}
+
+-- ---- tags
+
+other_tag : {old new : SpaceState} {role : ℕ} → TakesPages role old new → (other : ℕ) → (other ≡ role → ⊥) → (page : ℕ) → HasRole new other page → HasRole old other page
+other_tag takes other differs page has = subst (λ (set : Members). IsIn set page) (takes.others other differs) has
+
+pub tag_kept : {old new : SpaceState} {role : ℕ} → TakesPages role old new → (other : ℕ) → (other ≡ role → ⊥) → (page : ℕ) → HasRole old other page → HasRole new other page
+tag_kept takes other differs page has = subst (λ (set : Members). IsIn set page) (sym (takes.others other differs)) has
+
+-- The pages that a tag takes had none, so no page has two tags.
+pub one_tag_after : {old new : SpaceState} {role : ℕ} → TakesPages role old new → HasOneTag old → HasOneTag new
+one_tag_after {old} {new} {role} takes before page one other has also = by (cases_eq one role) (cases_eq other role)
+  where
+    first : (tag : ℕ) → (tag ≡ role → ⊥) → HasRole new tag page → HasRole new role page → tag ≡ role
+    first tag differs tagged taken =
+        ⊎_elim
+        (λ (was : HasRole old role page). before page tag role (other_tag takes tag differs page tagged) was)
+        (λ (free : IsFree old page). absurd (free.no_role tag (other_tag takes tag differs page tagged)))
+        (takes.only_free page taken)
+
+    by : (one ≡ role) ⊎ (one ≡ role → ⊥) → (other ≡ role) ⊎ (other ≡ role → ⊥) → one ≡ other
+    by (inl is) (inl same) = is ∙ sym same
+    by (inl is) (inr differs) = is ∙ sym (first other differs also (subst (λ (t : ℕ). HasRole new t page) is has))
+    by (inr differs) (inl is) = first one differs has (subst (λ (t : ℕ). HasRole new t page) is also) ∙ sym is
+    by (inr differs) (inr differs') = before page one other (other_tag takes one differs page has) (other_tag takes other differs' page also)
+
+-- ---- what isn't the tag's
+
+other_pages_apart : (sizes : Sizes) {space after : SpaceState} {role tag : ℕ} → (tag ≡ role → ⊥) → HasOneTag after → TakesPages role space after → AreApart (role_region sizes after role) (role_region sizes space tag)
+other_pages_apart sizes {space} {after} {role} {tag} differs one_tag takes i here there =
+    others_apart sizes here.0 there.0
+    (λ same. differs (one_tag there.0 tag role (tag_kept takes tag differs there.0 there.1) (subst (λ (n : ℕ). HasRole after role n) same here.1)))
+    i here.2 there.2
+
+-- a run of another tag stays, and so do the pages of another one
+pub keeps_other : (sizes : Sizes) {honest : Bool} {old new : List ℕ} {space after : SpaceState} {role : ℕ} (tag : ℕ) → (tag ≡ role → ⊥) → HasOneTag after → TakesPages role space after
+    → (IsTrue honest → IsSameOutside (role_region sizes after role) old new) → KeepsRun sizes honest (role_region sizes after role) old new space after tag
+keeps_other sizes tag differs one_tag takes same = record { no_more = other_tag takes tag differs; tagged = tag_kept takes tag differs; same = same; apart = other_pages_apart sizes differs one_tag takes }
+
+pub pages_other : (sizes : Sizes) {space after : SpaceState} {role : ℕ} (tag : ℕ) → (tag ≡ role → ⊥) → HasOneTag after → TakesPages role space after → KeepsPages sizes space after (role_region sizes after role) tag
+pages_other sizes tag differs one_tag takes = record { tagged = tag_kept takes tag differs; apart = other_pages_apart sizes differs one_tag takes }
+
+-- ---- the tree
+
+in_range : (set : Members) (page : ℕ) → IsIn set page → page < length set
+in_range set page is_in =
+    elim (cases_lt page (length set)) [
+      | inl below ↦ below
+      | inr past ↦ absurd (false≢true (sym (get_or_past set page false past) ∙ is_in))
+    ]
+
+here : (n : ℕ) (ns : List ℕ) → Contains (n ∷ ns) n
+here n ns = Contains-append_left (n ∷ []) ns n (0, omega arith, refl)
+
+only : (n m : ℕ) → Contains (n ∷ []) m → m ≡ n
+only n m (zero, within, is) = sym is
+only n m (suc k, within, is) = absurd (omega (arith, within))
+
+-- a tag's pages are the store's
+pub role_below : (space : SpaceState) (role n : ℕ) → IsSpace space → role < role_count → HasRole space role n → n < space.pages
+role_below space role n shape below has = omega (arith, in_range (pages_with space role) n has, shape.of_role role below)
+
+-- and beside the tree, none of whose pages has the tag
+pub role_is_beside : (sizes : Sizes) (tree : Tree) (space : SpaceState) (role : ℕ) (file : List ℕ) → HoldsTree sizes tree file → IsSpace space → space.pages ≡ page_count sizes → role < role_count
+    → ((n : ℕ) → HasRole space role n → Contains (live_pages tree) n → ⊥) → IsBeside sizes tree (role_region sizes space role)
+role_is_beside sizes tree space role file holds shape pages below others = record {
+  body = record {
+    apart = λ i here' there. (beside here'.0 here'.1).body.apart i (at here'.0 i here'.2) there;
+    inside = λ i here'. (beside here'.0 here'.1).body.inside i (at here'.0 i here'.2);
+  };
+  slots = λ version i here' there. (beside here'.0 here'.1).slots version i (at here'.0 i here'.2) there;
+}
+  where
+    at : (n i : ℕ) → page_region sizes n i → pages_region sizes (n ∷ []) i
+    at n i inside = (n, here n [], inside)
+
+    beside : (n : ℕ) → HasRole space role n → IsBeside sizes tree (pages_region sizes (n ∷ []))
+    beside n has =
+        pages_are_beside sizes tree (n ∷ []) (roles_of holds)
+        (λ m is live. others n has (subst (Contains (live_pages tree)) (only n m is) live))
+        (λ m is. omega (arith, role_below space role n shape below has, only n m is, pages))
+
+-- each page of the tree has one of three tags
+live_tagged : (tree : Tree) (n : ℕ) → Contains (live_pages tree) n → (Contains (numbers_of tree.c1) n ⊎ Contains (numbers_of tree.c1x) n) ⊎ Contains (numbers_of tree.c2) n
+live_tagged tree n live =
+    ⊎_elim
+    (λ (front : Contains (numbers_of tree.c1 ++ numbers_of tree.c1x) n). inl (Contains-append_cases (numbers_of tree.c1) (numbers_of tree.c1x) n front))
+    (λ last. inr last)
+    (Contains-append_cases (numbers_of tree.c1 ++ numbers_of tree.c1x) (numbers_of tree.c2) n live)
+
+-- so none has the tag of a run
+pub not_live : (tags : Tags) (tree : Tree) (space : SpaceState) (role : ℕ) → HasOneTag space → (tags.c1 ≡ role → ⊥) → (tags.c1x ≡ role → ⊥) → (tags.c2 ≡ role → ⊥)
+    → AreTagged space tags.c1 tree.c1 → AreTagged space tags.c1x tree.c1x → AreTagged space tags.c2 tree.c2
+    → (n : ℕ) → HasRole space role n → Contains (live_pages tree) n → ⊥
+not_live tags tree space role one_tag c1 c1x c2 in_c1 in_c1x in_c2 n has live =
+    ⊎_elim
+    (λ front. ⊎_elim (λ one. c1 (one_tag n tags.c1 role (in_c1 n one) has)) (λ two. c1x (one_tag n tags.c1x role (in_c1x n two) has)) front)
+    (λ three. c2 (one_tag n tags.c2 role (in_c2 n three) has))
+    (live_tagged tree n live)
+
+-- ---- a component that a run is
+
+-- a run without pages is the empty component
+empty_run : (writer : WriterState) (run : Run) → Holds writer run → writer.component.pages ≡ 0 → writer.component ≡ empty_component
+empty_run writer run held none = by (pages_of run) refl
+  where
+    by : (ps : List RunPage) → pages_of run ≡ ps → writer.component ≡ empty_component
+    by [] is =
+        let first : writer.component.first ≡ empty_component.first = sym held.first_is ∙ ap (λ (ps : List RunPage). page_number (first_number ps None)) is in
+        let entries : writer.component.entries ≡ 0 = sym held.entries_is ∙ ap (λ (ps : List RunPage). length (entries_of ps)) is in
+        let weight : writer.component.weight ≡ 0 = sym held.weight_is ∙ ap (λ (ps : List RunPage). entries_weight (entries_of ps)) is in
+        λ j. record { first = first j; pages = none j; entries = entries j; weight = weight j }
+    by (p ∷ ps) is = absurd (omega (arith, none, held.pages_is, ap (λ (ps : List RunPage). length ps) is))
+
+-- what is true of a run's numbers, on any disk
+pub run_filled : (sizes : Sizes) (honest : Bool) (file : List ℕ) (space : SpaceState) (writer : WriterState) (entries : Entries) → HasPushed sizes honest file space writer entries → IsFilled writer.component
+run_filled sizes honest file space writer entries has = record { none = empty_run writer has.run has.held; full = omega (arith, has.counted.floor) }

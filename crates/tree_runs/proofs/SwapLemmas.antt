@@ -1,0 +1,109 @@
+-- What a swap leaves of the tree that stood.
+use Rattle.std.specs.Prelude.{◌≡◌, ◌≢◌, ℕ, ◌<◌, Bool, IsTrue, List, [], ◌∷◌, Option, Some, None}
+use Rattle.std.specs.List.{Contains}
+use Rattle.std.proofs.Common.{inl, inr, sym, arith}
+use Rattle.std.proofs.lemmas.List.{append-nil}
+use Rattle.disk_trait.specs.Disk.{DiskState}
+use Rattle.disk_trait.specs.Effects.{Affects, affects_wider, affects_more}
+use Rattle.disk_trait.specs.Moments.{IsTimed, LeavesOnly, leaves_only_weaken}
+use Rattle.blsm_model.specs.declared.row.Value.{Value}
+use Rattle.blsm_model.specs.Lanes.{AreRoles}
+use Rattle.record_delta.specs.Records.{settle}
+use Rattle.record_delta.specs.Entries.{Entries, settled_base, settled_entries}
+use Rattle.page_space.specs.Space.{HasRole, role_count}
+use Rattle.page_file.specs.Component.{RunPage, entries_of}
+use Rattle.run_writer.specs.Writer.{role_region}
+use Rattle.tree_machine.specs.Layers.{AreBases}
+use Rattle.tree_file.specs.Tree.{Tree, HoldsTree, live_pages}
+use Rattle.tree_file.specs.Places.{StandsOn, Becomes}
+use Rattle.tree_file.proofs.HoldsLemmas.{roles_of}
+use Rattle.tree_file.proofs.StandLemmas.{stands_beside, becomes_behind}
+use Rattle.tree_runs.specs.Runs.{RunsState, AreRuns}
+use Rattle.tree_runs.specs.Holding.{AreOf, StandOver, LeavesSwapped, swap_region}
+use Rattle.tree_runs.specs.Holding.{commit_region}
+use Rattle.tree_runs.proofs.KeptMerges.{KeepsRun, KeepsPages}
+use Rattle.tree_runs.proofs.SwapRegions.{swap_apart, tagged_below, tagged_beside, not_live}
+
+-- ---- a tag that is no component's
+
+pub record IsRunTag (runs : RunsState) (tag : ℕ) : Type 0 where
+  pub below : tag < role_count
+  pub not_c1 : tag ≢ runs.tags.c1
+  pub not_c1x : tag ≢ runs.tags.c1x
+  pub not_c2 : tag ≢ runs.tags.c2
+
+pub deep_tag : (runs : RunsState) → AreRuns runs → IsRunTag runs runs.tags.deep
+deep_tag runs are = record { below = are.tags.deep_below; not_c1 = λ is. are.tags.c1_deep (sym is); not_c1x = λ is. are.tags.c1x_deep (sym is); not_c2 = λ is. are.tags.c2_deep (sym is) }
+
+pub pass_tag : (runs : RunsState) → AreRuns runs → IsRunTag runs runs.tags.pass
+pass_tag runs are = record { below = are.tags.pass_below; not_c1 = λ is. are.tags.c1_pass (sym is); not_c1x = λ is. are.tags.c1x_pass (sym is); not_c2 = λ is. are.tags.c2_pass (sym is) }
+
+-- the run's pages aren't the tree's
+pub run_others : {tree : Tree} {a : Entries} {file : List ℕ} (runs : RunsState) (tag : ℕ) → AreRuns runs → IsRunTag runs tag → AreOf runs tree a file
+    → (n : ℕ) → HasRole runs.space tag n → Contains (live_pages tree) n → ⊥
+run_others {tree} runs tag are is of = not_live runs.space tree tag are.one_tag of.c1 of.c1x of.c2 is.not_c1 is.not_c1x is.not_c2
+
+-- Once the run is finished the disk stands on the tree still.
+pub stands_finished : {tree : Tree} {a : Entries} {end most : ℕ} {old new : DiskState} (runs : RunsState) (tag : ℕ) → AreRuns runs → IsRunTag runs tag → StandOver runs tree a old
+    → Affects (role_region runs.sizes runs.space tag) end most old new → IsTrue old.is_honest → IsTimed new → StandsOn runs.sizes tree new × LeavesOnly old new (HoldsTree runs.sizes tree)
+stands_finished {tree} runs tag are is over effect honest timed =
+    stands_beside runs.sizes tree effect
+    (tagged_beside runs.sizes tree runs.space tag (roles_of over.are_of.holds) (run_others runs tag are is over.are_of)
+    (λ n has. omega (arith, tagged_below runs.space tag n are.shape is.below has, are.pages)))
+    honest timed over.stands
+
+-- ---- what is said of both
+
+-- the commit failed, or was done
+pub leaves_swapped : {a : Entries} {done committed : Bool} {old mid new : DiskState} (runs after : RunsState) (tree next : Tree) → LeavesOnly old mid (HoldsTree runs.sizes tree) → Becomes runs.sizes tree next committed mid new
+    → (IsTrue done → StandOver after next a new) → LeavesSwapped runs after tree next a done old new
+leaves_swapped runs after tree next first becomes stands = record { each = (becomes_behind first becomes).each; either = becomes.either; stands = stands }
+
+-- or there was none
+pub leaves_unswapped : {a : Entries} {done : Bool} {old new : DiskState} (runs after : RunsState) (tree next : Tree) → StandsOn runs.sizes tree new → LeavesOnly old new (HoldsTree runs.sizes tree) → (IsTrue done → ⊥)
+    → LeavesSwapped runs after tree next a done old new
+leaves_unswapped runs after tree next stands each not_done = record {
+  each = leaves_only_weaken (λ c holds. inl holds) each;
+  either = record { reads = inl stands.reads; each = λ c left. inl (stands.each c left) };
+  stands = λ well. absurd (not_done well);
+}
+
+-- one region for both
+pub swap_effect : {end : ℕ} {old mid new : DiskState} (runs : RunsState) (tag : ℕ) → IsTimed mid → mid.faults ≡ old.faults → Affects (role_region runs.sizes runs.space tag) end 1 old mid
+    → Affects (commit_region runs.sizes runs.catalogue) end 8 mid new → Affects (swap_region runs.sizes runs.space tag runs.catalogue) end 9 old new
+swap_effect {end} {old} {mid} {new} runs tag timed calm first second =
+    let wide : Affects (swap_region runs.sizes runs.space tag runs.catalogue) end 1 old mid = affects_wider (λ i here. inl here) (omega arith) (omega arith) first in
+    affects_more timed calm wide second (λ i here. inr here) (omega arith) (omega arith)
+
+-- what another run and its inputs keep
+pub swap_keeps : {end most : ℕ} {old new : DiskState} (honest : Bool) (runs : RunsState) (of_run tag : ℕ) → (IsTrue honest → IsTrue old.is_honest) → AreRuns runs → AreRoles runs.catalogue.lanes → of_run ≢ tag
+    → Affects (swap_region runs.sizes runs.space of_run runs.catalogue) end most old new
+    → KeepsRun runs.sizes honest (swap_region runs.sizes runs.space of_run runs.catalogue) old.bytes new.bytes runs.space runs.space tag
+swap_keeps honest runs of_run tag so are roles differs effect = record {
+  no_more = λ n has. has;
+  tagged = λ n has. has;
+  same = λ told. effect.bytes (so told);
+  apart = swap_apart runs.sizes runs.space of_run tag runs.catalogue are.geometry roles are.one_tag differs;
+}
+
+pub swap_pages : (runs : RunsState) (of_run tag : ℕ) → AreRuns runs → AreRoles runs.catalogue.lanes → of_run ≢ tag
+    → KeepsPages runs.sizes runs.space runs.space (swap_region runs.sizes runs.space of_run runs.catalogue) tag
+swap_pages runs of_run tag are roles differs = record { tagged = λ n has. has; apart = swap_apart runs.sizes runs.space of_run tag runs.catalogue are.geometry roles are.one_tag differs }
+
+-- ---- what is settled has bases only
+
+pub settled_bases : (es : Entries) → AreBases (settled_entries es)
+settled_bases [] = tt
+settled_bases (e ∷ es) = by (settle e.1) (settled_bases es)
+  where
+    by : (v : Option Value) → AreBases (settled_entries es) → AreBases (settled_base e.0 v (settled_entries es))
+    by None rest = rest
+    by (Some value) rest = (tt, rest)
+
+-- a list on one page, for a swap that wrote none
+pub one_page : Entries → List RunPage
+one_page entries = record { number = 0; entries = entries } ∷ []
+
+pub one_page_entries : (entries : Entries) → entries_of (one_page entries) ≡ entries
+unfolding one_page
+one_page_entries entries = append-nil entries

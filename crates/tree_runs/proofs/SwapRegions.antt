@@ -1,0 +1,87 @@
+-- Where a swap writes: not in the pages of other tags, and beside a tree that has none of them.
+use Rattle.std.specs.Prelude.{◌≡◌, ◌≢◌, ℕ, ◌+◌, ◌<◌, ◌≤◌, false, [], ◌∷◌, ◌++◌, zero, suc, length, refl}
+use Rattle.std.specs.List.{Contains}
+use Rattle.std.proofs.Common.{⊎_elim, inl, inr, sym, subst, ◌∙◌, arith}
+use Rattle.std.proofs.lemmas.Bool.{cases_lt, false≢true}
+use Rattle.std.proofs.lemmas.List.{get_or_past}
+use Rattle.std.proofs.lemmas.List.Elements.{Contains-append_cases}
+use Rattle.disk_trait.specs.Region.{AreApart, span}
+use Rattle.blsm_model.specs.Sizes.{Sizes, IsGeometry}
+use Rattle.blsm_model.specs.Geometry.{page_count}
+use Rattle.blsm_model.specs.Lanes.{AreRoles, spare_of, region_start}
+use Rattle.catalog_swap.specs.declared.catalog.Catalog.{Catalog}
+use Rattle.catalog_swap.specs.Slots.{slot_of, slot_length, other_slot}
+use Rattle.catalog_swap.specs.Swap.{spare_start}
+use Rattle.page_space.specs.Space.{SpaceState, HasRole, IsSpace, role_count, pages_with}
+use Rattle.page_file.specs.Component.{numbers_of}
+use Rattle.page_file.specs.File.{page_start, pages_region}
+use Rattle.page_file.proofs.PageLemmas.{others_apart, before_apart}
+use Rattle.run_writer.specs.Writer.{role_region}
+use Rattle.tree_file.specs.Tree.{Tree, live_pages}
+use Rattle.tree_file.specs.Places.{IsBeside}
+use Rattle.tree_file.proofs.HoldsLemmas.{pages_are_beside}
+use Rattle.tree_runs.specs.Runs.{HasOneTag}
+use Rattle.tree_runs.specs.Holding.{AreTagged, swap_region}
+
+-- ---- not in the pages of other tags
+
+lane_before : (sizes : Sizes) (lane : ℕ) → 1 ≤ sizes.half → lane < 3 → region_start sizes lane + 1 ≤ page_start sizes 0
+lane_before sizes zero some below = omega (arith, some)
+lane_before sizes (suc zero) some below = omega (arith, some)
+lane_before sizes (suc (suc zero)) some below = omega (arith, some)
+lane_before sizes (suc (suc (suc lane))) some below = absurd (omega (arith, below))
+
+pub swap_apart : (sizes : Sizes) (space : SpaceState) (of_run tag : ℕ) (now : Catalog) → IsGeometry sizes → AreRoles now.lanes → HasOneTag space → of_run ≢ tag
+    → AreApart (swap_region sizes space of_run now) (role_region sizes space tag)
+swap_apart sizes space of_run tag now geometry roles once differs i here there =
+    ⊎_elim
+    (λ (run : role_region sizes space of_run i).
+    others_apart sizes run.0 there.0 (λ same. differs (once there.0 of_run tag (subst (λ (n : ℕ). HasRole space of_run n) same run.1) there.1)) i run.2 there.2)
+    (⊎_elim
+    (⊎_elim
+    (λ (gate : span (other_slot now.version) 1 i). before_apart sizes there.0 (other_slot now.version) 1 (omega arith) i there.2 gate)
+    (λ (gate : span (spare_start sizes now) 1 i). let half = geometry.half.0 in before_apart sizes there.0 (spare_start sizes now) 1 (lane_before sizes (spare_of now.lanes) (omega (arith, half)) roles.spare_below) i there.2 gate))
+    (λ (slot : span (slot_of (now.version + 1)) slot_length i). before_apart sizes there.0 (slot_of (now.version + 1)) slot_length (omega arith) i there.2 slot))
+    here
+
+-- ---- beside a tree
+
+-- a page that has a tag is one of the store's
+pub tagged_below : (space : SpaceState) (tag n : ℕ) → IsSpace space → tag < role_count → HasRole space tag n → n < space.pages
+tagged_below space tag n shape below has =
+    elim (cases_lt n (length (pages_with space tag))) [
+      | inl within ↦ omega (arith, within, shape.of_role tag below)
+      | inr past ↦ absurd (false≢true (sym (get_or_past (pages_with space tag) n false past) ∙ has))
+    ]
+
+front_in : (n : ℕ) → Contains (n ∷ []) n
+front_in n = (0, omega arith, refl)
+
+only_in : (n m : ℕ) → Contains (n ∷ []) m → m ≡ n
+only_in n m (zero, within, is) = sym is
+only_in n m (suc k, within, is) = absurd (omega (arith, within))
+
+pub tagged_beside : (sizes : Sizes) (tree : Tree) (space : SpaceState) (tag : ℕ) → AreRoles tree.catalogue.lanes → ((n : ℕ) → HasRole space tag n → Contains (live_pages tree) n → ⊥)
+    → ((n : ℕ) → HasRole space tag n → n < page_count sizes) → IsBeside sizes tree (role_region sizes space tag)
+tagged_beside sizes tree space tag roles others below = record {
+  body = record {
+    apart = λ i here there. (one here.0 here.1).body.apart i (here.0, front_in here.0, here.2) there;
+    inside = λ i here. (one here.0 here.1).body.inside i (here.0, front_in here.0, here.2);
+  };
+  slots = λ version i here there. (one here.0 here.1).slots version i (here.0, front_in here.0, here.2) there;
+}
+  where
+    one : (n : ℕ) → HasRole space tag n → IsBeside sizes tree (pages_region sizes (n ∷ []))
+    one n has =
+        pages_are_beside sizes tree (n ∷ []) roles
+        (λ m in_one live. others n has (subst (λ (k : ℕ). Contains (live_pages tree) k) (only_in n m in_one) live))
+        (λ m in_one. subst (λ (k : ℕ). k < page_count sizes) (sym (only_in n m in_one)) (below n has))
+
+-- pages whose tag is none of the components' aren't the tree's
+pub not_live : {c1 c1x c2 : ℕ} (space : SpaceState) (tree : Tree) (tag : ℕ) → HasOneTag space → AreTagged space c1 tree.c1 → AreTagged space c1x tree.c1x → AreTagged space c2 tree.c2
+    → tag ≢ c1 → tag ≢ c1x → tag ≢ c2 → (n : ℕ) → HasRole space tag n → Contains (live_pages tree) n → ⊥
+not_live {c1} {c1x} {c2} space tree tag once in_c1 in_c1x in_c2 not_c1 not_c1x not_c2 n has live =
+    ⊎_elim
+    (λ front. ⊎_elim (λ first. not_c1 (once n tag c1 has (in_c1 n first))) (λ second. not_c1x (once n tag c1x has (in_c1x n second))) (Contains-append_cases (numbers_of tree.c1) (numbers_of tree.c1x) n front))
+    (λ third. not_c2 (once n tag c2 has (in_c2 n third)))
+    (Contains-append_cases (numbers_of tree.c1 ++ numbers_of tree.c1x) (numbers_of tree.c2) n live)

@@ -1,0 +1,136 @@
+-- What each swap makes of the tree that stood, from the end of its run to the commit.
+use Rattle.std.specs.Prelude.{◌≡◌, ℕ, ◌+◌, ◌<◌, ◌≤◌, ◌^◌, Bool, true, false, IsTrue, List, [], Option, Some, None, Result, is_ok, refl}
+use Rattle.std.specs.List.{Contains}
+use Rattle.std.proofs.Common.{sym, subst, ap, ◌∙◌, arith}
+use Rattle.std.proofs.lemmas.List.Sums.{count_by-le-length}
+use Rattle.disk_trait.specs.Disk.{DiskState}
+use Rattle.disk_trait.specs.Effects.{Affects}
+use Rattle.disk_trait.specs.Moments.{IsTimed, LeavesOnly}
+use Rattle.blsm_model.specs.declared.component.Component.{Component}
+use Rattle.blsm_model.specs.Sizes.{Sizes}
+use Rattle.blsm_model.specs.Geometry.{page_count}
+use Rattle.catalog_swap.specs.declared.catalog.Catalog.{Catalog}
+use Rattle.record_delta.specs.Entries.{Entries, folded_over, settled_entries}
+use Rattle.page_space.specs.Space.{role_count, role_size, pages_with}
+use Rattle.page_file.specs.Component.{RunPage, ReadsAs, HasList, entries_of, numbers_of}
+use Rattle.run_writer.specs.Writer.{role_region}
+use Rattle.snow_merge.specs.Pass.{SnowState}
+use Rattle.deep_merge.specs.Merge.{DeepState}
+use Rattle.tree_file.specs.Tree.{Tree, HoldsTree, live_pages}
+use Rattle.tree_file.specs.Places.{StandsOn, Becomes, ReadsNext, with_components, with_pass}
+use Rattle.tree_runs.specs.Runs.{RunsState, AreRuns, AreRunning, PassRuns, DeepRuns, made_by_pass, made_by_deep}
+use Rattle.tree_runs.specs.Holding.{AreTagged, AreOf, StandOver, IsDeepSwapped, IsPassSwapped, is_full, with_deep_run, with_pass_run, with_rotation}
+use Rattle.tree_runs.specs.Swaps.{MayFollow}
+use Rattle.tree_runs.proofs.SwapLemmas.{deep_tag, pass_tag, run_others, stands_finished, one_page, one_page_entries}
+use Rattle.tree_runs.proofs.CatalogLemmas.{Suits, empty_suits, run_suits}
+use Rattle.tree_runs.proofs.NextTrees.{IsReadyFor, ready_for_deep, ready_for_pass, ready_for_rotated_pass, ready_for_rotation}
+
+-- what the commit of the next catalogue ensures
+pub record Switches {T E : Type 0} (sizes : Sizes) (now next : Catalog) (result : Result T E) (old new : DiskState) : Type 0 where
+  pub becomes : (tree after : Tree) → IsTrue old.is_honest → tree.catalogue ≡ now → after.catalogue ≡ next → MayFollow sizes tree after → StandsOn sizes tree old → ReadsNext sizes after old.bytes
+      → Becomes sizes tree after (is_ok result) old new
+
+-- what is known when a run is finished
+pub record IsFinished (runs : RunsState) (tree : Tree) (a : Entries) (tag : ℕ) (old mid : DiskState) : Type 0 where
+  pub end : ℕ
+  pub running : AreRunning old.is_honest old.bytes runs
+  pub over : StandOver runs tree a old
+  pub few : runs.catalogue.version + 1 < 2 ^ 64
+  pub effect : Affects (role_region runs.sizes runs.space tag) end 1 old mid
+  pub honest : IsTrue old.is_honest
+  pub timed : IsTimed mid
+
+-- ---- a run suits
+
+few_pages_of_run : (runs : RunsState) (tag : ℕ) (component : Component) → AreRuns runs → tag < role_count → role_size runs.space tag ≡ component.pages → component.pages ≤ page_count runs.sizes
+few_pages_of_run runs tag component are below is =
+    omega (arith, is, count_by-le-length (λ (b : Bool). b) (pages_with runs.space tag), are.shape.of_role tag below, are.pages)
+
+deep_suits : {now : List ℕ} (honest : Bool) (file : List ℕ) (runs : RunsState) (made : Component) (run : List RunPage) → AreRuns runs → DeepRuns runs.sizes honest file runs.space runs.deep → made ≡ made_by_deep runs.deep
+    → ReadsAs runs.sizes made run now → Suits runs.sizes made
+deep_suits {now} honest file runs made run are running is reads = by runs.deep running is
+  where
+    few : made.pages ≤ page_count runs.sizes
+    few = few_pages_of_run runs runs.tags.deep made are are.tags.deep_below (are.deep.size ∙ sym (ap (λ (k : Component). k.pages) is))
+
+    by : (deep : Option DeepState) → DeepRuns runs.sizes honest file runs.space deep → made ≡ made_by_deep deep → Suits runs.sizes made
+    by None going is = subst (λ (k : Component). Suits runs.sizes k) (sym is) (empty_suits runs.sizes)
+    by (Some deep) going is = run_suits runs.sizes deep.writer made run now are.geometry going.run.pushed.counted is reads few
+
+pass_suits : {now : List ℕ} (honest : Bool) (file : List ℕ) (runs : RunsState) (made : Component) (run : List RunPage) → AreRuns runs → PassRuns runs.sizes honest file runs.space runs.pass → made ≡ made_by_pass runs.pass
+    → ReadsAs runs.sizes made run now → Suits runs.sizes made
+pass_suits {now} honest file runs made run are running is reads = by runs.pass running is
+  where
+    few : made.pages ≤ page_count runs.sizes
+    few = few_pages_of_run runs runs.tags.pass made are are.tags.pass_below (are.pass.size ∙ sym (ap (λ (k : Component). k.pages) is))
+
+    by : (pass : Option SnowState) → PassRuns runs.sizes honest file runs.space pass → made ≡ made_by_pass pass → Suits runs.sizes made
+    by None going is = subst (λ (k : Component). Suits runs.sizes k) (sym is) (empty_suits runs.sizes)
+    by (Some pass) going is = run_suits runs.sizes pass.writer made run now are.geometry going.run.pushed.counted is reads few
+
+-- ---- the swaps
+
+-- the version of the tree's catalogue
+few_of_tree : {a : Entries} {file : List ℕ} (runs : RunsState) (tree : Tree) → AreOf runs tree a file → runs.catalogue.version + 1 < 2 ^ 64 → tree.catalogue.version + 1 < 2 ^ 64
+few_of_tree runs tree of few = subst (λ (k : Catalog). k.version + 1 < 2 ^ 64) (sym of.catalogue) few
+
+pub deep_becomes : {T E : Type 0} {result : Result T E} {a : Entries} {old mid new : DiskState} (runs : RunsState) (tree : Tree) (made : Component) (next : Catalog)
+    → IsFinished runs tree a runs.tags.deep old mid → made ≡ made_by_deep runs.deep → (list : HasList runs.sizes made (settled_entries (folded_over (entries_of tree.c1x) (entries_of tree.c2))) mid.bytes)
+    → AreTagged runs.space runs.tags.deep list.pages → next ≡ with_deep_run made runs.catalogue → Switches runs.sizes runs.catalogue next result mid new
+    → LeavesOnly old mid (HoldsTree runs.sizes tree) × Becomes runs.sizes tree (with_components next tree.c1 [] list.pages tree) (is_ok result) mid new
+deep_becomes {T} {E} {result} {a} {old} {mid} {new} runs tree made next is made_is list tagged next_is switches =
+    let are = is.running.in_order in
+    let of = is.over.are_of in
+    let stands = stands_finished runs runs.tags.deep are (deep_tag runs are) is.over is.effect is.honest is.timed in
+    let suits = deep_suits {now = mid.bytes} old.is_honest old.bytes runs made list.pages are is.running.deep made_is list.reads in
+    let ready = ready_for_deep runs.sizes tree mid.bytes stands.0.reads (few_of_tree runs tree of is.few) next made (folded_over (entries_of tree.c1x) (entries_of tree.c2)) list suits
+    (subst (λ (k : Catalog). next ≡ with_deep_run made k) (sym of.catalogue) next_is) (λ n has. run_others runs runs.tags.deep are (deep_tag runs are) of n (tagged n has)) in
+    (stands.1, switches.becomes tree (with_components next tree.c1 [] list.pages tree) (subst IsTrue (sym is.effect.goes_on.is_honest) is.honest) of.catalogue refl ready.may stands.0 ready.reads)
+
+pub deep_swapped : {sizes : Sizes} {made : Component} {file : List ℕ} (tree : Tree) (next : Catalog) (list : HasList sizes made (settled_entries (folded_over (entries_of tree.c1x) (entries_of tree.c2))) file)
+    → IsDeepSwapped tree (with_components next tree.c1 [] list.pages tree)
+deep_swapped tree next list = record { c1 = refl; c1x = refl; c2 = list.entries_are; lane_a = refl; lane_b = refl }
+
+-- where the run's end wasn't written
+pub deep_unswapped : (tree : Tree) → IsDeepSwapped tree (with_components tree.catalogue tree.c1 [] (one_page (settled_entries (folded_over (entries_of tree.c1x) (entries_of tree.c2)))) tree)
+deep_unswapped tree = record { c1 = refl; c1x = refl; c2 = one_page_entries (settled_entries (folded_over (entries_of tree.c1x) (entries_of tree.c2))); lane_a = refl; lane_b = refl }
+
+-- the tree that a pass leaves
+abbrev pub pass_tree : Bool → Catalog → List RunPage → Tree → Tree
+pass_tree true next run tree = with_pass next [] run tree.c2 tree
+pass_tree false next run tree = with_pass next run tree.c1x tree.c2 tree
+
+ready_pass : {made : Component} {file : List ℕ} (sizes : Sizes) (tree : Tree) (next : Catalog) (out : Entries) (b : Bool) → is_full sizes made ≡ b → HoldsTree sizes tree file → tree.catalogue.version + 1 < 2 ^ 64
+    → (list : HasList sizes made out file) → Suits sizes made → next ≡ with_pass_run sizes made tree.catalogue
+    → ((n : ℕ) → Contains (numbers_of list.pages) n → Contains (live_pages tree) n → ⊥) → IsReadyFor sizes tree (pass_tree b next list.pages tree) file
+ready_pass {made} {file} sizes tree next out true full holds few list suits is others = ready_for_rotated_pass sizes tree file holds few next made out list suits is full others
+ready_pass {made} {file} sizes tree next out false full holds few list suits is others = ready_for_pass sizes tree file holds few next made out list suits is full others
+
+pub pass_becomes : {T E : Type 0} {result : Result T E} {a : Entries} {old mid new : DiskState} (runs : RunsState) (tree : Tree) (made : Component) (next : Catalog) (b : Bool) → is_full runs.sizes made ≡ b
+    → IsFinished runs tree a runs.tags.pass old mid → made ≡ made_by_pass runs.pass → (list : HasList runs.sizes made (folded_over a (entries_of tree.c1)) mid.bytes)
+    → AreTagged runs.space runs.tags.pass list.pages → next ≡ with_pass_run runs.sizes made runs.catalogue → Switches runs.sizes runs.catalogue next result mid new
+    → LeavesOnly old mid (HoldsTree runs.sizes tree) × Becomes runs.sizes tree (pass_tree b next list.pages tree) (is_ok result) mid new
+pass_becomes {T} {E} {result} {a} {old} {mid} {new} runs tree made next b full is made_is list tagged next_is switches =
+    let are = is.running.in_order in
+    let of = is.over.are_of in
+    let stands = stands_finished runs runs.tags.pass are (pass_tag runs are) is.over is.effect is.honest is.timed in
+    let suits = pass_suits {now = mid.bytes} old.is_honest old.bytes runs made list.pages are is.running.pass made_is list.reads in
+    let ready = ready_pass runs.sizes tree next (folded_over a (entries_of tree.c1)) b full stands.0.reads (few_of_tree runs tree of is.few) list suits
+    (subst (λ (k : Catalog). next ≡ with_pass_run runs.sizes made k) (sym of.catalogue) next_is) (λ n has. run_others runs runs.tags.pass are (pass_tag runs are) of n (tagged n has)) in
+    (stands.1, switches.becomes tree (pass_tree b next list.pages tree) (subst IsTrue (sym is.effect.goes_on.is_honest) is.honest) of.catalogue (catalogue_of b) ready.may stands.0 ready.reads)
+  where
+    catalogue_of : (b : Bool) → (pass_tree b next list.pages tree).catalogue ≡ next
+    catalogue_of true = refl
+    catalogue_of false = refl
+
+pub pass_swapped : (b : Bool) (a : Entries) (tree : Tree) (next : Catalog) (run : List RunPage) → entries_of run ≡ folded_over a (entries_of tree.c1) → IsPassSwapped b a tree (pass_tree b next run tree)
+pass_swapped true a tree next run is = record { c1 = refl; c1x = is; c2 = refl; lane_a = refl; lane_b = refl }
+pass_swapped false a tree next run is = record { c1 = is; c1x = refl; c2 = refl; lane_a = refl; lane_b = refl }
+
+pub rotation_becomes : {T E : Type 0} {result : Result T E} {a : Entries} {old new : DiskState} (runs : RunsState) (tree : Tree) (next : Catalog) → StandOver runs tree a old → IsTrue old.is_honest
+    → runs.catalogue.version + 1 < 2 ^ 64 → next ≡ with_rotation runs.catalogue → Switches runs.sizes runs.catalogue next result old new
+    → Becomes runs.sizes tree (with_components next [] tree.c1 tree.c2 tree) (is_ok result) old new
+rotation_becomes {T} {E} {result} {a} {old} {new} runs tree next over honest few next_is switches =
+    let of = over.are_of in
+    let ready = ready_for_rotation runs.sizes tree old.bytes over.stands.reads (few_of_tree runs tree of few) next (subst (λ (k : Catalog). next ≡ with_rotation k) (sym of.catalogue) next_is) in
+    switches.becomes tree (with_components next [] tree.c1 tree.c2 tree) honest of.catalogue refl ready.may over.stands ready.reads

@@ -1,0 +1,20 @@
+use Rattle.tree_runs.proofs.BesideLemmas.{head_is_beside, runs_stay, lists_stay, entries_join, entries_wait, left_grows}
+use Rattle.tree_runs.proofs.laws.others_may_write.Goals as goal
+
+pub returns-clause-head : goal.returns-clause-head
+returns-clause-head c = head_is_beside
+
+pub returns-clause-running : goal.returns-clause-running
+returns-clause-running c = runs_stay c.where_a_run_writes.ensures.pushed
+
+pub returns-clause-lists : goal.returns-clause-lists
+returns-clause-lists c = lists_stay c.where_a_run_writes.ensures.pushed c.what_is_ahead.ensures
+
+pub returns-clause-joins : goal.returns-clause-joins
+returns-clause-joins c = entries_join c.where_a_run_writes.ensures.pushed c.what_is_ahead.ensures
+
+pub returns-clause-waits : goal.returns-clause-waits
+returns-clause-waits c = entries_wait c.where_a_run_writes.ensures.pushed c.what_is_ahead.ensures
+
+pub returns-clause-left : goal.returns-clause-left
+returns-clause-left c = left_grows

@@ -1,0 +1,60 @@
+use Rattle.std.proofs.Common.{rules, ◌≡◌, ◌/◌, ◌+◌, Some, OnOk, sym, subst, refl}
+use Rattle.blsm_model.specs.Sizes.{Sizes}
+use Rattle.page_space.specs.Space.{SpaceState}
+use Rattle.tree_runs.specs.Runs.{RunsState, AreRunning}
+use Rattle.tree_runs.specs.Holding.{StandOver}
+use Rattle.tree_runs.proofs.QuantumLemmas.{PassQuantum, passed_is, pass_ran, pass_stands, pass_works, tree_stays, pass_is_run}
+use Rattle.tree_runs.proofs.runs.Runs.pass_quantum.Goals as goal
+
+pub returns-clause-others : goal.returns-clause-others
+returns-clause-others g c = search rules
+
+quantum_is : (g : _) (c : goal.After-pages-pages g) → PassQuantum c.args.self.now.sizes c.args.self.now.space c.quantum-taken.new.space c.in-Some.snow c.quantum-taken.new.self c.args.a.now.entries
+    c.quantum-taken.result (g.D.Disk.state c.args.disk.now) (g.D.Disk.state c.quantum-taken.new.disk)
+quantum_is g c =
+    let sizes : c.self.inside.geometry ≡ c.args.self.now.sizes = search rules in
+    let space : c.self.inside.space ≡ c.args.self.now.space = search rules in
+    subst (λ (s : Sizes). PassQuantum s c.args.self.now.space c.quantum-taken.new.space c.in-Some.snow c.quantum-taken.new.self c.args.a.now.entries c.quantum-taken.result
+    (g.D.Disk.state c.args.disk.now) (g.D.Disk.state c.quantum-taken.new.disk)) sizes
+    (subst (λ (s : SpaceState). PassQuantum c.self.inside.geometry s c.quantum-taken.new.space c.in-Some.snow c.quantum-taken.new.self c.args.a.now.entries c.quantum-taken.result
+    (g.D.Disk.state c.args.disk.now) (g.D.Disk.state c.quantum-taken.new.disk)) space
+    (record {
+      took = c.quantum-taken.ensures.pass;
+      runs = c.quantum-taken.ensures.runs;
+      size = c.quantum-taken.ensures.size;
+      role = c.quantum-taken.ensures.role;
+      works = c.quantum-taken.ensures.works;
+    }))
+
+pass_is : (g : _) (c : goal.After-pages-pages g) → c.args.self.now.pass ≡ Some c.in-Some.snow
+pass_is g c = search rules
+
+pub returns-clause-stands : goal.returns-clause-stands
+returns-clause-stands g c = λ tree honest stand.
+    let runs = c.args.self.now in
+    let are = c.requires.running.in_order in
+    let old = g.D.Disk.state c.args.disk.now in
+    let new = g.D.Disk.state c.quantum-taken.new.disk in
+    let works = pass_works runs c.quantum-taken.new.space c.in-Some.snow c.quantum-taken.new.self c.args.a.now.entries c.quantum-taken.result old new (pass_is g c) are (quantum_is g c) in
+    tree_stays runs tree c.args.a.now.entries runs.tags.pass (runs.sizes.quantum / 7 + 2) c.quantum-taken.new.space old new are (pass_is_run runs are) c.pages-pages.ensures.shape works
+    honest (g.met.D.Disk.timed c.quantum-taken.new.disk) stand
+
+pub returns-clause-lists : goal.returns-clause-lists
+returns-clause-lists g c = λ tree honest stand other.
+    let runs = c.args.self.now in
+    let old = g.D.Disk.state c.args.disk.now in
+    let new = g.D.Disk.state c.quantum-taken.new.disk in
+    let is_new = passed_is c.quantum-taken.new.space c.quantum-taken.new.self (returns-clause-others g c) refl refl in
+    let stands = pass_stands c.where_a_run_writes.ensures.pushed c.what_is_ahead.ensures runs c.quantum-taken.new.space c.in-Some.snow c.quantum-taken.new.self c.args.a.now.entries
+    c.quantum-taken.result old new (pass_is g c) c.requires.running.in_order c.pages-pages.ensures.shape (quantum_is g c) (g.met.D.Disk.timed c.quantum-taken.new.disk) tree honest stand other in
+    (stands.0, stands.1, subst (λ (r : RunsState). StandOver r tree c.args.a.now.entries new) (sym is_new) stands.2, stands.3)
+
+pub returns-clause-running : goal.returns-clause-running
+returns-clause-running g c =
+    let runs = c.args.self.now in
+    let old = g.D.Disk.state c.args.disk.now in
+    let new = g.D.Disk.state c.quantum-taken.new.disk in
+    let is_new = passed_is c.quantum-taken.new.space c.quantum-taken.new.self (returns-clause-others g c) refl refl in
+    subst (λ (r : RunsState). OnOk c.quantum-taken.result (AreRunning new.is_honest new.bytes r)) (sym is_new)
+    (pass_ran c.where_a_run_writes.ensures.pushed runs c.quantum-taken.new.space c.in-Some.snow c.quantum-taken.new.self c.args.a.now.entries
+    c.quantum-taken.result old new (pass_is g c) c.requires.running c.pages-pages.ensures.shape (quantum_is g c))

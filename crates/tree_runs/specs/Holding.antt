@@ -1,0 +1,194 @@
+-- What the components and merges of a tree are on an honest disk, whose file holds the tree.
+use Rattle.std.specs.Prelude.{◌≡◌, ◌⊎◌, ⊤, ℕ, Bool, IsTrue, ◌+◌, List, [], ◌∷◌, Option, Some, None, if◌then◌else◌, nat_le}
+use Rattle.std.specs.List.{Contains}
+use Rattle.disk_trait.specs.Region.{Region, span}
+use Rattle.disk_trait.specs.Disk.{DiskState}
+use Rattle.disk_trait.specs.Moments.{LeavesOnly}
+use Rattle.blsm_model.specs.Sizes.{Sizes}
+use Rattle.blsm_model.specs.Components.{empty_component}
+use Rattle.blsm_model.specs.Geometry.{c1_mark}
+use Rattle.blsm_model.specs.Lanes.{a_of, b_of, spare_of}
+use Rattle.blsm_model.specs.declared.key.Key.{Key}
+use Rattle.blsm_model.specs.declared.component.Component.{Component}
+use Rattle.catalog_swap.specs.declared.catalog.Catalog.{Catalog}
+use Rattle.record_delta.specs.Entries.{Entries, folded_over, settled_entries}
+use Rattle.page_space.specs.Space.{SpaceState, HasRole}
+use Rattle.page_file.specs.Component.{RunPage, entries_of, numbers_of}
+use Rattle.run_writer.specs.Writer.{role_region}
+use Rattle.catalog_swap.specs.Slots.{slot_of, slot_length}
+use Rattle.catalog_swap.specs.Swap.{prepared}
+use Rattle.merge_ends.specs.Quantum.{IsQuantum}
+use Rattle.snow_merge.specs.Pass.{SnowState, IsPass, Takes}
+use Rattle.deep_merge.specs.Merge as deep
+use Rattle.deep_merge.specs.Merge.{DeepState, IsMerge, started as deep_started}
+use Rattle.tree_file.specs.Tree.{Tree, HoldsTree}
+use Rattle.tree_file.specs.Places.{StandsOn, HoldsEither, StandsOnEither}
+use Rattle.tree_runs.specs.Runs.{RunsState, Tags, made_by_pass, made_by_deep}
+
+-- each of these pages has the tag
+abbrev pub AreTagged : SpaceState → ℕ → List RunPage → Type 0
+AreTagged space tag pages = (n : ℕ) → Contains (numbers_of pages) n → HasRole space tag n
+
+-- the pass runs over table A and C1
+abbrev pub IsPassOver : Sizes → List ℕ → SpaceState → Option SnowState → Entries → List RunPage → Type 0
+IsPassOver sizes file space None a c1 = ⊤
+IsPassOver sizes file space (Some snow) a c1 = IsPass sizes file space snow (numbers_of c1) a (entries_of c1)
+
+-- the deep merge runs over C1' and C2; where none runs C1' is empty
+abbrev pub IsDeepOver : Sizes → List ℕ → SpaceState → Option DeepState → (c1x c2 : List RunPage) → Type 0
+IsDeepOver sizes file space None c1x c2 = c1x ≡ []
+IsDeepOver sizes file space (Some merge) c1x c2 = IsMerge sizes file space merge (numbers_of c1x) (numbers_of c2) (entries_of c1x) (entries_of c2)
+
+-- In this file the tree has this catalogue, its components' pages have their tags, and the merges run over its lists and this table A.
+pub record AreOf (runs : RunsState) (tree : Tree) (a : Entries) (file : List ℕ) : Type 0 where
+  pub holds : HoldsTree runs.sizes tree file
+  pub catalogue : tree.catalogue ≡ runs.catalogue
+  pub c1 : AreTagged runs.space runs.tags.c1 tree.c1
+  pub c1x : AreTagged runs.space runs.tags.c1x tree.c1x
+  pub c2 : AreTagged runs.space runs.tags.c2 tree.c2
+  pub pass : IsPassOver runs.sizes file runs.space runs.pass a tree.c1
+  pub deep : IsDeepOver runs.sizes file runs.space runs.deep tree.c1x tree.c2
+
+-- The disk stands on the tree, and these are of it.
+pub record StandOver (runs : RunsState) (tree : Tree) (a : Entries) (d : DiskState) : Type 0 where
+  pub stands : StandsOn runs.sizes tree d
+  pub are_of : AreOf runs tree a d.bytes
+
+-- ---- the swaps, as the catalogue has them
+
+-- the next catalogue where the deep merge's run becomes C2
+abbrev pub with_deep_run : Component → Catalog → Catalog
+with_deep_run made now = record { version = now.version + 1; lanes = now.lanes; c1 = now.c1; c1x = empty_component; c2 = made }
+
+-- C1 becomes C1'
+abbrev pub with_rotation : Catalog → Catalog
+with_rotation now = record { version = now.version + 1; lanes = now.lanes; c1 = empty_component; c1x = now.c1; c2 = now.c2 }
+
+-- the pass's run becomes C1, or C1' where it is as heavy as C1's mark; the lanes turn
+abbrev pub is_full : Sizes → Component → Bool
+is_full sizes made = nat_le (c1_mark sizes) made.weight
+
+abbrev pub with_pass_run : Sizes → Component → Catalog → Catalog
+with_pass_run sizes made now = record {
+  version = now.version + 1;
+  lanes = b_of now.lanes ∷ spare_of now.lanes ∷ a_of now.lanes ∷ [];
+  c1 = if is_full sizes made then empty_component else made;
+  c1x = if is_full sizes made then made else now.c1x;
+  c2 = now.c2;
+}
+
+-- ---- the swaps, as the lists have them
+
+-- The deep merge's output is C2, and C1' is empty. All else stays.
+pub record IsDeepSwapped (old new : Tree) : Type 0 where
+  pub c1 : new.c1 ≡ old.c1
+  pub c1x : new.c1x ≡ []
+  pub c2 : entries_of new.c2 ≡ settled_entries (folded_over (entries_of old.c1x) (entries_of old.c2))
+  pub lane_a : new.lane_a ≡ old.lane_a
+  pub lane_b : new.lane_b ≡ old.lane_b
+
+-- C1 is C1', and C1 is empty
+pub record IsRotated (old new : Tree) : Type 0 where
+  pub c1 : new.c1 ≡ []
+  pub c1x : new.c1x ≡ old.c1
+  pub c2 : new.c2 ≡ old.c2
+  pub lane_a : new.lane_a ≡ old.lane_a
+  pub lane_b : new.lane_b ≡ old.lane_b
+
+-- The pass's output, table A folded over C1, is C1; or it is C1', and C1 is empty. Lane B is lane A, and lane B is empty.
+pub record IsPassSwapped (rotates : Bool) (a : Entries) (old new : Tree) : Type 0 where
+  pub c1 : entries_of new.c1 ≡ (if rotates then [] else folded_over a (entries_of old.c1))
+  pub c1x : entries_of new.c1x ≡ (if rotates then folded_over a (entries_of old.c1) else entries_of old.c1x)
+  pub c2 : new.c2 ≡ old.c2
+  pub lane_a : new.lane_a ≡ old.lane_b
+  pub lane_b : new.lane_b ≡ []
+
+-- ---- where they write
+
+-- a commit writes the gates that a preparation closes, and the slot of the next catalogue
+abbrev pub commit_region : Sizes → Catalog → Region
+commit_region sizes now = λ i. prepared sizes now i ⊎ span (slot_of (now.version + 1)) slot_length i
+
+-- a swap writes its run's last page, and commits
+abbrev pub swap_region : Sizes → SpaceState → ℕ → Catalog → Region
+swap_region sizes space tag now = λ i. role_region sizes space tag i ⊎ commit_region sizes now i
+
+-- ---- what a call leaves
+
+-- A quantum of the pass changes the pass alone, and the pages that it takes. So the other merge and the catalogue are as they were.
+pub record KeepsAllButPass (old new : RunsState) : Type 0 where
+  pub sizes : new.sizes ≡ old.sizes
+  pub catalogue : new.catalogue ≡ old.catalogue
+  pub tags : new.tags ≡ old.tags
+  pub deep : new.deep ≡ old.deep
+  pub pins : new.space.pins ≡ old.space.pins
+
+pub record KeepsAllButDeep (old new : RunsState) : Type 0 where
+  pub sizes : new.sizes ≡ old.sizes
+  pub catalogue : new.catalogue ≡ old.catalogue
+  pub tags : new.tags ≡ old.tags
+  pub pass : new.pass ≡ old.pass
+  pub pins : new.space.pins ≡ old.space.pins
+
+-- a quantum of the pass took so much, by the numbers, or as the lists have it
+abbrev pub PassTakes : Option SnowState → Option SnowState → Entries → ℕ → Type 0
+PassTakes (Some old) (Some new) a n = Takes old new a n
+PassTakes old new a n = ⊥
+
+abbrev pub PassTook : ℕ → Option SnowState → Option SnowState → (a c1 : Entries) → ℕ → Type 0
+PassTook least (Some old) (Some new) a c1 n = IsQuantum least old.at new.at a c1 n
+PassTook least old new a c1 n = ⊥
+
+abbrev pub DeepTakes : Option DeepState → Option DeepState → ℕ → Type 0
+DeepTakes (Some old) (Some new) n = deep.Takes old new n
+DeepTakes old new n = ⊥
+
+abbrev pub DeepTook : ℕ → Option DeepState → Option DeepState → (c1x c2 : Entries) → ℕ → Type 0
+DeepTook least (Some old) (Some new) c1x c2 n = IsQuantum least old.at new.at c1x c2 n
+DeepTook least old new c1x c2 n = ⊥
+
+-- how far the merges have come: the greatest keys that they took
+abbrev pub cursor_of_pass : Option SnowState → Option Key
+cursor_of_pass None = None
+cursor_of_pass (Some snow) = snow.at
+
+abbrev pub cursor_of_deep : Option DeepState → Option Key
+cursor_of_deep None = None
+cursor_of_deep (Some merge) = merge.at
+
+-- the deep merge's run is C2 now: its tag is C2's, and the tag of the old C2 is free for the next run
+pub record SwapsDeep (old new : RunsState) : Type 0 where
+  pub sizes : new.sizes ≡ old.sizes
+  pub catalogue : new.catalogue ≡ with_deep_run (made_by_deep old.deep) old.catalogue
+  pub tags : new.tags ≡ record old.tags { c2 = old.tags.deep; deep = old.tags.c2 }
+  pub pass : new.pass ≡ old.pass
+  pub deep : new.deep ≡ None
+  pub pins : new.space.pins ≡ old.space.pins
+
+-- C1 is C1' now, and a deep merge begins
+pub record Rotates (old new : RunsState) : Type 0 where
+  pub sizes : new.sizes ≡ old.sizes
+  pub catalogue : new.catalogue ≡ with_rotation old.catalogue
+  pub tags : new.tags ≡ record old.tags { c1 = old.tags.c1x; c1x = old.tags.c1 }
+  pub pass : new.pass ≡ old.pass
+  pub deep : new.deep ≡ Some (deep_started old.tags.deep old.catalogue.c1 old.catalogue.c2)
+  pub pins : new.space.pins ≡ old.space.pins
+
+-- the pass's run is C1 now, or C1' with a deep merge that begins
+abbrev pub tags_after_pass : Bool → Tags → Tags
+tags_after_pass rotates tags =
+    if rotates then record tags { c1 = tags.c1x; c1x = tags.pass; pass = tags.c1 } else record tags { c1 = tags.pass; pass = tags.c1 }
+
+pub record SwapsPass (old new : RunsState) : Type 0 where
+  pub sizes : new.sizes ≡ old.sizes
+  pub catalogue : new.catalogue ≡ with_pass_run old.sizes (made_by_pass old.pass) old.catalogue
+  pub tags : new.tags ≡ tags_after_pass (is_full old.sizes (made_by_pass old.pass)) old.tags
+  pub pass : new.pass ≡ None
+  pub deep : new.deep ≡ (if is_full old.sizes (made_by_pass old.pass) then Some (deep_started old.tags.deep (made_by_pass old.pass) old.catalogue.c2) else old.deep)
+  pub pins : new.space.pins ≡ old.space.pins
+
+-- what a swap leaves of the disk: the old tree or the next, in each image of each moment; once it is done the disk stands on the next
+pub record LeavesSwapped (old new : RunsState) (one next : Tree) (a : Entries) (done : Bool) (before after : DiskState) : Type 0 where
+  pub each : LeavesOnly before after (HoldsEither old.sizes one next)
+  pub either : StandsOnEither old.sizes one next after
+  pub stands : IsTrue done → StandOver new next a after

@@ -1,0 +1,68 @@
+-- What the components and the runs keep while others write: the log's lanes, the slots of the catalogue.
+use Rattle.std.specs.Prelude.{◌≡◌, ℕ, ◌+◌, ◌<◌, ◌≤◌, Bool, true, IsTrue, List, Option, Some}
+use Rattle.disk_trait.specs.Region.{Region, span, outside, IsWithin, IsSameOutside}
+use Rattle.blsm_model.specs.declared.key.Key.{Key}
+use Rattle.blsm_model.specs.Sizes.{Sizes}
+use Rattle.record_delta.specs.declared.record.Rec.{Rec}
+use Rattle.record_delta.specs.Entries.{Entries, AreSorted, entries_weight, is_above, with_record}
+use Rattle.page_space.specs.Space.{SpaceState}
+use Rattle.page_file.specs.File.{page_start}
+use Rattle.run_writer.specs.Writer.{role_region}
+use Rattle.merge_ends.specs.Quantum.{IsQuantum}
+use Rattle.snow_merge.specs.Pass.{SnowState}
+use Rattle.tree_machine.specs.Merges.{Merge, cursor_after, quantum_of}
+use Rattle.tree_file.specs.Tree.{Tree, HoldsTree}
+use Rattle.tree_file.specs.Places.{appended_a, appended_b}
+use Rattle.tree_runs.specs.Runs.{RunsState, AreRunning, left_for_pass}
+use Rattle.tree_runs.specs.Holding.{AreOf, cursor_of_pass}
+
+-- the pages that have a tag
+abbrev pub used_region : Sizes → SpaceState → Region
+used_region sizes space = λ i. (tag : ℕ) × role_region sizes space tag i
+
+-- no byte of them has changed
+abbrev pub IsBesideRuns : RunsState → List ℕ → List ℕ → Type 0
+IsBesideRuns runs old new = IsSameOutside (outside (used_region runs.sizes runs.space)) old new
+
+-- what stands before the pages, as the slots and the lanes do, is beside them
+abbrev pub HeadIsBeside : Type 0
+HeadIsBeside = (sizes : Sizes) (space : SpaceState) (at n : ℕ) → at + n ≤ page_start sizes 0 → IsWithin (span at n) (outside (used_region sizes space))
+
+-- the merges go on
+abbrev pub RunsStay : Type 0
+RunsStay = (runs : RunsState) (honest : Bool) (old new : List ℕ) → (IsTrue honest → IsBesideRuns runs old new) → AreRunning honest old runs → AreRunning honest new runs
+
+-- over the same lists, where the file still holds the tree
+abbrev pub ListsStay : Type 0
+ListsStay = (runs : RunsState) (tree : Tree) (a : Entries) (old new : List ℕ) → IsBesideRuns runs old new → AreOf runs tree a old → HoldsTree runs.sizes tree new → AreOf runs tree a new
+
+-- An entry that comes into lane A joins the table that the pass takes from, ahead of its cursor.
+abbrev pub EntriesJoin : Type 0
+EntriesJoin =
+    (runs : RunsState) (tree : Tree) (a : Entries) (old new : List ℕ) (key : Key) (rec : Rec) → IsBesideRuns runs old new → is_above (cursor_of_pass runs.pass) key ≡ true → AreOf runs tree a old
+    → HoldsTree runs.sizes (appended_a (key, rec) tree) new → AreOf runs (appended_a (key, rec) tree) (with_record key rec a) new
+
+-- one that comes into lane B waits for the next pass
+abbrev pub EntriesWait : Type 0
+EntriesWait =
+    (runs : RunsState) (tree : Tree) (a : Entries) (old new : List ℕ) (key : Key) (rec : Rec) → IsBesideRuns runs old new → AreOf runs tree a old
+    → HoldsTree runs.sizes (appended_b (key, rec) tree) new → AreOf runs (appended_b (key, rec) tree) a new
+
+-- what is left for a pass grows by as much as the table does
+abbrev pub LeftGrows : Type 0
+LeftGrows =
+    (snow : SnowState) (a : Entries) (key : Key) (rec : Rec) → is_above snow.at key ≡ true
+    → left_for_pass (Some snow) (with_record key rec a) + entries_weight a ≡ left_for_pass (Some snow) a + entries_weight (with_record key rec a)
+
+-- ---- the tie to the machine
+
+-- what is above the later cursor was above the earlier one
+abbrev pub IsOnward : Option Key → Option Key → Type 0
+IsOnward from to = (key : Key) → is_above to key ≡ true → is_above from key ≡ true
+
+-- A quantum as the merges take it is the one that the machine computes of the lists: its weight, and how far it comes.
+abbrev pub QuantaAgree : Type 0
+QuantaAgree =
+    (least : ℕ) (merge : Merge) (to : Option Key) (newer older : Entries) (taken : ℕ) → 0 < least → AreSorted newer → AreSorted older → IsOnward merge.cursor to
+    → IsQuantum least merge.cursor to newer older taken
+    → (taken ≡ (quantum_of least merge newer older).weight) × (to ≡ cursor_after merge.cursor (quantum_of least merge newer older).groups)

@@ -1,0 +1,4 @@
+pub mod Runs
+pub mod Holding
+pub mod Laws
+pub mod Swaps

@@ -1,0 +1,150 @@
+-- What contracts see of the components of a tree and of its merges, and what they keep on every disk. Weights are in bytes.
+use Rattle.std.specs.Prelude.{◌≡◌, ◌≢◌, ⊤, ℕ, ◌+◌, ◌-◌, ◌*◌, ◌/◌, ◌<◌, ◌≤◌, Bool, List, Option, Some, None}
+use Rattle.blsm_model.specs.declared.component.Component.{Component}
+use Rattle.blsm_model.specs.Components.{empty_component}
+use Rattle.blsm_model.specs.Format.{least_full}
+use Rattle.blsm_model.specs.Sizes.{Sizes, IsGeometry}
+use Rattle.blsm_model.specs.Geometry.{page_count, capacity}
+use Rattle.catalog_swap.specs.declared.catalog.Catalog.{Catalog}
+use Rattle.record_delta.specs.Entries.{Entries}
+use Rattle.page_space.specs.Space.{SpaceState, IsSpace, HasRole, IsWithin, role_count, role_size}
+use Rattle.snow_merge.specs.Pass as pass
+use Rattle.snow_merge.specs.Pass.{SnowState}
+use Rattle.deep_merge.specs.Merge as deep
+use Rattle.deep_merge.specs.Merge.{DeepState}
+
+-- which tags the pages of C1, C1', C2, of the pass's run and of the deep merge's run have
+pub record Tags : Type 0 where
+  pub c1 : ℕ
+  pub c1x : ℕ
+  pub c2 : ℕ
+  pub pass : ℕ
+  pub deep : ℕ
+
+-- The sizes of the store; its catalogue as last committed; the free-page map and what its tags stand for; and the merges that run.
+pub record RunsState : Type 0 where
+  pub sizes : Sizes
+  pub catalogue : Catalog
+  pub space : SpaceState
+  pub tags : Tags
+  pub pass : Option SnowState
+  pub deep : Option DeepState
+
+-- after an opening: the tags in their order, and no merge
+abbrev pub first_tags : Tags
+first_tags = record { c1 = 0; c1x = 1; c2 = 2; pass = 3; deep = 4 }
+
+abbrev pub opened : Sizes → Catalog → SpaceState → RunsState
+opened sizes catalogue space = record { sizes = sizes; catalogue = catalogue; space = space; tags = first_tags; pass = None; deep = None }
+
+-- ---- what is read off it
+
+abbrev pub made_by_pass : Option SnowState → Component
+made_by_pass None = empty_component
+made_by_pass (Some snow) = snow.writer.component
+
+abbrev pub made_by_deep : Option DeepState → Component
+made_by_deep None = empty_component
+made_by_deep (Some deep) = deep.writer.component
+
+-- how much is left to be taken
+abbrev pub left_for_pass : Option SnowState → Entries → ℕ
+left_for_pass None a = 0
+left_for_pass (Some snow) a = pass.left_weight snow a
+
+abbrev pub left_for_deep : Option DeepState → ℕ
+left_for_deep None = 0
+left_for_deep (Some merge) = deep.left_weight merge
+
+-- the pages in use by the components and the runs
+abbrev pub pages_in_use : RunsState → ℕ
+pages_in_use runs = runs.catalogue.c1.pages + runs.catalogue.c1x.pages + runs.catalogue.c2.pages + (made_by_pass runs.pass).pages + (made_by_deep runs.deep).pages
+
+-- the pages that a hold may pin, or that the components may have: those of three components at capacity
+abbrev pub page_share : Sizes → ℕ
+page_share sizes = capacity sizes / least_full + 3
+
+-- ---- what they keep
+
+-- five tags, none twice
+pub record AreTags (tags : Tags) : Type 0 where
+  pub c1_below : tags.c1 < role_count
+  pub c1x_below : tags.c1x < role_count
+  pub c2_below : tags.c2 < role_count
+  pub pass_below : tags.pass < role_count
+  pub deep_below : tags.deep < role_count
+  pub c1_c1x : tags.c1 ≢ tags.c1x
+  pub c1_c2 : tags.c1 ≢ tags.c2
+  pub c1_pass : tags.c1 ≢ tags.pass
+  pub c1_deep : tags.c1 ≢ tags.deep
+  pub c1x_c2 : tags.c1x ≢ tags.c2
+  pub c1x_pass : tags.c1x ≢ tags.pass
+  pub c1x_deep : tags.c1x ≢ tags.deep
+  pub c2_pass : tags.c2 ≢ tags.pass
+  pub c2_deep : tags.c2 ≢ tags.deep
+  pub pass_deep : tags.pass ≢ tags.deep
+
+-- a component without pages has nothing, and each of its pages but the last is nearly full
+pub record IsFilled (component : Component) : Type 0 where
+  pub none : component.pages ≡ 0 → component ≡ empty_component
+  pub full : least_full * (component.pages - 1) ≤ component.weight
+
+-- The component's pages, and no others, have its tag: so many.
+pub record IsHeld (space : SpaceState) (tag : ℕ) (component : Component) : Type 0 where
+  pub filled : IsFilled component
+  pub size : role_size space tag ≡ component.pages
+
+-- a running merge writes pages of its tag
+abbrev pub PassHasTag : ℕ → Option SnowState → Type 0
+PassHasTag tag None = ⊤
+PassHasTag tag (Some snow) = snow.writer.role ≡ tag
+
+abbrev pub DeepHasTag : ℕ → Option DeepState → Type 0
+DeepHasTag tag None = ⊤
+DeepHasTag tag (Some merge) = merge.writer.role ≡ tag
+
+-- where no deep merge runs C1' is empty
+abbrev pub RestsEmpty : Option DeepState → Component → Type 0
+RestsEmpty None c1x = c1x ≡ empty_component
+RestsEmpty (Some merge) c1x = ⊤
+
+-- no page has two tags
+abbrev pub HasOneTag : SpaceState → Type 0
+HasOneTag space = (page one other : ℕ) → HasRole space one page → HasRole space other page → one ≡ other
+
+-- On every disk, until a call of a merge fails.
+pub record AreRuns (runs : RunsState) : Type 0 where
+  pub geometry : IsGeometry runs.sizes
+  pub pages : runs.space.pages ≡ page_count runs.sizes
+  pub shape : IsSpace runs.space
+  pub tags : AreTags runs.tags
+  pub one_tag : HasOneTag runs.space
+  pub c1 : IsHeld runs.space runs.tags.c1 runs.catalogue.c1
+  pub c1x : IsHeld runs.space runs.tags.c1x runs.catalogue.c1x
+  pub c2 : IsHeld runs.space runs.tags.c2 runs.catalogue.c2
+  pub pass : IsHeld runs.space runs.tags.pass (made_by_pass runs.pass)
+  pub deep : IsHeld runs.space runs.tags.deep (made_by_deep runs.deep)
+  pub pass_tag : PassHasTag runs.tags.pass runs.pass
+  pub deep_tag : DeepHasTag runs.tags.deep runs.deep
+  pub rests : RestsEmpty runs.deep runs.catalogue.c1x
+  -- the tags' pages are these, and no seat pins more than its share
+  pub within : IsWithin (pages_in_use runs) (page_share runs.sizes) runs.space
+
+-- Where the file is honest the runs' closed pages stand in it; on any disk the merges' cursors and runs are in order.
+abbrev pub PassRuns : Sizes → Bool → List ℕ → SpaceState → Option SnowState → Type 0
+PassRuns sizes honest file space None = ⊤
+PassRuns sizes honest file space (Some snow) = pass.IsRunning sizes honest file space snow
+
+abbrev pub DeepRuns : Sizes → Bool → List ℕ → SpaceState → Option DeepState → Type 0
+DeepRuns sizes honest file space None = ⊤
+DeepRuns sizes honest file space (Some merge) = deep.IsRunning sizes honest file space merge
+
+pub record AreRunning (honest : Bool) (file : List ℕ) (runs : RunsState) : Type 0 where
+  pub in_order : AreRuns runs
+  pub pass : PassRuns runs.sizes honest file runs.space runs.pass
+  pub deep : DeepRuns runs.sizes honest file runs.space runs.deep
+
+-- what the pages must hold: the components, and the two runs with what is left for them
+pub record Fits (runs : RunsState) (a : Entries) : Type 0 where
+  pub live : runs.catalogue.c1.weight + runs.catalogue.c1x.weight + runs.catalogue.c2.weight ≤ capacity runs.sizes
+  pub made : (made_by_pass runs.pass).weight + left_for_pass runs.pass a + ((made_by_deep runs.deep).weight + left_for_deep runs.deep) ≤ capacity runs.sizes

@@ -1,0 +1,24 @@
+//! What the components and the runs keep while others write. The function does nothing: it stands for the laws that its clauses name.
+ghost use Rattle.tree_runs.specs.Laws.{HeadIsBeside, RunsStay, ListsStay, EntriesJoin, EntriesWait, LeftGrows, QuantaAgree};
+
+use run_cursor::what_is_ahead;
+use run_writer::where_a_run_writes;
+
+/// What others write, the log and the catalogue, is beside the pages of the components and the runs. So the merges go on over the same
+/// lists, and over table A with each entry that joins it ahead of the pass.
+pub fn others_may_write()
+    ensures head { HeadIsBeside }
+    ensures running { RunsStay }
+    ensures lists { ListsStay }
+    ensures joins { EntriesJoin }
+    ensures waits { EntriesWait }
+    ensures left { LeftGrows }
+{
+    what_is_ahead();
+    where_a_run_writes();
+}
+
+/// A quantum that a merge takes is the one that the machine computes of the lists.
+pub fn a_quantum_is_the_machines()
+    ensures { QuantaAgree }
+{}

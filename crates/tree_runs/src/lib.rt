@@ -1,0 +1,12 @@
+//! The three components of a tree and the two merges that run over them, on the pages of a store's file: a merge begins, takes a
+//! quantum, and is swapped in by one commit of the catalogue. Whoever owns the disk, the memory table and the log drives it.
+#![tactic(auto)]
+
+mod laws;
+mod lookup;
+mod quanta;
+mod runs;
+mod swaps;
+
+pub use laws::{a_quantum_is_the_machines, others_may_write};
+pub use runs::{MergeRoom, Runs};

@@ -1,0 +1,163 @@
+//! The components, their pages, and the merges that run.
+ghost use Rattle.std.specs.Prelude.{◌≡◌, ◌↔◌, ◌<◌, ◌∷◌, [], ℕ, Bool, List, Some, None, IsTrue, is_some};
+ghost use Rattle.blsm_model.specs.Components.{empty_component};
+ghost use Rattle.record_delta.specs.Entries.{Entries};
+ghost use Rattle.snow_merge.specs.Pass.{started};
+ghost use Rattle.tree_file.specs.Tree.{Tree};
+ghost use Rattle.tree_runs.specs.Runs.{opened, AreRuns, AreRunning, left_for_pass, left_for_deep};
+ghost use Rattle.tree_runs.specs.Holding.{AreOf, cursor_of_pass};
+
+use blsm_model::{Component, Geometry, Key};
+use catalog_swap::Catalog;
+use deep_merge::Deep;
+use mem_table::Table;
+use page_space::{Role, Space};
+use refusal::NoMemory;
+use snow_merge::Snow;
+use std::alloc::Global;
+use std::marker::Model;
+
+// The merges that run. With the pages that they hold these are some 25 KB.
+#[derive(Debug, Drop)]
+pub(crate) struct Merges {
+    pub(crate) pass: Option<Snow>,
+    pub(crate) deep: Option<Deep>,
+}
+
+/// Memory for the two merges. The value that moves from turn to turn holds none of their pages.
+#[derive(Debug, Drop)]
+pub struct MergeRoom {
+    merges: Box<Merges>,
+}
+
+impl MergeRoom {
+    /// Takes the memory, or tells that it was refused.
+    pub fn reserve(alloc: Global) -> Result<MergeRoom, NoMemory> {
+        Ok(MergeRoom {
+            merges: Box::new(
+                alloc,
+                Merges {
+                    pass: None,
+                    deep: None,
+                },
+            )?,
+        })
+    }
+}
+
+/// The components of a tree as its catalogue has them, which pages of the file they have, and the merges that run. Contracts see the merges'
+/// runs and cursors. What the pages hold the clauses say of the file of an honest disk (`AreOf`).
+#[derive(Debug, Drop)]
+pub struct Runs {
+    pub(crate) geometry: Geometry,
+    pub(crate) catalogue: Catalog,
+    pub(crate) space: Space,
+    pub(crate) c1: Role,
+    pub(crate) c1x: Role,
+    pub(crate) c2: Role,
+    pub(crate) pass: Role,
+    pub(crate) deep: Role,
+    pub(crate) merges: Box<Merges>,
+}
+
+impl Model for Runs {
+    ghost use Rattle.tree_runs.specs.Runs.{RunsState};
+
+    ghost Value = { RunsState };
+
+    ghost view = { λ r. record {
+      sizes = r.geometry;
+      catalogue = r.catalogue;
+      space = r.space;
+      tags = record { c1 = r.c1; c1x = r.c1x; c2 = r.c2; pass = r.pass; deep = r.deep };
+      pass = r.merges.value.pass;
+      deep = r.merges.value.deep;
+    } };
+}
+
+impl Runs {
+    /// The components of a tree that was just opened; no merge runs. In the free-page map the pages of C1, C1' and C2 have the tags 0, 1
+    /// and 2.
+    pub fn open(geometry: &Geometry, catalogue: Catalog, space: Space, room: MergeRoom) -> Runs
+        ensures { result ≡ opened geometry.now catalogue space }
+    {
+        let mut merges = room.merges;
+        let here = &mut *merges;
+        here.pass = None;
+        here.deep = None;
+        Runs {
+            geometry: *geometry,
+            catalogue,
+            space,
+            c1: Role::new(0),
+            c1x: Role::new(1),
+            c2: Role::new(2),
+            pass: Role::new(3),
+            deep: Role::new(4),
+            merges,
+        }
+    }
+
+    /// A pass over C1 begins. It calls no device.
+    pub fn begin_pass(&mut self)
+        requires rests { self.old.pass ≡ None }
+        requires runs { AreRuns self.old }
+        ensures begun { self.new ≡ record self.old { pass = Some (started self.old.tags.pass self.old.catalogue.c1) } }
+        ensures running { (honest : Bool) (file : List ℕ) → AreRunning honest file self.old → AreRunning honest file self.new }
+        ensures lists { (tree : Tree) (a : Entries) (file : List ℕ) → AreOf self.old tree a file → AreOf self.new tree a file }
+    {
+        let merges = &mut *self.merges;
+        merges.pass = Some(Snow::begin(&self.catalogue.c1, self.pass));
+    }
+
+    /// Whether a pass runs.
+    pub fn in_pass(&self) -> bool
+        ensures { result ≡ is_some self.now.pass }
+    {
+        self.merges.pass.is_some()
+    }
+
+    /// Whether a deep merge runs.
+    pub fn in_deep(&self) -> bool
+        ensures { result ≡ is_some self.now.deep }
+    {
+        self.merges.deep.is_some()
+    }
+
+    /// Whether a pass runs and has taken all of table A, as it is now, and of C1.
+    pub fn is_pass_done(&self, a: &Table) -> bool
+        ensures { IsTrue result ↔ (IsTrue (is_some self.now.pass) × (left_for_pass self.now.pass a.now.entries ≡ 0)) }
+    {
+        match &self.merges.pass {
+            Some(snow) => snow.is_done(a),
+            None => false,
+        }
+    }
+
+    /// Whether a deep merge runs and has taken all of C1' and of C2.
+    pub fn is_deep_done(&self) -> bool
+        ensures { IsTrue result ↔ (IsTrue (is_some self.now.deep) × (left_for_deep self.now.deep ≡ 0)) }
+    {
+        match &self.merges.deep {
+            Some(deep) => deep.is_done(),
+            None => false,
+        }
+    }
+
+    /// The greatest key that the pass took; `None` where it took none, or none runs.
+    pub fn cursor(&self) -> Option<Key>
+        ensures { result ≡ cursor_of_pass self.now.pass }
+    {
+        match &self.merges.pass {
+            Some(snow) => snow.cursor(),
+            None => None,
+        }
+    }
+
+    /// The catalogue as it was last committed.
+    pub fn catalogue(&self) -> Catalog
+        ensures { result ≡ self.now.catalogue }
+    {
+        self.catalogue
+    }
+}
