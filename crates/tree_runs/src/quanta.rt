@@ -44,6 +44,7 @@ impl Runs {
         ensures bound { IfOk result (λ n. n + 1 ≤ self.old.sizes.quantum + 2 * most_weight) }
         ensures enough { IfOk result (λ n. (self.old.sizes.quantum ≤ n) ⊎ (left_for_pass self.new.pass a.now.entries ≡ 0)) }
         ensures kept { IsErr result → cursor_of_pass self.new.pass ≡ cursor_of_pass self.old.pass }
+        ensures runs { IsSome self.new.pass }
         ensures others { KeepsAllButPass self.old self.new }
 
         // It writes pages of its run alone.
@@ -83,6 +84,7 @@ impl Runs {
         ensures bound { IfOk result (λ n. n + 1 ≤ self.old.sizes.quantum + 2 * most_weight) }
         ensures enough { IfOk result (λ n. (self.old.sizes.quantum ≤ n) ⊎ (left_for_deep self.new.deep ≡ 0)) }
         ensures kept { IsErr result → cursor_of_deep self.new.deep ≡ cursor_of_deep self.old.deep }
+        ensures runs { IsSome self.new.deep }
         ensures others { KeepsAllButDeep self.old self.new }
 
         ensures effect { Affects (role_region self.old.sizes self.new.space self.old.tags.deep) (file_length self.old.sizes) (self.old.sizes.quantum / 4 + 3) (D.state disk.old) (D.state disk.new) }

@@ -154,6 +154,13 @@ impl Runs {
         }
     }
 
+    /// The geometry of the store.
+    pub fn geometry(&self) -> Geometry
+        ensures { result ≡ self.now.sizes }
+    {
+        self.geometry
+    }
+
     /// The catalogue as it was last committed.
     pub fn catalogue(&self) -> Catalog
         ensures { result ≡ self.now.catalogue }
