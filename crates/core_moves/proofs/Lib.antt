@@ -1,0 +1,2 @@
+mod AffectLemmas
+mod WriteLemmas

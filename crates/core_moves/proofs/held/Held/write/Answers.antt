@@ -1,0 +1,77 @@
+use Rattle.std.specs.Prelude.{◌≡◌, Bool, true, false, Option, Some, None, OnOk, is_ok, is_some}
+use Rattle.std.proofs.Common.{◌∙◌, refl, sym, subst, arith}
+use Rattle.std.proofs.lemmas.Bool.{false≢true}
+use Rattle.std.proofs.lemmas.Result.{err_from_is_err_and}
+use Rattle.std.specs.declared.result.Result.{Result}
+use Rattle.refusal.specs.declared.Failed.{Failed}
+use Rattle.blsm_model.specs.Sizes.{Sizes}
+use Rattle.blsm_model.specs.Geometry.{file_length}
+use Rattle.blsm_model.specs.declared.key.Key.{Key}
+use Rattle.record_delta.specs.declared.record.Rec.{Rec}
+use Rattle.disk_trait.specs.Effects.{Affects}
+use Rattle.gated_log.specs.Lane.{lane_region}
+use Rattle.snow_merge.specs.Pass.{SnowState}
+use Rattle.tree_file.specs.Places.{StandsOn, Becomes}
+use Rattle.tree_log.specs.Log.{LogState, IsLogOf, appended, lane_for}
+use Rattle.tree_runs.specs.Holding.{AreOf, StandOver}
+use Rattle.core_moves.specs.Held.{goes_ahead}
+use Rattle.core_moves.proofs.AffectLemmas.{affects_anywhere, stays_long}
+use Rattle.core_moves.proofs.WriteLemmas.{runs_on, joined}
+use Rattle.core_moves.proofs.held.Held.write.Goals as goal
+
+none_runs : (pass : Option SnowState) → is_some pass ≡ false → pass ≡ None
+none_runs None none = refl
+none_runs (Some snow) some = absurd (false≢true (sym some))
+
+pub returns-in_err-append-clause-becomes : goal.returns-in_err-append-clause-becomes
+returns-in_err-append-clause-becomes g c = λ tree honest is_of over.
+    let held = c.args.self.now in
+    let old = g.D.Disk.state c.args.disk.now in
+    let new = g.D.Disk.state c.append.new.disk in
+    let p = err_from_is_err_and c.from_residual.result c.from_residual.ensures.1 in
+    let stands = subst (λ (s : Sizes). StandsOn s tree old) (sym c.requires.one.lanes) over.stands in
+    let becomes = subst (λ (s : Sizes). Becomes s tree (appended c.goes_ahead-ahead.result (c.args.key.now, c.args.rec.now) tree) false old new) c.requires.one.lanes
+    (c.in_err-append.ensures.becomes tree honest is_of stands) in
+    subst (λ (r : Result (Unit {0}) Failed). Becomes held.runs.sizes tree (appended (goes_ahead c.args.key.now held) (c.args.key.now, c.args.rec.now) tree) (is_ok r) old new
+    × OnOk r (StandOver held.runs (appended (goes_ahead c.args.key.now held) (c.args.key.now, c.args.rec.now) tree) c.append.new.self.a.entries new)) (sym p.1)
+    (subst (λ (b : Bool). Becomes held.runs.sizes tree (appended b (c.args.key.now, c.args.rec.now) tree) false old new) c.goes_ahead-ahead.ensures becomes, tt)
+
+pub returns-in_err-append-clause-effect : goal.returns-in_err-append-clause-effect
+returns-in_err-append-clause-effect g c = affects_anywhere (subst (λ (s : Sizes). Affects (lane_region c.args.self.now.log.lanes.sizes (lane_for c.goes_ahead-ahead.result c.args.self.now.log)) (file_length s) 4 (g.D.Disk.state c.args.disk.now) (g.D.Disk.state c.append.new.disk)) c.requires.one.lanes c.append.ensures.effect)
+
+pub spring_after-self-requires : goal.spring_after-self-requires
+spring_after-self-requires g c = λ no.
+    let fits = c.requires.fits.spring (none_runs c.args.self.now.runs.pass (sym c.in_pass.ensures ∙ no)) in
+    omega (arith, fits, c.weight-weight.ensures.weight)
+
+pub returns-clause-is_of : goal.returns-clause-is_of
+returns-clause-is_of g c = λ tree is_of.
+    subst (λ (b : Bool). IsLogOf (appended b (c.args.key.now, c.args.rec.now) tree) c.append.new.self) c.goes_ahead-ahead.ensures (c.in_ok-append.ensures.is_of tree is_of)
+
+pub returns-clause-becomes : goal.returns-clause-becomes
+returns-clause-becomes g c = λ tree honest is_of over.
+    let held = c.args.self.now in
+    let old = g.D.Disk.state c.args.disk.now in
+    let new = g.D.Disk.state c.append.new.disk in
+    let entry : Key × Rec = (c.args.key.now, c.args.rec.now) in
+    let stands = subst (λ (s : Sizes). StandsOn s tree old) (sym c.requires.one.lanes) over.stands in
+    let becomes = subst (λ (s : Sizes). Becomes s tree (appended c.goes_ahead-ahead.result entry tree) true old new) c.requires.one.lanes
+    (c.in_ok-append.ensures.becomes tree honest is_of stands) in
+    let then = becomes.stands refl in
+    let effect = subst (λ (b : Bool). Affects (lane_region held.log.lanes.sizes (lane_for b held.log)) (file_length held.log.lanes.sizes) 4 old new) refl c.append.ensures.effect in
+    let are = joined c.goes_ahead-ahead.result held tree c.args.key.now c.args.rec.now c.others_may_write.ensures.head c.others_may_write.ensures.joins c.others_may_write.ensures.waits c.requires.one
+    (sym c.goes_ahead-ahead.ensures) effect honest over.are_of then.reads in
+    subst (λ (b : Bool). Becomes held.runs.sizes tree (appended b entry tree) true old new × StandOver held.runs (appended b entry tree) c.append.new.self.a.entries new) c.goes_ahead-ahead.ensures (
+      becomes,
+      record { stands = then; are_of = subst (λ (l : LogState). AreOf held.runs (appended c.goes_ahead-ahead.result entry tree) l.a.entries new.bytes) (sym c.in_ok-append.ensures.log) are },
+    )
+
+pub returns-clause-on : goal.returns-clause-on
+returns-clause-on g c = record {
+  running = runs_on c.goes_ahead-ahead.result c.args.self.now c.others_may_write.ensures.head c.others_may_write.ensures.running c.requires.one c.append.ensures.effect c.requires.on.running;
+  long = stays_long c.args.self.now.runs.sizes c.args.self.now.runs.sizes refl c.requires.on.long
+      (subst (λ (s : Sizes). Affects (lane_region c.args.self.now.log.lanes.sizes (lane_for c.goes_ahead-ahead.result c.args.self.now.log)) (file_length s) 4 (g.D.Disk.state c.args.disk.now) (g.D.Disk.state c.append.new.disk)) c.requires.one.lanes c.append.ensures.effect);
+}
+
+pub returns-clause-effect : goal.returns-clause-effect
+returns-clause-effect g c = affects_anywhere (subst (λ (s : Sizes). Affects (lane_region c.args.self.now.log.lanes.sizes (lane_for c.goes_ahead-ahead.result c.args.self.now.log)) (file_length s) 4 (g.D.Disk.state c.args.disk.now) (g.D.Disk.state c.append.new.disk)) c.requires.one.lanes c.append.ensures.effect)

@@ -1,0 +1,53 @@
+-- What is read off what the core of a tree has in memory. Weights are in bytes.
+use Rattle.std.specs.Prelude.{◌≡◌, ℕ, ◌+◌, ◌≤◌, Bool, not, ◌||◌, ◌==◌, IsTrue, is_some, if◌then◌else◌}
+use Rattle.blsm_model.specs.Geometry.{high_mark}
+use Rattle.blsm_model.specs.Lanes.{AreRoles}
+use Rattle.blsm_model.specs.declared.key.Key.{Key}
+use Rattle.record_delta.specs.Entries.{AreSorted, is_above}
+use Rattle.tree_log.specs.Log.{weight_of_tables}
+use Rattle.tree_runs.specs.Runs.{made_by_pass, left_for_pass, left_for_deep}
+use Rattle.tree_runs.specs.Holding.{cursor_of_pass, is_full}
+use Rattle.core_moves.specs.declared.held.Held.{Held}
+
+-- One geometry; the roles of the lanes are the catalogue's; the tables are sorted and may weigh as much as the high mark.
+pub record IsOne (held : Held) : Type 0 where
+  pub gears : held.gears.sizes ≡ held.runs.sizes
+  pub lanes : held.log.lanes.sizes ≡ held.runs.sizes
+  pub roles : held.log.lanes.roles ≡ held.runs.catalogue.lanes
+  pub apart : AreRoles held.runs.catalogue.lanes
+  pub reserved_a : high_mark held.runs.sizes ≤ held.log.a.reserved
+  pub reserved_b : high_mark held.runs.sizes ≤ held.log.b.reserved
+  pub sorted_a : AreSorted held.log.a.entries
+  pub sorted_b : AreSorted held.log.b.entries
+
+-- ---- what is read off it
+
+-- the merge runs, and nothing is left of its inputs
+abbrev pub IsPassDone : Held → Type 0
+IsPassDone held = IsTrue (is_some held.runs.pass) × (left_for_pass held.runs.pass held.log.a.entries ≡ 0)
+
+abbrev pub IsDeepDone : Held → Type 0
+IsDeepDone held = IsTrue (is_some held.runs.deep) × (left_for_deep held.runs.deep ≡ 0)
+
+-- it is done or absent
+abbrev pub is_pass_over : Held → Bool
+is_pass_over held = not (is_some held.runs.pass) || (left_for_pass held.runs.pass held.log.a.entries == 0)
+
+abbrev pub is_deep_over : Held → Bool
+is_deep_over held = not (is_some held.runs.deep) || (left_for_deep held.runs.deep == 0)
+
+-- the pass's run is as heavy as C1's mark, so C1 is rotated with it
+abbrev pub is_run_full : Held → Bool
+is_run_full held = is_full held.runs.sizes (made_by_pass held.runs.pass)
+
+-- a write of this key goes to table A: no pass runs, or its cursor hasn't come to the key
+abbrev pub goes_ahead : Key → Held → Bool
+goes_ahead key held = is_above (cursor_of_pass held.runs.pass) key
+
+-- how much the components weigh, as they were last committed
+abbrev pub components_in : Held → ℕ
+components_in held = held.runs.catalogue.c1.weight + held.runs.catalogue.c1x.weight + held.runs.catalogue.c2.weight
+
+-- the charge: the components, and what the memory table counts
+abbrev pub charge_in : Held → ℕ
+charge_in held = components_in held + (if is_some held.runs.pass then held.gears.pass_memory + held.gears.pass_admitted else weight_of_tables held.log)
