@@ -1,0 +1,86 @@
+-- The counts of a paced core are small.
+use Rattle.std.proofs.Common.{◌≡◌, ◌∙◌, ℕ, ◌+◌, ◌*◌, ◌^◌, ◌≤◌, Bool, true, false, cond, List, [], ◌∷◌, length, ap, arith, length-append}
+use Rattle.std.proofs.lemmas.List.Sums.{sum_by-take-le}
+use Rattle.std.proofs.Math.Nat.{mul-le-mul_left}
+use Rattle.blsm_model.specs.Format.{callers, most_entries}
+use Rattle.blsm_model.specs.Geometry.{capacity}
+use Rattle.blsm_model.specs.Sizes.{Sizes, IsGeometry}
+use Rattle.blsm_model.specs.declared.op.Op.{Op}
+use Rattle.blsm_model.specs.declared.op.Op.TheVariants.{Put, Add, Del}
+use Rattle.blsm_model.specs.declared.history.Entry.{Entry}
+use Rattle.blsm_model.specs.Histories.{is_done, writes_of, counted, counted_writes}
+use Rattle.gear_sched.specs.Gears.{GearState}
+use Rattle.pacing.proofs.Counts.{merged, passed}
+use Rattle.pacing.proofs.Numbers.{small}
+use Rattle.pacing.specs.Laws.{Fits}
+use Rattle.pacing.proofs.Promises.{all_fits}
+use Rattle.pacing.proofs.Spent.{quanta_are_few}
+use Rattle.pacing.specs.Pace.{Pace}
+use Rattle.seat_book.specs.State.{BookState}
+use Rattle.core_pace.specs.Pacing.{IsRunBook}
+use Rattle.core_pace.specs.Needs.{CountsAreSmall}
+
+-- the capacity is a small number
+pub capacity_small : (sizes : Sizes) → IsGeometry sizes → capacity sizes ≤ 2 ^ 33
+capacity_small sizes fits = let few = small sizes.ratio (omega (arith, fits.ratio)) (omega (arith, fits.ratio)) sizes.half (omega (arith, fits.half)) in omega (arith, few)
+
+-- an entry writes once at most
+few_counted : (es : List Entry) → length (counted_writes es) ≤ length es
+few_counted [] = omega arith
+few_counted (e ∷ es) =
+    let rest = few_counted es in
+    let one = at_most (is_done e.reply) e.op in
+    omega (arith, rest, length-append (counted e) (counted_writes es), one)
+  where
+    at_most : (b : Bool) (op : Op) → length (cond b (writes_of op) []) ≤ 1
+    at_most false op = omega arith
+    at_most true (Put key value) = omega arith
+    at_most true (Add key count) = omega arith
+    at_most true (Del key) = omega arith
+    at_most true _ = omega arith
+
+few_more : (n : ℕ) → n ≤ most_entries → 2 * n + 3 ≤ 131077
+few_more n le = omega (arith, le)
+
+few_writes : (book : BookState) (pace : Pace) → IsRunBook book pace → pace.writes ≤ most_entries
+few_writes book pace told = omega (arith, told.booked.by_number, told.entries, few_counted book.book.entries)
+
+-- and so are all quanta together
+pub work_is_small : (book : BookState) (pace : Pace) → IsRunBook book pace → pace.work ≤ 2 ^ 51
+work_is_small book pace told =
+    let quanta = quanta_are_few pace told.paced told.spent told.few in
+    let product = mul-le-mul_left (capacity pace.gears.sizes) (few_more pace.writes (few_writes book pace told)) in
+    let narrow = capacity_small pace.gears.sizes told.paced.within.sizes in
+    omega (arith, quanta, product, narrow)
+
+pub counts_are_small : CountsAreSmall
+counts_are_small held pace p one told low = record {
+  version = omega (arith, low, rotations, deeps, passes, writes, told.few.begins);
+  passes = omega (arith, p.passes, passes, writes, told.few.begins);
+  deeps = omega (arith, p.deeps, rotations, deeps, passes, writes, told.few.begins);
+  quanta = omega (arith, told.booked.worked, worked);
+  entries = omega (arith, told.booked.worked, told.booked.by_callers, sum_by-take-le (λ (n : ℕ). n) held.book.seats.quanta callers, worked);
+  pass_taken = λ is. omega (arith, p.pass_left is, fits.inputs1, ap (λ (g : GearState). g.pass_taken) p.gears, quantum, told.paced.within.sizes.quantum);
+  deep_taken = λ is. omega (arith, p.deep_left is, fits.inputs2, ap (λ (g : GearState). g.deep_taken) p.gears, quantum, told.paced.within.sizes.quantum);
+}
+  where
+    fits : Fits pace
+    fits = all_fits pace told.paced.within
+
+    quantum : pace.gears.sizes.quantum ≡ held.runs.sizes.quantum
+    quantum = ap (λ (s : Sizes). s.quantum) (ap (λ (g : GearState). g.sizes) p.gears ∙ one.gears)
+
+    writes : pace.writes ≤ most_entries
+    writes = few_writes held.book pace told
+
+    passes : pace.passes ≤ pace.begun
+    passes = passed pace told.few
+
+    deeps : pace.deeps ≤ pace.rotations
+    deeps = merged pace told.few
+
+    rotations : pace.rotations ≤ pace.passes + 1
+    rotations = told.few.turns
+
+    worked : pace.work ≤ 2 ^ 51
+    worked = work_is_small held.book pace told

@@ -1,0 +1,330 @@
+-- An admission is made of its moves.
+use Rattle.std.proofs.Common.{◌≡◌, ◌∙◌, ⊎_elim, ℕ, ◌+◌, ◌-◌, ◌<◌, ◌≤◌, Bool, true, false, cond, not, ◌&&◌, List, [], ◌∷◌, length, refl, ap, sym, subst, arith, length-append}
+use Rattle.std.specs.Prelude.{is_some, nat_le, nat_lt, slice_index, slice_set, sum}
+use Rattle.std.proofs.lemmas.Bool.{ltb-true, ltb-false}
+use Rattle.std.proofs.lemmas.List.{get_or_past}
+use Rattle.std.proofs.lemmas.List.Sums.{sum_by-set}
+use Rattle.blsm_model.specs.Format.{most_entries}
+use Rattle.blsm_model.specs.Geometry.{c1_mark, charge_limit}
+use Rattle.blsm_model.specs.Book.{Book, noted, HasRoom}
+use Rattle.blsm_model.specs.Histories.{writes_of}
+use Rattle.blsm_model.specs.Legal.{is_write, total_weight}
+use Rattle.blsm_model.specs.Sizes.{Sizes}
+use Rattle.blsm_model.specs.declared.key.Key.{Key}
+use Rattle.blsm_model.specs.declared.op.Op.{Op}
+use Rattle.blsm_model.specs.declared.history.Entry.{Entry}
+use Rattle.blsm_model.specs.declared.history.Reply.TheVariants.{Done}
+use Rattle.catalog_swap.specs.declared.catalog.Catalog.{Catalog}
+use Rattle.record_delta.specs.declared.record.Rec.{Rec}
+use Rattle.record_delta.specs.Records.{weight}
+use Rattle.gear_sched.specs.Gears.{GearState, first_debt, second_debt}
+use Rattle.pacing.specs.Pace.{Pace, with_deep_swapped, with_pass_swapped, with_swap_and_rotation, with_rotation, with_pass, with_write, deep_done, pass_done, charge}
+use Rattle.pacing.specs.Kept.{IsPaced}
+use Rattle.pacing.specs.Counts.{AreFew, IsCounted}
+use Rattle.pacing.specs.Spent.{IsSpent}
+use Rattle.pacing.specs.Steps.{Admit, MayAdmit, Lands, deep_settled, pass_settled, begun_for, ready_for}
+use Rattle.pacing.proofs.Promises.{moves_keep, forgiving_keeps}
+use Rattle.pacing.proofs.Runs.{step_keeps}
+use Rattle.pacing.proofs.Counts.{step_counts, moves_few, counted_few}
+use Rattle.pacing.proofs.Spent.{step_spends, moves_spend, forgave}
+use Rattle.paced_tree.specs.Booking.{IsBookOf}
+use Rattle.paced_tree.specs.Made.{IsAdmission}
+use Rattle.paced_tree.proofs.BookLaws.{moves_book, write_books, note_books}
+use Rattle.tree_machine.specs.Machine.{Seats}
+use Rattle.tree_machine.specs.Steps.{is_del}
+use Rattle.seat_book.specs.State.{BookState, noted_in}
+use Rattle.tree_runs.specs.Runs.{RunsState}
+use Rattle.core_moves.specs.declared.held.Held.{Held}
+use Rattle.core_moves.specs.Held.{IsOne, IsDeepDone, IsPassDone, goes_ahead, charge_in}
+use Rattle.core_moves.specs.Moves.{SwapsDeepIn, SwapsPassIn, with_pass_begun, SettlesDeep, SettlesPass, begun_in, with_book}
+use Rattle.core_pace.specs.Pacing.{HasPace, IsRunBook, IsPacedHeld, most_opened}
+use Rattle.core_pace.specs.Laws.{weighs_after}
+use Rattle.core_pace.specs.Events.{MayWrite, Admits, IsBetween, MovesAreTold, AdmissionIsPaced, ForgivingIsPaced, EntryIsTold, StopIsTold, done_entry}
+use Rattle.core_pace.specs.Calls.{KeepsBook, SettledIsBetween}
+use Rattle.core_pace.proofs.TestLemmas.{each_test_agrees, forgiving_has_pace}
+use Rattle.core_pace.proofs.SwapLemmas.{deep_swap_has_pace, pass_swap_has_pace, begin_has_pace}
+use Rattle.core_pace.proofs.WriteLemmas.{write_has_pace}
+use Rattle.core_pace.proofs.OneLemmas.{each_move_keeps_one}
+use Rattle.core_pace.proofs.BookLemmas.{rebooked, one_rebooked}
+
+not_so : (b : Bool) → (b ≡ true → ⊥) → b ≡ false
+not_so true fails = absurd (fails refl)
+not_so false fails = refl
+
+-- the numbers, the geometry and the version
+pub record Stands (held : Held) (pace : Pace) : Type 0 where
+  pub numbers : HasPace held pace
+  pub one : IsOne held
+  pub version : held.runs.catalogue.version ≤ most_opened + (pace.passes + pace.deeps + pace.rotations)
+
+pub moved_on : (old new : Held) (pace : Pace) → new ≡ old → Stands old pace → Stands new pace
+moved_on old new pace same s = subst (λ (h : Held). Stands h pace) (sym same) s
+
+pub deep_swapped : (old new : Held) (pace : Pace) → Stands old pace → SwapsDeepIn old new → Stands new (with_deep_swapped pace)
+deep_swapped old new pace s m = record {
+  numbers = deep_swap_has_pace old new pace s.numbers m;
+  one = (each_move_keeps_one old new s.one).deep_swap m;
+  version = omega (arith, s.version, ap (λ (c : Catalog). c.version) m.runs.catalogue);
+}
+
+pub pass_swapped : (old new : Held) (pace : Pace) → Stands old pace → SwapsPassIn old new → Stands new (with_swap_and_rotation pace)
+pass_swapped old new pace s m = record {
+  numbers = pass_swap_has_pace old new pace s.numbers s.one m;
+  one = (each_move_keeps_one old new s.one).pass_swap m;
+  version = omega (arith, s.version, ap (λ (c : Catalog). c.version) m.runs.catalogue, more (nat_le (c1_mark pace.gears.sizes) pace.made1));
+}
+  where
+    more : (b : Bool) → pace.passes + pace.deeps + pace.rotations + 1
+        ≤ (cond b (with_rotation (with_pass_swapped pace)) (with_pass_swapped pace)).passes + (cond b (with_rotation (with_pass_swapped pace)) (with_pass_swapped pace)).deeps
+        + (cond b (with_rotation (with_pass_swapped pace)) (with_pass_swapped pace)).rotations
+    more true = omega arith
+    more false = omega arith
+
+settles_deep : (old new : Held) (pace : Pace) → Stands old pace → SettlesDeep old new → Stands new (deep_settled pace)
+settles_deep old new pace s settles = ⊎_elim
+    (λ (done : IsDeepDone old × SwapsDeepIn old new). let test = (each_test_agrees old pace s.numbers).deep_done.0 done.0 in
+    subst (λ (b : Bool). Stands new (cond b (with_deep_swapped pace) pace)) (sym test) (deep_swapped old new pace s done.1))
+    (λ (still : (IsDeepDone old → ⊥) × (new ≡ old)). let test = not_so (pace.gears.deep && deep_done pace) (λ is. still.0 ((each_test_agrees old pace s.numbers).deep_done.1 is)) in
+    subst (λ (b : Bool). Stands new (cond b (with_deep_swapped pace) pace)) (sym test) (moved_on old new pace still.1 s))
+    settles
+
+settles_pass : (old new : Held) (pace : Pace) → Stands old pace → SettlesPass old new → Stands new (pass_settled pace)
+settles_pass old new pace s settles = ⊎_elim
+    (λ (done : IsPassDone old × SwapsPassIn old new). let test = (each_test_agrees old pace s.numbers).pass_done.0 done.0 in
+    subst (λ (b : Bool). Stands new (cond b (with_swap_and_rotation pace) pace)) (sym test) (pass_swapped old new pace s done.1))
+    (λ (still : (IsPassDone old → ⊥) × (new ≡ old)). let test = not_so (pace.gears.pass && pass_done pace) (λ is. still.0 ((each_test_agrees old pace s.numbers).pass_done.1 is)) in
+    subst (λ (b : Bool). Stands new (cond b (with_swap_and_rotation pace) pace)) (sym test) (moved_on old new pace still.1 s))
+    settles
+
+begins : (w : ℕ) (old : Held) (pace : Pace) → Stands old pace → Stands (begun_in w old) (begun_for pace w)
+begins w old pace s =
+    subst (λ (b : Bool). Stands (begun_in w old) (cond b (with_pass pace) pace)) (sym test) (by (not (is_some old.runs.pass) && nat_lt old.runs.sizes.low (old.spring + w)))
+  where
+    sizes : pace.gears.sizes ≡ old.runs.sizes
+    sizes = ap (λ (g : GearState). g.sizes) s.numbers.gears ∙ s.one.gears
+
+    test : (not pace.gears.pass && nat_lt pace.gears.sizes.low (pace.spring + w)) ≡ (not (is_some old.runs.pass) && nat_lt old.runs.sizes.low (old.spring + w))
+    test = cc (s.numbers.in_pass, s.numbers.spring, sizes)
+
+    by : (b : Bool) → Stands (cond b (with_pass_begun old) old) (cond b (with_pass pace) pace)
+    by true = record { numbers = begin_has_pace old pace s.numbers; one = (each_move_keeps_one old old s.one).begin; version = s.version }
+    by false = s
+
+stands : (held : Held) (pace : Pace) → IsPacedHeld held pace → Stands held pace
+stands held pace k = record { numbers = k.numbers; one = k.one; version = k.version }
+
+-- ---- what is told
+
+told_at : (b c : BookState) (pace next : Pace) → KeepsBook b c → IsRunBook b pace → IsBookOf b.book b.seats next → IsPaced next → AreFew next → IsSpent next → IsRunBook c next
+told_at b c pace next keeps told booked paced few spent = record {
+  booked = subst (λ (k : Book). IsBookOf k c.seats next) (sym keeps.book) (subst (λ (s : Seats). IsBookOf b.book s next) (sym keeps.seats) booked);
+  paced = paced;
+  few = few;
+  spent = spent;
+  entries = subst (λ (k : Book). length k.entries + sum k.room.entries ≤ most_entries) (sym keeps.book) told.entries;
+}
+
+pub deep_keeps : (old new : Held) → SettlesDeep old new → KeepsBook old.book new.book
+deep_keeps old new settles = ⊎_elim
+    (λ (done : IsDeepDone old × SwapsDeepIn old new). record { book = ap (λ (b : BookState). b.book) done.1.book; seats = ap (λ (b : BookState). b.seats) done.1.book; stopped = ap (λ (b : BookState). b.stopped) done.1.book })
+    (λ (still : (IsDeepDone old → ⊥) × (new ≡ old)). record { book = ap (λ (h : Held). h.book.book) still.1; seats = ap (λ (h : Held). h.book.seats) still.1; stopped = ap (λ (h : Held). h.book.stopped) still.1 })
+    settles
+
+pass_keeps : (old new : Held) → SettlesPass old new → KeepsBook old.book new.book
+pass_keeps old new settles = ⊎_elim
+    (λ (done : IsPassDone old × SwapsPassIn old new). record { book = ap (λ (b : BookState). b.book) done.1.book; seats = ap (λ (b : BookState). b.seats) done.1.book; stopped = ap (λ (b : BookState). b.stopped) done.1.book })
+    (λ (still : (IsPassDone old → ⊥) × (new ≡ old)). record { book = ap (λ (h : Held). h.book.book) still.1; seats = ap (λ (h : Held). h.book.seats) still.1; stopped = ap (λ (h : Held). h.book.stopped) still.1 })
+    settles
+
+begun_book : (w : ℕ) (held : Held) → (begun_in w held).book ≡ held.book
+begun_book w held = by (not (is_some held.runs.pass) && nat_lt held.runs.sizes.low (held.spring + w))
+  where
+    by : (b : Bool) → (cond b (with_pass_begun held) held).book ≡ held.book
+    by true = refl
+    by false = refl
+
+pub ready_keeps : (old settled ready : Held) (w : ℕ) → SettlesDeep old settled → SettlesPass settled ready → KeepsBook old.book (begun_in w ready).book
+ready_keeps old settled ready w deep pass =
+    let one = deep_keeps old settled deep in
+    let two = pass_keeps settled ready pass in
+    let three = begun_book w ready in
+    record {
+      book = ap (λ (b : BookState). b.book) three ∙ two.book ∙ one.book;
+      seats = ap (λ (b : BookState). b.seats) three ∙ two.seats ∙ one.seats;
+      stopped = ap (λ (b : BookState). b.stopped) three ∙ two.stopped ∙ one.stopped;
+    }
+
+pub settled_between : SettledIsBetween
+settled_between old settled pace k deep = record {
+  numbers = now.numbers;
+  one = now.one;
+  version = now.version;
+  told = told_at old.book settled.book pace (deep_settled pace) (deep_keeps old settled deep) k.told (moves_book old.book.book old.book.seats pace 0 0 k.told.booked).0 (moves_keep pace 0 k.told.paced).0
+      (moves_few pace 0 k.told.paced k.counted).0 (moves_spend pace 0 k.told.paced k.told.spent).0;
+}
+  where
+    now : Stands settled (deep_settled pace)
+    now = settles_deep old settled pace (stands old pace k) deep
+
+pub moves_are_told : MovesAreTold
+moves_are_told old settled ready pace w k deep pass = (
+  settled_between old settled pace k deep,
+  record {
+    numbers = three.numbers;
+    one = three.one;
+    version = three.version;
+    told = told_at old.book (begun_in w ready).book pace (ready_for pace w) (ready_keeps old settled ready w deep pass) k.told (moves_book old.book.book old.book.seats pace w 0 k.told.booked).1 (moves_keep pace w k.told.paced).2
+        (moves_few pace w k.told.paced k.counted).1 (moves_spend pace w k.told.paced k.told.spent).1;
+  },
+)
+  where
+    two : Stands ready (pass_settled (deep_settled pace))
+    two = settles_pass settled ready (deep_settled pace) (settles_deep old settled pace (stands old pace k) deep) pass
+
+    three : Stands (begun_in w ready) (ready_for pace w)
+    three = begins w ready (pass_settled (deep_settled pace)) two
+
+-- ---- an admission
+
+-- an entry takes its room
+lowered : (xs : List ℕ) (seat : ℕ) → 0 < slice_index xs seat → sum (slice_set xs seat (slice_index xs seat - 1)) + 1 ≡ sum xs
+lowered xs seat some = by (nat_lt seat (length xs)) refl
+  where
+    by : (b : Bool) → nat_lt seat (length xs) ≡ b → sum (slice_set xs seat (slice_index xs seat - 1)) + 1 ≡ sum xs
+    by true there = omega (arith, some, sum_by-set (λ n. n) xs seat (slice_index xs seat - 1) 0 (ltb-true seat (length xs) there))
+    by false past = absurd (omega (arith, some, get_or_past xs seat 0 (ltb-false seat (length xs) past)))
+
+pub room_taken : (book : Book) (entry : Entry) → HasRoom book.room entry → length book.entries + sum book.room.entries ≤ most_entries → length (noted book entry).entries + sum (noted book entry).room.entries ≤ most_entries
+room_taken book entry room few = omega (arith, few, lowered book.room.entries entry.seat room.entries, length-append book.entries (entry ∷ []))
+
+charge_is : (held : Held) (pace : Pace) → HasPace held pace → charge pace ≡ charge_in held
+charge_is held pace p = cc (p.c1, p.c1x, p.c2, p.gears, p.a, p.b)
+
+-- a write that may be is an admission that may be, wherever it lands
+pub may_admit_of : (seat w : ℕ) (op : Op) (held : Held) (pace : Pace) (ahead : Bool) (after : ℕ) → IsPacedHeld held pace → MayWrite seat w op held → Lands (ready_for pace w) w ahead after → MayAdmit pace seat w (is_del op) ahead after
+may_admit_of seat w op held pace ahead after k may lands = record {
+  caller = may.caller;
+  settled = subst (λ (g : GearState). first_debt g seat + second_debt g seat ≡ 0) (sym k.numbers.gears) may.settled;
+  light = may.light;
+  heavy = may.heavy;
+  room = subst (λ (s : Sizes). charge pace + w ≤ charge_limit s (is_del op)) (sym sizes)
+      (subst (λ (n : ℕ). n + w ≤ charge_limit held.runs.sizes (is_del op)) (sym (charge_is held pace k.numbers)) may.room);
+  lands = lands;
+}
+  where
+    sizes : pace.gears.sizes ≡ held.runs.sizes
+    sizes = ap (λ (g : GearState). g.sizes) k.numbers.gears ∙ k.one.gears
+
+module _ (seat : ℕ) (op : Op) (key : Key) (rec : Rec) (old settled ready written new : Held) (pace : Pace) (writing : is_write op ≡ true) (weighs : total_weight (writes_of op) ≡ weight key rec)
+    (k : IsPacedHeld old pace) (may : MayWrite seat (weight key rec) op old) (room : HasRoom ready.book.book.room (done_entry seat op)) (admits : Admits seat op key rec old settled ready written new) where
+  abbrev begun : Held
+  begun = begun_in (weight key rec) ready
+
+  abbrev before : Pace
+  before = ready_for pace (weight key rec)
+
+  abbrev after : ℕ
+  after = weighs_after key begun written
+
+  abbrev ahead : Bool
+  ahead = goes_ahead key begun
+
+  abbrev next : Pace
+  next = with_write before seat (weight key rec) ahead after
+
+  between : IsBetween begun before
+  between = (moves_are_told old settled ready pace (weight key rec) k admits.deep admits.pass).1
+
+  wrote : Lands before (weight key rec) ahead after × HasPace written next
+  wrote = write_has_pace seat key rec begun written before between.numbers between.one admits.write
+
+  may_admit : MayAdmit pace seat (weight key rec) (is_del op) ahead after
+  may_admit = may_admit_of seat (weight key rec) op old pace ahead after k may wrote.0
+
+  book_is : written.book.book ≡ ready.book.book
+  book_is = ap (λ (b : BookState). b.book) admits.write.book ∙ ap (λ (b : BookState). b.book) (begun_book (weight key rec) ready)
+
+  seats_are : written.book.seats ≡ ready.book.seats
+  seats_are = ap (λ (b : BookState). b.seats) admits.write.book ∙ ap (λ (b : BookState). b.seats) (begun_book (weight key rec) ready)
+
+  booked : IsBookOf (noted written.book.book (done_entry seat op)) written.book.seats next
+  booked =
+      let was : IsBookOf ready.book.book ready.book.seats before = subst (λ (b : BookState). IsBookOf b.book b.seats before) (begun_book (weight key rec) ready) between.told.booked in
+      subst (λ (b : Book). IsBookOf (noted b (done_entry seat op)) written.book.seats next) (sym book_is)
+      (subst (λ (s : Seats). IsBookOf (noted ready.book.book (done_entry seat op)) s next) (sym seats_are)
+      (subst (λ (n : ℕ). IsBookOf (noted ready.book.book (done_entry seat op)) ready.book.seats (with_write before seat n ahead after)) weighs
+      (write_books ready.book.book ready.book.seats before seat op ahead after between.told.paced may.caller writing was)))
+
+  entries : length (noted written.book.book (done_entry seat op)).entries + sum (noted written.book.book (done_entry seat op)).room.entries ≤ most_entries
+  entries =
+      let was : length ready.book.book.entries + sum ready.book.book.room.entries ≤ most_entries = subst (λ (b : BookState). length b.book.entries + sum b.book.room.entries ≤ most_entries) (begun_book (weight key rec) ready) between.told.entries in
+      subst (λ (b : Book). length (noted b (done_entry seat op)).entries + sum (noted b (done_entry seat op)).room.entries ≤ most_entries) (sym book_is) (room_taken ready.book.book (done_entry seat op) room was)
+
+  counted : IsCounted next
+  counted = step_counts pace (Admit seat (weight key rec) (is_del op) ahead after) k.told.paced k.counted may_admit
+
+  noted_held : IsPacedHeld (with_book (noted_in seat op Done written.book) written) next
+  noted_held = record {
+    numbers = rebooked written (noted_in seat op Done written.book) next refl wrote.1;
+    told = record {
+      booked = booked;
+      paced = step_keeps pace (Admit seat (weight key rec) (is_del op) ahead after) k.told.paced may_admit;
+      few = counted_few next counted;
+      spent = step_spends pace (Admit seat (weight key rec) (is_del op) ahead after) k.told.paced k.told.spent may_admit;
+      entries = entries;
+    };
+    counted = counted;
+    one = one_rebooked written (noted_in seat op Done written.book) ((each_move_keeps_one begun written between.one).write seat key rec admits.write);
+    version = omega (arith, between.version, ap (λ (r : RunsState). r.catalogue.version) admits.write.runs);
+  }
+
+  pub admitted : IsPacedHeld new next
+  admitted = subst (λ (h : Held). IsPacedHeld h next) (sym admits.entry) noted_held
+
+  pub is_admission : IsAdmission seat op pace next
+  is_admission = (ahead, after, subst (λ (n : ℕ). MayAdmit pace seat n (is_del op) ahead after × (next ≡ with_write (ready_for pace n) seat n ahead after)) (sym weighs) (may_admit, refl))
+
+pub admission_is_paced : AdmissionIsPaced
+admission_is_paced seat op key rec old settled ready written new pace writing weighs k may room admits = (
+  with_write (ready_for pace (weight key rec)) seat (weight key rec) (goes_ahead key (begun_in (weight key rec) ready)) (weighs_after key (begun_in (weight key rec) ready) written),
+  is_admission seat op key rec old settled ready written new pace writing weighs k may room admits,
+  admitted seat op key rec old settled ready written new pace writing weighs k may room admits,
+)
+
+-- ---- debts, entries and stops
+
+pub forgiving_is_paced : ForgivingIsPaced
+forgiving_is_paced seat held pace caller k = (
+  record {
+    numbers = forgiving_has_pace seat held pace k.numbers;
+    told = record {
+      booked = (moves_book held.book.book held.book.seats pace 0 seat k.told.booked).2;
+      paced = forgiving_keeps pace seat k.told.paced caller;
+      few = record {
+        begins = k.told.few.begins;
+        running = k.told.few.running;
+        resting = k.told.few.resting;
+        turns = k.told.few.turns;
+        merging = k.told.few.merging;
+        unmerged = k.told.few.unmerged;
+      };
+      spent = forgave pace seat k.told.spent;
+      entries = k.told.entries;
+    };
+    one = (each_move_keeps_one held held k.one).forgiving seat;
+    version = k.version;
+  },
+  forgiving_keeps pace seat k.told.paced caller,
+)
+
+pub entry_is_told : EntryIsTold
+entry_is_told b pace seat op reply is room told = record {
+  booked = note_books b.book b.seats pace (record { seat = seat; op = op; reply = reply }) is told.booked;
+  paced = told.paced;
+  few = told.few;
+  spent = told.spent;
+  entries = room_taken b.book (record { seat = seat; op = op; reply = reply }) room told.entries;
+}
+
+pub stop_is_told : StopIsTold
+stop_is_told b pace why told = record { booked = told.booked; paced = told.paced; few = told.few; spent = told.spent; entries = told.entries }

@@ -1,0 +1,14 @@
+pub mod TestLemmas
+pub mod SwapLemmas
+pub mod QuantumLemmas
+pub mod WriteLemmas
+pub mod OneLemmas
+pub mod BookLemmas
+pub mod NeedLemmas
+pub mod CountLemmas
+pub mod OpeningLemmas
+pub mod EventLemmas
+pub mod PayLemmas
+pub mod CallLemmas
+pub mod TurnLemmas
+pub mod MadeLemmas

@@ -1,0 +1,237 @@
+-- A seat that pays has a merge to pay and a write that it pays for, and its payment is one of the pacing.
+use Rattle.std.proofs.Common.{◌≡◌, ◌∙◌, ℕ, zero, suc, ◌+◌, ◌-◌, ◌*◌, ◌<◌, ◌≤◌, Bool, true, false, cond, not, ◌||◌, List, length, refl, ap, sym, subst, arith}
+use Rattle.std.specs.Prelude.{◌==◌, is_some, sum, nat_le, slice_index}
+use Rattle.std.specs.Int.{div_ceil}
+use Rattle.std.proofs.lemmas.Bool.{false≢true, eq-eqb}
+use Rattle.blsm_model.specs.Format.{callers, most_entries}
+use Rattle.blsm_model.specs.Book.{entry_at}
+use Rattle.blsm_model.specs.Geometry.{first_gear, second_gear, work_bound}
+use Rattle.blsm_model.specs.Histories.{writes_of}
+use Rattle.blsm_model.specs.Legal.{total_weight}
+use Rattle.blsm_model.specs.Sizes.{Sizes, IsGeometry}
+use Rattle.gear_sched.specs.Gears.{GearState, Owes, first_debt, second_debt, plan_for}
+use Rattle.gear_sched.specs.declared.Plan.{Plan}
+use Rattle.gear_sched.specs.declared.Plan.TheVariants.{Snow, Deep, Nothing}
+use Rattle.pacing.specs.Pace.{Pace, Quantum, with_forgiven, with_snow, with_deep, pass_over, deep_over}
+use Rattle.pacing.specs.Kept.{IsPaced, quanta_for, quanta_owed}
+use Rattle.pacing.specs.Counts.{IsCounted}
+use Rattle.pacing.specs.Steps.{Pay, MayPay, FitsPlan, plan_of, paid_by}
+use Rattle.pacing.proofs.Runs.{step_keeps}
+use Rattle.pacing.proofs.Counts.{step_counts, counted_few}
+use Rattle.pacing.proofs.Spent.{step_spends}
+use Rattle.pacing.proofs.Numbers.{one_at_least, none_for_none}
+use Rattle.pacing.proofs.Promises.{forgiving_keeps}
+use Rattle.pacing.proofs.Payments.{snow_owed, deep_owed, nothing_left}
+use Rattle.paced_tree.specs.Booking.{IsBookOf}
+use Rattle.paced_tree.specs.Numbers.{is_last}
+use Rattle.paced_tree.specs.Made.{IsPaidBy}
+use Rattle.paced_tree.proofs.BookLaws.{pay_books}
+use Rattle.seat_book.specs.State.{BookState, quantum_counted_in, paid_in}
+use Rattle.tree_machine.specs.Steps.{Paid, last_write}
+use Rattle.seat_book.specs.Places.{HasWrite}
+use Rattle.tree_runs.specs.Runs.{left_for_pass, left_for_deep}
+use Rattle.catalog_swap.specs.declared.catalog.Catalog.{Catalog}
+use Rattle.core_moves.specs.declared.held.Held.{Held}
+use Rattle.core_moves.specs.Held.{IsOne}
+use Rattle.core_moves.specs.Moves.{with_debts_forgiven, with_book}
+use Rattle.core_pace.specs.Pacing.{HasPace, IsPacedHeld, most_opened}
+use Rattle.core_pace.specs.Laws.{snow_quantum, deep_quantum}
+use Rattle.core_pace.specs.Needs.{EachPlanRuns, PayersWrote}
+use Rattle.core_pace.specs.Events.{MayPayIn, Pays, PaymentIsPaced, TakesByPlan, IsBetween, plan_in}
+use Rattle.core_pace.proofs.TestLemmas.{each_test_agrees}
+use Rattle.core_pace.proofs.QuantumLemmas.{snow_has_pace, deep_has_pace, count_has_pace}
+use Rattle.core_pace.proofs.OneLemmas.{each_move_keeps_one}
+use Rattle.core_pace.proofs.BookLemmas.{rebooked, one_rebooked}
+use Rattle.core_pace.proofs.EventLemmas.{forgiving_is_paced}
+
+-- a merge that isn't over runs, and something is left
+runs_on : (runs : Bool) (left : ℕ) → (not runs || (left == 0)) ≡ false → (runs ≡ true) × (0 < left)
+runs_on true left is = (refl, some left is)
+  where
+    some : (n : ℕ) → (n == 0) ≡ false → 0 < n
+    some zero differs = absurd (false≢true (sym differs ∙ eq-eqb 0 0 refl))
+    some (suc n) differs = omega arith
+runs_on false left is = absurd (false≢true (sym is))
+
+in_place : (xs : List ℕ) (seat : ℕ) → length xs ≡ callers → seat < callers → seat < length xs
+in_place xs seat is caller = omega (arith, is, caller)
+
+-- the seat owes to a pass that isn't over
+snow_runs : (pace : Pace) (seat : ℕ) → IsPaced pace → seat < callers → plan_of (with_forgiven pace seat) seat ≡ Snow → pass_over pace ≡ false
+snow_runs pace seat paced caller is =
+    nothing_left pace.gears.first_debts seat (pass_over pace) (nat_le (first_gear pace.gears.sizes * pace.gears.pass_admitted) (pace.gears.pass_taken + (sum pace.gears.first_debts - first_debt pace.gears seat)))
+    (in_place pace.gears.first_debts seat paced.debts.first_seats caller) (snow_owed (first_debt (with_forgiven pace seat).gears seat) (second_debt (with_forgiven pace seat).gears seat) is)
+
+-- or to such a deep merge
+deep_runs : (pace : Pace) (seat : ℕ) → IsPaced pace → seat < callers → plan_of (with_forgiven pace seat) seat ≡ Deep → deep_over pace ≡ false
+deep_runs pace seat paced caller is =
+    nothing_left pace.gears.second_debts seat (deep_over pace) (nat_le (second_gear pace.gears.sizes * pace.gears.deep_admitted) (pace.gears.deep_taken + (sum pace.gears.second_debts - second_debt pace.gears seat)))
+    (in_place pace.gears.second_debts seat paced.debts.second_seats caller) (deep_owed (first_debt (with_forgiven pace seat).gears seat) (second_debt (with_forgiven pace seat).gears seat) is)
+
+pub each_plan_runs : EachPlanRuns
+each_plan_runs held pace seat p paced caller = record {
+  pass = λ is. runs_on (is_some held.runs.pass) (left_for_pass held.runs.pass held.log.a.entries) ((each_test_agrees held pace p).pass_over ∙ snow_runs pace seat paced caller is);
+  deep = λ is. runs_on (is_some held.runs.deep) (left_for_deep held.runs.deep) ((each_test_agrees held pace p).deep_over ∙ deep_runs pace seat paced caller is);
+}
+
+-- ---- whose write it is
+
+-- Some quanta are owed by a seat that pays.
+some_owed : (pace : Pace) (seat : ℕ) → IsPaced pace → seat < callers → (plan_of (with_forgiven pace seat) seat ≡ Nothing → ⊥) → 0 < quanta_owed (with_forgiven pace seat) seat
+some_owed pace seat paced caller owes = by (plan_of (with_forgiven pace seat) seat) refl
+  where
+    quantum : 0 < pace.gears.sizes.quantum
+    quantum = let fits = paced.within.sizes.quantum in omega (arith, fits)
+
+    by : (plan : Plan) → plan_of (with_forgiven pace seat) seat ≡ plan → 0 < quanta_owed (with_forgiven pace seat) seat
+    by Nothing is = absurd (owes is)
+    by Snow is =
+        let some = one_at_least (first_debt (with_forgiven pace seat).gears seat) pace.gears.sizes.quantum quantum (snow_owed (first_debt (with_forgiven pace seat).gears seat) (second_debt (with_forgiven pace seat).gears seat) is) in
+        let first : cond (pass_over pace) 0 (quanta_for pace.gears.sizes (first_debt (with_forgiven pace seat).gears seat)) ≡ quanta_for pace.gears.sizes (first_debt (with_forgiven pace seat).gears seat)
+        = ap (λ (b : Bool). cond b 0 (quanta_for pace.gears.sizes (first_debt (with_forgiven pace seat).gears seat))) (snow_runs pace seat paced caller is) in
+        omega (arith, some, first)
+    by Deep is =
+        let some = one_at_least (second_debt (with_forgiven pace seat).gears seat) pace.gears.sizes.quantum quantum (deep_owed (first_debt (with_forgiven pace seat).gears seat) (second_debt (with_forgiven pace seat).gears seat) is) in
+        let second : cond (deep_over pace) 0 (quanta_for pace.gears.sizes (second_debt (with_forgiven pace seat).gears seat)) ≡ quanta_for pace.gears.sizes (second_debt (with_forgiven pace seat).gears seat)
+        = ap (λ (b : Bool). cond b 0 (quanta_for pace.gears.sizes (second_debt (with_forgiven pace seat).gears seat))) (deep_runs pace seat paced caller is) in
+        omega (arith, some, second)
+
+-- a seat without a write is bound to none
+bound_to_none : (sizes : Sizes) → IsGeometry sizes → work_bound sizes 0 ≡ 0
+bound_to_none sizes fits =
+    let some : 0 < sizes.quantum = omega (arith, fits.quantum) in
+    let none = none_for_none sizes.quantum some in
+    let first : first_gear sizes * 0 ≡ 0 = omega arith in
+    let second : second_gear sizes * 0 ≡ 0 = omega arith in
+    omega (arith, none, ap (λ (n : ℕ). div_ceil n sizes.quantum) first, ap (λ (n : ℕ). div_ceil n sizes.quantum) second)
+
+pub payers_wrote : PayersWrote
+payers_wrote held pace seat told caller owes = by (is_last held.book.book seat) refl
+  where
+    by : (b : Bool) → is_last held.book.book seat ≡ b → HasWrite seat held.book.book
+    by true is = is
+    by false is =
+        let kept = forgiving_keeps pace seat told.paced caller in
+        let weight : slice_index pace.weights seat ≡ 0 = (told.booked.last seat).0 ∙ ap (λ (b : Bool). cond b (total_weight (writes_of (entry_at held.book.book (last_write seat held.book.book.entries)).op)) 0) is in
+        let bound = kept.bound seat in
+        let none = ap (λ (w : ℕ). work_bound pace.gears.sizes w) weight ∙ bound_to_none pace.gears.sizes told.paced.within.sizes in
+        let some = some_owed pace seat told.paced caller owes in
+        absurd (omega (arith, bound, none, some))
+
+-- ---- a payment
+
+-- a plan to pay a merge isn't the one to pay none
+abbrev IsSome : Plan → Type 0
+IsSome Nothing = ⊥
+IsSome _ = Unit {0}
+
+snow_some : Snow ≡ Nothing → ⊥
+snow_some is = subst (λ (plan : Plan). IsSome plan) is tt
+
+deep_some : Deep ≡ Nothing → ⊥
+deep_some is = subst (λ (plan : Plan). IsSome plan) is tt
+
+-- what the quantum leaves, where the plan is known
+record Took (taken : Held) (before : Pace) (seat : ℕ) (plan : Plan) (quantum : Quantum) : Type 0 where
+  pub fits : FitsPlan plan before quantum
+  pub numbers : HasPace taken (paid_by plan before seat quantum)
+  pub one : IsOne taken
+  pub version : taken.runs.catalogue.version ≤ most_opened + ((paid_by plan before seat quantum).passes + (paid_by plan before seat quantum).deeps + (paid_by plan before seat quantum).rotations)
+  pub some : plan ≡ Nothing → ⊥
+
+module _ (seat n : ℕ) (old taken new : Held) (pace : Pace) (k : IsPacedHeld old pace) (may : MayPayIn seat old) (pays : Pays seat n old taken new) where
+  abbrev forgave : Pace
+  forgave = with_forgiven pace seat
+
+  abbrev lighter : Held
+  lighter = with_debts_forgiven seat old
+
+  between : IsBetween lighter forgave
+  between = (forgiving_is_paced seat old pace may.caller k).0
+
+  kept : IsPaced forgave
+  kept = (forgiving_is_paced seat old pace may.caller k).1
+
+  plan_is : plan_of forgave seat ≡ plan_in seat old
+  plan_is = ap (λ (g : GearState). plan_for (first_debt g seat) (second_debt g seat)) between.numbers.gears
+
+  took_by : (plan : Plan) → plan_of forgave seat ≡ plan → TakesByPlan plan seat n lighter taken → (quantum : Quantum) × Took taken forgave seat plan quantum
+  took_by Nothing is takes = absurd takes
+  took_by Snow is takes =
+      let some = (each_plan_runs old pace seat k.numbers k.told.paced may.caller).pass is in
+      let snow = snow_has_pace seat n lighter taken forgave between.numbers between.one kept.within some.1 takes in (
+        snow_quantum n lighter taken,
+        record {
+          fits = snow.0;
+          numbers = count_has_pace seat taken (with_snow forgave seat (snow_quantum n lighter taken)) snow.1;
+          one = (each_move_keeps_one lighter taken between.one).snow seat n takes;
+          version = omega (arith, between.version, ap (λ (c : Catalog). c.version) takes.others.catalogue);
+          some = snow_some;
+        },
+      )
+  took_by Deep is takes =
+      let deep = deep_has_pace seat n lighter taken forgave between.numbers between.one kept.within takes in (
+        deep_quantum n taken,
+        record {
+          fits = deep.0;
+          numbers = count_has_pace seat taken (with_deep forgave seat (deep_quantum n taken)) deep.1;
+          one = (each_move_keeps_one lighter taken between.one).deep seat n takes;
+          version = omega (arith, between.version, ap (λ (c : Catalog). c.version) takes.others.catalogue);
+          some = deep_some;
+        },
+      )
+
+  took : (quantum : Quantum) × Took taken forgave seat (plan_in seat old) quantum
+  took = took_by (plan_in seat old) plan_is pays.takes
+
+  abbrev next : Pace
+  next = paid_by (plan_of forgave seat) forgave seat took.0
+
+  may_pay : MayPay pace seat took.0
+  may_pay = record {
+    caller = may.caller;
+    owes = subst (λ (g : GearState). Owes g seat) (sym k.numbers.gears) may.owes;
+    fits = subst (λ (plan : Plan). FitsPlan plan forgave took.0) (sym plan_is) took.1.fits;
+  }
+
+  book_by : (plan : Plan) → TakesByPlan plan seat n lighter taken → taken.book ≡ quantum_counted_in seat old.book
+  book_by Nothing takes = absurd takes
+  book_by Snow takes = takes.book
+  book_by Deep takes = takes.book
+
+  book_is : taken.book ≡ quantum_counted_in seat old.book
+  book_is = book_by (plan_in seat old) pays.takes
+
+  booked : IsBookOf (paid_in seat taken.book).book (paid_in seat taken.book).seats next
+  booked =
+      subst (λ (b : BookState). IsBookOf (paid_in seat b).book (paid_in seat b).seats next) (sym book_is)
+      (pay_books old.book.book old.book.seats pace seat took.0 k.told.paced may_pay (λ is. took.1.some (sym plan_is ∙ is)) k.told.booked)
+
+  counts : IsCounted next
+  counts = step_counts pace (Pay seat took.0) k.told.paced k.counted may_pay
+
+  paid_held : IsPacedHeld (with_book (paid_in seat taken.book) taken) next
+  paid_held = record {
+    numbers = rebooked taken (paid_in seat taken.book) next refl (subst (λ (plan : Plan). HasPace taken (paid_by plan forgave seat took.0)) (sym plan_is) took.1.numbers);
+    told = record {
+      booked = booked;
+      paced = step_keeps pace (Pay seat took.0) k.told.paced may_pay;
+      few = counted_few next counts;
+      spent = step_spends pace (Pay seat took.0) k.told.paced k.told.spent may_pay;
+      entries = subst (λ (b : BookState). length b.book.entries + sum b.book.room.entries ≤ most_entries) (sym book_is) k.told.entries;
+    };
+    counted = counts;
+    one = one_rebooked taken (paid_in seat taken.book) took.1.one;
+    version = subst (λ (plan : Plan). taken.runs.catalogue.version ≤ most_opened + ((paid_by plan forgave seat took.0).passes + (paid_by plan forgave seat took.0).deeps + (paid_by plan forgave seat took.0).rotations)) (sym plan_is) took.1.version;
+  }
+
+  paid : IsPacedHeld new next
+  paid = subst (λ (h : Held). IsPacedHeld h next) (sym pays.counted) paid_held
+
+  is_paid : IsPaidBy Paid seat pace next
+  is_paid = (took.0, may_pay, refl)
+
+pub payment_is_paced : PaymentIsPaced
+payment_is_paced seat n old taken new pace k may pays =
+    let quantum = (took seat n old taken new pace k may pays).0 in
+    (paid_by (plan_of (with_forgiven pace seat) seat) (with_forgiven pace seat) seat quantum, is_paid seat n old taken new pace k may pays, paid seat n old taken new pace k may pays)

@@ -1,0 +1,184 @@
+-- Quanta have the pace that the pacing makes of them.
+use Rattle.std.proofs.Common.{◌≡◌, ◌⊎◌, ⊎_elim, inl, inr, ℕ, ◌+◌, ◌<◌, ◌≤◌, true, Option, Some, None, refl, ap, sym, subst, arith}
+use Rattle.std.specs.Prelude.{is_some}
+use Rattle.blsm_model.specs.Sizes.{Sizes}
+use Rattle.record_delta.specs.Entries.{Entries}
+use Rattle.pacing.specs.Pace.{with_snow, with_deep}
+use Rattle.snow_merge.specs.Pass.{SnowState}
+use Rattle.deep_merge.specs.Merge.{DeepState}
+use Rattle.tree_runs.specs.Runs.{made_by_pass, made_by_deep, left_for_pass, left_for_deep}
+use Rattle.tree_runs.specs.Holding.{PassTakes, DeepTakes}
+use Rattle.core_pace.specs.Pacing.{HasPace, HasTaken, table_left}
+use Rattle.core_pace.specs.Laws.{SnowHasPace, DeepHasPace, CountHasPace, snow_quantum, deep_quantum}
+
+-- What a quantum of a pass took, of both inputs and of table A, by what is left.
+pub record Took (old new : Option SnowState) (a : Entries) (n : ℕ) : Type 0 where
+  pub ran : is_some old ≡ true
+  pub runs : is_some new ≡ true
+  pub left : n + left_for_pass new a ≡ left_for_pass old a
+  pub table : table_left new a ≤ table_left old a
+  pub of_table : table_left old a ≤ table_left new a + n
+  pub rest : table_left new a ≤ left_for_pass new a
+  pub light : (made_by_pass new).weight ≤ (made_by_pass old).weight + n
+
+pub took : (old new : Option SnowState) (a : Entries) (n : ℕ) → PassTakes old new a n → Took old new a n
+took None None a n t = absurd t
+took None (Some new) a n t = absurd t
+took (Some old) None a n t = absurd t
+took (Some old) (Some new) a n t = record {
+  ran = refl;
+  runs = refl;
+  left = omega (arith, t.taken_is, t.table, t.c1);
+  table = omega (arith, t.table);
+  of_table = omega (arith, t.taken_is, t.table);
+  rest = omega arith;
+  light = t.light;
+}
+
+-- what a quantum of a deep merge took
+pub record DeepTook (old new : Option DeepState) (n : ℕ) : Type 0 where
+  pub ran : is_some old ≡ true
+  pub runs : is_some new ≡ true
+  pub left : n + left_for_deep new ≡ left_for_deep old
+  pub light : (made_by_deep new).weight ≤ (made_by_deep old).weight + n
+
+pub deep_took : (old new : Option DeepState) (n : ℕ) → DeepTakes old new n → DeepTook old new n
+deep_took None None n t = absurd t
+deep_took None (Some new) n t = absurd t
+deep_took (Some old) None n t = absurd t
+deep_took (Some old) (Some new) n t = record {
+  ran = refl;
+  runs = refl;
+  left = omega (arith, t.taken_is, t.c1x, t.c2);
+  light = t.light;
+}
+
+-- a pass that has taken something may stand at any key
+at_some : (snow : Option SnowState) (taken : ℕ) → 0 < taken → HasTaken snow taken
+at_some None taken some = tt
+at_some (Some snow) taken some = λ is. some
+
+pub snow_has_pace : SnowHasPace
+snow_has_pace seat n old new pace p one within some m = (is_snow, has)
+  where
+    t : Took old.runs.pass new.runs.pass old.log.a.entries n
+    t = took old.runs.pass new.runs.pass old.log.a.entries n m.takes
+
+    runs : pace.gears.pass ≡ true
+    runs = cc (p.in_pass, t.ran)
+
+    left : pace.gears.pass_taken + left_for_pass old.runs.pass old.log.a.entries ≡ pace.a + pace.c1
+    left = p.pass_left t.ran
+
+    made : pace.made1 ≤ pace.gears.pass_taken
+    made = (within.running runs).made
+
+    sizes : pace.gears.sizes ≡ old.runs.sizes
+    sizes = cc (p.gears, one.gears)
+
+    quantum : 0 < pace.gears.sizes.quantum
+    quantum = let fits = within.sizes.quantum in omega arith
+
+    same : pace.gears.sizes.quantum ≡ old.runs.sizes.quantum
+    same = ap (λ (s : Sizes). s.quantum) sizes
+
+    enough : (pace.gears.sizes.quantum ≤ n) ⊎ (pace.gears.pass_taken + n ≡ pace.a + pace.c1)
+    enough = ⊎_elim (λ (more : old.runs.sizes.quantum ≤ n). inl (omega (arith, more, same))) (λ (none : left_for_pass new.runs.pass old.log.a.entries ≡ 0). inr (omega (arith, none, left, t.left))) m.enough
+
+    is_snow : Rattle.pacing.specs.Steps.IsSnow pace (snow_quantum n old new)
+    is_snow = (
+      record {
+        enough = enough;
+        few = omega (arith, m.bound, same);
+        left = omega (arith, left, t.left);
+        written = omega (arith, p.made1, t.light, made);
+      },
+      omega (arith, t.of_table),
+      omega (arith, p.taken, t.table),
+      omega (arith, left, t.left, t.rest, t.table, p.taken),
+    )
+
+    taken_some : 0 < pace.gears.pass_taken + n
+    taken_some = ⊎_elim (λ (more : pace.gears.sizes.quantum ≤ n). omega (arith, more, quantum)) (λ (full : pace.gears.pass_taken + n ≡ pace.a + pace.c1). omega (arith, full, left, some)) enough
+
+    has : HasPace new (with_snow pace seat (snow_quantum n old new))
+    has = record {
+      gears = cc (p.gears, m.gears);
+      a = cc (p.a, m.log);
+      taken = let table : table_left new.runs.pass new.log.a.entries ≡ table_left new.runs.pass old.log.a.entries = cc m.log in omega (arith, table, p.taken, t.table);
+      b = cc (p.b, m.log);
+      c1 = cc (p.c1, m.others.catalogue);
+      c1x = cc (p.c1x, m.others.catalogue);
+      c2 = cc (p.c2, m.others.catalogue);
+      made1 = refl;
+      made2 = cc (p.made2, m.others.deep);
+      spring = cc (p.spring, m.spring);
+      lane_a = cc (p.lane_a, m.log);
+      lane_b = cc (p.lane_b, m.log);
+      opening = cc (p.opening, m.book);
+      peak = cc (p.peak, m.book);
+      passes = cc (p.passes, m.book);
+      deeps = cc (p.deeps, m.book);
+      in_pass = cc (runs, t.runs);
+      in_deep = cc (p.in_deep, m.others.deep);
+      pass_left = λ _. let same_left : left_for_pass new.runs.pass new.log.a.entries ≡ left_for_pass new.runs.pass old.log.a.entries = cc m.log in omega (arith, same_left, left, t.left);
+      deep_left = λ is. let was = p.deep_left (cc (is, m.others.deep)) in cc (was, m.others.deep);
+      started = at_some new.runs.pass (pace.gears.pass_taken + n) taken_some;
+    }
+
+pub deep_has_pace : DeepHasPace
+deep_has_pace seat n old new pace p one within m = (is_deep, has)
+  where
+    t : DeepTook old.runs.deep new.runs.deep n
+    t = deep_took old.runs.deep new.runs.deep n m.takes
+
+    runs : pace.gears.deep ≡ true
+    runs = cc (p.in_deep, t.ran)
+
+    left : pace.gears.deep_taken + left_for_deep old.runs.deep ≡ pace.c1x + pace.c2
+    left = p.deep_left t.ran
+
+    made : pace.made2 ≤ pace.gears.deep_taken
+    made = (within.merging runs).made
+
+    sizes : pace.gears.sizes ≡ old.runs.sizes
+    sizes = cc (p.gears, one.gears)
+
+    same : pace.gears.sizes.quantum ≡ old.runs.sizes.quantum
+    same = ap (λ (s : Sizes). s.quantum) sizes
+
+    is_deep : Rattle.pacing.specs.Steps.IsDeep pace (deep_quantum n new)
+    is_deep = record {
+      enough = ⊎_elim (λ (more : old.runs.sizes.quantum ≤ n). inl (omega (arith, more, same))) (λ (none : left_for_deep new.runs.deep ≡ 0). inr (omega (arith, none, left, t.left))) m.enough;
+      few = omega (arith, m.bound, same);
+      left = omega (arith, left, t.left);
+      written = omega (arith, p.made2, t.light, made);
+    }
+
+    has : HasPace new (with_deep pace seat (deep_quantum n new))
+    has = record {
+      gears = cc (p.gears, m.gears);
+      a = cc (p.a, m.log);
+      taken = cc (p.taken, m.log, m.others.pass);
+      b = cc (p.b, m.log);
+      c1 = cc (p.c1, m.others.catalogue);
+      c1x = cc (p.c1x, m.others.catalogue);
+      c2 = cc (p.c2, m.others.catalogue);
+      made1 = cc (p.made1, m.others.pass);
+      made2 = refl;
+      spring = cc (p.spring, m.spring);
+      lane_a = cc (p.lane_a, m.log);
+      lane_b = cc (p.lane_b, m.log);
+      opening = cc (p.opening, m.book);
+      peak = cc (p.peak, m.book);
+      passes = cc (p.passes, m.book);
+      deeps = cc (p.deeps, m.book);
+      in_pass = cc (p.in_pass, m.others.pass);
+      in_deep = cc (runs, t.runs);
+      pass_left = λ is. let was = p.pass_left (cc (is, m.others.pass)) in cc (was, m.others.pass, m.log);
+      deep_left = λ _. omega (arith, left, t.left);
+      started = subst (λ (s : Option SnowState). HasTaken s pace.gears.pass_taken) (sym m.others.pass) p.started;
+    }
+
+pub count_has_pace : CountHasPace
+count_has_pace seat held pace p = assumption
