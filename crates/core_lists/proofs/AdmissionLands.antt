@@ -1,0 +1,123 @@
+-- An admission's moves, over the lists.
+use Rattle.std.specs.Prelude.{is_some, nat_lt}
+use Rattle.std.proofs.Common.{◌≡◌, ◌∙◌, ℕ, ◌+◌, Bool, true, false, cond, not, ◌&&◌, List, ⊎_elim, refl, ap, sym, subst}
+use Rattle.blsm_model.specs.Sizes.{Sizes}
+use Rattle.blsm_model.specs.declared.op.Write.{Write}
+use Rattle.blsm_model.specs.declared.history.Reply.TheVariants.{Done}
+use Rattle.blsm_model.specs.Histories.{writes_of}
+use Rattle.blsm_model.specs.Legal.{total_weight}
+use Rattle.blsm_model.specs.Values.{key_of}
+use Rattle.record_delta.specs.Records.{record_of}
+use Rattle.gear_sched.specs.Gears.{GearState, pass_ended, rotated}
+use Rattle.seat_book.specs.State.{noted_in}
+use Rattle.tree_machine.specs.Machine.{Machine, in_pass, pass_done, deep_done}
+use Rattle.tree_machine.specs.Moves.{begin_pass, swap_deep, swap_pass, take_write, with_peak, note}
+use Rattle.tree_machine.specs.Steps.{deep_swapped, swapped, ready_for, taken_once}
+use Rattle.tree_machine.proofs.CarryLemmas.{deep_swapped_carries, swapped_carries, ready_carries}
+use Rattle.tree_file.specs.Tree.{Tree}
+use Rattle.tree_log.specs.Log.{appended}
+use Rattle.tree_runs.specs.Runs.{made_by_pass}
+use Rattle.tree_runs.specs.Holding.{AreOf}
+use Rattle.core_moves.specs.declared.held.Held.{Held}
+use Rattle.core_moves.specs.Held.{goes_ahead, is_run_full}
+use Rattle.core_moves.specs.Moves.{SettlesDeep, SettlesPass, with_pass_begun, with_book}
+use Rattle.core_lists.specs.Standing.{IsAt}
+use Rattle.core_lists.specs.Lists.{Agrees}
+use Rattle.core_lists.specs.Admissions.{DeepSettlingLands, PassSettlingLands, BeginningLands, ReadyingLands, AdmissionLands}
+use Rattle.core_lists.proofs.SwapLands.{deep_swap_lands, pass_swap_lands, begin_lands}
+use Rattle.core_lists.proofs.WriteLands.{runs_as, write_lands, book_lands}
+use Rattle.core_lists.proofs.TestLemmas.{tests_agree_with_lists}
+
+-- a test that doesn't hold fails
+fails : (b : Bool) → (b ≡ true → ⊥) → b ≡ false
+fails true never = absurd (never refl)
+fails false never = refl
+
+-- the same core with another tree, over the same file
+pub same_tree : (held new : Held) (tree next : Tree) (m : Machine) (file after : List ℕ) → new ≡ held → next ≡ tree → IsAt held tree m file → AreOf new.runs next new.log.a.entries after → IsAt new next m after
+same_tree held new tree next m file after same stays at are_of =
+    let there : IsAt held next m file = subst (λ (t : Tree). IsAt held t m file) (sym stays) at in
+    let here : IsAt new next m file = subst (λ (h : Held). IsAt h next m file) (sym same) there in
+    record { are_of = are_of; holds = here.holds }
+
+pub deep_settling_lands : DeepSettlingLands
+deep_settling_lands old new tree next m pace file after at sound has settles trees are_of =
+    let agrees : Agrees old m = tests_agree_with_lists old tree m file pace at sound has in
+    ⊎_elim (λ done.
+    let is : deep_done m ≡ true = agrees.deep_is_done.0 done.0 in
+    subst (λ (b : Bool). IsAt new next (cond b (swap_deep m) m) after) (sym is) (deep_swap_lands old new tree next m file after at sound is done.1 (trees.done done.0) are_of))
+    (λ rests.
+    let is : deep_done m ≡ false = fails (deep_done m) (λ yes. rests.0 (agrees.deep_is_done.1 yes)) in
+    subst (λ (b : Bool). IsAt new next (cond b (swap_deep m) m) after) (sym is) (same_tree old new tree next m file after rests.1 (trees.rests rests.0) at are_of))
+    settles
+
+pub pass_settling_lands : PassSettlingLands
+pass_settling_lands old new tree next m pace file after at sound has sizes settles trees are_of =
+    let agrees : Agrees old m = tests_agree_with_lists old tree m file pace at sound has in
+    ⊎_elim (λ done.
+    let is : pass_done m ≡ true = agrees.pass_is_done.0 done.0 in
+    subst (λ (b : Bool). IsAt new next (cond b (swap_pass m) m) after) (sym is)
+    (pass_swap_lands old new tree next m file after at sound is sizes done.1 (trees.done done.0) (trees.turns done.0) are_of))
+    (λ rests.
+    let is : pass_done m ≡ false = fails (pass_done m) (λ yes. rests.0 (agrees.pass_is_done.1 yes)) in
+    subst (λ (b : Bool). IsAt new next (cond b (swap_pass m) m) after) (sym is) (same_tree old new tree next m file after rests.1 (trees.rests rests.0) at are_of))
+    settles
+
+pub beginning_lands : BeginningLands
+beginning_lands w held tree m file at sound sizes are_of =
+    subst (λ (b : Bool). IsAt (cond test (with_pass_begun held) held) tree (cond b (begin_pass m) m) file) (sym same) (by test are_of)
+  where
+    test : Bool
+    test = not (is_some held.runs.pass) && nat_lt held.runs.sizes.low (held.spring + w)
+
+    runs : in_pass m ≡ is_some held.runs.pass
+    runs = runs_as m held sound at.holds.pass
+
+    same : (not (in_pass m) && nat_lt m.gears.sizes.low (m.spring + w)) ≡ test
+    same =
+        ap (λ (b : Bool). not b && nat_lt m.gears.sizes.low (m.spring + w)) runs
+        ∙ ap (λ (s : Sizes). not (is_some held.runs.pass) && nat_lt s.low (m.spring + w)) (ap (λ (g : GearState). g.sizes) at.holds.gears ∙ sizes)
+        ∙ ap (λ (n : ℕ). not (is_some held.runs.pass) && nat_lt held.runs.sizes.low (n + w)) at.holds.spring
+
+    by : (b : Bool) → AreOf (cond b (with_pass_begun held) held).runs tree (cond b (with_pass_begun held) held).log.a.entries file → IsAt (cond b (with_pass_begun held) held) tree (cond b (begin_pass m) m) file
+    by true of = begin_lands held tree m file at of
+    by false of = at
+
+-- the swaps leave the sizes
+sizes_after_deep : (old new : Held) → SettlesDeep old new → old.gears.sizes ≡ old.runs.sizes → new.gears.sizes ≡ new.runs.sizes
+sizes_after_deep old new settles sizes =
+    ⊎_elim (λ done. ap (λ (g : GearState). g.sizes) done.1.gears ∙ sizes ∙ sym done.1.runs.sizes)
+    (λ rests. subst (λ (h : Held). h.gears.sizes ≡ h.runs.sizes) (sym rests.1) sizes)
+    settles
+
+sizes_after_pass : (old new : Held) → SettlesPass old new → old.gears.sizes ≡ old.runs.sizes → new.gears.sizes ≡ new.runs.sizes
+sizes_after_pass old new settles sizes =
+    ⊎_elim (λ done. ap (λ (g : GearState). g.sizes) done.1.gears ∙ by (is_run_full old) ∙ sizes ∙ sym done.1.runs.sizes)
+    (λ rests. subst (λ (h : Held). h.gears.sizes ≡ h.runs.sizes) (sym rests.1) sizes)
+    settles
+  where
+    by : (b : Bool) → (cond b (rotated (pass_ended old.gears) ((made_by_pass old.runs.pass).weight + old.runs.catalogue.c2.weight)) (pass_ended old.gears)).sizes ≡ old.gears.sizes
+    by true = refl
+    by false = refl
+
+pub readying_lands : ReadyingLands
+readying_lands w old settled ready tree middle next m before after file between last at sound way sizes has then_has moves =
+    let then_sizes = sizes_after_deep old settled moves.deep sizes in
+    let first = deep_settling_lands old settled tree middle m before file between at sound has moves.deep moves.deep_tree moves.after_deep in
+    let second = pass_settling_lands settled ready middle next (deep_swapped m) after between last first (deep_swapped_carries m sound).sound then_has then_sizes moves.pass moves.pass_tree moves.after_pass in
+    record {
+      after_deep = first;
+      after_pass = second;
+      begun = beginning_lands w ready next (swapped m) last second (swapped_carries m sound way).sound (sizes_after_pass settled ready moves.pass then_sizes) moves.begun;
+    }
+
+pub admission_lands : AdmissionLands
+admission_lands seat op write begun written new tree m file after writes sound way at moves noted of_log are_of =
+    let w = total_weight (writes_of op) in
+    let ready = ready_for w m in
+    let next = appended (goes_ahead (key_of write) begun) (key_of write, record_of write) tree in
+    let book = noted_in seat op Done written.book in
+    let wrote = write_lands seat write begun written tree ready file after at (ready_carries w m sound way).sound moves of_log are_of in
+    let entered = (book_lands written next (with_peak (take_write seat write ready)) after wrote).note seat op Done in
+    subst (λ (h : Held). IsAt h next (note seat op Done (with_peak (taken_once seat (writes_of op) ready))) after) (sym noted)
+    (subst (λ (ws : List Write). IsAt (with_book book written) next (note seat op Done (with_peak (taken_once seat ws ready))) after) (sym writes) entered)

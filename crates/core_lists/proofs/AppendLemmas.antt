@@ -1,0 +1,220 @@
+-- What the images show of a write that is appended.
+use Rattle.std.proofs.Common.{◌≡◌, ◌∙◌, ℕ, ◌+◌, ◌<◌, ◌≤◌, Bool, true, false, cond, ◌&&◌, List, [], ◌∷◌, ◌++◌, flat_map, length, Option, ⊎_elim, refl, ap, sym, subst, append-nil, length-append, arith}
+use Rattle.std.specs.Prelude.{nat_lt, ◌^◌}
+use Rattle.std.specs.List.{AllByRecursion}
+use Rattle.std.proofs.lemmas.Bool.{ltb-true}
+use Rattle.std.proofs.lemmas.List.{flat_map_more}
+use Rattle.blsm_model.specs.Sizes.{Sizes}
+use Rattle.blsm_model.specs.Format.{least_weight, most_weight}
+use Rattle.blsm_model.specs.Geometry.{charge_limit}
+use Rattle.blsm_model.specs.Book.{Book}
+use Rattle.blsm_model.specs.declared.key.Key.{Key}
+use Rattle.blsm_model.specs.declared.row.Value.{Value}
+use Rattle.blsm_model.specs.declared.op.Op.{Op}
+use Rattle.blsm_model.specs.declared.op.Write.{Write}
+use Rattle.blsm_model.specs.declared.history.Entry.{Entry}
+use Rattle.blsm_model.specs.declared.history.Reply.TheVariants.{Done, FaultUnsure, Full}
+use Rattle.blsm_model.specs.declared.history.Why.{Why}
+use Rattle.blsm_model.specs.Histories.{writes_of, counted, counted_writes, written}
+use Rattle.blsm_model.specs.Images.{counted_with}
+use Rattle.blsm_model.specs.Legal.{is_write, total_weight}
+use Rattle.blsm_model.specs.Rows.{map_of, puts_of}
+use Rattle.blsm_model.specs.Values.{key_of, added_count, weight_of}
+use Rattle.record_delta.specs.Records.{record_of}
+use Rattle.record_delta.specs.Entries.{with_record}
+use Rattle.gear_sched.specs.Gears.{first_debt, second_debt}
+use Rattle.pacing.specs.Pace.{Pace, charge as pace_charge}
+use Rattle.pacing.specs.Steps.{Admit, MayAdmit, after as pacing_after}
+use Rattle.pacing.specs.Fronts.{Fronts, AreFronts, fronts_ready, fronts_written}
+use Rattle.pacing.proofs.Fronts.{step_fronts}
+use Rattle.tree_machine.specs.Lists.{Lists}
+use Rattle.tree_machine.specs.Layers.{Carries}
+use Rattle.tree_machine.specs.Machine.{Machine, charge, is_caller}
+use Rattle.tree_machine.specs.Moves.{goes_to_a, with_write, take_write, with_peak, note}
+use Rattle.tree_machine.specs.Steps.{Well, is_del, replied, admit_fitting, unless_stopped as machine_unless, taken_once, ready_for}
+use Rattle.tree_machine.specs.Plays.{has_room, is_between, may_note, is_even, stepped}
+use Rattle.tree_machine.specs.declared.step.Kind.TheVariants as kind
+use Rattle.tree_machine.specs.declared.step.Step.{Step}
+use Rattle.tree_machine.proofs.FoldLemmas.{both_hold}
+use Rattle.tree_machine.proofs.CarryLemmas.{ready_carries}
+use Rattle.paced_tree.specs.Kept.{IsPacedTree}
+use Rattle.paced_tree.specs.After.{weight_after, admitted, after_admission, unless_stopped, pace_after}
+use Rattle.paced_tree.proofs.Admissions.{Goes}
+use Rattle.paced_tree.proofs.Counted.{lands_at, writes_once}
+use Rattle.paced_tree.proofs.Steps.{caller_below, even_owes}
+use Rattle.paced_tree.proofs.Promises.{has_way, step_is_paced}
+use Rattle.tree_file.specs.Tree.{Tree, HoldsTree, ReadsAsMap}
+use Rattle.tree_log.specs.Log.{appended}
+use Rattle.core_moves.specs.declared.held.Held.{Held}
+use Rattle.core_lists.specs.Shown.{HasFronts, ShowsHistory}
+use Rattle.core_lists.specs.Images.{MayAppend, with_appended, history_with, AppendShows, UnsureShows}
+use Rattle.core_lists.specs.Going.{GoesOn, AdmissionGoesOn}
+use Rattle.core_lists.proofs.ShownLemmas.{fronts_grow}
+use Rattle.core_lists.proofs.ShowingLemmas.{ReadsHistory, standing_reads, swapped_reads, begun_lists, shows_by, sure_writes, running_writes}
+use Rattle.core_lists.proofs.WriteLands.{same_way, write_has_lists}
+
+-- a test that fails
+pub not_past : (limit n : ℕ) → n ≤ limit → nat_lt limit n ≡ false
+not_past limit n fits = by (nat_lt limit n) refl
+  where
+    by : (b : Bool) → nat_lt limit n ≡ b → b ≡ false
+    by true past = absurd (omega (arith, fits, ltb-true limit n past))
+    by false past = refl
+
+module _ (opening : List (Key × Value)) (m : Machine) (pace : Pace) (fronts : Fronts) (seat : ℕ) (op : Op) (write : Write) (begun : Held) (tree : Tree)
+    (is : MayAppend opening m pace fronts seat op write begun tree) where
+  abbrev w : ℕ
+  w = total_weight (writes_of op)
+
+  abbrev ready : Machine
+  ready = ready_for w m
+
+  abbrev ahead : Bool
+  ahead = goes_to_a ready.merges.pass (key_of write)
+
+  abbrev at_a : Lists
+  at_a = record ready.lists { a = with_record (key_of write) (record_of write) ready.lists.a }
+
+  abbrev at_b : Lists
+  at_b = record ready.lists { b = with_record (key_of write) (record_of write) ready.lists.b }
+
+  abbrev then_weighs : ℕ
+  then_weighs = weight_after ahead (with_write ready.merges.pass (key_of write) (record_of write) ready.lists)
+
+  abbrev wrote : Machine
+  wrote = note seat op Done (with_peak (take_write seat write ready))
+
+  abbrev step : Step
+  step = record { seat = seat; kind = kind.Admit op }
+
+  abbrev then_pace : Pace
+  then_pace = pacing_after pace (Admit seat w (is_del op) ahead then_weighs)
+
+  carries : Carries m ready
+  carries = ready_carries w m is.paced.stands.sound (has_way opening m pace is.paced)
+
+  within : nat_lt (charge_limit m.gears.sizes (is_del op)) (charge m + w) ≡ false
+  within = not_past (charge_limit m.gears.sizes (is_del op)) (charge m + w) is.room
+
+  -- the step is the write's, and its pace the write's pace
+  state_is : (stepped m step Well).state ≡ wrote
+  state_is =
+      ap (λ (o : Option Why). (machine_unless o seat op m (cond (nat_lt (charge_limit m.gears.sizes (is_del op)) (charge m + w)) (replied seat op (Full (charge m)) m) (admit_fitting m seat op w Well))).state) is.runs
+      ∙ ap (λ (b : Bool). (cond b (replied seat op (Full (charge m)) m) (admit_fitting m seat op w Well)).state) within
+      ∙ ap (λ (ws : List Write). note seat op Done (with_peak (taken_once seat ws ready))) is.writes
+
+  pace_is : pace_after m pace seat (kind.Admit op) Well ≡ then_pace
+  pace_is =
+      ap (λ (o : Option Why). unless_stopped o pace (cond (nat_lt (charge_limit m.gears.sizes (is_del op)) (charge m + w)) pace (after_admission m pace seat op w Well))) is.runs
+      ∙ ap (λ (b : Bool). cond b pace (after_admission m pace seat op w Well)) within
+      ∙ ap (λ (ws : List Write). admitted seat op ws ready pace) is.writes
+      ∙ ap (λ (n : ℕ). pacing_after pace (Admit seat n (is_del op) ahead then_weighs)) (sym (ap total_weight is.writes))
+
+  wrote_paced : IsPacedTree opening wrote then_pace
+  wrote_paced = subst (λ (s : Machine). IsPacedTree opening s then_pace) state_is
+      (subst (λ (p : Pace). IsPacedTree opening (stepped m step Well).state p) pace_is (step_is_paced opening m pace step Well is.paced is.may is.fits))
+
+  goes : Goes m pace
+  goes = record { of_tree = is.paced.of_tree; paced = is.paced.paced }
+
+  may_admit : MayAdmit pace seat w (is_del op) ahead then_weighs
+  may_admit =
+      let parts = both_hold (is_write op && may_note seat 0 m) (is_even seat m) is.may in
+      let inner = both_hold (is_write op) (may_note seat 0 m) parts.0 in
+      let noting = both_hold (is_caller seat && has_room m.book.room seat 0) (is_between seat m) inner.1 in
+      let weighs = writes_once op write [] is.writes in
+      let each = subst (λ (ws : List Write). AllByRecursion (λ x. (added_count x < 2 ^ 64) × (weight_of x ≤ most_weight) × (least_weight ≤ weight_of x)) ws) is.writes is.fits in
+      record {
+        caller = caller_below seat (both_hold (is_caller seat) (has_room m.book.room seat 0) noting.0).0;
+        settled = subst (λ (q : Pace). first_debt q.gears seat + second_debt q.gears seat ≡ 0) is.paced.of_tree.numbers (even_owes m seat parts.1 is.runs);
+        light = subst (λ (n : ℕ). least_weight ≤ n) (sym weighs) each.0.2;
+        heavy = subst (λ (n : ℕ). n ≤ most_weight) (sym weighs) each.0.1;
+        room = subst (λ (q : Pace). pace_charge q + w ≤ charge_limit q.gears.sizes (is_del op)) is.paced.of_tree.numbers is.room;
+        lands = lands_at m pace seat op is.paced.stands.sound (has_way opening m pace is.paced) goes write w weighs;
+      }
+
+  then_within : AreFronts then_pace (fronts_written ahead then_weighs (fronts_ready pace fronts))
+  then_within = step_fronts pace (Admit seat w (is_del op) ahead then_weighs) fronts is.paced.paced is.within may_admit
+
+  lanes : HasFronts tree ready.lists (fronts_ready pace fronts)
+  lanes = subst (λ (l : Lists). HasFronts tree l (fronts_ready pace fronts)) (sym (begun_lists w m)) is.lanes
+
+  grown : (b : Bool) → HasFronts (appended b (key_of write, record_of write) tree)
+      (cond b at_a at_b)
+      (fronts_written b (weight_after b (cond b at_a at_b)) (fronts_ready pace fronts))
+  grown true = fronts_grow true (key_of write) (record_of write) tree ready.lists (fronts_ready pace fronts) lanes
+  grown false = fronts_grow false (key_of write) (record_of write) tree ready.lists (fronts_ready pace fronts) lanes
+
+  then_lanes : HasFronts (with_appended write begun tree) wrote.lists (fronts_written ahead then_weighs (fronts_ready pace fronts))
+  then_lanes = subst (λ (b : Bool). HasFronts (appended b (key_of write, record_of write) tree) wrote.lists (fronts_written ahead then_weighs (fronts_ready pace fronts)))
+      (same_way ready.merges.pass begun.runs.pass (key_of write) is.holds.pass) (grown ahead)
+
+  abbrev then_fronts : Fronts
+  then_fronts = fronts_written ahead then_weighs (fronts_ready pace fronts)
+
+  goes_on : (then : Fronts) × GoesOn opening (stepped m step Well).state (pace_after m pace seat (kind.Admit op) Well) then (with_appended write begun tree)
+  goes_on = (
+    then_fronts,
+    record {
+      paced = step_is_paced opening m pace step Well is.paced is.may is.fits;
+      within = subst (λ (p : Pace). AreFronts p then_fronts) (sym pace_is) then_within;
+      lanes = subst (λ (s : Machine). HasFronts (with_appended write begun tree) s.lists then_fronts) (sym state_is) then_lanes;
+    },
+  )
+
+  -- a file with the write reads as the map after it
+  wrote_reads : (file : List ℕ) → HoldsTree m.gears.sizes (with_appended write begun tree) file → ReadsAsMap m.gears.sizes (map_of (written opening (history_with seat op Done m))) file
+  wrote_reads file holds =
+      subst (λ (b : Book). ReadsAsMap m.gears.sizes (map_of (written opening (b.entries ++ record { seat = seat; op = op; reply = Done } ∷ []))) file) carries.book
+      (subst (λ (s : Sizes). ReadsAsMap s (map_of (written opening wrote.book.entries)) file) carries.sizes
+      (standing_reads opening wrote then_pace (fronts_written ahead then_weighs (fronts_ready pace fronts)) (with_appended write begun tree) file wrote_paced then_within
+      (write_has_lists seat write begun tree ready is.holds) then_lanes (subst (λ (s : Sizes). HoldsTree s (with_appended write begun tree) file) (sym carries.sizes) holds)))
+
+  -- and one without it as the map before
+  ready_reads : (file : List ℕ) → HoldsTree m.gears.sizes tree file → ReadsHistory opening m file
+  ready_reads file holds = swapped_reads opening m pace fronts tree file is.paced is.within (sym (begun_lists w m) ∙ is.holds.lists) is.lanes holds
+
+  enough : (entry : Entry) → length m.book.entries + 1 ≤ length (m.book.entries ++ entry ∷ [])
+  enough entry = omega (arith, length-append m.book.entries (entry ∷ []))
+
+  abbrev done : Entry
+  done = record { seat = seat; op = op; reply = Done }
+
+  abbrev unsure : Entry
+  unsure = record { seat = seat; op = op; reply = FaultUnsure }
+
+  abbrev before : List Write
+  before = puts_of opening ++ counted_writes m.book.entries
+
+  counts_in : puts_of opening ++ counted_writes (history_with seat op Done m) ≡ before ++ writes_of op
+  counts_in = sym (flat_map_more counted (puts_of opening) m.book.entries done)
+
+  counts_in_doubt : (b : Bool) → puts_of opening ++ flat_map (counted_with b) (history_with seat op FaultUnsure m) ≡ before ++ counted_with b unsure
+  counts_in_doubt b =
+      sym (flat_map_more (counted_with b) (puts_of opening) m.book.entries unsure)
+      ∙ ap (λ (ws : List Write). (puts_of opening ++ ws) ++ counted_with b unsure) (running_writes b m.book.entries (is.paced.stands.told.running is.runs))
+
+  shows_done : (file : List ℕ) → HoldsTree m.gears.sizes (with_appended write begun tree) file → ShowsHistory m.gears.sizes opening (history_with seat op Done m) (length m.book.entries + 1) file
+  shows_done file holds =
+      shows_by false m.gears.sizes opening (history_with seat op Done m) (written opening (history_with seat op Done m)) (length m.book.entries + 1) file (enough done)
+      (ap (λ (ws : List Write). puts_of opening ++ ws) (sym (sure_writes (history_with seat op Done m)))) (wrote_reads file holds)
+
+  shows_in : (file : List ℕ) → HoldsTree m.gears.sizes (with_appended write begun tree) file → ShowsHistory m.gears.sizes opening (history_with seat op FaultUnsure m) (length m.book.entries + 1) file
+  shows_in file holds =
+      shows_by true m.gears.sizes opening (history_with seat op FaultUnsure m) (written opening (history_with seat op Done m)) (length m.book.entries + 1) file (enough unsure)
+      (counts_in ∙ sym (counts_in_doubt true)) (wrote_reads file holds)
+
+  shows_out : (file : List ℕ) → HoldsTree m.gears.sizes tree file → ShowsHistory m.gears.sizes opening (history_with seat op FaultUnsure m) (length m.book.entries + 1) file
+  shows_out file holds =
+      shows_by false m.gears.sizes opening (history_with seat op FaultUnsure m) (written opening m.book.entries) (length m.book.entries + 1) file (enough unsure)
+      (sym (append-nil before) ∙ sym (counts_in_doubt false)) (ready_reads file holds)
+
+pub append_goes_on : AdmissionGoesOn
+append_goes_on opening m pace fronts seat op write begun tree is = goes_on opening m pace fronts seat op write begun tree is
+
+pub append_shows : AppendShows
+append_shows opening m pace fronts seat op write begun tree file is holds = shows_done opening m pace fronts seat op write begun tree is file holds
+
+pub unsure_shows : UnsureShows
+unsure_shows opening m pace fronts seat op write begun tree file is either =
+    ⊎_elim (shows_out opening m pace fronts seat op write begun tree is file) (shows_in opening m pace fronts seat op write begun tree is file) either

@@ -1,0 +1,350 @@
+-- What goes on from an opening on, step by step.
+use Rattle.std.specs.Prelude.{⊤}
+use Rattle.std.proofs.Common.{◌≡◌, ◌∙◌, ℕ, ◌+◌, Bool, true, false, cond, ◌&&◌, List, Option, Some, None, refl, ap, sym, subst, arith}
+use Rattle.std.specs.Prelude.{◌==◌, nat_lt, nat_le}
+use Rattle.std.proofs.lemmas.Bool.{false≢true, leb-true, lt-ltb}
+use Rattle.blsm_model.specs.Format.{callers}
+use Rattle.blsm_model.specs.Sizes.{Sizes}
+use Rattle.blsm_model.specs.Geometry.{charge_limit}
+use Rattle.blsm_model.specs.declared.key.Key.{Key}
+use Rattle.blsm_model.specs.declared.row.Row.{Row}
+use Rattle.blsm_model.specs.declared.row.Value.{Value}
+use Rattle.blsm_model.specs.declared.op.Op.{Op}
+use Rattle.blsm_model.specs.declared.op.Op.TheVariants as op
+use Rattle.blsm_model.specs.declared.history.Reply.TheVariants.{Full, FaultLost, FaultUnsure}
+use Rattle.blsm_model.specs.declared.history.Why.TheVariants.{Faulted}
+use Rattle.blsm_model.specs.declared.history.Why.{Why}
+use Rattle.blsm_model.specs.Histories.{writes_of}
+use Rattle.blsm_model.specs.Legal.{total_weight}
+use Rattle.disk_trait.specs.Disk.{DiskState}
+use Rattle.gear_sched.specs.Gears.{GearState}
+use Rattle.gear_sched.specs.declared.Plan.{Plan}
+use Rattle.gear_sched.specs.declared.Plan.TheVariants.{Snow, Deep, Nothing}
+use Rattle.pacing.specs.Pace.{Pace, with_forgiven}
+use Rattle.pacing.specs.Kept.{IsPaced}
+use Rattle.pacing.specs.Steps as pacing
+use Rattle.pacing.specs.Steps.{Move, Pay, Turn, turn_of, is_worker_seat}
+use Rattle.pacing.specs.Fronts.{Fronts, AreFronts, fronts_by}
+use Rattle.pacing.proofs.Fronts.{step_fronts}
+use Rattle.tree_machine.specs.Lists.{Lists}
+use Rattle.tree_machine.specs.Merges.{Merge}
+use Rattle.tree_machine.specs.Machine.{Machine, Failed, BadPage, seats, charge, deep_done, pass_done, pass_is_done, is_caller, is_closed, held_by, work_of}
+use Rattle.tree_machine.specs.Moves.{note, stop, swap_deep, swap_pass, pass_quantum, deep_quantum, pass_quantum_of, deep_quantum_of}
+use Rattle.tree_machine.specs.Steps as machine
+use Rattle.tree_machine.specs.Steps.{Outcome, Well, FailedAfter, deep_swapped, one_if, ready_for, swaps_due, Broken, NoRoom, Answer, Paid, Settled, Choice, Stepped, is_del, replied, unless_stopped as machine_unless, admit_fitting, forgive, pay_running, pay_planned, do_pay, do_hold, do_next, chosen, ended_as, work_turning, worker_turning}
+use Rattle.tree_machine.specs.Plays.{may, most_turns, is_even, stepped_as}
+use Rattle.tree_machine.specs.Stands.{WritesFit}
+use Rattle.tree_machine.specs.declared.step.Kind.{Kind}
+use Rattle.tree_machine.specs.declared.step.Kind.TheVariants as kind
+use Rattle.tree_machine.specs.declared.step.Step.{Step}
+use Rattle.tree_machine.proofs.FoldLemmas.{both_hold}
+use Rattle.paced_tree.specs.After.{after_admission, after_turn, pace_after, unless_stopped as pace_unless}
+use Rattle.paced_tree.specs.Kept.{IsPacedTree}
+use Rattle.paced_tree.specs.Numbers.{with_numbers_of}
+use Rattle.paced_tree.specs.Made.{IsMadeBy, IsPaidBy, IsTurnedBy}
+use Rattle.paced_tree.proofs.Made.{step_made}
+use Rattle.paced_tree.proofs.Moves.{of_pace}
+use Rattle.paced_tree.proofs.Promises.{has_way, step_is_paced}
+use Rattle.paced_tree.proofs.Steps.{caller_below}
+use Rattle.paced_tree.proofs.Turns.{move_of, turn_is, no_worker, a_worker}
+use Rattle.tree_file.specs.Tree.{Tree}
+use Rattle.core_moves.specs.declared.held.Held.{Held}
+use Rattle.core_pace.specs.Turns.{move_in}
+use Rattle.tree_runs.specs.Holding.{StandOver}
+use Rattle.core_lists.specs.Standing.{HoldsMachine, StandsAt}
+use Rattle.core_lists.specs.Shown.{HasFronts}
+use Rattle.core_lists.specs.Lists.{helped}
+use Rattle.core_lists.specs.Steps.{TurnsTree, choice_of, chosen_by}
+use Rattle.core_lists.specs.Going.{GoesOn, StandingIsSteady, FailuresAreTheMachines, AdmissionFits, AdmissionGoesOn, RefusalGoesOn, ClosedTurnGoesOn, PaymentGoesOn, TurnGoesOn, IsQuiet, QuietGoesOn, kind_of_turn, IsOpenTo}
+use Rattle.core_lists.proofs.ShownLemmas.{fronts_stay, fronts_turn}
+use Rattle.core_lists.proofs.ImageLemmas.{swapped_tables}
+use Rattle.core_lists.proofs.StepLands.{choices_agree}
+use Rattle.core_lists.proofs.AppendLemmas.{not_past, append_goes_on}
+
+pub standing_is_steady : StandingIsSteady
+standing_is_steady opening held m pace fronts tree file is runs =
+    let sizes : pace.gears.sizes ≡ held.runs.sizes = sym (ap (λ (p : Pace). p.gears.sizes) is.paced.of_tree.numbers) ∙ ap (λ (g : GearState). g.sizes) is.at.holds.gears ∙ is.one in (
+      record {
+        at = is.at;
+        sound = is.paced.stands.sound;
+        numbers = is.numbers;
+        has = is.has;
+        one = is.one;
+        positive = omega (arith, is.paced.paced.within.sizes.quantum, ap (λ (s : Sizes). s.quantum) sizes);
+        runs = runs;
+      },
+      record { paced = is.paced; within = is.within; lanes = is.lanes },
+    )
+
+-- No clause can range over all states of a disk, so what stands on one is a lemma.
+pub stands_going_on : (opening : List (Key × Value)) (held : Held) (m : Machine) (pace : Pace) (fronts : Fronts) (tree : Tree) (d : DiskState) → StandOver held.runs tree held.log.a.entries d
+    → HoldsMachine held tree m → GoesOn opening m pace fronts tree → StandsAt opening held m pace fronts tree d
+stands_going_on opening held m pace fronts tree d over holds goes = record {
+  over = over;
+  holds = holds;
+  paced = goes.paced;
+  within = goes.within;
+  lane_a = goes.lanes.lane_a;
+  lane_b = goes.lanes.lane_b;
+}
+
+-- ---- an admission
+
+pub admission_fits : AdmissionFits
+admission_fits m seat op outcome runs room =
+    ap (λ (o : Option Why). machine_unless o seat op m (cond (nat_lt (charge_limit m.gears.sizes (is_del op)) (charge m + total_weight (writes_of op))) (replied seat op (Full (charge m)) m) (admit_fitting m seat op (total_weight (writes_of op)) outcome))) runs
+    ∙ ap (λ (b : Bool). cond b (replied seat op (Full (charge m)) m) (admit_fitting m seat op (total_weight (writes_of op)) outcome)) (not_past (charge_limit m.gears.sizes (is_del op)) (charge m + total_weight (writes_of op)) room)
+
+some_due : (deep pass : Bool) → deep ≡ true → nat_lt 0 (one_if deep + one_if pass) ≡ true
+some_due true true done = refl
+some_due true false done = refl
+some_due false pass done = absurd (false≢true done)
+
+pass_due : (deep pass : Bool) → pass ≡ true → nat_lt (one_if deep) (one_if deep + one_if pass) ≡ true
+pass_due true true done = refl
+pass_due false true done = refl
+pass_due deep false done = absurd (false≢true done)
+
+-- the deep merge's swap is none of the pass's
+same_pass : (m : Machine) → pass_done (deep_swapped m) ≡ pass_done m
+same_pass m = by (deep_done m)
+  where
+    by_merge : (p : Option Merge) → pass_is_done p (swap_deep m).lists ≡ pass_is_done p m.lists
+    by_merge None = refl
+    by_merge (Some pass) = refl
+
+    by : (b : Bool) → pass_done (cond b (swap_deep m) m) ≡ pass_done m
+    by true = by_merge m.merges.pass
+    by false = refl
+
+pub failures_are_the_machines : FailuresAreTheMachines
+failures_are_the_machines m seat op w faults = record {
+  deep = λ done. ap (λ (b : Bool). (cond b (replied seat op FaultLost (stop (Faulted faults) (cond (0 == 0) m (deep_swapped m)))) (replied seat op FaultUnsure (stop (Faulted faults) (ready_for w m)))).state) (some_due (deep_done m) (pass_done m) done);
+  pass = λ done.
+      ap (λ (b : Bool). (cond b (replied seat op FaultLost (stop (Faulted faults) (cond ((one_if (deep_done m)) == 0) m (deep_swapped m)))) (replied seat op FaultUnsure (stop (Faulted faults) (ready_for w m)))).state) (pass_due (deep_done m) (pass_done m) (sym (same_pass m) ∙ done))
+      ∙ ap (λ (s : Machine). note seat op FaultLost (stop (Faulted faults) s)) (committed_of (deep_done m));
+  append = ap (λ (b : Bool). (cond b (replied seat op FaultLost (stop (Faulted faults) (cond ((swaps_due m) == 0) m (deep_swapped m)))) (replied seat op FaultUnsure (stop (Faulted faults) (ready_for w m)))).state) (not_past (swaps_due m) (swaps_due m) (omega arith));
+}
+  where
+    committed_of : (b : Bool) → cond (one_if b == 0) m (cond b (swap_deep m) m) ≡ cond b (swap_deep m) m
+    committed_of true = refl
+    committed_of false = refl
+
+pub admission_goes_on : AdmissionGoesOn
+admission_goes_on opening m pace fronts seat op write begun tree is = append_goes_on opening m pace fronts seat op write begun tree is
+
+-- ---- a step's pace
+
+module _ (opening : List (Key × Value)) (m : Machine) (pace : Pace) (seat : ℕ) (k : Kind) (outcome : Outcome) (ok : may m seat k ≡ true) (fits : WritesFit k) (paced : IsPacedTree opening m pace) where
+  abbrev step : Step
+  step = record { seat = seat; kind = k }
+
+  then_paced : IsPacedTree opening (stepped_as m seat k outcome).state (pace_after m pace seat k outcome)
+  then_paced = step_is_paced opening m pace step outcome paced ok fits
+
+  made : IsMadeBy seat k (stepped_as m seat k outcome).answer pace (pace_after m pace seat k outcome)
+  made = step_made opening m pace seat k outcome paced.stands (has_way opening m pace paced) (record { of_tree = paced.of_tree; paced = paced.paced }) ok fits
+
+pub refusal_goes_on : RefusalGoesOn
+refusal_goes_on opening m pace fronts tree seat op outcome runs heavy ok fits goes =
+    (state, record { paced = then_paced opening m pace seat (kind.Admit op) outcome ok fits goes.paced; within = subst (λ (p : Pace). AreFronts p fronts) (sym same_pace) goes.within; lanes = subst (λ (s : Machine). HasFronts tree s.lists fronts) (sym state) goes.lanes })
+  where
+    past : nat_lt (charge_limit m.gears.sizes (is_del op)) (charge m + total_weight (writes_of op)) ≡ true
+    past = lt-ltb (charge_limit m.gears.sizes (is_del op)) (charge m + total_weight (writes_of op)) heavy
+
+    state : (stepped_as m seat (kind.Admit op) outcome).state ≡ note seat op (Full (charge m)) m
+    state =
+        ap (λ (o : Option Why). (machine_unless o seat op m (cond (nat_lt (charge_limit m.gears.sizes (is_del op)) (charge m + total_weight (writes_of op))) (replied seat op (Full (charge m)) m) (admit_fitting m seat op (total_weight (writes_of op)) outcome))).state) runs
+        ∙ ap (λ (b : Bool). (cond b (replied seat op (Full (charge m)) m) (admit_fitting m seat op (total_weight (writes_of op)) outcome)).state) past
+
+    same_pace : pace_after m pace seat (kind.Admit op) outcome ≡ pace
+    same_pace =
+        ap (λ (o : Option Why). pace_unless o pace (cond (nat_lt (charge_limit m.gears.sizes (is_del op)) (charge m + total_weight (writes_of op))) pace (after_admission m pace seat op (total_weight (writes_of op)) outcome))) runs
+        ∙ ap (λ (b : Bool). cond b pace (after_admission m pace seat op (total_weight (writes_of op)) outcome)) past
+
+-- ---- a payment
+
+-- debts are no part of the fronts' bounds
+forgiven_fronts : (pace : Pace) (fronts : Fronts) (seat : ℕ) → AreFronts pace fronts → AreFronts (with_forgiven pace seat) fronts
+forgiven_fronts pace fronts seat within = record { table = within.table; high = within.high; full = within.full; next = within.next; behind = within.behind }
+
+paid_fronts : (opening : List (Key × Value)) (m : Machine) (pace then : Pace) (fronts : Fronts) (seat : ℕ) (answer : Answer) → IsPacedTree opening m pace → AreFronts pace fronts → IsPaidBy answer seat pace then → AreFronts then fronts
+paid_fronts opening m pace then fronts seat Paid paced within made = subst (λ (p : Pace). AreFronts p fronts) (sym made.2) (step_fronts pace (Pay seat made.0) fronts paced.paced within made.1)
+paid_fronts opening m pace then fronts seat Settled paced within made = subst (λ (p : Pace). AreFronts p fronts) (sym made) (forgiven_fronts pace fronts seat within)
+paid_fronts opening m pace then fronts seat (machine.Turn Failed) paced within made = subst (λ (p : Pace). AreFronts p fronts) (sym made) (forgiven_fronts pace fronts seat within)
+paid_fronts opening m pace then fronts seat (machine.Turn (BadPage page)) paced within made = subst (λ (p : Pace). AreFronts p fronts) (sym made) (forgiven_fronts pace fronts seat within)
+paid_fronts opening m pace then fronts seat answer paced within made = subst (λ (p : Pace). AreFronts p fronts) (sym made) within
+
+-- a payment leaves the lists
+pass_quantum_lists : (seat : ℕ) (m : Machine) → (pass_quantum seat m).lists ≡ m.lists
+pass_quantum_lists seat m = by m.merges.pass
+  where
+    by : (p : Option Merge) → (pass_quantum_of p seat m).lists ≡ m.lists
+    by None = refl
+    by (Some pass) = refl
+
+deep_quantum_lists : (seat : ℕ) (m : Machine) → (deep_quantum seat m).lists ≡ m.lists
+deep_quantum_lists seat m = by m.merges.deep
+  where
+    by : (p : Option Merge) → (deep_quantum_of p seat m).lists ≡ m.lists
+    by None = refl
+    by (Some deep) = refl
+
+done_lists : (m : Machine) (quantum : Machine → Machine) (seat : ℕ) (outcome : Outcome) → (quantum m).lists ≡ m.lists → (do_pay m quantum seat outcome).state.lists ≡ m.lists
+done_lists m quantum seat (FailedAfter commits faults) stays = refl
+done_lists m quantum seat (Broken page) stays = refl
+done_lists m quantum seat Well stays = stays
+done_lists m quantum seat NoRoom stays = stays
+
+planned_lists : (plan : Plan) (m : Machine) (seat : ℕ) (outcome : Outcome) → (pay_planned plan m seat outcome).state.lists ≡ m.lists
+planned_lists Snow m seat outcome = done_lists m (pass_quantum seat) seat outcome (pass_quantum_lists seat m)
+planned_lists Deep m seat outcome = done_lists m (deep_quantum seat) seat outcome (deep_quantum_lists seat m)
+planned_lists Nothing m seat outcome = refl
+
+paid_lists : (m : Machine) (seat : ℕ) (outcome : Outcome) → (stepped_as m seat kind.Pay outcome).state.lists ≡ m.lists
+paid_lists m seat outcome = by m.stopped
+  where
+    by : (o : Option Why) → (pay_running o m seat outcome).state.lists ≡ m.lists
+    by (Some why) = refl
+    by None = planned_lists _ (forgive seat m) seat outcome
+
+pub payment_goes_on : PaymentGoesOn
+payment_goes_on opening m pace fronts tree seat outcome ok goes = record {
+  paced = then_paced opening m pace seat kind.Pay outcome ok tt goes.paced;
+  within = paid_fronts opening m pace (pace_after m pace seat kind.Pay outcome) fronts seat (stepped_as m seat kind.Pay outcome).answer goes.paced goes.within (made opening m pace seat kind.Pay outcome ok tt goes.paced);
+  lanes = subst (λ (l : Lists). HasFronts tree l fronts) (sym (paid_lists m seat outcome)) goes.lanes;
+}
+
+-- ---- a turn
+
+-- the machine's choice is the pacing's move
+same_turn : (is_worker : Bool) (opening : List (Key × Value)) (m : Machine) (pace : Pace) → IsPacedTree opening m pace → turn_of is_worker pace ≡ move_of (chosen_by is_worker m)
+same_turn is_worker opening m pace paced = of_pace (λ q. turn_of is_worker q ≡ move_of (chosen_by is_worker m)) (λ q. ⊤) m pace paced.of_tree.numbers tt (λ l h. by is_worker l)
+  where
+    by : (b : Bool) (l : Pace) → turn_of b (with_numbers_of m l) ≡ move_of (chosen_by b m)
+    by true l = turn_is true m l paced.stands.sound
+    by false l = turn_is false m l paced.stands.sound
+
+turned_fronts : (c : Choice) (pace then : Pace) (fronts : Fronts) (seat : ℕ) → IsPaced pace → AreFronts pace fronts → turn_of (is_worker_seat seat) pace ≡ move_of c → IsTurnedBy (machine.Turn (ended_as c)) seat pace then
+    → AreFronts then (fronts_by (move_of c) fronts)
+turned_fronts machine.Rest pace then fronts seat paced within same made = subst (λ (p : Pace). AreFronts p fronts) (sym made) within
+turned_fronts c pace then fronts seat paced within same made =
+    subst (λ (p : Pace). AreFronts p (fronts_by (move_of c) fronts)) (sym made.2)
+    (subst (λ (mv : Move). AreFronts (pacing.after pace (Turn seat made.0)) (fronts_by mv fronts)) same (step_fronts pace (Turn seat made.0) fronts paced within made.1))
+
+-- the lanes as the move leaves them
+turned_lanes : (mv : Move) (seat n : ℕ) (old moved : Held) (tree next : Tree) (m : Machine) (fronts : Fronts) → TurnsTree mv n old moved tree next → HasFronts tree m.lists fronts
+    → HasFronts next (chosen (choice_of mv) seat m).lists (fronts_by (move_of (choice_of mv)) fronts)
+turned_lanes pacing.SwapDeep seat n old moved tree next m fronts trees lanes = fronts_stay tree next m.lists (machine.chosen machine.SwapDeep seat m).lists fronts trees.lane_a trees.lane_b refl refl lanes
+turned_lanes pacing.SwapPass seat n old moved tree next m fronts trees lanes =
+    let tables = swapped_tables m in
+    fronts_turn tree next m.lists (swap_pass m).lists fronts trees.0.lane_a trees.0.lane_b tables.0 tables.1 lanes
+turned_lanes pacing.TakeDeep seat n old moved tree next m fronts trees lanes =
+    subst (λ (l : Lists). HasFronts next l fronts) (sym (deep_quantum_lists seat m)) (subst (λ (t : Tree). HasFronts t m.lists fronts) (sym trees.0) lanes)
+turned_lanes pacing.TakeSnow seat n old moved tree next m fronts trees lanes =
+    subst (λ (l : Lists). HasFronts next l fronts) (sym (pass_quantum_lists seat m)) (subst (λ (t : Tree). HasFronts t m.lists fronts) (sym trees.0) lanes)
+turned_lanes pacing.Begin seat n old moved tree next m fronts trees lanes = subst (λ (t : Tree). HasFronts t m.lists fronts) (sym trees) lanes
+turned_lanes pacing.Rotate seat n old moved tree next m fronts trees lanes = fronts_stay tree next m.lists (machine.chosen machine.Rotate seat m).lists fronts trees.lane_a trees.lane_b refl refl lanes
+turned_lanes pacing.Idle seat n old moved tree next m fronts trees lanes = subst (λ (t : Tree). HasFronts t m.lists fronts) (sym trees) lanes
+
+-- a turn that runs is the one chosen
+turn_state : (is_worker : Bool) (m : Machine) (seat : ℕ) → m.stopped ≡ None → IsOpenTo is_worker m → (stepped_as m seat (kind_of_turn is_worker) Well).state.lists ≡ (chosen (chosen_by is_worker m) seat m).lists
+turn_state true m seat runs opened = ap (λ (o : Option Why). (worker_turning o (is_closed m) m seat Well).state.lists) runs ∙ ap (λ (b : Bool). (worker_turning None b m seat Well).state.lists) opened
+turn_state false m seat runs opened = ap (λ (o : Option Why). (work_turning o m seat Well).state.lists) runs
+
+turn_answer : (is_worker : Bool) (m : Machine) (seat : ℕ) → m.stopped ≡ None → IsOpenTo is_worker m → (stepped_as m seat (kind_of_turn is_worker) Well).answer ≡ machine.Turn (ended_as (chosen_by is_worker m))
+turn_answer true m seat runs opened = ap (λ (o : Option Why). machine.Turn (worker_turning o (is_closed m) m seat Well).ended) runs ∙ ap (λ (b : Bool). machine.Turn (worker_turning None b m seat Well).ended) opened
+turn_answer false m seat runs opened = ap (λ (o : Option Why). machine.Turn (work_turning o m seat Well).ended) runs
+
+whose_turn : (is_worker : Bool) (m : Machine) (seat : ℕ) → may m seat (kind_of_turn is_worker) ≡ true → is_worker_seat seat ≡ is_worker
+whose_turn true m seat ok = a_worker seat (leb-true callers seat (both_hold (nat_le callers seat) (nat_lt seat seats) ok).0)
+whose_turn false m seat ok =
+    let parts = both_hold (is_caller seat && nat_lt (work_of seat m).turns most_turns) (is_even seat m) ok in
+    no_worker seat (caller_below seat (both_hold (is_caller seat) (nat_lt (work_of seat m).turns most_turns) parts.0).0)
+
+turn_made : (is_worker : Bool) (opening : List (Key × Value)) (m : Machine) (pace : Pace) (seat : ℕ) → may m seat (kind_of_turn is_worker) ≡ true → IsPacedTree opening m pace
+    → IsTurnedBy (stepped_as m seat (kind_of_turn is_worker) Well).answer seat pace (pace_after m pace seat (kind_of_turn is_worker) Well)
+turn_made true opening m pace seat ok paced = made opening m pace seat kind.WorkerTurn Well ok tt paced
+turn_made false opening m pace seat ok paced = made opening m pace seat kind.WorkTurn Well ok tt paced
+
+turn_paced : (is_worker : Bool) (opening : List (Key × Value)) (m : Machine) (pace : Pace) (seat : ℕ) → may m seat (kind_of_turn is_worker) ≡ true → IsPacedTree opening m pace
+    → IsPacedTree opening (stepped_as m seat (kind_of_turn is_worker) Well).state (pace_after m pace seat (kind_of_turn is_worker) Well)
+turn_paced true opening m pace seat ok paced = then_paced opening m pace seat kind.WorkerTurn Well ok tt paced
+turn_paced false opening m pace seat ok paced = then_paced opening m pace seat kind.WorkTurn Well ok tt paced
+
+pub turn_goes_on : TurnGoesOn
+turn_goes_on is_worker opening m pace fronts seat n old moved tree next file ok opened is trees goes =
+    let c = chosen_by is_worker m in
+    let same = choices_agree is_worker old tree m file is in
+    let then = fronts_by (move_of c) fronts in
+    let made = subst (λ (a : Answer). IsTurnedBy a seat pace (pace_after m pace seat (kind_of_turn is_worker) Well)) (turn_answer is_worker m seat is.runs opened) (turn_made is_worker opening m pace seat ok goes.paced) in
+    let turn : turn_of (is_worker_seat seat) pace ≡ move_of c = ap (λ (b : Bool). turn_of b pace) (whose_turn is_worker m seat ok) ∙ same_turn is_worker opening m pace goes.paced in (
+      then,
+      record {
+        paced = turn_paced is_worker opening m pace seat ok goes.paced;
+        within = turned_fronts c pace (pace_after m pace seat (kind_of_turn is_worker) Well) fronts seat goes.paced.paced goes.within turn made;
+        lanes = subst (λ (l : Lists). HasFronts next l then) (sym (turn_state is_worker m seat is.runs opened))
+            (subst (λ (x : Choice). HasFronts next (chosen x seat m).lists (fronts_by (move_of x) fronts)) (sym same) (turned_lanes (move_in is_worker old) seat n old moved tree next m fronts trees goes.lanes));
+      },
+    )
+
+-- a closed store's worker only counts its turn
+pub closed_turn_goes_on : ClosedTurnGoesOn
+closed_turn_goes_on opening m pace fronts tree seat outcome runs closed ok goes =
+    (state, record { paced = then_paced opening m pace seat kind.WorkerTurn outcome ok tt goes.paced; within = subst (λ (p : Pace). AreFronts p fronts) (sym same_pace) goes.within; lanes = subst (λ (s : Machine). HasFronts tree s.lists fronts) (sym state) goes.lanes })
+  where
+    state : (stepped_as m seat kind.WorkerTurn outcome).state ≡ helped seat m
+    state = ap (λ (o : Option Why). helped seat (worker_turning o (is_closed m) m seat outcome).state) runs ∙ ap (λ (b : Bool). helped seat (worker_turning None b m seat outcome).state) closed
+
+    same_pace : pace_after m pace seat kind.WorkerTurn outcome ≡ pace
+    same_pace = ap (λ (o : Option Why). pace_unless o pace (cond (is_closed m) pace (after_turn m pace seat outcome))) runs ∙ ap (λ (b : Bool). cond b pace (after_turn m pace seat outcome)) closed
+
+-- ---- a quiet step
+
+quiet_paced : (opening : List (Key × Value)) (m : Machine) (pace : Pace) (seat : ℕ) (k : Kind) (outcome : Outcome) → may m seat k ≡ true → IsQuiet k → IsPacedTree opening m pace → IsPacedTree opening (stepped_as m seat k outcome).state pace
+quiet_paced opening m pace seat (kind.Admit op) outcome ok quiet paced = absurd quiet
+quiet_paced opening m pace seat kind.Pay outcome ok quiet paced = absurd quiet
+quiet_paced opening m pace seat kind.WorkTurn outcome ok quiet paced = absurd quiet
+quiet_paced opening m pace seat kind.WorkerTurn outcome ok quiet paced = absurd quiet
+quiet_paced opening m pace seat (kind.Get key) outcome ok quiet paced = then_paced opening m pace seat (kind.Get key) outcome ok tt paced
+quiet_paced opening m pace seat (kind.Hold low high) outcome ok quiet paced = then_paced opening m pace seat (kind.Hold low high) outcome ok tt paced
+quiet_paced opening m pace seat (kind.Next n) outcome ok quiet paced = then_paced opening m pace seat (kind.Next n) outcome ok tt paced
+quiet_paced opening m pace seat kind.Release outcome ok quiet paced = then_paced opening m pace seat kind.Release outcome ok tt paced
+quiet_paced opening m pace seat (kind.WorkEnd n) outcome ok quiet paced = then_paced opening m pace seat (kind.WorkEnd n) outcome ok tt paced
+quiet_paced opening m pace seat kind.Leave outcome ok quiet paced = then_paced opening m pace seat kind.Leave outcome ok tt paced
+
+unless_lists : (m : Machine) (seat : ℕ) (o : Op) (otherwise : Stepped) (stopped : Option Why) → otherwise.state.lists ≡ m.lists → (machine_unless stopped seat o m otherwise).state.lists ≡ m.lists
+unless_lists m seat o otherwise (Some why) same = refl
+unless_lists m seat o otherwise None same = same
+
+held_lists : (m : Machine) (seat : ℕ) (low high : Key) (outcome : Outcome) → (do_hold m seat low high outcome).state.lists ≡ m.lists
+held_lists m seat low high NoRoom = refl
+held_lists m seat low high Well = refl
+held_lists m seat low high (FailedAfter commits faults) = refl
+held_lists m seat low high (Broken page) = refl
+
+next_lists : (m : Machine) (seat n : ℕ) (outcome : Outcome) (rows : Option (List Row)) → (do_next m seat n outcome rows).state.lists ≡ m.lists
+next_lists m seat n outcome None = refl
+next_lists m seat n (FailedAfter commits faults) (Some rows) = refl
+next_lists m seat n (Broken page) (Some rows) = refl
+next_lists m seat n Well (Some rows) = refl
+next_lists m seat n NoRoom (Some rows) = refl
+
+quiet_lists : (m : Machine) (seat : ℕ) (k : Kind) (outcome : Outcome) → IsQuiet k → (stepped_as m seat k outcome).state.lists ≡ m.lists
+quiet_lists m seat (kind.Admit op) outcome quiet = absurd quiet
+quiet_lists m seat kind.Pay outcome quiet = absurd quiet
+quiet_lists m seat kind.WorkTurn outcome quiet = absurd quiet
+quiet_lists m seat kind.WorkerTurn outcome quiet = absurd quiet
+quiet_lists m seat (kind.Get key) outcome quiet = unless_lists m seat (op.Get key) _ m.stopped refl
+quiet_lists m seat (kind.Hold low high) outcome quiet = unless_lists m seat (op.Hold low high) (do_hold m seat low high outcome) m.stopped (held_lists m seat low high outcome)
+quiet_lists m seat (kind.Next n) outcome quiet = unless_lists m seat (op.Next n) (do_next m seat n outcome (held_by seat m)) m.stopped (next_lists m seat n outcome (held_by seat m))
+quiet_lists m seat kind.Release outcome quiet = unless_lists m seat op.Release _ m.stopped refl
+quiet_lists m seat (kind.WorkEnd n) outcome quiet = refl
+quiet_lists m seat kind.Leave outcome quiet = refl
+
+pub quiet_goes_on : QuietGoesOn
+quiet_goes_on opening m pace fronts tree seat k outcome ok quiet goes = record {
+  paced = quiet_paced opening m pace seat k outcome ok quiet goes.paced;
+  within = goes.within;
+  lanes = subst (λ (l : Lists). HasFronts tree l fronts) (sym (quiet_lists m seat k outcome quiet)) goes.lanes;
+}

@@ -1,0 +1,204 @@
+-- What the images show of each swap and rotation.
+use Rattle.std.proofs.Common.{◌≡◌, ◌∙◌, ℕ, Bool, true, false, cond, ◌&&◌, List, [], Option, Some, None, ⊎_elim, refl, ap, sym, subst, arith}
+use Rattle.std.specs.Prelude.{nat_le}
+use Rattle.std.proofs.lemmas.Bool.{false≢true}
+use Rattle.disk_trait.specs.Disk.{DiskState}
+use Rattle.blsm_model.specs.Geometry.{c1_mark}
+use Rattle.blsm_model.specs.Histories.{written}
+use Rattle.blsm_model.specs.Rows.{map_of}
+use Rattle.blsm_model.specs.declared.key.Key.{Key}
+use Rattle.blsm_model.specs.declared.row.Value.{Value}
+use Rattle.record_delta.specs.Entries.{Entries, entries_weight}
+use Rattle.record_delta.specs.Replays.{ReplaysWithin}
+use Rattle.page_file.specs.Component.{RunPage, entries_of}
+use Rattle.snow_merge.specs.Pass.{SnowState}
+use Rattle.deep_merge.specs.Merge.{DeepState}
+use Rattle.pacing.specs.Pace.{Pace, pass_done as pace_pass_done}
+use Rattle.pacing.specs.Steps.{deep_settled}
+use Rattle.pacing.specs.Fronts.{Fronts, fronts_turned, fronts_ready}
+use Rattle.tree_machine.specs.Lists.{Lists, map_in}
+use Rattle.tree_machine.specs.Merges.{Merge}
+use Rattle.tree_machine.specs.Layers.{IsSound, IsDeepOver}
+use Rattle.tree_machine.specs.Machine.{Machine, pass_done, deep_done}
+use Rattle.tree_machine.specs.Moves.{swap_deep, swap_pass, rotate, rotate_alone, end_pass, output_of}
+use Rattle.tree_machine.specs.Steps.{deep_swapped, swapped}
+use Rattle.tree_machine.proofs.CarryLemmas.{deep_swapped_carries, rotate_alone_carries}
+use Rattle.tree_machine.proofs.MapLemmas.{map_in_is}
+use Rattle.paced_tree.specs.Numbers.{with_numbers_of}
+use Rattle.paced_tree.proofs.Moves.{pass_test, settled_of}
+use Rattle.tree_file.specs.Tree.{Tree, FitsSizes, lists_of, components_weight}
+use Rattle.tree_file.specs.Places.{HoldsEither}
+use Rattle.tree_runs.specs.Holding.{StandOver, IsPassSwapped}
+use Rattle.core_moves.specs.declared.held.Held.{Held}
+use Rattle.core_moves.specs.Held.{IsPassDone, is_run_full}
+use Rattle.core_pace.specs.Pacing.{HasPace}
+use Rattle.core_lists.specs.Standing.{IsPassAt, IsDeepAt, StandsAt}
+use Rattle.core_lists.specs.Lists.{Agrees}
+use Rattle.core_lists.specs.Shown.{HasFronts, ShowsWhole}
+use Rattle.core_lists.specs.Admissions.{DeepSettlesTree}
+use Rattle.core_lists.specs.Images.{StandsIn, SettledIn, DeepSwapImages, PassSwapImages, RotationImages, SettledFronts, ReadyFronts}
+use Rattle.core_lists.proofs.SwapLands.{deep_swap_has_lists, pass_swap_has_lists, rotation_has_lists}
+use Rattle.core_lists.proofs.TestLemmas.{tests_agree_with_lists}
+use Rattle.core_lists.proofs.ShownLemmas.{steps_show, shown_fits, fronts_stay, fronts_turn}
+use Rattle.core_lists.proofs.ShowingLemmas.{whole_of, standing_shows, settled_shows, swapped_shows}
+
+-- What stands on a disk stands in the file that it reads as. No clause can range over all states of a disk, so this is a lemma.
+pub standing_is_in : (opening : List (Key × Value)) (held : Held) (m : Machine) (pace : Pace) (fronts : Fronts) (tree : Tree) (d : DiskState) (numbers : Pace) → StandsAt opening held m pace fronts tree d → HasPace held numbers
+    → held.gears.sizes ≡ held.runs.sizes → StandsIn opening held m pace fronts tree d.bytes
+standing_is_in opening held m pace fronts tree d numbers stands has one = record {
+  numbers = numbers;
+  at = record { are_of = stands.over.are_of; holds = stands.holds };
+  paced = stands.paced;
+  has = has;
+  one = one;
+  within = stands.within;
+  lanes = record { lane_a = stands.lane_a; lane_b = stands.lane_b };
+}
+
+-- and back, where the disk stands on the tree
+pub standing_on : (opening : List (Key × Value)) (held : Held) (m : Machine) (pace : Pace) (fronts : Fronts) (tree : Tree) (d : DiskState) → StandOver held.runs tree held.log.a.entries d
+    → StandsIn opening held m pace fronts tree d.bytes → StandsAt opening held m pace fronts tree d
+standing_on opening held m pace fronts tree d over is = record {
+  over = over;
+  holds = is.at.holds;
+  paced = is.paced;
+  within = is.within;
+  lane_a = is.lanes.lane_a;
+  lane_b = is.lanes.lane_b;
+}
+
+-- ---- the deep merge
+
+pub settled_fronts : SettledFronts
+settled_fronts opening old m pace fronts tree middle file is moves = by (deep_done m) refl
+  where
+    agrees : Agrees old m
+    agrees = tests_agree_with_lists old tree m file is.numbers is.at is.paced.stands.sound is.has
+
+    by : (b : Bool) → deep_done m ≡ b → HasFronts middle (cond b (swap_deep m) m).lists fronts
+    by true done =
+        let swapped = moves.done (agrees.deep_is_done.1 done) in
+        fronts_stay tree middle m.lists (swap_deep m).lists fronts swapped.lane_a swapped.lane_b refl refl is.lanes
+    by false undone =
+        let stays : middle ≡ tree = moves.rests (λ over. false≢true (sym undone ∙ agrees.deep_is_done.0 over)) in
+        subst (λ (t : Tree). HasFronts t m.lists fronts) (sym stays) is.lanes
+
+pub deep_swap_images : DeepSwapImages
+deep_swap_images opening held m pace fronts tree next file image is done swapped either =
+    let agrees = tests_agree_with_lists held tree m file is.numbers is.at is.paced.stands.sound is.has in
+    let test : deep_done m ≡ true = agrees.deep_is_done.0 done in
+    let lists : (deep_swapped m).lists ≡ lists_of next = subst (λ (b : Bool). (cond b (swap_deep m) m).lists ≡ lists_of next) (sym test)
+    (deep_swap_has_lists held tree next m is.at.holds is.paced.stands.sound test swapped) in
+    let moves : DeepSettlesTree held tree next = record { done = λ over. swapped; rests = λ never. absurd (never done) } in
+    ⊎_elim (standing_shows opening m pace fronts tree image is.paced is.within is.at.holds.lists is.lanes)
+    (settled_shows opening m pace fronts next image is.paced is.within lists (settled_fronts opening held m pace fronts tree next file is moves))
+    either
+
+-- ---- the pass
+
+-- the pass's swap drops table A, and empties table B
+pub swapped_tables : (m : Machine) → ((swap_pass m).lists.a ≡ m.lists.b) × ((swap_pass m).lists.b ≡ [])
+swapped_tables m = by (nat_le (c1_mark m.gears.sizes) (entries_weight (output_of m.merges.pass)))
+  where
+    by : (b : Bool) → ((cond b (rotate (end_pass m)) (end_pass m)).lists.a ≡ m.lists.b) × ((cond b (rotate (end_pass m)) (end_pass m)).lists.b ≡ [])
+    by true = (refl, refl)
+    by false = (refl, refl)
+
+module _ (opening : List (Key × Value)) (old settled : Held) (m : Machine) (pace : Pace) (fronts : Fronts) (tree middle : Tree) (file between : List ℕ)
+    (is : SettledIn opening old settled m pace fronts tree middle file between) where
+  sound : IsSound (deep_swapped m)
+  sound = (deep_swapped_carries m is.stood.paced.stands.sound).sound
+
+  numbers : with_numbers_of (deep_swapped m) (deep_settled pace) ≡ deep_settled pace
+  numbers = (settled_of m pace is.stood.paced.stands.sound is.stood.paced.of_tree).numbers
+
+  agrees : Agrees settled (deep_swapped m)
+  agrees = tests_agree_with_lists settled middle (deep_swapped m) between is.numbers is.at sound is.has
+
+  lanes : HasFronts middle (deep_swapped m).lists fronts
+  lanes = settled_fronts opening old m pace fronts tree middle file is.stood is.moves
+
+  test : pass_done (deep_swapped m) ≡ ((deep_settled pace).gears.pass && pace_pass_done (deep_settled pace))
+  test = pass_test (deep_swapped m) sound ∙ ap (λ (q : Pace). q.gears.pass && pace_pass_done q) numbers
+
+  fronts_by_test : (next : Tree) → (IsPassDone settled → IsPassSwapped (is_run_full settled) settled.log.a.entries middle next) → ((IsPassDone settled → ⊥) → next ≡ middle)
+      → HasFronts next (swapped m).lists (fronts_ready pace fronts)
+  fronts_by_test next done rests = subst (λ (b : Bool). HasFronts next (swapped m).lists (cond b (fronts_turned fronts) fronts)) test (by (pass_done (deep_swapped m)) refl)
+    where
+      by : (b : Bool) → pass_done (deep_swapped m) ≡ b → HasFronts next (cond b (swap_pass (deep_swapped m)) (deep_swapped m)).lists (cond b (fronts_turned fronts) fronts)
+      by true over =
+          let turned = done (agrees.pass_is_done.1 over) in
+          let tables = swapped_tables (deep_swapped m) in
+          fronts_turn middle next (deep_swapped m).lists (swap_pass (deep_swapped m)).lists fronts turned.lane_a turned.lane_b tables.0 tables.1 lanes
+      by false undone =
+          let stays : next ≡ middle = rests (λ over. false≢true (sym undone ∙ agrees.pass_is_done.0 over)) in
+          subst (λ (t : Tree). HasFronts t (deep_swapped m).lists fronts) (sym stays) lanes
+
+  shows_either : (next : Tree) (image : List ℕ) → IsPassDone settled → IsPassSwapped (is_run_full settled) settled.log.a.entries middle next
+      → HoldsEither m.gears.sizes middle next image → ShowsWhole opening m image
+  shows_either next image done turned either =
+      let over : pass_done (deep_swapped m) ≡ true = agrees.pass_is_done.0 done in
+      let lists : (swapped m).lists ≡ lists_of next = subst (λ (b : Bool). (cond b (swap_pass (deep_swapped m)) (deep_swapped m)).lists ≡ lists_of next) (sym over)
+      (pass_swap_has_lists settled middle next (deep_swapped m) between is.at sound over is.one turned) in
+      ⊎_elim (settled_shows opening m pace fronts middle image is.stood.paced is.stood.within is.at.holds.lists lanes)
+      (swapped_shows opening m pace fronts next image is.stood.paced is.stood.within lists (fronts_by_test next (λ yes. turned) (λ never. absurd (never done))))
+      either
+
+pub ready_fronts : ReadyFronts
+ready_fronts opening old settled ready m pace fronts tree middle next file between is moves = fronts_by_test opening old settled m pace fronts tree middle file between is next moves.done moves.rests
+
+pub pass_swap_images : PassSwapImages
+pass_swap_images opening old settled m pace fronts tree middle next file between image is done turned either =
+    shows_either opening old settled m pace fronts tree middle file between is next image done turned either
+
+-- ---- C1 by itself
+
+no_pass : (pass : Option Merge) (snow : Option SnowState) → IsPassAt pass snow → snow ≡ None → pass ≡ None
+no_pass None snow comes none = refl
+no_pass (Some pass) None comes none = absurd comes
+no_pass (Some pass) (Some snow) comes none = absurd (subst (λ (o : Option SnowState). IsPassAt (Some pass) o) none comes)
+
+no_deep : (deep : Option Merge) (merge : Option DeepState) → IsDeepAt deep merge → merge ≡ None → deep ≡ None
+no_deep None merge comes none = refl
+no_deep (Some deep) None comes none = absurd comes
+no_deep (Some deep) (Some merge) comes none = absurd (subst (λ (o : Option DeepState). IsDeepAt (Some deep) o) none comes)
+
+pub rotation_images : RotationImages
+rotation_images opening held m pace fronts tree next file image is rests unmerged rotated either =
+    ⊎_elim (standing_shows opening m pace fronts tree image is.paced is.within is.at.holds.lists is.lanes) (λ holds. whole_of opening m image (record { tree = next; holds = holds; fits = fits; map_is = map_is })) either
+  where
+    pass_none : m.merges.pass ≡ None
+    pass_none = no_pass m.merges.pass held.runs.pass is.at.holds.pass rests
+
+    deep_none : m.merges.deep ≡ None
+    deep_none = no_deep m.merges.deep held.runs.deep is.at.holds.deep unmerged
+
+    lists : (rotate_alone m).lists ≡ lists_of next
+    lists = rotation_has_lists held tree next m is.at.holds rotated
+
+    map_is : map_in (lists_of next) ≡ map_of (written opening m.book.entries)
+    map_is =
+        let carries = rotate_alone_carries m is.paced.stands.sound pass_none deep_none in
+        ap map_in (sym lists) ∙ map_in_is (rotate_alone m).lists (rotate_alone m).merges (written opening m.book.entries) carries.sound.layered (λ key. carries.values key ∙ is.paced.stands.values key)
+
+    old_fits : FitsSizes m.gears.sizes tree
+    old_fits = shown_fits opening m pace fronts tree (steps_show opening m pace fronts tree is.paced is.at.holds.lists is.within is.lanes)
+
+    -- C1' has nothing
+    empty : entries_of tree.c1x ≡ []
+    empty = sym (ap (λ (l : Lists). l.c1x) is.at.holds.lists) ∙ subst (λ (p : Option Merge). IsDeepOver m.lists p) deep_none is.paced.stands.sound.layered.deep
+
+    weighs : (one other : List RunPage) → one ≡ other → entries_weight (entries_of one) ≡ entries_weight (entries_of other)
+    weighs one other same = ap (λ (pages : List RunPage). entries_weight (entries_of pages)) same
+
+    same_weight : components_weight next ≡ components_weight tree
+    same_weight = omega (arith, weighs next.c1 [] rotated.c1, weighs next.c1x tree.c1 rotated.c1x, weighs next.c2 tree.c2 rotated.c2, ap entries_weight empty)
+
+    fits : FitsSizes m.gears.sizes next
+    fits = record {
+      mark = omega (arith, old_fits.mark, weighs next.c1 [] rotated.c1);
+      full = omega (arith, old_fits.full, same_weight);
+      replays = subst (λ (n : ℕ). ReplaysWithin m.gears.sizes n next.lane_a next.lane_b) (sym same_weight)
+          (subst (λ (es : Entries). ReplaysWithin m.gears.sizes (components_weight tree) es next.lane_b) (sym rotated.lane_a)
+          (subst (λ (es : Entries). ReplaysWithin m.gears.sizes (components_weight tree) tree.lane_a es) (sym rotated.lane_b) old_fits.replays));
+    }

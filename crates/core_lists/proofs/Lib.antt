@@ -1,0 +1,14 @@
+pub mod WeighLemmas
+pub mod SwapLands
+pub mod QuantumLands
+pub mod WriteLands
+pub mod TestLemmas
+pub mod LookupLemmas
+pub mod ShownLemmas
+pub mod AdmissionLands
+pub mod ShowingLemmas
+pub mod ImageLemmas
+pub mod AppendLemmas
+pub mod OpeningLemmas
+pub mod StepLands
+pub mod GoingLemmas

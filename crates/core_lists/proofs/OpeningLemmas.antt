@@ -1,0 +1,112 @@
+-- A store that was opened stands at the machine's first state.
+use Rattle.std.proofs.Common.{◌≡◌, ◌∙◌, ℕ, ◌+◌, List, [], Option, None, length, refl, ap, sym, subst, arith}
+use Rattle.blsm_model.specs.Book.{Book}
+use Rattle.blsm_model.specs.declared.history.Entry.{Entry}
+use Rattle.catalog_swap.specs.declared.catalog.Catalog.{Catalog}
+use Rattle.record_delta.specs.Entries.{Entries, entries_weight, replayed}
+use Rattle.page_file.specs.Component.{entries_of}
+use Rattle.gated_log.specs.Lane.{blocks}
+use Rattle.snow_merge.specs.Pass.{SnowState}
+use Rattle.deep_merge.specs.Merge.{DeepState}
+use Rattle.gear_sched.specs.Gears.{GearState}
+use Rattle.pacing.specs.Pace.{opened as pace_opened}
+use Rattle.pacing.specs.Laws.{IsOpening}
+use Rattle.pacing.proofs.Fronts.{opening_fronts}
+use Rattle.tree_machine.specs.Lists.{Lists, map_in}
+use Rattle.tree_machine.specs.Machine.{Machine, opened}
+use Rattle.seat_book.specs.State.{opened_in}
+use Rattle.paced_tree.specs.Kept.{AreComponents, IsPacedTree}
+use Rattle.paced_tree.specs.Lanes.{IsLane}
+use Rattle.paced_tree.proofs.LaneLemmas.{empty_lane}
+use Rattle.paced_tree.proofs.Promises.{opened_is_paced}
+use Rattle.tree_file.specs.Tree.{Tree, lists_of, map_of_tree}
+use Rattle.tree_file.proofs.ListLemmas.{sorted_component, lists_light}
+use Rattle.tree_log.specs.Log.{IsLogOf}
+use Rattle.tree_runs.specs.Holding.{AreOf, IsDeepOver}
+use Rattle.core_moves.specs.declared.held.Held.{Held}
+use Rattle.core_lists.specs.Standing.{HoldsMachine, IsPassAt, IsDeepAt, catalogue_of}
+use Rattle.core_pace.specs.Opening.{IsOpened}
+use Rattle.core_lists.specs.Opening.{OpeningStands}
+use Rattle.core_lists.proofs.SwapLands.{same_lists}
+
+module _ (annals : Book) (faults : ℕ) (held : Held) (tree : Tree) (file : List ℕ) (is : IsOpened annals faults held) (roles : held.log.lanes.roles ≡ held.runs.catalogue.lanes)
+    (of : AreOf held.runs tree held.log.a.entries file) (lane_a : tree.lane_a ≡ []) (lane_b : tree.lane_b ≡ []) (opening : IsOpening held.runs.sizes held.runs.catalogue.c1.weight held.runs.catalogue.c2.weight) where
+  abbrev first : Machine
+  first = opened held.runs.sizes (entries_of tree.c1) (entries_of tree.c2) (catalogue_of held.runs.catalogue) faults annals.room
+
+  -- C1' has nothing
+  no_c1x : tree.c1x ≡ []
+  no_c1x = subst (λ (o : Option DeepState). IsDeepOver held.runs.sizes file held.runs.space o tree.c1x tree.c2) is.deep of.deep
+
+  weight_c1 : entries_weight (entries_of tree.c1) ≡ held.runs.catalogue.c1.weight
+  weight_c1 = of.holds.c1.weight_is ∙ ap (λ (k : Catalog). k.c1.weight) of.catalogue
+
+  weight_c2 : entries_weight (entries_of tree.c2) ≡ held.runs.catalogue.c2.weight
+  weight_c2 = of.holds.c2.weight_is ∙ ap (λ (k : Catalog). k.c2.weight) of.catalogue
+
+  charge_is : entries_weight (entries_of tree.c1) + entries_weight (entries_of tree.c2) ≡ held.runs.catalogue.c1.weight + held.runs.catalogue.c2.weight
+  charge_is = omega (arith, weight_c1, weight_c2)
+
+  -- the annals are empty
+  annals_are : ◌≡◌ {A = Book} (record { entries = []; quanta = []; room = annals.room }) annals
+  annals_are =
+      ap (λ (es : List Entry). record { entries = es; quanta = []; room = annals.room }) (sym is.entries)
+      ∙ ap (λ (ns : List ℕ). record { entries = annals.entries; quanta = ns; room = annals.room }) (sym is.quanta)
+
+  lists : first.lists ≡ lists_of tree
+  lists = same_lists first.lists (lists_of tree) (ap replayed (sym lane_b)) (ap replayed (sym lane_a)) refl (ap entries_of (sym no_c1x)) refl
+
+  of_log : IsLogOf tree held.log
+  of_log = record {
+    roles = roles ∙ sym (ap (λ (k : Catalog). k.lanes) of.catalogue);
+    end_a = is.end_a ∙ ap (λ (es : Entries). length (blocks es)) (sym lane_a);
+    end_b = is.end_b ∙ ap (λ (es : Entries). length (blocks es)) (sym lane_b);
+    a = is.a ∙ ap replayed (sym lane_a);
+    b = is.b ∙ ap replayed (sym lane_b);
+  }
+
+  holds : HoldsMachine held tree first
+  holds = record {
+    lists = lists;
+    of_log = of_log;
+    pass = subst (λ (o : Option SnowState). IsPassAt None o) (sym is.pass) tt;
+    deep = subst (λ (o : Option DeepState). IsDeepAt None o) (sym is.deep) tt;
+    gears = sym is.gears;
+    spring = sym is.spring;
+    catalogue = refl;
+    book = ap (λ (n : ℕ). opened_in (record { entries = []; quanta = []; room = annals.room }) n faults) charge_is
+        ∙ ap (λ (b : Book). opened_in b (held.runs.catalogue.c1.weight + held.runs.catalogue.c2.weight) faults) annals_are
+        ∙ sym is.book;
+  }
+
+  are : AreComponents held.runs.sizes (entries_of tree.c1) (entries_of tree.c2)
+  are =
+      let light = lists_light held.runs.sizes tree file of.holds in
+      record {
+        sorted_c1 = sorted_component of.holds.c1;
+        sorted_c2 = sorted_component of.holds.c2;
+        light_c1 = light.2;
+        light_c2 = light.4;
+        bases = of.holds.bases;
+        numbers = subst (λ (n : ℕ). IsOpening held.runs.sizes n (entries_weight (entries_of tree.c2))) (sym weight_c1) (subst (λ (n : ℕ). IsOpening held.runs.sizes held.runs.catalogue.c1.weight n) (sym weight_c2) opening);
+      }
+
+  paced : IsPacedTree (map_of_tree tree) first (pace_opened held.runs.sizes held.runs.catalogue.c1.weight held.runs.catalogue.c2.weight)
+  paced = subst (λ (n : ℕ). IsPacedTree (map_of_tree tree) first (pace_opened held.runs.sizes held.runs.catalogue.c1.weight n)) weight_c2
+      (subst (λ (n : ℕ). IsPacedTree (map_of_tree tree) first (pace_opened held.runs.sizes n (entries_weight (entries_of tree.c2)))) weight_c1
+      (subst (λ (l : Lists). IsPacedTree (map_in l) first (pace_opened held.runs.sizes (entries_weight (entries_of tree.c1)) (entries_weight (entries_of tree.c2)))) lists
+      (opened_is_paced held.runs.sizes (entries_of tree.c1) (entries_of tree.c2) (catalogue_of held.runs.catalogue) faults annals.room are)))
+
+pub opening_stands : OpeningStands
+opening_stands annals faults held numbers tree file is roles has of lane_a lane_b opening = record {
+  at = record { are_of = of; holds = holds annals faults held tree file is roles of lane_a lane_b opening };
+  paced = paced annals faults held tree file is roles of lane_a lane_b opening;
+  numbers = numbers;
+  has = has;
+  one = ap (λ (g : GearState). g.sizes) is.gears;
+  within = opening_fronts held.runs.sizes held.runs.catalogue.c1.weight held.runs.catalogue.c2.weight opening;
+  lanes = record {
+    lane_a = subst (λ (es : Entries). IsLane es [] 0) (sym lane_a) empty_lane;
+    lane_b = subst (λ (es : Entries). IsLane es [] 0) (sym lane_b) empty_lane;
+  };
+}

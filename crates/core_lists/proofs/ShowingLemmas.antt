@@ -1,0 +1,178 @@
+-- What a file shows of a history, in the words of what an image may show.
+use Rattle.std.specs.Prelude.{nat_lt}
+use Rattle.std.proofs.Common.{◌≡◌, ◌∙◌, ℕ, ◌+◌, ◌≤◌, Bool, true, false, cond, not, ◌&&◌, ◌||◌, List, [], ◌∷◌, ◌++◌, flat_map, length, ⊎_elim, refl, ap, sym, subst, append_assoc, append-nil, length-append, arith}
+use Rattle.std.proofs.lemmas.Bool.{false≢true}
+use Rattle.std.proofs.lemmas.List.{flat_map_more}
+use mathlib.Core.List.{IsPrefix}
+use Rattle.blsm_model.specs.declared.key.Key.{Key}
+use Rattle.blsm_model.specs.declared.row.Value.{Value}
+use Rattle.blsm_model.specs.declared.op.Op.{Op}
+use Rattle.blsm_model.specs.declared.op.Write.{Write}
+use Rattle.blsm_model.specs.declared.history.Entry.{Entry}
+use Rattle.blsm_model.specs.declared.history.Reply.{Reply}
+use Rattle.blsm_model.specs.declared.history.Reply.TheVariants.{FaultUnsure}
+use Rattle.blsm_model.specs.Book.{Book}
+use Rattle.blsm_model.specs.Sizes.{Sizes}
+use Rattle.blsm_model.specs.Histories.{is_done, writes_of, counted, counted_writes, written}
+use Rattle.blsm_model.specs.Images.{counted_with, is_unsure}
+use Rattle.blsm_model.specs.Legal.{is_running, is_stopping, is_stopped}
+use Rattle.blsm_model.specs.Rows.{map_of, puts_of}
+use Rattle.pacing.specs.Pace.{Pace}
+use Rattle.pacing.specs.Steps.{deep_settled, ready_for as pace_ready_for}
+use Rattle.pacing.specs.Fronts.{Fronts, AreFronts, fronts_ready}
+use Rattle.tree_machine.specs.Lists.{Lists}
+use Rattle.tree_machine.specs.Machine.{Machine}
+use Rattle.tree_machine.specs.Moves.{begin_pass}
+use Rattle.tree_machine.specs.Steps.{deep_swapped, swapped, ready_for}
+use Rattle.tree_machine.proofs.FoldLemmas.{both_hold}
+use Rattle.tree_machine.proofs.CarryLemmas.{deep_swapped_carries, ready_carries}
+use Rattle.paced_tree.specs.Kept.{IsPacedTree}
+use Rattle.paced_tree.proofs.Promises.{has_way}
+use Rattle.tree_file.specs.Tree.{Tree, HoldsTree, ReadsAsMap, lists_of}
+use Rattle.core_lists.specs.Shown.{ShowsHistory, ShowsWhole, HasFronts, StandingShows, SettledShows, SwappedShows, ShowingIsKept, QuietEntryCountsNone, QuietEntryShows}
+use Rattle.core_lists.proofs.ShownLemmas.{steps_show, deep_swap_shows, ready_shows, images_show}
+
+-- ---- what counts
+
+or_false : (b : Bool) → (b || false) ≡ b
+or_false true = refl
+or_false false = refl
+
+-- without doubt, what counts is what was answered Done
+sure_one : (entry : Entry) → counted_with false entry ≡ counted entry
+sure_one entry = ap (λ b. cond b (writes_of entry.op) []) (or_false (is_done entry.reply))
+
+pub sure_writes : (history : List Entry) → flat_map (counted_with false) history ≡ counted_writes history
+sure_writes [] = refl
+sure_writes (e ∷ es) = ap (λ ws. ws ++ flat_map (counted_with false) es) (sure_one e) ∙ ap (λ ws. counted e ++ ws) (sure_writes es)
+
+-- and a history of a tree that runs has no doubt
+running_one : (seat : ℕ) (op : Op) (reply : Reply) → not (is_stopping op reply || is_stopped reply) ≡ true → counted_with true (record { seat = seat; op = op; reply = reply }) ≡ counted (record { seat = seat; op = op; reply = reply })
+running_one seat op FaultUnsure runs = absurd (false≢true runs)
+running_one seat op _ runs = refl
+
+pub running_writes : (unsure : Bool) (history : List Entry) → is_running history ≡ true → flat_map (counted_with unsure) history ≡ counted_writes history
+running_writes false history runs = sure_writes history
+running_writes true [] runs = refl
+running_writes true (e ∷ es) runs =
+    let parts = both_hold (not (is_stopping e.op e.reply || is_stopped e.reply)) (is_running es) runs in
+    ap (λ ws. ws ++ flat_map (counted_with true) es) (running_one e.seat e.op e.reply parts.0) ∙ ap (λ ws. counted e ++ ws) (running_writes true es parts.1)
+
+-- ---- prefixes
+
+pub prefix_self : (history : List Entry) → IsPrefix history history
+prefix_self history = ([], append-nil history)
+
+pub prefix_then : (a b c : List Entry) → IsPrefix a b → IsPrefix b c → IsPrefix a c
+prefix_then a b c first second = (first.0 ++ second.0, sym (append_assoc a first.0 second.0) ∙ ap (λ (l : List Entry). l ++ second.0) first.1 ∙ second.1)
+
+-- one that is as long is the whole
+prefix_whole : (front history : List Entry) → IsPrefix front history → length history ≤ length front → front ≡ history
+prefix_whole front history begins long = by begins.0 begins.1
+  where
+    by : (rest : List Entry) → (front ++ rest) ≡ history → front ≡ history
+    by [] is = sym (append-nil front) ∙ is
+    by (e ∷ rest) is = absurd (omega (arith, long, ap (λ (l : List Entry). length l) is, length-append front (e ∷ rest)))
+
+-- ---- what is shown
+
+-- the map after all of the history
+pub shows_by : (unsure : Bool) (sizes : Sizes) (opening : List (Key × Value)) (history : List Entry) (writes : List Write) (n : ℕ) (file : List ℕ) → n ≤ length history
+    → writes ≡ puts_of opening ++ flat_map (counted_with unsure) history → ReadsAsMap sizes (map_of writes) file → ShowsHistory sizes opening history n file
+shows_by unsure sizes opening history writes n file few same reads = (
+  map_of writes,
+  record { front = history; unsure = unsure; begins = prefix_self history; enough = few; map = ap map_of same },
+  reads,
+)
+
+-- the map of the machine's history
+abbrev pub ReadsHistory : List (Key × Value) → Machine → List ℕ → Type 0
+ReadsHistory opening m file = ReadsAsMap m.gears.sizes (map_of (written opening m.book.entries)) file
+
+pub whole_of : (opening : List (Key × Value)) (m : Machine) (file : List ℕ) → ReadsHistory opening m file → ShowsWhole opening m file
+whole_of opening m file reads =
+    shows_by false m.gears.sizes opening m.book.entries (written opening m.book.entries) (length m.book.entries) file (omega arith) (ap (λ ws. puts_of opening ++ ws) (sym (sure_writes m.book.entries))) reads
+
+pub standing_reads : (opening : List (Key × Value)) (m : Machine) (pace : Pace) (fronts : Fronts) (tree : Tree) (file : List ℕ) → IsPacedTree opening m pace → AreFronts pace fronts → m.lists ≡ lists_of tree
+    → HasFronts tree m.lists fronts → HoldsTree m.gears.sizes tree file → ReadsHistory opening m file
+standing_reads opening m pace fronts tree file paced within lists lanes holds =
+    images_show opening m pace fronts tree file (steps_show opening m pace fronts tree paced lists within lanes) holds
+
+-- a later machine of the same sizes and history reads as the same
+reads_as : (opening : List (Key × Value)) (m later : Machine) (file : List ℕ) → later.gears.sizes ≡ m.gears.sizes → later.book ≡ m.book → ReadsHistory opening later file → ReadsHistory opening m file
+reads_as opening m later file sizes book reads =
+    subst (λ (b : Book). ReadsAsMap m.gears.sizes (map_of (written opening b.entries)) file) book
+    (subst (λ (s : Sizes). ReadsAsMap s (map_of (written opening later.book.entries)) file) sizes reads)
+
+-- a pass that begins leaves the lists
+pub begun_lists : (w : ℕ) (m : Machine) → (ready_for w m).lists ≡ (swapped m).lists
+begun_lists w m = by (not (swapped m).gears.pass && nat_lt (swapped m).gears.sizes.low ((swapped m).spring + w))
+  where
+    by : (b : Bool) → (cond b (begin_pass (swapped m)) (swapped m)).lists ≡ (swapped m).lists
+    by true = refl
+    by false = refl
+
+pub swapped_reads : (opening : List (Key × Value)) (m : Machine) (pace : Pace) (fronts : Fronts) (next : Tree) (file : List ℕ) → IsPacedTree opening m pace → AreFronts pace fronts
+    → (swapped m).lists ≡ lists_of next → HasFronts next (swapped m).lists (fronts_ready pace fronts) → HoldsTree m.gears.sizes next file → ReadsHistory opening m file
+swapped_reads opening m pace fronts next file paced within lists lanes holds =
+    let carries = ready_carries 0 m paced.stands.sound (has_way opening m pace paced) in
+    let same = begun_lists 0 m in
+    reads_as opening m (ready_for 0 m) file carries.sizes carries.book
+    (images_show opening (ready_for 0 m) (pace_ready_for pace 0) (fronts_ready pace fronts) next file
+    (ready_shows opening m pace fronts 0 next paced within (same ∙ lists) (subst (λ (l : Lists). HasFronts next l (fronts_ready pace fronts)) (sym same) lanes))
+    (subst (λ (s : Sizes). HoldsTree s next file) (sym carries.sizes) holds))
+
+pub standing_shows : StandingShows
+standing_shows opening m pace fronts tree file paced within lists lanes holds = whole_of opening m file (standing_reads opening m pace fronts tree file paced within lists lanes holds)
+
+pub settled_shows : SettledShows
+settled_shows opening m pace fronts next file paced within lists lanes holds =
+    let carries = deep_swapped_carries m paced.stands.sound in
+    whole_of opening m file (reads_as opening m (deep_swapped m) file carries.sizes carries.book
+    (images_show opening (deep_swapped m) (deep_settled pace) fronts next file (deep_swap_shows opening m pace fronts next paced within lists lanes)
+    (subst (λ (s : Sizes). HoldsTree s next file) (sym carries.sizes) holds)))
+
+pub swapped_shows : SwappedShows
+swapped_shows opening m pace fronts next file paced within lists lanes holds = whole_of opening m file (swapped_reads opening m pace fronts next file paced within lists lanes holds)
+
+-- ---- as the history grows
+
+pub showing_is_kept : ShowingIsKept
+showing_is_kept sizes opening history longer n fewer file begins few shows =
+    let is = shows.1 in (
+      shows.0,
+      record { front = is.front; unsure = is.unsure; begins = prefix_then is.front history longer is.begins begins; enough = omega (arith, few, is.enough); map = is.map },
+      shows.2,
+    )
+
+pub quiet_entry_counts_none : QuietEntryCountsNone
+quiet_entry_counts_none entry quiet unsure = ⊎_elim (λ none. by_writes (is_done entry.reply || (unsure && is_unsure entry.reply)) none) (λ refused. by_reply unsure (is_done entry.reply) (is_unsure entry.reply) refused.0 refused.1) quiet
+  where
+    by_writes : (b : Bool) → writes_of entry.op ≡ [] → cond b (writes_of entry.op) [] ≡ []
+    by_writes true none = none
+    by_writes false none = refl
+
+    by_reply : (b done doubt : Bool) → done ≡ false → doubt ≡ false → cond (done || (b && doubt)) (writes_of entry.op) [] ≡ []
+    by_reply b true doubt d u = absurd (false≢true (sym d))
+    by_reply true false true d u = absurd (false≢true (sym u))
+    by_reply true false false d u = refl
+    by_reply false false doubt d u = refl
+
+pub quiet_entry_shows : QuietEntryShows
+quiet_entry_shows sizes opening history entry file none shows =
+    let is = shows.1 in
+    let whole : is.front ≡ history = prefix_whole is.front history is.begins is.enough in
+    let more : puts_of opening ++ flat_map (counted_with is.unsure) (history ++ entry ∷ []) ≡ puts_of opening ++ flat_map (counted_with is.unsure) history =
+    sym (flat_map_more (counted_with is.unsure) (puts_of opening) history entry)
+    ∙ ap (λ ws. (puts_of opening ++ flat_map (counted_with is.unsure) history) ++ ws) (none is.unsure)
+    ∙ append-nil (puts_of opening ++ flat_map (counted_with is.unsure) history) in (
+      shows.0,
+      record {
+        front = history ++ entry ∷ [];
+        unsure = is.unsure;
+        begins = prefix_self (history ++ entry ∷ []);
+        enough = omega (arith, length-append history (entry ∷ []));
+        map = is.map ∙ ap (λ (es : List Entry). map_of (puts_of opening ++ flat_map (counted_with is.unsure) es)) whole ∙ ap map_of (sym more);
+      },
+      shows.2,
+    )

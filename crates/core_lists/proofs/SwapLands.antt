@@ -1,0 +1,270 @@
+-- Swaps, rotations and begins, over lists.
+use Rattle.std.proofs.Common.{◌≡◌, ◌∙◌, ℕ, ◌+◌, Bool, true, false, cond, [], ◌∷◌, List, length, Option, Some, None, refl, ap, sym, subst}
+use Rattle.std.specs.Prelude.{nat_le}
+use Rattle.std.proofs.lemmas.Bool.{false≢true}
+use Rattle.blsm_model.specs.declared.key.Key.{Key}
+use Rattle.blsm_model.specs.Sizes.{Sizes}
+use Rattle.blsm_model.specs.Geometry.{c1_mark}
+use Rattle.blsm_model.specs.Lanes.{a_of, b_of, spare_of}
+use Rattle.catalog_swap.specs.declared.catalog.Catalog.{Catalog}
+use Rattle.record_delta.specs.Entries.{Entries, above, entries_weight, folded_over, settled_entries, replayed, up_to}
+use Rattle.page_file.specs.Component.{entries_of}
+use Rattle.gear_sched.specs.Gears.{GearState, deep_ended, pass_ended, passing, rotated}
+use Rattle.deep_merge.specs.Merge.{started as deep_started}
+use Rattle.snow_merge.specs.Pass.{SnowState}
+use Rattle.tree_machine.specs.Lists.{Lists, memory_weight}
+use Rattle.tree_machine.specs.Merges.{Merge, begun, is_empty}
+use Rattle.tree_machine.specs.Layers.{IsSound, IsDeepOver, IsPassOver}
+use Rattle.tree_machine.specs.Machine.{Machine, Catalogue, pass_done, deep_done, pass_is_done, deep_is_done}
+use Rattle.tree_machine.specs.Moves.{begin_pass, swap_deep, end_pass, rotate, committed, turned, output_of}
+use Rattle.merge_ends.proofs.GroupLemmas.{all_up_to}
+use Rattle.tree_machine.proofs.FoldLemmas.{both_hold}
+use Rattle.tree_machine.proofs.WeightLemmas.{pass_output, deep_output}
+use Rattle.seat_book.specs.State.{deep_counted_in, pass_counted_in}
+use Rattle.gated_log.specs.Lane.{blocks}
+use Rattle.tree_file.specs.Tree.{Tree, lists_of}
+use Rattle.tree_file.specs.Places.{TurnsRoles}
+use Rattle.tree_log.specs.Log.{LogState, IsLogOf}
+use Rattle.tree_runs.specs.Runs.{made_by_pass}
+use Rattle.tree_runs.specs.Holding.{AreOf, IsPassSwapped, IsPassOver as RunsOver}
+use Rattle.core_moves.specs.declared.held.Held.{Held}
+use Rattle.core_moves.specs.Held.{is_run_full}
+use Rattle.core_moves.specs.Moves.{SwapsPassIn, TurnsLog, with_pass_begun}
+use Rattle.core_lists.specs.Standing.{HoldsMachine, IsAt, IsPassAt, IsDeepAt, catalogue_of}
+use Rattle.core_lists.specs.Lists.{DeepSwapLands, PassSwapLands, RotationLands, BeginLands}
+use Rattle.core_lists.specs.Images.{DeepSwapHasLists, PassSwapHasLists, RotationHasLists}
+use Rattle.core_lists.proofs.WeighLemmas.{table_a, table_b, list_c1, weight_c1, weight_c2, weight_tables}
+
+-- ---- five lists, one by one
+
+abbrev five : Entries → Entries → Entries → Entries → Entries → Lists
+five b a c1 c1x c2 = record { b = b; a = a; c1 = c1; c1x = c1x; c2 = c2 }
+
+pub same_lists : (one other : Lists) → one.b ≡ other.b → one.a ≡ other.a → one.c1 ≡ other.c1 → one.c1x ≡ other.c1x → one.c2 ≡ other.c2 → one ≡ other
+same_lists one other b a c1 c1x c2 =
+    ap (λ (es : Entries). five es one.a one.c1 one.c1x one.c2) b
+    ∙ ap (λ (es : Entries). five other.b es one.c1 one.c1x one.c2) a
+    ∙ ap (λ (es : Entries). five other.b other.a es one.c1x one.c2) c1
+    ∙ ap (λ (es : Entries). five other.b other.a other.c1 es one.c2) c1x
+    ∙ ap (λ (es : Entries). five other.b other.a other.c1 other.c1x es) c2
+
+-- ---- what a merge that is done has written
+
+pub deep_wrote : (m : Machine) → IsSound m → deep_done m ≡ true → output_of m.merges.deep ≡ settled_entries (folded_over m.lists.c1x m.lists.c2)
+deep_wrote m sound done = by m.merges.deep sound.layered.deep done
+  where
+    by : (deep : Option Merge) → IsDeepOver m.lists deep → deep_is_done deep m.lists ≡ true → output_of deep ≡ settled_entries (folded_over m.lists.c1x m.lists.c2)
+    by None over done = absurd (false≢true done)
+    by (Some deep) over done = deep_output m.lists.c1x m.lists.c2 deep sound.layered.sorted_c1x sound.layered.sorted_c2 over done
+
+pub pass_wrote : (m : Machine) → IsSound m → pass_done m ≡ true → output_of m.merges.pass ≡ folded_over m.lists.a m.lists.c1
+pass_wrote m sound done = by m.merges.pass sound.layered.pass done
+  where
+    by : (pass : Option Merge) → IsPassOver m.lists pass → pass_is_done pass m.lists ≡ true → output_of pass ≡ folded_over m.lists.a m.lists.c1
+    by None over done = absurd (false≢true done)
+    by (Some pass) over done = pass_output m.lists.a m.lists.c1 pass sound.layered.sorted_a sound.layered.sorted_c1 over.1 done
+
+-- ---- a log that stays
+
+pub log_stays : (tree next : Tree) (log after : LogState) → after ≡ log → next.catalogue.lanes ≡ tree.catalogue.lanes → next.lane_a ≡ tree.lane_a → next.lane_b ≡ tree.lane_b
+    → IsLogOf tree log → IsLogOf next after
+log_stays tree next log after same roles lane_a lane_b is = subst (λ (l : LogState). IsLogOf next l) (sym same) (record {
+  roles = is.roles ∙ sym roles;
+  end_a = is.end_a ∙ ap (λ (es : Entries). length (blocks es)) (sym lane_a);
+  end_b = is.end_b ∙ ap (λ (es : Entries). length (blocks es)) (sym lane_b);
+  a = is.a ∙ ap replayed (sym lane_a);
+  b = is.b ∙ ap replayed (sym lane_b);
+})
+
+-- ---- the deep merge
+
+pub deep_swap_has_lists : DeepSwapHasLists
+deep_swap_has_lists held tree next m holds sound done swapped =
+    same_lists (swap_deep m).lists (lists_of next)
+    (ap (λ (l : Lists). l.b) holds.lists ∙ ap replayed (sym swapped.lane_b))
+    (ap (λ (l : Lists). l.a) holds.lists ∙ ap replayed (sym swapped.lane_a))
+    (ap (λ (l : Lists). l.c1) holds.lists ∙ ap entries_of (sym swapped.c1))
+    (ap entries_of (sym swapped.c1x))
+    (deep_wrote m sound done ∙ ap (λ (l : Lists). settled_entries (folded_over l.c1x l.c2)) holds.lists ∙ sym swapped.c2)
+
+pub deep_swap_lands : DeepSwapLands
+deep_swap_lands old new tree next m file after at sound done moves swapped are_of =
+    let holds = at.holds in
+    let roles : next.catalogue.lanes ≡ tree.catalogue.lanes =
+    ap (λ (k : Catalog). k.lanes) (are_of.catalogue ∙ moves.runs.catalogue) ∙ sym (ap (λ (k : Catalog). k.lanes) at.are_of.catalogue) in
+    record {
+      are_of = are_of;
+      holds = record {
+        lists = deep_swap_has_lists old tree next m holds sound done swapped;
+        of_log = log_stays tree next old.log new.log moves.log roles swapped.lane_a swapped.lane_b holds.of_log;
+        pass = subst (λ p. IsPassAt m.merges.pass p) (sym moves.runs.pass) holds.pass;
+        deep = subst (λ p. IsDeepAt None p) (sym moves.runs.deep) tt;
+        gears = ap deep_ended holds.gears ∙ sym moves.gears;
+        spring = holds.spring ∙ sym moves.spring;
+        catalogue = ap committed holds.catalogue ∙ ap catalogue_of (sym moves.runs.catalogue);
+        book = ap deep_counted_in holds.book ∙ sym moves.book;
+      };
+    }
+
+-- ---- the pass
+
+wrote_of : (held : Held) (tree : Tree) (m : Machine) → HoldsMachine held tree m → IsSound m → pass_done m ≡ true → output_of m.merges.pass ≡ folded_over held.log.a.entries (entries_of tree.c1)
+wrote_of held tree m holds sound done =
+    pass_wrote m sound done
+    ∙ ap (λ (l : Lists). folded_over l.a l.c1) holds.lists
+    ∙ ap (λ (es : Entries). folded_over es (entries_of tree.c1)) (sym holds.of_log.a)
+
+-- the lists after the pass, where C1 is rotated with it, and where it isn't
+ended_lists : (b : Bool) (held : Held) (tree next : Tree) (m : Machine) → HoldsMachine held tree m → IsSound m → pass_done m ≡ true → IsPassSwapped b held.log.a.entries tree next
+    → (cond b (rotate (end_pass m)) (end_pass m)).lists ≡ lists_of next
+ended_lists true held tree next m holds sound done swapped =
+    same_lists (rotate (end_pass m)).lists (lists_of next)
+    (ap replayed (sym swapped.lane_b))
+    (ap (λ (l : Lists). l.b) holds.lists ∙ ap replayed (sym swapped.lane_a))
+    (sym swapped.c1)
+    (wrote_of held tree m holds sound done ∙ sym swapped.c1x)
+    (ap (λ (l : Lists). l.c2) holds.lists ∙ ap entries_of (sym swapped.c2))
+ended_lists false held tree next m holds sound done swapped =
+    same_lists (end_pass m).lists (lists_of next)
+    (ap replayed (sym swapped.lane_b))
+    (ap (λ (l : Lists). l.b) holds.lists ∙ ap replayed (sym swapped.lane_a))
+    (wrote_of held tree m holds sound done ∙ sym swapped.c1)
+    (ap (λ (l : Lists). l.c1x) holds.lists ∙ sym swapped.c1x)
+    (ap (λ (l : Lists). l.c2) holds.lists ∙ ap entries_of (sym swapped.c2))
+
+-- the code's test of the run is the machine's
+same_full : (held : Held) (tree : Tree) (m : Machine) → HoldsMachine held tree m → held.gears.sizes ≡ held.runs.sizes → (made_by_pass held.runs.pass).weight ≡ entries_weight (output_of m.merges.pass)
+    → is_run_full held ≡ nat_le (c1_mark m.gears.sizes) (entries_weight (output_of m.merges.pass))
+same_full held tree m holds sizes weighs =
+    ap (λ (s : Sizes). nat_le (c1_mark s) (made_by_pass held.runs.pass).weight) (sym (ap (λ (g : GearState). g.sizes) holds.gears ∙ sizes)) ∙ ap (λ (n : ℕ). nat_le (c1_mark m.gears.sizes) n) weighs
+
+-- a pass that is done wrote a run that weighs what the machine's output does
+none_in : (es : Entries) → is_empty es ≡ true → es ≡ []
+none_in [] none = refl
+none_in (e ∷ es) none = absurd (false≢true none)
+
+made_of_done : (held : Held) (tree : Tree) (m : Machine) (file : List ℕ) → IsAt held tree m file → IsSound m → pass_done m ≡ true → (made_by_pass held.runs.pass).weight ≡ entries_weight (output_of m.merges.pass)
+made_of_done held tree m file at sound done =
+    by m.merges.pass held.runs.pass at.holds.pass at.are_of.pass done ∙ sym (ap entries_weight (wrote_of held tree m at.holds sound done))
+  where
+    taken_all : (cursor : Option Key) (at_key : Option Key) (list es : Entries) → cursor ≡ at_key → list ≡ es → is_empty (above cursor list) ≡ true → up_to at_key es ≡ es
+    taken_all cursor at_key list es comes same none =
+        all_up_to at_key es (none_in (above at_key es) (sym (ap (λ (k : Option Key). is_empty (above k es)) comes) ∙ sym (ap (λ (l : Entries). is_empty (above cursor l)) same) ∙ none))
+
+    by : (pass : Option Merge) (snow : Option SnowState) → IsPassAt pass snow → RunsOver held.runs.sizes file held.runs.space snow held.log.a.entries tree.c1 → pass_is_done pass m.lists ≡ true
+        → (made_by_pass snow).weight ≡ entries_weight (folded_over held.log.a.entries (entries_of tree.c1))
+    by None snow comes over none = absurd (false≢true none)
+    by (Some pass) None comes over none = absurd comes
+    by (Some pass) (Some snow) comes over none =
+        let parts = both_hold (is_empty (above pass.cursor m.lists.a)) (is_empty (above pass.cursor m.lists.c1)) none in
+        let of_a = taken_all pass.cursor snow.at m.lists.a held.log.a.entries comes (table_a held tree m file at) parts.0 in
+        let of_c1 = taken_all pass.cursor snow.at m.lists.c1 (entries_of tree.c1) comes (list_c1 held tree m file at) parts.1 in
+        sym over.pushed.held.weight_is
+        ∙ ap entries_weight over.pushed.entries_are
+        ∙ ap (λ (es : Entries). entries_weight (folded_over es (up_to snow.at (entries_of tree.c1)))) of_a
+        ∙ ap (λ (es : Entries). entries_weight (folded_over held.log.a.entries es)) of_c1
+
+pub pass_swap_has_lists : PassSwapHasLists
+pass_swap_has_lists held tree next m file at sound done sizes swapped =
+    subst (λ (b : Bool). (cond b (rotate (end_pass m)) (end_pass m)).lists ≡ lists_of next) (same_full held tree m at.holds sizes (made_of_done held tree m file at sound done))
+    (ended_lists (is_run_full held) held tree next m at.holds sound done swapped)
+
+module _ (old new : Held) (tree next : Tree) (m : Machine) (file after : List ℕ) (at : IsAt old tree m file) (sound : IsSound m) (done : pass_done m ≡ true)
+    (moves : SwapsPassIn old new) (turns : TurnsLog old.log new.log) (are_of : AreOf new.runs next new.log.a.entries after) where
+  roles : TurnsRoles tree.catalogue next.catalogue
+  roles =
+      ap (λ (k : Catalog). k.lanes) (are_of.catalogue ∙ moves.runs.catalogue)
+      ∙ ap (λ (k : Catalog). b_of k.lanes ∷ spare_of k.lanes ∷ a_of k.lanes ∷ []) (sym at.are_of.catalogue)
+
+  passed : (b : Bool) → (made_by_pass old.runs.pass).weight ≡ entries_weight (output_of m.merges.pass) → new.runs.deep ≡ cond b (Some (deep_started old.runs.tags.deep (made_by_pass old.runs.pass) old.runs.catalogue.c2)) old.runs.deep
+      → IsPassSwapped b old.log.a.entries tree next → new.gears ≡ cond b (rotated (pass_ended old.gears) ((made_by_pass old.runs.pass).weight + old.runs.catalogue.c2.weight)) (pass_ended old.gears)
+      → HoldsMachine new next (cond b (rotate (end_pass m)) (end_pass m))
+  passed true weighs deep swapped gears = record {
+    lists = ended_lists true old tree next m at.holds sound done swapped;
+    of_log = turns tree next roles swapped.lane_a swapped.lane_b at.holds.of_log;
+    pass = subst (λ p. IsPassAt None p) (sym moves.runs.pass) tt;
+    deep = subst (λ p. IsDeepAt (Some begun) p) (sym deep) refl;
+    gears = ap (λ (g : GearState). rotated (pass_ended g) (entries_weight (output_of m.merges.pass) + entries_weight m.lists.c2)) at.holds.gears
+        ∙ ap (λ (n : ℕ). rotated (pass_ended old.gears) (n + entries_weight m.lists.c2)) (sym weighs)
+        ∙ ap (λ (n : ℕ). rotated (pass_ended old.gears) ((made_by_pass old.runs.pass).weight + n)) (weight_c2 old tree m file at)
+        ∙ sym gears;
+    spring = ap entries_weight (table_b old tree m file at) ∙ sym moves.spring;
+    catalogue = ap (λ (c : Catalogue). turned (committed c)) at.holds.catalogue ∙ ap catalogue_of (sym moves.runs.catalogue);
+    book = ap pass_counted_in at.holds.book ∙ sym moves.book;
+  }
+  passed false weighs deep swapped gears = record {
+    lists = ended_lists false old tree next m at.holds sound done swapped;
+    of_log = turns tree next roles swapped.lane_a swapped.lane_b at.holds.of_log;
+    pass = subst (λ p. IsPassAt None p) (sym moves.runs.pass) tt;
+    deep = subst (λ p. IsDeepAt m.merges.deep p) (sym deep) at.holds.deep;
+    gears = ap pass_ended at.holds.gears ∙ sym gears;
+    spring = ap entries_weight (table_b old tree m file at) ∙ sym moves.spring;
+    catalogue = ap (λ (c : Catalogue). turned (committed c)) at.holds.catalogue ∙ ap catalogue_of (sym moves.runs.catalogue);
+    book = ap pass_counted_in at.holds.book ∙ sym moves.book;
+  }
+
+pub pass_swap_lands : PassSwapLands
+pass_swap_lands old new tree next m file after at sound done sizes moves swapped turns are_of =
+    let weighs = made_of_done old tree m file at sound done in
+    record {
+      are_of = are_of;
+      holds = subst (λ (b : Bool). HoldsMachine new next (cond b (rotate (end_pass m)) (end_pass m))) (same_full old tree m at.holds sizes weighs)
+          (passed old new tree next m file after at sound done moves turns are_of (is_run_full old) weighs moves.runs.deep swapped moves.gears);
+    }
+
+-- ---- C1 by itself
+
+pub rotation_has_lists : RotationHasLists
+rotation_has_lists held tree next m holds swapped =
+    same_lists (rotate m).lists (lists_of next)
+    (ap (λ (l : Lists). l.b) holds.lists ∙ ap replayed (sym swapped.lane_b))
+    (ap (λ (l : Lists). l.a) holds.lists ∙ ap replayed (sym swapped.lane_a))
+    (ap entries_of (sym swapped.c1))
+    (ap (λ (l : Lists). l.c1) holds.lists ∙ ap entries_of (sym swapped.c1x))
+    (ap (λ (l : Lists). l.c2) holds.lists ∙ ap entries_of (sym swapped.c2))
+
+pub rotation_lands : RotationLands
+rotation_lands old new tree next m file after at moves swapped are_of =
+    let holds = at.holds in
+    let roles : next.catalogue.lanes ≡ tree.catalogue.lanes =
+    ap (λ (k : Catalog). k.lanes) (are_of.catalogue ∙ moves.runs.catalogue) ∙ sym (ap (λ (k : Catalog). k.lanes) at.are_of.catalogue) in
+    record {
+      are_of = are_of;
+      holds = record {
+        lists = rotation_has_lists old tree next m holds swapped;
+        of_log = log_stays tree next old.log new.log moves.log roles swapped.lane_a swapped.lane_b holds.of_log;
+        pass = subst (λ p. IsPassAt m.merges.pass p) (sym moves.runs.pass) holds.pass;
+        deep = subst (λ p. IsDeepAt (Some begun) p) (sym moves.runs.deep) refl;
+        gears = ap (λ (g : GearState). rotated g (entries_weight m.lists.c1 + entries_weight m.lists.c2)) holds.gears
+            ∙ ap (λ (n : ℕ). rotated old.gears (n + entries_weight m.lists.c2)) (weight_c1 old tree m file at)
+            ∙ ap (λ (n : ℕ). rotated old.gears (old.runs.catalogue.c1.weight + n)) (weight_c2 old tree m file at)
+            ∙ sym moves.gears;
+        spring = holds.spring ∙ sym moves.spring;
+        catalogue = ap committed holds.catalogue ∙ ap catalogue_of (sym moves.runs.catalogue);
+        book = holds.book ∙ sym moves.book;
+      };
+    }
+
+-- ---- a pass begins
+
+pub begin_in : (held : Held) (tree : Tree) (m : Machine) (file after : List ℕ) → IsAt held tree m file → AreOf (with_pass_begun held).runs tree held.log.a.entries after → IsAt (with_pass_begun held) tree (begin_pass m) after
+begin_in held tree m file after at are_of =
+    let holds = at.holds in
+    record {
+      are_of = are_of;
+      holds = record {
+        lists = holds.lists;
+        of_log = holds.of_log;
+        pass = refl;
+        deep = holds.deep;
+        gears = ap (λ (g : GearState). passing g (entries_weight m.lists.c1) (memory_weight m.lists)) holds.gears
+            ∙ ap (λ (n : ℕ). passing held.gears n (memory_weight m.lists)) (weight_c1 held tree m file at)
+            ∙ ap (λ (n : ℕ). passing held.gears held.runs.catalogue.c1.weight n) (weight_tables held tree m file at);
+        spring = holds.spring;
+        catalogue = holds.catalogue;
+        book = holds.book;
+      };
+    }
+
+pub begin_lands : BeginLands
+begin_lands held tree m file at are_of = begin_in held tree m file file at are_of

@@ -1,0 +1,119 @@
+-- A write, and what is done to the book alone, over lists.
+use Rattle.std.specs.Prelude.{is_some}
+use Rattle.std.proofs.Common.{◌≡◌, ◌∙◌, ℕ, ◌+◌, Bool, true, false, cond, List, Option, Some, None, refl, ap, sym, subst}
+use Rattle.blsm_model.specs.declared.key.Key.{Key}
+use Rattle.blsm_model.specs.declared.op.Write.{Write}
+use Rattle.blsm_model.specs.Values.{key_of, weight_of}
+use Rattle.record_delta.specs.declared.record.Rec.{Rec}
+use Rattle.record_delta.specs.Records.{record_of, weight}
+use Rattle.record_delta.specs.Entries.{is_above, with_record}
+use Rattle.gear_sched.specs.Gears.{GearState, entered}
+use Rattle.snow_merge.specs.Pass.{SnowState}
+use Rattle.tree_machine.specs.Lists.{Lists, memory_weight}
+use Rattle.tree_machine.specs.Merges.{Merge}
+use Rattle.tree_machine.specs.Layers.{IsSound, IsPassCounted}
+use Rattle.tree_machine.specs.Machine.{Machine, Merges}
+use Rattle.tree_machine.specs.Moves.{goes_to_a, with_write, take_write, note, stop}
+use Rattle.tree_machine.specs.Steps.{count_for_write, work_end, leave}
+use Rattle.tree_machine.proofs.WeightLemmas.{weight_of_record}
+use Rattle.seat_book.specs.State.{BookState, book_of, peaked_in, noted_in, stopped_in, paid_in, turned_in, helped_in, ended_in, left_in}
+use Rattle.tree_file.specs.Tree.{Tree, lists_of}
+use Rattle.tree_file.proofs.ListLemmas.{lists_appended_a, lists_appended_b}
+use Rattle.tree_log.specs.Log.{appended}
+use Rattle.tree_runs.specs.Runs.{RunsState}
+use Rattle.tree_runs.specs.Holding.{cursor_of_pass}
+use Rattle.core_moves.specs.declared.held.Held.{Held}
+use Rattle.core_moves.specs.Held.{goes_ahead}
+use Rattle.core_moves.specs.Moves.{with_book}
+use Rattle.core_lists.specs.Standing.{HoldsMachine, IsAt, IsPassAt, IsDeepAt, catalogue_of}
+use Rattle.core_lists.specs.Lists.{WriteLands, BookLands, turn_noted, helped}
+use Rattle.core_lists.proofs.WeighLemmas.{tables_weigh}
+
+-- the code sends a write where the machine does
+pub same_way : (pass : Option Merge) (snow : Option SnowState) (key : Key) → IsPassAt pass snow → goes_to_a pass key ≡ is_above (cursor_of_pass snow) key
+same_way None None key comes = refl
+same_way None (Some snow) key comes = absurd comes
+same_way (Some pass) None key comes = absurd comes
+same_way (Some pass) (Some snow) key comes = ap (λ (k : Option Key). is_above k key) comes
+
+-- the lists with the write
+joined : (ahead : Bool) (key : Key) (rec : Rec) (tree : Tree)
+    → cond ahead (record (lists_of tree) { a = with_record key rec (lists_of tree).a }) (record (lists_of tree) { b = with_record key rec (lists_of tree).b }) ≡ lists_of (appended ahead (key, rec) tree)
+joined true key rec tree = sym (lists_appended_a (key, rec) tree)
+joined false key rec tree = sym (lists_appended_b (key, rec) tree)
+
+-- the gears know a pass where one runs
+pub runs_as : (m : Machine) (held : Held) → IsSound m → IsPassAt m.merges.pass held.runs.pass → m.gears.pass ≡ is_some held.runs.pass
+runs_as m held sound comes = by m.merges.pass held.runs.pass sound.pass comes
+  where
+    by : (p : Option Merge) (o : Option SnowState) → IsPassCounted m.lists.a m.lists.c1 m.gears.pass m.gears.pass_c1 m.gears.pass_memory m.gears.pass_admitted m.gears.pass_taken p → IsPassAt p o → m.gears.pass ≡ is_some o
+    by None None counted comes = counted.0
+    by None (Some snow) counted comes = absurd comes
+    by (Some pass) None counted comes = absurd comes
+    by (Some pass) (Some snow) counted comes = counted.0
+
+pub write_has_lists : (seat : ℕ) (write : Write) (held : Held) (tree : Tree) (m : Machine) → HoldsMachine held tree m
+    → (take_write seat write m).lists ≡ lists_of (appended (goes_ahead (key_of write) held) (key_of write, record_of write) tree)
+write_has_lists seat write held tree m holds =
+    let key = key_of write in
+    let rec = record_of write in
+    ap (λ (l : Lists). with_write m.merges.pass key rec l) holds.lists
+    ∙ ap (λ (b : Bool). cond b (record (lists_of tree) { a = with_record key rec (lists_of tree).a }) (record (lists_of tree) { b = with_record key rec (lists_of tree).b }))
+    (same_way m.merges.pass held.runs.pass key holds.pass)
+    ∙ joined (goes_ahead key held) key rec tree
+
+pub write_lands : WriteLands
+write_lands seat write old new tree m file after at sound moves of_log are_of =
+    let key = key_of write in
+    let rec = record_of write in
+    let ahead = goes_ahead key old in
+    let next = appended ahead (key, rec) tree in
+    let weighs : weight key rec ≡ weight_of write = weight_of_record write in
+    let runs = runs_as m old sound at.holds.pass in
+    let lists : (take_write seat write m).lists ≡ lists_of next = write_has_lists seat write old tree m at.holds in
+    record {
+      are_of = are_of;
+      holds = record {
+        lists = lists;
+        of_log = of_log at.holds.of_log;
+        pass = subst (λ (r : RunsState). IsPassAt m.merges.pass r.pass) (sym moves.runs) at.holds.pass;
+        deep = subst (λ (r : RunsState). IsDeepAt m.merges.deep r.deep) (sym moves.runs) at.holds.deep;
+        gears = ap (λ (g : GearState). entered g seat (weight_of write)) at.holds.gears ∙ ap (λ (n : ℕ). entered old.gears seat n) (sym weighs) ∙ sym moves.gears;
+        spring = ap (λ (b : Bool). cond b m.spring (m.spring + weight_of write)) runs
+            ∙ ap (λ (n : ℕ). cond (is_some old.runs.pass) n (n + weight_of write)) at.holds.spring
+            ∙ ap (λ (n : ℕ). cond (is_some old.runs.pass) old.spring (old.spring + n)) (sym weighs)
+            ∙ sym moves.spring;
+        catalogue = at.holds.catalogue ∙ ap (λ (r : RunsState). catalogue_of r.catalogue) (sym moves.runs);
+        book = ap (λ (b : BookState). peaked_in (memory_weight (take_write seat write m).lists) b) at.holds.book
+            ∙ ap (λ (n : ℕ). peaked_in n old.book) (tables_weigh (take_write seat write m).lists next new.log lists (of_log at.holds.of_log))
+            ∙ sym moves.book;
+      };
+    }
+
+-- another machine with the same lists, merges and numbers, whose book the core has
+booked : (book : BookState) (held : Held) (tree : Tree) (m next : Machine) (file : List ℕ) → next.lists ≡ m.lists → next.merges ≡ m.merges → next.gears ≡ m.gears → next.spring ≡ m.spring
+    → next.catalogue ≡ m.catalogue → book_of next ≡ book → IsAt held tree m file → IsAt (with_book book held) tree next file
+booked book held tree m next file lists merges gears spring catalogue is at = record {
+  are_of = at.are_of;
+  holds = record {
+    lists = lists ∙ at.holds.lists;
+    of_log = at.holds.of_log;
+    pass = subst (λ (ms : Merges). IsPassAt ms.pass held.runs.pass) (sym merges) at.holds.pass;
+    deep = subst (λ (ms : Merges). IsDeepAt ms.deep held.runs.deep) (sym merges) at.holds.deep;
+    gears = gears ∙ at.holds.gears;
+    spring = spring ∙ at.holds.spring;
+    catalogue = catalogue ∙ at.holds.catalogue;
+    book = is;
+  };
+}
+
+pub book_lands : BookLands
+book_lands held tree m file at = record {
+  note = λ seat op reply. booked (noted_in seat op reply held.book) held tree m (note seat op reply m) file refl refl refl refl refl (ap (λ (b : BookState). noted_in seat op reply b) at.holds.book) at;
+  stop = λ why. booked (stopped_in why held.book) held tree m (stop why m) file refl refl refl refl refl (ap (λ (b : BookState). stopped_in why b) at.holds.book) at;
+  payment = λ seat. booked (paid_in seat held.book) held tree m (count_for_write seat m) file refl refl refl refl refl (ap (λ (b : BookState). paid_in seat b) at.holds.book) at;
+  turn = λ seat ended quanta. booked (turned_in seat ended quanta held.book) held tree m (turn_noted seat ended quanta m) file refl refl refl refl refl (ap (λ (b : BookState). turned_in seat ended quanta b) at.holds.book) at;
+  help = λ seat. booked (helped_in seat held.book) held tree m (helped seat m) file refl refl refl refl refl (ap (λ (b : BookState). helped_in seat b) at.holds.book) at;
+  end = λ seat n. booked (ended_in seat n held.book) held tree m (work_end m seat n).state file refl refl refl refl refl (ap (λ (b : BookState). ended_in seat n b) at.holds.book) at;
+  leave = λ seat. booked (left_in seat held.book) held tree m (leave m seat).state file refl refl refl refl refl (ap (λ (b : BookState). left_in seat b) at.holds.book) at;
+}
