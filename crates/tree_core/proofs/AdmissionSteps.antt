@@ -1,0 +1,375 @@
+-- An admission is one step of the machine, on an honest disk.
+use Rattle.std.specs.Prelude.{is_some, IsSome, nat_lt, ◌==◌, ◌^◌, ◌<◌}
+use Rattle.std.specs.List.{AllByRecursion}
+use Rattle.std.proofs.Common.{◌≡◌, ◌∙◌, ⊎_elim, inl, inr, ℕ, ◌+◌, ◌≤◌, Bool, true, false, cond, not, ◌&&◌, IsTrue, None, Some, Option, List, [], ◌∷◌, ◌++◌, length, length-append, refl, ap, sym, subst, arith}
+use Rattle.std.proofs.lemmas.Bool.{false≢true, cases_lt, lt-ltb}
+use Rattle.std.proofs.lemmas.Option.{none-some}
+use Rattle.refusal.specs.Count.{HasRisen}
+use Rattle.blsm_model.specs.Sizes.{Sizes}
+use Rattle.blsm_model.specs.Format.{least_weight, most_weight}
+use Rattle.blsm_model.specs.Book.{Book}
+use Rattle.blsm_model.specs.Geometry.{charge_limit}
+use Rattle.blsm_model.specs.declared.key.Key.{Key}
+use Rattle.blsm_model.specs.declared.row.Value.{Value}
+use Rattle.blsm_model.specs.declared.op.Op.{Op}
+use Rattle.blsm_model.specs.declared.op.Write.{Write}
+use Rattle.blsm_model.specs.declared.history.Entry.{Entry}
+use Rattle.blsm_model.specs.declared.history.Why.{Why}
+use Rattle.blsm_model.specs.declared.history.Why.TheVariants.{Faulted}
+use Rattle.blsm_model.specs.declared.history.Reply.{Reply}
+use Rattle.blsm_model.specs.declared.history.Reply.TheVariants.{Done, Full, FaultLost, FaultUnsure, Stopped}
+use Rattle.blsm_model.specs.Histories.{is_done, writes_of}
+use Rattle.blsm_model.specs.Images.{is_unsure}
+use Rattle.blsm_model.specs.Legal.{total_weight}
+use Rattle.blsm_model.specs.Values.{added_count, weight_of}
+use Rattle.disk_trait.specs.Disk.{DiskState}
+use Rattle.disk_trait.specs.Moments.{IsTimed, LeavesOnly, leaves_only_start, leaves_only_weaken, leaves_only_now}
+use Rattle.pacing.specs.Pace.{Pace}
+use Rattle.paced_tree.specs.After.{pace_after}
+use Rattle.paced_tree.specs.Kept.{IsPacedTree}
+use Rattle.paced_tree.proofs.Counted.{writes_once}
+use Rattle.paced_tree.proofs.Promises.{has_way, step_is_paced}
+use Rattle.seat_book.specs.State.{BookState, noted_in, stopped_in}
+use Rattle.tree_machine.specs.declared.step.Kind.{Kind}
+use Rattle.tree_machine.specs.declared.step.Kind.TheVariants as kind
+use Rattle.tree_machine.specs.Machine.{Machine, charge, deep_done, pass_done, pass_is_done}
+use Rattle.tree_machine.specs.Merges.{Merge}
+use Rattle.tree_machine.specs.Moves.{note, stop, swap_deep, with_peak}
+use Rattle.tree_machine.specs.Outcomes.{IsPossible, Rose, calls, is_broken}
+use Rattle.tree_machine.specs.Plays.{may}
+use Rattle.tree_machine.specs.Stands.{WritesFit}
+use Rattle.tree_machine.specs.Steps.{Outcome, Well, FailedAfter, Stepped, Replied, admit, admit_fitting, deep_swapped, is_del, one_if, ready_for, replied, swaps_due, taken_once, unless_stopped}
+use Rattle.tree_machine.specs.Layers.{IsSound}
+use Rattle.tree_machine.proofs.ToldLemmas.{none_is_some}
+use Rattle.tree_machine.proofs.CarryLemmas.{deep_swapped_carries, ready_carries}
+use Rattle.tree_file.specs.Tree.{HoldsTree}
+use Rattle.core_moves.specs.declared.held.Held.{Held}
+use Rattle.core_moves.specs.Held.{charge_in}
+use Rattle.core_moves.specs.Moves.{with_book}
+use Rattle.core_pace.specs.Pacing.{HasPace}
+use Rattle.core_lists.specs.Standing.{IsAt}
+use Rattle.core_lists.specs.Going.{GoesOn}
+use Rattle.core_lists.specs.Shown.{HasFronts, ShowsHistory, ShowsWhole}
+use Rattle.core_lists.specs.Images.{history_with}
+use Rattle.core_lists.proofs.AppendLemmas.{not_past}
+use Rattle.core_lists.proofs.GoingLemmas.{admission_fits, refusal_goes_on}
+use Rattle.core_lists.proofs.ShowingLemmas.{standing_shows, showing_is_kept, quiet_entry_counts_none, quiet_entry_shows}
+use Rattle.core_lists.proofs.WriteLands.{book_lands}
+use Rattle.tree_core.specs.Standing.{RunsOver, HasStopped, StandsFor}
+use Rattle.tree_core.specs.Steps.{IsStep}
+use Rattle.tree_core.specs.Taking.{TellsOf, TakenOver, HasLost, TakesOver}
+use Rattle.tree_core.specs.declared.admission.Taking.TheVariants.{Failed}
+use Rattle.tree_core.proofs.TakingLists.{tells_of}
+
+-- a command's write fits the format
+pub write_fits : (op : Op) (write : Write) → writes_of op ≡ write ∷ [] → added_count write < 2 ^ 64 → least_weight ≤ total_weight (writes_of op) → total_weight (writes_of op) ≤ most_weight → WritesFit (kind.Admit op)
+write_fits op write writes counts light heavy =
+    let weighs = writes_once op write [] writes in
+    subst (λ (ws : List Write). AllByRecursion (λ w. (added_count w < 2 ^ 64) × (weight_of w ≤ most_weight) × (least_weight ≤ weight_of w)) ws) (sym writes) ((counts, subst (λ (n : ℕ). n ≤ most_weight) weighs heavy, subst (λ (n : ℕ). least_weight ≤ n) weighs light), tt)
+
+-- the count rose, by what the disk tells
+pub rose_of : (old new : ℕ) → old ≤ new → new < 2 ^ 64 → HasRisen old new → Rose old new
+rose_of old new order small risen = ⊎_elim (λ below. inl below) (λ past. inr (omega (arith, order, small, risen, past), omega (arith, order, small, risen, past))) (cases_lt old new)
+
+-- ---- what the next state shows
+
+module _ (opening : List (Key × Value)) (seat : ℕ) (op : Op) (m : Machine) where
+  abbrev entry : Reply → Entry
+  entry reply = record { seat = seat; op = op; reply = reply }
+
+  -- an entry that counts no write
+  noted_whole : (reply : Reply) (file : List ℕ) → is_done reply ≡ false → is_unsure reply ≡ false → ShowsWhole opening m file
+      → ShowsHistory m.gears.sizes opening (history_with seat op reply m) (length m.book.entries + 1) file
+  noted_whole reply file undone sure shows = quiet_entry_shows m.gears.sizes opening m.book.entries (entry reply) file (quiet_entry_counts_none (entry reply) (inr (undone, sure))) shows
+
+  -- any entry
+  kept_whole : (reply : Reply) (file : List ℕ) → ShowsWhole opening m file → ShowsHistory m.gears.sizes opening (history_with seat op reply m) (length m.book.entries) file
+  kept_whole reply file shows = showing_is_kept m.gears.sizes opening m.book.entries (history_with seat op reply m) (length m.book.entries) (length m.book.entries) file (entry reply ∷ [], refl) (omega arith) shows
+
+  -- a later machine of the same sizes and history
+  shows_after : (reply : Reply) (why : Why) (later : Machine) (file : List ℕ) → later.gears.sizes ≡ m.gears.sizes → later.book ≡ m.book
+      → ShowsHistory m.gears.sizes opening (history_with seat op reply m) (length m.book.entries + 1) file → ShowsWhole opening (note seat op reply (stop why later)) file
+  shows_after reply why later file sizes book shows =
+      subst (λ (n : ℕ). ShowsHistory later.gears.sizes opening (later.book.entries ++ entry reply ∷ []) n file) (sym (length-append later.book.entries (entry reply ∷ [])))
+      (subst (λ (b : Book). ShowsHistory later.gears.sizes opening (b.entries ++ entry reply ∷ []) (length b.entries + 1) file) (sym book)
+      (subst (λ (z : Sizes). ShowsHistory z opening (history_with seat op reply m) (length m.book.entries + 1) file) (sym sizes) shows))
+
+  images_after : (reply : Reply) (later : Machine) (before after : DiskState) → later.book ≡ m.book
+      → LeavesOnly before after (ShowsHistory m.gears.sizes opening (history_with seat op reply m) (length m.book.entries))
+      → LeavesOnly before after (ShowsHistory m.gears.sizes opening (later.book.entries ++ entry reply ∷ []) (length m.book.entries))
+  images_after reply later before after book images =
+      subst (λ (b : Book). LeavesOnly before after (ShowsHistory m.gears.sizes opening (b.entries ++ entry reply ∷ []) (length m.book.entries))) (sym book) images
+
+-- ---- what is in memory then
+
+noted_tells : (seat : ℕ) (op : Op) (reply : Reply) (held : Held) (m : Machine) → TellsOf held m → TellsOf (with_book (noted_in seat op reply held.book) held) (note seat op reply m)
+noted_tells seat op reply held m tells = record { sizes = tells.sizes; gears = tells.gears; book = ap (λ (b : BookState). noted_in seat op reply b) tells.book; charge_is = tells.charge_is }
+
+stopped_tells : (seat : ℕ) (op : Op) (reply : Reply) (why : Why) (held : Held) (m : Machine) → TellsOf held m
+    → TellsOf (with_book (noted_in seat op reply (stopped_in why held.book)) held) (note seat op reply (stop why m))
+stopped_tells seat op reply why held m tells = record {
+  sizes = tells.sizes;
+  gears = tells.gears;
+  book = ap (λ (b : BookState). noted_in seat op reply (stopped_in why b)) tells.book;
+  charge_is = tells.charge_is;
+}
+
+standing_tells : (opening : List (Key × Value)) (held : Held) (m : Machine) (pace : Pace) (d : DiskState) → StandsFor opening held m pace d → TellsOf held m
+standing_tells opening held m pace d stands = record { sizes = stands.sizes; gears = stands.gears; book = stands.book; charge_is = stands.charge_is }
+
+-- ---- failures, as the machine has them
+
+some_due : (deep pass : Bool) → deep ≡ true → nat_lt 0 (one_if deep + one_if pass) ≡ true
+some_due true true done = refl
+some_due true false done = refl
+some_due false pass done = absurd (false≢true done)
+
+pass_due : (deep pass : Bool) → pass ≡ true → nat_lt (one_if deep) (one_if deep + one_if pass) ≡ true
+pass_due true true done = refl
+pass_due false true done = refl
+pass_due deep false done = absurd (false≢true done)
+
+-- the deep merge's swap is none of the pass's
+same_pass : (m : Machine) → pass_done (deep_swapped m) ≡ pass_done m
+same_pass m = by (deep_done m)
+  where
+    by_merge : (p : Option Merge) → pass_is_done p (swap_deep m).lists ≡ pass_is_done p m.lists
+    by_merge None = refl
+    by_merge (Some pass) = refl
+
+    by : (b : Bool) → pass_done (cond b (swap_deep m) m) ≡ pass_done m
+    by true = by_merge m.merges.pass
+    by false = refl
+
+deep_lost : (seat : ℕ) (op : Op) (w faults : ℕ) (m : Machine) → deep_done m ≡ true → admit_fitting m seat op w (FailedAfter 0 faults) ≡ replied seat op FaultLost (stop (Faulted faults) m)
+deep_lost seat op w faults m done =
+    ap (λ (b : Bool). cond b (replied seat op FaultLost (stop (Faulted faults) (cond (0 == 0) m (deep_swapped m)))) (replied seat op FaultUnsure (stop (Faulted faults) (ready_for w m)))) (some_due (deep_done m) (pass_done m) done)
+
+pass_lost : (seat : ℕ) (op : Op) (w faults : ℕ) (m : Machine) → pass_done (deep_swapped m) ≡ true
+    → admit_fitting m seat op w (FailedAfter (one_if (deep_done m)) faults) ≡ replied seat op FaultLost (stop (Faulted faults) (deep_swapped m))
+pass_lost seat op w faults m done =
+    ap (λ (b : Bool). cond b (replied seat op FaultLost (stop (Faulted faults) (cond (one_if (deep_done m) == 0) m (deep_swapped m)))) (replied seat op FaultUnsure (stop (Faulted faults) (ready_for w m))))
+    (pass_due (deep_done m) (pass_done m) (sym (same_pass m) ∙ done))
+    ∙ ap (λ (s : Machine). replied seat op FaultLost (stop (Faulted faults) s)) (committed_of (deep_done m))
+  where
+    committed_of : (b : Bool) → cond (one_if b == 0) m (cond b (swap_deep m) m) ≡ cond b (swap_deep m) m
+    committed_of true = refl
+    committed_of false = refl
+
+append_lost : (seat : ℕ) (op : Op) (w faults : ℕ) (m : Machine) → admit_fitting m seat op w (FailedAfter (swaps_due m) faults) ≡ replied seat op FaultUnsure (stop (Faulted faults) (ready_for w m))
+append_lost seat op w faults m =
+    ap (λ (b : Bool). cond b (replied seat op FaultLost (stop (Faulted faults) (cond (swaps_due m == 0) m (deep_swapped m)))) (replied seat op FaultUnsure (stop (Faulted faults) (ready_for w m)))) (not_past (swaps_due m) (swaps_due m) (omega arith))
+
+-- a write that is taken notes nothing yet
+taken_book : (seat : ℕ) (ws : List Write) (m : Machine) → (with_peak (taken_once seat ws m)).book ≡ m.book
+taken_book seat [] m = refl
+taken_book seat (w ∷ ws) m = refl
+
+-- ---- the step
+
+-- an admission that may be made
+pub record IsAsked (opening : List (Key × Value)) (seat : ℕ) (op : Op) (held : Held) (m : Machine) (pace : Pace) (d : DiskState) : Type 0 where
+  pub honest : IsTrue d.is_honest
+  pub timed : IsTimed d
+  pub stands : StandsFor opening held m pace d
+  pub may : IsTrue (may m seat (kind.Admit op))
+  pub fits : WritesFit (kind.Admit op)
+
+module _ (opening : List (Key × Value)) (seat : ℕ) (op : Op) (held : Held) (m : Machine) (pace : Pace) (d : DiskState) (is : IsAsked opening seat op held m pace d) where
+  abbrev w : ℕ
+  w = total_weight (writes_of op)
+
+  abbrev limit : ℕ
+  limit = charge_limit m.gears.sizes (is_del op)
+
+  abbrev asked : Kind
+  asked = kind.Admit op
+
+  step_by : (outcome : Outcome) (reply : Reply) (s : Machine) (new : Held) (after : DiskState) → admit m seat op outcome ≡ record { state = s; answer = Replied reply }
+      → IsPossible m seat asked outcome d.faults after.faults → is_broken outcome ≡ false → TellsOf new s
+      → (new.book.stopped ≡ None → RunsOver new s (pace_after m pace seat asked outcome) after) → (IsSome new.book.stopped → HasStopped opening s after)
+      → LeavesOnly d after (ShowsHistory m.gears.sizes opening s.book.entries (length m.book.entries)) → IsStep opening seat asked (Replied reply) new d after m pace
+  step_by outcome reply s new after same possible whole tells runs stopped images = record {
+    outcome = outcome;
+    possible = possible;
+    whole = whole;
+    stands = subst (λ (st : Stepped). StandsFor opening new st.state (pace_after m pace seat asked outcome) after) (sym same)
+        (record {
+          paced = subst (λ (st : Stepped). IsPacedTree opening st.state (pace_after m pace seat asked outcome)) same
+              (step_is_paced opening m pace (record { seat = seat; kind = asked }) outcome is.stands.paced is.may is.fits);
+          sizes = tells.sizes;
+          gears = tells.gears;
+          book = tells.book;
+          charge_is = tells.charge_is;
+          runs = runs;
+          stopped = stopped;
+        });
+    answers = sym (ap (λ (st : Stepped). st.answer) same);
+    images = subst (λ (st : Stepped). LeavesOnly d after (ShowsHistory m.gears.sizes opening st.state.book.entries (length m.book.entries))) (sym same) images;
+  }
+
+  stop_is : m.stopped ≡ held.book.stopped
+  stop_is = ap (λ (b : BookState). b.stopped) is.stands.book
+
+  tells : TellsOf held m
+  tells = standing_tells opening held m pace d is.stands
+
+  -- a store that is stopped only notes that it is
+  pub stopped_steps : (why : Why) → held.book.stopped ≡ Some why → IsStep opening seat asked (Replied (Stopped why)) (with_book (noted_in seat op (Stopped why) held.book) held) d d m pace
+  stopped_steps why stop = step_by Well (Stopped why) (note seat op (Stopped why) m) (with_book (noted_in seat op (Stopped why) held.book) held) d
+      (ap (λ (o : Option Why). unless_stopped o seat op m (cond (nat_lt limit (charge m + w)) (replied seat op (Full (charge m)) m) (admit_fitting m seat op w Well))) (stop_is ∙ stop))
+      tt refl (noted_tells seat op (Stopped why) held m tells)
+      (λ runs. absurd (none-some why (sym runs ∙ stop)))
+      (λ some. record { reads = noted d.bytes shown.reads; each = λ c left. noted c (shown.each c left) })
+      (leaves_only_start d _ is.timed (λ c left. kept_whole opening seat op m (Stopped why) c (shown.each c left)))
+    where
+      shown : HasStopped opening m d
+      shown = is.stands.stopped (ap is_some stop)
+
+      noted : (file : List ℕ) → ShowsWhole opening m file → ShowsWhole opening (note seat op (Stopped why) m) file
+      noted file shows = subst (λ (n : ℕ). ShowsHistory m.gears.sizes opening (history_with seat op (Stopped why) m) n file) (sym (length-append m.book.entries (entry opening seat op m (Stopped why) ∷ [])))
+          (noted_whole opening seat op m (Stopped why) file refl refl shows)
+
+  -- ---- while it runs
+
+  abbrev noted : Reply → Held
+  noted reply = with_book (noted_in seat op reply held.book) held
+
+  module _ (ran : held.book.stopped ≡ None) where
+    runs : m.stopped ≡ None
+    runs = stop_is ∙ ran
+
+    over : RunsOver held m pace d
+    over = is.stands.runs ran
+
+    at : IsAt held over.tree m d.bytes
+    at = record { are_of = over.over.are_of; holds = over.holds }
+
+    shows_now : (file : List ℕ) → HoldsTree held.runs.sizes over.tree file → ShowsWhole opening m file
+    shows_now file holds = standing_shows opening m pace over.fronts over.tree file is.stands.paced over.within over.holds.lists over.lanes (subst (λ (z : Sizes). HoldsTree z over.tree file) (sym is.stands.sizes) holds)
+
+    full_here : limit < charge m + w → IsStep opening seat asked (Replied (Full (charge m))) (noted (Full (charge m))) d d m pace
+    full_here past = step_by Well (Full (charge m)) (note seat op (Full (charge m)) m) (noted (Full (charge m))) d
+        (ap (λ (o : Option Why). unless_stopped o seat op m (cond (nat_lt limit (charge m + w)) (replied seat op (Full (charge m)) m) (admit_fitting m seat op w Well))) runs
+        ∙ ap (λ (b : Bool). cond b (replied seat op (Full (charge m)) m) (admit_fitting m seat op w Well)) (lt-ltb limit (charge m + w) past))
+        tt refl (noted_tells seat op (Full (charge m)) held m tells)
+        (λ still. record {
+          fronts = over.fronts;
+          tree = over.tree;
+          over = record { stands = over.over.stands; are_of = over.over.are_of };
+          holds = ((book_lands held over.tree m d.bytes at).note seat op (Full (charge m))).holds;
+          within = goes.1.within;
+          lanes = over.lanes;
+        })
+        (λ some. absurd (none_is_some held.book.stopped ran some))
+        (leaves_only_start d _ is.timed (λ c left. kept_whole opening seat op m (Full (charge m)) c (shows_now c (over.over.stands.each c left))))
+      where
+        goes : ((admit m seat op Well).state ≡ note seat op (Full (charge m)) m) × GoesOn opening (admit m seat op Well).state (pace_after m pace seat asked Well) over.fronts over.tree
+        goes = refusal_goes_on opening m pace over.fronts over.tree seat op Well runs past is.may is.fits (record { paced = is.stands.paced; within = over.within; lanes = over.lanes })
+
+    -- a write that is refused for its size
+    pub full_steps : charge_limit held.runs.sizes (is_del op) < charge_in held + w → IsStep opening seat asked (Replied (Full (charge_in held))) (noted (Full (charge_in held))) d d m pace
+    full_steps past =
+        subst (λ (n : ℕ). IsStep opening seat asked (Replied (Full n)) (noted (Full n)) d d m pace) is.stands.charge_is
+        (full_here (subst (λ (n : ℕ). limit < n + w) (sym is.stands.charge_is) (subst (λ (z : Sizes). charge_limit z (is_del op) < charge_in held + w) (sym is.stands.sizes) past)))
+
+    -- ---- and there is room
+
+    module _ (room : charge_in held + w ≤ charge_limit held.runs.sizes (is_del op)) where
+      room_here : charge m + w ≤ limit
+      room_here = subst (λ (n : ℕ). n + w ≤ limit) (sym is.stands.charge_is) (subst (λ (z : Sizes). charge_in held + w ≤ charge_limit z (is_del op)) (sym is.stands.sizes) room)
+
+      calls_here : IsTrue (not (is_some m.stopped) && calls m seat asked)
+      calls_here =
+          ap (λ (o : Option Why). not (is_some o) && not (nat_lt limit (charge m + w))) runs
+          ∙ ap (λ (b : Bool). not b) (not_past limit (charge m + w) room_here)
+
+      -- a call failed, after so many swaps, and the store stops
+      module _ (after : DiskState) (order : d.faults ≤ after.faults) (small : after.faults < 2 ^ 64) (risen : HasRisen d.faults after.faults) (left : Held) where
+        abbrev why : Why
+        why = Faulted after.faults
+
+        abbrev stopped : Reply → Held
+        stopped reply = with_book (noted_in seat op reply (stopped_in why left.book)) left
+
+        fails_by : (reply : Reply) (commits : ℕ) (later : Machine) → admit_fitting m seat op w (FailedAfter commits after.faults) ≡ replied seat op reply (stop why later) → commits ≤ swaps_due m
+            → TellsOf left later → later.gears.sizes ≡ m.gears.sizes → later.book ≡ m.book
+            → ((c : List ℕ) → after.images c → ShowsHistory m.gears.sizes opening (history_with seat op reply m) (length m.book.entries + 1) c)
+            → ShowsHistory m.gears.sizes opening (history_with seat op reply m) (length m.book.entries + 1) after.bytes
+            → LeavesOnly d after (ShowsHistory m.gears.sizes opening (history_with seat op reply m) (length m.book.entries))
+            → IsStep opening seat asked (Replied reply) (stopped reply) d after m pace
+        fails_by reply commits later same few left_tells sizes book each reads images =
+            step_by (FailedAfter commits after.faults) reply (note seat op reply (stop why later)) (stopped reply) after
+            (admission_fits m seat op (FailedAfter commits after.faults) runs room_here ∙ same)
+            (calls_here, few, rose_of d.faults after.faults order small risen, refl) refl (stopped_tells seat op reply why left later left_tells)
+            (λ (still : Some why ≡ None). absurd (none-some why (sym still)))
+            (λ some. record { reads = shows_after opening seat op m reply why later after.bytes sizes book reads; each = λ c here. shows_after opening seat op m reply why later c sizes book (each c here) })
+            (images_after opening seat op m reply later d after book images)
+
+        -- a swap failed
+        lost_steps : IsTimed after → HasLost m left → LeavesOnly d after (ShowsWhole opening m) → ShowsWhole opening m after.bytes → IsStep opening seat asked (Replied FaultLost) (stopped FaultLost) d after m pace
+        lost_steps timed lost images reads = ⊎_elim
+            (λ deep. by 0 m (deep_lost seat op w after.faults m deep.1) (omega arith) deep.0 refl refl)
+            (λ pass.
+            let carries = deep_swapped_carries m is.stands.paced.stands.sound in
+            by (one_if (deep_done m)) (deep_swapped m) (pass_lost seat op w after.faults m pass.1) (omega arith) pass.0 carries.sizes carries.book)
+            lost
+          where
+            by : (commits : ℕ) (later : Machine) → admit_fitting m seat op w (FailedAfter commits after.faults) ≡ replied seat op FaultLost (stop why later) → commits ≤ swaps_due m
+                → TellsOf left later → later.gears.sizes ≡ m.gears.sizes → later.book ≡ m.book → IsStep opening seat asked (Replied FaultLost) (stopped FaultLost) d after m pace
+            by commits later same few left_tells sizes book =
+                fails_by FaultLost commits later same few left_tells sizes book
+                (λ c here. noted_whole opening seat op m FaultLost c refl refl (leaves_only_now timed images c here))
+                (noted_whole opening seat op m FaultLost after.bytes refl refl reads)
+                (leaves_only_weaken (λ c shows. kept_whole opening seat op m FaultLost c shows) images)
+
+        -- the append failed
+        unsure_steps : TellsOf left (ready_for w m) → LeavesOnly d after (ShowsHistory m.gears.sizes opening (history_with seat op FaultUnsure m) (length m.book.entries))
+            → ((c : List ℕ) → after.images c → ShowsHistory m.gears.sizes opening (history_with seat op FaultUnsure m) (length m.book.entries + 1) c)
+            → ShowsHistory m.gears.sizes opening (history_with seat op FaultUnsure m) (length m.book.entries + 1) after.bytes
+            → IsStep opening seat asked (Replied FaultUnsure) (stopped FaultUnsure) d after m pace
+        unsure_steps left_tells images each reads =
+            let carries = ready_carries w m is.stands.paced.stands.sound (has_way opening m pace is.stands.paced) in
+            fails_by FaultUnsure (swaps_due m) (ready_for w m) (append_lost seat op w after.faults m) (omega arith) left_tells carries.sizes carries.book each reads images
+
+        -- a call failed
+        pub failed_steps : (begun : Bool) → IsTimed after → TakesOver (Failed begun) opening seat op m pace left d after
+            → IsStep opening seat asked (Replied (cond begun FaultUnsure FaultLost)) (stopped (cond begun FaultUnsure FaultLost)) d after m pace
+        failed_steps true timed taken = unsure_steps taken.0 taken.1 taken.2 taken.3
+        failed_steps false timed taken = lost_steps timed taken.0 taken.1 taken.2
+
+      -- the write was taken
+      pub taken_steps : (new : Held) (after : DiskState) (numbers : Pace) → TakenOver opening seat op m pace new after → new.book.stopped ≡ None
+          → HasPace (with_book (noted_in seat op Done new.book) new) numbers → new.gears.sizes ≡ new.runs.sizes
+          → LeavesOnly d after (ShowsHistory m.gears.sizes opening (history_with seat op Done m) (length m.book.entries))
+          → IsStep opening seat asked (Replied Done) (with_book (noted_in seat op Done new.book) new) d after m pace
+      taken_steps new after numbers taken on has one images =
+          step_by Well Done next then after same tt refl (tells_of then taken.tree next after.bytes numbers at_next sound has one)
+          (λ still. record {
+            fronts = taken.fronts;
+            tree = taken.tree;
+            over = record { stands = taken.over.stands; are_of = taken.over.are_of };
+            holds = at_next.holds;
+            within = taken.goes.within;
+            lanes = subst (λ (st : Stepped). HasFronts taken.tree st.state.lists taken.fronts) same taken.goes.lanes;
+          })
+          (λ some. absurd (none_is_some new.book.stopped on some))
+          (images_after opening seat op m Done wrote d after (taken_book seat (writes_of op) (ready_for w m) ∙ (ready_carries w m is.stands.paced.stands.sound (has_way opening m pace is.stands.paced)).book) images)
+        where
+          wrote : Machine
+          wrote = with_peak (taken_once seat (writes_of op) (ready_for w m))
+
+          next : Machine
+          next = note seat op Done wrote
+
+          then : Held
+          then = with_book (noted_in seat op Done new.book) new
+
+          same : admit m seat op Well ≡ replied seat op Done wrote
+          same = admission_fits m seat op Well runs room_here
+
+          sound : IsSound next
+          sound = subst (λ (st : Stepped). IsSound st.state) same taken.goes.paced.stands.sound
+
+          at_next : IsAt then taken.tree next after.bytes
+          at_next = (book_lands new taken.tree wrote after.bytes (record { are_of = taken.over.are_of; holds = taken.holds })).note seat op Done

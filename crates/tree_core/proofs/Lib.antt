@@ -1,0 +1,23 @@
+mod BoundLemmas
+mod ToldLemmas
+mod QuietLemmas
+mod BookSteps
+mod LookupSteps
+mod OpeningSteps
+mod SettlingLemmas
+mod TakingLemmas
+mod TakingLists
+mod AdmissionLemmas
+mod AdmissionFollows
+mod AdmissionSteps
+mod SizeLemmas
+mod PlayLemmas
+mod LastLemmas
+pub mod QuantumLemmas
+pub mod QuantumSteps
+pub mod PaymentLemmas
+pub mod PaymentSteps
+pub mod TurnMoves
+pub mod TurnLemmas
+pub mod TurnSteps
+mod BegunLemmas

@@ -1,0 +1,103 @@
+-- The core of a store that was opened and settled.
+use Rattle.std.specs.Prelude.{◌≡◌, ◌+◌, [], None, Option, is_some}
+use Rattle.std.proofs.Common.{◌∙◌, refl, ap, sym, subst}
+use Rattle.std.proofs.lemmas.Bool.{false≢true}
+use Rattle.blsm_model.specs.Book.{Book}
+use Rattle.blsm_model.specs.Components.{empty_component}
+use Rattle.blsm_model.specs.declared.component.Component.{Component}
+use Rattle.deep_merge.specs.Merge.{DeepState}
+use Rattle.disk_trait.specs.Disk.{DiskState}
+use Rattle.disk_trait.specs.Moments.{IsTimed}
+use Rattle.gear_sched.specs.Gears.{GearState, at_rest}
+use Rattle.page_file.specs.Component.{entries_of}
+use Rattle.pacing.specs.Pace.{Pace, opened as pace_opened}
+use Rattle.pacing.specs.Fronts.{no_fronts}
+use Rattle.record_delta.specs.Entries.{AreSorted}
+use Rattle.seat_book.specs.State.{BookState, opened_in}
+use Rattle.tree_file.specs.Tree.{Tree, map_of_tree}
+use Rattle.tree_log.specs.Log.{LogState}
+use Rattle.tree_machine.specs.Machine.{opened}
+use Rattle.tree_runs.specs.Runs.{RunsState, RestsEmpty}
+use Rattle.tree_runs.specs.Holding.{StandOver}
+use Rattle.core_moves.specs.declared.held.Held.{Held}
+use Rattle.core_moves.specs.Held.{IsOne}
+use Rattle.core_pace.specs.Opening.{IsOpened}
+use Rattle.core_pace.proofs.OpeningLemmas.{opening_is_paced}
+use Rattle.core_lists.specs.Standing.{catalogue_of}
+use Rattle.core_lists.proofs.OpeningLemmas.{opening_stands}
+use Rattle.tree_core.specs.Core.{IsCore}
+use Rattle.tree_core.specs.Parts.{AreSettled}
+use Rattle.tree_core.specs.Standing.{StandsFor}
+use Rattle.tree_core.specs.Steps.{StandsSince}
+use Rattle.tree_core.proofs.ToldLemmas.{told_of_paced}
+use Rattle.tree_core.proofs.LastLemmas.{since_now}
+
+module _ (runs : RunsState) (log : LogState) (annals : Book) (gears : GearState) (book : BookState) (d : DiskState) (settled : AreSettled runs log annals d) (at : gears ≡ at_rest runs.sizes)
+    (fresh : book ≡ opened_in annals (runs.catalogue.c1.weight + runs.catalogue.c2.weight) d.faults) where
+  abbrev held : Held
+  held = record { runs = runs; log = log; gears = gears; spring = 0; book = book }
+
+  abbrev pace : Pace
+  pace = pace_opened runs.sizes runs.catalogue.c1.weight runs.catalogue.c2.weight
+
+  empty_c1x : runs.catalogue.c1x ≡ empty_component
+  empty_c1x = subst (λ (deep : Option DeepState). RestsEmpty deep runs.catalogue.c1x) settled.deep settled.running.in_order.rests
+
+  is_opened : IsOpened annals d.faults held
+  is_opened = record {
+    pass = settled.pass;
+    deep = settled.deep;
+    c1x = ap (λ (c : Component). c.weight) empty_c1x;
+    a = settled.a;
+    b = settled.b;
+    end_a = settled.end_a;
+    end_b = settled.end_b;
+    gears = at;
+    spring = refl;
+    book = fresh;
+    entries = settled.entries;
+    quanta = settled.quanta;
+  }
+
+  one : IsOne held
+  one = record {
+    gears = ap (λ (s : GearState). s.sizes) at;
+    lanes = settled.lanes;
+    roles = settled.lane_roles;
+    apart = settled.roles;
+    reserved_a = settled.reserved_a;
+    reserved_b = settled.reserved_b;
+    sorted_a = subst AreSorted (sym settled.a) refl;
+    sorted_b = subst AreSorted (sym settled.b) refl;
+  }
+
+  paced : Rattle.core_pace.specs.Pacing.IsPacedHeld held pace
+  paced = opening_is_paced annals d.faults held is_opened settled.components one settled.room settled.version
+
+  pub opened_core : IsCore held d
+  opened_core = record {
+    pace = pace;
+    holds = record { told = told_of_paced held pace paced; live = λ runs. record { paced = paced; on = record { running = settled.running; long = settled.long } } };
+  }
+
+  pub opened_begins : IsTimed d → StandsSince held held d d
+  opened_begins timed = since_now held pace d timed (told_of_paced held pace paced)
+
+  not_stopped : book.stopped ≡ None
+  not_stopped = ap (λ (b : BookState). b.stopped) fresh
+
+  pub opened_stands : (tree : Tree) → StandOver runs tree log.a.entries d → tree.lane_a ≡ [] → tree.lane_b ≡ []
+      → StandsFor (map_of_tree tree) held (opened runs.sizes (entries_of tree.c1) (entries_of tree.c2) (catalogue_of runs.catalogue) d.faults annals.room) pace d
+  opened_stands tree over a b =
+      let stands = opening_stands annals d.faults held pace tree d.bytes is_opened settled.lane_roles paced.numbers over.are_of a b settled.components in
+      let agrees = Rattle.core_lists.proofs.TestLemmas.tests_agree_with_lists held tree (opened runs.sizes (entries_of tree.c1) (entries_of tree.c2) (catalogue_of runs.catalogue) d.faults annals.room) d.bytes pace stands.at
+      stands.paced.stands.sound paced.numbers in
+      record {
+        paced = stands.paced;
+        sizes = refl;
+        gears = stands.at.holds.gears;
+        book = stands.at.holds.book;
+        charge_is = agrees.charge_is;
+        runs = λ none. record { fronts = no_fronts; tree = tree; over = over; holds = stands.at.holds; within = stands.within; lanes = stands.lanes };
+        stopped = λ some. absurd (false≢true (sym (ap is_some not_stopped) ∙ some));
+      }

@@ -1,0 +1,181 @@
+-- A payment: what was planned, what its quantum requires, and the numbers that it leaves.
+use Rattle.std.proofs.Common.{◌≡◌, ◌∙◌, ℕ, ◌+◌, ◌^◌, ◌<◌, None, refl, ap, sym, subst, arith}
+use Rattle.std.specs.Prelude.{⊤, sum}
+use Rattle.blsm_model.specs.Format.{callers}
+use Rattle.blsm_model.specs.declared.history.Why.{Why}
+use Rattle.blsm_model.specs.Facts.{Follows}
+use Rattle.disk_trait.specs.Disk.{DiskState}
+use Rattle.gear_sched.specs.Gears.{GearState, first_debt, second_debt, plan_for}
+use Rattle.gear_sched.specs.declared.Plan.{Plan}
+use Rattle.gear_sched.specs.declared.Plan.TheVariants.{Snow, Deep, Nothing}
+use Rattle.pacing.specs.Pace.{Pace, with_forgiven}
+use Rattle.paced_tree.specs.Made.{IsPaidBy}
+use Rattle.tree_machine.specs.declared.step.Kind.TheVariants as kind
+use Rattle.tree_machine.specs.Steps.{Answer, Paid, Settled}
+use Rattle.seat_book.specs.Places.{HasWrite}
+use Rattle.seat_book.specs.State.{BookState, paid_in, stopped_in, quantum_counted_in}
+use Rattle.seat_book.specs.Seats.{KeepsSeats}
+use Rattle.seat_book.proofs.KeepLemmas.{keeps_itself, keeps_both, quantum_keeps, payment_keeps, stop_keeps}
+use Rattle.core_moves.specs.declared.held.Held.{Held}
+use Rattle.core_moves.specs.Held.{is_pass_over, is_deep_over}
+use Rattle.core_moves.specs.Needs.{IsOn, IsReady}
+use Rattle.core_moves.specs.Moves.{KeepsAllButMerges, with_book, with_debts_forgiven}
+use Rattle.core_pace.specs.Pacing.{IsRunBook, IsPacedHeld}
+use Rattle.core_pace.specs.Events.{TakesByPlan, plan_in}
+use Rattle.core_pace.proofs.EventLemmas.{forgiving_is_paced}
+use Rattle.core_pace.proofs.CallLemmas.{between_is_ready, between_fits, paced_is_between, plan_agrees, payers_owe, settling_is_paced}
+use Rattle.core_pace.proofs.MadeLemmas.{failed_payment_is_told}
+use Rattle.core_pace.proofs.PayLemmas.{each_plan_runs, payers_wrote, payment_is_paced}
+use Rattle.tree_core.specs.Core.{HoldsPace, facts_of_held}
+use Rattle.tree_core.specs.Quanta.{MayTake}
+use Rattle.tree_core.specs.Steps.{MovesPace}
+use Rattle.tree_core.proofs.QuantumLemmas.{holds_running, holds_stopped, on_rebooked, told_after_failure, LeavesDebts, debts_both, debts_forgiven, debts_first, debts_second, follows_by}
+
+-- A caller's payment in a store that runs: what may be forgiven is, and something is owed still.
+pub record Plans (seat : ℕ) (plan : Plan) (old forgiven : Held) : Type 0 where
+  pub caller : seat < callers
+  pub ran : old.book.stopped ≡ None
+  pub is : forgiven ≡ with_debts_forgiven seat old
+  pub plan_is : plan ≡ plan_in seat old
+  pub owes : plan ≡ Nothing → ⊥
+
+pub plans_by : (seat : ℕ) (plan : Plan) (old forgiven : Held) → seat < callers → None ≡ old.book.stopped → forgiven ≡ with_debts_forgiven seat old → plan ≡ plan_for (first_debt forgiven.gears seat) (second_debt forgiven.gears seat)
+    → (plan ≡ Nothing → ⊥) → Plans seat plan old forgiven
+plans_by seat plan old forgiven caller ran is plan_is owes = record {
+  caller = caller;
+  ran = sym ran;
+  is = is;
+  plan_is = plan_is ∙ ap (λ (h : Held). plan_for (first_debt h.gears seat) (second_debt h.gears seat)) is;
+  owes = owes;
+}
+
+pub nothing_planned : (seat : ℕ) (plan : Plan) (old forgiven : Held) → forgiven ≡ with_debts_forgiven seat old → plan ≡ plan_for (first_debt forgiven.gears seat) (second_debt forgiven.gears seat) → plan ≡ Nothing → plan_in seat old ≡ Nothing
+nothing_planned seat plan old forgiven is plan_is none = sym (ap (λ (h : Held). plan_for (first_debt h.gears seat) (second_debt h.gears seat)) is) ∙ sym plan_is ∙ none
+
+-- ---- what its quantum requires
+
+may_take : (seat : ℕ) (old : Held) (pace : Pace) (plan : Plan) → seat < callers → IsPacedHeld old pace → plan ≡ plan_in seat old → (plan ≡ Nothing → ⊥) → MayTake plan (with_debts_forgiven seat old)
+may_take seat old pace Nothing caller k is owes = owes refl
+may_take seat old pace Snow caller k is owes = ((each_plan_runs old pace seat k.numbers k.told.paced caller).pass (sym (is ∙ plan_agrees seat old pace k.numbers))).0
+may_take seat old pace Deep caller k is owes = ((each_plan_runs old pace seat k.numbers k.told.paced caller).deep (sym (is ∙ plan_agrees seat old pace k.numbers))).0
+
+pub quantum_may : (seat : ℕ) (plan : Plan) (old forgiven : Held) (pace : Pace) (d : DiskState) → Plans seat plan old forgiven → HoldsPace old pace d → MayTake plan forgiven
+quantum_may seat plan old forgiven pace d p holds = subst (λ (h : Held). MayTake plan h) (sym p.is) (may_take seat old pace plan p.caller (holds.live p.ran).paced p.plan_is p.owes)
+
+pub quantum_ready : (seat : ℕ) (plan : Plan) (old forgiven : Held) (pace : Pace) (d : DiskState) → Plans seat plan old forgiven → HoldsPace old pace d → IsReady forgiven d
+quantum_ready seat plan old forgiven pace d p holds =
+    let live = holds.live p.ran in
+    let on : IsOn (with_debts_forgiven seat old) d = record { running = live.on.running; long = live.on.long } in
+    subst (λ (h : Held). IsReady h d) (sym p.is) (between_is_ready (with_debts_forgiven seat old) (with_forgiven pace seat) d (forgiving_is_paced seat old pace p.caller live.paced).0 on)
+
+-- ---- what it leaves
+
+taken_book : (plan : Plan) (seat n : ℕ) (old taken : Held) → TakesByPlan plan seat n old taken → taken.book ≡ quantum_counted_in seat old.book
+taken_book Snow seat n old taken takes = takes.book
+taken_book Deep seat n old taken takes = takes.book
+taken_book Nothing seat n old taken takes = absurd takes
+
+taken_debts : (plan : Plan) (seat n : ℕ) (old taken : Held) → TakesByPlan plan seat n old taken → LeavesDebts seat old.gears taken.gears
+taken_debts Snow seat n old taken takes = subst (λ (g : GearState). LeavesDebts seat old.gears g) (sym takes.gears) (debts_first seat n old.gears)
+taken_debts Deep seat n old taken takes = subst (λ (g : GearState). LeavesDebts seat old.gears g) (sym takes.gears) (debts_second seat n old.gears)
+taken_debts Nothing seat n old taken takes = absurd takes
+
+-- The quantum was taken, and its book is the old one with a quantum more.
+pub record Took (seat n : ℕ) (plan : Plan) (old forgiven taken : Held) : Type 0 where
+  pub plans : Plans seat plan old forgiven
+  pub takes : TakesByPlan plan seat n forgiven taken
+
+pub takes_in : (seat n : ℕ) (plan : Plan) (old forgiven taken : Held) → Took seat n plan old forgiven taken → TakesByPlan (plan_in seat old) seat n (with_debts_forgiven seat old) taken
+takes_in seat n plan old forgiven taken took =
+    subst (λ (p : Plan). TakesByPlan p seat n (with_debts_forgiven seat old) taken) took.plans.plan_is
+    (subst (λ (h : Held). TakesByPlan plan seat n h taken) took.plans.is took.takes)
+
+pub book_taken : (seat n : ℕ) (plan : Plan) (old forgiven taken : Held) → Took seat n plan old forgiven taken → taken.book ≡ quantum_counted_in seat old.book
+book_taken seat n plan old forgiven taken took = taken_book (plan_in seat old) seat n (with_debts_forgiven seat old) taken (takes_in seat n plan old forgiven taken took)
+
+pub payer_wrote : (seat n : ℕ) (plan : Plan) (old forgiven taken : Held) (pace : Pace) (d : DiskState) → Took seat n plan old forgiven taken → HoldsPace old pace d → HasWrite seat taken.book.book
+payer_wrote seat n plan old forgiven taken pace d took holds =
+    let live = holds.live took.plans.ran in
+    subst (λ (b : BookState). HasWrite seat b.book) (sym (book_taken seat n plan old forgiven taken took))
+    (payers_wrote old pace seat holds.told.told took.plans.caller (λ none. took.plans.owes (took.plans.plan_is ∙ plan_agrees seat old pace live.paced.numbers ∙ none)))
+
+pub quanta_fit : (seat n : ℕ) (plan : Plan) (old forgiven taken : Held) (pace : Pace) (d : DiskState) → Took seat n plan old forgiven taken → HoldsPace old pace d → sum taken.book.book.quanta + 1 < 2 ^ 64
+quanta_fit seat n plan old forgiven taken pace d took holds =
+    subst (λ (b : BookState). sum b.book.quanta + 1 < 2 ^ 64) (sym (book_taken seat n plan old forgiven taken took))
+    (between_fits old pace (paced_is_between old pace (holds.live took.plans.ran).paced)).small.entries
+
+pub payment_moves : (seat n : ℕ) (plan : Plan) (old forgiven taken : Held) (b : BookState) (pace : Pace) (before after : DiskState) → Took seat n plan old forgiven taken → HoldsPace old pace before → IsOn taken after
+    → b ≡ paid_in seat taken.book → MovesPace seat kind.Pay Paid (with_book b taken) after pace
+payment_moves seat n plan old forgiven taken b pace before after took holds on counted =
+    let k = (holds.live took.plans.ran).paced in
+    let next = payment_is_paced seat n old taken (with_book b taken) pace k
+    (record { caller = took.plans.caller; owes = payers_owe seat old (λ none. took.plans.owes (took.plans.plan_is ∙ none)) })
+    (record { takes = takes_in seat n plan old forgiven taken took; counted = ap (λ (x : BookState). with_book x taken) counted }) in
+    record { next = next.0; made = next.1; holds = holds_running (with_book b taken) next.0 after next.2 (on_rebooked taken b after on) }
+
+pub payment_runs : (seat n : ℕ) (plan : Plan) (old forgiven taken : Held) (b : BookState) → Took seat n plan old forgiven taken → b ≡ paid_in seat taken.book → b.stopped ≡ None
+payment_runs seat n plan old forgiven taken b took counted =
+    ap (λ (x : BookState). x.stopped) counted ∙ ap (λ (x : BookState). x.stopped) (book_taken seat n plan old forgiven taken took) ∙ took.plans.ran
+
+pub payment_follows : (seat n : ℕ) (plan : Plan) (old forgiven taken : Held) (b : BookState) → Took seat n plan old forgiven taken → b ≡ paid_in seat taken.book
+    → Follows seat (facts_of_held old) (facts_of_held (with_book b taken))
+payment_follows seat n plan old forgiven taken b took counted = follows_by seat 0 1 old (with_book b taken) (omega arith) (omega arith) keeps debts
+  where
+    keeps : KeepsSeats seat 0 1 old.book b
+    keeps =
+        subst (λ (x : BookState). KeepsSeats seat 0 1 old.book x) (sym (counted ∙ ap (λ (x : BookState). paid_in seat x) (book_taken seat n plan old forgiven taken took)))
+        (keeps_both seat 0 0 1 0 old.book (quantum_counted_in seat old.book) (paid_in seat (quantum_counted_in seat old.book)) (quantum_keeps seat old.book) (payment_keeps seat (quantum_counted_in seat old.book)))
+
+    debts : LeavesDebts seat old.gears taken.gears
+    debts = debts_both seat old.gears (with_debts_forgiven seat old).gears taken.gears (debts_forgiven seat old.gears (is_pass_over old) (is_deep_over old))
+        (taken_debts (plan_in seat old) seat n (with_debts_forgiven seat old) taken (takes_in seat n plan old forgiven taken took))
+
+-- ---- nothing is owed
+
+pub settling_moves : (seat : ℕ) (old forgiven : Held) (pace : Pace) (d : DiskState) → seat < callers → old.book.stopped ≡ None → HoldsPace old pace d → forgiven ≡ with_debts_forgiven seat old
+    → MovesPace seat kind.Pay Settled forgiven d pace
+settling_moves seat old forgiven pace d caller ran holds is =
+    let live = holds.live ran in
+    let on : IsOn (with_debts_forgiven seat old) d = record { running = live.on.running; long = live.on.long } in
+    subst (λ (h : Held). MovesPace seat kind.Pay Settled h d pace) (sym is)
+    (record { next = with_forgiven pace seat; made = refl; holds = holds_running (with_debts_forgiven seat old) (with_forgiven pace seat) d (settling_is_paced seat old pace caller live.paced) on })
+
+pub settling_follows : (seat : ℕ) (old forgiven : Held) → forgiven ≡ with_debts_forgiven seat old → Follows seat (facts_of_held old) (facts_of_held forgiven)
+settling_follows seat old forgiven is =
+    subst (λ (h : Held). Follows seat (facts_of_held old) (facts_of_held h)) (sym is)
+    (follows_by seat 0 0 old (with_debts_forgiven seat old) (omega arith) (omega arith) (keeps_itself seat old.book) (debts_forgiven seat old.gears (is_pass_over old) (is_deep_over old)))
+
+-- ---- its quantum failed
+
+-- its book is the old one, and stops
+pub record FailedToTake (seat : ℕ) (plan : Plan) (why : Why) (old forgiven failed : Held) (b : BookState) : Type 0 where
+  pub plans : Plans seat plan old forgiven
+  pub kept : KeepsAllButMerges ⊤ forgiven failed
+  pub stops : b ≡ stopped_in why failed.book
+
+pub kept_of : (seat : ℕ) (plan : Plan) (why : Why) (old forgiven failed : Held) (b : BookState) → FailedToTake seat plan why old forgiven failed b → KeepsAllButMerges ⊤ (with_debts_forgiven seat old) failed
+kept_of seat plan why old forgiven failed b f = subst (λ (h : Held). KeepsAllButMerges ⊤ h failed) f.plans.is f.kept
+
+pub book_stopped : (seat : ℕ) (plan : Plan) (why : Why) (old forgiven failed : Held) (b : BookState) → FailedToTake seat plan why old forgiven failed b → b ≡ stopped_in why old.book
+book_stopped seat plan why old forgiven failed b f = f.stops ∙ ap (λ (x : BookState). stopped_in why x) ((kept_of seat plan why old forgiven failed b f).book tt)
+
+pub failed_payment_moves : (seat : ℕ) (plan : Plan) (why : Why) (old forgiven failed : Held) (b : BookState) (pace : Pace) (before after : DiskState) (answer : Answer) → FailedToTake seat plan why old forgiven failed b → HoldsPace old pace before
+    → IsPaidBy answer seat pace (with_forgiven pace seat) → MovesPace seat kind.Pay answer (with_book b failed) after pace
+failed_payment_moves seat plan why old forgiven failed b pace before after answer f holds made =
+    let k = (holds.live f.plans.ran).paced in
+    let kept = kept_of seat plan why old forgiven failed b f in
+    let is = book_stopped seat plan why old forgiven failed b f in
+    let between = (forgiving_is_paced seat old pace f.plans.caller k).0 in
+    record {
+      next = with_forgiven pace seat;
+      made = made;
+      holds = holds_stopped (with_book b failed) (with_forgiven pace seat) after why (ap (λ (x : BookState). x.stopped) is)
+          (told_after_failure (with_debts_forgiven seat old) failed b (with_forgiven pace seat) kept between.numbers between.one (ap (λ (x : BookState). x.counts) is)
+          (subst (λ (x : BookState). IsRunBook x (with_forgiven pace seat)) (sym f.stops) (failed_payment_is_told seat why old failed pace f.plans.caller k (kept.book tt))));
+    }
+
+pub failed_payment_follows : (seat : ℕ) (plan : Plan) (why : Why) (old forgiven failed : Held) (b : BookState) → FailedToTake seat plan why old forgiven failed b → Follows seat (facts_of_held old) (facts_of_held (with_book b failed))
+failed_payment_follows seat plan why old forgiven failed b f =
+    follows_by seat 0 0 old (with_book b failed) (omega arith) (omega arith)
+    (subst (λ (x : BookState). KeepsSeats seat 0 0 old.book x) (sym (book_stopped seat plan why old forgiven failed b f)) (stop_keeps seat why old.book))
+    (subst (λ (g : GearState). LeavesDebts seat old.gears g) (sym ((kept_of seat plan why old forgiven failed b f).gears tt)) (debts_forgiven seat old.gears (is_pass_over old) (is_deep_over old)))

@@ -1,0 +1,194 @@
+-- Lists of steps: each step is the machine's, or is passed over.
+use Rattle.std.specs.Prelude.{◌≡◌, ℕ, ◌+◌, ◌<◌, ◌≤◌, Bool, true, false, not, ◌&&◌, ◌||◌, nat_lt, List, [], ◌∷◌, ◌++◌, Option, None, Some, is_some, length, map}
+use Rattle.std.proofs.Common.{◌∙◌, ⊎_elim, cond, inl, inr, length-append, refl, ap, sym, subst, arith}
+use Rattle.std.proofs.lemmas.List.{map-append}
+use Rattle.std.proofs.lemmas.List.Sums.{fold-append}
+use Rattle.std.proofs.lemmas.Bool.{cases_lt, false≢true, lt-ltb}
+use mathlib.Core.List.{IsPrefix}
+use Rattle.blsm_model.specs.Legal.{is_write}
+use Rattle.blsm_model.specs.declared.key.Key.{Key}
+use Rattle.blsm_model.specs.declared.row.Value.{Value}
+use Rattle.blsm_model.specs.declared.history.Entry.{Entry}
+use Rattle.blsm_model.specs.declared.history.Why.{Why}
+use Rattle.blsm_model.specs.Sizes.{Sizes}
+use Rattle.disk_trait.specs.Disk.{DiskState, GoesOn}
+use Rattle.disk_trait.specs.Moments.{IsTimed, LeavesOnly, leaves_only_run, leaves_only_weaken}
+use Rattle.gear_sched.specs.Gears.{GearState, first_debt, second_debt}
+use Rattle.pacing.specs.Pace.{Pace}
+use Rattle.seat_book.specs.State.{BookState, book_of, may_note_in, may_turn_in, may_end_in}
+use Rattle.seat_book.proofs.WordLemmas.{reads_book}
+use Rattle.tree_machine.specs.declared.step.Kind.{Kind}
+use Rattle.tree_machine.specs.declared.step.Kind.TheVariants as kind
+use Rattle.tree_machine.specs.declared.step.Step.{Step}
+use Rattle.tree_machine.specs.Machine.{Machine}
+use Rattle.tree_machine.specs.Outcomes.{AreTold, IsPossible, NoneBroken, Rose, last_count}
+use Rattle.tree_machine.specs.Plays.{is_even, may, played, played_one, stepped_as}
+use Rattle.tree_machine.specs.Steps.{Outcome, Answer, Well, FailedAfter, Broken, NoRoom}
+use Rattle.tree_machine.proofs.FrameLemmas.{step_fixed, step_follows}
+use Rattle.paced_tree.specs.After.{pace_after}
+use Rattle.core_moves.specs.declared.held.Held.{Held}
+use Rattle.core_lists.specs.Shown.{ShowsHistory}
+use Rattle.core_lists.proofs.ShowingLemmas.{prefix_self, prefix_then, showing_is_kept}
+use Rattle.paced_tree.specs.Kept.{paced_all, paced_one}
+use Rattle.tree_core.specs.Standing.{StandsFor}
+use Rattle.tree_core.proofs.QuietLemmas.{leaves_now}
+use Rattle.tree_core.specs.Steps.{IsStep, IsPlayed, is_even_in, is_held, may_in}
+
+-- ---- when a step may be made
+
+even_agrees : (seat : ℕ) (held : Held) (m : Machine) → book_of m ≡ held.book → m.gears ≡ held.gears → is_even seat m ≡ is_even_in seat held
+even_agrees seat held m book gears =
+    ap (λ (g : GearState). not (nat_lt 0 (first_debt g seat + second_debt g seat)) || is_some m.stopped) gears
+    ∙ ap (λ (b : BookState). not (nat_lt 0 (first_debt held.gears seat + second_debt held.gears seat)) || is_some b.stopped) book
+
+-- what the machine says of it is what the core has in memory
+pub may_agrees : (seat : ℕ) (k : Kind) (held : Held) (m : Machine) → is_held k ≡ false → book_of m ≡ held.book → m.gears ≡ held.gears → may m seat k ≡ may_in held seat k
+may_agrees seat (kind.Admit op) held m none book gears =
+    ap (λ (b : Bool). is_write op && b && is_even seat m) ((reads_book m).notes seat 0 ∙ ap (λ (b : BookState). may_note_in seat 0 b) book)
+    ∙ ap (λ (b : Bool). is_write op && may_note_in seat 0 held.book && b) (even_agrees seat held m book gears)
+may_agrees seat kind.Pay held m none book gears = refl
+may_agrees seat (kind.Get key) held m none book gears = (reads_book m).notes seat 0 ∙ ap (λ (b : BookState). may_note_in seat 0 b) book
+may_agrees seat (kind.Hold low high) held m some book gears = absurd (false≢true (sym some))
+may_agrees seat (kind.Next n) held m some book gears = absurd (false≢true (sym some))
+may_agrees seat kind.Release held m some book gears = absurd (false≢true (sym some))
+may_agrees seat kind.WorkTurn held m none book gears =
+    (reads_book m).turns seat ∙ ap (λ (b : BookState). may_turn_in seat b && is_even seat m) book ∙ ap (λ (b : Bool). may_turn_in seat held.book && b) (even_agrees seat held m book gears)
+may_agrees seat (kind.WorkEnd n) held m none book gears = (reads_book m).ends seat n ∙ ap (λ (b : BookState). may_end_in seat n b) book
+may_agrees seat kind.WorkerTurn held m none book gears = refl
+may_agrees seat kind.Leave held m none book gears = refl
+
+-- a seat that is even owes nothing while the store runs
+pub even_owes : (seat : ℕ) (held : Held) → is_even_in seat held ≡ true → held.book.stopped ≡ None → first_debt held.gears seat + second_debt held.gears seat ≡ 0
+even_owes seat held even runs = by (first_debt held.gears seat + second_debt held.gears seat) held.book.stopped even runs
+  where
+    by : (n : ℕ) (o : Option Why) → (not (nat_lt 0 n) || is_some o) ≡ true → o ≡ None → n ≡ 0
+    by n (Some why) even runs = absurd (false≢true (sym (ap is_some runs)))
+    by n None even runs = ⊎_elim (λ (some : 0 < n). absurd (false≢true (sym (ap (λ (b : Bool). not b || false) (lt-ltb 0 n some)) ∙ even))) (λ (none : n ≤ 0). omega (arith, none)) (cases_lt 0 n)
+
+-- ---- lists of steps
+
+-- what the machine does without any
+pub none_is_played : (opening : List (Key × Value)) (held : Held) (d : DiskState) (m : Machine) (pace : Pace) → IsTimed d → StandsFor opening held m pace d → IsPlayed opening [] held d d m pace
+none_is_played opening held d m pace timed s = record {
+  made = [];
+  steps_are = refl;
+  told = omega arith;
+  whole = tt;
+  stands = s;
+  grows = prefix_self m.book.entries;
+  images = leaves_now opening held m pace d timed s;
+}
+
+-- a step of one seat notes one entry at most
+history_grows : (m : Machine) (seat : ℕ) (k : Kind) (outcome : Outcome) → may m seat k ≡ true → IsPrefix m.book.entries (stepped_as m seat k outcome).state.book.entries
+history_grows m seat k outcome can = ⊎_elim
+    (λ (same : (stepped_as m seat k outcome).state.book.entries ≡ m.book.entries). subst (λ (es : List Entry). IsPrefix m.book.entries es) (sym same) (prefix_self m.book.entries))
+    (λ one. subst (λ (es : List Entry). IsPrefix m.book.entries es) (sym one.2) (one.0 ∷ [], refl))
+    (step_follows m seat k outcome can).history
+
+one_told : (m : Machine) (step : Step) (outcome : Outcome) (old new : ℕ) → old ≤ new → (may m step.seat step.kind ≡ true → IsPossible m step.seat step.kind outcome old new) → AreTold m old ((step, outcome) ∷ []) new
+one_told m step outcome old new grows possible = (new, grows, possible, omega arith)
+
+-- a step that was made
+pub made_is_played : (opening : List (Key × Value)) (step : Step) (answer : Answer) (new : Held) (before after : DiskState) (m : Machine) (pace : Pace) → may m step.seat step.kind ≡ true → before.faults ≤ after.faults
+    → IsStep opening step.seat step.kind answer new before after m pace → IsPlayed opening (step ∷ []) new before after m pace
+made_is_played opening step answer new before after m pace can grows is =
+    let played_is : played_one m (step, is.outcome) ≡ (stepped_as m step.seat step.kind is.outcome).state = ap (λ (b : Bool). cond b (stepped_as m step.seat step.kind is.outcome).state m) can in
+    let paced_is : paced_one m pace (step, is.outcome) ≡ pace_after m pace step.seat step.kind is.outcome = ap (λ (b : Bool). cond b (pace_after m pace step.seat step.kind is.outcome) pace) can in
+    record {
+      made = (step, is.outcome) ∷ [];
+      steps_are = refl;
+      told = one_told m step is.outcome before.faults after.faults grows (λ may. is.possible);
+      whole = (is.whole, tt);
+      stands = subst (λ (p : Pace). StandsFor opening new (played_one m (step, is.outcome)) p after) (sym paced_is) (subst (λ (x : Machine). StandsFor opening new x (pace_after m pace step.seat step.kind is.outcome) after) (sym played_is) is.stands);
+      grows = subst (λ (x : Machine). IsPrefix m.book.entries x.book.entries) (sym played_is) (history_grows m step.seat step.kind is.outcome can);
+      images = subst (λ (x : Machine). LeavesOnly before after (ShowsHistory m.gears.sizes opening x.book.entries (length m.book.entries))) (sym played_is) is.images;
+    }
+
+-- a step of a kind, whose condition holds by what the core has in memory
+pub played_by : (opening : List (Key × Value)) (step : Step) (k : Kind) (answer : Answer) (old new : Held) (before after : DiskState) (m : Machine) (pace : Pace) → step.kind ≡ k → is_held k ≡ false
+    → may_in old step.seat step.kind ≡ true → GoesOn before after → StandsFor opening old m pace before → (may m step.seat k ≡ true → IsStep opening step.seat k answer new before after m pace)
+    → IsPlayed opening (step ∷ []) new before after m pace
+played_by opening step k answer old new before after m pace is none can goes stands by =
+    let may_k : may m step.seat k ≡ true = may_agrees step.seat k old m none stands.book stands.gears ∙ ap (λ (x : Kind). may_in old step.seat x) (sym is) ∙ can in
+    made_is_played opening step answer new before after m pace (ap (λ (x : Kind). may m step.seat x) is ∙ may_k) goes.faults
+    (subst (λ (x : Kind). IsStep opening step.seat x answer new before after m pace) (sym is) (by may_k))
+
+-- one that is passed over
+pub passed_is_played : (opening : List (Key × Value)) (step : Step) (held : Held) (d : DiskState) (m : Machine) (pace : Pace) → IsTimed d → is_held step.kind ≡ false → may_in held step.seat step.kind ≡ false
+    → StandsFor opening held m pace d → IsPlayed opening (step ∷ []) held d d m pace
+passed_is_played opening step held d m pace timed none cannot s =
+    let not : may m step.seat step.kind ≡ false = may_agrees step.seat step.kind held m none s.book s.gears ∙ cannot in
+    let played_is : played_one m (step, Well) ≡ m = ap (λ (b : Bool). cond b (stepped_as m step.seat step.kind Well).state m) not in
+    let paced_is : paced_one m pace (step, Well) ≡ pace = ap (λ (b : Bool). cond b (pace_after m pace step.seat step.kind Well) pace) not in
+    record {
+      made = (step, Well) ∷ [];
+      steps_are = refl;
+      told = one_told m step Well d.faults d.faults (omega arith) (λ may. tt);
+      whole = (refl, tt);
+      stands = subst (λ (p : Pace). StandsFor opening held (played_one m (step, Well)) p d) (sym paced_is) (subst (λ (x : Machine). StandsFor opening held x pace d) (sym played_is) s);
+      grows = subst (λ (x : Machine). IsPrefix m.book.entries x.book.entries) (sym played_is) (prefix_self m.book.entries);
+      images = subst (λ (x : Machine). LeavesOnly d d (ShowsHistory m.gears.sizes opening x.book.entries (length m.book.entries))) (sym played_is) (leaves_now opening held m pace d timed s);
+    }
+
+-- ---- one after another
+
+-- a count that rose from here rose from before, too
+rose_before : (old mid new : ℕ) → old ≤ mid → Rose mid new → Rose old new
+rose_before old mid new le rose = ⊎_elim (λ (below : mid < new). inl (omega (arith, le, below)))
+    (λ (last : (mid ≡ last_count) × (new ≡ last_count)). ⊎_elim (λ (below : old < last_count). inl (omega (arith, below, last.1))) (λ (at : last_count ≤ old). inr (omega (arith, at, le, last.0), last.1)) (cases_lt old last_count)) rose
+
+sooner : (m : Machine) (seat : ℕ) (k : Kind) (outcome : Outcome) (old mid new : ℕ) → old ≤ mid → IsPossible m seat k outcome mid new → IsPossible m seat k outcome old new
+sooner m seat k Well old mid new le is = tt
+sooner m seat k (FailedAfter commits faults) old mid new le is = (is.0, is.1, rose_before old mid new le is.2, is.3)
+sooner m seat k (Broken page) old mid new le is = is
+sooner m seat k NoRoom old mid new le is = is
+
+prefix_length : (a b : List Entry) → IsPrefix a b → length a ≤ length b
+prefix_length a b begins = omega (arith, ap (λ (es : List Entry). length es) begins.1, length-append a begins.0)
+
+-- the sizes are those of the opening
+played_sizes : (m : Machine) (made : List (Step × Outcome)) → (played m made).gears.sizes ≡ m.gears.sizes
+played_sizes m [] = refl
+played_sizes m (one ∷ made) = played_sizes (played_one m one) made ∙ by (may m one.0.seat one.0.kind) refl
+  where
+    by : (b : Bool) → may m one.0.seat one.0.kind ≡ b → (cond b (stepped_as m one.0.seat one.0.kind one.1).state m).gears.sizes ≡ m.gears.sizes
+    by true can = ap (λ x. x) (step_fixed m one.0.seat one.0.kind one.1 can).0
+    by false can = refl
+
+told_then : (m : Machine) (old mid new : ℕ) (first second : List (Step × Outcome)) → AreTold m old first mid → AreTold (played m first) mid second new → AreTold m old (first ++ second) new
+told_then m old mid new [] second before then = lower m old mid new second before then
+  where
+    lower : (m : Machine) (old mid new : ℕ) (second : List (Step × Outcome)) → old ≤ mid → AreTold m mid second new → AreTold m old second new
+    lower m old mid new [] le then = omega (arith, le, then)
+    lower m old mid new (made ∷ second) le then = (then.0, omega (arith, le, then.1), λ can. sooner m made.0.seat made.0.kind made.1 old mid then.0 le (then.2 can), then.3)
+told_then m old mid new (made ∷ first) second before then = (before.0, before.1, before.2, told_then (played_one m made) before.0 mid new first second before.3 then)
+
+whole_then : (first second : List (Step × Outcome)) → NoneBroken first → NoneBroken second → NoneBroken (first ++ second)
+whole_then [] second one two = two
+whole_then (made ∷ first) second one two = (one.0, whole_then first second one.1 two)
+
+paced_then : (m : Machine) (pace : Pace) (first second : List (Step × Outcome)) → paced_all m pace (first ++ second) ≡ paced_all (played m first) (paced_all m pace first) second
+paced_then m pace [] second = refl
+paced_then m pace (made ∷ first) second = paced_then (played_one m made) (paced_one m pace made) first second
+
+-- these steps, and then those
+pub both_are_played : (opening : List (Key × Value)) (first second : List Step) (mid new : Held) (before between after : DiskState) (m : Machine) (pace : Pace) (one : IsPlayed opening first mid before between m pace)
+    → IsPlayed opening second new between after (played m one.made) (paced_all m pace one.made) → IsPlayed opening (first ++ second) new before after m pace
+both_are_played opening first second mid new before between after m pace one two =
+    let all : played m (one.made ++ two.made) ≡ played (played m one.made) two.made = fold-append played_one m one.made two.made in
+    let grows : IsPrefix m.book.entries (played (played m one.made) two.made).book.entries = prefix_then m.book.entries (played m one.made).book.entries (played (played m one.made) two.made).book.entries one.grows two.grows in
+    let longer = leaves_only_run
+    (leaves_only_weaken (λ file shows. showing_is_kept m.gears.sizes opening (played m one.made).book.entries (played (played m one.made) two.made).book.entries (length m.book.entries) (length m.book.entries) file two.grows (omega arith) shows) one.images)
+    (leaves_only_weaken (λ file shows. showing_is_kept m.gears.sizes opening (played (played m one.made) two.made).book.entries (played (played m one.made) two.made).book.entries (length (played m one.made).book.entries) (length m.book.entries) file
+    (prefix_self (played (played m one.made) two.made).book.entries) (prefix_length m.book.entries (played m one.made).book.entries one.grows) (subst (λ (s : Sizes). ShowsHistory s opening (played (played m one.made) two.made).book.entries (length (played m one.made).book.entries) file) (played_sizes m one.made) shows)) two.images) in
+    record {
+      made = one.made ++ two.made;
+      steps_are = map-append (λ (x : Step × Outcome). x.0) one.made two.made ∙ ap (λ (xs : List Step). xs ++ map (λ (x : Step × Outcome). x.0) two.made) one.steps_are ∙ ap (λ (xs : List Step). first ++ xs) two.steps_are;
+      told = told_then m before.faults between.faults after.faults one.made two.made one.told two.told;
+      whole = whole_then one.made two.made one.whole two.whole;
+      stands = subst (λ (p : Pace). StandsFor opening new (played m (one.made ++ two.made)) p after) (sym (paced_then m pace one.made two.made))
+          (subst (λ (x : Machine). StandsFor opening new x (paced_all (played m one.made) (paced_all m pace one.made) two.made) after) (sym all) two.stands);
+      grows = subst (λ (x : Machine). IsPrefix m.book.entries x.book.entries) (sym all) grows;
+      images = subst (λ (x : Machine). LeavesOnly before after (ShowsHistory m.gears.sizes opening x.book.entries (length m.book.entries))) (sym all) longer;
+    }

@@ -1,0 +1,132 @@
+-- What a payment and a turn leave, of the numbers, of the other seats, and of what is told.
+use Rattle.std.proofs.Common.{◌≡◌, ◌≢◌, ◌∙◌, inl, inr, ℕ, ◌^◌, ◌<◌, ◌≤◌, Bool, true, false, Some, refl, ap, sym, arith}
+use Rattle.std.specs.Prelude.{⊤, nat_lt}
+use Rattle.std.proofs.lemmas.Bool.{ltb-true, ltb-false}
+use Rattle.std.proofs.lemmas.List.{get_or-set_other}
+use Rattle.refusal.specs.Count.{HasRisen}
+use Rattle.blsm_model.specs.Facts.{Follows}
+use Rattle.blsm_model.specs.declared.history.Why.{Why}
+use Rattle.disk_trait.specs.Disk.{DiskState}
+use Rattle.gear_sched.specs.Gears.{GearState, first_debt, second_debt, forgiven, took_first, took_second}
+use Rattle.pacing.specs.Pace.{Pace, charge}
+use Rattle.tree_machine.specs.declared.step.Kind.{Kind}
+use Rattle.tree_machine.specs.Machine.{Counts}
+use Rattle.tree_machine.specs.Steps.{Answer}
+use Rattle.tree_machine.specs.Outcomes.{Rose}
+use Rattle.seat_book.specs.State.{BookState}
+use Rattle.seat_book.specs.Seats.{KeepsSeats}
+use Rattle.seat_book.proofs.KeepLemmas.{keeps_less, holds_follow}
+use Rattle.core_moves.specs.declared.held.Held.{Held}
+use Rattle.core_moves.specs.Held.{IsOne, charge_in}
+use Rattle.core_moves.specs.Needs.{IsOn}
+use Rattle.core_moves.specs.Moves.{KeepsAllButMerges, with_book}
+use Rattle.core_pace.specs.Pacing.{HasPace, IsRunBook, IsPacedHeld}
+use Rattle.tree_core.specs.Core.{IsTold, HoldsPace, IsCore, beside_in, facts_of_held}
+use Rattle.tree_core.specs.Steps.{MovesPace}
+
+-- ---- numbers
+
+same_charge : (held : Held) (pace : Pace) → HasPace held pace → charge pace ≡ charge_in held
+same_charge held pace p = cc (p.c1, p.c1x, p.c2, p.gears, p.a, p.b)
+
+pub told_by : (held : Held) (pace : Pace) → HasPace held pace → IsOne held → IsRunBook held.book pace → IsTold held pace
+told_by held pace has one told = record {
+  told = told;
+  peak = has.peak;
+  opening = has.opening;
+  charge_is = same_charge held pace has;
+  sizes = ap (λ (g : GearState). g.sizes) has.gears ∙ one.gears;
+}
+
+-- a store that runs on
+pub holds_running : (held : Held) (pace : Pace) (d : DiskState) → IsPacedHeld held pace → IsOn held d → HoldsPace held pace d
+holds_running held pace d k on = record { told = told_by held pace k.numbers k.one k.told; live = λ runs. record { paced = k; on = on } }
+
+-- and one that is stopped
+pub holds_stopped : (held : Held) (pace : Pace) (d : DiskState) (why : Why) → held.book.stopped ≡ Some why → IsTold held pace → HoldsPace held pace d
+holds_stopped held pace d why stopped told = record { told = told; live = λ runs. absurd (cc (stopped, runs)) }
+
+-- A book that changes alone leaves the merges in order.
+pub on_rebooked : (held : Held) (b : BookState) (d : DiskState) → IsOn held d → IsOn (with_book b held) d
+on_rebooked held b d on = record { running = on.running; long = on.long }
+
+pub charge_kept : (old failed : Held) → KeepsAllButMerges ⊤ old failed → charge_in failed ≡ charge_in old
+charge_kept old failed kept =
+    let catalogue = kept.catalogue tt in
+    let pass = kept.pass tt in
+    let log = kept.log tt in
+    let gears = kept.gears tt in
+    cc (catalogue, pass, log, gears)
+
+-- What failed has the charge, the counts and the geometry that it had; its book is told otherwise.
+pub told_after_failure : (old failed : Held) (b : BookState) (pace : Pace) → KeepsAllButMerges ⊤ old failed → HasPace old pace → IsOne old → b.counts ≡ old.book.counts → IsRunBook b pace → IsTold (with_book b failed) pace
+told_after_failure old failed b pace kept has one counts told =
+    record {
+      told = told;
+      peak = has.peak ∙ sym (ap (λ (n : Counts). n.peak) counts);
+      opening = has.opening ∙ sym (ap (λ (n : Counts). n.charge) counts);
+      charge_is = same_charge old pace has ∙ sym (charge_kept old failed kept);
+      sizes = ap (λ (g : GearState). g.sizes) has.gears ∙ one.gears ∙ sym (kept.sizes tt);
+    }
+
+pub kept_once : {failed : Type 0} (old new : Held) → failed → KeepsAllButMerges failed old new → KeepsAllButMerges ⊤ old new
+kept_once old new is kept = record {
+  sizes = λ any. kept.sizes is;
+  catalogue = λ any. kept.catalogue is;
+  pass = λ any. kept.pass is;
+  deep = λ any. kept.deep is;
+  log = λ any. kept.log is;
+  gears = λ any. kept.gears is;
+  spring = λ any. kept.spring is;
+  book = λ any. kept.book is;
+}
+
+-- whatever the step answers, the core has a pace then
+pub core_by : {seat : ℕ} {kind : Kind} {answer : Answer} {pace : Pace} (new : Held) (d : DiskState) → MovesPace seat kind answer new d pace → IsCore new d
+core_by new d moves = record { pace = moves.next; holds = moves.holds }
+
+-- ---- the other seats
+
+-- the debts of the other seats didn't rise
+pub record LeavesDebts (seat : ℕ) (old new : GearState) : Type 0 where
+  pub first : (other : ℕ) → other ≢ seat → first_debt new other ≤ first_debt old other
+  pub second : (other : ℕ) → other ≢ seat → second_debt new other ≤ second_debt old other
+
+pub debts_stay : (seat : ℕ) (gears : GearState) → LeavesDebts seat gears gears
+debts_stay seat gears = record { first = λ other apart. omega arith; second = λ other apart. omega arith }
+
+pub debts_both : (seat : ℕ) (old mid new : GearState) → LeavesDebts seat old mid → LeavesDebts seat mid new → LeavesDebts seat old new
+debts_both seat old mid new one two = record {
+  first = λ other apart. omega (arith, one.first other apart, two.first other apart);
+  second = λ other apart. omega (arith, one.second other apart, two.second other apart);
+}
+
+of_equal : {x y : ℕ} → x ≡ y → x ≤ y
+of_equal same = omega arith
+
+pub debts_forgiven : (seat : ℕ) (gears : GearState) (pass deep : Bool) → LeavesDebts seat gears (forgiven gears seat pass deep)
+debts_forgiven seat gears pass deep = record {
+  first = λ other apart. of_equal (get_or-set_other gears.first_debts seat other _ 0 apart);
+  second = λ other apart. of_equal (get_or-set_other gears.second_debts seat other _ 0 apart);
+}
+
+pub debts_first : (seat n : ℕ) (gears : GearState) → LeavesDebts seat gears (took_first gears seat n)
+debts_first seat n gears = record { first = λ other apart. of_equal (get_or-set_other gears.first_debts seat other _ 0 apart); second = λ other apart. omega arith }
+
+pub debts_second : (seat n : ℕ) (gears : GearState) → LeavesDebts seat gears (took_second gears seat n)
+debts_second seat n gears = record { first = λ other apart. omega arith; second = λ other apart. of_equal (get_or-set_other gears.second_debts seat other _ 0 apart) }
+
+pub follows_by : (seat entries quanta : ℕ) (old new : Held) → entries ≤ 1 → quanta ≤ 1 → KeepsSeats seat entries quanta old.book new.book → LeavesDebts seat old.gears new.gears → Follows seat (facts_of_held old) (facts_of_held new)
+follows_by seat entries quanta old new few less keeps debts =
+    holds_follow seat old.book new.book (beside_in old) (beside_in new) (keeps_less seat entries 1 quanta 1 old.book new.book few less keeps)
+    (record { first = debts.first; second = debts.second; held = λ other apart. refl })
+
+-- ---- faults
+
+-- A count of a type that ends at 2 ^ 64 - 1 has risen, or stands there.
+pub rose_by : (old new : ℕ) → old ≤ new → new < 2 ^ 64 → HasRisen old new → Rose old new
+rose_by old new up fits risen = by (nat_lt old new) refl
+  where
+    by : (b : Bool) → nat_lt old new ≡ b → Rose old new
+    by true is = inl (ltb-true old new is)
+    by false is = let same = ltb-false old new is in inr (omega (arith, same, up, fits, risen), omega (arith, same, up, fits, risen))

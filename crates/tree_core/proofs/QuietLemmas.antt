@@ -1,0 +1,178 @@
+-- Steps that change the book alone: a lookup, the end of a work, a leave, and whatever is asked of a tree that has stopped.
+use Rattle.std.specs.Prelude.{◌≡◌, ◌⊎◌, ℕ, ◌+◌, Bool, List, [], ◌∷◌, ◌++◌, Option, Some, None, IsSome, IsTrue, length}
+use Rattle.std.proofs.Common.{◌∙◌, ⊎_elim, inl, inr, refl, ap, sym, subst, arith}
+use mathlib.Core.List.{IsPrefix}
+use Rattle.blsm_model.specs.declared.key.Key.{Key}
+use Rattle.blsm_model.specs.declared.row.Value.{Value}
+use Rattle.blsm_model.specs.declared.history.Entry.{Entry}
+use Rattle.blsm_model.specs.declared.history.Why.{Why}
+use Rattle.blsm_model.specs.Sizes.{Sizes}
+use Rattle.blsm_model.specs.Images.{counted_with}
+use Rattle.disk_trait.specs.Disk.{DiskState}
+use Rattle.disk_trait.specs.Reads.{OnlyReads}
+use Rattle.disk_trait.specs.Region.{outside, same_file}
+use Rattle.disk_trait.specs.Moments.{IsTimed, LeavesOnly, leaves_only_start, leaves_only_weaken}
+use Rattle.gear_sched.specs.Gears.{GearState}
+use Rattle.pacing.specs.Pace.{Pace}
+use Rattle.tree_machine.specs.Lists.{Lists}
+use Rattle.tree_machine.specs.Machine.{Machine, Counts, Merges, charge}
+use Rattle.seat_book.specs.State.{BookState, book_of}
+use Rattle.tree_file.specs.Tree.{Tree, HoldsTree}
+use Rattle.tree_runs.specs.Holding.{StandOver}
+use Rattle.tree_runs.specs.Laws.{RunsStay, IsBesideRuns, used_region}
+use Rattle.tree_runs.specs.Runs.{AreRunning}
+use Rattle.core_moves.specs.declared.held.Held.{Held}
+use Rattle.core_moves.specs.Moves.{with_book}
+use Rattle.core_moves.specs.Needs.{IsOn}
+use Rattle.core_pace.specs.Pacing.{IsRunBook}
+use Rattle.core_pace.proofs.TurnLemmas.{book_is_paced}
+use Rattle.core_lists.specs.Standing.{HoldsMachine, IsPassAt, IsDeepAt}
+use Rattle.core_lists.specs.Shown.{ShowsHistory, ShowsWhole}
+use Rattle.core_lists.proofs.ShowingLemmas.{standing_shows, showing_is_kept, quiet_entry_shows}
+use Rattle.paced_tree.specs.Kept.{IsPacedTree}
+use Rattle.tree_core.specs.Core.{IsTold, HoldsPace}
+use Rattle.tree_core.specs.Standing.{StandsFor, HasStopped}
+
+-- ---- by numbers
+
+pub rebooked_told : (held : Held) (b : BookState) (pace : Pace) → IsTold held pace → b.counts ≡ held.book.counts → IsRunBook b pace → IsTold (with_book b held) pace
+rebooked_told held b pace t counts told = record {
+  told = told;
+  peak = t.peak ∙ ap (λ (c : Counts). c.peak) (sym counts);
+  opening = t.opening ∙ ap (λ (c : Counts). c.charge) (sym counts);
+  charge_is = t.charge_is;
+  sizes = t.sizes;
+}
+
+pub rebooked_holds : (held : Held) (b : BookState) (pace : Pace) (d : DiskState) → HoldsPace held pace d → b.counts ≡ held.book.counts → b.stopped ≡ held.book.stopped → IsRunBook b pace
+    → HoldsPace (with_book b held) pace d
+rebooked_holds held b pace d holds counts stopped told = record {
+  told = rebooked_told held b pace holds.told counts told;
+  live = λ runs.
+      let live = holds.live (sym stopped ∙ runs) in
+      record { paced = book_is_paced held b pace live.paced counts told; on = record { running = live.on.running; long = live.on.long } };
+}
+
+-- a disk that is only read, or isn't called
+pub read_holds : (held : Held) (b : BookState) (pace : Pace) (d d2 : DiskState) → HoldsPace held pace d → b.counts ≡ held.book.counts → b.stopped ≡ held.book.stopped → IsRunBook b pace
+    → (IsOn held d → IsOn held d2) → HoldsPace (with_book b held) pace d2
+read_holds held b pace d d2 holds counts stopped told on = record {
+  told = rebooked_told held b pace holds.told counts told;
+  live = λ runs.
+      let live = holds.live (sym stopped ∙ runs) in
+      let still = on live.on in
+      record { paced = book_is_paced held b pace live.paced counts told; on = record { running = still.running; long = still.long } };
+}
+
+pub reads_on : {end most : ℕ} {d d2 : DiskState} (held : Held) → RunsStay → OnlyReads end most d d2 → IsOn held d → IsOn held d2
+reads_on {end} {most} {d} {d2} held stay reads on = record {
+  running = subst (λ (h : Bool). AreRunning h d2.bytes held.runs) (sym reads.effect.goes_on.is_honest)
+      (stay held.runs d.is_honest d.bytes d2.bytes
+      (λ honest. subst (λ (file : List ℕ). IsBesideRuns held.runs d.bytes file) (sym (reads.same.same.bytes honest)) (same_file (outside (used_region held.runs.sizes held.runs.space)) d.bytes)) on.running);
+  long = λ tells. let told = subst IsTrue reads.effect.goes_on.tells_bytes tells in reads.same.same.length told ∙ on.long told;
+}
+
+-- ---- by lists
+
+runs_or_not : (stopped : Option Why) → (stopped ≡ None) ⊎ IsSome stopped
+runs_or_not None = inl refl
+runs_or_not (Some why) = inr refl
+
+-- The disk's images, and what it reads, show the whole history.
+pub shows_now : (opening : List (Key × Value)) (held : Held) (m : Machine) (pace : Pace) (d : DiskState) → StandsFor opening held m pace d → HasStopped opening m d
+shows_now opening held m pace d s = ⊎_elim running s.stopped (runs_or_not held.book.stopped)
+  where
+    running : held.book.stopped ≡ None → HasStopped opening m d
+    running runs =
+        let over = s.runs runs in
+        record {
+          reads = standing_shows opening m pace over.fronts over.tree d.bytes s.paced over.within over.holds.lists over.lanes (subst (λ (z : Sizes). HoldsTree z over.tree d.bytes) (sym s.sizes) over.over.stands.reads);
+          each = λ c left. standing_shows opening m pace over.fronts over.tree c s.paced over.within over.holds.lists over.lanes (subst (λ (z : Sizes). HoldsTree z over.tree c) (sym s.sizes) (over.over.stands.each c left));
+        }
+
+-- It stays with the lists, the merges, the gears, the spring and the catalogue.
+pub record SameTree (m after : Machine) : Type 0 where
+  pub lists : after.lists ≡ m.lists
+  pub merges : after.merges ≡ m.merges
+  pub gears : after.gears ≡ m.gears
+  pub spring : after.spring ≡ m.spring
+  pub catalogue : after.catalogue ≡ m.catalogue
+
+pub same_charge : (m after : Machine) → SameTree m after → charge after ≡ charge m
+same_charge m after same = cc (same.lists, same.gears, same.merges)
+
+pub same_machine : (held : Held) (b : BookState) (tree : Tree) (m after : Machine) → HoldsMachine held tree m → SameTree m after → book_of after ≡ b → HoldsMachine (with_book b held) tree after
+same_machine held b tree m after holds same book = record {
+  lists = same.lists ∙ holds.lists;
+  of_log = holds.of_log;
+  pass = subst (λ (x : Merges). IsPassAt x.pass held.runs.pass) (sym same.merges) holds.pass;
+  deep = subst (λ (x : Merges). IsDeepAt x.deep held.runs.deep) (sym same.merges) holds.deep;
+  gears = same.gears ∙ holds.gears;
+  spring = same.spring ∙ holds.spring;
+  catalogue = same.catalogue ∙ holds.catalogue;
+  book = book;
+}
+
+-- Where the book alone changes, on a disk that still stands, the core stands for the machine's state with that book.
+pub quiet_stands : (opening : List (Key × Value)) (held : Held) (b : BookState) (m after : Machine) (pace : Pace) (d d2 : DiskState) → StandsFor opening held m pace d → SameTree m after → book_of after ≡ b
+    → b.stopped ≡ held.book.stopped → IsPacedTree opening after pace
+    → ((tree : Tree) → StandOver held.runs tree held.log.a.entries d → StandOver held.runs tree held.log.a.entries d2)
+    → (IsSome held.book.stopped → HasStopped opening after d2) → StandsFor opening (with_book b held) after pace d2
+quiet_stands opening held b m after pace d d2 s same book stopped paced stays shows = record {
+  paced = paced;
+  sizes = ap (λ (g : GearState). g.sizes) same.gears ∙ s.sizes;
+  gears = same.gears ∙ s.gears;
+  book = book;
+  charge_is = same_charge m after same ∙ s.charge_is;
+  runs = λ none.
+      let over = s.runs (sym stopped ∙ none) in
+      record {
+        fronts = over.fronts;
+        tree = over.tree;
+        over = stays over.tree over.over;
+        holds = same_machine held b over.tree m after over.holds same book;
+        within = over.within;
+        lanes = record {
+          lane_a = subst (λ (l : Lists). Rattle.paced_tree.specs.Lanes.IsLane over.tree.lane_a l.a over.fronts.lane_a) (sym same.lists) over.lanes.lane_a;
+          lane_b = subst (λ (l : Lists). Rattle.paced_tree.specs.Lanes.IsLane over.tree.lane_b l.b over.fronts.lane_b) (sym same.lists) over.lanes.lane_b;
+        };
+      };
+  stopped = λ some. shows (subst IsSome stopped some);
+}
+
+-- ---- what is shown
+
+-- The whole history, with one entry more that counts no write, of a disk whose bytes and images are those from before.
+pub shows_entry : (opening : List (Key × Value)) (m after : Machine) (d d2 : DiskState) (entry : Entry) → HasStopped opening m d → after.gears ≡ m.gears → after.book.entries ≡ m.book.entries ++ entry ∷ []
+    → ((unsure : Bool) → counted_with unsure entry ≡ []) → (d2.bytes ≡ d.bytes) → ((c : List ℕ) → d2.images c → d.images c) → HasStopped opening after d2
+shows_entry opening m after d d2 entry shown gears noted none bytes images = record {
+  reads = subst (λ (file : List ℕ). ShowsWhole opening after file) (sym bytes) (more d.bytes shown.reads);
+  each = λ c left. more c (shown.each c (images c left));
+}
+  where
+    more : (file : List ℕ) → ShowsWhole opening m file → ShowsWhole opening after file
+    more file shows =
+        let with = quiet_entry_shows m.gears.sizes opening m.book.entries entry file none shows in
+        let all : length m.book.entries + 1 ≡ length (m.book.entries ++ entry ∷ []) = sym (Rattle.std.proofs.Common.length-append m.book.entries (entry ∷ [])) in
+        subst (λ (g : GearState). ShowsHistory g.sizes opening after.book.entries (length after.book.entries) file) (sym gears)
+        (subst (λ (es : List Entry). ShowsHistory m.gears.sizes opening es (length es) file) (sym noted)
+        (subst (λ (n : ℕ). ShowsHistory m.gears.sizes opening (m.book.entries ++ entry ∷ []) n file) all with))
+
+-- the same history
+pub shows_same : (opening : List (Key × Value)) (m after : Machine) (d : DiskState) → HasStopped opening m d → after.gears ≡ m.gears → after.book.entries ≡ m.book.entries → HasStopped opening after d
+shows_same opening m after d shown gears noted = record { reads = same d.bytes shown.reads; each = λ c left. same c (shown.each c left) }
+  where
+    same : (file : List ℕ) → ShowsWhole opening m file → ShowsWhole opening after file
+    same file shows =
+        subst (λ (g : GearState). ShowsHistory g.sizes opening after.book.entries (length after.book.entries) file) (sym gears)
+        (subst (λ (es : List Entry). ShowsHistory m.gears.sizes opening es (length es) file) (sym noted) shows)
+
+-- What showed the history before a step shows the longer one after it, with all entries from before.
+pub leaves_longer : (opening : List (Key × Value)) (m : Machine) (longer : List Entry) (before after : DiskState) → IsPrefix m.book.entries longer → LeavesOnly before after (ShowsWhole opening m)
+    → LeavesOnly before after (ShowsHistory m.gears.sizes opening longer (length m.book.entries))
+leaves_longer opening m longer before after begins leaves =
+    leaves_only_weaken (λ file shows. showing_is_kept m.gears.sizes opening m.book.entries longer (length m.book.entries) (length m.book.entries) file begins (omega arith) shows) leaves
+
+-- no call, no other moment
+pub leaves_now : (opening : List (Key × Value)) (held : Held) (m : Machine) (pace : Pace) (d : DiskState) → IsTimed d → StandsFor opening held m pace d → LeavesOnly d d (ShowsWhole opening m)
+leaves_now opening held m pace d timed s = leaves_only_start d (ShowsWhole opening m) timed (shows_now opening held m pace d s).each

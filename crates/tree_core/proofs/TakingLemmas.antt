@@ -1,0 +1,95 @@
+-- What the moves of an admission require and leave, on every disk.
+use Rattle.std.specs.Prelude.{is_ok, is_err, OnOk, OnErr, Result, Ok, Err}
+use Rattle.std.proofs.Common.{◌≡◌, ◌∙◌, ℕ, ◌+◌, ◌≤◌, Bool, [], ◌∷◌, true, false, cond, ⊎_elim, refl, ap, sym, subst, arith}
+use Rattle.std.proofs.lemmas.Bool.{false≢true}
+use Rattle.refusal.specs.Count.{HasRisen}
+use Rattle.disk_trait.specs.Disk.{DiskState, TellsFaults}
+use Rattle.disk_trait.specs.Effects.{Affects, affects_more}
+use Rattle.disk_trait.specs.Moments.{IsTimed}
+use Rattle.blsm_model.specs.Geometry.{file_length}
+use Rattle.blsm_model.specs.Sizes.{Sizes}
+use Rattle.blsm_model.specs.declared.key.Key.{Key}
+use Rattle.blsm_model.specs.declared.op.Op.{Op}
+use Rattle.blsm_model.specs.declared.op.Write.{Write}
+use Rattle.blsm_model.specs.Histories.{writes_of}
+use Rattle.blsm_model.specs.Legal.{total_weight}
+use Rattle.blsm_model.specs.Values.{key_of}
+use Rattle.record_delta.specs.Records.{record_of, weight}
+use Rattle.paced_tree.proofs.Counted.{writes_once}
+use Rattle.tree_machine.proofs.WeightLemmas.{weight_of_record}
+use Rattle.record_delta.specs.declared.record.Rec.{Rec}
+use Rattle.tree_runs.specs.Runs.{AreRunning}
+use Rattle.core_moves.specs.declared.held.Held.{Held}
+use Rattle.core_moves.specs.Needs.{IsOn, WriteFits, anywhere}
+use Rattle.core_moves.specs.Moves.{SettlesDeep, SettlesPass, with_pass_begun, begun_in}
+
+-- ---- what a result tells
+
+pub is_ok_of : {T E : Type 0} (r : Result T E) → is_err r ≡ false → is_ok r ≡ true
+is_ok_of (Ok value) is = refl
+is_ok_of (Err error) is = absurd (false≢true (sym is))
+
+pub ok_of : {T E P : Type 0} (r : Result T E) → is_err r ≡ false → OnOk r P → P
+ok_of (Ok value) is holds = holds
+ok_of (Err error) is holds = absurd (false≢true (sym is))
+
+pub err_of : {T E P : Type 0} (r : Result T E) → is_err r ≡ true → OnErr r P → P
+err_of (Ok value) is holds = absurd (false≢true is)
+err_of (Err error) is holds = holds
+
+pub calm_of : {T E : Type 0} (r : Result T E) (old new : DiskState) → is_err r ≡ false → TellsFaults r old new → new.faults ≡ old.faults
+calm_of (Ok value) old new is tells = tells
+calm_of (Err error) old new is tells = absurd (false≢true (sym is))
+
+pub risen_of : {T E : Type 0} (r : Result T E) (old new : DiskState) → is_err r ≡ true → TellsFaults r old new → HasRisen old.faults new.faults
+risen_of (Ok value) old new is tells = absurd (false≢true is)
+risen_of (Err error) old new is tells = tells
+
+-- ---- the sizes stay
+
+pub sizes_settled : (old new : Held) → SettlesDeep old new → new.runs.sizes ≡ old.runs.sizes
+sizes_settled old new settles = ⊎_elim (λ done. done.1.runs.sizes) (λ rests. ap (λ (h : Held). h.runs.sizes) rests.1) settles
+
+pub sizes_passed : (old new : Held) → SettlesPass old new → new.runs.sizes ≡ old.runs.sizes
+sizes_passed old new settles = ⊎_elim (λ done. done.1.runs.sizes) (λ rests. ap (λ (h : Held). h.runs.sizes) rests.1) settles
+
+-- a begin changes no size, not the log, and not the book
+pub record BegunKeeps (old new : Held) : Type 0 where
+  pub sizes : new.runs.sizes ≡ old.runs.sizes
+  pub log : new.log ≡ old.log
+  pub book : new.book ≡ old.book
+
+pub begun_keeps : (w : ℕ) (held : Held) → BegunKeeps held (begun_in w held)
+begun_keeps w held = by _
+  where
+    by : (b : Bool) → BegunKeeps held (cond b (with_pass_begun held) held)
+    by true = record { sizes = refl; log = refl; book = refl }
+    by false = record { sizes = refl; log = refl; book = refl }
+
+-- and the merges are in order on the disk still
+pub begun_on : (w : ℕ) (held begun : Held) (d : DiskState) → begun ≡ begun_in w held → IsOn held d → AreRunning d.is_honest d.bytes begun.runs → IsOn begun d
+begun_on w held begun d is on running = record {
+  running = running;
+  long = λ tells. on.long tells ∙ ap file_length (sym (ap (λ (h : Held). h.runs.sizes) is ∙ (begun_keeps w held).sizes));
+}
+
+-- ---- the write
+
+pub fits_as : (key key' : Key) (rec rec' : Rec) (held held' : Held) → key' ≡ key → rec' ≡ rec → held' ≡ held → WriteFits key rec held → WriteFits key' rec' held'
+fits_as key key' rec rec' held held' same_key same_rec same fits =
+    subst (λ (k : Key). WriteFits k rec' held') (sym same_key) (subst (λ (r : Rec). WriteFits key r held') (sym same_rec) (subst (λ (h : Held). WriteFits key rec h) (sym same) fits))
+
+-- a write weighs as its record does
+pub weighs : (op : Op) (write : Write) → writes_of op ≡ write ∷ [] → total_weight (writes_of op) ≡ weight (key_of write) (record_of write)
+weighs op write writes = writes_once op write [] writes ∙ sym (weight_of_record write)
+
+pub at_write : (P : Key → Rec → Type 0) (key key' : Key) (rec rec' : Rec) → key' ≡ key → rec' ≡ rec → P key' rec' → P key rec
+at_write P key key' rec rec' same_key same_rec holds = subst (λ (k : Key). P k rec) same_key (subst (λ (r : Rec). P key' r) same_rec holds)
+
+-- ---- the calls together
+
+-- a run after a run that went well, by a core of the same sizes
+pub affects_then : (old settled : Sizes) {most more : ℕ} (total : ℕ) {before mid after : DiskState} → settled ≡ old → IsTimed mid → mid.faults ≡ before.faults
+    → Affects anywhere (file_length old) most before mid → Affects anywhere (file_length settled) more mid after → most + more ≤ total → Affects anywhere (file_length old) total before after
+affects_then old settled total {before} {mid} {after} same timed calm first second calls =
+    affects_more timed calm first second (λ i here. here) (omega (arith, ap file_length same)) calls

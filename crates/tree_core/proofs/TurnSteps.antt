@@ -1,0 +1,375 @@
+-- On an honest disk a turn is the machine's own step.
+use Rattle.std.proofs.Common.{◌≡◌, ◌∙◌, ⊎_elim, ℕ, Bool, true, false, cond, not, ◌&&◌, List, Some, None, Option, Ok, Err, refl, ap, sym, subst, arith}
+use Rattle.std.specs.Prelude.{⊤, IfOk, OnOk, IsErr, IsTrue, is_some, ◌==◌}
+use Rattle.std.specs.declared.result.Result.{Result}
+use Rattle.std.proofs.lemmas.Bool.{false≢true, eq-eqb}
+use Rattle.blsm_model.specs.declared.key.Key.{Key}
+use Rattle.blsm_model.specs.declared.row.Value.{Value}
+use Rattle.blsm_model.specs.declared.history.Why.{Why}
+use Rattle.blsm_model.specs.declared.history.Why.TheVariants.{Faulted}
+use Rattle.blsm_model.specs.Book.{Book}
+use Rattle.blsm_model.specs.Sizes.{Sizes}
+use Rattle.disk_trait.specs.Disk.{DiskState}
+use Rattle.disk_trait.specs.Moments.{IsTimed, leaves_only_start}
+use Rattle.gear_sched.specs.Gears.{GearState}
+use Rattle.page_file.specs.declared.file.Broken.{Broken}
+use Rattle.page_file.specs.declared.file.Broken.TheVariants.{Fault, Damaged}
+use Rattle.pacing.specs.Pace.{Pace}
+use Rattle.pacing.specs.Fronts.{Fronts}
+use Rattle.pacing.specs.Steps as pacing
+use Rattle.pacing.specs.Steps.{Move}
+use Rattle.tree_machine.specs.declared.step.Kind.TheVariants as kind
+use Rattle.tree_machine.specs.Machine as machine
+use Rattle.tree_machine.specs.Machine.{Machine, Turned, Seats, charge, deep_done, is_closed}
+use Rattle.tree_machine.specs.Moves.{stop, swap_deep}
+use Rattle.tree_machine.specs.Steps as steps
+use Rattle.tree_machine.specs.Steps.{Stepped, Answer, Outcome, Well, FailedAfter, Turn, ended_as, deep_swapped, work_turning, worker_turning, work_turn, worker_turn}
+use Rattle.tree_machine.specs.Plays.{may, stepped_as}
+use Rattle.tree_machine.specs.Outcomes.{Rose, IsPossible, calls_disk}
+use Rattle.tree_machine.proofs.FoldLemmas.{both}
+use Rattle.paced_tree.specs.After.{pace_after, unless_stopped, after_turn}
+use Rattle.paced_tree.specs.Kept.{IsPacedTree}
+use Rattle.paced_tree.specs.Booking.{quanta_of_move}
+use Rattle.paced_tree.proofs.Promises.{has_way, step_is_paced}
+use Rattle.seat_book.specs.State.{BookState, book_of, is_closed_in, stopped_in}
+use Rattle.tree_file.specs.Tree.{Tree, HoldsTree}
+use Rattle.tree_file.specs.Places.{HoldsEither}
+use Rattle.tree_runs.specs.Runs.{left_for_deep}
+use Rattle.tree_runs.specs.Holding.{AreOf, StandOver}
+use Rattle.core_moves.specs.declared.held.Held.{Held}
+use Rattle.core_moves.specs.Held.{IsDeepDone}
+use Rattle.core_moves.specs.Needs.{IsOn}
+use Rattle.core_moves.specs.Moves.{KeepsAllButMerges, with_book}
+use Rattle.core_pace.specs.Pacing.{IsPacedHeld}
+use Rattle.core_pace.specs.Turns.{MayMove, TurnsBy, move_in, end_of_move}
+use Rattle.core_pace.proofs.BookLemmas.{rebooked}
+use Rattle.core_lists.specs.Standing.{IsAt}
+use Rattle.core_lists.specs.Lists.{turn_noted, helped}
+use Rattle.core_lists.specs.Shown.{ShowsWhole}
+use Rattle.core_lists.specs.Steps.{IsSteady, WorkLands, HelpLands, TurnsTree, choice_of, chosen_by}
+use Rattle.core_lists.specs.Going.{GoesOn, IsOpenTo, kind_of_turn}
+use Rattle.core_lists.proofs.TestLemmas.{tests_agree_with_lists}
+use Rattle.core_lists.proofs.StepLands.{choices_agree}
+use Rattle.core_lists.proofs.ImageLemmas.{deep_swap_images, pass_swap_images, rotation_images}
+use Rattle.core_lists.proofs.WriteLands.{book_lands}
+use Rattle.core_lists.proofs.GoingLemmas.{turn_goes_on, closed_turn_goes_on}
+use Rattle.tree_core.specs.Core.{HoldsPace}
+use Rattle.tree_core.specs.Quanta.{MakesTree, LeavesMoved, ended_by, quanta_by, stopped_by}
+use Rattle.tree_core.specs.Standing.{StandsFor, HasStopped}
+use Rattle.tree_core.specs.Steps.{IsStep}
+use Rattle.tree_core.proofs.QuantumLemmas.{charge_kept, kept_once}
+use Rattle.tree_core.proofs.QuantumSteps.{RunsAt, stands_running, standing_at, steady_at, shows_at, leaves_same, step_by}
+use Rattle.tree_core.proofs.TurnLemmas.{Turns, Ends, KeepsOpen, counted_by, counted_book, counted_stops, moved_open, ended_moves}
+
+-- ---- a store that is stopped
+
+-- the seats of the machine once the turn counts, which took no quantum
+counted_seats : Bool → ℕ → Turned → Machine → Seats
+counted_seats true seat ended m = (helped seat m).seats
+counted_seats false seat ended m = (turn_noted seat ended 0 m).seats
+
+counted_is : (w : Bool) (seat : ℕ) (ended : Turned) (m : Machine) (b : BookState) → book_of m ≡ b → record { book = m.book; seats = counted_seats w seat ended m; counts = m.counts; stopped = m.stopped } ≡ counted_by w seat ended 0 b
+unfolding counted_seats
+counted_is true seat ended m b is = ap (λ (x : BookState). counted_by true seat ended 0 x) is
+counted_is false seat ended m b is = ap (λ (x : BookState). counted_by false seat ended 0 x) is
+
+halted_as : (w : Bool) (seat : ℕ) (why : Why) (m : Machine) → m.stopped ≡ Some why
+    → stepped_as m seat (kind_of_turn w) Well ≡ record { state = record m { seats = counted_seats w seat (machine.Halted why) m }; answer = Turn (machine.Halted why) }
+unfolding counted_seats
+halted_as true seat why m is = ap (λ (o : Option Why). record { state = helped seat (worker_turning o (is_closed m) m seat Well).state; answer = Turn (worker_turning o (is_closed m) m seat Well).ended }) is
+halted_as false seat why m is =
+    ap (λ (o : Option Why). record { state = steps.work_noted seat (steps.with_turn (machine.work_of seat m) (work_turning o m seat Well)) (work_turning o m seat Well).state; answer = Turn (work_turning o m seat Well).ended }) is
+
+halted_pace : (w : Bool) (seat : ℕ) (why : Why) (m : Machine) (pace : Pace) → m.stopped ≡ Some why → pace_after m pace seat (kind_of_turn w) Well ≡ pace
+halted_pace true seat why m pace is = ap (λ (o : Option Why). unless_stopped o pace (cond (is_closed m) pace (after_turn m pace seat Well))) is
+halted_pace false seat why m pace is = ap (λ (o : Option Why). unless_stopped o pace (after_turn m pace seat Well)) is
+
+then_paced : (w : Bool) (opening : List (Key × Value)) (m : Machine) (pace : Pace) (seat : ℕ) (outcome : Outcome) → IsTrue (may m seat (kind_of_turn w)) → IsPacedTree opening m pace
+    → IsPacedTree opening (stepped_as m seat (kind_of_turn w) outcome).state (pace_after m pace seat (kind_of_turn w) outcome)
+then_paced true opening m pace seat outcome ok paced = step_is_paced opening m pace (record { seat = seat; kind = kind.WorkerTurn }) outcome paced ok tt
+then_paced false opening m pace seat outcome ok paced = step_is_paced opening m pace (record { seat = seat; kind = kind.WorkTurn }) outcome paced ok tt
+
+possible_well : (w : Bool) (m : Machine) (seat old new : ℕ) → IsPossible m seat (kind_of_turn w) Well old new
+possible_well w m seat old new = tt
+
+pub halted_turn : (w : Bool) (opening : List (Key × Value)) (seat : ℕ) (why : Why) (old : Held) (b : BookState) (m : Machine) (pace : Pace) (d : DiskState) → IsTimed d → old.book.stopped ≡ Some why
+    → b ≡ counted_by w seat (machine.Halted why) 0 old.book → StandsFor opening old m pace d → IsTrue (may m seat (kind_of_turn w)) → IsStep opening seat (kind_of_turn w) (Turn (machine.Halted why)) (with_book b old) d d m pace
+halted_turn w opening seat why old b m pace d timed is counts stands ok =
+    step_by opening seat (kind_of_turn w) (Turn (machine.Halted why)) (with_book b old) d d m pace Well stepped pace (halted_as w seat why m stop_is) (halted_pace w seat why m pace stop_is) (possible_well w m seat d.faults d.faults) refl stood refl
+    (leaves_only_start d (ShowsWhole opening m) timed (λ c here. stopped.each c here))
+  where
+    then : Machine
+    then = record m { seats = counted_seats w seat (machine.Halted why) m }
+
+    stepped : Stepped
+    stepped = record { state = record m { seats = counted_seats w seat (machine.Halted why) m }; answer = Turn (machine.Halted why) }
+
+    stop_is : m.stopped ≡ Some why
+    stop_is = ap (λ (x : BookState). x.stopped) stands.book ∙ is
+
+    stopped : HasStopped opening m d
+    stopped = stands.stopped (ap is_some is)
+
+    book_is : book_of stepped.state ≡ b
+    book_is = counted_is w seat (machine.Halted why) m old.book stands.book ∙ sym counts
+
+    stood : StandsFor opening (with_book b old) stepped.state pace d
+    stood = record {
+      paced = subst (λ (p : Pace). IsPacedTree opening stepped.state p) (halted_pace w seat why m pace stop_is)
+          (subst (λ (s : Stepped). IsPacedTree opening s.state (pace_after m pace seat (kind_of_turn w) Well)) (halted_as w seat why m stop_is) (then_paced w opening m pace seat Well ok stands.paced));
+      sizes = stands.sizes;
+      gears = stands.gears;
+      book = book_is;
+      charge_is = stands.charge_is;
+      runs = λ runs. absurd (let e = ap (λ (x : BookState). x.stopped) book_is in cc (e, runs, stop_is));
+      stopped = λ some. record { reads = stopped.reads; each = stopped.each };
+    }
+
+-- ---- what the images show of a move
+
+not_deep_first : (b : Bool) (rest : Move) → b ≡ true → pacing.SwapPass ≡ cond b pacing.SwapDeep rest → ⊥
+not_deep_first true rest is same = cc same
+not_deep_first false rest is same = false≢true is
+
+-- a pass is swapped in where no deep merge is done
+pub not_deep_done : (w : Bool) (old : Held) → pacing.SwapPass ≡ move_in w old → IsDeepDone old → ⊥
+not_deep_done w old is done =
+    not_deep_first (is_some old.runs.deep && (left_for_deep old.runs.deep == 0)) _ (both (is_some old.runs.deep) (left_for_deep old.runs.deep == 0) done.0 (eq-eqb (left_for_deep old.runs.deep) 0 done.1)) is
+
+stays_shown : (opening : List (Key × Value)) (old : Held) (m : Machine) (pace : Pace) (d : DiskState) (tree next : Tree) (file : List ℕ) → RunsAt opening old m pace d tree → next ≡ tree → HoldsEither old.runs.sizes tree next file → ShowsWhole opening m file
+stays_shown opening old m pace d tree next file r same either =
+    ⊎_elim (λ (here : HoldsTree old.runs.sizes tree file). shows_at opening old m pace d tree file r here)
+    (λ (here : HoldsTree old.runs.sizes next file). shows_at opening old m pace d tree file r (subst (λ (t : Tree). HoldsTree old.runs.sizes t file) same here)) either
+
+move_shown : (mv : Move) (w : Bool) (opening : List (Key × Value)) (old : Held) (m : Machine) (pace : Pace) (d : DiskState) (tree next : Tree) (file : List ℕ) → (r : RunsAt opening old m pace d tree) → mv ≡ move_in w old → MayMove mv old
+    → MakesTree mv old tree next → m.gears.sizes ≡ old.runs.sizes → HoldsEither old.runs.sizes tree next file → ShowsWhole opening m file
+move_shown pacing.SwapDeep w opening old m pace d tree next file r is may_move makes sizes either =
+    deep_swap_images opening old m pace r.fronts tree next d.bytes file (standing_at opening old m pace d tree r) may_move makes (subst (λ (s : Sizes). HoldsEither s tree next file) (sym sizes) either)
+move_shown pacing.SwapPass w opening old m pace d tree next file r is may_move makes sizes either =
+    pass_swap_images opening old old m pace r.fronts tree tree next d.bytes d.bytes file (record {
+      stood = standing_at opening old m pace d tree r;
+      moves = record { done = λ done. absurd (not_deep_done w old is done); rests = λ rests. refl };
+      at = subst (λ (s : Machine). IsAt old tree s d.bytes) (sym rests) (record { are_of = r.over.are_of; holds = r.holds });
+      numbers = r.numbers;
+      has = r.has;
+      one = r.one;
+    }) may_move.0 makes (subst (λ (s : Sizes). HoldsEither s tree next file) (sym sizes) either)
+  where
+    by : (b : Bool) → deep_done m ≡ b → cond b (swap_deep m) m ≡ m
+    by true done = absurd (not_deep_done w old is ((tests_agree_with_lists old tree m d.bytes r.numbers (record { are_of = r.over.are_of; holds = r.holds }) r.goes.paced.stands.sound r.has).deep_is_done.1 done))
+    by false undone = refl
+
+    rests : deep_swapped m ≡ m
+    rests = by (deep_done m) refl
+move_shown pacing.Rotate w opening old m pace d tree next file r is may_move makes sizes either =
+    rotation_images opening old m pace r.fronts tree next d.bytes file (standing_at opening old m pace d tree r) may_move.0 may_move.1 makes (subst (λ (s : Sizes). HoldsEither s tree next file) (sym sizes) either)
+move_shown pacing.TakeDeep w opening old m pace d tree next file r is may_move makes sizes either = stays_shown opening old m pace d tree next file r makes either
+move_shown pacing.TakeSnow w opening old m pace d tree next file r is may_move makes sizes either = stays_shown opening old m pace d tree next file r makes either
+move_shown pacing.Begin w opening old m pace d tree next file r is may_move makes sizes either = stays_shown opening old m pace d tree next file r makes either
+move_shown pacing.Idle w opening old m pace d tree next file r is may_move makes sizes either = stays_shown opening old m pace d tree next file r makes either
+
+-- ---- a turn that went well
+
+well_at : WorkLands → HelpLands → (w : Bool) (opening : List (Key × Value)) (seat n : ℕ) (old moved : Held) (tree next : Tree) (m : Machine) (pace : Pace) (file after : List ℕ) → IsSteady old tree m file → IsPacedTree opening m pace → IsOpenTo w m
+    → TurnsBy (move_in w old) seat n old moved → TurnsTree (move_in w old) n old moved tree next → AreOf moved.runs next moved.log.a.entries after
+    → IsAt (with_book (counted_by w seat (end_of_move (move_in w old)) (quanta_of_move (move_in w old)) moved.book) moved) next (stepped_as m seat (kind_of_turn w) Well).state after
+well_at work help true opening seat n old moved tree next m pace file after steady paced opened moves trees are_of =
+    help seat n old moved (with_book (counted_by true seat (end_of_move (move_in true old)) (quanta_of_move (move_in true old)) moved.book) moved) tree next m file after steady opened (record { moves = moves; counted = refl }) trees are_of
+well_at work help false opening seat n old moved tree next m pace file after steady paced opened moves trees are_of =
+    work seat n old moved (with_book (counted_by false seat (end_of_move (move_in false old)) (quanta_of_move (move_in false old)) moved.book) moved) tree next m file after steady (has_way opening m pace paced)
+    (record { moves = moves; counted = refl }) trees are_of
+
+well_answer : (w : Bool) (m : Machine) (seat : ℕ) → m.stopped ≡ None → IsOpenTo w m → (stepped_as m seat (kind_of_turn w) Well).answer ≡ Turn (ended_as (chosen_by w m))
+well_answer true m seat runs opened = ap (λ (o : Option Why). Turn (worker_turning o (is_closed m) m seat Well).ended) runs ∙ ap (λ (b : Bool). Turn (worker_turning None b m seat Well).ended) opened
+well_answer false m seat runs opened = ap (λ (o : Option Why). Turn (work_turning o m seat Well).ended) runs
+
+same_end : (mv : Move) → end_of_move mv ≡ ended_as (choice_of mv)
+same_end pacing.SwapDeep = refl
+same_end pacing.SwapPass = refl
+same_end pacing.TakeDeep = refl
+same_end pacing.TakeSnow = refl
+same_end pacing.Begin = refl
+same_end pacing.Rotate = refl
+same_end pacing.Idle = refl
+
+-- What a turn finds on an honest disk, and what its move left there.
+pub record TurnsOver (w : Bool) (opening : List (Key × Value)) (seat : ℕ) (mv : Move) (made : Result ℕ Broken) (old moved : Held) (m : Machine) (pace : Pace) (tree : Tree) (before after : DiskState) : Type 0 where
+  pub runs : RunsAt opening old m pace before tree
+  pub opened : IsOpenTo w m
+  pub ok : IsTrue (may m seat (kind_of_turn w))
+  pub may_move : MayMove mv old
+  pub next : Tree
+  pub leaves : LeavesMoved mv made old moved tree next before after
+
+machine_runs : (opening : List (Key × Value)) (old : Held) (m : Machine) (pace : Pace) (d : DiskState) (tree : Tree) → RunsAt opening old m pace d tree → m.stopped ≡ None
+machine_runs opening old m pace d tree r = ap (λ (b : BookState). b.stopped) r.holds.book ∙ r.ran
+
+same_sizes : (opening : List (Key × Value)) (old : Held) (m : Machine) (pace : Pace) (d : DiskState) (tree : Tree) → RunsAt opening old m pace d tree → m.gears.sizes ≡ old.runs.sizes
+same_sizes opening old m pace d tree r = ap (λ (g : GearState). g.sizes) r.holds.gears ∙ r.one
+
+well_turn : WorkLands → HelpLands → (w : Bool) (opening : List (Key × Value)) (seat n : ℕ) (old moved : Held) (m : Machine) (pace numbers : Pace) (tree : Tree) (before after : DiskState) (made : Result ℕ Broken) → made ≡ Ok n → Turns w seat (move_in w old) old
+    → TurnsBy (move_in w old) seat n old moved → IsPacedHeld (with_book (counted_by w seat (end_of_move (move_in w old)) (quanta_of_move (move_in w old)) moved.book) moved) numbers
+    → TurnsOver w opening seat (move_in w old) made old moved m pace tree before after
+    → IsStep opening seat (kind_of_turn w) (Turn (end_of_move (move_in w old))) (with_book (counted_by w seat (end_of_move (move_in w old)) (quanta_of_move (move_in w old)) moved.book) moved) before after m pace
+well_turn work help w opening seat n old moved m pace numbers tree before after made made_is t moves k o =
+    step_by opening seat (kind_of_turn w) (Turn (end_of_move mv)) new before after m pace Well (stepped_as m seat (kind_of_turn w) Well) (pace_after m pace seat (kind_of_turn w) Well) refl refl
+    (possible_well w m seat before.faults after.faults) refl
+    (stands_running opening new (stepped_as m seat (kind_of_turn w) Well).state (pace_after m pace seat (kind_of_turn w) Well) after o.next
+    (record { fronts = goes.0; over = left.2; holds = at.holds; goes = goes.1; numbers = numbers; has = k.numbers; one = k.one.gears; ran = counted_stops w seat (end_of_move mv) (quanta_of_move mv) moved.book ∙ kept.stopped ∙ t.ran }))
+    (sym (well_answer w m seat (machine_runs opening old m pace before tree o.runs) o.opened ∙ ap (λ c. Turn (ended_as c)) (choices_agree w old tree m before.bytes steady) ∙ ap (λ e. Turn e) (sym (same_end mv))))
+    (leaves_same opening m before after (stepped_as m seat (kind_of_turn w) Well).state.book.entries (HoldsEither old.runs.sizes tree o.next)
+    (ap (λ (x : BookState). x.book.entries) at.holds.book ∙ ap (λ (x : Book). x.entries) (counted_book w seat (end_of_move mv) (quanta_of_move mv) moved.book ∙ kept.entries) ∙ sym (ap (λ (x : BookState). x.book.entries) o.runs.holds.book))
+    (λ c here. move_shown mv w opening old m pace before tree o.next c o.runs refl o.may_move o.leaves.makes (same_sizes opening old m pace before tree o.runs) here) o.leaves.each)
+  where
+    mv : Move
+    mv = move_in w old
+
+    new : Held
+    new = with_book (counted_by w seat (end_of_move (move_in w old)) (quanta_of_move (move_in w old)) moved.book) moved
+
+    kept : KeepsOpen old.book moved.book
+    kept = moved_open (move_in w old) seat n old moved moves
+
+    steady : IsSteady old tree m before.bytes
+    steady = steady_at opening old m pace before tree o.runs
+
+    left_any : (x : ℕ) × (made ≡ Ok x) × StandOver moved.runs o.next moved.log.a.entries after × TurnsTree (move_in w old) x old moved tree o.next
+    left_any = o.leaves.moved (λ same. cc (same, made_is))
+
+    same_n : left_any.0 ≡ n
+    same_n = let e = left_any.1 in cc (e, made_is)
+
+    left : (x : ℕ) × (made ≡ Ok x) × StandOver moved.runs o.next moved.log.a.entries after × TurnsTree (move_in w old) n old moved tree o.next
+    left = (left_any.0, left_any.1, left_any.2, subst (λ (x : ℕ). TurnsTree (move_in w old) x old moved tree o.next) same_n left_any.3)
+
+    at : IsAt (with_book (counted_by w seat (end_of_move (move_in w old)) (quanta_of_move (move_in w old)) moved.book) moved) o.next (stepped_as m seat (kind_of_turn w) Well).state after.bytes
+    at = well_at work help w opening seat n old moved tree o.next m pace before.bytes after.bytes steady o.runs.goes.paced o.opened moves left.3 left.2.are_of
+
+    goes : (then : Fronts) × GoesOn opening (stepped_as m seat (kind_of_turn w) Well).state (pace_after m pace seat (kind_of_turn w) Well) then o.next
+    goes = turn_goes_on w opening m pace o.runs.fronts seat n old moved tree o.next before.bytes o.ok o.opened steady left.3 o.runs.goes
+
+-- ---- a turn whose move failed
+
+failed_as : (w : Bool) (seat f : ℕ) (m : Machine) → m.stopped ≡ None → IsOpenTo w m
+    → stepped_as m seat (kind_of_turn w) (FailedAfter 0 f) ≡ record { state = record (stop (Faulted f) m) { seats = counted_seats w seat machine.Failed (stop (Faulted f) m) }; answer = Turn machine.Failed }
+unfolding counted_seats
+failed_as true seat f m runs opened =
+    ap (λ (o : Option Why). record { state = helped seat (worker_turning o (is_closed m) m seat (FailedAfter 0 f)).state; answer = Turn (worker_turning o (is_closed m) m seat (FailedAfter 0 f)).ended }) runs
+    ∙ ap (λ (b : Bool). record { state = helped seat (worker_turning None b m seat (FailedAfter 0 f)).state; answer = Turn (worker_turning None b m seat (FailedAfter 0 f)).ended }) opened
+failed_as false seat f m runs opened =
+    ap (λ (o : Option Why). record { state = steps.work_noted seat (steps.with_turn (machine.work_of seat m) (work_turning o m seat (FailedAfter 0 f))) (work_turning o m seat (FailedAfter 0 f)).state; answer = Turn (work_turning o m seat (FailedAfter 0 f)).ended }) runs
+
+failed_pace : (w : Bool) (seat f : ℕ) (m : Machine) (pace : Pace) → m.stopped ≡ None → IsOpenTo w m → pace_after m pace seat (kind_of_turn w) (FailedAfter 0 f) ≡ pace
+failed_pace true seat f m pace runs opened =
+    ap (λ (o : Option Why). unless_stopped o pace (cond (is_closed m) pace (after_turn m pace seat (FailedAfter 0 f)))) runs ∙ ap (λ (b : Bool). cond b pace (after_turn m pace seat (FailedAfter 0 f))) opened
+failed_pace false seat f m pace runs opened = ap (λ (o : Option Why). unless_stopped o pace (after_turn m pace seat (FailedAfter 0 f))) runs
+
+failed_possible : (w : Bool) (seat f old new : ℕ) (m : Machine) → m.stopped ≡ None → IsOpenTo w m → calls_disk (chosen_by w m) ≡ true → Rose old new → f ≡ new → IsPossible m seat (kind_of_turn w) (FailedAfter 0 f) old new
+failed_possible true seat f old new m runs opened called rose counted = (
+  ap (λ (o : Option Why). not (is_some o) && (not (is_closed m) && calls_disk (chosen_by true m))) runs ∙ ap (λ (b : Bool). not b && calls_disk (chosen_by true m)) opened ∙ called,
+  omega arith,
+  rose,
+  counted,
+)
+failed_possible false seat f old new m runs opened called rose counted = (ap (λ (o : Option Why). not (is_some o) && calls_disk (chosen_by false m)) runs ∙ called, omega arith, rose, counted)
+
+failed_turn : (w : Bool) (opening : List (Key × Value)) (seat f : ℕ) (old moved : Held) (m : Machine) (pace : Pace) (tree : Tree) (before after : DiskState) (made : Result ℕ Broken) → KeepsAllButMerges ⊤ old moved → f ≡ after.faults
+    → Rose before.faults after.faults → calls_disk (choice_of (move_in w old)) ≡ true → TurnsOver w opening seat (move_in w old) made old moved m pace tree before after
+    → IsStep opening seat (kind_of_turn w) (Turn machine.Failed) (with_book (counted_by w seat machine.Failed 0 (stopped_in (Faulted f) moved.book)) moved) before after m pace
+failed_turn w opening seat f old moved m pace tree before after made kept counted rose called o =
+    step_by opening seat (kind_of_turn w) (Turn machine.Failed) (with_book b moved) before after m pace (FailedAfter 0 f) stepped pace same same_pace possible refl stands refl
+    (leaves_same opening m before after m.book.entries (HoldsEither old.runs.sizes tree o.next) refl shows o.leaves.each)
+  where
+    b : BookState
+    b = counted_by w seat machine.Failed 0 (stopped_in (Faulted f) moved.book)
+
+    runs : m.stopped ≡ None
+    runs = machine_runs opening old m pace before tree o.runs
+
+    stepped : Stepped
+    stepped = record { state = record (stop (Faulted f) m) { seats = counted_seats w seat machine.Failed (stop (Faulted f) m) }; answer = Turn machine.Failed }
+
+    same : stepped_as m seat (kind_of_turn w) (FailedAfter 0 f) ≡ record { state = record (stop (Faulted f) m) { seats = counted_seats w seat machine.Failed (stop (Faulted f) m) }; answer = Turn machine.Failed }
+    same = failed_as w seat f m runs o.opened
+
+    same_pace : pace_after m pace seat (kind_of_turn w) (FailedAfter 0 f) ≡ pace
+    same_pace = failed_pace w seat f m pace runs o.opened
+
+    possible : IsPossible m seat (kind_of_turn w) (FailedAfter 0 f) before.faults after.faults
+    possible = failed_possible w seat f before.faults after.faults m runs o.opened (ap calls_disk (choices_agree w old tree m before.bytes (steady_at opening old m pace before tree o.runs)) ∙ called) rose counted
+
+    shows : (c : List ℕ) → HoldsEither old.runs.sizes tree o.next c → ShowsWhole opening m c
+    shows c here = move_shown (move_in w old) w opening old m pace before tree o.next c o.runs refl o.may_move o.leaves.makes (same_sizes opening old m pace before tree o.runs) here
+
+    book_is : book_of stepped.state ≡ counted_by w seat machine.Failed 0 (stopped_in (Faulted f) moved.book)
+    book_is =
+        counted_is w seat machine.Failed (stop (Faulted f) m) (stopped_in (Faulted f) old.book) (ap (λ (x : BookState). stopped_in (Faulted f) x) o.runs.holds.book)
+        ∙ ap (λ (x : BookState). counted_by w seat machine.Failed 0 (stopped_in (Faulted f) x)) (sym (kept.book tt))
+
+    stands : StandsFor opening (with_book (counted_by w seat machine.Failed 0 (stopped_in (Faulted f) moved.book)) moved) stepped.state pace after
+    stands = record {
+      paced = subst (λ (p : Pace). IsPacedTree opening stepped.state p) same_pace
+          (subst (λ (s : Stepped). IsPacedTree opening s.state (pace_after m pace seat (kind_of_turn w) (FailedAfter 0 f))) same (then_paced w opening m pace seat (FailedAfter 0 f) o.ok o.runs.goes.paced));
+      sizes = same_sizes opening old m pace before tree o.runs ∙ sym (kept.sizes tt);
+      gears = o.runs.holds.gears ∙ sym (kept.gears tt);
+      book = book_is;
+      charge_is = (tests_agree_with_lists old tree m before.bytes o.runs.numbers (record { are_of = o.runs.over.are_of; holds = o.runs.holds }) o.runs.goes.paced.stands.sound o.runs.has).charge_is ∙ sym (charge_kept old moved kept);
+      runs = λ none. absurd (let e = ap (λ (x : BookState). x.stopped) book_is in cc (e, none));
+      stopped = λ some. record { reads = shows after.bytes o.leaves.either.reads; each = λ c here. shows c (o.leaves.either.each c here) };
+    }
+
+-- ---- any turn
+
+turn_by : WorkLands → HelpLands → (w : Bool) (opening : List (Key × Value)) (seat : ℕ) (made : Result ℕ Broken) (faults : ℕ) (old moved : Held) (m : Machine) (pace numbers : Pace) (tree : Tree) (before after : DiskState)
+    → Turns w seat (move_in w old) old → IfOk made (λ n. TurnsBy (move_in w old) seat n old moved) → OnOk made (IsOn moved after) → KeepsAllButMerges (IsErr made) old moved → HoldsPace old numbers before → faults ≡ after.faults
+    → (made ≡ Err Fault → Rose before.faults after.faults) → (IsErr made → calls_disk (choice_of (move_in w old)) ≡ true) → TurnsOver w opening seat (move_in w old) made old moved m pace tree before after
+    → IsStep opening seat (kind_of_turn w) (Turn (ended_by made (move_in w old))) (with_book (counted_by w seat (ended_by made (move_in w old)) (quanta_by made (move_in w old)) (stopped_by made faults moved.book)) moved) before after m pace
+turn_by work help w opening seat (Ok n) faults old moved m pace numbers tree before after t moves on kept holds counted rose called o =
+    let next = ended_moves w seat (Ok n) faults old moved numbers before after t moves on kept holds in
+    let runs = counted_stops w seat (end_of_move (move_in w old)) (quanta_of_move (move_in w old)) moved.book ∙ (moved_open (move_in w old) seat n old moved moves).stopped ∙ t.ran in
+    well_turn work help w opening seat n old moved m pace next.next tree before after (Ok n) refl t moves (next.holds.live runs).paced o
+turn_by work help w opening seat (Err Fault) faults old moved m pace numbers tree before after t moves on kept holds counted rose called o =
+    failed_turn w opening seat faults old moved m pace tree before after (Err Fault) (kept_once old moved refl kept) counted (rose refl) (called refl) o
+turn_by work help w opening seat (Err (Damaged page)) faults old moved m pace numbers tree before after t moves on kept holds counted rose called o =
+    let left = o.leaves.moved (λ same. cc same) in
+    let e = left.1 in
+    absurd (cc e)
+
+pub turn_step : WorkLands → HelpLands → (w : Bool) (opening : List (Key × Value)) (seat : ℕ) (mv : Move) (made : Result ℕ Broken) (faults : ℕ) (old moved : Held) (ended : Turned) (b : BookState) (m : Machine) (pace numbers : Pace) (tree : Tree)
+    (before after : DiskState) → Ends w seat mv made faults old moved ended b before after → HoldsPace old numbers before → faults ≡ after.faults → (made ≡ Err Fault → Rose before.faults after.faults)
+    → (IsErr made → calls_disk (choice_of mv) ≡ true) → TurnsOver w opening seat mv made old moved m pace tree before after → IsStep opening seat (kind_of_turn w) (Turn ended) (with_book b moved) before after m pace
+turn_step work help w opening seat mv made faults old moved ended b m pace numbers tree before after e holds counted rose called o =
+    subst (λ (x : BookState). IsStep opening seat (kind_of_turn w) (Turn ended) (with_book x moved) before after m pace) (sym e.counts)
+    (subst (λ (t : Turned). IsStep opening seat (kind_of_turn w) (Turn t) (with_book (counted_by w seat t (quanta_by made mv) (stopped_by made faults moved.book)) moved) before after m pace) (sym e.ended_is)
+    (subst (λ (y : Move). IsStep opening seat (kind_of_turn w) (Turn (ended_by made y)) (with_book (counted_by w seat (ended_by made y) (quanta_by made y) (stopped_by made faults moved.book)) moved) before after m pace) (sym e.turns.is)
+    (turn_by work help w opening seat made faults old moved m pace numbers tree before after (subst (λ (y : Move). Turns w seat y old) e.turns.is e.turns)
+    (subst (λ (y : Move). IfOk made (λ n. TurnsBy y seat n old moved)) e.turns.is e.moves) e.on e.kept holds counted rose
+    (subst (λ (y : Move). IsErr made → calls_disk (choice_of y) ≡ true) e.turns.is called)
+    (subst (λ (y : Move). TurnsOver w opening seat y made old moved m pace tree before after) e.turns.is o))))
+
+-- ---- a worker's turn where the store is closed
+
+pub closed_turn : (opening : List (Key × Value)) (seat : ℕ) (old : Held) (b : BookState) (m : Machine) (pace : Pace) (d : DiskState) (tree : Tree) → IsTimed d → RunsAt opening old m pace d tree → is_closed_in old.book ≡ true
+    → b ≡ counted_by true seat machine.Closed 0 old.book → IsTrue (may m seat kind.WorkerTurn) → IsStep opening seat kind.WorkerTurn (Turn machine.Closed) (with_book b old) d d m pace
+closed_turn opening seat old b m pace d tree timed r closed counts ok =
+    step_by opening seat kind.WorkerTurn (Turn machine.Closed) (with_book b old) d d m pace Well (worker_turn m seat Well) (pace_after m pace seat kind.WorkerTurn Well) refl refl tt refl
+    (stands_running opening (with_book b old) (worker_turn m seat Well).state (pace_after m pace seat kind.WorkerTurn Well) d tree
+    (record { fronts = r.fronts; over = r.over; holds = at.holds; goes = goes.1; numbers = r.numbers; has = rebooked old b r.numbers (ap (λ (x : BookState). x.counts) counts) r.has; one = r.one; ran = ap (λ (x : BookState). x.stopped) counts ∙ r.ran }))
+    (sym (ap (λ (o : Option Why). Turn (worker_turning o (is_closed m) m seat Well).ended) runs ∙ ap (λ (x : Bool). Turn (worker_turning None x m seat Well).ended) closed_is))
+    (leaves_same opening m d d (worker_turn m seat Well).state.book.entries d.images (ap (λ (x : BookState). x.book.entries) (at.holds.book ∙ counts) ∙ sym (ap (λ (x : BookState). x.book.entries) r.holds.book))
+    (λ c here. shows_at opening old m pace d tree c r (r.over.stands.each c here)) (leaves_only_start d d.images timed (λ c here. here)))
+  where
+    runs : m.stopped ≡ None
+    runs = machine_runs opening old m pace d tree r
+
+    closed_is : is_closed m ≡ true
+    closed_is = ap is_closed_in r.holds.book ∙ closed
+
+    goes : ((worker_turn m seat Well).state ≡ helped seat m) × GoesOn opening (worker_turn m seat Well).state (pace_after m pace seat kind.WorkerTurn Well) r.fronts tree
+    goes = closed_turn_goes_on opening m pace r.fronts tree seat Well runs closed_is ok r.goes
+
+    at : IsAt (with_book b old) tree (worker_turn m seat Well).state d.bytes
+    at =
+        subst (λ (x : BookState). IsAt (with_book x old) tree (worker_turn m seat Well).state d.bytes) (sym counts)
+        (subst (λ (s : Machine). IsAt (with_book (counted_by true seat machine.Closed 0 old.book) old) tree s d.bytes) (sym goes.0)
+        ((book_lands old tree m d.bytes (record { are_of = r.over.are_of; holds = r.holds })).help seat))

@@ -1,0 +1,16 @@
+use Rattle.std.proofs.Common.{sym, subst}
+use Rattle.gear_sched.specs.declared.Plan.{Plan}
+use Rattle.tree_core.specs.Quanta.{LeavesTaken}
+use Rattle.tree_core.proofs.payment.take.Goals as goal
+
+pub returns-in-Snow-clause-lists : goal.returns-in-Snow-clause-lists
+returns-in-Snow-clause-lists g c = λ tree honest over.
+    let stands = c.pass_quantum.ensures.stands tree honest over in
+    subst (λ (p : Plan). LeavesTaken p c.pass_quantum.result c.args.held.now c.pass_quantum.new.self tree (g.D.Disk.state c.args.disk.now) (g.D.Disk.state c.pass_quantum.new.disk)) (sym c.in-Snow.is)
+    (record { stands = stands.0; each = stands.1; taken = c.pass_quantum.ensures.lists tree honest over })
+
+pub returns-in-Deep-clause-lists : goal.returns-in-Deep-clause-lists
+returns-in-Deep-clause-lists g c = λ tree honest over.
+    let stands = c.deep_quantum.ensures.stands tree honest over in
+    subst (λ (p : Plan). LeavesTaken p c.deep_quantum.result c.args.held.now c.deep_quantum.new.self tree (g.D.Disk.state c.args.disk.now) (g.D.Disk.state c.deep_quantum.new.disk)) (sym c.in-Deep.is)
+    (record { stands = stands.0; each = stands.1; taken = c.deep_quantum.ensures.lists tree honest over })

@@ -1,0 +1,53 @@
+use Rattle.std.proofs.Common.{refl, subst, sym}
+use Rattle.blsm_model.specs.Facts.{Follows}
+use Rattle.disk_trait.specs.Disk.{GoesOn}
+use Rattle.disk_trait.specs.Moments.{goes_on_start}
+use Rattle.seat_book.specs.State.{BookState}
+use Rattle.core_moves.specs.Moves.{with_book}
+use Rattle.tree_machine.specs.Steps.{Left}
+use Rattle.tree_machine.specs.declared.step.Kind.TheVariants as kind
+use Rattle.tree_core.specs.Core.{CoreState, IsCore, HoldsPace, facts_of_held}
+use Rattle.tree_core.specs.Steps.{MovesPace, IsStep}
+use Rattle.tree_core.specs.Standing.{StandsFor}
+use Rattle.tree_core.proofs.BookSteps.{leave_holds, leave_moves, leave_steps, leave_follows}
+use Rattle.tree_core.proofs.LastLemmas.{lasts_by}
+use Rattle.tree_core.proofs.LastLemmas.{may_leave}
+use Rattle.tree_core.proofs.store.Core.leave.Goals as goal
+
+pub invariant_of-self : goal.invariant_of-self
+invariant_of-self g c =
+    let held = c.self.inside.held in
+    let d = g.D.Disk.state c.self.inside.disk in
+    subst (λ (b : BookState). IsCore (with_book b held) d) (sym c.leave.ensures)
+    (record { pace = c.self.invariant.pace; holds = leave_holds c.args.seat held c.self.invariant.pace d c.self.invariant.holds })
+
+pub returns-clause-numbers : goal.returns-clause-numbers
+returns-clause-numbers g c = λ pace.
+    let held = c.self.inside.held in
+    let d = g.D.Disk.state c.self.inside.disk in
+    subst (λ (s : CoreState g.row.D.Denot). HoldsPace s.held pace (g.D.Disk.state s.disk) → MovesPace c.args.seat kind.Leave Left (with_book c.leave.new.self held) d pace) c.self.view_is
+    (λ holds. subst (λ (b : BookState). MovesPace c.args.seat kind.Leave Left (with_book b held) d pace) (sym c.leave.ensures) (leave_moves c.args.seat held pace d holds))
+
+pub returns-clause-steps : goal.returns-clause-steps
+returns-clause-steps g c = λ opening m pace honest stands can.
+    let held = c.self.inside.held in
+    let d = g.D.Disk.state c.self.inside.disk in
+    let stood = subst (λ (s : CoreState g.row.D.Denot). StandsFor opening s.held m pace (g.D.Disk.state s.disk)) (sym c.self.view_is) stands in
+    subst (λ (s : CoreState g.row.D.Denot). IsStep opening c.args.seat kind.Leave Left (with_book c.leave.new.self held) (g.D.Disk.state s.disk) d m pace) c.self.view_is
+    (subst (λ (b : BookState). IsStep opening c.args.seat kind.Leave Left (with_book b held) d d m pace) (sym c.leave.ensures)
+    (leave_steps opening c.args.seat held m pace d (g.met.D.Disk.timed c.self.inside.disk) stood can))
+
+pub returns-clause-follows : goal.returns-clause-follows
+returns-clause-follows g c =
+    let held = c.self.inside.held in
+    subst (λ (s : CoreState g.row.D.Denot). Follows c.args.seat (facts_of_held s.held) (facts_of_held (with_book c.leave.new.self held))) c.self.view_is
+    (subst (λ (b : BookState). Follows c.args.seat (facts_of_held held) (facts_of_held (with_book b held))) (sym c.leave.ensures) (leave_follows c.args.seat held))
+
+pub returns-clause-lasts : goal.returns-clause-lasts
+returns-clause-lasts g c = λ start since.
+    let d = g.D.Disk.state c.self.inside.disk in
+    let pace = c.self.invariant.pace in
+    let holds = subst (λ (s : CoreState g.row.D.Denot). HoldsPace s.held pace (g.D.Disk.state s.disk)) c.self.view_is c.self.invariant.holds in
+    let goes = subst (λ (s : CoreState g.row.D.Denot). GoesOn (g.D.Disk.state s.disk) d) c.self.view_is (goes_on_start d) in
+    lasts_by c.args.seat kind.Leave Left start.held c.args.self.now.held (with_book c.leave.new.self c.self.inside.held) (g.D.Disk.state start.disk) (g.D.Disk.state c.args.self.now.disk) d
+    pace holds (returns-clause-numbers g c pace holds) goes refl (may_leave c.args.seat c.requires) (returns-clause-steps g c) since

@@ -1,0 +1,41 @@
+use Rattle.std.specs.Prelude.{◌≡◌, ℕ, ◌+◌, ◌≤◌, List, [], ◌∷◌, ◌++◌, IsTrue, suc, take, length, slice_index_or}
+use Rattle.std.proofs.Common.{◌∙◌, ap, sym, subst, arith}
+use Rattle.std.proofs.Math.Seq.{take-suc, take-length}
+use Rattle.disk_trait.specs.Moments.{goes_on_start, goes_on_run}
+use Rattle.tree_machine.specs.declared.step.Step.{Step}
+use Rattle.tree_core.specs.Steps.{IsPlayed}
+use Rattle.tree_core.proofs.PlayLemmas.{none_is_played, both_are_played}
+use Rattle.tree_core.proofs.store.Core.play.Goals as goal
+
+one_more : (steps : List Step) (i : ℕ) (step : Step) → i + 1 ≤ length steps → step ≡ slice_index_or steps i step → take (i + 1) steps ≡ take i steps ++ step ∷ []
+one_more steps i step within is =
+    let next : i + 1 ≡ suc i = omega arith in
+    ap (λ (n : ℕ). take n steps) next ∙ take-suc steps i step (omega (arith, within)) ∙ ap (λ (s : Step). take i steps ++ s ∷ []) (sym is)
+
+pub loop-step-init : goal.loop-step-init
+loop-step-init g c = record {
+  played = λ opening m pace honest stands. none_is_played opening c.args.self.now.held (g.D.Disk.state c.args.self.now.disk) m pace (g.met.D.Disk.timed c.args.self.now.disk) stands;
+  lasts = λ start since. since;
+  goes_on = goes_on_start (g.D.Disk.state c.args.self.now.disk);
+}
+
+pub loop-step-preserved : goal.loop-step-preserved
+loop-step-preserved g c = record {
+  played = λ opening m pace honest stands.
+      let first = g.D.Disk.state c.args.self.now.disk in
+      let between = g.D.Disk.state c.loop-step.self.disk in
+      let last = g.D.Disk.state c.try_step.new.self.disk in
+      let one = c.loop-step.invariant.played opening m pace honest stands in
+      let two = c.try_step.ensures.played opening _ _ (subst IsTrue (sym c.loop-step.invariant.goes_on.is_honest) honest) one.stands in
+      subst (λ (steps : List Step). IsPlayed opening steps c.try_step.new.self.held first last m pace)
+      (sym (one_more c.args.steps.now c.loop-step.step-index c.step-item.result (omega (arith, c.loop-step-test.true)) c.step-item.is))
+      (both_are_played opening (take c.loop-step.step-index c.args.steps.now) (c.step-item.result ∷ []) c.loop-step.self.held c.try_step.new.self.held first between last m pace one two);
+  lasts = λ start since. c.try_step.ensures.lasts start (c.loop-step.invariant.lasts start since);
+  goes_on = goes_on_run c.loop-step.invariant.goes_on c.try_step.ensures.goes_on;
+}
+
+pub returns-clause-played : goal.returns-clause-played
+returns-clause-played g c = λ opening m pace honest stands.
+    let all : c.loop-step.step-index ≡ length c.args.steps.now = omega (arith, c.loop-step-test.false, c.loop-step.auto.step-index-end) in
+    subst (λ (steps : List Step). IsPlayed opening steps c.loop-step.self.held (g.D.Disk.state c.args.self.now.disk) (g.D.Disk.state c.loop-step.self.disk) m pace)
+    (ap (λ (n : ℕ). take n c.args.steps.now) all ∙ take-length c.args.steps.now) (c.loop-step.invariant.played opening m pace honest stands)

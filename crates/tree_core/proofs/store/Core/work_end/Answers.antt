@@ -1,0 +1,59 @@
+use Rattle.std.specs.Prelude.{◌≡◌, true}
+use Rattle.std.proofs.Common.{refl, subst, sym}
+use Rattle.blsm_model.specs.Facts.{Follows}
+use Rattle.blsm_model.specs.Stored.{as_reply}
+use Rattle.disk_trait.specs.Disk.{GoesOn}
+use Rattle.disk_trait.specs.Moments.{goes_on_start}
+use Rattle.seat_book.specs.State.{BookState, may_end_in}
+use Rattle.core_moves.specs.Moves.{with_book}
+use Rattle.tree_machine.specs.Steps.{Replied}
+use Rattle.tree_machine.specs.declared.step.Kind.TheVariants as kind
+use Rattle.tree_core.specs.Core.{CoreState, IsCore, HoldsPace, facts_of_held}
+use Rattle.tree_core.specs.Steps.{MovesPace, IsStep}
+use Rattle.tree_core.specs.Standing.{StandsFor}
+use Rattle.tree_core.proofs.BookSteps.{end_holds, end_moves, end_steps, end_follows}
+use Rattle.tree_core.proofs.LastLemmas.{lasts_by}
+use Rattle.tree_core.proofs.store.Core.work_end.Goals as goal
+
+pub invariant_of-self : goal.invariant_of-self
+invariant_of-self g c =
+    let held = c.self.inside.held in
+    let d = g.D.Disk.state c.self.inside.disk in
+    let can = subst (λ (s : CoreState g.row.D.Denot). may_end_in c.args.seat c.args.n s.held.book ≡ true) (sym c.self.view_is) c.requires in
+    subst (λ (b : BookState). IsCore (with_book b held) d) (sym c.end_work.ensures.book)
+    (record { pace = c.self.invariant.pace; holds = end_holds c.args.seat c.args.n held c.self.invariant.pace d c.entries-entries.ensures.places.work can c.self.invariant.holds })
+
+pub returns-clause-numbers : goal.returns-clause-numbers
+returns-clause-numbers g c = λ pace.
+    let held = c.self.inside.held in
+    let d = g.D.Disk.state c.self.inside.disk in
+    let reply = as_reply c.end_work.result in
+    let can = subst (λ (s : CoreState g.row.D.Denot). may_end_in c.args.seat c.args.n s.held.book ≡ true) (sym c.self.view_is) c.requires in
+    subst (λ (s : CoreState g.row.D.Denot). HoldsPace s.held pace (g.D.Disk.state s.disk) → MovesPace c.args.seat (kind.WorkEnd c.args.n) (Replied reply) (with_book c.end_work.new.self held) d pace) c.self.view_is
+    (λ holds. subst (λ (b : BookState). MovesPace c.args.seat (kind.WorkEnd c.args.n) (Replied reply) (with_book b held) d pace) (sym c.end_work.ensures.book)
+    (end_moves c.args.seat c.args.n reply held pace d c.entries-entries.ensures.places.work can holds))
+
+pub returns-clause-steps : goal.returns-clause-steps
+returns-clause-steps g c = λ opening m pace honest stands can.
+    let held = c.self.inside.held in
+    let d = g.D.Disk.state c.self.inside.disk in
+    let reply = as_reply c.end_work.result in
+    let stood = subst (λ (s : CoreState g.row.D.Denot). StandsFor opening s.held m pace (g.D.Disk.state s.disk)) (sym c.self.view_is) stands in
+    subst (λ (s : CoreState g.row.D.Denot). IsStep opening c.args.seat (kind.WorkEnd c.args.n) (Replied reply) (with_book c.end_work.new.self held) (g.D.Disk.state s.disk) d m pace) c.self.view_is
+    (subst (λ (b : BookState). IsStep opening c.args.seat (kind.WorkEnd c.args.n) (Replied reply) (with_book b held) d d m pace) (sym c.end_work.ensures.book)
+    (end_steps opening c.args.seat c.args.n reply held m pace d (g.met.D.Disk.timed c.self.inside.disk) c.end_work.ensures.reply stood can))
+
+pub returns-clause-follows : goal.returns-clause-follows
+returns-clause-follows g c =
+    let held = c.self.inside.held in
+    subst (λ (s : CoreState g.row.D.Denot). Follows c.args.seat (facts_of_held s.held) (facts_of_held (with_book c.end_work.new.self held))) c.self.view_is
+    (subst (λ (b : BookState). Follows c.args.seat (facts_of_held held) (facts_of_held (with_book b held))) (sym c.end_work.ensures.book) (end_follows c.args.seat c.args.n held))
+
+pub returns-clause-lasts : goal.returns-clause-lasts
+returns-clause-lasts g c = λ start since.
+    let d = g.D.Disk.state c.self.inside.disk in
+    let pace = c.self.invariant.pace in
+    let holds = subst (λ (s : CoreState g.row.D.Denot). HoldsPace s.held pace (g.D.Disk.state s.disk)) c.self.view_is c.self.invariant.holds in
+    let goes = subst (λ (s : CoreState g.row.D.Denot). GoesOn (g.D.Disk.state s.disk) d) c.self.view_is (goes_on_start d) in
+    lasts_by c.args.seat (kind.WorkEnd c.args.n) (Replied (as_reply c.end_work.result)) start.held c.args.self.now.held (with_book c.end_work.new.self c.self.inside.held) (g.D.Disk.state start.disk) (g.D.Disk.state c.args.self.now.disk) d
+    pace holds (returns-clause-numbers g c pace holds) goes refl c.requires (returns-clause-steps g c) since

@@ -1,0 +1,46 @@
+-- What the calls answer, in the words of the history and of the machine.
+use Rattle.std.specs.Prelude.{Option, if◌then◌else◌}
+use Rattle.blsm_model.specs.declared.key.Key.{Key}
+use Rattle.blsm_model.specs.declared.row.Value.{Value}
+use Rattle.record_delta.specs.Records.{settled}
+use Rattle.record_delta.specs.Entries.{over_any, record_of_key}
+use Rattle.page_file.specs.Component.{entries_of}
+use Rattle.tree_file.specs.Tree.{Tree}
+use Rattle.core_moves.specs.declared.held.Held.{Held}
+use Rattle.blsm_model.specs.declared.history.Reply.{Reply}
+use Rattle.blsm_model.specs.declared.history.Reply.TheVariants as reply
+use Rattle.tree_machine.specs.Machine as machine
+use Rattle.tree_machine.specs.Steps as steps
+use Rattle.tree_machine.specs.Steps.{Answer, Turn}
+use Rattle.tree_core.specs.declared.answers.Admission.{Admission}
+use Rattle.tree_core.specs.declared.answers.Admission.TheVariants as admission
+use Rattle.tree_core.specs.declared.answers.Payment.{Payment}
+use Rattle.tree_core.specs.declared.answers.Payment.TheVariants as payment
+use Rattle.tree_core.specs.declared.answers.Lookup.{Lookup}
+use Rattle.tree_core.specs.declared.answers.Lookup.TheVariants as lookup
+
+abbrev pub reply_to_write : Admission → Reply
+reply_to_write admission.Admitted = reply.Done
+reply_to_write (admission.Full charge) = reply.Full charge
+reply_to_write (admission.Fault begun) = if begun then reply.FaultUnsure else reply.FaultLost
+reply_to_write (admission.Stopped why) = reply.Stopped why
+
+abbrev pub answer_to_pay : Payment → Answer
+answer_to_pay payment.Paid = steps.Paid
+answer_to_pay payment.Settled = steps.Settled
+answer_to_pay payment.Fault = Turn machine.Failed
+answer_to_pay (payment.Damaged page) = Turn (machine.BadPage page)
+answer_to_pay (payment.Stopped why) = Turn (machine.Halted why)
+
+abbrev pub reply_to_get : Lookup → Reply
+reply_to_get (lookup.Is value) = reply.Is value
+reply_to_get lookup.Absent = reply.Absent
+reply_to_get lookup.Fault = reply.Fault
+reply_to_get (lookup.Damaged page) = reply.Damaged page
+reply_to_get (lookup.Stopped why) = reply.Stopped why
+
+-- what the tables have of a key, over what the components of this tree have of it
+abbrev pub found_in : Key → Held → Tree → Option Value
+found_in key held tree =
+    settled (over_any (over_any (record_of_key key held.log.b.entries) (record_of_key key held.log.a.entries))
+    (over_any (record_of_key key (entries_of tree.c1)) (over_any (record_of_key key (entries_of tree.c1x)) (record_of_key key (entries_of tree.c2)))))

@@ -1,0 +1,117 @@
+-- Why a call answers what it does, on every disk.
+use Rattle.std.specs.Prelude.{◌≡◌, ⊤, ℕ, ◌+◌, ◌<◌, ◌≤◌, Bool, true, false, ◌&&◌, ◌==◌, is_some, None, Some}
+use Rattle.refusal.specs.Count.{HasRisen}
+use Rattle.blsm_model.specs.declared.op.Op.{Op}
+use Rattle.blsm_model.specs.declared.history.Why.TheVariants as why
+use Rattle.blsm_model.specs.declared.history.Reply.TheVariants as reply
+use Rattle.blsm_model.specs.Geometry.{charge_limit}
+use Rattle.blsm_model.specs.Histories.{writes_of}
+use Rattle.blsm_model.specs.Legal.{total_weight}
+use Rattle.disk_trait.specs.Disk.{DiskState}
+use Rattle.gear_sched.specs.declared.Plan.TheVariants.{Nothing}
+use Rattle.pacing.specs.Steps.{Idle}
+use Rattle.tree_machine.specs.Steps.{is_del}
+use Rattle.tree_machine.specs.Machine.{Turned}
+use Rattle.tree_machine.specs.Machine as machine
+use Rattle.seat_book.specs.State.{is_closed_in, noted_in}
+use Rattle.tree_runs.specs.Runs.{left_for_pass, left_for_deep}
+use Rattle.core_moves.specs.declared.held.Held.{Held}
+use Rattle.core_moves.specs.Held.{charge_in}
+use Rattle.core_moves.specs.Moves.{with_book, with_debts_forgiven}
+use Rattle.core_pace.specs.Events.{plan_in}
+use Rattle.core_pace.specs.Turns.{move_in}
+use Rattle.tree_core.specs.declared.answers.Admission.{Admission}
+use Rattle.tree_core.specs.declared.answers.Admission.TheVariants as admission
+use Rattle.tree_core.specs.declared.answers.Lookup.{Lookup}
+use Rattle.tree_core.specs.declared.answers.Lookup.TheVariants as lookup
+use Rattle.tree_core.specs.declared.answers.Payment.{Payment}
+use Rattle.tree_core.specs.declared.answers.Payment.TheVariants as payment
+
+-- the store ran, no call failed, and it runs on
+pub record RanOn (old new : Held) (before after : DiskState) : Type 0 where
+  pub ran : old.book.stopped ≡ None
+  pub runs : new.book.stopped ≡ None
+  pub faults : after.faults ≡ before.faults
+
+-- it ran, and a call of the disk failed: it stops, and names the disk's count
+pub record HasFailed (old new : Held) (before after : DiskState) : Type 0 where
+  pub ran : old.book.stopped ≡ None
+  pub faults : HasRisen before.faults after.faults
+  pub stopped : new.book.stopped ≡ Some (why.Faulted after.faults)
+
+-- it ran, and a page was found damaged: it stops, and names the page
+pub record FoundDamaged (page : ℕ) (old new : Held) (before after : DiskState) : Type 0 where
+  pub ran : old.book.stopped ≡ None
+  pub faults : after.faults ≡ before.faults
+  pub stopped : new.book.stopped ≡ Some (why.BadPage page)
+
+-- A write is full exactly by the charge; a store that is stopped only notes that it is.
+abbrev pub AdmitsBecause : Admission → ℕ → Op → Held → Held → DiskState → DiskState → Type 0
+AdmitsBecause admission.Admitted seat op old new before after = RanOn old new before after × (charge_in old + total_weight (writes_of op) ≤ charge_limit old.runs.sizes (is_del op))
+AdmitsBecause (admission.Full charge) seat op old new before after =
+    (old.book.stopped ≡ None) × (charge ≡ charge_in old) × (charge_limit old.runs.sizes (is_del op) < charge_in old + total_weight (writes_of op))
+    × (new ≡ with_book (noted_in seat op (reply.Full charge) old.book) old)
+AdmitsBecause (admission.Fault begun) seat op old new before after = HasFailed old new before after × (charge_in old + total_weight (writes_of op) ≤ charge_limit old.runs.sizes (is_del op))
+AdmitsBecause (admission.Stopped why) seat op old new before after = (old.book.stopped ≡ Some why) × (new ≡ with_book (noted_in seat op (reply.Stopped why) old.book) old)
+
+-- the disk isn't called where a write is refused, or the store was stopped before
+abbrev pub CallsNone : Admission → Type 0
+CallsNone (admission.Full charge) = ⊤
+CallsNone (admission.Stopped why) = ⊤
+CallsNone _ = ⊥
+
+-- the swaps that an admission begins with: of the deep merge where it is done, and of the pass where it is
+abbrev pub one_where : Bool → ℕ
+one_where true = 1
+one_where false = 0
+
+abbrev pub swaps_due_in : Held → ℕ
+swaps_due_in held =
+    one_where (is_some held.runs.deep && (left_for_deep held.runs.deep == 0)) + one_where (is_some held.runs.pass && (left_for_pass held.runs.pass held.log.a.entries == 0))
+
+-- The append of a write that failed had begun exactly where each of them was committed.
+abbrev pub HasBegun : Admission → Held → Held → Type 0
+HasBegun (admission.Fault true) old new = new.runs.catalogue.version ≡ old.runs.catalogue.version + swaps_due_in old
+HasBegun (admission.Fault false) old new = new.runs.catalogue.version < old.runs.catalogue.version + swaps_due_in old
+HasBegun _ old new = ⊤
+
+-- A payment is settled exactly where nothing is owed once what may be forgiven is.
+abbrev pub PaysBecause : Payment → ℕ → Held → Held → DiskState → DiskState → Type 0
+PaysBecause payment.Paid seat old new before after = RanOn old new before after × (plan_in seat old ≡ Nothing → ⊥)
+PaysBecause payment.Settled seat old new before after = (old.book.stopped ≡ None) × (plan_in seat old ≡ Nothing) × (new ≡ with_debts_forgiven seat old)
+PaysBecause payment.Fault seat old new before after = HasFailed old new before after
+PaysBecause (payment.Damaged page) seat old new before after = FoundDamaged page old new before after
+PaysBecause (payment.Stopped why) seat old new before after = (old.book.stopped ≡ Some why) × (new ≡ old)
+
+-- nor by a payment of nothing
+abbrev pub PaysNone : Payment → Type 0
+PaysNone payment.Settled = ⊤
+PaysNone (payment.Stopped why) = ⊤
+PaysNone _ = ⊥
+
+-- nor by a turn of a store that is stopped, or closed to a worker
+abbrev pub TurnsNone : Turned → Type 0
+TurnsNone machine.Closed = ⊤
+TurnsNone (machine.Halted why) = ⊤
+TurnsNone _ = ⊥
+
+-- A turn idles exactly where there is nothing to do. Only the book of a store that is stopped, or closed to a worker, may change.
+abbrev pub TurnsBecause : Turned → Bool → ℕ → Held → Held → DiskState → DiskState → Type 0
+TurnsBecause machine.Worked is_worker seat old new before after = RanOn old new before after × (move_in is_worker old ≡ Idle → ⊥)
+TurnsBecause machine.Idle is_worker seat old new before after = RanOn old new before after × (move_in is_worker old ≡ Idle)
+TurnsBecause machine.Closed is_worker seat old new before after = (old.book.stopped ≡ None) × (is_worker ≡ true) × (is_closed_in old.book ≡ true) × (new ≡ with_book new.book old)
+TurnsBecause machine.Failed is_worker seat old new before after = HasFailed old new before after
+TurnsBecause (machine.BadPage page) is_worker seat old new before after = FoundDamaged page old new before after
+TurnsBecause (machine.Halted why) is_worker seat old new before after = (old.book.stopped ≡ Some why) × (new ≡ with_book new.book old)
+
+-- the key has a value, or none
+abbrev pub IsFound : Lookup → Type 0
+IsFound (lookup.Is value) = ⊤
+IsFound lookup.Absent = ⊤
+IsFound _ = ⊥
+
+-- what a lookup's answer is due to
+abbrev pub FindsBecause : Lookup → Held → DiskState → DiskState → Type 0
+FindsBecause lookup.Fault old before after = (old.book.stopped ≡ None) × HasRisen before.faults after.faults
+FindsBecause (lookup.Stopped why) old before after = (old.book.stopped ≡ Some why) × (after.faults ≡ before.faults)
+FindsBecause _ old before after = (old.book.stopped ≡ None) × (after.faults ≡ before.faults)

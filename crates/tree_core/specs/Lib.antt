@@ -1,0 +1,9 @@
+pub mod Core
+pub mod Parts
+pub mod Standing
+pub mod Answers
+pub mod Causes
+pub mod Steps
+pub mod Taking
+pub mod Quanta
+pub mod Turning

@@ -1,0 +1,161 @@
+//! Writes are admitted.
+ghost use Rattle.std.specs.Prelude.{◌≡◌, ◌+◌, ◌<◌, ◌^◌, ℕ, List, if◌then◌else◌, None, [], ◌∷◌, IsTrue};
+ghost use Rattle.blsm_model.specs.declared.key.Key.{Key};
+ghost use Rattle.blsm_model.specs.declared.row.Value.{Value};
+ghost use Rattle.blsm_model.specs.Stored.{as_reply};
+ghost use Rattle.blsm_model.specs.declared.history.Reply.TheVariants.{FaultLost, FaultUnsure};
+ghost use Rattle.blsm_model.specs.Facts.{Follows};
+ghost use Rattle.blsm_model.specs.Geometry.{file_length};
+ghost use Rattle.blsm_model.specs.Histories.{writes_of};
+ghost use Rattle.blsm_model.specs.Legal.{is_write, total_weight};
+ghost use Rattle.blsm_model.specs.Values.{added_count, key_of as key_of_write};
+ghost use Rattle.disk_trait.specs.Effects.{Affects};
+ghost use Rattle.gear_sched.specs.Gears.{first_debt, second_debt};
+ghost use Rattle.pacing.specs.Pace.{Pace};
+ghost use Rattle.record_delta.specs.Records.{record_of};
+ghost use Rattle.seat_book.specs.State.{may_note_in};
+ghost use Rattle.tree_machine.specs.declared.step.Kind.TheVariants as kind;
+ghost use Rattle.tree_machine.specs.Machine.{Machine};
+ghost use Rattle.tree_machine.specs.Plays.{may};
+ghost use Rattle.tree_machine.specs.Stands.{WritesFit};
+ghost use Rattle.tree_machine.specs.Steps.{is_del, Replied};
+ghost use Rattle.core_moves.specs.Needs.{anywhere};
+ghost use Rattle.core_pace.specs.Events.{MayWrite};
+ghost use Rattle.tree_core.specs.Answers.{reply_to_write};
+ghost use Rattle.tree_core.specs.Causes.{AdmitsBecause, CallsNone, HasBegun};
+ghost use Rattle.tree_core.specs.Core.{CoreState, HoldsPace, facts_of_held};
+ghost use Rattle.tree_core.specs.Standing.{StandsFor};
+ghost use Rattle.tree_core.specs.Steps.{MovesPace, IsStep, StandsSince};
+ghost use Rattle.tree_core.specs.Taking.{Runs, Takes, TakesOver, TellsTaking};
+
+use crate::settling::{settle_deep, settle_pass};
+use crate::{Admission, Core};
+use blsm_model::{Key, Op, ShortReply, Why, Write};
+use core_moves::Held;
+use disk_trait::Disk;
+use record_delta::Rec;
+
+// How a write was taken: it is in the tree; or a call of the disk failed, before its append had begun or after.
+enum Taking {
+    Taken,
+    Failed { begun: bool },
+}
+
+// Takes a command's write that there is room for: the swaps that are due, a begin where it is due, the append.
+fn take<D: Disk>(held: &mut Held, disk: &mut D, seat: u32, op: &Op, write: &Write) -> Taking
+    requires runs { Runs held.old (D.state disk.old) }
+    requires is_write { IsTrue (is_write op.now) }
+    requires write { writes_of op.now ≡ write.now ∷ [] }
+    requires may { MayWrite seat (total_weight (writes_of op.now)) op.now held.old }
+    ensures takes { Takes result seat (key_of_write write.now) (record_of write.now) held.old held.new (D.state disk.new) }
+    ensures lists { (opening : List (Key × Value)) (m : Machine) (pace : Pace) → IsTrue (D.state disk.old).is_honest → StandsFor opening held.old m pace (D.state disk.old)
+        → held.old.book.stopped ≡ None → IsTrue (may m seat (kind.Admit op.now)) → WritesFit (kind.Admit op.now)
+        → TakesOver result opening seat op.now m pace held.new (D.state disk.old) (D.state disk.new) }
+    ensures effect { Affects anywhere (file_length held.old.runs.sizes) 22 (D.state disk.old) (D.state disk.new) }
+    ensures faults { TellsTaking result (D.state disk.old) (D.state disk.new) }
+{
+    let rec = Rec::of_write(write);
+    if settle_deep(held, disk).is_err() {
+        return Taking::Failed { begun: false };
+    }
+    if settle_pass(held, disk).is_err() {
+        return Taking::Failed { begun: false };
+    }
+    held.begin_for(op.weight());
+    match held.write(disk, seat, key_of(write), &rec) {
+        Ok(()) => Taking::Taken,
+        Err(_) => Taking::Failed { begun: true },
+    }
+}
+
+// The key of a write.
+fn key_of(write: &Write) -> &Key
+    ensures { result.now ≡ key_of_write write.now }
+{
+    match write {
+        Write::Put(key, _) | Write::Add(key, _) | Write::Del(key) => key,
+    }
+}
+
+// The write that a command asks for, as `Op::write` has it. What it adds to a count is a number of 64 bits.
+fn write_of(op: &Op) -> Write
+    requires { IsTrue (is_write op.now) }
+    ensures write { writes_of op.now ≡ result ∷ [] }
+    ensures fits { added_count result < 2 ^ 64 }
+{
+    match op {
+        Op::Put(key, value) => Write::Put(key.copy(), value.copy()),
+        Op::Add(key, count) => Write::Add(key.copy(), *count),
+        Op::Del(key) => Write::Del(key.copy()),
+        _ => unreachable!(),
+    }
+}
+
+// Whether it is a del, which may fill the tree.
+fn is_del(op: &Op) -> bool
+    ensures { result ≡ is_del op.now }
+{
+    matches!(op, Op::Del(_))
+}
+
+// The reply of a write that failed.
+fn failed(begun: bool) -> ShortReply
+    ensures { as_reply result ≡ (if begun then FaultUnsure else FaultLost) }
+{
+    if begun {
+        ShortReply::FaultUnsure
+    } else {
+        ShortReply::FaultLost
+    }
+}
+
+impl<D: Disk + Drop> Core<D> {
+    /// Admits a write, or refuses it for its size: swaps in the merges that are done, begins a pass where it is due, and appends the write.
+    /// The caller owes merge work for it then. It notes one entry.
+    ///
+    /// The caller must owe nothing, unless the store is stopped, and have room for the entry and no open work.
+    pub fn admit(&mut self, seat: u32, op: &Op) -> Admission
+        requires write { IsTrue (is_write op.now) }
+        requires note { IsTrue (may_note_in seat 0 self.old.held.book) }
+        requires even { self.old.held.book.stopped ≡ None → first_debt self.old.held.gears seat + second_debt self.old.held.gears seat ≡ 0 }
+        ensures numbers { (pace : Pace) → HoldsPace self.old.held pace (D.state self.old.disk)
+            → MovesPace seat (kind.Admit op.now) (Replied (reply_to_write result)) self.new.held (D.state self.new.disk) pace }
+        ensures steps { (opening : List (Key × Value)) (m : Machine) (pace : Pace) → IsTrue (D.state self.old.disk).is_honest
+            → StandsFor opening self.old.held m pace (D.state self.old.disk) → IsTrue (may m seat (kind.Admit op.now))
+            → IsStep opening seat (kind.Admit op.now) (Replied (reply_to_write result)) self.new.held (D.state self.old.disk) (D.state self.new.disk) m pace }
+        ensures cause { AdmitsBecause result seat op.now self.old.held self.new.held (D.state self.old.disk) (D.state self.new.disk) }
+        ensures begun { HasBegun result self.old.held self.new.held }
+        ensures effect { Affects anywhere (file_length self.old.held.runs.sizes) 22 (D.state self.old.disk) (D.state self.new.disk) }
+        ensures follows { Follows seat (facts_of_held self.old.held) (facts_of_held self.new.held) }
+        ensures lasts { (start : CoreState D) → StandsSince start.held self.old.held (D.state start.disk) (D.state self.old.disk)
+            → StandsSince start.held self.new.held (D.state start.disk) (D.state self.new.disk) }
+        ensures untouched { CallsNone result → self.new.disk ≡ self.old.disk }
+    {
+        let write = write_of(op);
+        let weight = op.weight();
+        if let Some(why) = self.held.book.stopped() {
+            self.held
+                .book
+                .note(seat, op.copy(), ShortReply::Stopped(why));
+            return Admission::Stopped(why);
+        }
+        let charge = self.charge();
+        if !self.geometry().admits(is_del(op), charge, weight) {
+            self.held
+                .book
+                .note(seat, op.copy(), ShortReply::Full(charge));
+            return Admission::Full(charge);
+        }
+        match take(&mut self.held, &mut self.disk, seat, op, &write) {
+            Taking::Taken => {
+                self.held.book.note(seat, op.copy(), ShortReply::Done);
+                Admission::Admitted
+            }
+            Taking::Failed { begun } => {
+                self.held.book.stop(Why::Faulted(self.disk.faults()));
+                self.held.book.note(seat, op.copy(), failed(begun));
+                Admission::Fault { begun }
+            }
+        }
+    }
+}

@@ -1,0 +1,18 @@
+//! The core of a tree: the whole store as one value over any disk. Each of its calls is one atomic step of one seat.
+#![tactic(auto)]
+
+mod admission;
+mod answers;
+mod assembly;
+mod ending;
+mod lock;
+mod lookup;
+mod payment;
+mod play;
+mod settling;
+mod store;
+mod turns;
+
+pub use answers::{Admission, Lookup, Payment};
+pub use assembly::Parts;
+pub use store::Core;

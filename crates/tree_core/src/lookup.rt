@@ -1,0 +1,114 @@
+//! Lookups.
+ghost use Rattle.std.specs.Prelude.{◌≡◌, ◌≢◌, ◌+◌, ◌<◌, ◌^◌, ℕ, List, None, IsTrue};
+ghost use Rattle.blsm_model.specs.declared.key.Key.{Key};
+ghost use Rattle.blsm_model.specs.declared.row.Value.{Value};
+ghost use Rattle.blsm_model.specs.declared.op.Op.TheVariants.{Get};
+ghost use Rattle.blsm_model.specs.Facts.{Follows};
+ghost use Rattle.blsm_model.specs.Geometry.{file_length};
+ghost use Rattle.blsm_model.specs.Stored.{as_reply};
+ghost use Rattle.disk_trait.specs.Reads.{OnlyReads};
+ghost use Rattle.pacing.specs.Pace.{Pace};
+ghost use Rattle.record_delta.specs.Records.{settled};
+ghost use Rattle.seat_book.specs.State.{may_note_in, noted_in};
+ghost use Rattle.tree_machine.specs.declared.step.Kind.TheVariants as kind;
+ghost use Rattle.tree_machine.specs.Machine.{Machine};
+ghost use Rattle.tree_machine.specs.Plays.{may};
+ghost use Rattle.tree_machine.specs.Steps.{Replied};
+ghost use Rattle.blsm_model.specs.Histories.{answer_to_get};
+ghost use Rattle.tree_file.specs.Tree.{Tree, HoldsTree};
+ghost use Rattle.core_moves.specs.Moves.{with_book};
+ghost use Rattle.core_moves.specs.Needs.{IsOn};
+ghost use Rattle.tree_core.specs.Answers.{reply_to_get};
+ghost use Rattle.tree_core.specs.Causes.{FindsBecause, IsFound};
+ghost use Rattle.tree_core.specs.declared.answers.Lookup.TheVariants as lookup;
+ghost use Rattle.tree_core.specs.Answers.{found_in};
+ghost use Rattle.tree_core.specs.Core.{CoreState, HoldsPace, facts_of_held};
+ghost use Rattle.tree_core.specs.Standing.{StandsFor};
+ghost use Rattle.tree_core.specs.Steps.{MovesPace, IsStep, StandsSince};
+
+use crate::{Core, Lookup};
+use blsm_model::{Key, Op, ShortReply};
+use core_moves::Held;
+use disk_trait::Disk;
+use page_file::Broken;
+use record_delta::{Rec, settle};
+use tree_runs::others_may_write;
+
+// What a record answers, which was found or not.
+fn answer(rec: Option<Rec>) -> Lookup
+    ensures is_found { IsFound result }
+    ensures reply { reply_to_get result ≡ answer_to_get (settled rec) }
+{
+    let value = match rec {
+        Some(rec) => settle(rec),
+        None => None,
+    };
+    match value {
+        Some(value) => Lookup::Is(value),
+        None => Lookup::Absent,
+    }
+}
+
+// The reply that the history keeps.
+fn reply_of(lookup: &Lookup) -> ShortReply
+    ensures { as_reply result ≡ reply_to_get lookup.now }
+{
+    match lookup {
+        Lookup::Is(value) => ShortReply::Is(value.copy()),
+        Lookup::Absent => ShortReply::Absent,
+        Lookup::Fault => ShortReply::Fault,
+        Lookup::Damaged(page) => ShortReply::Damaged(*page),
+        Lookup::Stopped(why) => ShortReply::Stopped(*why),
+    }
+}
+
+// What the tables and the components have of the key.
+fn look_up<D: Disk>(held: &Held, disk: &mut D, key: &Key) -> Lookup
+    requires on { held.now.book.stopped ≡ None → IsOn held.now (D.state disk.old) }
+    ensures cause { FindsBecause result held.now (D.state disk.old) (D.state disk.new) }
+    ensures value { (tree : Tree) → IsTrue (D.state disk.old).is_honest → HoldsTree held.now.runs.sizes tree (D.state disk.old).bytes → tree.catalogue ≡ held.now.runs.catalogue
+        → held.now.book.stopped ≡ None → result ≢ lookup.Fault → reply_to_get result ≡ answer_to_get (found_in key.now held.now tree) }
+    ensures counted { result ≡ lookup.Fault → (D.state disk.new).faults < 2 ^ 64 }
+    ensures reads { OnlyReads (file_length held.now.runs.sizes)
+        (held.now.runs.catalogue.c1.pages + held.now.runs.catalogue.c1x.pages + held.now.runs.catalogue.c2.pages) (D.state disk.old) (D.state disk.new) }
+{
+    if let Some(why) = held.book.stopped() {
+        return Lookup::Stopped(why);
+    }
+    let newer = held.log.get(key);
+    match held.runs.find(disk, key, newer) {
+        Ok(rec) => answer(rec),
+        Err(Broken::Fault) => {
+            // The disk's count is a number of 64 bits.
+            let _faults = disk.faults();
+            Lookup::Fault
+        }
+        Err(Broken::Damaged(page)) => Lookup::Damaged(page),
+    }
+}
+
+impl<D: Disk + Drop> Core<D> {
+    /// Looks a key up. It notes one entry; a lookup that fails doesn't stop the store.
+    pub fn get(&mut self, seat: u32, key: &Key) -> Lookup
+        requires { IsTrue (may_note_in seat 0 self.old.held.book) }
+        ensures numbers { (pace : Pace) → HoldsPace self.old.held pace (D.state self.old.disk)
+            → MovesPace seat (kind.Get key.now) (Replied (reply_to_get result)) self.new.held (D.state self.new.disk) pace }
+        ensures steps { (opening : List (Key × Value)) (m : Machine) (pace : Pace) → IsTrue (D.state self.old.disk).is_honest
+            → StandsFor opening self.old.held m pace (D.state self.old.disk) → IsTrue (may m seat (kind.Get key.now))
+            → IsStep opening seat (kind.Get key.now) (Replied (reply_to_get result)) self.new.held (D.state self.old.disk) (D.state self.new.disk) m pace }
+        ensures cause { FindsBecause result self.old.held (D.state self.old.disk) (D.state self.new.disk) }
+        ensures held { self.new.held ≡ with_book (noted_in seat (Get key.now) (reply_to_get result) self.old.held.book) self.old.held }
+        ensures reads { OnlyReads (file_length self.old.held.runs.sizes)
+            (self.old.held.runs.catalogue.c1.pages + self.old.held.runs.catalogue.c1x.pages + self.old.held.runs.catalogue.c2.pages) (D.state self.old.disk) (D.state self.new.disk) }
+        ensures follows { Follows seat (facts_of_held self.old.held) (facts_of_held self.new.held) }
+        ensures lasts { (start : CoreState D) → StandsSince start.held self.old.held (D.state start.disk) (D.state self.old.disk)
+            → StandsSince start.held self.new.held (D.state start.disk) (D.state self.new.disk) }
+    {
+        others_may_write();
+        let found = look_up(&self.held, &mut self.disk, key);
+        self.held
+            .book
+            .note(seat, Op::Get(key.copy()), reply_of(&found));
+        found
+    }
+}

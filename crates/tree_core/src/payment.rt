@@ -1,0 +1,94 @@
+//! Callers pay for their writes.
+ghost use Rattle.std.specs.Prelude.{◌≡◌, ◌<◌, ◌+◌, ◌/◌, ℕ, List, Err, IsErr, IfOk, OnOk, IsTrue};
+ghost use Rattle.blsm_model.specs.declared.key.Key.{Key};
+ghost use Rattle.blsm_model.specs.declared.row.Value.{Value};
+ghost use Rattle.blsm_model.specs.Facts.{Follows};
+ghost use Rattle.blsm_model.specs.Format.{callers};
+ghost use Rattle.blsm_model.specs.Geometry.{file_length};
+ghost use Rattle.disk_trait.specs.Disk.{TellsFaultsBy};
+ghost use Rattle.disk_trait.specs.Effects.{Affects};
+ghost use Rattle.pacing.specs.Pace.{Pace};
+ghost use Rattle.tree_machine.specs.declared.step.Kind.TheVariants as kind;
+ghost use Rattle.tree_machine.specs.Machine.{Machine};
+ghost use Rattle.tree_machine.specs.Plays.{may};
+ghost use Rattle.tree_file.specs.Tree.{Tree};
+ghost use Rattle.tree_runs.specs.Holding.{StandOver};
+ghost use Rattle.core_moves.specs.Needs.{IsOn, IsReady, anywhere};
+ghost use Rattle.core_moves.specs.Moves.{KeepsAllButMerges};
+ghost use Rattle.core_pace.specs.Events.{TakesByPlan};
+ghost use Rattle.tree_core.specs.Answers.{answer_to_pay};
+ghost use Rattle.tree_core.specs.Causes.{PaysBecause, PaysNone};
+ghost use Rattle.tree_core.specs.Core.{CoreState, HoldsPace, facts_of_held};
+ghost use Rattle.tree_core.specs.Quanta.{MayTake, LeavesTaken};
+ghost use Rattle.tree_core.specs.Standing.{StandsFor};
+ghost use Rattle.tree_core.specs.Steps.{MovesPace, IsStep, StandsSince};
+
+use crate::{Core, Payment};
+use blsm_model::Why;
+use core_lists::payments_land;
+use core_moves::Held;
+use disk_trait::Disk;
+use gear_sched::Plan;
+use page_file::Broken;
+
+// The caller's quantum of the merge that is planned.
+fn take<D: Disk>(held: &mut Held, disk: &mut D, seat: u32, plan: Plan) -> Result<u64, Broken>
+    requires seat { seat < callers }
+    requires runs { MayTake plan held.old }
+    requires ready { IsReady held.old (D.state disk.old) }
+    ensures lists { (tree : Tree) → IsTrue (D.state disk.old).is_honest → StandOver held.old.runs tree held.old.log.a.entries (D.state disk.old)
+        → LeavesTaken plan result held.old held.new tree (D.state disk.old) (D.state disk.new) }
+    ensures takes { IfOk result (λ n. TakesByPlan plan seat n held.old held.new) }
+    ensures on { OnOk result (IsOn held.new (D.state disk.new)) }
+    ensures kept { KeepsAllButMerges (IsErr result) held.old held.new }
+    ensures effect { Affects anywhere (file_length held.old.runs.sizes) (held.old.runs.sizes.quantum / 4 + 3) (D.state disk.old) (D.state disk.new) }
+    ensures faults { TellsFaultsBy (Err Broken.Fault) result (D.state disk.old) (D.state disk.new) }
+{
+    match plan {
+        Plan::Snow => held.pass_quantum(disk, seat),
+        Plan::Deep => held.deep_quantum(disk, seat),
+        Plan::Nothing => unreachable!(),
+    }
+}
+
+impl<D: Disk + Drop> Core<D> {
+    /// Does at most one merge quantum for what the caller owes, once what may be forgiven of it is forgiven. The quantum counts for the
+    /// entry of the caller's last write.
+    pub fn pay(&mut self, seat: u32) -> Payment
+        requires { seat < callers }
+        ensures numbers { (pace : Pace) → HoldsPace self.old.held pace (D.state self.old.disk)
+            → MovesPace seat kind.Pay (answer_to_pay result) self.new.held (D.state self.new.disk) pace }
+        ensures steps { (opening : List (Key × Value)) (m : Machine) (pace : Pace) → IsTrue (D.state self.old.disk).is_honest
+            → StandsFor opening self.old.held m pace (D.state self.old.disk) → IsTrue (may m seat kind.Pay)
+            → IsStep opening seat kind.Pay (answer_to_pay result) self.new.held (D.state self.old.disk) (D.state self.new.disk) m pace }
+        ensures cause { PaysBecause result seat self.old.held self.new.held (D.state self.old.disk) (D.state self.new.disk) }
+        ensures effect { Affects anywhere (file_length self.old.held.runs.sizes) (self.old.held.runs.sizes.quantum / 4 + 3) (D.state self.old.disk) (D.state self.new.disk) }
+        ensures follows { Follows seat (facts_of_held self.old.held) (facts_of_held self.new.held) }
+        ensures lasts { (start : CoreState D) → StandsSince start.held self.old.held (D.state start.disk) (D.state self.old.disk)
+            → StandsSince start.held self.new.held (D.state start.disk) (D.state self.new.disk) }
+        ensures untouched { PaysNone result → self.new.disk ≡ self.old.disk }
+    {
+        if let Some(why) = self.held.book.stopped() {
+            return Payment::Stopped(why);
+        }
+        let plan = self.held.plan(seat);
+        if let Plan::Nothing = plan {
+            return Payment::Settled;
+        }
+        match take(&mut self.held, &mut self.disk, seat, plan) {
+            Ok(_) => {
+                payments_land();
+                self.held.book.count_for_write(seat);
+                Payment::Paid
+            }
+            Err(Broken::Fault) => {
+                self.held.book.stop(Why::Faulted(self.disk.faults()));
+                Payment::Fault
+            }
+            Err(Broken::Damaged(page)) => {
+                self.held.book.stop(Why::BadPage(page));
+                Payment::Damaged(page)
+            }
+        }
+    }
+}

@@ -1,0 +1,62 @@
+//! The store as one value.
+ghost use Rattle.std.specs.Prelude.{◌≡◌};
+ghost use Rattle.blsm_model.specs.Geometry.{high_mark};
+ghost use Rattle.seat_book.specs.State.{totals_in};
+ghost use Rattle.core_moves.specs.Held.{charge_in};
+ghost use Rattle.tree_core.specs.Core.{IsCore};
+
+use blsm_model::{Annals, Geometry, Totals};
+use core_moves::Held;
+use disk_trait::Disk;
+use std::marker::Model;
+
+/// The whole store: the disk, and what it has in memory. Seats are numbered from 0: callers below 16, and then eight workers.
+///
+/// A step whose call of the disk fails, or that finds a damaged page, stops the store, but for a lookup; each later call answers the cause
+/// and changes nothing but the book.
+#[derive(Drop)]
+pub struct Core<D: Disk + Drop> {
+    pub(crate) disk: D,
+    pub(crate) held: Held,
+}
+
+impl<D: Disk + Drop> Model for Core<D> {
+    ghost use Rattle.tree_core.specs.Core.{CoreState, IsCore};
+
+    ghost Value = { CoreState D };
+
+    ghost view = { λ c. record { disk = c.disk; held = c.held } };
+
+    ghost invariant = { λ c. IsCore c.held (D.state c.disk) };
+}
+
+impl<D: Disk + Drop> Core<D> {
+    /// The geometry of the store.
+    pub fn geometry(&self) -> Geometry
+        ensures { result ≡ self.now.held.runs.sizes }
+    {
+        self.held.runs.geometry()
+    }
+
+    /// The charge, in bytes: what the components weigh, and what the memory table counts.
+    pub fn charge(&self) -> u64
+        ensures charge { result ≡ charge_in self.now.held }
+        // What its type keeps on every disk.
+        ensures kept { IsCore self.now.held (D.state self.now.disk) }
+    {
+        self.held.charge()
+    }
+
+    /// The disk, the history, and the numbers of the run, when it is over.
+    pub fn end(self) -> (D, Annals, Totals)
+        ensures disk { result.0 ≡ self.disk }
+        ensures annals { result.1 ≡ self.held.book.book }
+        ensures totals { result.2 ≡ totals_in (high_mark self.held.runs.sizes) (charge_in self.held) self.held.book }
+    {
+        let totals = self
+            .held
+            .book
+            .totals(self.geometry().high_mark(), self.charge());
+        (self.disk, self.held.book.into_annals(), totals)
+    }
+}
