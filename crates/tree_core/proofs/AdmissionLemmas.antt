@@ -1,11 +1,10 @@
 -- What an admission makes of the numbers, on every disk.
-use Rattle.std.specs.Prelude.{◌<◌, ◌*◌, ◌^◌}
-use Rattle.std.proofs.Common.{◌≡◌, ◌∙◌, ⊎_elim, inl, inr, ℕ, ◌+◌, ◌≤◌, Bool, true, false, cond, [], ◌∷◌, None, Some, Option, refl, ap, sym, subst, arith}
+use Rattle.std.specs.Prelude.{◌<◌}
+use Rattle.std.proofs.Common.{◌≡◌, ◌∙◌, ⊎_elim, inl, inr, ℕ, ◌+◌, ◌≤◌, Bool, true, false, cond, [], ◌∷◌, None, Some, Option, refl, ap, sym, subst}
 use Rattle.std.proofs.lemmas.Bool.{false≢true, cases_lt}
 use Rattle.std.proofs.lemmas.Option.{none-some}
-use Rattle.blsm_model.specs.Geometry.{capacity, charge_limit}
-use Rattle.blsm_model.specs.Sizes.{Sizes, IsGeometry}
-use Rattle.blsm_model.proofs.GeometryLemmas.{by_half, by_ratio}
+use Rattle.blsm_model.specs.Geometry.{charge_limit}
+use Rattle.blsm_model.specs.Sizes.{Sizes}
 use Rattle.blsm_model.specs.Book.{Book, HasRoom}
 use Rattle.blsm_model.specs.declared.key.Key.{Key}
 use Rattle.blsm_model.specs.declared.op.Op.{Op}
@@ -45,19 +44,6 @@ use Rattle.tree_core.proofs.TakingLemmas.{begun_keeps, weighs}
 
 charge_of : (held : Held) (pace : Pace) → HasPace held pace → charge pace ≡ charge_in held
 charge_of held pace p = cc (p.c1, p.c1x, p.c2, p.gears, p.a, p.b)
-
--- a capacity is a small number
-capacity_small : (sizes : Sizes) → IsGeometry sizes → capacity sizes ≤ 2 ^ 34
-capacity_small sizes geometry =
-    let half = by_half sizes.ratio sizes.half (omega (arith, geometry.ratio)) (omega (arith, geometry.half)) in
-    let whole = by_ratio sizes.ratio (sizes.ratio * sizes.half) (omega (arith, geometry.ratio)) (omega (arith, half)) in
-    omega (arith, half, whole)
-
--- and so is the charge
-pub charge_fits : (held : Held) (pace : Pace) (d : DiskState) → HoldsPace held pace d → charge_in held < 2 ^ 64
-charge_fits held pace d holds =
-    let within = holds.told.told.paced.within in
-    omega (arith, holds.told.charge_is, within.full, capacity_small pace.gears.sizes within.sizes)
 
 -- ---- what is told, with another book
 

@@ -1,8 +1,8 @@
 -- An admission is one step of the machine, on an honest disk.
 use Rattle.std.specs.Prelude.{is_some, IsSome, nat_lt, ◌==◌, ◌^◌, ◌<◌}
 use Rattle.std.specs.List.{AllByRecursion}
-use Rattle.std.proofs.Common.{◌≡◌, ◌∙◌, ⊎_elim, inl, inr, ℕ, ◌+◌, ◌≤◌, Bool, true, false, cond, not, ◌&&◌, IsTrue, None, Some, Option, List, [], ◌∷◌, ◌++◌, length, length-append, refl, ap, sym, subst, arith}
-use Rattle.std.proofs.lemmas.Bool.{false≢true, cases_lt, lt-ltb}
+use Rattle.std.proofs.Common.{◌≡◌, ◌∙◌, ⊎_elim, inr, ℕ, ◌+◌, ◌≤◌, Bool, true, false, cond, not, ◌&&◌, IsTrue, None, Some, Option, List, [], ◌∷◌, ◌++◌, length, length-append, refl, ap, sym, subst, arith}
+use Rattle.std.proofs.lemmas.Bool.{false≢true, lt-ltb}
 use Rattle.std.proofs.lemmas.Option.{none-some}
 use Rattle.refusal.specs.Count.{HasRisen}
 use Rattle.blsm_model.specs.Sizes.{Sizes}
@@ -35,7 +35,7 @@ use Rattle.tree_machine.specs.declared.step.Kind.TheVariants as kind
 use Rattle.tree_machine.specs.Machine.{Machine, charge, deep_done, pass_done, pass_is_done}
 use Rattle.tree_machine.specs.Merges.{Merge}
 use Rattle.tree_machine.specs.Moves.{note, stop, swap_deep, with_peak}
-use Rattle.tree_machine.specs.Outcomes.{IsPossible, Rose, calls, is_broken}
+use Rattle.tree_machine.specs.Outcomes.{IsPossible, calls, is_broken}
 use Rattle.tree_machine.specs.Plays.{may}
 use Rattle.tree_machine.specs.Stands.{WritesFit}
 use Rattle.tree_machine.specs.Steps.{Outcome, Well, FailedAfter, Stepped, Replied, admit, admit_fitting, deep_swapped, is_del, one_if, ready_for, replied, swaps_due, taken_once, unless_stopped}
@@ -59,6 +59,7 @@ use Rattle.tree_core.specs.Standing.{RunsOver, HasStopped, StandsFor}
 use Rattle.tree_core.specs.Steps.{IsStep}
 use Rattle.tree_core.specs.Taking.{TellsOf, TakenOver, HasLost, TakesOver}
 use Rattle.tree_core.specs.declared.admission.Taking.TheVariants.{Failed}
+use Rattle.tree_core.proofs.BoundLemmas.{rose}
 use Rattle.tree_core.proofs.TakingLists.{tells_of}
 
 -- a command's write fits the format
@@ -66,10 +67,6 @@ pub write_fits : (op : Op) (write : Write) → writes_of op ≡ write ∷ [] →
 write_fits op write writes counts light heavy =
     let weighs = writes_once op write [] writes in
     subst (λ (ws : List Write). AllByRecursion (λ w. (added_count w < 2 ^ 64) × (weight_of w ≤ most_weight) × (least_weight ≤ weight_of w)) ws) (sym writes) ((counts, subst (λ (n : ℕ). n ≤ most_weight) weighs heavy, subst (λ (n : ℕ). least_weight ≤ n) weighs light), tt)
-
--- the count rose, by what the disk tells
-pub rose_of : (old new : ℕ) → old ≤ new → new < 2 ^ 64 → HasRisen old new → Rose old new
-rose_of old new order small risen = ⊎_elim (λ below. inl below) (λ past. inr (omega (arith, order, small, risen, past), omega (arith, order, small, risen, past))) (cases_lt old new)
 
 -- ---- what the next state shows
 
@@ -301,7 +298,7 @@ module _ (opening : List (Key × Value)) (seat : ℕ) (op : Op) (held : Held) (m
         fails_by reply commits later same few left_tells sizes book each reads images =
             step_by (FailedAfter commits after.faults) reply (note seat op reply (stop why later)) (stopped reply) after
             (admission_fits m seat op (FailedAfter commits after.faults) runs room_here ∙ same)
-            (calls_here, few, rose_of d.faults after.faults order small risen, refl) refl (stopped_tells seat op reply why left later left_tells)
+            (calls_here, few, rose d.faults after.faults order small risen, refl) refl (stopped_tells seat op reply why left later left_tells)
             (λ (still : Some why ≡ None). absurd (none-some why (sym still)))
             (λ some. record { reads = shows_after opening seat op m reply why later after.bytes sizes book reads; each = λ c here. shows_after opening seat op m reply why later c sizes book (each c here) })
             (images_after opening seat op m reply later d after book images)

@@ -1,6 +1,9 @@
 -- The numbers of a core fit 64 bits, also once it is stopped.
-use Rattle.std.specs.Prelude.{◌<◌, ◌^◌, sum}
-use Rattle.std.proofs.Common.{arith}
+use Rattle.std.specs.Prelude.{ℕ, ◌<◌, ◌≤◌, ◌^◌, sum}
+use Rattle.std.proofs.Common.{⊎_elim, inl, inr, arith}
+use Rattle.std.proofs.lemmas.Bool.{cases_lt}
+use Rattle.refusal.specs.Count.{HasRisen}
+use Rattle.tree_machine.specs.Outcomes.{Rose}
 use Rattle.pacing.specs.Pace.{Pace}
 use Rattle.core_moves.specs.declared.held.Held.{Held}
 use Rattle.core_moves.specs.Held.{charge_in}
@@ -12,3 +15,7 @@ charge_fits held pace t = omega (arith, t.charge_is, t.told.paced.within.full, c
 
 pub quanta_fit : (held : Held) (pace : Pace) → IsTold held pace → sum held.book.seats.quanta < 2 ^ 64
 quanta_fit held pace t = omega (arith, t.told.booked.worked, work_is_small held.book pace t.told)
+
+-- a count that has risen, or stands at its last value
+pub rose : (old new : ℕ) → old ≤ new → new < 2 ^ 64 → HasRisen old new → Rose old new
+rose old new order small risen = ⊎_elim (λ below. inl below) (λ past. inr (omega (arith, order, small, risen, past), omega (arith, order, small, risen, past))) (cases_lt old new)

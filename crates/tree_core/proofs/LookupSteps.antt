@@ -1,8 +1,6 @@
 -- A lookup is a step that only reads, and notes what it found.
 use Rattle.std.specs.Prelude.{◌≡◌, ◌≢◌, ℕ, ◌<◌, ◌≤◌, ◌^◌, true, false, List, [], ◌∷◌, ◌++◌, Option, None, IsTrue, is_some, length, not, ◌&&◌}
-use Rattle.std.proofs.Common.{◌∙◌, ⊎_elim, inl, inr, refl, ap, sym, subst, arith}
-use Rattle.std.proofs.lemmas.Bool.{cases_lt}
-use Rattle.refusal.specs.Count.{HasRisen}
+use Rattle.std.proofs.Common.{◌∙◌, inl, refl, ap, sym, subst, arith}
 use Rattle.blsm_model.specs.declared.key.Key.{Key}
 use Rattle.blsm_model.specs.declared.row.Value.{Value}
 use Rattle.blsm_model.specs.declared.op.Op.TheVariants.{Get}
@@ -23,7 +21,7 @@ use Rattle.seat_book.proofs.WordLemmas.{moves_book, note_has_room}
 use Rattle.tree_machine.specs.Lists.{value_in}
 use Rattle.tree_machine.specs.Machine.{Machine}
 use Rattle.tree_machine.specs.Moves.{note}
-use Rattle.tree_machine.specs.Outcomes.{IsPossible, Rose, is_broken, last_count}
+use Rattle.tree_machine.specs.Outcomes.{IsPossible, is_broken}
 use Rattle.tree_machine.specs.Plays.{may}
 use Rattle.tree_machine.specs.Steps.{Outcome, Stepped, Well, FailedAfter, Replied, get, replied, reply_unless, unless_stopped}
 use Rattle.tree_machine.specs.declared.step.Kind.TheVariants as kind
@@ -44,6 +42,7 @@ use Rattle.tree_core.specs.Causes.{FindsBecause}
 use Rattle.tree_core.specs.Core.{HoldsPace, facts_of_held}
 use Rattle.tree_core.specs.Standing.{StandsFor}
 use Rattle.tree_core.specs.Steps.{MovesPace, IsStep}
+use Rattle.tree_core.proofs.BoundLemmas.{rose}
 use Rattle.tree_core.proofs.QuietLemmas.{read_holds, reads_on, quiet_stands, shows_now, shows_entry, leaves_longer}
 use Rattle.tree_core.proofs.BookSteps.{book_follows}
 
@@ -103,10 +102,6 @@ get_step {end} {most} {d} {d2} opening seat key r outcome held m pace reads hone
           (leaves_longer opening m (m.book.entries ++ entry ∷ []) d d2 (entry ∷ [], refl) (leaves_only_weaken shown.each (only_reads_each reads honest)));
     }
 
--- a count that has risen, or stands at its last value
-pub rose : (old new : ℕ) → HasRisen old new → old ≤ new → new < 2 ^ 64 → Rose old new
-rose old new risen grows small = ⊎_elim (λ (below : old < last_count). inl (omega (arith, risen, below))) (λ (at : last_count ≤ old). inr (omega (arith, at, grows, small), omega (arith, at, grows, small))) (cases_lt old last_count)
-
 pub get_steps : {end most : ℕ} {d d2 : DiskState} (opening : List (Key × Value)) (seat : ℕ) (key : Key) (found : Lookup) (held : Held) (m : Machine) (pace : Pace) → OnlyReads end most d d2 → IsTrue d.is_honest
     → FindsBecause found held d d2 → (found ≡ lookup.Fault → d2.faults < 2 ^ 64)
     → ((tree : Tree) → HoldsTree held.runs.sizes tree d.bytes → tree.catalogue ≡ held.runs.catalogue → held.book.stopped ≡ None → found ≢ lookup.Fault → reply_to_get found ≡ answer_to_get (found_in key held tree))
@@ -140,7 +135,7 @@ get_steps {end} {most} {d} {d2} opening seat key found held m pace reads honest 
     by (lookup.Damaged page) because counted is = well (reply.Damaged page) because.0 (there (reply.Damaged page) because.0 (λ tree holds catalogue. is tree holds catalogue because.0 (λ same. cc same)))
     by lookup.Fault because counted is =
         get_step opening seat key reply.Fault (FailedAfter 0 d2.faults) held m pace reads honest s can (running (FailedAfter 0 d2.faults) because.0)
-        (ap (λ (o : Option Why). not (is_some o) && true) (stopped_is ∙ because.0), omega arith, rose d.faults d2.faults because.1 reads.effect.goes_on.faults (counted refl), refl) refl
+        (ap (λ (o : Option Why). not (is_some o) && true) (stopped_is ∙ because.0), omega arith, rose d.faults d2.faults reads.effect.goes_on.faults (counted refl) because.1, refl) refl
     by (lookup.Stopped why) because counted is =
         get_step opening seat key (reply.Stopped why) Well held m pace reads honest s can
         (ap (λ (o : Option Why). unless_stopped o seat (Get key) m (replied seat (Get key) (answer_to_get (value_in m.lists key)) m)) (stopped_is ∙ because.0)) tt refl

@@ -1,9 +1,7 @@
 -- What a payment and a turn leave, of the numbers, of the other seats, and of what is told.
-use Rattle.std.proofs.Common.{◌≡◌, ◌≢◌, ◌∙◌, inl, inr, ℕ, ◌^◌, ◌<◌, ◌≤◌, Bool, true, false, Some, refl, ap, sym, arith}
-use Rattle.std.specs.Prelude.{⊤, nat_lt}
-use Rattle.std.proofs.lemmas.Bool.{ltb-true, ltb-false}
+use Rattle.std.proofs.Common.{◌≡◌, ◌≢◌, ◌∙◌, ℕ, ◌≤◌, Bool, Some, refl, ap, sym, arith}
+use Rattle.std.specs.Prelude.{⊤}
 use Rattle.std.proofs.lemmas.List.{get_or-set_other}
-use Rattle.refusal.specs.Count.{HasRisen}
 use Rattle.blsm_model.specs.Facts.{Follows}
 use Rattle.blsm_model.specs.declared.history.Why.{Why}
 use Rattle.disk_trait.specs.Disk.{DiskState}
@@ -12,7 +10,6 @@ use Rattle.pacing.specs.Pace.{Pace, charge}
 use Rattle.tree_machine.specs.declared.step.Kind.{Kind}
 use Rattle.tree_machine.specs.Machine.{Counts}
 use Rattle.tree_machine.specs.Steps.{Answer}
-use Rattle.tree_machine.specs.Outcomes.{Rose}
 use Rattle.seat_book.specs.State.{BookState}
 use Rattle.seat_book.specs.Seats.{KeepsSeats}
 use Rattle.seat_book.proofs.KeepLemmas.{keeps_less, holds_follow}
@@ -120,13 +117,3 @@ pub follows_by : (seat entries quanta : ℕ) (old new : Held) → entries ≤ 1 
 follows_by seat entries quanta old new few less keeps debts =
     holds_follow seat old.book new.book (beside_in old) (beside_in new) (keeps_less seat entries 1 quanta 1 old.book new.book few less keeps)
     (record { first = debts.first; second = debts.second; held = λ other apart. refl })
-
--- ---- faults
-
--- A count of a type that ends at 2 ^ 64 - 1 has risen, or stands there.
-pub rose_by : (old new : ℕ) → old ≤ new → new < 2 ^ 64 → HasRisen old new → Rose old new
-rose_by old new up fits risen = by (nat_lt old new) refl
-  where
-    by : (b : Bool) → nat_lt old new ≡ b → Rose old new
-    by true is = inl (ltb-true old new is)
-    by false is = let same = ltb-false old new is in inr (omega (arith, same, up, fits, risen), omega (arith, same, up, fits, risen))

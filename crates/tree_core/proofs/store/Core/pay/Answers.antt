@@ -24,7 +24,8 @@ use Rattle.tree_core.specs.Causes.{RanOn, HasFailed, FoundDamaged}
 use Rattle.tree_core.specs.Core.{CoreState, HoldsPace, facts_of_held}
 use Rattle.tree_core.specs.Standing.{StandsFor}
 use Rattle.tree_core.specs.Steps.{MovesPace, IsStep}
-use Rattle.tree_core.proofs.QuantumLemmas.{kept_once, core_by, rose_by}
+use Rattle.tree_core.proofs.BoundLemmas.{rose as has_risen}
+use Rattle.tree_core.proofs.QuantumLemmas.{kept_once, core_by}
 use Rattle.tree_core.proofs.PaymentLemmas.{Took, FailedToTake, nothing_planned, plans_by, quantum_may, quantum_ready, payer_wrote, quanta_fit, payment_moves, payment_runs, payment_follows, settling_moves, settling_follows, failed_payment_moves, failed_payment_follows}
 use Rattle.tree_core.proofs.QuantumSteps.{running_at}
 use Rattle.tree_core.proofs.PaymentSteps.{halted_payment, settled_payment, stands_forgiven, paid_step, failed_payment_step, never_damaged}
@@ -276,7 +277,7 @@ returns-in-Err-Fault-clause-steps g c =
     let r = running_at opening old.held m pace before kept.pace stands p.ran k.numbers k.one.gears in
     let tree = (stands.runs p.ran).tree in
     failed_payment_step opening c.args.seat c.faults.result c.plan-plan.result old.held c.plan-plan.new.self failed c.stop.new.self m pace before after tree (Err c.in-Err-Fault.field-0) fails r ok c.faults.ensures
-    (rose_by before.faults after.faults c.take.ensures.effect.goes_on.faults (omega (arith, c.faults.ensures, c.faults.type_inv)) (c.in-Err-Fault.ensures.faults.failed (cc c.in-Err-Fault.field-0-is)))
+    (has_risen before.faults after.faults c.take.ensures.effect.goes_on.faults (omega (arith, c.faults.ensures, c.faults.type_inv)) (c.in-Err-Fault.ensures.faults.failed (cc c.in-Err-Fault.field-0-is)))
     (c.in-Err-Fault.ensures.lists tree honest (stands_forgiven c.args.seat old.held c.plan-plan.new.self tree before p.is r.over)))
 
 pub returns-in-Err-Damaged-clause-steps : goal.returns-in-Err-Damaged-clause-steps

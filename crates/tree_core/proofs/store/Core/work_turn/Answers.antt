@@ -20,7 +20,8 @@ use Rattle.tree_core.specs.Quanta.{quanta_by, stopped_by}
 use Rattle.tree_core.specs.Standing.{StandsFor}
 use Rattle.tree_core.specs.Steps.{MovesPace, IsStep}
 use Rattle.tree_core.specs.Turning.{move_of}
-use Rattle.tree_core.proofs.QuantumLemmas.{core_by, rose_by}
+use Rattle.tree_core.proofs.BoundLemmas.{rose as has_risen}
+use Rattle.tree_core.proofs.QuantumLemmas.{core_by}
 use Rattle.tree_core.proofs.QuantumSteps.{running_at}
 use Rattle.tree_core.proofs.TurnLemmas.{Turns, Ends, work_turns, counts_work, turn_may, turn_ready, turn_open, turn_moves, turn_because, turn_follows}
 use Rattle.tree_core.proofs.TurnSteps.{halted_turn, turn_step}
@@ -194,7 +195,7 @@ returns-clause-steps g c =
       counts = counts_work c.args.seat ended c.end-ended.result.1 (quanta_by made mv) b c.end-ended.new.book (stopped_by made faults moved.book) c.turn-2.ensures c.end-ended.ensures.quanta c.end-ended.ensures.book;
     } in
     let kept = c.self.invariant in
-    let rose = λ (is : made ≡ Err Fault). rose_by before.faults after.faults c.make-made.ensures.effect.goes_on.faults (omega (arith, c.faults.ensures, c.faults.type_inv)) (c.make-made.ensures.faults.failed is) in
+    let rose = λ (is : made ≡ Err Fault). has_risen before.faults after.faults c.make-made.ensures.effect.goes_on.faults (omega (arith, c.faults.ensures, c.faults.type_inv)) (c.make-made.ensures.faults.failed is) in
     subst
     (λ (s : CoreState g.row.D.Denot). (opening : List (Key × Value)) (m : Machine) (pace : Pace) → IsTrue (g.D.Disk.state s.disk).is_honest → StandsFor opening s.held m pace (g.D.Disk.state s.disk) → IsTrue (may m c.args.seat kind.WorkTurn)
     → IsStep opening c.args.seat kind.WorkTurn (Turn ended) (with_book b moved) (g.D.Disk.state s.disk) after m pace)

@@ -21,7 +21,8 @@ use Rattle.tree_core.specs.Core.{CoreState, HoldsPace, facts_of_held}
 use Rattle.tree_core.specs.Standing.{StandsFor}
 use Rattle.tree_core.specs.Steps.{MovesPace, IsStep}
 use Rattle.tree_core.specs.Turning.{move_of}
-use Rattle.tree_core.proofs.QuantumLemmas.{core_by, rose_by}
+use Rattle.tree_core.proofs.BoundLemmas.{rose as has_risen}
+use Rattle.tree_core.proofs.QuantumLemmas.{core_by}
 use Rattle.tree_core.proofs.QuantumSteps.{running_at}
 use Rattle.tree_core.proofs.TurnLemmas.{Turns, Ends, closed_moves, halted_follows, turn_may, turn_ready, turn_moves, turn_because, turn_follows}
 use Rattle.tree_core.proofs.TurnSteps.{halted_turn, closed_turn, turn_step}
@@ -227,7 +228,7 @@ returns-clause-steps g c =
       counts = c.worker_turn-2.ensures ∙ ap (λ (x : BookState). helped_in c.args.seat x) c.end-ended.ensures.book;
     } in
     let kept = c.self.invariant in
-    let rose = λ (is : made ≡ Err Fault). rose_by before.faults after.faults c.make-made.ensures.effect.goes_on.faults (omega (arith, c.faults.ensures, c.faults.type_inv)) (c.make-made.ensures.faults.failed is) in
+    let rose = λ (is : made ≡ Err Fault). has_risen before.faults after.faults c.make-made.ensures.effect.goes_on.faults (omega (arith, c.faults.ensures, c.faults.type_inv)) (c.make-made.ensures.faults.failed is) in
     subst
     (λ (s : CoreState g.row.D.Denot). (opening : List (Key × Value)) (m : Machine) (pace : Pace) → IsTrue (g.D.Disk.state s.disk).is_honest → StandsFor opening s.held m pace (g.D.Disk.state s.disk) → IsTrue (may m c.args.seat kind.WorkerTurn)
     → IsStep opening c.args.seat kind.WorkerTurn (Turn ended) (with_book b moved) (g.D.Disk.state s.disk) after m pace)
