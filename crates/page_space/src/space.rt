@@ -156,7 +156,8 @@ impl Space {
         None
     }
 
-    fn is_free(&self, page: u32) -> bool
+    /// Whether a page is free.
+    pub fn is_free(&self, page: u32) -> bool
         requires { page < self.now.pages }
         ensures { IsTrue result ↔ IsFree self.now page }
     {

@@ -3,3 +3,4 @@ pub mod CursorLemmas
 pub mod FindLemmas
 pub mod GivenLemmas
 mod AheadLemmas
+mod FullLemmas

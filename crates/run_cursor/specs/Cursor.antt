@@ -1,7 +1,7 @@
 -- What contracts see of a cursor, and where it stands in its component.
-use Rattle.std.specs.Prelude.{◌≡◌, ◌↔◌, ℕ, ◌+◌, ◌-◌, ◌<◌, ◌≤◌, List, [], ◌∷◌, ◌++◌, length, Option, Some, None, IsSome, ⊤}
+use Rattle.std.specs.Prelude.{◌≡◌, ◌↔◌, ℕ, ◌+◌, ◌-◌, ◌*◌, ◌<◌, ◌≤◌, List, [], ◌∷◌, ◌++◌, length, Option, Some, None, IsSome, ⊤}
 use Rattle.std.specs.List.{Contains, between}
-use Rattle.blsm_model.specs.Format.{page_length}
+use Rattle.blsm_model.specs.Format.{page_length, least_full}
 use Rattle.std.specs.declared.cmp.Ordering.TheVariants.{Less}
 use Rattle.blsm_model.specs.declared.component.Component.{Component}
 use Rattle.blsm_model.specs.declared.key.Key.{Key}
@@ -108,6 +108,15 @@ abbrev pub Rises : Option (Key × Rec) → Option (Key × Rec) → Type 0
 Rises (Some old) (Some new) = key_cmp old.0 new.0 ≡ Less
 Rises (Some old) None = ⊤
 Rises None new = ⊤
+
+-- ---- what the pages weigh
+
+-- On any disk: of the component's pages that were read, each but its last one weighs least_full at least; what isn't given of them stands
+-- behind the head.
+pub record AreFull (run : Component) (cursor : CursorState) : Type 0 where
+  pub within : cursor.pages ≤ run.pages
+  pub more : 0 < cursor.pages → least_full * (run.pages - cursor.pages) + cursor.weight ≤ run.weight + length cursor.behind
+  pub last : cursor.pages ≡ 0 → least_full * (run.pages - 1) + cursor.weight ≤ run.weight + length cursor.behind
 
 -- ---- the list
 

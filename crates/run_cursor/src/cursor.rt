@@ -9,11 +9,12 @@ ghost use Rattle.record_delta.specs.Entries.{Entries};
 ghost use Rattle.record_delta.specs.Records.{weight as weight_with};
 ghost use Rattle.page_file.specs.Entry.{IsPageEntry, entry_bytes, entries_bytes, AreRising};
 ghost use Rattle.blsm_model.specs.Components.{no_page};
+ghost use Rattle.blsm_model.specs.Format.{least_full};
 ghost use Rattle.page_file.specs.Page.{IsPageOf};
 ghost use Rattle.blsm_model.specs.Components.{empty_component};
 ghost use Rattle.page_file.specs.File.{Reads};
 ghost use Rattle.page_file.specs.Component.{numbers_of, HasList};
-ghost use Rattle.run_cursor.specs.Cursor.{started, from_head, IsFirstKey, HasAhead, IsAdvanced, AreInNumber, PageGoesOn, GoesOnAt, IsStepped, IsDamageAt, Rises, turned};
+ghost use Rattle.run_cursor.specs.Cursor.{started, from_head, IsFirstKey, HasAhead, IsAdvanced, AreInNumber, PageGoesOn, GoesOnAt, IsStepped, IsDamageAt, Rises, AreFull, turned};
 ghost use Rattle.run_cursor.specs.Given.{HasGiven, HasGivenMore};
 
 use blsm_model::{Component, Geometry, Key};
@@ -58,6 +59,7 @@ impl Cursor {
         ensures list { (sizes : Sizes) (entries : Entries) (file : List ℕ) → (list : HasList sizes run.now entries file)
             → (ahead : HasAhead sizes result entries file) × (ahead.coming ≡ list.pages) }
         ensures given { (sizes : Sizes) (file : List ℕ) → HasGiven sizes run.now result [] file }
+        ensures full { AreFull run.now result }
     {
         Cursor {
             head: None,
@@ -84,6 +86,19 @@ impl Cursor {
         ensures { result ≡ self.now.weight }
     {
         self.weight
+    }
+
+    /// The number of the page that `advance` reads next, where it reads one then.
+    pub fn next_page(&self) -> Option<u32>
+        ensures due { IfSome result (λ n. (self.now.behind ≡ []) × (0 < self.now.pages) × (n ≡ self.now.next)) }
+        ensures none { IfNone result (self.now.behind ≡ [] → self.now.pages ≡ 0) }
+    {
+        let behind = &self.page[self.at..self.end];
+        if behind.is_empty() && self.pages > 0 {
+            Some(self.next)
+        } else {
+            None
+        }
     }
 
     // The entry behind the head on its page, and its length in bytes.
@@ -177,6 +192,7 @@ impl Cursor {
             × (IsTrue (D.state disk.old).tells_bytes → GoesOnAt geo.now self.old next entries (D.state disk.new).bytes)) }
         ensures damaged { (n : ℕ) → result ≡ Err (Broken.Damaged n) → IsTrue (D.state disk.old).tells_bytes
             → IsDamageAt geo.now self.old n (D.state disk.new).bytes }
+        ensures full { OnOk result (0 < self.new.pages → least_full ≤ length self.new.behind) }
         ensures reads { Reads (file_length geo.now) 1 result (D.state disk.old) (D.state disk.new) }
     {
         let n = self.next;
@@ -221,6 +237,12 @@ impl Cursor {
         ensures rises { OnOk result (Rises self.old.head self.new.head) }
         ensures falls { OnOk result (IfSome self.new.head (λ e. (self.old.entries ≡ self.new.entries + 1) × (self.old.weight ≡ weight_with e.0 e.1 + self.new.weight))) }
         ensures ended { OnOk result (IfNone self.new.head ((self.old.weight ≡ 0) × (self.new.entries ≡ 0) × (self.new.weight ≡ 0) × (self.new.pages ≡ 0))) }
+
+        ensures full { (run : Component) → AreFull run self.old → OnOk result (AreFull run self.new) }
+
+        // A page less is left where one was due, and as many as before where none was.
+        ensures turns { OnOk result (self.old.behind ≡ [] → 0 < self.old.pages → self.old.pages ≡ self.new.pages + 1) }
+        ensures stays { OnOk result (self.old.behind ≢ [] → self.new.pages ≡ self.old.pages) }
 
         // One call of the disk at most, which reads, and one for each page: none after the last one.
         ensures reads { Reads (file_length geo.now) 1 result (D.state disk.old) (D.state disk.new) }

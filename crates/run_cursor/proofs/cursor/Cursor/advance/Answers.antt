@@ -11,6 +11,7 @@ use Rattle.run_cursor.specs.Given.{HasGiven, HasGivenMore}
 use Rattle.run_cursor.proofs.GivenLemmas.{given_step, given_on, given_end}
 use Rattle.run_cursor.proofs.CursorLemmas.{AheadAmong, stepped_ahead, ended_ahead, ended, through, turned_ahead, not_broken}
 use Rattle.run_cursor.proofs.AheadLemmas.{advanced_wider}
+use Rattle.run_cursor.proofs.FullLemmas.{full_step, full_turn, step_some}
 use Rattle.page_file.specs.Component.{numbers_of}
 use Rattle.run_cursor.proofs.cursor.Cursor.advance.Goals as goal
 
@@ -96,3 +97,23 @@ returns-then-self-clause-reads g c = record { effect = only_reads_start (g.D.Dis
 
 pub returns-then-self-eq0-clause-reads : goal.returns-then-self-eq0-clause-reads
 returns-then-self-eq0-clause-reads g c = record { effect = only_reads_start (g.D.Disk.state c.args.disk.now) (g.met.D.Disk.timed c.args.disk.now); stands = λ other. refl; failed = λ wrong. absurd (cc) }
+
+pub returns-then-self-clause-full : goal.returns-then-self-clause-full
+returns-then-self-clause-full g c = λ run full.
+    let s = c.step.ensures.stepped in
+    full_step run c.args.self.now c.step.new.self s.0 full s.1
+
+pub returns-then-self-clause-turns : goal.returns-then-self-clause-turns
+returns-then-self-clause-turns g c = λ none more.
+    let s = c.step.ensures.stepped in
+    absurd (step_some c.args.self.now c.step.new.self s.0 s.1 none)
+
+pub returns-clause-full : goal.returns-clause-full
+returns-clause-full g c = λ run full.
+    let f = c.self.inside in
+    let none : c.args.self.now.behind ≡ [] = ap (λ (s : CursorState). s.behind) (sym c.self.view_is) ∙ through f.page f.at f.end c.self.invariant.0 c.if-self.false in
+    let more : 0 < c.args.self.now.pages = subst (λ (s : CursorState). 0 < s.pages) c.self.view_is (omega (arith, c.if-self-eq0.false)) in
+    let t = c.in_ok-turn.ensures.turned in
+    let s = c.step-2.ensures.stepped in
+    full_step run c.turn.new.self c.step-2.new.self s.0
+    (full_turn run c.args.self.now c.turn.new.self full none (omega (arith, more, ap (λ (w : CursorState). w.pages) t.4)) (ap (λ (w : CursorState). w.weight) t.4) c.in_ok-turn.ensures.full) s.1

@@ -1,6 +1,7 @@
 use Rattle.std.proofs.Common.{arith, ap, refl}
 use Rattle.blsm_model.specs.declared.component.Component.{Component}
 use Rattle.run_cursor.proofs.GivenLemmas.{given_start}
+use Rattle.run_cursor.proofs.FullLemmas.{full_start}
 use Rattle.run_cursor.proofs.CursorLemmas.{started_ahead, bare_cursor}
 use Rattle.run_cursor.proofs.cursor.Cursor.start.Goals as goal
 
@@ -12,3 +13,6 @@ returns-clause-list c = λ sizes entries file. started_ahead sizes c.args.run.no
 
 pub returns-clause-given : goal.returns-clause-given
 returns-clause-given c = λ sizes file. given_start sizes c.args.run.now file c.requires
+
+pub returns-clause-full : goal.returns-clause-full
+returns-clause-full c = full_start c.args.run.now

@@ -1,4 +1,4 @@
-use Rattle.std.proofs.Common.{◌≡◌, ◌<◌, ◌≤◌, ◌∙◌, ap, sym, subst, arith}
+use Rattle.std.proofs.Common.{◌≡◌, ◌<◌, ◌≤◌, ◌∙◌, length, ap, sym, subst, arith}
 use Rattle.blsm_model.specs.Geometry.{page_count}
 use Rattle.blsm_model.specs.Components.{no_page}
 use Rattle.page_file.specs.Page.{IsPageOf, IsPage}
@@ -31,3 +31,12 @@ returns-clause-turned g c =
         goes_on = goes;
       },
     )
+
+pub returns-clause-full : goal.returns-clause-full
+returns-clause-full g c = λ more.
+    let few : page_count c.args.geo.now ≤ no_page = omega (arith, c.pages.ensures.pages, c.pages.ensures.bound) in
+    let page : IsPage (page_count c.args.geo.now) c.read_page.new.into = c.in_ok-read_page.ensures.answer in
+    let goes = (c.goes_on.ensures _ page.0 page.1 few page.2).0 c.if-not-goes_on.false in
+    let turned = c.take.ensures _ page.0 page.1 few page.2 in
+    let full = page.2.content.head.full (goes.numbers.follows.1 (omega (arith, more, ap (λ (s : CursorState). s.pages) turned))) in
+    omega (arith, full, ap (λ (s : CursorState). length s.behind) turned)
