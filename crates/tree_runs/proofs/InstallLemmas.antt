@@ -84,7 +84,7 @@ tags_for_rotated tags are = tags_for_rotation (record tags { c1 = tags.pass; pas
 empty_filled : IsFilled empty_component
 empty_filled = record { none = λ is. refl; full = omega arith }
 
-nothing_held : (space : SpaceState) (tag : ℕ) → role_size space tag ≡ 0 → IsHeld space tag empty_component
+pub nothing_held : (space : SpaceState) (tag : ℕ) → role_size space tag ≡ 0 → IsHeld space tag empty_component
 nothing_held space tag none = record { filled = empty_filled; size = none }
 
 held_still : {role : ℕ} {old new : SpaceState} {tag : ℕ} {component : Component} → Released role old new → tag ≢ role → IsHeld old tag component → IsHeld new tag component

@@ -7,7 +7,7 @@ use Rattle.blsm_model.specs.Format.{page_length}
 use Rattle.blsm_model.specs.declared.key.Key.{Key}
 use Rattle.blsm_model.specs.Sizes.{Sizes}
 use Rattle.record_delta.specs.Entries.{Entries, folded_over, up_to}
-use Rattle.page_space.specs.Space.{SpaceState, HasRole, IsFree}
+use Rattle.page_space.specs.Space.{SpaceState, HasRole}
 use Rattle.page_file.specs.Component.{RunPage, numbers_of, entries_of}
 use Rattle.page_file.specs.File.{page_start, AreSamePages}
 use Rattle.run_cursor.specs.Cursor.{CursorState, HasAhead}
@@ -18,7 +18,7 @@ use Rattle.snow_merge.specs.Pass.{SnowState}
 use Rattle.deep_merge.specs.Merge.{DeepState}
 use Rattle.tree_runs.proofs.ReleasedTags.{Released, has_before, has_still}
 use Rattle.tree_runs.specs.Runs.{HasOneTag, PassHasTag, DeepHasTag, PassRuns, DeepRuns}
-use Rattle.tree_runs.specs.Holding.{AreTagged, IsPassOver, IsDeepOver}
+use Rattle.tree_runs.specs.Holding.{AreElsewhere, AreTagged, IsPassOver, IsDeepOver}
 
 -- From one file and map to other ones: the pages that have a run's tag had it, and those that had it keep it and read the same.
 pub record KeepsRun (sizes : Sizes) (honest : Bool) (region : Region) (old new : List ℕ) (space after : SpaceState) (tag : ℕ) : Type 0 where
@@ -128,5 +128,5 @@ pages_two tag first second differs differs_too = record { tagged = λ n has. has
 -- ---- where a deep merge begins
 
 -- a page that has one tag has no other, and isn't free
-pub elsewhere : (space : SpaceState) (tag role : ℕ) (pages : List RunPage) → HasOneTag space → tag ≢ role → AreTagged space tag pages → (n : ℕ) → Contains (numbers_of pages) n → (HasRole space role n → ⊥) × (IsFree space n → ⊥)
+pub elsewhere : (space : SpaceState) (tag role : ℕ) (pages : List RunPage) → HasOneTag space → tag ≢ role → AreTagged space tag pages → AreElsewhere space role pages
 elsewhere space tag role pages once differs tagged n has = (λ also. differs (once n tag role (tagged n has) also), λ free. free.no_role tag (tagged n has))

@@ -17,7 +17,7 @@ pub record Released (role : ℕ) (old new : SpaceState) : Type 0 where
   pub freed : (page : ℕ) → IsFree new page → IsFree old page ⊎ HasRole old role page
   pub size : role_size new role ≡ 0
 
-none_has : (pages n : ℕ) (set : Members) → set ≡ none_of pages → slice_index_or set n false ≡ true → ⊥
+pub none_has : (pages n : ℕ) (set : Members) → set ≡ none_of pages → slice_index_or set n false ≡ true → ⊥
 none_has pages n set is has =
     elim (cases_lt n pages) [
       | inl below ↦ false≢true (sym (ap (λ (s : Members). slice_index_or s n false) is ∙ get_or-replicate pages n false false below) ∙ has)

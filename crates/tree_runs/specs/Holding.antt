@@ -12,7 +12,7 @@ use Rattle.blsm_model.specs.declared.key.Key.{Key}
 use Rattle.blsm_model.specs.declared.component.Component.{Component}
 use Rattle.catalog_swap.specs.declared.catalog.Catalog.{Catalog}
 use Rattle.record_delta.specs.Entries.{Entries, folded_over, settled_entries}
-use Rattle.page_space.specs.Space.{SpaceState, HasRole}
+use Rattle.page_space.specs.Space.{SpaceState, HasRole, IsFree}
 use Rattle.page_file.specs.Component.{RunPage, entries_of, numbers_of}
 use Rattle.run_writer.specs.Writer.{role_region}
 use Rattle.catalog_swap.specs.Slots.{slot_of, slot_length}
@@ -28,6 +28,10 @@ use Rattle.tree_runs.specs.Runs.{RunsState, Tags, made_by_pass, made_by_deep}
 -- each of these pages has the tag
 abbrev pub AreTagged : SpaceState → ℕ → List RunPage → Type 0
 AreTagged space tag pages = (n : ℕ) → Contains (numbers_of pages) n → HasRole space tag n
+
+-- none of these pages has the tag, and none is free
+abbrev pub AreElsewhere : SpaceState → ℕ → List RunPage → Type 0
+AreElsewhere space tag pages = (n : ℕ) → Contains (numbers_of pages) n → (HasRole space tag n → ⊥) × (IsFree space n → ⊥)
 
 -- the pass runs over table A and C1
 abbrev pub IsPassOver : Sizes → List ℕ → SpaceState → Option SnowState → Entries → List RunPage → Type 0

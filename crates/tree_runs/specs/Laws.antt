@@ -1,11 +1,14 @@
--- What the components and the runs keep while others write: the log's lanes, the slots of the catalogue.
-use Rattle.std.specs.Prelude.{◌≡◌, ℕ, ◌+◌, ◌<◌, ◌≤◌, Bool, true, IsTrue, List, Option, Some}
+-- What the components and the runs keep while others write: the log's lanes, the slots of the catalogue. And what of their map is known
+-- once they are read.
+use Rattle.std.specs.Prelude.{◌≡◌, ◌⊎◌, ℕ, ◌+◌, ◌<◌, ◌≤◌, Bool, true, IsTrue, List, Option, Some}
 use Rattle.disk_trait.specs.Region.{Region, span, outside, IsWithin, IsSameOutside}
 use Rattle.blsm_model.specs.declared.key.Key.{Key}
-use Rattle.blsm_model.specs.Sizes.{Sizes}
+use Rattle.blsm_model.specs.Sizes.{Sizes, IsGeometry}
+use Rattle.blsm_model.specs.Geometry.{page_count}
+use Rattle.catalog_swap.specs.declared.catalog.Catalog.{Catalog}
 use Rattle.record_delta.specs.declared.record.Rec.{Rec}
 use Rattle.record_delta.specs.Entries.{Entries, AreSorted, entries_weight, is_above, with_record}
-use Rattle.page_space.specs.Space.{SpaceState}
+use Rattle.page_space.specs.Space.{SpaceState, Claims, HasRole, IsFree, IsSpace, KeepsOtherRoles, role_size, unused}
 use Rattle.page_file.specs.File.{page_start}
 use Rattle.run_writer.specs.Writer.{role_region}
 use Rattle.merge_ends.specs.Quantum.{IsQuantum}
@@ -13,7 +16,7 @@ use Rattle.snow_merge.specs.Pass.{SnowState}
 use Rattle.tree_machine.specs.Merges.{Merge, cursor_after, quantum_of}
 use Rattle.tree_file.specs.Tree.{Tree, HoldsTree}
 use Rattle.tree_file.specs.Places.{appended_a, appended_b}
-use Rattle.tree_runs.specs.Runs.{RunsState, AreRunning, left_for_pass}
+use Rattle.tree_runs.specs.Runs.{RunsState, AreRead, AreRunning, IsFilled, first_tags, left_for_pass}
 use Rattle.tree_runs.specs.Holding.{AreOf, cursor_of_pass}
 
 -- the pages that have a tag
@@ -66,3 +69,25 @@ QuantaAgree =
     (least : ℕ) (merge : Merge) (to : Option Key) (newer older : Entries) (taken : ℕ) → 0 < least → AreSorted newer → AreSorted older → IsOnward merge.cursor to
     → IsQuantum least merge.cursor to newer older taken
     → (taken ≡ (quantum_of least merge newer older).weight) × (to ≡ cursor_after merge.cursor (quantum_of least merge newer older).groups)
+
+-- ---- the map of a tree that is read
+
+-- so many pages that were free have the tag now, and nothing else changed
+pub record TakesFree (tag count : ℕ) (old new : SpaceState) : Type 0 where
+  pub pages : new.pages ≡ old.pages
+  pub shape : IsSpace new
+  pub pins : new.pins ≡ old.pins
+  pub others : KeepsOtherRoles tag old new
+  pub fresh : (page : ℕ) → HasRole new tag page → HasRole old tag page ⊎ IsFree old page
+  pub size : role_size new tag ≡ role_size old tag + count
+
+-- A claim of a free page takes one more.
+abbrev pub ClaimsAdd : Type 0
+ClaimsAdd = (tag count page : ℕ) (old mid new : SpaceState) → TakesFree tag count old mid → IsFree mid page → Claims tag page mid new → TakesFree tag (count + 1) old new
+
+-- Where no page was in use, and then each component took as many as it has, the map is what a reader knows.
+abbrev pub TakenAreRead : Type 0
+TakenAreRead =
+    (sizes : Sizes) (catalogue : Catalog) (c1 c1x c2 : SpaceState) → IsGeometry sizes → IsFilled catalogue.c1 → IsFilled catalogue.c1x → IsFilled catalogue.c2
+    → TakesFree first_tags.c1 catalogue.c1.pages (unused (page_count sizes)) c1 → TakesFree first_tags.c1x catalogue.c1x.pages c1 c1x
+    → TakesFree first_tags.c2 catalogue.c2.pages c1x c2 → AreRead sizes catalogue c2

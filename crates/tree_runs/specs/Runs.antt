@@ -1,5 +1,5 @@
 -- What contracts see of the components of a tree and of its merges, and what they keep on every disk. Weights are in bytes.
-use Rattle.std.specs.Prelude.{◌≡◌, ◌≢◌, ⊤, ℕ, ◌+◌, ◌-◌, ◌*◌, ◌/◌, ◌<◌, ◌≤◌, Bool, List, Option, Some, None}
+use Rattle.std.specs.Prelude.{◌≡◌, ◌≢◌, ⊤, ℕ, ◌+◌, ◌-◌, ◌*◌, ◌/◌, ◌<◌, ◌≤◌, Bool, List, Option, Some, None, if◌then◌else◌, nat_eq}
 use Rattle.blsm_model.specs.declared.component.Component.{Component}
 use Rattle.blsm_model.specs.Components.{empty_component}
 use Rattle.blsm_model.specs.Format.{least_full}
@@ -7,7 +7,7 @@ use Rattle.blsm_model.specs.Sizes.{Sizes, IsGeometry}
 use Rattle.blsm_model.specs.Geometry.{page_count, capacity}
 use Rattle.catalog_swap.specs.declared.catalog.Catalog.{Catalog}
 use Rattle.record_delta.specs.Entries.{Entries}
-use Rattle.page_space.specs.Space.{SpaceState, IsSpace, HasRole, IsWithin, role_count, role_size}
+use Rattle.page_space.specs.Space.{SpaceState, IsSpace, HasRole, IsWithin, role_count, role_size, pin_size, seat_count}
 use Rattle.snow_merge.specs.Pass as pass
 use Rattle.snow_merge.specs.Pass.{SnowState}
 use Rattle.deep_merge.specs.Merge as deep
@@ -30,12 +30,24 @@ pub record RunsState : Type 0 where
   pub pass : Option SnowState
   pub deep : Option DeepState
 
--- after an opening: the tags in their order, and no merge
+-- after an opening: the tags in their order
 abbrev pub first_tags : Tags
 first_tags = record { c1 = 0; c1x = 1; c2 = 2; pass = 3; deep = 4 }
 
+-- the deep merge that an opening goes on with: where C1' has pages, one that has taken nothing
+abbrev pub due_deep : ℕ → Catalog → Option DeepState
+due_deep tag catalogue = if nat_eq catalogue.c1x.pages 0 then None else Some (deep.started tag catalogue.c1x catalogue.c2)
+
+-- No pass runs, and a deep merge just where C1' has pages.
 abbrev pub opened : Sizes → Catalog → SpaceState → RunsState
-opened sizes catalogue space = record { sizes = sizes; catalogue = catalogue; space = space; tags = first_tags; pass = None; deep = None }
+opened sizes catalogue space = record {
+  sizes = sizes;
+  catalogue = catalogue;
+  space = space;
+  tags = first_tags;
+  pass = None;
+  deep = due_deep first_tags.deep catalogue;
+}
 
 -- ---- what is read off it
 
@@ -129,6 +141,20 @@ pub record AreRuns (runs : RunsState) : Type 0 where
   pub rests : RestsEmpty runs.deep runs.catalogue.c1x
   -- the tags' pages are these, and no seat pins more than its share
   pub within : IsWithin (pages_in_use runs) (page_share runs.sizes) runs.space
+
+-- What a reader of a store's file knows on every disk: the pages of C1, C1' and C2, and no others, have the tags 0, 1 and 2, none of them
+-- two, and no seat pins one.
+pub record AreRead (sizes : Sizes) (catalogue : Catalog) (space : SpaceState) : Type 0 where
+  pub geometry : IsGeometry sizes
+  pub pages : space.pages ≡ page_count sizes
+  pub shape : IsSpace space
+  pub one_tag : HasOneTag space
+  pub c1 : IsHeld space first_tags.c1 catalogue.c1
+  pub c1x : IsHeld space first_tags.c1x catalogue.c1x
+  pub c2 : IsHeld space first_tags.c2 catalogue.c2
+  pub pass : role_size space first_tags.pass ≡ 0
+  pub deep : role_size space first_tags.deep ≡ 0
+  pub no_pins : (seat : ℕ) → seat < seat_count → pin_size space seat ≡ 0
 
 -- Where the file is honest the runs' closed pages stand in it; on any disk the merges' cursors and runs are in order.
 abbrev pub PassRuns : Sizes → Bool → List ℕ → SpaceState → Option SnowState → Type 0

@@ -8,5 +8,5 @@ mod quanta;
 mod runs;
 mod swaps;
 
-pub use laws::{a_quantum_is_the_machines, others_may_write};
+pub use laws::{a_quantum_is_the_machines, each_claims_its_own, others_may_write};
 pub use runs::{MergeRoom, Runs};

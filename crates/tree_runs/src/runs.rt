@@ -1,11 +1,14 @@
 //! The components, their pages, and the merges that run.
 ghost use Rattle.std.specs.Prelude.{◌≡◌, ◌↔◌, ◌<◌, ◌∷◌, [], ℕ, Bool, List, Some, None, IsTrue, is_some};
 ghost use Rattle.blsm_model.specs.Components.{empty_component};
+ghost use Rattle.blsm_model.specs.Sizes.{Sizes};
 ghost use Rattle.record_delta.specs.Entries.{Entries};
+ghost use Rattle.page_space.specs.Space.{SpaceState};
+ghost use Rattle.page_file.specs.Component.{RunPage, ReadsAs};
 ghost use Rattle.snow_merge.specs.Pass.{started};
-ghost use Rattle.tree_file.specs.Tree.{Tree};
-ghost use Rattle.tree_runs.specs.Runs.{opened, AreRuns, AreRunning, left_for_pass, left_for_deep};
-ghost use Rattle.tree_runs.specs.Holding.{AreOf, cursor_of_pass};
+ghost use Rattle.tree_file.specs.Tree.{Tree, HoldsTree};
+ghost use Rattle.tree_runs.specs.Runs.{opened, due_deep, first_tags, AreRead, AreRuns, AreRunning, DeepRuns, left_for_pass, left_for_deep};
+ghost use Rattle.tree_runs.specs.Holding.{AreElsewhere, AreOf, AreTagged, IsDeepOver, cursor_of_pass};
 
 use blsm_model::{Component, Geometry, Key};
 use catalog_swap::Catalog;
@@ -76,15 +79,21 @@ impl Model for Runs {
 }
 
 impl Runs {
-    /// The components of a tree that was just opened; no merge runs. In the free-page map the pages of C1, C1' and C2 have the tags 0, 1
-    /// and 2.
+    /// The components of a tree that was read from its file, whose map gives the pages of C1, C1' and C2 the tags 0, 1 and 2. Where C1' has
+    /// pages, as a crash may leave them, its deep merge begins. It calls no device.
     pub fn open(geometry: &Geometry, catalogue: Catalog, space: Space, room: MergeRoom) -> Runs
-        ensures { result ≡ opened geometry.now catalogue space }
+        requires read { AreRead geometry.now catalogue space }
+        ensures opened { result ≡ opened geometry.now catalogue space }
+        ensures running { (honest : Bool) (file : List ℕ) → AreRunning honest file result }
+        ensures lists { (tree : Tree) (a : Entries) (file : List ℕ) → HoldsTree geometry.now tree file → tree.catalogue ≡ catalogue
+            → AreTagged space first_tags.c1 tree.c1 → AreTagged space first_tags.c1x tree.c1x → AreTagged space first_tags.c2 tree.c2
+            → AreOf result tree a file }
     {
+        let deep = Role::new(4);
         let mut merges = room.merges;
         let here = &mut *merges;
         here.pass = None;
-        here.deep = None;
+        here.deep = due_deep(&catalogue, deep);
         Runs {
             geometry: *geometry,
             catalogue,
@@ -93,7 +102,7 @@ impl Runs {
             c1x: Role::new(1),
             c2: Role::new(2),
             pass: Role::new(3),
-            deep: Role::new(4),
+            deep,
             merges,
         }
     }
@@ -166,5 +175,21 @@ impl Runs {
         ensures { result ≡ self.now.catalogue }
     {
         self.catalogue
+    }
+}
+
+// The deep merge that a catalogue asks for: one that has taken nothing, where C1' has pages.
+fn due_deep(catalogue: &Catalog, role: Role) -> Option<Deep>
+    requires older { catalogue.now.c2.pages ≡ 0 → catalogue.now.c2 ≡ empty_component }
+    ensures begun { result ≡ due_deep role catalogue.now }
+    ensures running { (sizes : Sizes) (honest : Bool) (file : List ℕ) (space : SpaceState) → DeepRuns sizes honest file space result }
+    ensures merge { (sizes : Sizes) (file : List ℕ) (space : SpaceState) (c1x c2 : List RunPage)
+        → ReadsAs sizes catalogue.now.c1x c1x file → AreElsewhere space role c1x → ReadsAs sizes catalogue.now.c2 c2 file → AreElsewhere space role c2
+        → IsDeepOver sizes file space result c1x c2 }
+{
+    if catalogue.c1x.pages == 0 {
+        None
+    } else {
+        Some(Deep::begin(&catalogue.c1x, &catalogue.c2, role))
     }
 }

@@ -1,0 +1,115 @@
+use Rattle.std.proofs.Common.{rules, ◌≡◌, ◌∙◌, ℕ, Bool, true, false, Option, Some, None, sym, subst, ap, refl, arith}
+use Rattle.std.specs.Prelude.{if◌then◌else◌, nat_eq}
+use Rattle.std.proofs.lemmas.Bool.{eqb-true}
+use Rattle.blsm_model.specs.Components.{empty_component}
+use Rattle.blsm_model.specs.Sizes.{Sizes}
+use Rattle.blsm_model.specs.declared.component.Component.{Component}
+use Rattle.catalog_swap.specs.declared.catalog.Catalog.{Catalog}
+use Rattle.page_space.specs.Space.{SpaceState}
+use Rattle.page_file.specs.Component.{ReadsAs}
+use Rattle.deep_merge.specs.Merge.{DeepState, started}
+use Rattle.tree_runs.specs.Runs.{RunsState, AreRead, AreRuns, AreRunning, AreTags, DeepHasTag, DeepRuns, IsHeld, RestsEmpty, due_deep, first_tags, made_by_deep, opened}
+use Rattle.tree_runs.specs.Holding.{AreOf, IsDeepOver}
+use Rattle.tree_runs.proofs.InstallLemmas.{nothing_held}
+use Rattle.tree_runs.proofs.KeptMerges.{elsewhere}
+use Rattle.tree_runs.proofs.runs.Runs.open.Goals as goal
+
+are_tags : AreTags first_tags
+are_tags = record {
+  c1_below = omega arith;
+  c1x_below = omega arith;
+  c2_below = omega arith;
+  pass_below = omega arith;
+  deep_below = omega arith;
+  c1_c1x = omega arith;
+  c1_c2 = omega arith;
+  c1_pass = omega arith;
+  c1_deep = omega arith;
+  c1x_c2 = omega arith;
+  c1x_pass = omega arith;
+  c1x_deep = omega arith;
+  c2_pass = omega arith;
+  c2_deep = omega arith;
+  pass_deep = omega arith;
+}
+
+-- ---- the merge that begins, whether it does or not
+
+abbrev begun : Bool → ℕ → Catalog → Option DeepState
+begun rests tag catalogue = if rests then None else Some (started tag catalogue.c1x catalogue.c2)
+
+made_none : (rests : Bool) (tag : ℕ) (catalogue : Catalog) → made_by_deep (begun rests tag catalogue) ≡ empty_component
+made_none true tag catalogue = refl
+made_none false tag catalogue = refl
+
+begun_tag : (rests : Bool) (tag : ℕ) (catalogue : Catalog) → DeepHasTag tag (begun rests tag catalogue)
+begun_tag true tag catalogue = tt
+begun_tag false tag catalogue = refl
+
+begun_empty : (rests : Bool) (tag : ℕ) (catalogue : Catalog) → (rests ≡ true → catalogue.c1x ≡ empty_component) → RestsEmpty (begun rests tag catalogue) catalogue.c1x
+begun_empty true tag catalogue empty = empty refl
+begun_empty false tag catalogue empty = tt
+
+-- ---- what the components keep from their opening on
+
+runs_opened : (sizes : Sizes) (catalogue : Catalog) (space : SpaceState) → AreRead sizes catalogue space → AreRuns (opened sizes catalogue space)
+runs_opened sizes catalogue space read = record {
+  geometry = read.geometry;
+  pages = read.pages;
+  shape = read.shape;
+  tags = are_tags;
+  one_tag = read.one_tag;
+  c1 = read.c1;
+  c1x = read.c1x;
+  c2 = read.c2;
+  pass = nothing_held space 3 read.pass;
+  deep = subst (λ (k : Component). IsHeld space 4 k) (sym none) (nothing_held space 4 read.deep);
+  pass_tag = tt;
+  deep_tag = begun_tag rests 4 catalogue;
+  rests = begun_empty rests 4 catalogue (λ is. read.c1x.filled.none (eqb-true catalogue.c1x.pages 0 is));
+  within = record {
+    roles = omega (arith, read.c1.size, read.c1x.size, read.c2.size, read.pass, read.deep);
+    seats = λ seat below. omega (arith, read.no_pins seat below);
+  };
+}
+  where
+    rests : Bool
+    rests = nat_eq catalogue.c1x.pages 0
+
+    none : made_by_deep (due_deep 4 catalogue) ≡ empty_component
+    none = made_none rests 4 catalogue
+
+pub returns-clause-opened : goal.returns-clause-opened
+returns-clause-opened c = search rules
+
+pub returns-clause-running : goal.returns-clause-running
+returns-clause-running c = λ honest file.
+    let sizes = c.args.geometry.now in
+    let space = c.args.space in
+    let begins = c.due_deep-here.ensures.begun ∙ ap (λ (tag : ℕ). due_deep tag c.args.catalogue) c.new-deep.ensures in
+    subst (λ (r : RunsState). AreRunning honest file r) (sym (returns-clause-opened c)) (record {
+      in_order = runs_opened sizes c.args.catalogue space c.requires.read;
+      pass = tt;
+      deep = subst (λ (d : Option DeepState). DeepRuns sizes honest file space d) begins (c.due_deep-here.ensures.running sizes honest file space);
+    })
+
+pub returns-clause-lists : goal.returns-clause-lists
+returns-clause-lists c = λ tree a file holds is c1 c1x c2.
+    let sizes = c.args.geometry.now in
+    let space = c.args.space in
+    let begins = c.due_deep-here.ensures.begun ∙ ap (λ (tag : ℕ). due_deep tag c.args.catalogue) c.new-deep.ensures in
+    let once = c.requires.read.one_tag in
+    let newer = subst (λ (k : Catalog). ReadsAs sizes k.c1x tree.c1x file) is holds.c1x in
+    let older = subst (λ (k : Catalog). ReadsAs sizes k.c2 tree.c2 file) is holds.c2 in
+    subst (λ (r : RunsState). AreOf r tree a file) (sym (returns-clause-opened c)) (record {
+      holds = holds;
+      catalogue = is;
+      c1 = c1;
+      c1x = c1x;
+      c2 = c2;
+      pass = tt;
+      deep = subst (λ (d : Option DeepState). IsDeepOver sizes file space d tree.c1x tree.c2) begins
+          (c.due_deep-here.ensures.merge sizes file space tree.c1x tree.c2
+          newer (elsewhere space 1 c.new-deep.result tree.c1x once (omega (arith, c.new-deep.ensures)) c1x)
+          older (elsewhere space 2 c.new-deep.result tree.c2 once (omega (arith, c.new-deep.ensures)) c2));
+    })
