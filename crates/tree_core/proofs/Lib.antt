@@ -21,3 +21,4 @@ pub mod TurnMoves
 pub mod TurnLemmas
 pub mod TurnSteps
 mod BegunLemmas
+mod NotingLemmas

@@ -3,6 +3,7 @@ pub mod Parts
 pub mod Standing
 pub mod Answers
 pub mod Causes
+pub mod Notes
 pub mod Steps
 pub mod Taking
 pub mod Quanta

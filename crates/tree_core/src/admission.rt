@@ -24,6 +24,7 @@ ghost use Rattle.core_pace.specs.Events.{MayWrite};
 ghost use Rattle.tree_core.specs.Answers.{reply_to_write};
 ghost use Rattle.tree_core.specs.Causes.{AdmitsBecause, CallsNone, HasBegun};
 ghost use Rattle.tree_core.specs.Core.{CoreState, HoldsPace, facts_of_held};
+ghost use Rattle.tree_core.specs.Notes.{NotesOne};
 ghost use Rattle.tree_core.specs.Standing.{StandsFor};
 ghost use Rattle.tree_core.specs.Steps.{MovesPace, IsStep, StandsSince};
 ghost use Rattle.tree_core.specs.Taking.{Runs, Takes, TakesOver, TellsTaking};
@@ -125,6 +126,7 @@ impl<D: Disk + Drop> Core<D> {
             → IsStep opening seat (kind.Admit op.now) (Replied (reply_to_write result)) self.new.held (D.state self.old.disk) (D.state self.new.disk) m pace }
         ensures cause { AdmitsBecause result seat op.now self.old.held self.new.held (D.state self.old.disk) (D.state self.new.disk) }
         ensures begun { HasBegun result self.old.held self.new.held }
+        ensures notes { NotesOne seat op.now (reply_to_write result) self.old.held.book self.new.held.book }
         ensures effect { Affects anywhere (file_length self.old.held.runs.sizes) 22 (D.state self.old.disk) (D.state self.new.disk) }
         ensures follows { Follows seat (facts_of_held self.old.held) (facts_of_held self.new.held) }
         ensures lasts { (start : CoreState D) → StandsSince start.held self.old.held (D.state start.disk) (D.state self.old.disk)

@@ -19,6 +19,7 @@ ghost use Rattle.core_pace.specs.Events.{TakesByPlan};
 ghost use Rattle.tree_core.specs.Answers.{answer_to_pay};
 ghost use Rattle.tree_core.specs.Causes.{PaysBecause, PaysNone};
 ghost use Rattle.tree_core.specs.Core.{CoreState, HoldsPace, facts_of_held};
+ghost use Rattle.tree_core.specs.Notes.{CountsPayment, Settles};
 ghost use Rattle.tree_core.specs.Quanta.{MayTake, LeavesTaken};
 ghost use Rattle.tree_core.specs.Standing.{StandsFor};
 ghost use Rattle.tree_core.specs.Steps.{MovesPace, IsStep, StandsSince};
@@ -62,6 +63,8 @@ impl<D: Disk + Drop> Core<D> {
             → StandsFor opening self.old.held m pace (D.state self.old.disk) → IsTrue (may m seat kind.Pay)
             → IsStep opening seat kind.Pay (answer_to_pay result) self.new.held (D.state self.old.disk) (D.state self.new.disk) m pace }
         ensures cause { PaysBecause result seat self.old.held self.new.held (D.state self.old.disk) (D.state self.new.disk) }
+        ensures counts { CountsPayment result seat self.old.held.book self.new.held.book }
+        ensures settles { Settles result seat self.new.held }
         ensures effect { Affects anywhere (file_length self.old.held.runs.sizes) (self.old.held.runs.sizes.quantum / 4 + 3) (D.state self.old.disk) (D.state self.new.disk) }
         ensures follows { Follows seat (facts_of_held self.old.held) (facts_of_held self.new.held) }
         ensures lasts { (start : CoreState D) → StandsSince start.held self.old.held (D.state start.disk) (D.state self.old.disk)

@@ -4,6 +4,7 @@ ghost use Rattle.blsm_model.specs.Geometry.{high_mark};
 ghost use Rattle.seat_book.specs.State.{totals_in};
 ghost use Rattle.core_moves.specs.Held.{charge_in};
 ghost use Rattle.tree_core.specs.Core.{IsCore};
+ghost use Rattle.tree_core.specs.Steps.{StandsSince};
 
 use blsm_model::{Annals, Geometry, Totals};
 use core_moves::Held;
@@ -43,6 +44,7 @@ impl<D: Disk + Drop> Core<D> {
         ensures charge { result ≡ charge_in self.now.held }
         // What its type keeps on every disk.
         ensures kept { IsCore self.now.held (D.state self.now.disk) }
+        ensures begins { StandsSince self.now.held self.now.held (D.state self.now.disk) (D.state self.now.disk) }
     {
         self.held.charge()
     }

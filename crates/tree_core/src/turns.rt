@@ -26,6 +26,7 @@ ghost use Rattle.core_pace.specs.Turns.{MayMove, TurnsBy, may_begin_in, move_at_
 ghost use Rattle.core_lists.specs.Steps.{choice_of};
 ghost use Rattle.tree_core.specs.Causes.{TurnsBecause, TurnsNone};
 ghost use Rattle.tree_core.specs.Core.{CoreState, HoldsPace, facts_of_held};
+ghost use Rattle.tree_core.specs.Notes.{CountsTurn, NotesNone, OwesNothing};
 ghost use Rattle.tree_core.specs.Quanta.{LeavesMoved, as_moved, ended_by, quanta_by, stopped_by};
 ghost use Rattle.tree_core.specs.Standing.{StandsFor};
 ghost use Rattle.tree_core.specs.Steps.{MovesPace, IsStep, StandsSince};
@@ -192,6 +193,8 @@ impl<D: Disk + Drop> Core<D> {
             → StandsFor opening self.old.held m pace (D.state self.old.disk) → IsTrue (may m seat kind.WorkTurn)
             → IsStep opening seat kind.WorkTurn (Turn (turned_of result)) self.new.held (D.state self.old.disk) (D.state self.new.disk) m pace }
         ensures cause { TurnsBecause (turned_of result) false seat self.old.held self.new.held (D.state self.old.disk) (D.state self.new.disk) }
+        ensures counts { CountsTurn seat (turned_of result) self.old.held self.new.held }
+        ensures even_still { self.new.held.book.stopped ≡ None → OwesNothing seat self.new.held }
         ensures effect { Affects anywhere (file_length self.old.held.runs.sizes) (self.old.held.runs.sizes.quantum / 4 + 9) (D.state self.old.disk) (D.state self.new.disk) }
         ensures follows { Follows seat (facts_of_held self.old.held) (facts_of_held self.new.held) }
         ensures lasts { (start : CoreState D) → StandsSince start.held self.old.held (D.state start.disk) (D.state self.old.disk)
@@ -220,6 +223,7 @@ impl<D: Disk + Drop> Core<D> {
             → StandsFor opening self.old.held m pace (D.state self.old.disk) → IsTrue (may m seat kind.WorkerTurn)
             → IsStep opening seat kind.WorkerTurn (Turn (turned_of result)) self.new.held (D.state self.old.disk) (D.state self.new.disk) m pace }
         ensures cause { TurnsBecause (turned_of result) true seat self.old.held self.new.held (D.state self.old.disk) (D.state self.new.disk) }
+        ensures notes { NotesNone self.old.held.book self.new.held.book }
         ensures effect { Affects anywhere (file_length self.old.held.runs.sizes) (self.old.held.runs.sizes.quantum / 4 + 9) (D.state self.old.disk) (D.state self.new.disk) }
         ensures follows { Follows seat (facts_of_held self.old.held) (facts_of_held self.new.held) }
         ensures lasts { (start : CoreState D) → StandsSince start.held self.old.held (D.state start.disk) (D.state self.old.disk)

@@ -37,6 +37,8 @@ use Rattle.tree_core.specs.declared.answers.Admission.TheVariants as admission
 use Rattle.tree_core.specs.Answers.{reply_to_write}
 use Rattle.tree_core.specs.Causes.{HasBegun}
 use Rattle.tree_core.proofs.BegunLemmas.{begun_by}
+use Rattle.tree_core.specs.Notes.{NotesOne}
+use Rattle.tree_core.proofs.NotingLemmas.{notes_at_once, notes_by, notes_stopped}
 use Rattle.tree_core.proofs.LastLemmas.{lasts_by, may_admit}
 use Rattle.tree_core.proofs.store.Core.admit.Goals as goal
 
@@ -515,3 +517,51 @@ returns-in-Failed-clause-begun g c =
     let new = c.take.new.held in
     subst (λ (s : CoreState g.row.D.Denot). HasBegun (admission.Fault c.in-Failed.begun) s.held (with_book c.note-in-Failed.new.self new)) c.self.view_is
     (begun_by c.in-Failed.begun c.args.seat (key_of write) (record_of write) c.self.inside.held new c.note-in-Failed.new.self (g.D.Disk.state c.take.new.disk) c.in-Failed.ensures.takes)
+
+-- ---- what is noted
+
+pub returns-in-Some-clause-notes : goal.returns-in-Some-clause-notes
+returns-in-Some-clause-notes g c =
+    let seat = c.args.seat in
+    let op = c.args.op.now in
+    let b = c.self.inside.held.book in
+    subst (λ (s : CoreState g.row.D.Denot). NotesOne seat op (Stopped c.in-Some.why) s.held.book c.note.new.self) c.self.view_is
+    (notes_at_once seat op (Stopped c.in-Some.why) b c.note.new.self (noted_same seat op c.copy.result (Stopped c.in-Some.why) b c.note.new.self c.note.ensures c.copy.ensures))
+
+pub returns-then-not-admits-clause-notes : goal.returns-then-not-admits-clause-notes
+returns-then-not-admits-clause-notes g c =
+    let seat = c.args.seat in
+    let op = c.args.op.now in
+    let b = c.self.inside.held.book in
+    let new = c.note-then-not-admits.new.self in
+    subst (λ (s : CoreState g.row.D.Denot). NotesOne seat op (Full c.charge-charge.result) s.held.book new) c.self.view_is
+    (notes_at_once seat op (Full c.charge-charge.result) b new (noted_same seat op c.copy-then-not-admits.result (Full c.charge-charge.result) b new c.note-then-not-admits.ensures c.copy-then-not-admits.ensures))
+
+pub returns-in-Taken-clause-notes : goal.returns-in-Taken-clause-notes
+returns-in-Taken-clause-notes g c =
+    let seat = c.args.seat in
+    let op = c.args.op.now in
+    let held = c.self.inside.held in
+    let taken = c.take.new.held in
+    let new = c.note-in-Taken.new.self in
+    let write = c.write_of-write.result in
+    let keeps = taken_keeps seat (key_of write) (record_of write) held taken (g.D.Disk.state c.take.new.disk) c.in-Taken.ensures.takes in
+    subst (λ (s : CoreState g.row.D.Denot). NotesOne seat op Done s.held.book new) c.self.view_is
+    (notes_by seat op Done held.book taken.book new keeps (noted_same seat op c.copy-in-Taken.result Done taken.book new c.note-in-Taken.ensures c.copy-in-Taken.ensures))
+
+pub returns-in-Failed-clause-notes : goal.returns-in-Failed-clause-notes
+returns-in-Failed-clause-notes g c =
+    let seat = c.args.seat in
+    let op = c.args.op.now in
+    let held = c.self.inside.held in
+    let left = c.take.new.held in
+    let after = g.D.Disk.state c.take.new.disk in
+    let new = c.note-in-Failed.new.self in
+    let write = c.write_of-write.result in
+    let begun = c.in-Failed.begun in
+    let keeps = failed_keeps begun seat (key_of write) (record_of write) held left after c.in-Failed.ensures.takes in
+    let same : new ≡ noted_in seat op (cond begun FaultUnsure FaultLost) (stopped_in (Faulted after.faults) left.book) =
+    stopped_same seat op c.copy-in-Failed.result (cond begun FaultUnsure FaultLost) (as_reply c.failed.result) c.faults.result after.faults left.book c.stop.new.self new
+    c.stop.ensures c.faults.ensures c.note-in-Failed.ensures c.copy-in-Failed.ensures c.failed.ensures in
+    subst (λ (s : CoreState g.row.D.Denot). NotesOne seat op (cond begun FaultUnsure FaultLost) s.held.book new) c.self.view_is
+    (notes_stopped seat op (cond begun FaultUnsure FaultLost) (Faulted after.faults) held.book left.book new keeps same)

@@ -1,5 +1,14 @@
+use Rattle.std.proofs.Common.{subst}
+use Rattle.tree_core.specs.Core.{CoreState}
+use Rattle.tree_core.specs.Steps.{StandsSince}
 use Rattle.tree_core.proofs.BoundLemmas.{charge_fits}
+use Rattle.tree_core.proofs.LastLemmas.{since_now}
 use Rattle.tree_core.proofs.store.Core.charge.Goals as goal
 
 pub charge-requires : goal.charge-requires
 charge-requires g c = charge_fits c.self.inside.held c.self.invariant.pace c.self.invariant.holds.told
+
+pub returns-clause-begins : goal.returns-clause-begins
+returns-clause-begins g c =
+    subst (λ (s : CoreState g.row.D.Denot). StandsSince s.held s.held (g.D.Disk.state s.disk) (g.D.Disk.state s.disk)) c.self.view_is
+    (since_now c.self.inside.held c.self.invariant.pace (g.D.Disk.state c.self.inside.disk) (g.met.D.Disk.timed c.self.inside.disk) c.self.invariant.holds.told)

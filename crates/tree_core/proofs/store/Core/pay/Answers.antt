@@ -9,6 +9,7 @@ use Rattle.blsm_model.specs.declared.history.Why.{Why}
 use Rattle.blsm_model.specs.declared.history.Why.TheVariants.{Faulted, BadPage}
 use Rattle.disk_trait.specs.Effects.{Affects, affects_start}
 use Rattle.gear_sched.specs.declared.Plan.TheVariants.{Nothing}
+use Rattle.gear_sched.specs.Gears.{first_debt, second_debt}
 use Rattle.page_file.specs.declared.file.Broken.{Broken}
 use Rattle.page_file.specs.declared.file.Broken.TheVariants.{Fault}
 use Rattle.pacing.specs.Pace.{Pace}
@@ -31,6 +32,9 @@ use Rattle.tree_core.proofs.QuantumSteps.{running_at}
 use Rattle.tree_core.proofs.PaymentSteps.{halted_payment, settled_payment, stands_forgiven, paid_step, failed_payment_step, never_damaged}
 use Rattle.disk_trait.specs.Disk.{GoesOn}
 use Rattle.disk_trait.specs.Moments.{goes_on_start}
+use Rattle.tree_core.specs.Notes.{CountsPayment, NotesNone, OwesNothing}
+use Rattle.tree_core.specs.declared.answers.Payment.TheVariants as payment
+use Rattle.tree_core.proofs.NotingLemmas.{payment_counts, settling_counts, failed_payment_counts, plans_nothing}
 use Rattle.tree_core.proofs.LastLemmas.{lasts_by, may_leave}
 use Rattle.tree_core.proofs.store.Core.pay.Goals as goal
 
@@ -327,3 +331,41 @@ returns-in-Err-Damaged-clause-lasts g c = λ start since.
     let goes = subst (λ (s : CoreState g.row.D.Denot). GoesOn (g.D.Disk.state s.disk) (g.D.Disk.state c.take.new.disk)) c.self.view_is c.take.ensures.effect.goes_on in
     lasts_by c.args.seat kind.Pay (Turn (machine.BadPage c.in-Err-Damaged.page)) start.held c.args.self.now.held _ (g.D.Disk.state start.disk) (g.D.Disk.state c.args.self.now.disk) (g.D.Disk.state c.take.new.disk)
     pace holds (returns-in-Err-Damaged-clause-numbers g c pace holds) goes refl (may_leave c.args.seat c.requires) (returns-in-Err-Damaged-clause-steps g c) since
+
+-- ---- what is counted, and what is owed then
+
+pub returns-in-Nothing-clause-counts : goal.returns-in-Nothing-clause-counts
+returns-in-Nothing-clause-counts g c =
+    subst (λ (s : CoreState g.row.D.Denot). CountsPayment payment.Settled c.args.seat s.held.book c.plan-plan.new.self.book) c.self.view_is
+    (settling_counts c.args.seat c.self.inside.held c.plan-plan.new.self c.plan-plan.ensures.forgiven)
+
+pub returns-in-Nothing-clause-settles : goal.returns-in-Nothing-clause-settles
+returns-in-Nothing-clause-settles g c =
+    let forgiven = c.plan-plan.new.self in
+    plans_nothing (first_debt forgiven.gears c.args.seat) (second_debt forgiven.gears c.args.seat) (sym c.plan-plan.ensures.plan ∙ c.in-Nothing.is)
+
+pub returns-in-Ok-clause-counts : goal.returns-in-Ok-clause-counts
+returns-in-Ok-clause-counts g c =
+    let old = c.self.inside in
+    let p = plans_by c.args.seat c.plan-plan.result old.held c.plan-plan.new.self c.requires c.in_default.ensures c.plan-plan.ensures.forgiven c.plan-plan.ensures.plan c.in_default-plan.not-Nothing in
+    subst (λ (s : CoreState g.row.D.Denot). CountsPayment payment.Paid c.args.seat s.held.book c.count_for_write.new.self) c.self.view_is
+    (payment_counts c.args.seat c.in-Ok.field-0 c.plan-plan.result old.held c.plan-plan.new.self c.take.new.held c.count_for_write.new.self (record { plans = p; takes = c.in-Ok.ensures.takes }) c.count_for_write.ensures)
+
+pub returns-in-Err-Fault-clause-counts : goal.returns-in-Err-Fault-clause-counts
+returns-in-Err-Fault-clause-counts g c =
+    let old = c.self.inside in
+    let failed = c.take.new.held in
+    let why : Why = Faulted c.faults.result in
+    let p = plans_by c.args.seat c.plan-plan.result old.held c.plan-plan.new.self c.requires c.in_default.ensures c.plan-plan.ensures.forgiven c.plan-plan.ensures.plan c.in_default-plan.not-Nothing in
+    let notes = failed_payment_counts c.args.seat c.plan-plan.result why old.held c.plan-plan.new.self failed c.stop.new.self (record { plans = p; kept = kept_once c.plan-plan.new.self failed refl c.in-Err-Fault.ensures.kept; stops = c.stop.ensures }) in
+    subst (λ (s : CoreState g.row.D.Denot). CountsPayment payment.Fault c.args.seat s.held.book c.stop.new.self) c.self.view_is (record { annals = notes.annals; work = notes.work })
+
+pub returns-in-Err-Damaged-clause-counts : goal.returns-in-Err-Damaged-clause-counts
+returns-in-Err-Damaged-clause-counts g c =
+    let old = c.self.inside in
+    let failed = c.take.new.held in
+    let new = c.stop-in-Err-Damaged.new.self in
+    let why : Why = BadPage c.in-Err-Damaged.page in
+    let p = plans_by c.args.seat c.plan-plan.result old.held c.plan-plan.new.self c.requires c.in_default.ensures c.plan-plan.ensures.forgiven c.plan-plan.ensures.plan c.in_default-plan.not-Nothing in
+    let notes = failed_payment_counts c.args.seat c.plan-plan.result why old.held c.plan-plan.new.self failed new (record { plans = p; kept = kept_once c.plan-plan.new.self failed refl c.in-Err-Damaged.ensures.kept; stops = c.stop-in-Err-Damaged.ensures }) in
+    subst (λ (s : CoreState g.row.D.Denot). CountsPayment (payment.Damaged c.in-Err-Damaged.page) c.args.seat s.held.book new) c.self.view_is (record { annals = notes.annals; work = notes.work })

@@ -23,9 +23,11 @@ use Rattle.tree_core.specs.Turning.{move_of}
 use Rattle.tree_core.proofs.BoundLemmas.{rose as has_risen}
 use Rattle.tree_core.proofs.QuantumLemmas.{core_by}
 use Rattle.tree_core.proofs.QuantumSteps.{running_at}
-use Rattle.tree_core.proofs.TurnLemmas.{Turns, Ends, work_turns, counts_work, turn_may, turn_ready, turn_open, turn_moves, turn_because, turn_follows}
+use Rattle.tree_core.proofs.TurnLemmas.{Turns, Ends, work_turns, counts_work, turn_may, turn_ready, turn_open, turn_moves, turn_because, turn_follows, working_caller}
 use Rattle.tree_core.proofs.TurnSteps.{halted_turn, turn_step}
 use Rattle.disk_trait.specs.Disk.{GoesOn}
+use Rattle.tree_core.specs.Notes.{CountsTurn}
+use Rattle.tree_core.proofs.NotingLemmas.{turn_counts, turn_owes, turned_counts}
 use Rattle.tree_core.proofs.LastLemmas.{lasts_by, book_lasts, may_work}
 use Rattle.tree_core.specs.Steps.{StandsSince, may_in}
 use Rattle.tree_core.proofs.store.Core.work_turn.Goals as goal
@@ -225,3 +227,64 @@ returns-in-Some-clause-lasts g c = λ start since.
     let steps = subst (λ (s : CoreState g.row.D.Denot). (opening : List (Key × Value)) (m : Machine) (pace : Pace) → IsTrue (g.D.Disk.state s.disk).is_honest → StandsFor opening s.held m pace (g.D.Disk.state s.disk) → IsTrue (may m c.args.seat kind.WorkTurn)
     → IsStep opening c.args.seat kind.WorkTurn (Turn (machine.Halted c.in-Some.why)) (with_book c.turn.new.self old.held) (g.D.Disk.state s.disk) d m pace) (sym c.self.view_is) (returns-in-Some-clause-steps g c) in
     book_lasts c.args.seat kind.WorkTurn (Turn (machine.Halted c.in-Some.why)) start.held old.held c.turn.new.self (g.D.Disk.state start.disk) d c.self.invariant.pace c.self.invariant.holds (ap (λ (x : BookState). x.counts.peak) c.turn.ensures) refl can steps stood
+
+-- ---- what is counted, and what is owed then
+
+pub returns-in-Some-clause-counts : goal.returns-in-Some-clause-counts
+returns-in-Some-clause-counts g c =
+    let old = c.self.inside.held in
+    let ended = machine.Halted c.in-Some.why in
+    let ok = subst (λ (s : CoreState g.row.D.Denot). IsTrue (may_turn_in c.args.seat s.held.book)) (sym c.self.view_is) c.requires.open in
+    subst (λ (s : CoreState g.row.D.Denot). CountsTurn c.args.seat ended s.held (with_book c.turn.new.self old)) c.self.view_is
+    (turned_counts c.args.seat 0 ended old old (with_book c.turn.new.self old) (working_caller c.args.seat old.book ok) c.has_places.ensures.work (record { annals = refl; work = refl }) (λ why was. was) c.turn.ensures refl)
+
+pub returns-clause-counts : goal.returns-clause-counts
+returns-clause-counts g c =
+    let old = c.self.inside in
+    let mv = move_of c.choose-choice.result in
+    let ok = subst (λ (s : CoreState g.row.D.Denot). IsTrue (may_turn_in c.args.seat s.held.book)) (sym c.self.view_is) c.requires.open in
+    let even = subst (λ (s : CoreState g.row.D.Denot). s.held.book.stopped ≡ None → first_debt s.held.gears c.args.seat + second_debt s.held.gears c.args.seat ≡ 0) (sym c.self.view_is) c.requires.even in
+    let t : Turns false c.args.seat mv old.held = work_turns c.args.seat mv old.held ok even c.has_places.ensures.work c.in_default.ensures c.choose-choice.ensures in
+    let before = g.D.Disk.state old.disk in
+    let after = g.D.Disk.state c.make-made.new.disk in
+    let moved = c.make-made.new.held in
+    let made = c.make-made.result in
+    let faults = c.faults.result in
+    let ended = turned_of c.end-ended.result.0 in
+    let b = c.turn-2.new.self in
+    let e : Ends false c.args.seat mv made faults old.held moved ended b before after = record {
+      turns = t;
+      moves = c.make-made.ensures.moves;
+      on = c.make-made.ensures.on;
+      kept = c.make-made.ensures.kept;
+      told = c.make-made.ensures.faults;
+      ended_is = c.end-ended.ensures.ended;
+      counts = counts_work c.args.seat ended c.end-ended.result.1 (quanta_by made mv) b c.end-ended.new.book (stopped_by made faults moved.book) c.turn-2.ensures c.end-ended.ensures.quanta c.end-ended.ensures.book;
+    } in
+    subst (λ (s : CoreState g.row.D.Denot). CountsTurn c.args.seat ended s.held (with_book b moved)) c.self.view_is
+    (turn_counts c.args.seat mv made faults old.held moved ended b before after e)
+
+pub returns-clause-even_still : goal.returns-clause-even_still
+returns-clause-even_still g c = λ runs.
+    let old = c.self.inside in
+    let mv = move_of c.choose-choice.result in
+    let ok = subst (λ (s : CoreState g.row.D.Denot). IsTrue (may_turn_in c.args.seat s.held.book)) (sym c.self.view_is) c.requires.open in
+    let even = subst (λ (s : CoreState g.row.D.Denot). s.held.book.stopped ≡ None → first_debt s.held.gears c.args.seat + second_debt s.held.gears c.args.seat ≡ 0) (sym c.self.view_is) c.requires.even in
+    let t : Turns false c.args.seat mv old.held = work_turns c.args.seat mv old.held ok even c.has_places.ensures.work c.in_default.ensures c.choose-choice.ensures in
+    let before = g.D.Disk.state old.disk in
+    let after = g.D.Disk.state c.make-made.new.disk in
+    let moved = c.make-made.new.held in
+    let made = c.make-made.result in
+    let faults = c.faults.result in
+    let ended = turned_of c.end-ended.result.0 in
+    let b = c.turn-2.new.self in
+    let e : Ends false c.args.seat mv made faults old.held moved ended b before after = record {
+      turns = t;
+      moves = c.make-made.ensures.moves;
+      on = c.make-made.ensures.on;
+      kept = c.make-made.ensures.kept;
+      told = c.make-made.ensures.faults;
+      ended_is = c.end-ended.ensures.ended;
+      counts = counts_work c.args.seat ended c.end-ended.result.1 (quanta_by made mv) b c.end-ended.new.book (stopped_by made faults moved.book) c.turn-2.ensures c.end-ended.ensures.quanta c.end-ended.ensures.book;
+    } in
+    turn_owes c.args.seat mv made faults old.held moved ended b before after e

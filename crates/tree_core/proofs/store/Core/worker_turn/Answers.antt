@@ -28,6 +28,8 @@ use Rattle.tree_core.proofs.TurnLemmas.{Turns, Ends, closed_moves, halted_follow
 use Rattle.tree_core.proofs.TurnSteps.{halted_turn, closed_turn, turn_step}
 use Rattle.disk_trait.specs.Disk.{GoesOn}
 use Rattle.disk_trait.specs.Moments.{goes_on_start}
+use Rattle.tree_core.specs.Notes.{NotesNone}
+use Rattle.tree_core.proofs.NotingLemmas.{help_notes, helped_notes}
 use Rattle.tree_core.proofs.LastLemmas.{lasts_by, book_lasts, may_help}
 use Rattle.tree_core.specs.Steps.{StandsSince, may_in}
 use Rattle.tree_core.proofs.store.Core.worker_turn.Goals as goal
@@ -273,3 +275,37 @@ returns-in-Some-clause-lasts g c = λ start since.
     let steps = subst (λ (s : CoreState g.row.D.Denot). (opening : List (Key × Value)) (m : Machine) (pace : Pace) → IsTrue (g.D.Disk.state s.disk).is_honest → StandsFor opening s.held m pace (g.D.Disk.state s.disk) → IsTrue (may m c.args.seat kind.WorkerTurn)
     → IsStep opening c.args.seat kind.WorkerTurn (Turn (machine.Halted c.in-Some.why)) (with_book c.worker_turn.new.self old.held) (g.D.Disk.state s.disk) d m pace) (sym c.self.view_is) (returns-in-Some-clause-steps g c) in
     book_lasts c.args.seat kind.WorkerTurn (Turn (machine.Halted c.in-Some.why)) start.held old.held c.worker_turn.new.self (g.D.Disk.state start.disk) d c.self.invariant.pace c.self.invariant.holds (ap (λ (x : BookState). x.counts.peak) c.worker_turn.ensures) refl can steps stood
+
+-- ---- what is noted
+
+pub returns-in-Some-clause-notes : goal.returns-in-Some-clause-notes
+returns-in-Some-clause-notes g c =
+    subst (λ (s : CoreState g.row.D.Denot). NotesNone s.held.book c.worker_turn.new.self) c.self.view_is (helped_notes c.args.seat c.self.inside.held.book c.worker_turn.new.self c.worker_turn.ensures)
+
+pub returns-then-is_closed-clause-notes : goal.returns-then-is_closed-clause-notes
+returns-then-is_closed-clause-notes g c =
+    subst (λ (s : CoreState g.row.D.Denot). NotesNone s.held.book c.worker_turn-then-is_closed.new.self) c.self.view_is
+    (helped_notes c.args.seat c.self.inside.held.book c.worker_turn-then-is_closed.new.self c.worker_turn-then-is_closed.ensures)
+
+pub returns-clause-notes : goal.returns-clause-notes
+returns-clause-notes g c =
+    let old = c.self.inside in
+    let mv = move_of c.choose-choice.result in
+    let t : Turns true c.args.seat mv old.held = record { ran = sym c.in_default.ensures; is_seat = c.requires; even = tt; is = c.choose-choice.ensures } in
+    let before = g.D.Disk.state old.disk in
+    let after = g.D.Disk.state c.make-made.new.disk in
+    let moved = c.make-made.new.held in
+    let made = c.make-made.result in
+    let faults = c.faults.result in
+    let ended = turned_of c.end-ended.result.0 in
+    let b = c.worker_turn-2.new.self in
+    let e : Ends true c.args.seat mv made faults old.held moved ended b before after = record {
+      turns = t;
+      moves = c.make-made.ensures.moves;
+      on = c.make-made.ensures.on;
+      kept = c.make-made.ensures.kept;
+      told = c.make-made.ensures.faults;
+      ended_is = c.end-ended.ensures.ended;
+      counts = c.worker_turn-2.ensures ∙ ap (λ (x : BookState). helped_in c.args.seat x) c.end-ended.ensures.book;
+    } in
+    subst (λ (s : CoreState g.row.D.Denot). NotesNone s.held.book b) c.self.view_is (help_notes c.args.seat mv made faults old.held moved ended b before after e)
