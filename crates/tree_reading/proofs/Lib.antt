@@ -1,0 +1,13 @@
+mod LaneLemmas
+mod CallsLemmas
+mod PagesLemmas
+mod DamageLemmas
+mod WalkLemmas
+mod AgainLemmas
+mod MapLemmas
+mod ComponentsLemmas
+mod FaultLemmas
+mod LanesLemmas
+mod ReadingLemmas
+mod ReportLemmas
+mod FirstLemmas

@@ -1,0 +1,222 @@
+-- Chains of pages from one first page, and where one is damaged.
+use Rattle.std.proofs.Common.{◌≡◌, ◌⊎◌, ℕ, zero, suc, ◌+◌, ◌<◌, ◌≤◌, List, [], ◌∷◌, ◌++◌, length, refl, ap, sym, subst, ◌∙◌, arith, inl, inr, ⊎_elim, Bool, true, false, Option, Some, None, append_assoc, length-append}
+use Rattle.std.specs.Prelude.{nat_eq, IsSome}
+use Rattle.std.specs.List.{AllByRecursion, Contains, IsDistinct}
+use Rattle.std.specs.declared.cmp.Ordering.TheVariants.{Less}
+use Rattle.std.specs.List.Sorted.{IsStrictlySortedBy}
+use Rattle.std.proofs.lemmas.Bool.{eqb-false}
+use Rattle.std.proofs.lemmas.List.{map-append}
+use Rattle.std.proofs.lemmas.List.Elements.{Contains-append_cases}
+use Rattle.blsm_model.specs.declared.component.Component.{Component}
+use Rattle.blsm_model.specs.declared.key.Key.{Key}
+use Rattle.blsm_model.specs.Components.{no_page}
+use Rattle.blsm_model.specs.Keys.{key_cmp}
+use Rattle.blsm_model.specs.Sizes.{Sizes}
+use Rattle.blsm_model.specs.Geometry.{page_count}
+use Rattle.record_delta.specs.Entries.{Entries, entries_weight}
+use Rattle.page_file.specs.Entry.{AreRising, keys_of}
+use Rattle.page_file.specs.Page.{page_number, IsPageOf}
+use Rattle.page_file.specs.File.{page_at}
+use Rattle.page_file.specs.Component.{RunPage, ReadsAs, AreChained, entries_of, first_number, numbers_of}
+use Rattle.page_file.proofs.PageLemmas.{page_same}
+use Rattle.page_file.proofs.ComponentLemmas.{chain_split, entries_join, weight_join}
+use Rattle.tree_reading.specs.Pages.{AreAllowed, IsDamagedPage}
+use Rattle.tree_reading.specs.Walk.{IsStoppedAt}
+
+-- ---- two chains from one first page
+
+-- the one goes on where the other ends
+pub record IsBehind (ps : List RunPage) (end : Option ℕ) (qs : List RunPage) (other : Option ℕ) : Type 0 where
+  pub rest : List RunPage
+  pub parts : qs ≡ ps ++ rest
+  pub on : page_number (first_number rest other) ≡ page_number end
+
+pub front_of_chain : (sizes : Sizes) (ps qs : List RunPage) (end other : Option ℕ) (file : List ℕ) → page_count sizes ≤ no_page → AreChained sizes ps end file → AreChained sizes qs other file
+    → page_number (first_number ps end) ≡ page_number (first_number qs other) → IsBehind ps end qs other ⊎ IsBehind qs other ps end
+front_of_chain sizes [] qs end other file few c d first = inl (record { rest = qs; parts = refl; on = sym first })
+front_of_chain sizes (p ∷ ps) [] end other file few c d first = inr (record { rest = p ∷ ps; parts = refl; on = first })
+front_of_chain sizes (p ∷ ps) (q ∷ qs) end other file few c d first =
+    let there = subst (λ (n : ℕ). IsPageOf (page_count sizes) (first_number qs other) q.entries (page_at sizes n file)) (sym first) d.1 in
+    let here = page_same (page_count sizes) (first_number ps end) (first_number qs other) p.entries q.entries (page_at sizes p.number file) few c.1 there in
+    let same : p ≡ q = λ i. record { number = first i; entries = here.1 i } in
+    elim (front_of_chain sizes ps qs end other file few c.2 d.2 (ap page_number here.0)) [
+      | inl more ↦ inl (record { rest = more.rest; parts = (λ i. sym same i ∷ more.parts i); on = more.on })
+      | inr more ↦ inr (record { rest = more.rest; parts = (λ i. same i ∷ more.parts i); on = more.on })
+    ]
+
+pub is_some : (end : Option ℕ) (n : ℕ) → page_number end ≡ n → n < no_page → end ≡ Some n
+is_some None n is below = absurd (omega (arith, is, below))
+is_some (Some m) n is below = ap (λ k. Some k) is
+
+-- ---- parts of a list
+
+pub rise_front : (es fs : Entries) → AreRising (es ++ fs) → AreRising es
+unfolding IsStrictlySortedBy
+rise_front [] fs rise = tt
+rise_front (e ∷ es) fs rise = (front es rise.0, rise_front es fs rise.1)
+  where
+    front : (xs : Entries) → AllByRecursion (λ (k : Key). key_cmp e.0 k ≡ Less) (keys_of (xs ++ fs)) → AllByRecursion (λ (k : Key). key_cmp e.0 k ≡ Less) (keys_of xs)
+    front [] all = tt
+    front (x ∷ xs) all = (all.0, front xs all.1)
+
+pub allowed_front : (only : Bool) (es fs : Entries) → AreAllowed only (es ++ fs) → AreAllowed only es
+allowed_front false es fs all = tt
+allowed_front true [] fs all = tt
+allowed_front true (e ∷ es) fs all = (all.0, allowed_front true es fs all.1)
+
+pub allowed_back : (only : Bool) (es fs : Entries) → AreAllowed only (es ++ fs) → AreAllowed only fs
+allowed_back false es fs all = tt
+allowed_back true [] fs all = all
+allowed_back true (e ∷ es) fs all = allowed_back true es fs all.1
+
+-- ---- a page that is met once
+
+pub single : (y x : ℕ) → Contains (y ∷ []) x → y ≡ x
+single y x (zero, lt, is) = is
+single y x (suc k, lt, is) = absurd (omega (arith, lt))
+
+pub distinct_behind : (xs : List ℕ) (y : ℕ) (ys : List ℕ) → IsDistinct nat_eq (xs ++ y ∷ ys) → Contains xs y → ⊥
+unfolding IsDistinct
+distinct_behind [] y ys apart (k, lt, is) = omega (arith, lt)
+distinct_behind (x ∷ xs) y ys apart has =
+    elim (Contains-append_cases (x ∷ []) xs y has) [
+      | inl one ↦ differs xs apart.0 (single x y one)
+      | inr more ↦ distinct_behind xs y ys apart.1 more
+    ]
+  where
+    differs : (zs : List ℕ) → AllByRecursion (λ (z : ℕ). nat_eq x z ≡ false) (zs ++ y ∷ ys) → x ≡ y → ⊥
+    differs [] all same = eqb-false x y all.0 same
+    differs (z ∷ zs) all same = differs zs all.1 same
+
+pub distinct_front : (xs ys : List ℕ) → IsDistinct nat_eq (xs ++ ys) → IsDistinct nat_eq xs
+unfolding IsDistinct
+distinct_front [] ys apart = tt
+distinct_front (x ∷ xs) ys apart = (front xs apart.0, distinct_front xs ys apart.1)
+  where
+    front : (zs : List ℕ) → AllByRecursion (λ (z : ℕ). nat_eq x z ≡ false) (zs ++ ys) → AllByRecursion (λ (z : ℕ). nat_eq x z ≡ false) zs
+    front [] all = tt
+    front (z ∷ zs) all = (all.0, front zs all.1)
+
+pub distinct_back : (xs ys : List ℕ) → IsDistinct nat_eq (xs ++ ys) → IsDistinct nat_eq ys
+unfolding IsDistinct
+distinct_back [] ys apart = apart
+distinct_back (x ∷ xs) ys apart = distinct_back xs ys apart.1
+
+-- ---- a component that reads stops no walk, and has no damaged page
+
+some_first : (ps : List RunPage) → IsSome (first_number ps None) → 0 < length ps
+some_first [] some = absurd (cc)
+some_first (p ∷ ps) some = omega arith
+
+first_some : (ps : List RunPage) → 0 < length ps → IsSome (first_number ps None)
+first_some [] some = absurd (omega (arith, some))
+first_some (p ∷ ps) some = refl
+
+pub no_stopped_page : (sizes : Sizes) (run : Component) (only : Bool) (earlier : List ℕ) (n : ℕ) (qs : List RunPage) (file : List ℕ) → page_count sizes ≤ no_page → ReadsAs sizes run qs file
+    → IsDistinct nat_eq (earlier ++ numbers_of qs) → AreAllowed only (entries_of qs) → IsStoppedAt sizes run only earlier n file → ⊥
+no_stopped_page sizes run only earlier n qs file few reads apart allowed d =
+    elim (front_of_chain sizes d.pages qs (Some n) None file few d.begins.chained reads.chained (d.begins.first_is ∙ sym reads.first_is)) [
+      | inl b ↦ behind b.rest b.parts b.on
+      | inr b ↦ omega (arith, d.more, reads.pages_is, ap (λ (l : List RunPage). length l) b.parts, length-append qs b.rest)
+    ]
+  where
+    no_rest : (rest : List RunPage) → length rest ≡ 0 → rest ≡ []
+    no_rest [] none = refl
+    no_rest (p ∷ rest) none = absurd (omega (arith, none))
+
+    behind : (rest : List RunPage) → qs ≡ d.pages ++ rest → page_number (first_number rest None) ≡ n → ⊥
+    behind [] parts on = omega (arith, d.more, reads.pages_is, ap (λ (l : List RunPage). length l) parts, length-append {A = RunPage} d.pages [])
+    behind (p ∷ rest) parts on =
+        let number : p.number ≡ n = on in
+        let chained = chain_split sizes d.pages (p ∷ rest) None file (subst (λ (l : List RunPage). AreChained sizes l None file) parts reads.chained) in
+        let joined : entries_of qs ≡ entries_of d.pages ++ (p.entries ++ entries_of rest) = ap entries_of parts ∙ entries_join d.pages (p ∷ rest) in
+        let grouped : entries_of qs ≡ (entries_of d.pages ++ p.entries) ++ entries_of rest = joined ∙ sym (append_assoc (entries_of d.pages) p.entries (entries_of rest)) in
+        let many : length qs ≡ length d.pages + (1 + length rest) = omega (arith, ap (λ (l : List RunPage). length l) parts, length-append d.pages (p ∷ rest)) in
+        let counts : length (entries_of qs) ≡ length (entries_of d.pages) + (length p.entries + length (entries_of rest)) =
+        ap (λ (l : Entries). length l) joined ∙ length-append (entries_of d.pages) (p.entries ++ entries_of rest) ∙ ap (λ k. length (entries_of d.pages) + k) (length-append p.entries (entries_of rest)) in
+        let weighs : entries_weight (entries_of qs) ≡ entries_weight (entries_of d.pages) + (entries_weight p.entries + entries_weight (entries_of rest)) =
+        ap entries_weight joined ∙ weight_join (entries_of d.pages) (p.entries ++ entries_of rest) ∙ ap (λ k. entries_weight (entries_of d.pages) + k) (weight_join p.entries (entries_of rest)) in
+        elim d.stopped [
+          | inl met ↦
+              distinct_behind (earlier ++ numbers_of d.pages) n (numbers_of rest)
+              (subst (λ (l : List ℕ). IsDistinct nat_eq l)
+              (ap (λ (l : List ℕ). earlier ++ l) (ap numbers_of parts ∙ map-append (λ (q : RunPage). q.number) d.pages (p ∷ rest)) ∙ sym (append_assoc earlier (numbers_of d.pages) (numbers_of (p ∷ rest)))
+              ∙ ap (λ k. (earlier ++ numbers_of d.pages) ++ k ∷ numbers_of rest) number)
+              apart)
+              met
+          | inr none ↦
+              none (first_number rest None) p.entries
+              (record {
+                goes_on = record {
+                  inside = subst (λ k. k < page_count sizes) number chained.1.0;
+                  valid = subst (λ k. IsPageOf (page_count sizes) (first_number rest None) p.entries (page_at sizes k file)) number chained.1.1;
+                  rise = rise_front (entries_of d.pages ++ p.entries) (entries_of rest) (subst AreRising grouped reads.rise);
+                  follows = (
+                    λ some. omega (arith, some_first rest some, many, reads.pages_is),
+                    λ lt. first_some rest (omega (arith, lt, many, reads.pages_is)),
+                  );
+                  all = λ last.
+                      let bare : rest ≡ [] = no_rest rest (omega (arith, last, many, reads.pages_is)) in
+                      (omega (arith, counts, reads.entries_is, ap (λ (l : List RunPage). length (entries_of l)) bare), omega (arith, weighs, reads.weight_is, ap (λ (l : List RunPage). entries_weight (entries_of l)) bare));
+                  allowed = allowed_front only p.entries (entries_of rest) (allowed_back only (entries_of d.pages) (p.entries ++ entries_of rest) (subst (λ (l : Entries). AreAllowed only l) joined allowed));
+                };
+                few = omega (arith, counts, reads.entries_is);
+                light = omega (arith, weighs, reads.weight_is);
+              })
+        ]
+
+pub no_damaged_page : (sizes : Sizes) (run : Component) (only : Bool) (earlier : List ℕ) (n : ℕ) (qs : List RunPage) (file : List ℕ) → page_count sizes ≤ no_page → ReadsAs sizes run qs file
+    → IsDistinct nat_eq (earlier ++ numbers_of qs) → AreAllowed only (entries_of qs) → IsDamagedPage sizes run only earlier n file → ⊥
+no_damaged_page sizes run only earlier n qs file few reads apart allowed d =
+    no_stopped_page sizes run only earlier n qs file few reads apart allowed
+    (record { pages = d.pages; begins = d.begins; more = d.more; stopped = ⊎_elim (λ met. inl met) (λ none. inr (λ next es go. none next es go.goes_on)) d.damaged })
+
+-- ---- no two pages are damaged
+
+-- a page that others were read behind goes on
+behind_damaged : (sizes : Sizes) (run : Component) (only : Bool) (earlier : List ℕ) (m n : ℕ) (file : List ℕ) (c : IsDamagedPage sizes run only earlier m file) (d : IsDamagedPage sizes run only earlier n file)
+    (p : RunPage) (rest : List RunPage) → d.pages ≡ c.pages ++ p ∷ rest → p.number ≡ m → ⊥
+behind_damaged sizes run only earlier m n file c d p rest parts number =
+    let chained = chain_split sizes c.pages (p ∷ rest) (Some n) file (subst (λ (l : List RunPage). AreChained sizes l (Some n) file) parts d.begins.chained) in
+    let joined : entries_of d.pages ≡ entries_of c.pages ++ (p.entries ++ entries_of rest) = ap entries_of parts ∙ entries_join c.pages (p ∷ rest) in
+    let grouped : entries_of d.pages ≡ (entries_of c.pages ++ p.entries) ++ entries_of rest = joined ∙ sym (append_assoc (entries_of c.pages) p.entries (entries_of rest)) in
+    let many : length d.pages ≡ length c.pages + (1 + length rest) = omega (arith, ap (λ (l : List RunPage). length l) parts, length-append c.pages (p ∷ rest)) in
+    elim c.damaged [
+      | inl met ↦
+          distinct_behind (earlier ++ numbers_of c.pages) m (numbers_of rest)
+          (subst (λ (l : List ℕ). IsDistinct nat_eq l)
+          (ap (λ (l : List ℕ). earlier ++ l) (ap numbers_of parts ∙ map-append (λ (q : RunPage). q.number) c.pages (p ∷ rest)) ∙ sym (append_assoc earlier (numbers_of c.pages) (numbers_of (p ∷ rest)))
+          ∙ ap (λ k. (earlier ++ numbers_of c.pages) ++ k ∷ numbers_of rest) number)
+          d.begins.apart)
+          met
+      | inr none ↦
+          none (first_number rest (Some n)) p.entries
+          (record {
+            inside = subst (λ k. k < page_count sizes) number chained.1.0;
+            valid = subst (λ k. IsPageOf (page_count sizes) (first_number rest (Some n)) p.entries (page_at sizes k file)) number chained.1.1;
+            rise = rise_front (entries_of c.pages ++ p.entries) (entries_of rest) (subst AreRising grouped d.begins.rise);
+            follows = (λ some. omega (arith, many, d.more), λ lt. some_named rest);
+            all = λ last. absurd (omega (arith, last, many, d.more));
+            allowed = allowed_front only p.entries (entries_of rest) (allowed_back only (entries_of c.pages) (p.entries ++ entries_of rest) (subst (λ (l : Entries). AreAllowed only l) joined d.begins.allowed));
+          })
+    ]
+  where
+    some_named : (ps : List RunPage) → IsSome (first_number ps (Some n))
+    some_named [] = refl
+    some_named (q ∷ ps) = refl
+
+pub one_damaged_page : (sizes : Sizes) (run : Component) (only : Bool) (earlier : List ℕ) (m n : ℕ) (file : List ℕ) → page_count sizes ≤ no_page → IsDamagedPage sizes run only earlier m file
+    → IsDamagedPage sizes run only earlier n file → m ≡ n
+one_damaged_page sizes run only earlier m n file few c d =
+    elim (front_of_chain sizes c.pages d.pages (Some m) (Some n) file few c.begins.chained d.begins.chained (c.begins.first_is ∙ sym d.begins.first_is)) [
+      | inl b ↦ first b.rest b.parts b.on
+      | inr b ↦ second b.rest b.parts b.on
+    ]
+  where
+    first : (rest : List RunPage) → d.pages ≡ c.pages ++ rest → page_number (first_number rest (Some n)) ≡ m → m ≡ n
+    first [] parts on = sym on
+    first (p ∷ rest) parts on = absurd (behind_damaged sizes run only earlier m n file c d p rest parts on)
+
+    second : (rest : List RunPage) → c.pages ≡ d.pages ++ rest → page_number (first_number rest (Some m)) ≡ n → m ≡ n
+    second [] parts on = on
+    second (p ∷ rest) parts on = absurd (behind_damaged sizes run only earlier n m file d c p rest parts on)

@@ -1,0 +1,99 @@
+-- What was found of a store is a tree that fits.
+use Rattle.std.proofs.Common.{◌≡◌, ℕ, ◌+◌, ◌-◌, ◌≤◌, List, Bool, IsTrue, take, refl, sym, subst, arith, Result, Ok, Err, IfOk}
+use Rattle.std.specs.Prelude.{min}
+use Rattle.disk_trait.specs.Disk.{DiskState}
+use Rattle.disk_trait.specs.Reads.{only_reads_wider}
+use Rattle.blsm_model.specs.Sizes.{Sizes}
+use Rattle.blsm_model.specs.Geometry.{capacity, high_mark}
+use Rattle.blsm_model.specs.Lanes.{a_of, b_of}
+use Rattle.record_delta.specs.Entries.{Entries, entries_weight, replayed}
+use Rattle.catalog_swap.specs.declared.catalog.Catalog.{Catalog}
+use Rattle.gated_log.specs.Lane.{HasEntries}
+use Rattle.tree_reading.specs.declared.found.Found.{Found}
+use Rattle.tree_reading.specs.declared.lane.LaneEnd.{LaneEnd}
+use Rattle.tree_reading.specs.Damage.{HasCatalogue, catalogue_weight}
+use Rattle.tree_reading.specs.Reading.{AreReplayed, AreTagged, HasLooked, HoldsFound, IsFound, at_superblock, within}
+use Rattle.tree_reading.proofs.LanesLemmas.{within_room}
+
+-- what holds at all is so of each value of Ok
+pub on_any_ok : {A E : Type 0} {P : Type 0} (r : Result A E) → P → IfOk r (λ a. P)
+on_any_ok (Ok a) holds = holds
+on_any_ok (Err e) holds = tt
+
+pub looked_more : {most more : Sizes → ℕ} {old new : DiskState} → ((s : Sizes) → most s ≤ more s) → HasLooked most old new → HasLooked more old new
+looked_more less (at_superblock reads) = at_superblock reads
+looked_more less (within sizes fits long reads) = within sizes fits long (only_reads_wider (omega arith) (less sizes) reads)
+
+min_below : (n a b : ℕ) → n ≤ min a b → (n ≤ a) × (n ≤ b)
+min_below n a b below = grind (arith, below)
+
+-- on an honest disk it is a tree that fits
+pub fits_found : (found : Found) (honest : Bool) (file : List ℕ) → IsTrue honest → IsFound found honest file → HasCatalogue found.geometry found.catalogue file
+    → AreTagged found.geometry found.catalogue found.space file → HoldsFound found file
+fits_found found honest file sure is has tagged =
+    let r = is.replayed in
+    let high = high_mark found.geometry in
+    let left = capacity found.geometry - catalogue_weight found.catalogue in
+    let parts = tagged.components in
+    let light : entries_weight (replayed r.lane_a) ≤ min high left =
+    subst (λ (l : Entries). entries_weight l ≤ min high left) r.a_is.table_is (within_room found.geometry (min high left) r.lane_a found.a.entries _ r.a_is) in
+    let below_a : (n : ℕ) → (entries_weight (replayed (take n r.lane_a)) ≤ high) × (entries_weight (replayed (take n r.lane_a)) ≤ left) = λ n. min_below _ high left (r.a_is.within n) in
+    let below_b : (n : ℕ) → (entries_weight (replayed r.lane_a) + entries_weight (replayed (take n r.lane_b)) ≤ high) × (entries_weight (replayed r.lane_a) + entries_weight (replayed (take n r.lane_b)) ≤ left) =
+    λ n. min_below _ high left (together (min high left) _ _ light (r.b_is.within n)) in
+    record {
+      tree = record { catalogue = found.catalogue; c1 = tagged.c1; c1x = tagged.c1x; c2 = tagged.c2; lane_a = r.lane_a; lane_b = r.lane_b };
+      holds = record {
+        store = has.store;
+        newest = has.newest;
+        c1 = parts.c1_reads;
+        c1x = parts.c1x_reads;
+        c2 = parts.c2_reads;
+        apart = parts.apart;
+        bases = parts.bases;
+        lane_a = r.has_a sure;
+        lane_b = r.has_b sure;
+      };
+      fits = record {
+        mark = omega (arith, has.fits.mark, parts.c1_reads.weight_is);
+        full = omega (arith, has.fits.full, parts.c1_reads.weight_is, parts.c1x_reads.weight_is, parts.c2_reads.weight_is);
+        replays = record {
+          high_a = λ n. (below_a n).0;
+          full_a = λ n. omega (arith, (below_a n).1, has.fits.full, parts.c1_reads.weight_is, parts.c1x_reads.weight_is, parts.c2_reads.weight_is);
+          high_b = λ n. (below_b n).0;
+          full_b = λ n. omega (arith, (below_b n).1, has.fits.full, parts.c1_reads.weight_is, parts.c1x_reads.weight_is, parts.c2_reads.weight_is);
+        };
+      };
+      catalogue = refl;
+      c1_tag = tagged.c1_tag;
+      c1x_tag = tagged.c1x_tag;
+      c2_tag = tagged.c2_tag;
+      table_a = r.a_is.table_is;
+      table_b = r.b_is.table_is;
+      end_a = r.a_is.place_is;
+      end_b = r.b_is.place_is;
+      records_a = r.a_is.records_is;
+      records_b = r.b_is.records_is;
+    }
+  where
+    together : (room a b : ℕ) → a ≤ room → b ≤ room - a → a + b ≤ room
+    together room a b one two = omega (arith, one, two)
+
+-- the ends, as the lanes have them
+pub replayed_at : (sizes : Sizes) (catalogue : Catalog) (a b : Entries) (end_a end_b : LaneEnd) (at_a at_b : ℕ) (honest : Bool) (file : List ℕ) → AreReplayed sizes catalogue a b end_a end_b honest file
+    → at_a ≡ end_a.place → at_b ≡ end_b.place
+    → AreReplayed sizes catalogue a b (record { place = at_a; records = end_a.records }) (record { place = at_b; records = end_b.records }) honest file
+replayed_at sizes catalogue a b end_a end_b at_a at_b honest file r one two =
+    subst (λ n. AreReplayed sizes catalogue a b (record { place = n; records = end_a.records }) (record { place = at_b; records = end_b.records }) honest file) (sym one)
+    (subst (λ n. AreReplayed sizes catalogue a b end_a (record { place = n; records = end_b.records }) honest file) (sym two) r)
+
+-- the lanes, as an earlier state of the disk has them, which reads the same where it is honest
+pub replayed_in : (sizes : Sizes) (catalogue : Catalog) (a b : Entries) (end_a end_b : LaneEnd) (honest was : Bool) (bytes file : List ℕ) → AreReplayed sizes catalogue a b end_a end_b honest bytes
+    → (IsTrue was → IsTrue honest) → (IsTrue was → bytes ≡ file) → AreReplayed sizes catalogue a b end_a end_b was file
+replayed_in sizes catalogue a b end_a end_b honest was bytes file r still same = record {
+  lane_a = r.lane_a;
+  lane_b = r.lane_b;
+  a_is = r.a_is;
+  b_is = r.b_is;
+  has_a = λ sure. subst (λ (l : List ℕ). HasEntries sizes (a_of catalogue.lanes) r.lane_a l) (same sure) (r.has_a (still sure));
+  has_b = λ sure. subst (λ (l : List ℕ). HasEntries sizes (b_of catalogue.lanes) r.lane_b l) (same sure) (r.has_b (still sure));
+}

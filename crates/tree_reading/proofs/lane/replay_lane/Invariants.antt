@@ -1,0 +1,31 @@
+use Rattle.std.proofs.Common.{◌≡◌, ◌≤◌, ◌<◌, ◌*◌, ◌-◌, ◌^◌, IsTrue, length}
+use Rattle.disk_trait.specs.Reads.{OnlyReads}
+use Rattle.blsm_model.specs.Geometry.{file_length}
+use Rattle.blsm_model.specs.Lanes.{region_length}
+use Rattle.record_delta.specs.Entries.{Entries, entries_weight, replayed}
+use Rattle.gated_log.specs.Lane.{blocks}
+use Rattle.gated_log.specs.Replay.{HasGiven}
+use Rattle.tree_reading.specs.Lane.{StaysWithin}
+use Rattle.tree_reading.proofs.lane.replay_lane.Given as goal
+
+abbrev pub invariant-loop-key : goal.invariant-loop-key
+invariant-loop-key g l = record {
+  sizes : l.replay.sizes ≡ l.geo;
+  lane : l.replay.lane ≡ l.lane;
+  reserved : l.table.reserved ≡ l.fn.table.reserved;
+  short : region_length l.geo < 2 ^ 32;
+  counted : 15 * l.records ≤ l.replay.end;
+  few : 15 * l.records ≤ region_length l.geo;
+  stands : (g.D.Disk.state l.disk).faults ≡ (g.D.Disk.state l.fn.disk).faults;
+  light : entries_weight l.table.entries ≤ l.room;
+  entries : Entries;
+  table_is : l.table.entries ≡ replayed entries;
+  place_is : length (blocks entries) ≡ l.replay.end;
+  records_is : length entries ≡ l.records;
+  within : StaysWithin l.room entries;
+  given : IsTrue (g.D.Disk.state l.fn.disk).is_honest → HasGiven l.replay entries (g.D.Disk.state l.fn.disk).bytes;
+  effect : OnlyReads (file_length l.geo) l.records (g.D.Disk.state l.fn.disk) (g.D.Disk.state l.disk);
+}
+
+abbrev pub decreases-loop-key : goal.decreases-loop-key
+decreases-loop-key g l = region_length l.geo - l.replay.end

@@ -1,0 +1,80 @@
+use Rattle.std.proofs.Common.{◌∙◌, ℕ, List, IsTrue, IfErr, Result, Err, ap, refl, sym, subst, arith}
+use Rattle.std.proofs.lemmas.Result.{err_from_is_err_and}
+use Rattle.disk_trait.specs.Reads.{only_reads_more, only_reads_same, only_reads_wider}
+use Rattle.tree_reading.specs.Damage.{HasCatalogue}
+use Rattle.tree_reading.specs.declared.found.Unreadable.{Unreadable}
+use Rattle.tree_reading.specs.Reading.{AreTagged, IsWhy, within}
+use Rattle.mem_table.specs.Tables.{Contents}
+use Rattle.tree_reading.proofs.FaultLemmas.{calm, faults_as, faults_none, faults_then}
+use Rattle.tree_reading.proofs.ReadingLemmas.{fits_found, looked_more, replayed_at, replayed_in}
+use Rattle.tree_reading.proofs.reading.read_tree.Goals as goal
+
+pub returns-in_err-head-clause-looked : goal.returns-in_err-head-clause-looked
+returns-in_err-head-clause-looked g c = λ is. looked_more (λ s. omega arith) (c.in_err-head.ensures.looked refl)
+
+pub returns-in_default-clause-looked : goal.returns-in_default-clause-looked
+returns-in_default-clause-looked g c = λ is.
+    within c.in_ok-head.head.geometry c.in_ok-head.ensures.fits.geometry c.in_ok-head.ensures.length (only_reads_wider (omega arith) (omega arith) c.in_ok-head.ensures.effect)
+
+pub returns-in_err-ends-clause-refused : goal.returns-in_err-ends-clause-refused
+returns-in_err-ends-clause-refused g c = λ honest.
+    let first = g.D.Disk.state c.args.disk.now in
+    let mid = g.D.Disk.state c.read_head.new.disk in
+    let head = c.in_ok-head.head in
+    let p = err_from_is_err_and c.from_residual-in_err-ends.result c.from_residual-in_err-ends.ensures.1 in
+    let effect = c.in_ok-head.ensures.effect in
+    let honest' : IsTrue mid.is_honest = effect.effect.goes_on.is_honest ∙ honest in
+    let bytes = only_reads_same effect honest in
+    subst (λ (r : Result _ Unreadable). IfErr r (λ why. IsWhy why first.bytes)) (sym (p.1 ∙ ap Err p.2))
+    (subst (λ (b : List ℕ). HasCatalogue head.geometry head.catalogue b → IsWhy c.in_err-ends.field-0.0 b) bytes (c.in_err-ends.ensures.refused honest') (c.in_ok-head.ensures.found honest))
+
+pub returns-in_err-ends-clause-looked : goal.returns-in_err-ends-clause-looked
+returns-in_err-ends-clause-looked g c = λ is.
+    let head = c.in_ok-head.head in
+    within head.geometry c.in_ok-head.ensures.fits.geometry c.in_ok-head.ensures.length
+    (only_reads_more (g.met.D.Disk.timed c.read_head.new.disk) (c.in_ok-head.ensures.faults.stands (λ wrong. absurd (cc))) c.in_ok-head.ensures.effect c.read_parts.ensures.effect (omega arith) (omega arith))
+
+pub returns-in_err-ends-clause-faults : goal.returns-in_err-ends-clause-faults
+returns-in_err-ends-clause-faults g c =
+    let p = err_from_is_err_and c.from_residual-in_err-ends.result c.from_residual-in_err-ends.ensures.1 in
+    faults_then c.from_residual-in_err-ends.result (calm _ c.in_ok-head.ensures.faults)
+    (faults_as c.from_residual-in_err-ends.result c.read_parts.result p.0 c.in_err-ends.field-0.0 p.1 p.2 c.in_err-ends.was c.read_parts.ensures.faults)
+
+pub returns-clause-found : goal.returns-clause-found
+returns-clause-found g c =
+    let first = g.D.Disk.state c.args.disk.now in
+    let mid = g.D.Disk.state c.read_head.new.disk in
+    let head = c.in_ok-head.head in
+    let ends = c.in_ok-ends.ends in
+    let room = c.read_parts.new.room in
+    let effect = c.in_ok-head.ensures.effect in
+    record {
+      head = c.in_ok-head.ensures.fits;
+      tags = c.in_ok-ends.ensures.tags;
+      sizes = c.lanes_of-lanes.ensures.sizes;
+      roles = c.lanes_of-lanes.ensures.roles;
+      replayed =
+          replayed_at head.geometry head.catalogue room.a.entries room.b.entries ends.a ends.b _ _ first.is_honest first.bytes
+          (replayed_in head.geometry head.catalogue room.a.entries room.b.entries ends.a ends.b mid.is_honest first.is_honest mid.bytes first.bytes c.in_ok-ends.ensures.replayed
+          (λ honest. effect.effect.goes_on.is_honest ∙ honest) (only_reads_same effect))
+          c.lanes_of-lanes.ensures.end_a c.lanes_of-lanes.ensures.end_b;
+      reserved_a = c.in_ok-ends.ensures.reserved.0 ∙ ap (λ (t : Contents). t.reserved) c.in-Ok.ensures.a;
+      reserved_b = c.in_ok-ends.ensures.reserved.1 ∙ ap (λ (t : Contents). t.reserved) c.in-Ok.ensures.b;
+    }
+
+pub returns-clause-holds : goal.returns-clause-holds
+returns-clause-holds g c = λ honest.
+    let first = g.D.Disk.state c.args.disk.now in
+    let mid = g.D.Disk.state c.read_head.new.disk in
+    let head = c.in_ok-head.head in
+    let effect = c.in_ok-head.ensures.effect in
+    let honest' : IsTrue mid.is_honest = effect.effect.goes_on.is_honest ∙ honest in
+    fits_found _ first.is_honest first.bytes honest (returns-clause-found g c) (c.in_ok-head.ensures.found honest)
+    (subst (λ (b : List ℕ). AreTagged head.geometry head.catalogue c.read_parts.new.room.space b) (only_reads_same effect honest) (c.in_ok-ends.ensures.tagged honest'))
+
+pub returns-clause-faults : goal.returns-clause-faults
+returns-clause-faults g c = faults_none _ (calm _ c.in_ok-ends.ensures.faults ∙ calm _ c.in_ok-head.ensures.faults)
+
+pub returns-clause-effect : goal.returns-clause-effect
+returns-clause-effect g c =
+    only_reads_more (g.met.D.Disk.timed c.read_head.new.disk) (c.in_ok-head.ensures.faults.stands (λ wrong. absurd (cc))) c.in_ok-head.ensures.effect c.read_parts.ensures.effect (omega arith) (omega arith)

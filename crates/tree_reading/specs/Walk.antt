@@ -1,0 +1,80 @@
+-- What a walk over a component's pages does to the free-page map, and what it tells.
+use Rattle.std.specs.Prelude.{◌≡◌, ◌↔◌, ◌⊎◌, ℕ, ◌+◌, ◌^◌, ◌<◌, ◌≤◌, Bool, List, [], ◌++◌, length, nat_eq, Option, Result, Ok, Err, ⊤}
+use Rattle.std.specs.List.{Contains, IsDistinct}
+use Rattle.blsm_model.specs.declared.component.Component.{Component}
+use Rattle.blsm_model.specs.Sizes.{Sizes}
+use Rattle.record_delta.specs.Entries.{Entries, entries_weight}
+use Rattle.page_file.specs.declared.file.Broken.{Broken}
+use Rattle.page_file.specs.declared.file.Broken.TheVariants.{Fault, Damaged}
+use Rattle.page_file.specs.Component.{RunPage, ReadsAs, entries_of, numbers_of}
+use Rattle.page_space.specs.Space.{Claims, HasRole, IsFree, KeepsOtherRoles, SpaceState}
+use Rattle.run_cursor.specs.Cursor.{CursorState}
+use Rattle.tree_reading.specs.Pages.{AreAllowed, BeginsWith, GoesOnBehind, IsDamagedPage}
+
+-- none of these pages is free, each other page is, and they are apart
+pub record TakesUp (numbers : List ℕ) (space : SpaceState) : Type 0 where
+  pub apart : IsDistinct nat_eq numbers
+  pub each : (k : ℕ) → Contains numbers k → IsFree space k → ⊥
+  pub others : (k : ℕ) → k < space.pages → IsFree space k ⊎ Contains numbers k
+
+-- The cursor reads a page next, which was free and has the tag now; or none, and it stays at its page.
+pub data IsEntered (cursor : CursorState) (page role n : ℕ) (old new : SpaceState) : Type 0 where
+  due : cursor.behind ≡ [] → 0 < cursor.pages → n ≡ cursor.next → IsFree old n → Claims role n old new → IsEntered cursor page role n old new
+  on : (cursor.behind ≡ [] → cursor.pages ≡ 0) → n ≡ page → new ≡ old → IsEntered cursor page role n old new
+
+-- Or the page that it reads next isn't free. Where there is no page of that number, the page is refused that it is at.
+pub data IsRefused (cursor : CursorState) (page n : ℕ) (space : SpaceState) : Type 0 where
+  not_free : cursor.behind ≡ [] → 0 < cursor.pages → n ≡ cursor.next → n < space.pages → (IsFree space n → ⊥) → IsRefused cursor page n space
+  nowhere : cursor.behind ≡ [] → 0 < cursor.pages → n ≡ page → space.pages ≤ cursor.next → IsRefused cursor page n space
+
+abbrev pub Enters : CursorState → ℕ → ℕ → SpaceState → SpaceState → Result ℕ Broken → Type 0
+Enters cursor page role old new (Ok n) = IsEntered cursor page role n old new
+Enters cursor page role old new (Err (Damaged n)) = (new ≡ old) × IsRefused cursor page n old
+Enters cursor page role old new (Err Fault) = ⊥
+
+-- only pages of this tag have changed
+pub record ChangesOnly (role : ℕ) (old new : SpaceState) : Type 0 where
+  pub pages : new.pages ≡ old.pages
+  pub pins : new.pins ≡ old.pins
+  pub others : KeepsOtherRoles role old new
+
+-- The component reads as these pages, which just these earlier ones and they take up, and they have the tag.
+pub record IsWalked (sizes : Sizes) (run : Component) (bases_only : Bool) (earlier : List ℕ) (role : ℕ) (old new : SpaceState) (file : List ℕ) : Type 0 where
+  pub pages : List RunPage
+  pub reads : ReadsAs sizes run pages file
+  pub allowed : AreAllowed bases_only (entries_of pages)
+  pub takes : TakesUp (earlier ++ numbers_of pages) new
+  pub tags : (k : ℕ) → HasRole new role k ↔ (HasRole old role k ⊎ Contains (numbers_of pages) k)
+
+-- the page goes on, and with it entries and weight are no more than the component has
+pub record GoesOnWithin (sizes : Sizes) (run : Component) (bases_only : Bool) (pages : List RunPage) (n : ℕ) (next : Option ℕ) (entries : Entries) (file : List ℕ) : Type 0 where
+  pub goes_on : GoesOnBehind sizes run bases_only pages n next entries file
+  pub few : length (entries_of pages) + length entries ≤ run.entries
+  pub light : entries_weight (entries_of pages) + entries_weight entries ≤ run.weight
+
+-- Where a walk stops that counts them down: at the damaged page, or before it, at the first one with which they are more than that.
+pub record IsStoppedAt (sizes : Sizes) (run : Component) (bases_only : Bool) (earlier : List ℕ) (n : ℕ) (file : List ℕ) : Type 0 where
+  pub pages : List RunPage
+  pub begins : BeginsWith sizes run bases_only earlier pages n file
+  pub more : length pages < run.pages
+  pub stopped : Contains (earlier ++ numbers_of pages) n ⊎ ((next : Option ℕ) (entries : Entries) → GoesOnWithin sizes run bases_only pages n next entries file → ⊥)
+
+-- What one such walk tells. After a fault nobody knows.
+abbrev pub TellsStop : Sizes → Component → Bool → List ℕ → ℕ → SpaceState → SpaceState → List ℕ → Result (Unit {0}) Broken → Type 0
+TellsStop sizes run bases_only earlier role old new file (Ok done) = IsWalked sizes run bases_only earlier role old new file
+TellsStop sizes run bases_only earlier role old new file (Err (Damaged n)) = IsStoppedAt sizes run bases_only earlier n file
+TellsStop sizes run bases_only earlier role old new file (Err Fault) = ⊤
+
+-- the component with sums that no component's pages have
+abbrev pub unbounded : Component → Component
+unbounded run = record { first = run.first; pages = run.pages; entries = 2 ^ 63; weight = 2 ^ 63 }
+
+-- What a refusal says of a component: this is its first page at which it doesn't read. After a fault nobody knows.
+abbrev pub TellsBroken : Sizes → Component → Bool → List ℕ → List ℕ → Broken → Type 0
+TellsBroken sizes run bases_only earlier file (Damaged n) = IsDamagedPage sizes run bases_only earlier n file
+TellsBroken sizes run bases_only earlier file Fault = ⊤
+
+-- what an answer says of a component: it was walked, or why not
+abbrev pub TellsPages : Sizes → Component → Bool → List ℕ → ℕ → SpaceState → SpaceState → List ℕ → Result (Unit {0}) Broken → Type 0
+TellsPages sizes run bases_only earlier role old new file (Ok done) = IsWalked sizes run bases_only earlier role old new file
+TellsPages sizes run bases_only earlier role old new file (Err broken) = TellsBroken sizes run bases_only earlier file broken

@@ -1,0 +1,124 @@
+//! The order in which a store's file is read.
+ghost use Rattle.std.specs.Prelude.{◌≡◌, ◌≤◌, ◌<◌, ◌+◌, ◌*◌, [], length, Err, IsTrue, IfOk, IfErr, IsErr};
+ghost use Rattle.disk_trait.specs.Disk.{TellsFaultsBy};
+ghost use Rattle.disk_trait.specs.Reads.{OnlyReads};
+ghost use Rattle.blsm_model.specs.Format.{most_weight};
+ghost use Rattle.blsm_model.specs.Geometry.{file_length, high_mark, page_count};
+ghost use Rattle.blsm_model.specs.Lanes.{a_of, b_of, region_length};
+ghost use Rattle.page_space.specs.Space.{IsSpace, unused};
+ghost use Rattle.gated_log.specs.Lanes.{end_of};
+ghost use Rattle.tree_runs.specs.Runs.{AreRead};
+ghost use Rattle.tree_reading.specs.Damage.{HasCatalogue};
+ghost use Rattle.tree_reading.specs.Lane.{lane_calls};
+ghost use Rattle.tree_reading.specs.Reading.{AreReplayed, AreTagged, HasLooked, HoldsFound, IsFound, IsHead, IsWhy, reading_calls};
+
+use crate::components::read_components;
+use crate::found::{Found, Unreadable};
+use crate::head::{Head, read_head};
+use crate::lanes::{Ends, read_lanes};
+use blsm_model::{Geometry, Op};
+use disk_trait::Disk;
+use gated_log::Lanes;
+use mem_table::Table;
+use page_space::Space;
+use refusal::NoMemory;
+use std::alloc::Global;
+
+/// The memory that a reading fills.
+#[derive(Drop)]
+pub struct Room {
+    /// The free-page map.
+    pub space: Space,
+    /// Table A.
+    pub a: Table,
+    /// Table B.
+    pub b: Table,
+}
+
+// Memory for what a store of this geometry has, with nothing in it. The record that passes the high mark is folded in before it is seen to.
+fn reserve(alloc: Global, geometry: &Geometry) -> Result<Room, NoMemory>
+    ensures space { IfOk result (λ room. room.space ≡ unused (page_count geometry.now)) }
+    ensures shape { IfOk result (λ room. IsSpace room.space) }
+    ensures a { IfOk result (λ room. room.a ≡ record { entries = []; reserved = high_mark geometry.now + most_weight }) }
+    ensures b { IfOk result (λ room. room.b ≡ record { entries = []; reserved = high_mark geometry.now + most_weight }) }
+{
+    let most = geometry.high_mark() + Op::MAX_WEIGHT;
+    Ok(Room {
+        space: Space::reserve(alloc, geometry.pages() as u32)?,
+        a: Table::reserve(alloc, most)?,
+        b: Table::reserve(alloc, most)?,
+    })
+}
+
+// Reads what stands behind the head: the components, and then the lanes.
+fn read_parts<D: Disk>(disk: &mut D, head: &Head, room: &mut Room) -> Result<Ends, Unreadable>
+    requires right { IsHead head.now.geometry head.now.catalogue }
+    requires unused { room.old.space ≡ unused (page_count head.now.geometry) }
+    requires shape { IsSpace room.old.space }
+    requires empty_a { room.old.a ≡ record { entries = []; reserved = high_mark head.now.geometry + most_weight } }
+    requires empty_b { room.old.b ≡ record { entries = []; reserved = high_mark head.now.geometry + most_weight } }
+    requires length { IsTrue (D.state disk.old).tells_bytes → length (D.state disk.old).bytes ≡ file_length head.now.geometry }
+    ensures tags { IfOk result (λ ends. AreRead head.now.geometry head.now.catalogue room.new.space) }
+    ensures tagged { IsTrue (D.state disk.old).is_honest
+        → IfOk result (λ ends. AreTagged head.now.geometry head.now.catalogue room.new.space (D.state disk.old).bytes) }
+    ensures replayed { IfOk result (λ ends. AreReplayed head.now.geometry head.now.catalogue room.new.a.entries room.new.b.entries ends.a ends.b
+        (D.state disk.old).is_honest (D.state disk.old).bytes) }
+    ensures reserved { IfOk result (λ ends. (room.new.a.reserved ≡ room.old.a.reserved) × (room.new.b.reserved ≡ room.old.b.reserved)) }
+    ensures refused { IsTrue (D.state disk.old).is_honest → HasCatalogue head.now.geometry head.now.catalogue (D.state disk.old).bytes
+        → IfErr result (λ why. IsWhy why (D.state disk.old).bytes) }
+    ensures faults { TellsFaultsBy (Err Unreadable.Fault) result (D.state disk.old) (D.state disk.new) }
+    ensures effect { OnlyReads (file_length head.now.geometry) (6 * page_count head.now.geometry + 2 * lane_calls head.now.geometry)
+        (D.state disk.old) (D.state disk.new) }
+{
+    read_components(disk, head, &mut room.space)?;
+    read_lanes(disk, head, &mut room.a, &mut room.b)
+}
+
+// The lanes that end at these places; nothing is known of the spare one, which is used from its start.
+fn lanes_of(head: &Head, a: u64, b: u64) -> Lanes
+    requires right { IsHead head.now.geometry head.now.catalogue }
+    requires inside_a { a < region_length head.now.geometry }
+    requires inside_b { b < region_length head.now.geometry }
+    ensures sizes { result.sizes ≡ head.now.geometry }
+    ensures roles { result.roles ≡ head.now.catalogue.lanes }
+    ensures end_a { end_of result (a_of head.now.catalogue.lanes) ≡ a }
+    ensures end_b { end_of result (b_of head.now.catalogue.lanes) ≡ b }
+{
+    let roles = head.catalogue.lanes;
+    let mut ends = [0; 3];
+    ends[roles[0] as usize] = a;
+    ends[roles[1] as usize] = b;
+    Lanes::resume(&head.geometry, roles, ends)
+}
+
+/// Reads the store on a disk: superblock and length, slots, version, pages of C1, C1' and C2, lane A, lane B, in this order. It writes
+/// nothing and calls no sync.
+///
+/// `NotAStore`, `Damaged` and `Worn` come exactly where the file is no store, isn't of the written form, or has a version above 2^62;
+/// `Damaged` names the first such place. `Fault` comes only where the disk's count of faults rose.
+pub fn read_tree<D: Disk>(alloc: Global, disk: &mut D) -> Result<Found, Unreadable>
+    ensures found { IfOk result (λ found. IsFound found (D.state disk.old).is_honest (D.state disk.old).bytes) }
+    ensures holds { IsTrue (D.state disk.old).is_honest → IfOk result (λ found. HoldsFound found (D.state disk.old).bytes) }
+    ensures refused { IsTrue (D.state disk.old).is_honest → IfErr result (λ why. IsWhy why (D.state disk.old).bytes) }
+    ensures length { IfOk result (λ found. IsTrue (D.state disk.old).tells_bytes → length (D.state disk.old).bytes ≡ file_length found.geometry) }
+    ensures faults { TellsFaultsBy (Err Unreadable.Fault) result (D.state disk.old) (D.state disk.new) }
+    ensures effect { IfOk result (λ found. OnlyReads (file_length found.geometry) (reading_calls found.geometry) (D.state disk.old) (D.state disk.new)) }
+    ensures looked { IsErr result → HasLooked reading_calls (D.state disk.old) (D.state disk.new) }
+{
+    let head = read_head(disk)?;
+    let Ok(mut room) = reserve(alloc, &head.geometry) else {
+        return Err(Unreadable::NoMemory);
+    };
+    let ends = read_parts(disk, &head, &mut room)?;
+    let lanes = lanes_of(&head, ends.a.place, ends.b.place);
+    Ok(Found {
+        geometry: head.geometry,
+        catalogue: head.catalogue,
+        space: room.space,
+        a: room.a,
+        b: room.b,
+        lanes,
+        records_a: ends.a.records,
+        records_b: ends.b.records,
+    })
+}
