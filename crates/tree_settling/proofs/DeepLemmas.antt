@@ -1,0 +1,109 @@
+-- A deep merge that is gone on with to its end and swapped in.
+use Rattle.std.proofs.Common.{◌≡◌, ◌∙◌, ℕ, ◌+◌, ◌≤◌, Bool, List, Option, refl, ap, sym, subst, arith, length}
+use Rattle.std.specs.Prelude.{IsTrue}
+use Rattle.disk_trait.specs.Disk.{DiskState}
+use Rattle.disk_trait.specs.Effects.{Affects}
+use Rattle.disk_trait.specs.Moments.{IsTimed, LeavesOnly}
+use Rattle.blsm_model.specs.Sizes.{Sizes}
+use Rattle.blsm_model.specs.Geometry.{c1_mark, capacity, file_length, high_mark}
+use Rattle.blsm_model.specs.Lanes.{AreRoles}
+use Rattle.blsm_model.specs.declared.key.Key.{Key}
+use Rattle.blsm_model.specs.declared.row.Value.{Value}
+use Rattle.catalog_swap.specs.declared.catalog.Catalog.{Catalog}
+use Rattle.deep_merge.specs.Merge.{DeepState}
+use Rattle.gated_log.specs.Lane.{blocks}
+use Rattle.mem_table.specs.Tables.{Contents}
+use Rattle.record_delta.specs.Entries.{Entries, replayed}
+use Rattle.tree_file.specs.Tree.{Tree, HoldsTree, FitsSizes}
+use Rattle.tree_file.specs.Places.{HoldsEither}
+use Rattle.tree_log.specs.Log.{LogState, IsLogOf}
+use Rattle.tree_runs.specs.Runs.{RunsState, AreRunning, left_for_deep, made_by_deep}
+use Rattle.tree_runs.specs.Holding.{IsDeepSwapped, LeavesSwapped, StandOver, SwapsDeep, with_deep_run}
+use Rattle.tree_settling.specs.Settling.{MergesGoOn, LeavesMaps, MaySettle, ShowsMap, anywhere}
+use Rattle.tree_settling.proofs.NextLemmas.{Follows, deep_follows}
+use Rattle.tree_settling.proofs.StepLemmas.{honest_still, kept_swapped, stays_long}
+use Rattle.tree_settling.proofs.TakenLemmas.{well_then}
+
+-- what is known of it once the swap has answered
+pub record IsDeepSwap (done : Bool) (a : Contents) (runs mid new : RunsState) (log : LogState) (before d after : DiskState) : Type 0 where
+  pub timed : IsTimed d
+  pub table : a ≡ log.a
+  pub goes : MergesGoOn a.entries runs mid before d
+  pub pass : mid.pass ≡ runs.pass
+  pub lists : (tree : Tree) (table : Entries) → IsTrue d.is_honest → StandOver mid tree table d → (next : Tree) × IsDeepSwapped tree next × LeavesSwapped mid new tree next table done d after
+  pub calls : ℕ
+  pub effect : Affects anywhere (file_length mid.sizes) calls d after
+
+-- the log of a tree of the same lanes
+log_keeps : (old new : Tree) (log : LogState) → new.catalogue.lanes ≡ old.catalogue.lanes → new.lane_a ≡ old.lane_a → new.lane_b ≡ old.lane_b → IsLogOf old log → IsLogOf new log
+log_keeps old new log roles a b is = record {
+  roles = is.roles ∙ sym roles;
+  end_a = is.end_a ∙ ap (λ (l : Entries). length (blocks l)) (sym a);
+  end_b = is.end_b ∙ ap (λ (l : Entries). length (blocks l)) (sym b);
+  a = is.a ∙ ap replayed (sym a);
+  b = is.b ∙ ap replayed (sym b);
+}
+
+module _ (done : Bool) (a : Contents) (runs mid new : RunsState) (log : LogState) (before d after : DiskState) (swap : IsDeepSwap done a runs mid new log before d after) where
+  -- the disk still stands on the tree before the swap
+  over_mid : (pairs : List (Key × Value)) → IsTrue before.is_honest → (shows : ShowsMap runs log pairs before) → StandOver mid shows.tree a.entries d
+  over_mid pairs honest shows = swap.goes.stands shows.tree honest (subst (λ (t : Contents). StandOver runs shows.tree t.entries before) (sym swap.table) shows.over)
+
+  -- and leaves it for one that follows it
+  next_of : (pairs : List (Key × Value)) → IsTrue before.is_honest → (shows : ShowsMap runs log pairs before)
+      → (next : Tree) × IsDeepSwapped shows.tree next × LeavesSwapped mid new shows.tree next log.a.entries done d after × Follows runs.sizes shows.tree next
+  next_of pairs honest shows =
+      let over = over_mid pairs honest shows in
+      let x = swap.lists shows.tree log.a.entries (honest_still swap.goes.well.effect honest) (subst (λ (t : Contents). StandOver mid shows.tree t.entries d) swap.table over) in (
+        x.0,
+        x.1,
+        x.2,
+        deep_follows runs.sizes shows.tree x.0 d.bytes (subst (λ (s : Sizes). HoldsTree s shows.tree d.bytes) swap.goes.sizes over.are_of.holds) shows.fits x.1,
+      )
+
+  pub deep_leaves : LeavesMaps runs log before after
+  deep_leaves = record {
+    keeps = λ pairs honest shows.
+        let x = next_of pairs honest shows in
+        kept_swapped runs.sizes shows.tree x.0 pairs before d after shows.fits shows.map_is x.3
+        (swap.goes.leaves shows.tree honest (subst (λ (t : Contents). StandOver runs shows.tree t.entries before) (sym swap.table) shows.over))
+        (subst (λ (s : Sizes). LeavesOnly d after (HoldsEither s shows.tree x.0)) swap.goes.sizes x.2.each)
+        (subst (λ (s : Sizes). HoldsEither s shows.tree x.0 after.bytes) swap.goes.sizes x.2.either.reads);
+    calls = swap.goes.well.calls + swap.calls;
+    effect = well_then (file_length runs.sizes) (file_length mid.sizes) before d after swap.timed (ap file_length swap.goes.sizes) swap.goes.well swap.effect;
+  }
+
+  pub deep_shows : IsTrue done → SwapsDeep mid new → (pairs : List (Key × Value)) → IsTrue before.is_honest → ShowsMap runs log pairs before → ShowsMap new log pairs after
+  deep_shows well swaps pairs honest shows =
+      let x = next_of pairs honest shows in
+      let over = x.2.stands well in record {
+        tree = x.0;
+        over = over;
+        log_of =
+            log_keeps shows.tree x.0 log
+            (ap (λ (c : Catalog). c.lanes) (over.are_of.catalogue ∙ swaps.catalogue) ∙ ap (λ (c : Catalog). c.lanes) (swap.goes.catalogue ∙ sym shows.over.are_of.catalogue))
+            x.1.lane_a x.1.lane_b shows.log_of;
+        fits = subst (λ (s : Sizes). FitsSizes s x.0) (sym (swaps.sizes ∙ swap.goes.sizes)) x.3.fits;
+        map_is = x.3.map_is ∙ shows.map_is;
+      }
+
+  pub deep_may : MaySettle runs log before → left_for_deep mid.deep ≡ 0 → SwapsDeep mid new → AreRunning after.is_honest after.bytes new → MaySettle new log after
+  deep_may may none swaps running =
+      let sizes : new.sizes ≡ runs.sizes = swaps.sizes ∙ swap.goes.sizes in
+      let catalogue : new.catalogue ≡ with_deep_run (made_by_deep mid.deep) runs.catalogue = swaps.catalogue ∙ ap (with_deep_run (made_by_deep mid.deep)) swap.goes.catalogue in
+      let light : (made_by_deep mid.deep).weight ≤ runs.catalogue.c1x.weight + runs.catalogue.c2.weight = omega (arith, swap.goes.deep, none, may.deep) in
+      record {
+        running = running;
+        long = stays_long runs.sizes new.sizes sizes may.long (deep_leaves).effect;
+        pass = swaps.pass ∙ swap.pass ∙ may.pass;
+        roles = subst (λ (c : Catalog). AreRoles c.lanes) (sym catalogue) may.roles;
+        sizes = may.sizes ∙ sym sizes;
+        lanes = record may.lanes { catalogue = new.catalogue };
+        lanes_are = refl;
+        log_of = log_keeps may.lanes (record may.lanes { catalogue = new.catalogue }) log (ap (λ (c : Catalog). c.lanes) catalogue ∙ ap (λ (c : Catalog). c.lanes) (sym may.lanes_are)) refl refl may.log_of;
+        mark = omega (arith, ap (λ (c : Catalog). c.c1.weight) catalogue, ap c1_mark sizes, may.mark);
+        full = omega (arith, ap (λ (c : Catalog). c.c1.weight) catalogue, ap (λ (c : Catalog). c.c1x.weight) catalogue, ap (λ (c : Catalog). c.c2.weight) catalogue, ap capacity sizes, light, may.full);
+        deep = omega (arith, ap (λ (o : Option DeepState). (made_by_deep o).weight + left_for_deep o) swaps.deep);
+        reserved_a = omega (arith, ap high_mark sizes, may.reserved_a);
+        reserved_b = omega (arith, ap high_mark sizes, may.reserved_b);
+      }

@@ -1,0 +1,60 @@
+-- Tables without an entry, and their lanes.
+use Rattle.std.proofs.Common.{◌≡◌, ◌∙◌, ℕ, [], ◌∷◌, None, Ok, Err, refl, ap, sym, arith, length}
+use Rattle.std.specs.Prelude.{OnOk, fold}
+use Rattle.std.specs.declared.result.Result.{Result}
+use Rattle.std.specs.declared.cmp.Ordering.{Ordering}
+use Rattle.std.specs.declared.cmp.Ordering.TheVariants.{Less, Equal, Greater}
+use Rattle.std.specs.FinMap.{put}
+use Rattle.std.specs.FinMap.Entries.{by_order}
+use Rattle.blsm_model.specs.declared.key.Key.{Key}
+use Rattle.blsm_model.specs.Keys.{key_cmp}
+use Rattle.gated_log.specs.Lane.{blocks}
+use Rattle.merge_ends.proofs.GroupLemmas.{weightless}
+use Rattle.record_delta.specs.declared.record.Rec.{Rec}
+use Rattle.record_delta.specs.Entries.{Entries, record_of_key, replayed, with_record}
+use Rattle.record_delta.specs.Folding.{over}
+use Rattle.disk_trait.specs.Disk.{DiskState}
+use Rattle.tree_runs.specs.Runs.{RunsState}
+use Rattle.tree_settling.specs.Settling.{IsSettled, SettlesOn}
+use Rattle.tree_log.specs.Log.{LogState, end_of_a, end_of_b, weight_of_tables}
+
+pub empty_a : (log : LogState) → weight_of_tables log ≡ 0 → log.a.entries ≡ []
+empty_a log none = weightless log.a.entries (omega (arith, none))
+
+pub empty_b : (log : LogState) → weight_of_tables log ≡ 0 → log.b.entries ≡ []
+empty_b log none = weightless log.b.entries (omega (arith, none))
+
+-- a table with a record has an entry
+put_some : (key : Key) (rec : Rec) (es : Entries) → put key_cmp key rec es ≡ [] → ⊥
+put_some key rec [] is = absurd (cc (is))
+put_some key rec (e ∷ es) is = by (key_cmp key e.0) is
+  where
+    by : (o : Ordering) → by_order o ((key, rec) ∷ e ∷ es) ((e.0, rec) ∷ es) (e ∷ put key_cmp key rec es) ≡ [] → ⊥
+    by Less is = absurd (cc (is))
+    by Equal is = absurd (cc (is))
+    by Greater is = absurd (cc (is))
+
+replays_to_none : (table lane : Entries) → fold (λ table e. with_record e.0 e.1 table) table lane ≡ [] → (lane ≡ []) × (table ≡ [])
+replays_to_none table [] is = (refl, is)
+replays_to_none table (e ∷ lane) is = absurd (put_some e.0 (over e.1 (record_of_key e.0 table)) table (replays_to_none (with_record e.0 e.1 table) lane is).1)
+
+-- so where a table has none its lane has none
+empty_lane : (table lane : Entries) → table ≡ replayed lane → table ≡ [] → lane ≡ []
+empty_lane table lane is none = (replays_to_none [] lane (sym is ∙ none)).0
+
+ends_at_none : (end : ℕ) (lane : Entries) → end ≡ length (blocks lane) → lane ≡ [] → end ≡ 0
+ends_at_none end lane is none = is ∙ ap (λ (l : Entries). length (blocks l)) none
+
+-- Where no deep merge runs and both tables are empty all is settled. Table A is empty then where B was before the last pass.
+pub is_settled : {T E : Type 0} (result : Result T E) (old new : RunsState) (log log' : LogState) (d e : DiskState) → log.b.entries ≡ [] → OnOk result (SettlesOn old new log log' d e)
+    → OnOk result (new.deep ≡ None) → OnOk result (log.b.entries ≡ [] → log'.a.entries ≡ []) → OnOk result (log'.b.entries ≡ []) → OnOk result (IsSettled new log')
+is_settled (Ok value) old new log log' d e none on rests a b = record {
+  pass = on.may.pass;
+  deep = rests;
+  a = a none;
+  b = b;
+  end_a = ends_at_none (end_of_a log') on.may.lanes.lane_a on.may.log_of.end_a (empty_lane log'.a.entries on.may.lanes.lane_a on.may.log_of.a (a none));
+  end_b = ends_at_none (end_of_b log') on.may.lanes.lane_b on.may.log_of.end_b (empty_lane log'.b.entries on.may.lanes.lane_b on.may.log_of.b b);
+  lanes = λ tree is. (empty_lane log'.a.entries tree.lane_a is.a (a none), empty_lane log'.b.entries tree.lane_b is.b b);
+}
+is_settled (Err error) old new log log' d e none on rests a b = tt

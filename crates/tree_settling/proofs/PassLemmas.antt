@@ -1,0 +1,249 @@
+-- A pass that takes table A and C1 and is swapped in.
+use Rattle.std.proofs.Common.{◌≡◌, ◌∙◌, ℕ, ◌+◌, ◌≤◌, ◌<◌, Bool, true, false, List, [], ◌∷◌, Option, None, Some, refl, ap, sym, subst, arith}
+use Rattle.std.specs.Prelude.{IsTrue, is_some, if◌then◌else◌}
+use Rattle.std.proofs.lemmas.Bool.{false≢true, leb-false}
+use Rattle.disk_trait.specs.Disk.{DiskState}
+use Rattle.disk_trait.specs.Effects.{Affects}
+use Rattle.disk_trait.specs.Moments.{IsTimed, LeavesOnly}
+use Rattle.blsm_model.specs.Components.{empty_component}
+use Rattle.blsm_model.specs.Sizes.{Sizes}
+use Rattle.blsm_model.specs.Geometry.{c1_mark, capacity, file_length, high_mark}
+use Rattle.blsm_model.specs.Lanes.{AreRoles, a_of, b_of, spare_of}
+use Rattle.blsm_model.specs.declared.component.Component.{Component}
+use Rattle.blsm_model.specs.declared.key.Key.{Key}
+use Rattle.blsm_model.specs.declared.row.Value.{Value}
+use Rattle.catalog_swap.specs.declared.catalog.Catalog.{Catalog}
+use Rattle.deep_merge.specs.Merge.{DeepState, started as deep_started}
+use Rattle.mem_table.specs.Tables.{Contents}
+use Rattle.page_file.specs.Component.{RunPage, entries_of}
+use Rattle.record_delta.specs.Entries.{Entries, entries_weight, folded_over, replayed}
+use Rattle.snow_merge.specs.Pass.{SnowState, started}
+use Rattle.snow_merge.proofs.PassLemmas.{above_light, pushed_all}
+use Rattle.tree_file.specs.Tree.{Tree, HoldsTree, FitsSizes}
+use Rattle.tree_file.specs.Places.{HoldsEither, StandsOn, TurnsRoles}
+use Rattle.tree_log.specs.Log.{LogState, IsLogOf, turned_log, weight_of_tables}
+use Rattle.tree_runs.specs.Runs.{RunsState, AreRunning, Fits, left_for_deep, left_for_pass, made_by_deep, made_by_pass}
+use Rattle.tree_runs.specs.Holding.{AreOf, IsDeepOver, IsPassOver, IsPassSwapped, LeavesSwapped, StandOver, SwapsPass, is_full, with_pass_run}
+use Rattle.tree_settling.specs.Settling.{LeavesMaps, MaySettle, MergesGoOn, ShowsMap, anywhere, components_of}
+use Rattle.tree_settling.proofs.NextLemmas.{Follows, pass_follows}
+use Rattle.tree_settling.proofs.StepLemmas.{honest_still, kept_swapped, left_map, stays_long}
+use Rattle.tree_settling.proofs.TakenLemmas.{well_then}
+
+-- ---- a pass that begins
+
+abbrev pub with_pass_begun : RunsState → RunsState
+with_pass_begun runs = record runs { pass = Some (started runs.tags.pass runs.catalogue.c1) }
+
+-- it runs over the trees that the components are of
+pub begun_over : (runs begun : RunsState) (tree : Tree) (a : Entries) (d : DiskState) → begun ≡ with_pass_begun runs
+    → ((tree : Tree) (a : Entries) (file : List ℕ) → AreOf runs tree a file → AreOf begun tree a file) → StandOver runs tree a d → StandOver begun tree a d
+begun_over runs begun tree a d is lists over = record {
+  stands = subst (λ (s : Sizes). StandsOn s tree d) (sym (ap (λ (r : RunsState). r.sizes) is)) over.stands;
+  are_of = lists tree a d.bytes over.are_of;
+}
+
+-- and has room
+pub begun_fits : (runs begun : RunsState) (log : LogState) (a : Contents) (d : DiskState) → begun ≡ with_pass_begun runs → a ≡ log.a → MaySettle runs log d → Fits begun a.entries
+begun_fits runs begun log a d is table may =
+    subst (λ (r : RunsState). Fits r a.entries) (sym is)
+    (subst (λ (t : Contents). Fits (with_pass_begun runs) t.entries) (sym table)
+    (record { live = omega (arith, may.full); made = omega (arith, may.full, may.deep, above_light None log.a.entries) }))
+
+-- its run will weigh no more than what it takes
+pub begun_light : (runs begun : RunsState) (a : Entries) → begun ≡ with_pass_begun runs
+    → (made_by_pass begun.pass).weight + left_for_pass begun.pass a ≤ entries_weight a + runs.catalogue.c1.weight
+begun_light runs begun a is =
+    subst (λ (r : RunsState). (made_by_pass r.pass).weight + left_for_pass r.pass a ≤ entries_weight a + runs.catalogue.c1.weight) (sym is) (omega (arith, above_light None a))
+
+-- ---- a pass that is done
+
+-- What it wrote weighs what its run does.
+pass_weighs : (sizes : Sizes) (runs : RunsState) (pass : Option SnowState) (a : Entries) (c1 : List RunPage) (file : List ℕ) → IsTrue (is_some pass) → left_for_pass pass a ≡ 0
+    → IsPassOver sizes file runs.space pass a c1 → entries_weight (folded_over a (entries_of c1)) ≡ (made_by_pass pass).weight
+pass_weighs sizes runs None a c1 file some none over = absurd (false≢true some)
+pass_weighs sizes runs (Some snow) a c1 file some none over =
+    let pushed = pushed_all sizes file runs.space snow a (entries_of c1) none over in
+    ap entries_weight (sym pushed.entries_are) ∙ pushed.held.weight_is
+
+-- ---- the next catalogue, by the numbers
+
+next_weighs : (sizes : Sizes) (made : Component) (now : Catalog) → components_of (with_pass_run sizes made now) ≤ made.weight + now.c1x.weight + now.c2.weight
+next_weighs sizes made now = by (is_full sizes made)
+  where
+    by : (b : Bool) → (if b then empty_component else made).weight + (if b then made else now.c1x).weight + now.c2.weight ≤ made.weight + now.c1x.weight + now.c2.weight
+    by true = omega arith
+    by false = omega arith
+
+next_below : (sizes : Sizes) (made : Component) (now : Catalog) → 0 < c1_mark sizes → (with_pass_run sizes made now).c1.weight < c1_mark sizes
+next_below sizes made now some = by (is_full sizes made) refl
+  where
+    by : (b : Bool) → is_full sizes made ≡ b → (if b then empty_component else made).weight < c1_mark sizes
+    by true is = omega (arith, some)
+    by false is = leb-false (c1_mark sizes) made.weight is
+
+-- the lanes' roles turn
+roles_turned : (roles : List ℕ) → AreRoles roles → AreRoles (b_of roles ∷ spare_of roles ∷ a_of roles ∷ [])
+roles_turned roles are = record {
+  a_below = are.b_below;
+  b_below = are.spare_below;
+  spare_below = are.a_below;
+  a_not_b = are.b_not_spare;
+  a_not_spare = λ same. are.a_not_b (sym same);
+  b_not_spare = λ same. are.a_not_spare (sym same);
+}
+
+-- the deep merge that begins has all of C1' and C2 before it
+next_deep : (sizes : Sizes) (tag : ℕ) (made : Component) (now : Catalog) (deep : Option DeepState) → deep ≡ None
+    → (made_by_deep (if is_full sizes made then Some (deep_started tag made now.c2) else deep)).weight + left_for_deep (if is_full sizes made then Some (deep_started tag made now.c2) else deep)
+    ≤ (with_pass_run sizes made now).c1x.weight + (with_pass_run sizes made now).c2.weight
+next_deep sizes tag made now deep rests = by (is_full sizes made)
+  where
+    by : (b : Bool) → (made_by_deep (if b then Some (deep_started tag made now.c2) else deep)).weight + left_for_deep (if b then Some (deep_started tag made now.c2) else deep)
+        ≤ (if b then made else now.c1x).weight + now.c2.weight
+    by true = omega arith
+    by false = omega (arith, ap (λ (o : Option DeepState). (made_by_deep o).weight + left_for_deep o) rests)
+
+-- ---- the swap
+
+-- what is known of it once it has answered
+pub record IsPassSwap (done : Bool) (a : Contents) (runs begun mid new : RunsState) (log : LogState) (before d after : DiskState) : Type 0 where
+  pub timed : IsTimed d
+  pub table : a ≡ log.a
+  pub rests : runs.deep ≡ None
+  pub begins : begun ≡ with_pass_begun runs
+  pub begun_lists : (tree : Tree) (a : Entries) (file : List ℕ) → AreOf runs tree a file → AreOf begun tree a file
+  pub goes : MergesGoOn a.entries begun mid before d
+  pub deep : mid.deep ≡ begun.deep
+  pub some : IsTrue (is_some mid.pass)
+  pub none : left_for_pass mid.pass a.entries ≡ 0
+  pub lists : (tree : Tree) → IsTrue d.is_honest → StandOver mid tree a.entries d
+      → (next : Tree) × IsPassSwapped (is_full mid.sizes (made_by_pass mid.pass)) a.entries tree next × ((table : Entries) → LeavesSwapped mid new tree next table done d after)
+  pub calls : ℕ
+  pub effect : Affects anywhere (file_length mid.sizes) calls d after
+
+module _ (done : Bool) (a : Contents) (runs begun mid new : RunsState) (log : LogState) (before d after : DiskState) (swap : IsPassSwap done a runs begun mid new log before d after) where
+  pub same_sizes : mid.sizes ≡ runs.sizes
+  same_sizes = swap.goes.sizes ∙ ap (λ (r : RunsState). r.sizes) swap.begins
+
+  same_catalogue : mid.catalogue ≡ runs.catalogue
+  same_catalogue = swap.goes.catalogue ∙ ap (λ (r : RunsState). r.catalogue) swap.begins
+
+  rests_still : mid.deep ≡ None
+  rests_still = swap.deep ∙ ap (λ (r : RunsState). r.deep) swap.begins ∙ swap.rests
+
+  -- the disk stands on the tree when the pass begins, and before the swap
+  over_begun : (pairs : List (Key × Value)) (shows : ShowsMap runs log pairs before) → StandOver begun shows.tree a.entries before
+  over_begun pairs shows = begun_over runs begun shows.tree a.entries before swap.begins swap.begun_lists (subst (λ (t : Contents). StandOver runs shows.tree t.entries before) (sym swap.table) shows.over)
+
+  over_mid : (pairs : List (Key × Value)) → IsTrue before.is_honest → (shows : ShowsMap runs log pairs before) → StandOver mid shows.tree a.entries d
+  over_mid pairs honest shows = swap.goes.stands shows.tree honest (over_begun pairs shows)
+
+  -- and leaves it for one that follows it
+  next_of : (pairs : List (Key × Value)) → IsTrue before.is_honest → (shows : ShowsMap runs log pairs before)
+      → (next : Tree) × IsPassSwapped (is_full mid.sizes (made_by_pass mid.pass)) (replayed shows.tree.lane_a) shows.tree next
+      × ((table : Entries) → LeavesSwapped mid new shows.tree next table done d after) × Follows runs.sizes shows.tree next
+  next_of pairs honest shows =
+      let over = over_mid pairs honest shows in
+      let x = swap.lists shows.tree (honest_still swap.goes.well.effect honest) over in
+      let table : a.entries ≡ replayed shows.tree.lane_a = ap (λ (t : Contents). t.entries) swap.table ∙ shows.log_of.a in
+      let swapped = subst (λ (es : Entries). IsPassSwapped (is_full mid.sizes (made_by_pass mid.pass)) es shows.tree x.0) table x.1 in
+      let weighs : entries_weight (folded_over (replayed shows.tree.lane_a) (entries_of shows.tree.c1)) ≡ (made_by_pass mid.pass).weight =
+      ap (λ (es : Entries). entries_weight (folded_over es (entries_of shows.tree.c1))) (sym table) ∙ pass_weighs mid.sizes mid mid.pass a.entries shows.tree.c1 d.bytes swap.some swap.none over.are_of.pass in
+      let empty : shows.tree.c1x ≡ [] = subst (λ (o : Option DeepState). IsDeepOver mid.sizes d.bytes mid.space o shows.tree.c1x shows.tree.c2) rests_still over.are_of.deep in (
+        x.0,
+        swapped,
+        x.2,
+        pass_follows (is_full mid.sizes (made_by_pass mid.pass)) runs.sizes shows.tree x.0 d.bytes (subst (λ (s : Sizes). HoldsTree s shows.tree d.bytes) same_sizes over.are_of.holds) shows.fits empty
+            (λ light. omega (arith, weighs, leb-false (c1_mark mid.sizes) (made_by_pass mid.pass).weight light, ap c1_mark same_sizes))
+            swapped,
+      )
+
+  pub pass_leaves : LeavesMaps runs log before after
+  pass_leaves = record {
+    keeps = λ pairs honest shows.
+        let x = next_of pairs honest shows in
+        let left = x.2 [] in
+        kept_swapped runs.sizes shows.tree x.0 pairs before d after shows.fits shows.map_is x.3
+        (subst (λ (s : Sizes). LeavesOnly before d (HoldsTree s shows.tree)) (ap (λ (r : RunsState). r.sizes) swap.begins) (swap.goes.leaves shows.tree honest (over_begun pairs shows)))
+        (subst (λ (s : Sizes). LeavesOnly d after (HoldsEither s shows.tree x.0)) same_sizes left.each)
+        (subst (λ (s : Sizes). HoldsEither s shows.tree x.0 after.bytes) same_sizes left.either.reads);
+    calls = swap.goes.well.calls + swap.calls;
+    effect =
+        subst (λ (s : Sizes). Affects anywhere (file_length s) (swap.goes.well.calls + swap.calls) before after) (ap (λ (r : RunsState). r.sizes) swap.begins)
+        (well_then (file_length begun.sizes) (file_length mid.sizes) before d after swap.timed (ap file_length swap.goes.sizes) swap.goes.well swap.effect);
+  }
+
+  -- the log turns with the tree
+  pub pass_shows : (log' : LogState) → IsTrue done → SwapsPass mid new
+      → ((tree next : Tree) → TurnsRoles tree.catalogue next.catalogue → next.lane_a ≡ tree.lane_b → next.lane_b ≡ [] → IsLogOf tree log → IsLogOf next log')
+      → (pairs : List (Key × Value)) → IsTrue before.is_honest → ShowsMap runs log pairs before → ShowsMap new log' pairs after
+  pass_shows log' well swaps turns pairs honest shows =
+      let x = next_of pairs honest shows in
+      let over = (x.2 log'.a.entries).stands well in
+      let catalogue : mid.catalogue ≡ shows.tree.catalogue = same_catalogue ∙ sym shows.over.are_of.catalogue in
+      record {
+        tree = x.0;
+        over = over;
+        log_of =
+            turns shows.tree x.0
+            (ap (λ (k : Catalog). k.lanes) (over.are_of.catalogue ∙ swaps.catalogue) ∙ ap (λ (k : Catalog). b_of k.lanes ∷ spare_of k.lanes ∷ a_of k.lanes ∷ []) catalogue)
+            x.1.lane_a x.1.lane_b shows.log_of;
+        fits = subst (λ (s : Sizes). FitsSizes s x.0) (sym (swaps.sizes ∙ same_sizes)) x.3.fits;
+        map_is = x.3.map_is ∙ shows.map_is;
+      }
+
+  pub pass_may : (log' : LogState) → MaySettle runs log before → SwapsPass mid new
+      → ((tree next : Tree) → TurnsRoles tree.catalogue next.catalogue → next.lane_a ≡ tree.lane_b → next.lane_b ≡ [] → IsLogOf tree log → IsLogOf next log')
+      → log' ≡ turned_log log → AreRunning after.is_honest after.bytes new → MaySettle new log' after
+  pass_may log' may swaps turns turned running =
+      let sizes : new.sizes ≡ runs.sizes = swaps.sizes ∙ same_sizes in
+      let catalogue : new.catalogue ≡ with_pass_run mid.sizes (made_by_pass mid.pass) runs.catalogue = swaps.catalogue ∙ ap (with_pass_run mid.sizes (made_by_pass mid.pass)) same_catalogue in
+      let light : (made_by_pass mid.pass).weight ≤ entries_weight log.a.entries + runs.catalogue.c1.weight =
+      omega (arith, swap.goes.pass, swap.none, begun_light runs begun a.entries swap.begins, ap (λ (t : Contents). entries_weight t.entries) swap.table) in
+      let next : Tree = record may.lanes { catalogue = new.catalogue; lane_a = may.lanes.lane_b; lane_b = [] } in
+      record {
+        running = running;
+        long = stays_long runs.sizes new.sizes sizes may.long (pass_leaves).effect;
+        pass = swaps.pass;
+        roles = subst (λ (k : Catalog). AreRoles k.lanes) (sym catalogue) (roles_turned runs.catalogue.lanes may.roles);
+        sizes = ap (λ (l : LogState). l.lanes.sizes) turned ∙ may.sizes ∙ sym sizes;
+        lanes = next;
+        lanes_are = refl;
+        log_of =
+            turns may.lanes next
+            (ap (λ (k : Catalog). k.lanes) catalogue ∙ ap (λ (k : Catalog). b_of k.lanes ∷ spare_of k.lanes ∷ a_of k.lanes ∷ []) (sym may.lanes_are))
+            refl refl may.log_of;
+        mark =
+            omega (
+              arith,
+              ap (λ (k : Catalog). k.c1.weight) catalogue,
+              next_below mid.sizes (made_by_pass mid.pass) runs.catalogue (omega (arith, may.mark, ap c1_mark same_sizes)),
+              ap c1_mark same_sizes,
+              ap c1_mark sizes,
+            );
+        full =
+            omega (arith, ap components_of catalogue, next_weighs mid.sizes (made_by_pass mid.pass) runs.catalogue, ap weight_of_tables turned, ap capacity sizes, light, may.full);
+        deep =
+            omega (
+              arith,
+              ap (λ (o : Option DeepState). (made_by_deep o).weight + left_for_deep o) swaps.deep,
+              next_deep mid.sizes mid.tags.deep (made_by_pass mid.pass) mid.catalogue mid.deep rests_still,
+              ap (λ (k : Catalog). k.c1x.weight + k.c2.weight) swaps.catalogue,
+            );
+        reserved_a = omega (arith, ap high_mark sizes, ap (λ (l : LogState). l.a.reserved) turned, may.reserved_b);
+        reserved_b = omega (arith, ap high_mark sizes, ap (λ (l : LogState). l.b.reserved) turned, may.reserved_a);
+      }
+
+-- ---- where it failed before the swap
+
+pub begun_left : (runs begun : RunsState) (log : LogState) (a : Contents) (old new : DiskState) → begun ≡ with_pass_begun runs
+    → ((tree : Tree) (a : Entries) (file : List ℕ) → AreOf runs tree a file → AreOf begun tree a file) → a ≡ log.a
+    → ((tree : Tree) → IsTrue old.is_honest → StandOver begun tree a.entries old → StandsOn begun.sizes tree new × LeavesOnly old new (HoldsTree begun.sizes tree))
+    → (calls : ℕ) × Affects anywhere (file_length begun.sizes) calls old new → LeavesMaps runs log old new
+begun_left runs begun log a old new begins lists table keeps effect =
+    left_map runs log a old new table
+    (λ tree honest over. subst (λ (s : Sizes). StandsOn s tree new × LeavesOnly old new (HoldsTree s tree)) same (keeps tree honest (begun_over runs begun tree a.entries old begins lists over)))
+    (effect.0, subst (λ (s : Sizes). Affects anywhere (file_length s) effect.0 old new) same effect.1)
+  where
+    same : begun.sizes ≡ runs.sizes
+    same = ap (λ (r : RunsState). r.sizes) begins

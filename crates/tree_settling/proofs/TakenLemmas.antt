@@ -1,0 +1,108 @@
+-- Merges that go on by quanta.
+use Rattle.std.proofs.Common.{◌≡◌, ◌≢◌, ◌⊎◌, ⊎_elim, ◌∙◌, ℕ, ◌+◌, ◌≤◌, ◌<◌, Option, Some, None, refl, ap, sym, subst, arith}
+use Rattle.std.specs.Prelude.{IsTrue}
+use Rattle.disk_trait.specs.Disk.{DiskState}
+use Rattle.disk_trait.specs.Effects.{Affects, affects_start, affects_more}
+use Rattle.disk_trait.specs.Moments.{IsTimed, LeavesOnly, leaves_only_start, leaves_only_run}
+use Rattle.disk_trait.specs.Region.{Region}
+use Rattle.blsm_model.specs.Sizes.{Sizes}
+use Rattle.blsm_model.specs.Geometry.{file_length}
+use Rattle.record_delta.specs.Entries.{Entries}
+use Rattle.snow_merge.specs.Pass.{SnowState}
+use Rattle.deep_merge.specs.Merge.{DeepState}
+use Rattle.tree_file.specs.Tree.{Tree, HoldsTree}
+use Rattle.tree_file.specs.Places.{StandsOn}
+use Rattle.tree_runs.specs.Runs.{RunsState, AreRunning, left_for_pass, left_for_deep, made_by_pass, made_by_deep}
+use Rattle.tree_runs.specs.Holding.{StandOver, PassTakes, DeepTakes}
+use Rattle.tree_settling.specs.Settling.{MergesGoOn, RunsWell, anywhere, due_to_deep, due_to_pass}
+
+-- ---- calls that went well
+
+pub well_start : (end : ℕ) (d : DiskState) → IsTimed d → RunsWell end d d
+well_start end d timed = record { calls = 0; effect = affects_start d timed; calm = refl }
+
+pub well_then : {region : Region} {most : ℕ} (end end' : ℕ) (old mid new : DiskState) → IsTimed mid → end' ≡ end → (well : RunsWell end old mid) → Affects region end' most mid new
+    → Affects anywhere end (well.calls + most) old new
+well_then end end' old mid new timed same well run = affects_more timed well.calm well.effect run (λ i here. tt) (omega (arith, same)) (omega arith)
+
+pub well_more : {region : Region} {most : ℕ} (end end' : ℕ) (old mid new : DiskState) → IsTimed mid → end' ≡ end → RunsWell end old mid → Affects region end' most mid new → new.faults ≡ mid.faults
+    → RunsWell end old new
+well_more {region} {most} end end' old mid new timed same well run calm = record {
+  calls = well.calls + most;
+  effect = well_then end end' old mid new timed same well run;
+  calm = calm ∙ well.calm;
+}
+
+-- it is honest still
+pub well_honest : {end : ℕ} {old new : DiskState} → RunsWell end old new → IsTrue old.is_honest → IsTrue new.is_honest
+well_honest well honest = subst IsTrue (sym well.effect.goes_on.is_honest) honest
+
+-- ---- what a quantum takes, by the numbers
+
+pub deep_took : (old new : Option DeepState) (n : ℕ) → DeepTakes old new n
+    → ((made_by_deep new).weight + left_for_deep new ≤ (made_by_deep old).weight + left_for_deep old) × (n + left_for_deep new ≡ left_for_deep old)
+deep_took (Some old) (Some new) n takes = (omega (arith, takes.taken_is, takes.c1x, takes.c2, takes.light), omega (arith, takes.taken_is, takes.c1x, takes.c2))
+deep_took (Some old) None n takes = absurd takes
+deep_took None new n takes = absurd takes
+
+pub pass_took : (old new : Option SnowState) (a : Entries) (n : ℕ) → PassTakes old new a n
+    → ((made_by_pass new).weight + left_for_pass new a ≤ (made_by_pass old).weight + left_for_pass old a) × (n + left_for_pass new a ≡ left_for_pass old a)
+pass_took (Some old) (Some new) a n takes = (omega (arith, takes.taken_is, takes.table, takes.c1, takes.light), omega (arith, takes.taken_is, takes.table, takes.c1))
+pass_took (Some old) None a n takes = absurd takes
+pass_took None new a n takes = absurd takes
+
+-- so less is left than there was
+less_left : (left old least n : ℕ) → 1 ≤ least → old ≢ 0 → n + left ≡ old → (least ≤ n) ⊎ (left ≡ 0) → left < old
+less_left left old least n some there took enough = ⊎_elim (λ much. omega (arith, much, took)) (λ none. omega (arith, none, there)) enough
+
+pub deep_less : (old new : Option DeepState) (least n : ℕ) → 1 ≤ least → left_for_deep old ≢ 0 → DeepTakes old new n → (least ≤ n) ⊎ (left_for_deep new ≡ 0) → left_for_deep new < left_for_deep old
+deep_less old new least n some there takes enough = less_left (left_for_deep new) (left_for_deep old) least n some there (deep_took old new n takes).1 enough
+
+pub pass_less : (old new : Option SnowState) (a : Entries) (least n : ℕ) → 1 ≤ least → left_for_pass old a ≢ 0 → PassTakes old new a n → (least ≤ n) ⊎ (left_for_pass new a ≡ 0)
+    → left_for_pass new a < left_for_pass old a
+pass_less old new a least n some there takes enough = less_left (left_for_pass new a) (left_for_pass old a) least n some there (pass_took old new a n takes).1 enough
+
+-- the other merge rests
+pub rested : {A : Type 0} {old new : A} (due : A → ℕ) → new ≡ old → due new ≤ due old
+rested due same = omega (arith, ap due same)
+
+-- ---- merges that go on
+
+pub begun : (a : Entries) (runs : RunsState) (d : DiskState) → IsTimed d → AreRunning d.is_honest d.bytes runs → MergesGoOn a runs runs d d
+begun a runs d timed running = record {
+  running = running;
+  sizes = refl;
+  catalogue = refl;
+  pass = omega arith;
+  deep = omega arith;
+  stands = λ tree honest over. over;
+  leaves = λ tree honest over. leaves_only_start d (HoldsTree runs.sizes tree) timed (λ c left. over.stands.each c left);
+  well = well_start (file_length runs.sizes) d timed;
+}
+
+-- what a call that leaves a tree standing has left of it from the start on
+pub left_standing : (a : Entries) (old mid : RunsState) (before d after : DiskState) → MergesGoOn a old mid before d
+    → ((tree : Tree) → IsTrue d.is_honest → StandOver mid tree a d → StandsOn mid.sizes tree after × LeavesOnly d after (HoldsTree mid.sizes tree))
+    → (tree : Tree) → IsTrue before.is_honest → StandOver old tree a before → StandsOn old.sizes tree after × LeavesOnly before after (HoldsTree old.sizes tree)
+left_standing a old mid before d after so_far stands tree honest over =
+    let now = stands tree (well_honest so_far.well honest) (so_far.stands tree honest over) in (
+      subst (λ (s : Sizes). StandsOn s tree after) so_far.sizes now.0,
+      leaves_only_run (so_far.leaves tree honest over) (subst (λ (s : Sizes). LeavesOnly d after (HoldsTree s tree)) so_far.sizes now.1),
+    )
+
+-- one quantum more
+pub more : {region : Region} {most : ℕ} (a : Entries) (old mid new : RunsState) (before d after : DiskState) → IsTimed d → MergesGoOn a old mid before d
+    → new.sizes ≡ mid.sizes → new.catalogue ≡ mid.catalogue → due_to_pass new a ≤ due_to_pass mid a → due_to_deep new ≤ due_to_deep mid
+    → ((tree : Tree) → IsTrue d.is_honest → StandOver mid tree a d → StandsOn mid.sizes tree after × LeavesOnly d after (HoldsTree mid.sizes tree))
+    → ((tree : Tree) → IsTrue d.is_honest → StandOver mid tree a d → StandOver new tree a after)
+    → AreRunning after.is_honest after.bytes new → Affects region (file_length mid.sizes) most d after → after.faults ≡ d.faults → MergesGoOn a old new before after
+more {region} {most} a old mid new before d after timed so_far sizes catalogue pass deep stands lists running effect calm = record {
+  running = running;
+  sizes = sizes ∙ so_far.sizes;
+  catalogue = catalogue ∙ so_far.catalogue;
+  pass = omega (arith, pass, so_far.pass);
+  deep = omega (arith, deep, so_far.deep);
+  stands = λ tree honest over. lists tree (well_honest so_far.well honest) (so_far.stands tree honest over);
+  leaves = λ tree honest over. (left_standing a old mid before d after so_far stands tree honest over).1;
+  well = well_more (file_length old.sizes) (file_length mid.sizes) before d after timed (ap file_length so_far.sizes) so_far.well effect calm;
+}

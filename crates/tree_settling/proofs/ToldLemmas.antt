@@ -1,0 +1,40 @@
+-- What a call hands on of one that failed behind calls that went well.
+use Rattle.std.proofs.Common.{◌≡◌, ◌≢◌, ◌∙◌, ℕ, Bool, true, false, Ok, Err, sym, subst}
+use Rattle.std.specs.Prelude.{◌↔◌, IsTrue}
+use Rattle.std.specs.declared.result.Result.{Result}
+use Rattle.disk_trait.specs.Disk.{DiskState, TellsFaultsBy}
+use Rattle.page_file.specs.declared.file.Broken.{Broken}
+use Rattle.page_file.specs.declared.file.Broken.TheVariants.{Fault}
+use Rattle.refusal.specs.Count.{HasRisen}
+
+pub told_then : {T : Type 0} (e : Broken) (result : Result Unit Broken) (inner : Result T Broken) (old mid new : DiskState) → mid.faults ≡ old.faults → inner ≡ Err e → result ≡ Err e
+    → TellsFaultsBy (Err Fault) inner mid new → TellsFaultsBy (Err Fault) result old new
+told_then e result inner old mid new calm was is told = record {
+  stands = λ other. told.stands (λ same. other (cc)) ∙ calm;
+  failed = λ fault. subst (λ (n : ℕ). HasRisen n new.faults) calm (told.failed (cc));
+}
+
+pub ends_then : {T : Type 0} (e : Broken) (result : Result Unit Broken) (inner : Result T Broken) → inner ≡ Err e → result ≡ Err e → (inner ≢ Err Fault → (n : T) × (inner ≡ Ok n)) → result ≢ Err Fault
+    → result ≡ Ok tt
+ends_then {T} e result inner was is well other =
+    let got : (n : T) × (inner ≡ Ok n) = well (λ same. other (cc)) in
+    let never : Err e ≡ Ok got.0 = sym was ∙ got.1 in
+    absurd (cc (never))
+
+-- a merge that runs and isn't done has something left
+pub still_left : {P : Type 0} (done : Bool) (left : ℕ) → done ≡ false → (IsTrue done ↔ (P × (left ≡ 0))) → P → left ≢ 0
+still_left true left is iff runs none = absurd (cc (is))
+still_left false left is iff runs none = let never : IsTrue false = iff.1 (runs, none) in absurd (cc (never))
+
+pub ok_is_no_err : {T : Type 0} (value : T) → Ok value ≢ Err Fault
+ok_is_no_err value same = absurd (cc (same))
+
+pub ends_from : (e : Broken) (result inner : Result Unit Broken) → inner ≡ Err e → result ≡ Err e → (inner ≢ Err Fault → inner ≡ Ok tt) → result ≢ Err Fault → result ≡ Ok tt
+ends_from e result inner was is well other = let same : result ≡ inner = is ∙ sym was in same ∙ well (λ fault. other (same ∙ fault))
+
+-- a call that fails by a fault alone
+pub fault_then : (result : Result Unit Broken) (old mid new : DiskState) → mid.faults ≡ old.faults → result ≡ Err Fault → HasRisen mid.faults new.faults → TellsFaultsBy (Err Fault) result old new
+fault_then result old mid new calm is rises = record { stands = λ other. absurd (other is); failed = λ same. subst (λ (n : ℕ). HasRisen n new.faults) calm rises }
+
+pub well_told : (old new : DiskState) → new.faults ≡ old.faults → TellsFaultsBy {R = Result Unit Broken} (Err Fault) (Ok tt) old new
+well_told old new calm = record { stands = λ other. calm; failed = λ same. absurd (ok_is_no_err tt same) }

@@ -1,0 +1,53 @@
+use Rattle.std.proofs.Common.{◌∙◌, Err, ap, arith}
+use Rattle.std.proofs.lemmas.Result.{err_from_is_err_and, on_ok_weaker}
+use Rattle.tree_settling.proofs.EmptyLemmas.{empty_a, empty_b}
+use Rattle.tree_settling.proofs.StepLemmas.{ends_run, leaves_run, settles_run, settles_start, told_run}
+use Rattle.tree_settling.proofs.ToldLemmas.{ends_from}
+use Rattle.tree_settling.proofs.settling.due_pass.Goals as goal
+
+pub returns-then-is_empty-clause-on : goal.returns-then-is_empty-clause-on
+returns-then-is_empty-clause-on g c = settles_start c.args.runs.now c.args.log.now (g.D.Disk.state c.args.disk.now) (g.met.D.Disk.timed c.args.disk.now) c.requires.may
+
+pub returns-then-is_empty-clause-leaves : goal.returns-then-is_empty-clause-leaves
+returns-then-is_empty-clause-leaves g c = (returns-then-is_empty-clause-on g c).leaves
+
+pub returns-then-is_empty-clause-a : goal.returns-then-is_empty-clause-a
+returns-then-is_empty-clause-a g c = λ none. empty_a c.args.log.now (c.is_empty.ensures.0 c.if-is_empty.true)
+
+pub returns-then-is_empty-clause-b : goal.returns-then-is_empty-clause-b
+returns-then-is_empty-clause-b g c = empty_b c.args.log.now (c.is_empty.ensures.0 c.if-is_empty.true)
+
+pub returns-in_err-finish_pass-clause-ends : goal.returns-in_err-finish_pass-clause-ends
+returns-in_err-finish_pass-clause-ends g c = λ pairs honest shows.
+    let failed = err_from_is_err_and c.from_residual.result c.from_residual.ensures.1 in
+    ends_from c.in_err-finish_pass.field-0.0 c.from_residual.result c.finish_pass.result c.in_err-finish_pass.was (failed.1 ∙ ap (λ e. Err e) failed.2) (c.finish_pass.ensures.ends pairs honest shows)
+
+pub returns-clause-leaves : goal.returns-clause-leaves
+returns-clause-leaves g c =
+    leaves_run c.args.runs.now c.finish_pass.new.runs c.args.log.now c.finish_pass.new.log (g.D.Disk.state c.args.disk.now) (g.D.Disk.state c.finish_pass.new.disk) (g.D.Disk.state c.due_deep.new.disk)
+    (g.met.D.Disk.timed c.finish_pass.new.disk) c.in_ok-finish_pass.ensures.on c.due_deep.ensures.leaves
+
+pub returns-clause-on : goal.returns-clause-on
+returns-clause-on g c =
+    on_ok_weaker c.due_deep.result
+    (settles_run c.args.runs.now c.finish_pass.new.runs c.due_deep.new.runs c.args.log.now c.finish_pass.new.log c.finish_pass.new.log (g.D.Disk.state c.args.disk.now)
+    (g.D.Disk.state c.finish_pass.new.disk) (g.D.Disk.state c.due_deep.new.disk) (g.met.D.Disk.timed c.finish_pass.new.disk) c.in_ok-finish_pass.ensures.on)
+    c.due_deep.ensures.on
+
+pub returns-clause-ends : goal.returns-clause-ends
+returns-clause-ends g c =
+    ends_run c.due_deep.result c.args.runs.now c.finish_pass.new.runs c.args.log.now c.finish_pass.new.log (g.D.Disk.state c.args.disk.now) (g.D.Disk.state c.finish_pass.new.disk)
+    c.in_ok-finish_pass.ensures.on c.due_deep.ensures.ends
+
+pub returns-clause-a : goal.returns-clause-a
+returns-clause-a g c = on_ok_weaker c.due_deep.result (λ on none. c.in_ok-finish_pass.ensures.a ∙ none) c.due_deep.ensures.on
+
+pub returns-clause-b : goal.returns-clause-b
+returns-clause-b g c = on_ok_weaker c.due_deep.result (λ on. c.in_ok-finish_pass.ensures.b) c.due_deep.ensures.on
+
+pub returns-clause-version : goal.returns-clause-version
+returns-clause-version g c = on_ok_weaker c.due_deep.result (λ more. omega (arith, more, c.in_ok-finish_pass.ensures.version)) c.due_deep.ensures.version
+
+pub returns-clause-faults : goal.returns-clause-faults
+returns-clause-faults g c =
+    told_run c.due_deep.result (g.D.Disk.state c.args.disk.now) (g.D.Disk.state c.finish_pass.new.disk) (g.D.Disk.state c.due_deep.new.disk) c.in_ok-finish_pass.ensures.on.calm c.due_deep.ensures.faults

@@ -1,0 +1,118 @@
+-- What settling a tree takes, keeps and reaches. Weights are in bytes.
+use Rattle.std.specs.Prelude.{◌≡◌, ◌≢◌, ⊤, ℕ, ◌+◌, ◌<◌, ◌≤◌, [], List, None, Result, Ok, Err, IsTrue, length}
+use Rattle.disk_trait.specs.Disk.{DiskState}
+use Rattle.disk_trait.specs.Effects.{Affects}
+use Rattle.disk_trait.specs.Moments.{LeavesOnly}
+use Rattle.disk_trait.specs.Region.{Region}
+use Rattle.blsm_model.specs.Sizes.{Sizes}
+use Rattle.blsm_model.specs.Geometry.{c1_mark, capacity, file_length, high_mark}
+use Rattle.blsm_model.specs.Lanes.{AreRoles}
+use Rattle.blsm_model.specs.declared.key.Key.{Key}
+use Rattle.blsm_model.specs.declared.row.Value.{Value}
+use Rattle.catalog_swap.specs.declared.catalog.Catalog.{Catalog}
+use Rattle.page_file.specs.declared.file.Broken.{Broken}
+use Rattle.page_file.specs.declared.file.Broken.TheVariants.{Fault}
+use Rattle.record_delta.specs.Entries.{Entries}
+use Rattle.tree_file.specs.Tree.{Tree, HoldsTree, FitsSizes, ReadsAsMap, map_of_tree}
+use Rattle.tree_log.specs.Log.{LogState, IsLogOf, end_of_a, end_of_b, weight_of_tables}
+use Rattle.tree_runs.specs.Runs.{RunsState, AreRunning, left_for_pass, left_for_deep, made_by_pass, made_by_deep}
+use Rattle.tree_runs.specs.Holding.{StandOver}
+
+-- how much the components weigh, by the catalogue
+abbrev pub components_of : Catalog → ℕ
+components_of catalogue = catalogue.c1.weight + catalogue.c1x.weight + catalogue.c2.weight
+
+-- nothing is said of where a run of calls writes
+abbrev pub anywhere : Region
+anywhere = λ i. ⊤
+
+-- some calls, none of which failed
+pub record RunsWell (end : ℕ) (old new : DiskState) : Type 0 where
+  pub calls : ℕ
+  pub effect : Affects anywhere end calls old new
+  pub calm : new.faults ≡ old.faults
+
+-- ---- merges that go on
+
+-- how much the run of a pass weighs, with what is left for it, and that of a deep merge
+abbrev pub due_to_pass : RunsState → Entries → ℕ
+due_to_pass runs a = (made_by_pass runs.pass).weight + left_for_pass runs.pass a
+
+abbrev pub due_to_deep : RunsState → ℕ
+due_to_deep runs = (made_by_deep runs.deep).weight + left_for_deep runs.deep
+
+-- Merges went on by quanta, each of which went well: over each tree that stood, in each image of each moment. Neither's run weighs more, with
+-- what is left for it, than it did.
+pub record MergesGoOn (a : Entries) (old new : RunsState) (before after : DiskState) : Type 0 where
+  pub running : AreRunning after.is_honest after.bytes new
+  pub sizes : new.sizes ≡ old.sizes
+  pub catalogue : new.catalogue ≡ old.catalogue
+  pub pass : due_to_pass new a ≤ due_to_pass old a
+  pub deep : due_to_deep new ≤ due_to_deep old
+  pub stands : (tree : Tree) → IsTrue before.is_honest → StandOver old tree a before → StandOver new tree a after
+  pub leaves : (tree : Tree) → IsTrue before.is_honest → StandOver old tree a before → LeavesOnly before after (HoldsTree old.sizes tree)
+  pub well : RunsWell (file_length old.sizes) before after
+
+-- ---- steps of settling
+
+-- the run of a deep merge and what is left for it weigh no more than C1' and C2
+abbrev pub IsDeepLight : RunsState → Type 0
+IsDeepLight runs = due_to_deep runs ≤ runs.catalogue.c1x.weight + runs.catalogue.c2.weight
+
+-- On any disk: a tree that was read, or is being settled; no pass runs. C1 is below its mark, all is within the capacity, and the tables are
+-- what some lanes replay to, behind which they end.
+pub record MaySettle (runs : RunsState) (log : LogState) (d : DiskState) : Type 0 where
+  pub running : AreRunning d.is_honest d.bytes runs
+  pub long : IsTrue d.tells_bytes → length d.bytes ≡ file_length runs.sizes
+  pub pass : runs.pass ≡ None
+  pub roles : AreRoles runs.catalogue.lanes
+  pub sizes : log.lanes.sizes ≡ runs.sizes
+  pub lanes : Tree
+  pub lanes_are : lanes.catalogue ≡ runs.catalogue
+  pub log_of : IsLogOf lanes log
+  pub mark : runs.catalogue.c1.weight < c1_mark runs.sizes
+  pub full : components_of runs.catalogue + weight_of_tables log ≤ capacity runs.sizes
+  pub deep : IsDeepLight runs
+  pub reserved_a : high_mark runs.sizes ≤ log.a.reserved
+  pub reserved_b : high_mark runs.sizes ≤ log.b.reserved
+
+-- On an honest disk: it stands on a tree that reads as this map, and components and log are of it.
+pub record ShowsMap (runs : RunsState) (log : LogState) (pairs : List (Key × Value)) (d : DiskState) : Type 0 where
+  pub tree : Tree
+  pub over : StandOver runs tree log.a.entries d
+  pub log_of : IsLogOf tree log
+  pub fits : FitsSizes runs.sizes tree
+  pub map_is : map_of_tree tree ≡ pairs
+
+-- what a run of calls leaves of a map: at each moment, and as the disk reads, a file that reads as it
+pub record KeepsMap (sizes : Sizes) (pairs : List (Key × Value)) (old new : DiskState) : Type 0 where
+  pub each : LeavesOnly old new (ReadsAsMap sizes pairs)
+  pub reads : ReadsAsMap sizes pairs new.bytes
+
+-- What a step of settling leaves, whatever it answers: on an honest disk that showed a map each image of each moment reads as it.
+pub record LeavesMaps (runs : RunsState) (log : LogState) (old new : DiskState) : Type 0 where
+  pub keeps : (pairs : List (Key × Value)) → IsTrue old.is_honest → ShowsMap runs log pairs old → KeepsMap runs.sizes pairs old new
+  pub calls : ℕ
+  pub effect : Affects anywhere (file_length runs.sizes) calls old new
+
+-- And once it is done: the disk shows the map that it showed, and settling may go on.
+pub record SettlesOn (runs runs' : RunsState) (log log' : LogState) (old new : DiskState) : Type 0 where
+  pub leaves : LeavesMaps runs log old new
+  pub shows : (pairs : List (Key × Value)) → IsTrue old.is_honest → ShowsMap runs log pairs old → ShowsMap runs' log' pairs new
+  pub may : MaySettle runs' log' new
+  pub sizes : runs'.sizes ≡ runs.sizes
+  pub calm : new.faults ≡ old.faults
+
+-- On an honest disk that shows a map nothing but a fault of the disk keeps it from being done.
+abbrev pub EndsWell : Result Unit Broken → RunsState → LogState → DiskState → Type 0
+EndsWell result runs log old = (pairs : List (Key × Value)) → IsTrue old.is_honest → ShowsMap runs log pairs old → result ≢ Err Fault → result ≡ Ok tt
+
+-- No merge runs, and neither table has an entry, nor has its lane, whichever tree's the log is.
+pub record IsSettled (runs : RunsState) (log : LogState) : Type 0 where
+  pub pass : runs.pass ≡ None
+  pub deep : runs.deep ≡ None
+  pub a : log.a.entries ≡ []
+  pub b : log.b.entries ≡ []
+  pub end_a : end_of_a log ≡ 0
+  pub end_b : end_of_b log ≡ 0
+  pub lanes : (tree : Tree) → IsLogOf tree log → (tree.lane_a ≡ []) × (tree.lane_b ≡ [])
