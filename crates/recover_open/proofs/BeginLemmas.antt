@@ -1,0 +1,93 @@
+-- What was read of a store may be settled.
+use Rattle.std.specs.Prelude.{◌≡◌, ℕ, ◌+◌, ◌-◌, ◌≤◌, Bool, List, [], length, min}
+use Rattle.std.proofs.Common.{◌∙◌, refl, ap, sym, subst, arith}
+use Rattle.std.proofs.Math.Seq.{take-length}
+use Rattle.blsm_model.specs.Sizes.{Sizes}
+use Rattle.blsm_model.specs.Geometry.{capacity, high_mark}
+use Rattle.blsm_model.specs.Lanes.{a_of, b_of}
+use Rattle.catalog_swap.specs.declared.catalog.Catalog.{Catalog}
+use Rattle.gated_log.specs.Lane.{blocks}
+use Rattle.gated_log.specs.Lanes.{end_of}
+use Rattle.record_delta.specs.Entries.{Entries, entries_weight, replayed}
+use Rattle.tree_file.specs.Tree.{Tree, FitsSizes, HoldsTree}
+use Rattle.tree_log.specs.Log.{LogState, IsLogOf}
+use Rattle.tree_reading.specs.declared.found.Found.{Found}
+use Rattle.tree_reading.specs.Damage.{catalogue_weight, room_for_a, room_for_b}
+use Rattle.tree_reading.specs.Reading.{HoldsFound, IsFound}
+use Rattle.tree_runs.specs.Runs.{RunsState, first_tags, opened}
+use Rattle.tree_runs.specs.Holding.{AreOf, AreTagged}
+use Rattle.page_space.specs.Space.{SpaceState}
+use Rattle.tree_settling.specs.Settling.{IsDeepLight}
+use Rattle.recover_open.specs.Opening.{BeginsIn, HasBegun}
+
+abbrev runs_of : Found → RunsState
+runs_of found = opened found.geometry found.catalogue found.space
+
+abbrev log_in : Found → LogState
+log_in found = record { a = found.a; b = found.b; lanes = found.lanes }
+
+-- a deep merge that an opening goes on with has taken nothing
+abbrev pub BeginsLight : Type 0
+BeginsLight = (sizes : Sizes) (catalogue : Catalog) (space : SpaceState) → IsDeepLight (opened sizes catalogue space)
+
+-- the table and what stands above it within the room
+within : (room_a table_a table_b components cap high : ℕ) → components ≤ cap → table_a ≤ min high (cap - components) → table_b ≤ min high (cap - components) - table_a
+    → components + (table_a + table_b) ≤ cap
+within room_a table_a table_b components cap high below a b = omega (arith, below, a, b)
+
+-- the log of a tree with these lanes
+log_is : (found : Found) (tree : Tree) → tree.catalogue ≡ found.catalogue → found.lanes.roles ≡ found.catalogue.lanes → found.a.entries ≡ replayed tree.lane_a → found.b.entries ≡ replayed tree.lane_b
+    → end_of found.lanes (a_of found.catalogue.lanes) ≡ length (blocks tree.lane_a) → end_of found.lanes (b_of found.catalogue.lanes) ≡ length (blocks tree.lane_b) → IsLogOf tree (log_in found)
+log_is found tree catalogue roles a b end_a end_b = record {
+  roles = roles ∙ ap (λ (c : Catalog). c.lanes) (sym catalogue);
+  end_a = ap (λ (l : List ℕ). end_of found.lanes (a_of l)) roles ∙ end_a;
+  end_b = ap (λ (l : List ℕ). end_of found.lanes (b_of l)) roles ∙ end_b;
+  a = a;
+  b = b;
+}
+
+begun : BeginsLight → (found : Found) (honest : Bool) (file : List ℕ) → IsFound found honest file → HasBegun (runs_of found) (log_in found)
+begun light found honest file is =
+    let a = is.replayed.a_is in
+    let b = is.replayed.b_is in
+    let tree : Tree = record { catalogue = found.catalogue; c1 = []; c1x = []; c2 = []; lane_a = is.replayed.lane_a; lane_b = is.replayed.lane_b } in
+    let high = high_mark found.geometry in
+    let cap = capacity found.geometry in
+    let components = catalogue_weight found.catalogue in
+    let held_a : entries_weight found.a.entries ≤ room_for_a found.geometry components =
+    subst (λ (es : Entries). entries_weight es ≤ room_for_a found.geometry components) (ap replayed (take-length is.replayed.lane_a) ∙ sym a.table_is) (a.within (length is.replayed.lane_a)) in
+    let held_b : entries_weight found.b.entries ≤ room_for_b found.geometry components is.replayed.lane_a =
+    subst (λ (es : Entries). entries_weight es ≤ room_for_b found.geometry components is.replayed.lane_a) (ap replayed (take-length is.replayed.lane_b) ∙ sym b.table_is) (b.within (length is.replayed.lane_b)) in
+    record {
+      pass = refl;
+      roles = is.head.valid.lanes;
+      sizes = is.sizes;
+      lanes = tree;
+      lanes_are = refl;
+      log_of = log_is found tree refl is.roles a.table_is b.table_is a.place_is b.place_is;
+      mark = is.head.fits.mark;
+      full = omega (arith, is.head.fits.full, held_a, held_b, ap entries_weight a.table_is);
+      deep = light found.geometry found.catalogue found.space;
+      reserved_a = omega (arith, is.reserved_a);
+      reserved_b = omega (arith, is.reserved_b);
+    }
+
+pub has_begun : BeginsLight → (found : Found) (honest : Bool) (file : List ℕ) (runs : RunsState) (log : LogState) → IsFound found honest file → runs ≡ runs_of found → log ≡ log_in found → HasBegun runs log
+has_begun light found honest file runs log is runs_are log_are =
+    subst (λ (r : RunsState). HasBegun r log) (sym runs_are) (subst (λ (l : LogState). HasBegun (runs_of found) l) (sym log_are) (begun light found honest file is))
+
+-- what an opening says of each tree in a file
+abbrev pub OpensOver : Found → RunsState → Type 0
+OpensOver found runs = (tree : Tree) (a : Entries) (file : List ℕ) → HoldsTree found.geometry tree file → tree.catalogue ≡ found.catalogue
+    → AreTagged found.space first_tags.c1 tree.c1 → AreTagged found.space first_tags.c1x tree.c1x → AreTagged found.space first_tags.c2 tree.c2
+    → AreOf runs tree a file
+
+pub begins_in : (found : Found) (file : List ℕ) (runs : RunsState) (log : LogState) → found.lanes.roles ≡ found.catalogue.lanes → (holds : HoldsFound found file) → runs ≡ runs_of found → log ≡ log_in found
+    → OpensOver found runs → BeginsIn runs log holds.tree file
+begins_in found file runs log roles holds runs_are log_are opens =
+    let t = holds.tree in
+    record {
+      are_of = opens t log.a.entries file holds.holds holds.catalogue (λ n has. (holds.c1_tag n).1 has) (λ n has. (holds.c1x_tag n).1 has) (λ n has. (holds.c2_tag n).1 has);
+      log_of = subst (IsLogOf t) (sym log_are) (log_is found t holds.catalogue roles holds.table_a holds.table_b holds.end_a holds.end_b);
+      fits = subst (λ (s : Sizes). FitsSizes s t) (sym (ap (λ (r : RunsState). r.sizes) runs_are)) holds.fits;
+    }

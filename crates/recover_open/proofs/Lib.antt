@@ -1,0 +1,6 @@
+mod MakingLemmas
+mod BeginLemmas
+mod OpeningLemmas
+mod SettledLemmas
+mod TreeLemmas
+mod CoreLemmas

@@ -1,0 +1,69 @@
+-- A sync, a reading, and the settling behind them.
+use Rattle.std.specs.Prelude.{◌≡◌, ℕ, ◌+◌, ◌≤◌, IsTrue, length, max, Result, Ok, Err, IfOk, IsErr, OnOk}
+use Rattle.std.proofs.Common.{◌∙◌, refl, sym, subst, arith}
+use Rattle.disk_trait.specs.Disk.{DiskState, IsSure, MarksSync, Only, Passes, WritesNothing}
+use Rattle.disk_trait.specs.Effects.{affects_more, affects_nothing, affects_wider}
+use Rattle.disk_trait.specs.Moments.{IsTimed, LeavesOnly, LeavesOnlyOnceSynced, leaves_only_call, leaves_only_run, leaves_only_start, leaves_only_weaken, once_synced_call, once_synced_kept, once_synced_start}
+use Rattle.disk_trait.specs.Reads.{OnlyReads, only_reads_each}
+use Rattle.blsm_model.specs.Geometry.{file_length}
+use Rattle.store_file.specs.Layout.{superblock_length}
+use Rattle.tree_reading.specs.declared.found.Found.{Found}
+use Rattle.tree_reading.specs.declared.found.Unreadable.{Unreadable}
+use Rattle.tree_reading.specs.Reading.{HasLooked, at_superblock, within, reading_calls}
+use Rattle.recover_open.specs.Opening.{StaysInside}
+
+-- Some reads, none of which ends behind the superblock and the file.
+pub record ReadsInside (old new : DiskState) : Type 0 where
+  pub end : ℕ
+  pub calls : ℕ
+  pub inside : IsTrue old.tells_bytes → end ≤ max superblock_length (length old.bytes)
+  pub only : OnlyReads end calls old new
+
+looked : {old new : DiskState} → HasLooked reading_calls old new → ReadsInside old new
+looked {old} {new} (at_superblock only) = record { end = superblock_length; calls = 2; inside = λ tells. omega arith; only = only }
+looked {old} {new} (within sizes geometry long only) = record { end = file_length sizes; calls = reading_calls sizes; inside = λ tells. omega (arith, long tells); only = only }
+
+pub reads_inside : {old new : DiskState} (result : Result Found Unreadable)
+    → IfOk result (λ found. OnlyReads (file_length found.geometry) (reading_calls found.geometry) old new)
+    → (IsErr result → HasLooked reading_calls old new)
+    → IfOk result (λ found. IsTrue old.tells_bytes → length old.bytes ≡ file_length found.geometry) → ReadsInside old new
+reads_inside (Ok found) only none long = record { end = file_length found.geometry; calls = reading_calls found.geometry; inside = λ tells. omega (arith, long tells); only = only }
+reads_inside (Err why) only more long = looked (more refl)
+
+-- a sync that failed
+pub sync_inside : {old new : DiskState} {ended_well : Type 0} → IsTimed old → Passes old new → MarksSync ended_well old new → WritesNothing old new → IsSure 0 old new → StaysInside old new
+sync_inside {old} {new} {ended_well} timed passes marks same sure = record { end = 0; calls = 1; inside = λ tells. omega arith; effect = affects_nothing ended_well timed passes marks same sure }
+
+-- a sync, and then reads
+pub synced_inside : {old mid new : DiskState} {ended_well : Type 0} → IsTimed old → IsTimed mid → mid.faults ≡ old.faults → Passes old mid → MarksSync ended_well old mid → WritesNothing old mid → IsSure 0 old mid
+    → ReadsInside mid new → StaysInside old new
+synced_inside {old} {mid} {new} {ended_well} timed timed' calm passes marks same sure reads = record {
+  end = reads.end;
+  calls = 1 + reads.calls;
+  inside = λ tells. omega (arith, reads.inside (subst IsTrue (sym passes.goes_on.tells_bytes) tells), same.length tells);
+  effect = affects_more {most = 1} timed' calm (affects_wider {end = 0} (λ i here. here) (omega arith) (omega arith) (affects_nothing ended_well timed passes marks same sure))
+      reads.only.effect (λ i never. absurd never) (omega arith) (omega arith);
+}
+
+sync_kept : {old mid : DiskState} → IsTimed old → Passes old mid → WritesNothing old mid → IsTrue old.is_honest → LeavesOnly old mid old.images
+sync_kept {old} {mid} timed passes same honest = leaves_only_call (leaves_only_start old old.images timed (λ c left. left)) passes (same.images honest)
+
+pub synced_kept : {old mid new : DiskState} → IsTimed old → Passes old mid → WritesNothing old mid → ReadsInside mid new → IsTrue old.is_honest → LeavesOnly old new old.images
+synced_kept {old} {mid} {new} timed passes same reads honest =
+    leaves_only_run (sync_kept timed passes same honest)
+    (leaves_only_weaken (same.images honest) (only_reads_each reads.only (subst IsTrue (sym passes.goes_on.is_honest) honest)))
+
+pub once_synced : {old mid new : DiskState} {ended_well : Type 0} → IsTimed old → IsTimed mid → Passes old mid → MarksSync ended_well old mid → WritesNothing old mid
+    → (IsTrue old.is_honest → Only mid.bytes mid.images) → ReadsInside mid new → IsTrue old.is_honest → LeavesOnlyOnceSynced old new (λ c. c ≡ old.bytes)
+once_synced {old} {mid} {new} {ended_well} timed timed' passes marks same only reads honest =
+    once_synced_kept timed'
+    (once_synced_call ended_well (once_synced_start old (λ c. c ≡ old.bytes) timed) passes marks timed timed' (λ t c after at left. only honest c left ∙ same.bytes honest))
+    (only_reads_each reads.only (subst IsTrue (sym passes.goes_on.is_honest) honest)) reads.only.no_sync
+
+pub still_only : {mid new : DiskState} → IsTrue mid.is_honest → Only mid.bytes mid.images → ReadsInside mid new → Only new.bytes new.images
+still_only {mid} {new} honest only reads = λ c left. only c (reads.only.same.same.images honest c left) ∙ sym (reads.only.same.same.bytes honest)
+
+-- what holds holds once it is done
+pub when_done : (result : Result Found Unreadable) {P : Type 0} → P → OnOk result P
+when_done (Ok found) p = p
+when_done (Err why) p = tt

@@ -1,0 +1,91 @@
+-- A reading, and settling what was read.
+use Rattle.std.specs.Prelude.{◌≡◌, ℕ, ◌+◌, ◌≤◌, IsTrue, List, length, max, Result, Ok, Err, IfOk, IfErr}
+use Rattle.std.proofs.Common.{◌∙◌, refl, sym, subst, inl, inr, arith}
+use Rattle.blsm_model.specs.Geometry.{file_length}
+use Rattle.blsm_model.specs.Sizes.{Sizes}
+use Rattle.blsm_model.specs.declared.key.Key.{Key}
+use Rattle.blsm_model.specs.declared.row.Value.{Value}
+use Rattle.disk_trait.specs.Disk.{DiskState, TellsFaultsBy}
+use Rattle.disk_trait.specs.Effects.{Affects, affects_more, affects_wider}
+use Rattle.disk_trait.specs.Moments.{IsTimed, LeavesOnly, LeavesOnlyOnceSynced, SyncsLater, leaves_only_run, leaves_only_weaken, once_synced_more, once_synced_weaken}
+use Rattle.refusal.specs.Count.{HasRisen}
+use Rattle.tree_file.specs.Tree.{Tree, HoldsTree, ReadsAsMap, map_of_tree}
+use Rattle.tree_reading.specs.declared.found.Found.{Found}
+use Rattle.tree_reading.specs.declared.found.Unreadable.{Unreadable}
+use Rattle.tree_reading.specs.declared.found.Unreadable.TheVariants.{Fault}
+use Rattle.tree_reading.specs.Damage.{most_version}
+use Rattle.tree_reading.specs.Reading.{HoldsFound, IsWhy}
+use Rattle.recover_open.specs.declared.beginning.Begun.{Begun}
+use Rattle.tree_settling.specs.Settling.{KeepsMap, anywhere}
+use Rattle.recover_open.specs.Opening.{IsReady, KeepsMapOf, HasOpenedOn, StandsEmpty, StaysInside}
+
+-- ---- what was found
+
+-- A file holds one tree: of one size, with one map.
+abbrev pub OneSizes : Type 0
+OneSizes = (a b : Sizes) (one other : Tree) (file : List ℕ) → HoldsTree a one file → HoldsTree b other file → a ≡ b
+
+abbrev pub OneMap : Type 0
+OneMap = (a b : Sizes) (one other : List (Key × Value)) (file : List ℕ) → ReadsAsMap a one file → ReadsAsMap b other file → one ≡ other
+
+pub found_reads : (found : Found) (file : List ℕ) → (holds : HoldsFound found file) → ReadsAsMap found.geometry (map_of_tree holds.tree) file
+found_reads found file holds = record { tree = holds.tree; holds = holds.holds; fits = holds.fits; map_is = refl }
+
+-- ---- once it is read
+
+pub ready_as : (result : Result Begun Unreadable) (d : DiskState) (sizes : Sizes) (version : ℕ) → version ≤ most_version → IfOk result (λ begun. IsReady sizes version begun.runs begun.log d)
+    → IfOk result (λ begun. (v : ℕ) × (v ≤ most_version) × IsReady begun.runs.sizes v begun.runs begun.log d)
+ready_as (Ok begun) d sizes version few ready = (version, few, record { may = ready.may; settled = ready.settled; sizes_are = refl; commits = ready.commits })
+ready_as (Err why) d sizes version few ready = tt
+
+pub stands_as : (result : Result Begun Unreadable) (found : Found) (version : ℕ) (file : List ℕ) (d : DiskState) (pairs : List (Key × Value)) → ReadsAsMap found.geometry pairs file
+    → IfOk result (λ begun. IsReady found.geometry version begun.runs begun.log d) → IfOk result (λ begun. StandsEmpty begun.runs begun.log pairs d)
+    → IfOk result (λ begun. HasOpenedOn begun.runs begun.log file d)
+stands_as (Ok begun) found version file d pairs reads ready stands =
+    record { pairs = pairs; reads = subst (λ (s : Sizes). ReadsAsMap s pairs file) (sym ready.sizes_are) reads; stands = stands }
+stands_as (Err why) found version file d pairs reads ready stands = tt
+
+pub why_fault : (result : Result Begun Unreadable) (file : List ℕ) → IfErr result (λ why. why ≡ Fault) → IfErr result (λ why. IsWhy why file)
+why_fault (Ok begun) file is = tt
+why_fault (Err why) file is = subst (λ (w : Unreadable). IsWhy w file) (sym is) tt
+
+-- ---- what stays
+
+pub keeps_read : {old mid : DiskState} (sizes : Sizes) (pairs : List (Key × Value)) → ReadsAsMap sizes pairs old.bytes → mid.bytes ≡ old.bytes → LeavesOnly old mid old.images
+    → LeavesOnlyOnceSynced old mid (λ c. c ≡ old.bytes) → KeepsMapOf sizes pairs old mid
+keeps_read {old} {mid} sizes pairs reads same kept synced = record {
+  each = leaves_only_weaken (λ c before. inl before) kept;
+  once_synced = once_synced_weaken (λ c is. subst (ReadsAsMap sizes pairs) (sym is) reads) synced;
+  reads = subst (ReadsAsMap sizes pairs) (sym same) reads;
+}
+
+pub keeps_settled : {old mid new : DiskState} (sizes : Sizes) (pairs : List (Key × Value)) → IsTimed mid → IsTimed new → KeepsMapOf sizes pairs old mid → SyncsLater mid new → KeepsMap sizes pairs mid new
+    → KeepsMapOf sizes pairs old new
+keeps_settled {old} {mid} {new} sizes pairs timed timed' first syncs second = record {
+  each = leaves_only_run first.each (leaves_only_weaken (λ c reads. inr reads) second.each);
+  once_synced = once_synced_more timed timed' first.once_synced second.each syncs;
+  reads = second.reads;
+}
+
+-- what was found reads as the map that the file reads as
+pub keeps_same : {mid new : DiskState} (found : Found) (sizes : Sizes) (pairs : List (Key × Value)) → OneSizes → OneMap → (holds : HoldsFound found mid.bytes) → ReadsAsMap sizes pairs mid.bytes
+    → KeepsMap found.geometry (map_of_tree holds.tree) mid new → KeepsMap sizes pairs mid new
+keeps_same {mid} {new} found sizes pairs one_size one_map holds reads keeps =
+    let same : found.geometry ≡ sizes = one_size found.geometry sizes holds.tree reads.tree mid.bytes holds.holds reads.holds in
+    let map : map_of_tree holds.tree ≡ pairs = one_map found.geometry sizes (map_of_tree holds.tree) pairs mid.bytes (found_reads found mid.bytes holds) reads in
+    subst (λ (s : Sizes). KeepsMap s pairs mid new) same (subst (λ (l : List (Key × Value)). KeepsMap found.geometry l mid new) map keeps)
+
+pub stays_on : {old mid new : DiskState} (sizes : Sizes) (calls : ℕ) → IsTimed mid → mid.faults ≡ old.faults → (IsTrue old.tells_bytes → length old.bytes ≡ file_length sizes)
+    → StaysInside old mid → Affects anywhere (file_length sizes) calls mid new → StaysInside old new
+stays_on {old} {mid} {new} sizes calls timed calm long first second = record {
+  end = max first.end (file_length sizes);
+  calls = first.calls + calls;
+  inside = λ tells. omega (arith, first.inside tells, long tells);
+  effect = affects_more {most = first.calls} timed calm (affects_wider (λ i here. here) (omega arith) (omega arith) first.effect) second (λ i here. here) (omega arith) (omega arith);
+}
+
+pub faults_on : {old mid new : DiskState} (result : Result Begun Unreadable) → mid.faults ≡ old.faults → TellsFaultsBy (Err Fault) result mid new → TellsFaultsBy (Err Fault) result old new
+faults_on {old} {mid} {new} result calm faults = record {
+  stands = λ other. faults.stands other ∙ calm;
+  failed = λ same. subst (λ (n : ℕ). HasRisen n new.faults) calm (faults.failed same);
+}

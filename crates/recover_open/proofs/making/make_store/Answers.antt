@@ -1,0 +1,48 @@
+use Rattle.std.proofs.Common.{IsTrue, sym, subst}
+use Rattle.disk_trait.specs.Reads.{only_reads_call}
+use Rattle.recover_open.proofs.MakingLemmas.{leaves_behind, unsynced_behind, effect_behind, made_empty}
+use Rattle.recover_open.proofs.making.make_store.Goals as goal
+
+pub returns-in_err-make_store-clause-leaves : goal.returns-in_err-make_store-clause-leaves
+returns-in_err-make_store-clause-leaves g c = λ honest none.
+    let timed = g.met.D.Disk.timed in
+    let e = c.len.ensures in
+    leaves_behind c.a_first_tree.ensures.holds c.args.geometry.now (timed c.args.disk.now) (timed c.len.new.self) honest
+    (only_reads_call (timed c.args.disk.now) e.passes e.no_sync e.same e.images e.sure) (c.make_store.ensures.half_made (subst IsTrue (sym e.passes.goes_on.is_honest) honest))
+
+pub returns-in_err-make_store-clause-unsynced : goal.returns-in_err-make_store-clause-unsynced
+returns-in_err-make_store-clause-unsynced g c = λ honest tells.
+    let timed = g.met.D.Disk.timed in
+    let e = c.len.ensures in
+    unsynced_behind honest (only_reads_call (timed c.args.disk.now) e.passes e.no_sync e.same e.images e.sure)
+    (c.make_store.ensures.unsynced (subst IsTrue (sym e.passes.goes_on.is_honest) honest) (subst IsTrue (sym e.passes.goes_on.tells_images) tells))
+
+pub returns-in_err-make_store-clause-effect : goal.returns-in_err-make_store-clause-effect
+returns-in_err-make_store-clause-effect g c =
+    let timed = g.met.D.Disk.timed in
+    let e = c.len.ensures in
+    effect_behind c.args.geometry.now (timed c.len.new.self) c.in_ok-length.ensures.stands (only_reads_call (timed c.args.disk.now) e.passes e.no_sync e.same e.images e.sure) c.make_store.ensures.effect
+
+pub returns-clause-made : goal.returns-clause-made
+returns-clause-made g c = λ honest.
+    made_empty c.a_first_tree.ensures.holds c.args.geometry.now c.in_ok-make_store.ensures.made (subst IsTrue (sym c.len.ensures.passes.goes_on.is_honest) honest)
+
+pub returns-clause-leaves : goal.returns-clause-leaves
+returns-clause-leaves g c = λ honest none.
+    let timed = g.met.D.Disk.timed in
+    let e = c.len.ensures in
+    leaves_behind c.a_first_tree.ensures.holds c.args.geometry.now (timed c.args.disk.now) (timed c.len.new.self) honest
+    (only_reads_call (timed c.args.disk.now) e.passes e.no_sync e.same e.images e.sure) (c.make_store.ensures.half_made (subst IsTrue (sym e.passes.goes_on.is_honest) honest))
+
+pub returns-clause-unsynced : goal.returns-clause-unsynced
+returns-clause-unsynced g c = λ honest tells.
+    let timed = g.met.D.Disk.timed in
+    let e = c.len.ensures in
+    unsynced_behind honest (only_reads_call (timed c.args.disk.now) e.passes e.no_sync e.same e.images e.sure)
+    (c.make_store.ensures.unsynced (subst IsTrue (sym e.passes.goes_on.is_honest) honest) (subst IsTrue (sym e.passes.goes_on.tells_images) tells))
+
+pub returns-clause-effect : goal.returns-clause-effect
+returns-clause-effect g c =
+    let timed = g.met.D.Disk.timed in
+    let e = c.len.ensures in
+    effect_behind c.args.geometry.now (timed c.len.new.self) c.in_ok-length.ensures.stands (only_reads_call (timed c.args.disk.now) e.passes e.no_sync e.same e.images e.sure) c.make_store.ensures.effect

@@ -1,0 +1,62 @@
+use Rattle.std.proofs.Common.{sym, subst, IsTrue}
+use Rattle.tree_file.specs.Tree.{ReadsAsMap}
+use Rattle.tree_reading.specs.Reading.{HoldsFound}
+use Rattle.recover_open.proofs.TreeLemmas.{found_reads, ready_as, stands_as, why_fault, keeps_read, keeps_settled, keeps_same, stays_on, faults_on}
+use Rattle.recover_open.proofs.opening.open_tree.Goals as goal
+
+pub returns-in_err-found-clause-keeps : goal.returns-in_err-found-clause-keeps
+returns-in_err-found-clause-keeps g c = λ sizes pairs honest reads.
+    let r = c.read_synced.ensures in
+    keeps_read sizes pairs reads (r.same honest) (r.kept honest) (r.synced honest)
+
+pub settle_found-requires-clause-length : goal.settle_found-requires-clause-length
+settle_found-requires-clause-length g c = λ tells.
+    c.in_ok-found.ensures.length (subst IsTrue c.read_synced.ensures.effect.effect.goes_on.tells_bytes tells)
+
+pub returns-clause-ready : goal.returns-clause-ready
+returns-clause-ready g c =
+    let f = c.in_ok-found.found in
+    ready_as c.settle_found.result _ f.geometry f.catalogue.version c.in_ok-found.ensures.found.2.head.version c.settle_found.ensures.ready
+
+pub returns-clause-stands : goal.returns-clause-stands
+returns-clause-stands g c = λ honest.
+    let f = c.in_ok-found.found in
+    let r = c.read_synced.ensures in
+    let file = (g.D.Disk.state c.args.disk.now).bytes in
+    let honest' = subst IsTrue (sym r.effect.effect.goes_on.is_honest) honest in
+    let holds = subst (HoldsFound f) (sym (r.same honest)) (c.in_ok-found.ensures.holds honest) in
+    stands_as c.settle_found.result f f.catalogue.version file _ _ (subst (ReadsAsMap f.geometry _) (r.same honest) (found_reads f _ holds)) c.settle_found.ensures.ready
+    (c.settle_found.ensures.stands honest' (c.in_ok-found.ensures.only honest) holds)
+
+pub returns-clause-refused : goal.returns-clause-refused
+returns-clause-refused g c = λ honest.
+    let f = c.in_ok-found.found in
+    let r = c.read_synced.ensures in
+    let honest' = subst IsTrue (sym r.effect.effect.goes_on.is_honest) honest in
+    let holds = subst (HoldsFound f) (sym (r.same honest)) (c.in_ok-found.ensures.holds honest) in
+    why_fault c.settle_found.result _ (c.settle_found.ensures.why honest' (c.in_ok-found.ensures.only honest) holds)
+
+pub returns-clause-keeps : goal.returns-clause-keeps
+returns-clause-keeps g c = λ sizes pairs honest reads.
+    let f = c.in_ok-found.found in
+    let r = c.read_synced.ensures in
+    let timed = g.met.D.Disk.timed in
+    let honest' = subst IsTrue (sym r.effect.effect.goes_on.is_honest) honest in
+    let holds = subst (HoldsFound f) (sym (r.same honest)) (c.in_ok-found.ensures.holds honest) in
+    let first = keeps_read sizes pairs reads (r.same honest) (r.kept honest) (r.synced honest) in
+    keeps_settled sizes pairs (timed c.read_synced.new.disk) (timed c.settle_found.new.disk) first c.settle_found.ensures.effect.1.syncs
+    (keeps_same f sizes pairs c.one_tree.ensures.sizes c.one_tree.ensures.map holds first.reads (c.settle_found.ensures.keeps honest' (c.in_ok-found.ensures.only honest) holds))
+
+pub returns-clause-untouched : goal.returns-clause-untouched
+returns-clause-untouched g c = λ honest none.
+    let f = c.in_ok-found.found in
+    let holds = c.in_ok-found.ensures.holds honest in
+    absurd (none f.geometry _ (found_reads f _ holds))
+
+pub returns-clause-effect : goal.returns-clause-effect
+returns-clause-effect g c =
+    let e = c.settle_found.ensures.effect in
+    stays_on c.in_ok-found.found.geometry e.0 (g.met.D.Disk.timed c.read_synced.new.disk) (c.in_ok-found.ensures.faults.stands (λ wrong. absurd cc)) c.in_ok-found.ensures.was_long c.read_synced.ensures.effect e.1
+
+pub returns-clause-faults : goal.returns-clause-faults
+returns-clause-faults g c = faults_on c.settle_found.result (c.in_ok-found.ensures.faults.stands (λ wrong. absurd cc)) c.settle_found.ensures.faults

@@ -1,0 +1,32 @@
+use Rattle.std.proofs.Common.{IsTrue, sym, subst}
+use Rattle.recover_open.proofs.OpeningLemmas.{reads_inside, sync_inside, synced_inside, synced_kept, once_synced, still_only, when_done}
+use Rattle.recover_open.proofs.opening.read_synced.Goals as goal
+
+pub returns-clause-only : goal.returns-clause-only
+returns-clause-only g c =
+    let e = c.sync.ensures in
+    let r = c.read_tree.ensures in
+    when_done c.read_tree.result (λ honest. still_only (subst IsTrue (sym e.passes.goes_on.is_honest) honest) (c.in-Ok.ensures.durable honest) (reads_inside c.read_tree.result r.effect r.looked r.length))
+
+pub returns-clause-kept : goal.returns-clause-kept
+returns-clause-kept g c = λ honest.
+    let e = c.sync.ensures in
+    let r = c.read_tree.ensures in
+    synced_kept (g.met.D.Disk.timed c.args.disk.now) e.passes e.same (reads_inside c.read_tree.result r.effect r.looked r.length) honest
+
+pub returns-clause-synced : goal.returns-clause-synced
+returns-clause-synced g c = λ honest.
+    let e = c.sync.ensures in
+    let r = c.read_tree.ensures in
+    once_synced (g.met.D.Disk.timed c.args.disk.now) (g.met.D.Disk.timed c.sync.new.self) e.passes e.marks e.same c.in-Ok.ensures.durable (reads_inside c.read_tree.result r.effect r.looked r.length) honest
+
+pub returns-clause-effect : goal.returns-clause-effect
+returns-clause-effect g c =
+    let e = c.sync.ensures in
+    let r = c.read_tree.ensures in
+    synced_inside (g.met.D.Disk.timed c.args.disk.now) (g.met.D.Disk.timed c.sync.new.self) c.in-Ok.ensures.stands e.passes e.marks e.same e.sure (reads_inside c.read_tree.result r.effect r.looked r.length)
+
+pub returns-in_default-clause-effect : goal.returns-in_default-clause-effect
+returns-in_default-clause-effect g c =
+    let e = c.sync.ensures in
+    sync_inside (g.met.D.Disk.timed c.args.disk.now) e.passes e.marks e.same e.sure

@@ -1,0 +1,110 @@
+-- What opening a store finds, and what it leaves.
+use Rattle.std.specs.Prelude.{◌≡◌, ℕ, ◌+◌, ◌<◌, ◌≤◌, IsTrue, List, [], Option, None, Some, Result, Ok, Err, length, max}
+use Rattle.disk_trait.specs.Disk.{DiskState}
+use Rattle.disk_trait.specs.Effects.{Affects}
+use Rattle.disk_trait.specs.Moments.{LeavesOnly, LeavesOnlyOnceSynced, IsOldOr}
+use Rattle.blsm_model.specs.Sizes.{Sizes}
+use Rattle.blsm_model.specs.Geometry.{c1_mark, capacity, high_mark}
+use Rattle.blsm_model.specs.Lanes.{AreRoles}
+use Rattle.blsm_model.specs.Book.{Book}
+use Rattle.blsm_model.specs.declared.room.Room.{Room}
+use Rattle.blsm_model.specs.declared.key.Key.{Key}
+use Rattle.blsm_model.specs.declared.row.Value.{Value}
+use Rattle.store_file.specs.Layout.{superblock_length}
+use Rattle.tree_file.specs.Tree.{Tree, FitsSizes, ReadsAsMap, map_of_tree}
+use Rattle.tree_log.specs.Log.{LogState, IsLogOf, weight_of_tables}
+use Rattle.tree_runs.specs.Runs.{RunsState}
+use Rattle.tree_runs.specs.Holding.{AreOf, StandOver}
+use Rattle.page_file.specs.Component.{entries_of}
+use Rattle.pacing.specs.Pace.{opened as pace_opened}
+use Rattle.tree_machine.specs.Machine.{opened}
+use Rattle.core_moves.specs.declared.held.Held.{Held}
+use Rattle.core_lists.specs.Standing.{catalogue_of}
+use Rattle.tree_core.specs.Core.{CoreState}
+use Rattle.tree_core.specs.Standing.{StandsFor}
+use Rattle.tree_reading.specs.declared.found.Unreadable.{Unreadable}
+use Rattle.recover_open.specs.declared.opening.NotOpened.{NotOpened}
+use Rattle.tree_settling.specs.Settling.{IsDeepLight, IsSettled, MaySettle, anywhere, components_of}
+
+-- Each image of each moment is one from before or reads as this map, and since the first sync each reads so. So the disk does.
+pub record KeepsMapOf (sizes : Sizes) (pairs : List (Key × Value)) (old new : DiskState) : Type 0 where
+  pub each : LeavesOnly old new (IsOldOr old.images (ReadsAsMap sizes pairs))
+  pub once_synced : LeavesOnlyOnceSynced old new (ReadsAsMap sizes pairs)
+  pub reads : ReadsAsMap sizes pairs new.bytes
+
+-- The file reads as no map.
+abbrev pub ReadsAsNone : List ℕ → Type 0
+ReadsAsNone file = (sizes : Sizes) (pairs : List (Key × Value)) → ReadsAsMap sizes pairs file → ⊥
+
+-- The disk stands on a tree with empty lanes, of which these components and this log are, and which has this map.
+pub record StandsEmpty (runs : RunsState) (log : LogState) (pairs : List (Key × Value)) (d : DiskState) : Type 0 where
+  pub tree : Tree
+  pub over : StandOver runs tree log.a.entries d
+  pub lane_a : tree.lane_a ≡ []
+  pub lane_b : tree.lane_b ≡ []
+  pub map_is : map_of_tree tree ≡ pairs
+
+-- and the file from before reads as that map
+pub record HasOpenedOn (runs : RunsState) (log : LogState) (file : List ℕ) (d : DiskState) : Type 0 where
+  pub pairs : List (Key × Value)
+  pub reads : ReadsAsMap runs.sizes pairs file
+  pub stands : StandsEmpty runs log pairs d
+
+-- Components and a log that were begun with, on any disk: all that settling wants of them but what the disk says.
+pub record HasBegun (runs : RunsState) (log : LogState) : Type 0 where
+  pub pass : runs.pass ≡ None
+  pub roles : AreRoles runs.catalogue.lanes
+  pub sizes : log.lanes.sizes ≡ runs.sizes
+  pub lanes : Tree
+  pub lanes_are : lanes.catalogue ≡ runs.catalogue
+  pub log_of : IsLogOf lanes log
+  pub mark : runs.catalogue.c1.weight < c1_mark runs.sizes
+  pub full : components_of runs.catalogue + weight_of_tables log ≤ capacity runs.sizes
+  pub deep : IsDeepLight runs
+  pub reserved_a : high_mark runs.sizes ≤ log.a.reserved
+  pub reserved_b : high_mark runs.sizes ≤ log.b.reserved
+
+-- In this file they are of this tree, which fits.
+pub record BeginsIn (runs : RunsState) (log : LogState) (tree : Tree) (file : List ℕ) : Type 0 where
+  pub are_of : AreOf runs tree log.a.entries file
+  pub log_of : IsLogOf tree log
+  pub fits : FitsSizes runs.sizes tree
+
+-- They are settled, on any disk, by so many commits more than the catalogue that was found.
+pub record IsReady (sizes : Sizes) (version : ℕ) (runs : RunsState) (log : LogState) (d : DiskState) : Type 0 where
+  pub may : MaySettle runs log d
+  pub settled : IsSettled runs log
+  pub sizes_are : runs.sizes ≡ sizes
+  pub commits : runs.catalogue.version ≤ version + 5
+
+-- Some calls, none of which ends behind the superblock and the file.
+pub record StaysInside (old new : DiskState) : Type 0 where
+  pub end : ℕ
+  pub calls : ℕ
+  pub inside : IsTrue old.tells_bytes → end ≤ max superblock_length (length old.bytes)
+  pub effect : Affects anywhere end calls old new
+
+-- ---- the core
+
+-- the disk that a caller has again, in a core or with a refusal
+abbrev pub disk_of : {D : Type 0} → Result (CoreState D) (NotOpened D) → D
+disk_of (Ok core) = core.disk
+disk_of (Err refused) = refused.disk
+
+-- why there is no core
+abbrev pub why_of : {D : Type 0} → Result (CoreState D) (NotOpened D) → Option Unreadable
+why_of (Ok core) = None
+why_of (Err refused) = Some refused.why
+
+-- a history without entries, and this room
+abbrev pub no_entries : Room → Book
+no_entries room = record { entries = []; quanta = []; room = room }
+
+-- The file reads as a map, and the core stands for the machine's first state, whose history begins with that map.
+pub record OpensAs (room : Room) (held : Held) (file : List ℕ) (d : DiskState) : Type 0 where
+  pub pairs : List (Key × Value)
+  pub reads : ReadsAsMap held.runs.sizes pairs file
+  pub tree : Tree
+  pub stands : StandsFor pairs held
+      (opened held.runs.sizes (entries_of tree.c1) (entries_of tree.c2) (catalogue_of held.runs.catalogue) d.faults room)
+      (pace_opened held.runs.sizes held.runs.catalogue.c1.weight held.runs.catalogue.c2.weight) d

@@ -1,0 +1,141 @@
+//! A store on a disk becomes a core.
+ghost use Rattle.std.specs.Prelude.{◌≡◌, ◌≤◌, ◌+◌, [], ℕ, Bool, List, length, sum, Some, Err, IsTrue, IfOk, IfErr, OnOk};
+ghost use Rattle.disk_trait.specs.Disk.{TellsFaultsBy, Only};
+ghost use Rattle.disk_trait.specs.Moments.{LeavesOnly, LeavesOnlyOnceSynced};
+ghost use Rattle.blsm_model.specs.Format.{most_entries, most_rows_asked};
+ghost use Rattle.blsm_model.specs.Geometry.{file_length};
+ghost use Rattle.blsm_model.specs.Sizes.{Sizes};
+ghost use Rattle.blsm_model.specs.declared.key.Key.{Key};
+ghost use Rattle.blsm_model.specs.declared.row.Value.{Value};
+ghost use Rattle.tree_file.specs.Tree.{ReadsAsMap};
+ghost use Rattle.tree_reading.specs.Damage.{most_version};
+ghost use Rattle.tree_reading.specs.Reading.{HoldsFound, IsFound, IsWhy};
+ghost use Rattle.core_moves.specs.Held.{charge_in};
+ghost use Rattle.core_pace.specs.Opening.{IsOpened};
+ghost use Rattle.recover_open.specs.Opening.{IsReady, KeepsMapOf, ReadsAsNone, HasOpenedOn, OpensAs, StaysInside, disk_of, no_entries, why_of};
+
+use crate::beginning::{Begun, settle_found};
+use blsm_model::{Annals, Room};
+use disk_trait::Disk;
+use refusal::NoMemory;
+use std::alloc::Global;
+use tree_core::{Core, Parts};
+use tree_file::one_tree;
+use tree_log::LoggedTables;
+use tree_reading::{Found, Unreadable, read_tree};
+use tree_runs::{MergeRoom, Runs};
+
+// Syncs and reads. What an earlier run left to a crash is settled before a byte of it counts.
+fn read_synced<D: Disk>(alloc: Global, disk: &mut D) -> Result<Found, Unreadable>
+    ensures found { IfOk result (λ found. (honest : Bool) × (file : List ℕ) × IsFound found honest file) }
+    ensures holds { IsTrue (D.state disk.old).is_honest → IfOk result (λ found. HoldsFound found (D.state disk.old).bytes) }
+    ensures refused { IsTrue (D.state disk.old).is_honest → IfErr result (λ why. IsWhy why (D.state disk.old).bytes) }
+    ensures length { IfOk result (λ found. IsTrue (D.state disk.old).tells_bytes → length (D.state disk.new).bytes ≡ file_length found.geometry) }
+    ensures was_long { IfOk result (λ found. IsTrue (D.state disk.old).tells_bytes → length (D.state disk.old).bytes ≡ file_length found.geometry) }
+    ensures same { IsTrue (D.state disk.old).is_honest → (D.state disk.new).bytes ≡ (D.state disk.old).bytes }
+    ensures only { OnOk result (IsTrue (D.state disk.old).is_honest → Only (D.state disk.new).bytes (D.state disk.new).images) }
+    ensures kept { IsTrue (D.state disk.old).is_honest → LeavesOnly (D.state disk.old) (D.state disk.new) (D.state disk.old).images }
+    ensures synced { IsTrue (D.state disk.old).is_honest → LeavesOnlyOnceSynced (D.state disk.old) (D.state disk.new) (λ c. c ≡ (D.state disk.old).bytes) }
+    ensures effect { StaysInside (D.state disk.old) (D.state disk.new) }
+    ensures faults { TellsFaultsBy (Err Unreadable.Fault) result (D.state disk.old) (D.state disk.new) }
+{
+    let Ok(()) = disk.sync() else {
+        return Err(Unreadable::Fault);
+    };
+    read_tree(alloc, disk)
+}
+
+// Memory for what reading doesn't fill: the merges, and the history.
+#[derive(Drop)]
+struct Memory {
+    merges: MergeRoom,
+    annals: Annals,
+}
+
+fn reserve(alloc: Global, room: Room) -> Result<Memory, NoMemory>
+    requires entries { sum room.entries ≤ most_entries }
+    requires rows { sum room.rows ≤ most_rows_asked }
+    ensures { IfOk result (λ memory. memory.annals ≡ record { entries = []; quanta = []; room = room }) }
+{
+    Ok(Memory {
+        merges: MergeRoom::reserve(alloc)?,
+        annals: Annals::reserve(alloc, room)?,
+    })
+}
+
+// Reads the store on a disk, and settles it.
+fn open_tree<D: Disk>(alloc: Global, disk: &mut D, room: MergeRoom) -> Result<Begun, Unreadable>
+    ensures ready { IfOk result (λ begun. (version : ℕ) × (version ≤ most_version) × IsReady begun.runs.sizes version begun.runs begun.log (D.state disk.new)) }
+    ensures stands { IsTrue (D.state disk.old).is_honest → IfOk result (λ begun. HasOpenedOn begun.runs begun.log (D.state disk.old).bytes (D.state disk.new)) }
+    ensures refused { IsTrue (D.state disk.old).is_honest → IfErr result (λ why. IsWhy why (D.state disk.old).bytes) }
+    ensures keeps { (sizes : Sizes) (pairs : List (Key × Value)) → IsTrue (D.state disk.old).is_honest → ReadsAsMap sizes pairs (D.state disk.old).bytes
+        → KeepsMapOf sizes pairs (D.state disk.old) (D.state disk.new) }
+    ensures untouched { IsTrue (D.state disk.old).is_honest → ReadsAsNone (D.state disk.old).bytes → LeavesOnly (D.state disk.old) (D.state disk.new) (D.state disk.old).images }
+    ensures effect { StaysInside (D.state disk.old) (D.state disk.new) }
+    ensures faults { TellsFaultsBy (Err Unreadable.Fault) result (D.state disk.old) (D.state disk.new) }
+{
+    one_tree();
+    let found = read_synced(alloc, disk)?;
+    settle_found(disk, found, room)
+}
+
+/// Why a store was not opened, and the disk.
+#[derive(Drop)]
+pub struct NotOpened<D: Drop> {
+    /// The disk.
+    pub disk: D,
+    /// The cause.
+    pub why: Unreadable,
+}
+
+/// Opens the store on a disk as a core with these rooms for the callers. It syncs first, reads the store, and settles it by its merges: then C1'
+/// and both tables are empty, and the history has no entry.
+///
+/// `NotAStore`, `Damaged` and `Worn` come as `read_tree` tells them, `Fault` just where the disk's count of faults rose, and `NoMemory` where memory
+/// was refused. The disk is given back, with what it had.
+pub fn open_store<D: Disk + Drop>(
+    alloc: Global,
+    disk: D,
+    room: Room,
+) -> Result<Core<D>, NotOpened<D>>
+    requires entries { sum room.entries ≤ most_entries }
+    requires rows { sum room.rows ≤ most_rows_asked }
+
+    // On every disk: no entry, no table, no C1'; the charge is what C1 and C2 weigh, and the count of faults is the disk's.
+    ensures opened { IfOk result (λ core. IsOpened (no_entries room) (D.state core.disk).faults core.held) }
+    ensures charge { IfOk result (λ core. charge_in core.held ≡ core.held.runs.catalogue.c1.weight + core.held.runs.catalogue.c2.weight) }
+
+    // On an honest disk: the disk read as a map, for which the core stands; or what it read as is why it isn't opened.
+    ensures stands { IsTrue (D.state disk).is_honest → IfOk result (λ core. OpensAs room core.held (D.state disk).bytes (D.state core.disk)) }
+    ensures refused { IsTrue (D.state disk).is_honest → IfErr result (λ refused. IsWhy refused.why (D.state disk).bytes) }
+
+    // Whatever is answered, each image of each moment is one from before or reads as the map, and since the first sync each reads so. Where the disk
+    // read as no map, each is one from before.
+    ensures keeps { (sizes : Sizes) (pairs : List (Key × Value)) → IsTrue (D.state disk).is_honest → ReadsAsMap sizes pairs (D.state disk).bytes
+        → KeepsMapOf sizes pairs (D.state disk) (D.state (disk_of result)) }
+    ensures untouched { IsTrue (D.state disk).is_honest → ReadsAsNone (D.state disk).bytes
+        → LeavesOnly (D.state disk) (D.state (disk_of result)) (D.state disk).images }
+    ensures effect { StaysInside (D.state disk) (D.state (disk_of result)) }
+    ensures faults { TellsFaultsBy (Some Unreadable.Fault) (why_of result) (D.state disk) (D.state (disk_of result)) }
+{
+    let mut disk = disk;
+    let Ok(memory) = reserve(alloc, room) else {
+        return Err(NotOpened {
+            disk,
+            why: Unreadable::NoMemory,
+        });
+    };
+    let Memory { merges, annals } = memory;
+    match open_tree(alloc, &mut disk, merges) {
+        Ok(begun) => {
+            let Begun { runs, log } = begun;
+            Ok(Core::assemble(Parts {
+                disk,
+                runs,
+                log,
+                annals,
+            }))
+        }
+        Err(why) => Err(NotOpened { disk, why }),
+    }
+}
