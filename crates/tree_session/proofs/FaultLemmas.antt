@@ -1,0 +1,244 @@
+-- Calls of the core, one after another: what they tell of faults, and what they do to the disk.
+use Rattle.std.specs.Prelude.{IsTrue, Option}
+use Rattle.std.proofs.Common.{◌≡◌, ◌∙◌, ℕ, ◌+◌, ◌≤◌, true, false, Some, None, refl, ap, sym, subst, arith}
+use Rattle.std.proofs.lemmas.Bool.{false≢true}
+use Rattle.refusal.specs.Count.{HasRisen}
+use Rattle.blsm_model.specs.Facts.{Follows}
+use Rattle.blsm_model.specs.Geometry.{file_length}
+use Rattle.blsm_model.specs.declared.op.Op.{Op}
+use Rattle.blsm_model.specs.declared.op.Op.TheVariants.{Put, Add, Del, Get, Hold, Next, Release, Work}
+use Rattle.blsm_model.specs.declared.history.Reply.{Reply}
+use Rattle.blsm_model.specs.declared.history.Why.{Why}
+use Rattle.blsm_model.specs.declared.history.Why.TheVariants.{Faulted, BadPage}
+use Rattle.blsm_model.specs.Sizes.{Sizes}
+use Rattle.disk_trait.specs.Disk.{DiskState}
+use Rattle.disk_trait.specs.Effects.{Affects, affects_start}
+use Rattle.disk_trait.specs.Moments.{IsTimed, leaves_only_run, leaves_only_weaken, leaves_only_now, syncs_later_run, goes_on_run, goes_on_start}
+use Rattle.disk_trait.specs.Region.{Region, same_run}
+use Rattle.tree_machine.specs.Machine as machine
+use Rattle.tree_machine.specs.Machine.{Turned}
+use Rattle.core_moves.specs.declared.held.Held.{Held}
+use Rattle.core_moves.specs.Needs.{anywhere}
+use Rattle.tree_core.specs.Answers.{reply_to_write, reply_to_get}
+use Rattle.tree_core.specs.Causes.{RanOn, HasFailed, FoundDamaged, AdmitsBecause, CallsNone, PaysBecause, PaysNone, TurnsBecause, TurnsNone, FindsBecause}
+use Rattle.tree_core.specs.Core.{CoreState, facts_of_held}
+use Rattle.tree_core.specs.Steps.{StandsSince}
+use Rattle.tree_core.specs.declared.answers.Admission.{Admission}
+use Rattle.tree_core.specs.declared.answers.Admission.TheVariants as admission
+use Rattle.tree_core.specs.declared.answers.Lookup.{Lookup}
+use Rattle.tree_core.specs.declared.answers.Lookup.TheVariants as lookup
+use Rattle.tree_core.specs.declared.answers.Payment.{Payment}
+use Rattle.tree_core.specs.declared.answers.Payment.TheVariants as payment
+use Rattle.tree_session.specs.Faults.{TellsFaults, TellsNone, Proceeds, NamesCount, faults_of, faults_of_turn, is_by_fault}
+use Rattle.tree_session.specs.Session.{EasesOthers}
+
+-- ---- what one call tells
+
+pub tells_ran : (old new : Held) (before after : DiskState) → RanOn old new before after → TellsFaults 0 old new before after
+tells_ran old new before after ran = record {
+  risen = omega (arith, ran.faults);
+  quiet = λ none calm. ran.faults;
+  stops = λ runs. subst (λ (o : Option Why). NamesCount o before after) (sym ran.runs) tt;
+  halted = λ why is. absurd (cc (ran.ran, is));
+}
+
+pub tells_failed : (told : ℕ) (old new : Held) (before after : DiskState) → told ≤ 1 → HasFailed old new before after → TellsFaults told old new before after
+tells_failed told old new before after few failed = record {
+  risen = omega (arith, few, failed.faults);
+  quiet = λ none calm. absurd (false≢true (sym calm ∙ ap is_by_fault failed.stopped));
+  stops = λ runs. subst (λ (o : Option Why). NamesCount o before after) (sym failed.stopped) (refl, failed.faults);
+  halted = λ why is. absurd (cc (failed.ran, is));
+}
+
+pub tells_damaged : (page : ℕ) (old new : Held) (before after : DiskState) → FoundDamaged page old new before after → TellsFaults 0 old new before after
+tells_damaged page old new before after found = record {
+  risen = omega (arith, found.faults);
+  quiet = λ none calm. found.faults;
+  stops = λ runs. subst (λ (o : Option Why). NamesCount o before after) (sym found.stopped) tt;
+  halted = λ why is. absurd (cc (found.ran, is));
+}
+
+-- the stop stands, and no call failed
+pub tells_quiet : (old new : Held) (before after : DiskState) → new.book.stopped ≡ old.book.stopped → after.faults ≡ before.faults → TellsFaults 0 old new before after
+tells_quiet old new before after same faults = record {
+  risen = omega (arith, faults);
+  quiet = λ none calm. faults;
+  stops = λ runs. subst (λ (o : Option Why). NamesCount o before after) (sym (same ∙ runs)) tt;
+  halted = λ why is. (same ∙ is, faults);
+}
+
+-- a lookup failed
+tells_lookup : (old new : Held) (before after : DiskState) → old.book.stopped ≡ None → new.book.stopped ≡ old.book.stopped → HasRisen before.faults after.faults → TellsFaults 1 old new before after
+tells_lookup old new before after ran same rose = record {
+  risen = omega (arith, rose);
+  quiet = λ told calm. absurd (omega (arith, told));
+  stops = λ runs. subst (λ (o : Option Why). NamesCount o before after) (sym (same ∙ runs)) tt;
+  halted = λ why is. absurd (cc (ran, is));
+}
+
+pub admit_tells : (result : Admission) (seat : ℕ) (op : Op) (old new : Held) (before after : DiskState) → AdmitsBecause result seat op old new before after → (CallsNone result → after.faults ≡ before.faults)
+    → TellsFaults (faults_of (reply_to_write result)) old new before after
+admit_tells admission.Admitted seat op old new before after because none = tells_ran old new before after because.0
+admit_tells (admission.Full charge) seat op old new before after because none = tells_quiet old new before after (ap (λ (h : Held). h.book.stopped) because.3) (none tt)
+admit_tells (admission.Fault true) seat op old new before after because none = tells_failed 1 old new before after (omega arith) because.0
+admit_tells (admission.Fault false) seat op old new before after because none = tells_failed 1 old new before after (omega arith) because.0
+admit_tells (admission.Stopped why) seat op old new before after because none = tells_quiet old new before after (ap (λ (h : Held). h.book.stopped) because.1) (none tt)
+
+pub pay_tells : (result : Payment) (seat : ℕ) (old new : Held) (before after : DiskState) → PaysBecause result seat old new before after → (PaysNone result → after.faults ≡ before.faults) → TellsFaults 0 old new before after
+pay_tells payment.Paid seat old new before after because none = tells_ran old new before after because.0
+pay_tells payment.Settled seat old new before after because none = tells_quiet old new before after (ap (λ (h : Held). h.book.stopped) because.2) (none tt)
+pay_tells payment.Fault seat old new before after because none = tells_failed 0 old new before after (omega arith) because
+pay_tells (payment.Damaged page) seat old new before after because none = tells_damaged page old new before after because
+pay_tells (payment.Stopped why) seat old new before after because none = tells_quiet old new before after (ap (λ (h : Held). h.book.stopped) because.1) (none tt)
+
+pub turn_tells : (ended : Turned) (seat : ℕ) (old new : Held) (before after : DiskState) → TurnsBecause ended false seat old new before after → (TurnsNone ended → after.faults ≡ before.faults)
+    → ((why : Why) → old.book.stopped ≡ Some why → new.book.stopped ≡ Some why) → TellsFaults (faults_of_turn ended) old new before after
+turn_tells machine.Worked seat old new before after because none stays = tells_ran old new before after because.0
+turn_tells machine.Idle seat old new before after because none stays = tells_ran old new before after because.0
+turn_tells machine.Closed seat old new before after because none stays = absurd (false≢true because.1)
+turn_tells machine.Failed seat old new before after because none stays = tells_failed 1 old new before after (omega arith) because
+turn_tells (machine.BadPage page) seat old new before after because none stays = tells_damaged page old new before after because
+turn_tells (machine.Halted why) seat old new before after because none stays = tells_quiet old new before after (stays why because.0 ∙ sym because.0) (none tt)
+
+pub get_tells : (result : Lookup) (old new : Held) (before after : DiskState) → FindsBecause result old before after → new.book.stopped ≡ old.book.stopped → TellsFaults (faults_of (reply_to_get result)) old new before after
+get_tells (lookup.Is value) old new before after because same = tells_quiet old new before after same because.1
+get_tells lookup.Absent old new before after because same = tells_quiet old new before after same because.1
+get_tells lookup.Fault old new before after because same = tells_lookup old new before after because.0 same because.1
+get_tells (lookup.Damaged page) old new before after because same = tells_quiet old new before after same because.1
+get_tells (lookup.Stopped why) old new before after because same = tells_quiet old new before after same because.1
+
+-- ---- whose faults stop the store
+
+pub none_told : (op : Op) (reply : Reply) → faults_of reply ≡ 0 → TellsNone op reply
+none_told (Put key value) reply none = none
+none_told (Add key count) reply none = none
+none_told (Del key) reply none = none
+none_told (Get key) reply none = tt
+none_told (Hold low high) reply none = none
+none_told (Next n) reply none = none
+none_told Release reply none = none
+none_told (Work n) reply none = none
+
+stopped_not_calm : (old new : Held) (before after : DiskState) → HasFailed old new before after → is_by_fault new.book.stopped ≡ false → ⊥
+stopped_not_calm old new before after failed calm = false≢true (sym calm ∙ ap is_by_fault failed.stopped)
+
+pub admit_calm : (result : Admission) (seat : ℕ) (op : Op) (old new : Held) (before after : DiskState) → AdmitsBecause result seat op old new before after → is_by_fault new.book.stopped ≡ false → faults_of (reply_to_write result) ≡ 0
+admit_calm admission.Admitted seat op old new before after because calm = refl
+admit_calm (admission.Full charge) seat op old new before after because calm = refl
+admit_calm (admission.Fault begun) seat op old new before after because calm = absurd (stopped_not_calm old new before after because.0 calm)
+admit_calm (admission.Stopped why) seat op old new before after because calm = refl
+
+pub turn_calm : (ended : Turned) (seat : ℕ) (old new : Held) (before after : DiskState) → TurnsBecause ended false seat old new before after → is_by_fault new.book.stopped ≡ false → faults_of_turn ended ≡ 0
+turn_calm machine.Worked seat old new before after because calm = refl
+turn_calm machine.Idle seat old new before after because calm = refl
+turn_calm machine.Closed seat old new before after because calm = refl
+turn_calm machine.Failed seat old new before after because calm = absurd (stopped_not_calm old new before after because calm)
+turn_calm (machine.BadPage page) seat old new before after because calm = refl
+turn_calm (machine.Halted why) seat old new before after because calm = refl
+
+-- a store that no fault has stopped now, none had stopped before
+pub calm_before : (told : ℕ) (old new : Held) (before after : DiskState) → TellsFaults told old new before after → is_by_fault new.book.stopped ≡ false → is_by_fault old.book.stopped ≡ false
+calm_before told old new before after tells calm = by old.book.stopped refl
+  where
+    by : (o : Option Why) → old.book.stopped ≡ o → is_by_fault old.book.stopped ≡ false
+    by None is = ap is_by_fault is
+    by (Some why) is = ap is_by_fault (is ∙ sym (tells.halted why is).0) ∙ calm
+
+-- ---- and one after another
+
+names_from : (o : Option Why) (before between after : DiskState) → before.faults ≤ between.faults → NamesCount o between after → NamesCount o before after
+names_from (Some (Faulted faults)) before between after grows names = (names.0, omega (arith, grows, names.1))
+names_from (Some (BadPage page)) before between after grows names = tt
+names_from None before between after grows names = tt
+
+names_to : (o : Option Why) (before between after : DiskState) → after.faults ≡ between.faults → NamesCount o before between → NamesCount o before after
+names_to (Some (Faulted faults)) before between after same names = (names.0 ∙ sym same, omega (arith, same, names.1))
+names_to (Some (BadPage page)) before between after same names = tt
+names_to None before between after same names = tt
+
+pub tells_then : (one two : ℕ) (old mid new : Held) (before between after : DiskState) → before.faults ≤ between.faults → between.faults ≤ after.faults → TellsFaults one old mid before between → TellsFaults two mid new between after
+    → TellsFaults (one + two) old new before after
+tells_then one two old mid new before between after grows grows_more first second = record {
+  risen = omega (arith, first.risen, second.risen);
+  quiet = λ none calm. second.quiet (omega (arith, none)) calm ∙ first.quiet (omega (arith, none)) (calm_before two mid new between after second calm);
+  stops = λ ran. stop_of mid.book.stopped refl (first.stops ran);
+  halted = λ why is. let here = first.halted why is in let there = second.halted why here.0 in (there.0, there.1 ∙ here.1);
+}
+  where
+    stop_of : (o : Option Why) → mid.book.stopped ≡ o → NamesCount mid.book.stopped before between → NamesCount new.book.stopped before after
+    stop_of None is names = names_from new.book.stopped before between after grows (second.stops is)
+    stop_of (Some why) is names = let there = second.halted why is in
+        subst (λ (o : Option Why). NamesCount o before after) (is ∙ sym there.0) (names_to mid.book.stopped before between after there.1 names)
+
+-- ---- the disk
+
+-- a run after a run, of which one at most failed
+affects_both : {region : Region} {end most more : ℕ} {old mid new : DiskState} → IsTimed mid → new.faults ≤ old.faults + 1 → Affects region end most old mid → Affects region end more mid new → Affects region end (most + more) old new
+affects_both {region} {end} {most} {more} {old} {mid} {new} timed few first second = record {
+  goes_on = goes_on_run first.goes_on second.goes_on;
+  calls = omega (arith, first.calls, second.calls);
+  syncs = syncs_later_run first.goes_on.clock first.syncs second.syncs;
+  one_fault = few;
+  sure = λ some within. second.sure (omega (arith, first.goes_on.sure_up_to, some)) (omega (arith, first.goes_on.sure_up_to, within)) ∙ first.sure some within;
+  no_shorter = λ tells. omega (arith, first.no_shorter tells, second.no_shorter (tells_still tells));
+  no_longer = λ tells. omega (arith, first.no_longer tells, second.no_longer (tells_still tells));
+  bytes = λ honest. same_run (first.bytes honest) (second.bytes (still honest));
+  images = λ honest.
+      leaves_only_run (first.images honest)
+      (leaves_only_weaken
+      (λ c was. let earlier = leaves_only_now timed (first.images honest) was.0 was.1 in (earlier.0, earlier.1, same_run earlier.2 was.2))
+      (second.images (still honest)));
+}
+  where
+    still : IsTrue old.is_honest → IsTrue mid.is_honest
+    still honest = subst IsTrue (sym first.goes_on.is_honest) honest
+
+    tells_still : IsTrue old.tells_bytes → IsTrue mid.tells_bytes
+    tells_still tells = subst IsTrue (sym first.goes_on.tells_bytes) tells
+
+-- ---- calls of the core
+
+-- no call yet
+pub proceeds_none : {D : Type 0} (state : D → DiskState) (old : CoreState D) → IsTimed (state old.disk) → Proceeds state 0 old old
+proceeds_none state old timed = record {
+  sizes = refl;
+  goes_on = goes_on_start (state old.disk);
+  effect = λ few. (0, affects_start (state old.disk) timed);
+  tells = tells_quiet old.held old.held (state old.disk) (state old.disk) refl refl;
+  lasts = λ start since. since;
+}
+
+-- one call, of a core that stands since some start
+pub proceeds_by : {D : Type 0} (state : D → DiskState) (told calls : ℕ) (start old new : CoreState D) → StandsSince start.held old.held (state start.disk) (state old.disk)
+    → ((from : CoreState D) → StandsSince from.held old.held (state from.disk) (state old.disk) → StandsSince from.held new.held (state from.disk) (state new.disk))
+    → Affects anywhere (file_length old.held.runs.sizes) calls (state old.disk) (state new.disk) → TellsFaults told old.held new.held (state old.disk) (state new.disk) → Proceeds state told old new
+proceeds_by state told calls start old new since lasts effect tells = record {
+  sizes = (lasts start since).sizes ∙ sym since.sizes;
+  goes_on = effect.goes_on;
+  effect = λ few. (calls, effect);
+  tells = tells;
+  lasts = lasts;
+}
+
+pub proceeds_then : {D : Type 0} (state : D → DiskState) (one two : ℕ) (old mid new : CoreState D) → IsTimed (state mid.disk) → Proceeds state one old mid → Proceeds state two mid new → Proceeds state (one + two) old new
+proceeds_then state one two old mid new timed first second = record {
+  sizes = second.sizes ∙ first.sizes;
+  goes_on = goes_on_run first.goes_on second.goes_on;
+  effect = λ few.
+      let begins = first.effect (omega (arith, few, second.goes_on.faults)) in
+      let ends = second.effect (omega (arith, few, first.goes_on.faults)) in
+      (begins.0 + ends.0, affects_both timed few begins.1 (subst (λ (s : Sizes). Affects anywhere (file_length s) ends.0 (state mid.disk) (state new.disk)) first.sizes ends.1));
+  tells = tells_then one two old.held mid.held new.held (state old.disk) (state mid.disk) (state new.disk) first.goes_on.faults second.goes_on.faults first.tells second.tells;
+  lasts = λ start since. second.lasts start (first.lasts start since);
+}
+
+-- ---- the other seats
+
+pub eases_by : (seat : ℕ) (old new : Held) → Follows seat (facts_of_held old) (facts_of_held new) → EasesOthers seat old new
+eases_by seat old new follows = record { first = λ other apart. (follows.others other apart).debt1; second = λ other apart. (follows.others other apart).debt2 }
+
+pub eases_none : (seat : ℕ) (held : Held) → EasesOthers seat held held
+eases_none seat held = record { first = λ other apart. omega arith; second = λ other apart. omega arith }
+
+pub eases_then : (seat : ℕ) (old mid new : Held) → EasesOthers seat old mid → EasesOthers seat mid new → EasesOthers seat old new
+eases_then seat old mid new one two = record { first = λ other apart. omega (arith, one.first other apart, two.first other apart); second = λ other apart. omega (arith, one.second other apart, two.second other apart) }

@@ -1,0 +1,6 @@
+mod FaultLemmas
+mod BookLemmas
+mod PayLemmas
+mod WriteLemmas
+mod WorkLemmas
+mod RunLemmas

@@ -1,0 +1,137 @@
+-- Lines, one after another.
+use Rattle.std.specs.Prelude.{◌==◌, nat_lt, slice_index, slice_set, filter, sum_by}
+use Rattle.std.proofs.Common.{◌≡◌, ◌∙◌, ℕ, ◌+◌, ◌-◌, ◌≤◌, ◌<◌, Bool, true, false, cond, List, [], ◌∷◌, ◌++◌, length, refl, ap, sym, subst, arith, append-nil, append_assoc, length-append}
+use Rattle.std.specs.List.{AllByRecursion}
+use Rattle.std.proofs.lemmas.Bool.{eqb-true, eqb-false, ltb-true, ltb-false}
+use Rattle.std.proofs.lemmas.Bool.Decides.{nat_tests}
+use Rattle.std.proofs.lemmas.Grind.{common_steps}
+use Rattle.std.proofs.lemmas.List.{map-append, length-map, get_or-set_same, get_or-set_other, get_or_past}
+use Rattle.std.proofs.lemmas.List.Elements.{filter-append}
+use Rattle.std.proofs.lemmas.List.Sums.{sum_by-append}
+use Rattle.blsm_model.specs.Book.{Book, room_after}
+use Rattle.blsm_model.specs.Format.{callers}
+use Rattle.blsm_model.specs.Scripts.{lines_of}
+use Rattle.blsm_model.specs.Sizes.{Sizes}
+use Rattle.blsm_model.specs.declared.history.Entry.{Entry}
+use Rattle.blsm_model.specs.declared.history.Line.{Line}
+use Rattle.blsm_model.specs.declared.op.Op.{Op}
+use Rattle.blsm_model.specs.declared.room.Room.{Room}
+use Rattle.disk_trait.specs.Disk.{DiskState}
+use Rattle.disk_trait.specs.Moments.{IsTimed}
+use Rattle.tree_core.specs.Core.{CoreState}
+use Rattle.tree_session.specs.Faults.{Proceeds, TellsNone, faults_of, faults_told}
+use Rattle.tree_session.specs.Lines.{HasRoomFor, Rests}
+use Rattle.tree_session.specs.Session.{Performs, Runs, TookFew, most_quanta}
+use Rattle.tree_session.proofs.BookLemmas.{end_counted}
+use Rattle.tree_session.proofs.FaultLemmas.{calm_before, proceeds_none, proceeds_then}
+
+-- ---- lists
+
+took_more : (sizes : Sizes) (es : List Entry) (ns : List ℕ) (e : Entry) (n : ℕ) → TookFew sizes es ns → n ≤ most_quanta sizes e.op → TookFew sizes (es ++ e ∷ []) (ns ++ n ∷ [])
+took_more sizes [] [] e n few one = (one, tt)
+took_more sizes [] (m ∷ ns) e n few one = absurd few
+took_more sizes (x ∷ es) [] e n few one = absurd few
+took_more sizes (x ∷ es) (m ∷ ns) e n few one = (few.0, took_more sizes es ns e n few.1 one)
+
+all_more : (es : List Entry) (e : Entry) → AllByRecursion (λ x. TellsNone x.op x.reply) es → TellsNone e.op e.reply → AllByRecursion (λ x. TellsNone x.op x.reply) (es ++ e ∷ [])
+all_more [] e all one = (one, tt)
+all_more (x ∷ es) e all one = (all.0, all_more es e all.1 one)
+
+told_more : (es : List Entry) (e : Entry) → faults_told (es ++ e ∷ []) ≡ faults_told es + faults_of e.reply
+told_more es e =
+    let both = sum_by-append (λ (x : Entry). faults_of x.reply) es (e ∷ []) in
+    let one : sum_by (λ (x : Entry). faults_of x.reply) (e ∷ []) ≡ faults_of e.reply = omega arith in
+    omega (arith, both, one)
+
+lines_more : (seat : ℕ) (lines : List Line) (line : Line) → length (lines_of seat (lines ++ line ∷ [])) ≡ length (lines_of seat lines) + cond (line.seat == seat) 1 0
+lines_more seat lines line =
+    let split = filter-append (λ (l : Line). l.seat == seat) lines (line ∷ []) in
+    length-map (filter (λ (l : Line). l.seat == seat) (lines ++ line ∷ [])) (λ (l : Line). l.op) ∙ ap (λ (ls : List Line). length ls) split
+    ∙ length-append (filter (λ (l : Line). l.seat == seat) lines) (filter (λ (l : Line). l.seat == seat) (line ∷ []))
+    ∙ ap (λ (n : ℕ). n + length (filter (λ (l : Line). l.seat == seat) (line ∷ []))) (sym (length-map (filter (λ (l : Line). l.seat == seat) lines) (λ (l : Line). l.op)))
+    ∙ ap (λ (n : ℕ). length (lines_of seat lines) + n) (last (line.seat == seat))
+  where
+    last : (b : Bool) → length (cond b (line ∷ []) []) ≡ cond b 1 0
+    last true = refl
+    last false = refl
+
+-- ---- room
+
+-- one less at the seat of the entry
+room_less : (entries : List ℕ) (seat any : ℕ) → 0 < slice_index entries seat → slice_index (slice_set entries seat (slice_index entries seat - 1)) any + cond (seat == any) 1 0 ≡ slice_index entries any
+room_less entries seat any some = by (seat == any) refl
+  where
+    within : seat < length entries
+    within = inside (nat_lt seat (length entries)) refl
+      where
+        inside : (b : Bool) → nat_lt seat (length entries) ≡ b → seat < length entries
+        inside true is = ltb-true seat (length entries) is
+        inside false is = let past = get_or_past entries seat 0 (ltb-false seat (length entries) is) in absurd (none (slice_index entries seat) past some)
+          where
+            none : (n : ℕ) → n ≡ 0 → 0 < n → ⊥
+            none n zero more = omega arith
+
+    by : (b : Bool) → (seat == any) ≡ b → slice_index (slice_set entries seat (slice_index entries seat - 1)) any + cond b 1 0 ≡ slice_index entries any
+    by true is =
+        let here = get_or-set_same entries seat (slice_index entries seat - 1) 0 within in
+        subst (λ (s : ℕ). slice_index (slice_set entries seat (slice_index entries seat - 1)) s + 1 ≡ slice_index entries s) (eqb-true seat any is) (omega (arith, here, some))
+    by false is =
+        let there = get_or-set_other entries seat any (slice_index entries seat - 1) 0 (λ same. eqb-false seat any is (sym same)) in
+        omega (arith, there)
+
+-- a caller whose line is next has room for it, and after it for the rest
+pub room_next : (room : Room) (line : Line) (lines : List Line) → line.seat < callers → HasRoomFor room (line ∷ lines) → 0 < slice_index room.entries line.seat
+room_next room line lines below has =
+    grind (arith, common_steps, nat_tests, has line.seat below)
+
+pub room_then : (room : Room) (line : Line) (lines : List Line) (entry : Entry) → entry.seat ≡ line.seat → HasRoomFor room (line ∷ lines) → HasRoomFor (room_after room entry) lines
+room_then room line lines entry same has seat below =
+    grind (arith, common_steps, nat_tests, has seat below)
+
+-- ---- a script
+
+pub runs_none : {D : Type 0} (state : D → DiskState) (old : CoreState D) → IsTimed (state old.disk) → Rests old.held → Runs state [] old old
+runs_none state old timed rests = record {
+  added = [];
+  counts = [];
+  entries = sym (append-nil old.held.book.book.entries);
+  quanta = sym (append-nil old.held.book.book.quanta);
+  asked_for = refl;
+  few = tt;
+  calm = λ calm. tt;
+  room = λ seat below. omega arith;
+  rests = rests;
+  proceeds = proceeds_none state old timed;
+}
+
+pub runs_more : {D : Type 0} (state : D → DiskState) (lines : List Line) (line : Line) (old mid new : CoreState D) → IsTimed (state mid.disk) → length mid.held.book.book.quanta ≡ length mid.held.book.book.entries
+    → 0 < slice_index mid.held.book.book.room.entries line.seat → Runs state lines old mid → Performs state line.seat line.op mid new → Runs state (lines ++ line ∷ []) old new
+runs_more state lines line old mid new timed places some so_far did =
+    let entry : Entry = record { seat = line.seat; op = line.op; reply = did.reply } in
+    record {
+      added = so_far.added ++ entry ∷ [];
+      counts = so_far.counts ++ did.quanta ∷ [];
+      entries = ap (λ (b : Book). b.entries) did.annals ∙ ap (λ (es : List Entry). es ++ entry ∷ []) so_far.entries ∙ append_assoc old.held.book.book.entries so_far.added (entry ∷ []);
+      quanta = ap (λ (b : Book). b.quanta) did.annals ∙ end_counted mid.held.book.book.quanta (length mid.held.book.book.entries) did.quanta places
+          ∙ ap (λ (ns : List ℕ). ns ++ did.quanta ∷ []) so_far.quanta ∙ append_assoc old.held.book.book.quanta so_far.counts (did.quanta ∷ []);
+      asked_for = map-append (λ (e : Entry). (e.seat, e.op)) so_far.added (entry ∷ []) ∙ ap (λ (cs : List (ℕ × Op)). cs ++ (line.seat, line.op) ∷ []) so_far.asked_for
+          ∙ sym (map-append (λ (l : Line). (l.seat, l.op)) lines (line ∷ []));
+      few = took_more old.held.runs.sizes so_far.added so_far.counts entry did.quanta so_far.few (subst (λ (s : Sizes). did.quanta ≤ most_quanta s line.op) so_far.proceeds.sizes did.few);
+      calm = λ calm. all_more so_far.added entry (so_far.calm (calm_before (faults_of did.reply) mid.held new.held (state mid.disk) (state new.disk) did.proceeds.tells calm)) (did.calm calm);
+      room = λ seat below.
+          let before = so_far.room seat below in
+          let now = ap (λ (b : Book). slice_index b.room.entries seat) did.annals in
+          let less = room_less mid.held.book.book.room.entries line.seat seat some in
+          let more = lines_more seat lines line in
+          omega (arith, before, now, less, more);
+      rests = did.rests;
+      proceeds = subst (λ (told : ℕ). Proceeds state told old new) (sym (told_more so_far.added entry)) (proceeds_then state (faults_told so_far.added) (faults_of did.reply) old mid new timed so_far.proceeds did.proceeds);
+    }
+
+-- each entry has its quanta still
+pub places_then : {D : Type 0} (state : D → DiskState) (line : Line) (mid new : CoreState D) → length mid.held.book.book.quanta ≡ length mid.held.book.book.entries → Performs state line.seat line.op mid new
+    → length new.held.book.book.quanta ≡ length new.held.book.book.entries
+places_then state line mid new places did =
+    let entry : Entry = record { seat = line.seat; op = line.op; reply = did.reply } in
+    ap (λ (b : Book). length b.quanta) did.annals ∙ ap (λ (ns : List ℕ). length ns) (end_counted mid.held.book.book.quanta (length mid.held.book.book.entries) did.quanta places)
+    ∙ length-append mid.held.book.book.quanta (did.quanta ∷ []) ∙ ap (λ (n : ℕ). n + 1) places ∙ sym (length-append mid.held.book.book.entries (entry ∷ [])) ∙ sym (ap (λ (b : Book). length b.entries) did.annals)

@@ -1,0 +1,34 @@
+use Rattle.std.proofs.Common.{ap, arith}
+use Rattle.blsm_model.specs.declared.history.Reply.TheVariants.{Done}
+use Rattle.seat_book.proofs.WordLemmas.{note_has_room}
+use Rattle.tree_core.specs.Answers.{reply_to_write}
+use Rattle.tree_session.specs.Faults.{faults_of}
+use Rattle.tree_session.proofs.BookLemmas.{last_is}
+use Rattle.tree_session.proofs.FaultLemmas.{admit_tells, eases_by, proceeds_by, tells_ran}
+use Rattle.tree_session.proofs.WriteLemmas.{write_refused, write_taken}
+use Rattle.tree_session.proofs.writes.write.Goals as goal
+
+pub pay_off-requires-clause-seat : goal.pay_off-requires-clause-seat
+pay_off-requires-clause-seat g c = (note_has_room c.args.core.now.held.book c.args.seat 0 c.args.op.now Done c.requires.note (omega arith)).seat
+
+pub pay_off-requires-clause-written : goal.pay_off-requires-clause-written
+pay_off-requires-clause-written g c = (last_is c.args.seat c.args.op.now c.args.core.now.held.book c.admit.new.self.held.book c.requires.write c.in-Admitted.ensures.notes.annals).1
+
+pub returns-in-Admitted : goal.returns-in-Admitted
+returns-in-Admitted g c =
+    let state = g.D.Disk.state in
+    let old = c.args.core.now in
+    let mid = c.admit.new.self in
+    let ran = c.in-Admitted.ensures.cause.0 in
+    write_taken state c.args.seat c.args.op.now old mid c.pay_off.new.core (g.met.D.Disk.timed mid.disk) c.requires.write c.keeps.ensures.core ran.ran c.in-Admitted.ensures.notes
+    (eases_by c.args.seat old.held mid.held c.admit.ensures.follows) c.requires.rests
+    (proceeds_by state 0 22 old old mid c.keeps.ensures.begins (λ from since. c.admit.ensures.lasts from since) c.admit.ensures.effect (tells_ran old.held mid.held (state old.disk) (state mid.disk) ran)) c.pay_off.ensures
+
+pub returns-in_default : goal.returns-in_default
+returns-in_default g c =
+    let state = g.D.Disk.state in
+    let old = c.args.core.now in
+    let new = c.admit.new.self in
+    write_refused state c.args.seat c.args.op.now c.admit.result old new c.in_default.not-Admitted c.admit.ensures.cause c.admit.ensures.notes c.requires.rests
+    (proceeds_by state (faults_of (reply_to_write c.admit.result)) 22 old old new c.keeps.ensures.begins (λ from since. c.admit.ensures.lasts from since) c.admit.ensures.effect
+    (admit_tells c.admit.result c.args.seat c.args.op.now old.held new.held (state old.disk) (state new.disk) c.admit.ensures.cause (λ none. ap (λ (d : g.row.D.Denot). (state d).faults) (c.admit.ensures.untouched none))))

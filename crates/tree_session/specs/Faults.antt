@@ -1,0 +1,67 @@
+-- How calls of the core tell what went wrong below them, on every disk, and what they do to the disk.
+use Rattle.std.specs.Prelude.{◌≡◌, ⊤, ℕ, ◌+◌, ◌≤◌, Bool, true, false, List, Option, Some, None, sum_by}
+use Rattle.refusal.specs.Count.{HasRisen, HasRisenBy}
+use Rattle.blsm_model.specs.Geometry.{file_length}
+use Rattle.blsm_model.specs.declared.history.Entry.{Entry}
+use Rattle.blsm_model.specs.declared.history.Reply.{Reply}
+use Rattle.blsm_model.specs.declared.history.Reply.TheVariants.{Fault, FaultLost, FaultUnsure}
+use Rattle.blsm_model.specs.declared.history.Why.{Why}
+use Rattle.blsm_model.specs.declared.op.Op.{Op}
+use Rattle.blsm_model.specs.declared.op.Op.TheVariants.{Get}
+use Rattle.blsm_model.specs.declared.history.Why.TheVariants.{Faulted}
+use Rattle.disk_trait.specs.Disk.{DiskState, GoesOn}
+use Rattle.disk_trait.specs.Effects.{Affects}
+use Rattle.tree_machine.specs.Machine.{Turned, Failed}
+use Rattle.core_moves.specs.declared.held.Held.{Held}
+use Rattle.core_moves.specs.Needs.{anywhere}
+use Rattle.tree_core.specs.Core.{CoreState}
+use Rattle.tree_core.specs.Steps.{StandsSince}
+
+-- ---- what is told
+
+-- how often a reply, a turn and a history tell that a call of the disk failed
+abbrev pub faults_of : Reply → ℕ
+faults_of FaultLost = 1
+faults_of FaultUnsure = 1
+faults_of Fault = 1
+faults_of _ = 0
+
+abbrev pub faults_of_turn : Turned → ℕ
+faults_of_turn Failed = 1
+faults_of_turn _ = 0
+
+abbrev pub faults_told : List Entry → ℕ
+faults_told history = sum_by (λ e. faults_of e.reply) history
+
+-- the store is stopped because a call of the disk failed
+abbrev pub is_by_fault : Option Why → Bool
+is_by_fault (Some (Faulted faults)) = true
+is_by_fault _ = false
+
+-- a stop by a fault names the disk's count, which has risen
+abbrev pub NamesCount : Option Why → DiskState → DiskState → Type 0
+NamesCount (Some (Faulted faults)) before after = (faults ≡ after.faults) × HasRisen before.faults after.faults
+NamesCount _ before after = ⊤
+
+-- So many faults are told. The count has risen for each; it stands where none is told and no fault stopped the store. A store that is stopped
+-- stays so, for the same cause, and no call of its disk fails.
+pub record TellsFaults (told : ℕ) (old new : Held) (before after : DiskState) : Type 0 where
+  pub risen : HasRisenBy told before.faults after.faults
+  pub quiet : told ≡ 0 → is_by_fault new.book.stopped ≡ false → after.faults ≡ before.faults
+  pub stops : old.book.stopped ≡ None → NamesCount new.book.stopped before after
+  pub halted : (why : Why) → old.book.stopped ≡ Some why → (new.book.stopped ≡ Some why) × (after.faults ≡ before.faults)
+
+-- Of the commands a get alone may tell a fault without a stop.
+abbrev pub TellsNone : Op → Reply → Type 0
+TellsNone (Get key) reply = ⊤
+TellsNone op reply = faults_of reply ≡ 0
+
+-- ---- calls of the core, one after another
+
+-- What lasts from any start on lasts. Unless two calls of the disk failed, all were within the store's file.
+pub record Proceeds {D : Type 0} (state : D → DiskState) (told : ℕ) (old new : CoreState D) : Type 0 where
+  pub sizes : new.held.runs.sizes ≡ old.held.runs.sizes
+  pub goes_on : GoesOn (state old.disk) (state new.disk)
+  pub effect : (state new.disk).faults ≤ (state old.disk).faults + 1 → (calls : ℕ) × Affects anywhere (file_length old.held.runs.sizes) calls (state old.disk) (state new.disk)
+  pub tells : TellsFaults told old.held new.held (state old.disk) (state new.disk)
+  pub lasts : (start : CoreState D) → StandsSince start.held old.held (state start.disk) (state old.disk) → StandsSince start.held new.held (state start.disk) (state new.disk)

@@ -1,0 +1,8 @@
+//! A script, run over the core of a tree on one thread: each line's command is done to its end before the next begins.
+#![tactic(auto)]
+
+mod session;
+mod works;
+mod writes;
+
+pub use session::{perform, run_lines};
