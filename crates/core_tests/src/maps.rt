@@ -1,0 +1,219 @@
+// Plain maps: what a history leads to, and what a disk holds.
+ghost use Rattle.std.specs.Prelude.{◌≡◌};
+
+use crate::samples::number_of;
+use crate::stores::File;
+use blsm_model::{Annals, Component, Geometry, Key, Op, ShortReply, Text, Value};
+use catalog_swap::{Catalog, newest};
+use gated_log::Replay;
+use page_file::no_component;
+use record_delta::{Rec, Stream, fold, settle};
+use run_cursor::Cursor;
+use std::alloc::Global;
+use std::process::Abort;
+
+/// The values, or none, of the keys of the numbers from 0 on.
+pub type Map = Vec<Option<Value>>;
+
+/// What a write makes of the map.
+pub fn apply(map: &mut [Option<Value>], op: &Op) {
+    let (Op::Put(key, _) | Op::Add(key, _) | Op::Del(key)) = op else {
+        return;
+    };
+    let Some(place) = map.get_mut(number_of(key)) else {
+        return;
+    };
+    *place = match (op, place.as_ref()) {
+        (Op::Put(_, value), _) => Some(value.copy()),
+        (Op::Add(_, more), Some(value)) => Some(Value {
+            count: value.count.wrapping_add(*more),
+            text: value.text.copy(),
+        }),
+        (Op::Add(_, more), None) => Some(Value {
+            count: *more,
+            text: Text::empty(),
+        }),
+        _ => None,
+    };
+}
+
+fn value_of<'a>(map: &'a [Option<Value>], key: &Key) -> Option<&'a Value> {
+    match map.get(number_of(key)) {
+        Some(Some(value)) => Some(value),
+        _ => None,
+    }
+}
+
+/// What a history leads to: the map of the writes that are done, and the write that is unsure.
+#[derive(Drop)]
+pub struct History {
+    pub map: Map,
+    pub unsure: Option<Op>,
+}
+
+// So many times nothing.
+fn nothing<T>(rt: &impl Abort, alloc: Global, keys: usize) -> Vec<Option<T>> {
+    let mut map = Vec::new(alloc);
+    for _ in 0..keys {
+        map.push(None).expect(rt, "memory");
+    }
+    map
+}
+
+// A get tells what the map has.
+fn check_get(rt: &impl Abort, map: &[Option<Value>], key: &Key, reply: &ShortReply, place: u32) {
+    match reply {
+        ShortReply::Is(value) => {
+            assert!(rt; value_of(map, key) == Some(value), "at {place}");
+        }
+        ShortReply::Absent => assert!(rt; value_of(map, key).is_none(), "at {place}"),
+        _ => {}
+    }
+}
+
+/// Goes over a history of so many keys, and asserts that each get tells what the map has then.
+pub fn follow(rt: &impl Abort, alloc: Global, keys: usize, annals: &Annals) -> History {
+    let mut map: Map = nothing(rt, alloc, keys);
+    let mut unsure = None;
+    for place in 0..annals.len() as u32 {
+        let op = annals.op(place);
+        match (op, annals.short_reply(place).expect(rt, "no rows")) {
+            (Op::Get(key), reply) => check_get(rt, &map, key, reply, place),
+            (_, ShortReply::Done) => apply(&mut map, op),
+            (_, ShortReply::FaultUnsure) => unsure = Some(op.copy()),
+            _ => {}
+        }
+    }
+    History { map, unsure }
+}
+
+/// A lane of a store that is read.
+#[derive(Drop)]
+struct LaneReading {
+    file: File,
+    replay: Replay,
+    ghost same: { replay.sizes ≡ file.geo },
+}
+
+impl LaneReading {
+    // The next entry, if there is one.
+    fn next(&mut self, rt: &impl Abort) -> Option<(Key, Rec)> {
+        match self.replay.next(&mut self.file.disk) {
+            Ok(entry) => entry,
+            Err(_) => rt.abort(),
+        }
+    }
+}
+
+// Folds an entry over the record of its key.
+fn fold_in(records: &mut [Option<Rec>], key: &Key, newer: Rec) {
+    if let Some(place) = records.get_mut(number_of(key)) {
+        *place = Some(match place.take() {
+            Some(older) => fold(newer, older),
+            None => newer,
+        });
+    }
+}
+
+// A record of each key.
+type Records = Vec<Option<Rec>>;
+
+// Folds entries over the records of their keys.
+fn fold_all(records: &mut [Option<Rec>], entries: Vec<(Key, Rec)>) {
+    for (key, rec) in entries {
+        fold_in(records, &key, rec);
+    }
+}
+
+// What the records settle to.
+fn settled(rt: &impl Abort, alloc: Global, records: Records) -> Map {
+    let mut map = Vec::new(alloc);
+    for rec in records {
+        let value = match rec {
+            Some(rec) => settle(rec),
+            None => None,
+        };
+        map.push(value).expect(rt, "memory");
+    }
+    map
+}
+
+impl File {
+    /// The newest catalogue.
+    pub fn newest(&mut self, rt: &impl Abort) -> Catalog {
+        let geo = self.geo;
+        newest(&mut self.disk, &geo).expect(rt, "a catalogue")
+    }
+
+    /// The next entry of a component, if there is one.
+    pub fn next(&mut self, rt: &impl Abort, cursor: &mut Cursor) -> Option<(Key, Rec)> {
+        assert_eq!(rt; cursor.advance(&mut self.disk, &self.geo), Ok(()));
+        cursor.head()
+    }
+
+    /// All entries of a component.
+    pub fn entries(
+        &mut self,
+        rt: &impl Abort,
+        alloc: Global,
+        component: &Component,
+    ) -> Vec<(Key, Rec)> {
+        assert!(rt; component.pages != 0 || *component == no_component());
+        let mut entries = Vec::new(alloc);
+        let mut cursor = Cursor::start(component);
+        for _ in 0..component.entries {
+            let entry = self.next(rt, &mut cursor).expect(rt, "an entry");
+            entries.push(entry).expect(rt, "memory");
+        }
+        assert!(rt; self.next(rt, &mut cursor).is_none());
+        entries
+    }
+
+    // The entries of a lane.
+    fn lane(self, rt: &impl Abort, alloc: Global, lane: u8) -> (File, Vec<(Key, Rec)>) {
+        assert!(rt; lane < 3);
+        let mut entries = Vec::new(alloc);
+        let replay = Replay::new(&self.geo, lane);
+        let mut reading = LaneReading { file: self, replay };
+        for _ in 0..10_000 {
+            match reading.next(rt) {
+                Some(entry) => entries.push(entry).expect(rt, "memory"),
+                None => return (reading.file, entries),
+            }
+        }
+        rt.abort()
+    }
+
+    // Folds the entries of a component over the records.
+    fn fold_component(
+        &mut self,
+        rt: &impl Abort,
+        alloc: Global,
+        records: &mut Records,
+        component: &Component,
+    ) {
+        let entries = self.entries(rt, alloc, component);
+        fold_all(records, entries);
+    }
+
+    // Folds the entries of a lane over the records.
+    fn fold_lane(self, rt: &impl Abort, alloc: Global, records: &mut Records, lane: u8) -> File {
+        let (file, entries) = self.lane(rt, alloc, lane);
+        fold_all(records, entries);
+        file
+    }
+
+    /// The map of the store, read as an opening reads it: the newest catalogue, its components, and the lanes A and B over them.
+    pub fn map(self, rt: &impl Abort, alloc: Global, keys: usize) -> Map {
+        let mut file = self;
+        let catalogue = file.newest(rt);
+        let mut records: Records = nothing(rt, alloc, keys);
+        file.fold_component(rt, alloc, &mut records, &catalogue.c2);
+        file.fold_component(rt, alloc, &mut records, &catalogue.c1x);
+        file.fold_component(rt, alloc, &mut records, &catalogue.c1);
+        let [a, b, _] = catalogue.lanes;
+        let file = file.fold_lane(rt, alloc, &mut records, a);
+        let _ = file.fold_lane(rt, alloc, &mut records, b);
+        settled(rt, alloc, records)
+    }
+}

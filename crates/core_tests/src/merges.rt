@@ -1,0 +1,178 @@
+// Passes and deep merges of a few keys, by what they hold.
+use crate::samples::{add, del, key, put, value};
+use crate::stores::{File, check_reply, fresh, geometry, make, work, write};
+use blsm_model::{Annals, Component, Geometry, Key, ShortReply};
+use disk_mem::MemDisk;
+use page_file::no_component;
+use record_delta::Rec;
+use std::alloc::Global;
+use std::process::Abort;
+use tree_core::Core;
+use tree_machine::Kind;
+
+fn get(rt: &impl Abort, core: &mut Core<MemDisk>, name: &[u8]) {
+    make(core, 0, Kind::Get(key(rt, name)));
+}
+
+// Asserts that an entry has this value as its reply.
+fn check_is(rt: &impl Abort, annals: &Annals, place: u32, count: u64, text: &[u8]) {
+    let reply = ShortReply::Is(value(rt, count, text));
+    check_reply(rt, annals, place, &reply);
+}
+
+// A long put of each of b to f.
+fn put_five(rt: &impl Abort, core: &mut Core<MemDisk>) {
+    for name in [b"b", b"c", b"d", b"e", b"f"] {
+        write(core, 0, put(rt, name, 0, &[b'x'; 435]));
+    }
+}
+
+// Looks c, g and b up.
+fn get_three(rt: &impl Abort, core: &mut Core<MemDisk>) {
+    get(rt, core, b"c");
+    get(rt, core, b"g");
+    get(rt, core, b"b");
+}
+
+// A pass over b to f with writes behind its cursor and ahead of it, which are looked up before its swap and after it.
+fn run_pass(rt: &impl Abort, core: &mut Core<MemDisk>) {
+    put_five(rt, core);
+    work(core, 2);
+    write(core, 0, put(rt, b"c", 1, b""));
+    write(core, 0, put(rt, b"g", 2, b""));
+    get_three(rt, core);
+    work(core, 3);
+    get_three(rt, core);
+    get(rt, core, b"a");
+}
+
+// Asserts that c, g and b are found by the entries from this place on.
+fn check_three(rt: &impl Abort, annals: &Annals, first: u32) {
+    check_is(rt, annals, first, 1, b"");
+    check_is(rt, annals, first.saturating_add(1), 2, b"");
+    check_is(rt, annals, first.saturating_add(2), 0, &[b'x'; 435]);
+}
+
+// Asserts what each command of the run was told.
+fn check_told(rt: &impl Abort, annals: &Annals) {
+    check_reply(rt, annals, 5, &ShortReply::Did(2));
+    check_reply(rt, annals, 6, &ShortReply::Done);
+    check_reply(rt, annals, 7, &ShortReply::Done);
+    check_three(rt, annals, 8);
+    check_reply(rt, annals, 11, &ShortReply::Did(3));
+    check_three(rt, annals, 12);
+    check_reply(rt, annals, 15, &ShortReply::Absent);
+}
+
+// Asserts that the two works did one quantum each, and no other command any.
+fn check_two_quanta(rt: &impl Abort, annals: &Annals) {
+    assert_eq!(rt; annals.len(), 16);
+    for place in 0..annals.len() as u32 {
+        let worked = place == 5 || place == 11;
+        assert_eq!(rt; annals.quanta(place), u64::from(worked), "at {place}");
+    }
+}
+
+// A quantum takes b, c and d, 1,347 bytes, and forgives the debts of two writes: of c, behind the cursor, and of g, ahead of it. Both are
+// found before the pass's swap and after it.
+#[test]
+fn writes_join_a_pass_or_wait(rt: HostRuntime) {
+    let mut core = fresh(&rt, rt.alloc(), geometry(&rt, 32_768, 4, 16_384, 1_024));
+    run_pass(&rt, &mut core);
+    let (_, annals, totals) = core.end();
+    check_told(&rt, &annals);
+    check_two_quanta(&rt, &annals);
+    assert_eq!(rt; (totals.peak, totals.callers), (2_273, 2));
+    assert_eq!(rt; (totals.passes, totals.deeps), (1, 0));
+}
+
+// A C2 in which x has 100 and z has 1.
+fn merge_two(rt: &impl Abort, core: &mut Core<MemDisk>) {
+    write(core, 0, put(rt, b"x", 100, b"old"));
+    write(core, 0, put(rt, b"z", 1, b""));
+    work(core, 6);
+}
+
+// So many turns of a work with a tombstone of x and 4 more for y, and each key looked up.
+fn merge_over(rt: &impl Abort, core: &mut Core<MemDisk>, turns: u32) {
+    write(core, 0, del(rt, b"x"));
+    write(core, 0, add(rt, b"y", 4));
+    work(core, turns);
+    get(rt, core, b"x");
+    get(rt, core, b"y");
+    get(rt, core, b"z");
+}
+
+// Asserts what each command was told: that y has 4, z has 1 and x nothing.
+fn check_merged(rt: &impl Abort, annals: &Annals, did: u32) {
+    for place in [0, 1, 3, 4] {
+        check_reply(rt, annals, place, &ShortReply::Done);
+    }
+    check_reply(rt, annals, 2, &ShortReply::Did(6));
+    check_reply(rt, annals, 5, &ShortReply::Did(did));
+    check_reply(rt, annals, 6, &ShortReply::Absent);
+    check_is(rt, annals, 7, 4, b"");
+    check_is(rt, annals, 8, 1, b"");
+}
+
+// The disk of a store with both merges, the second after so many turns.
+fn merged(rt: &impl Abort, alloc: Global, turns: u32) -> File {
+    let geo = Geometry::default();
+    let mut core = fresh(rt, alloc, geo);
+    merge_two(rt, &mut core);
+    merge_over(rt, &mut core, turns);
+    let (disk, annals, _) = core.end();
+    assert_eq!(rt; annals.len(), 9);
+    check_merged(rt, &annals, turns);
+    File::over(rt, geo, disk)
+}
+
+fn base(rt: &impl Abort, name: &[u8], count: u64, text: &[u8]) -> (Key, Rec) {
+    (key(rt, name), Rec::Base(value(rt, count, text)))
+}
+
+// Asserts that a component has just these two entries.
+fn check_two(
+    rt: &impl Abort,
+    alloc: Global,
+    file: &mut File,
+    component: &Component,
+    two: [(Key, Rec); 2],
+) {
+    let entries = file.entries(rt, alloc, component);
+    assert!(rt; entries.as_slice() == two.as_slice());
+}
+
+// Before the deep merge's swap C1' has the tombstone and the delta, and C2 the bases.
+#[test]
+fn a_tombstone_and_a_delta_wait(rt: HostRuntime) {
+    let alloc = rt.alloc();
+    let mut file = merged(&rt, alloc, 4);
+    let catalogue = file.newest(&rt);
+    assert_eq!(rt; catalogue.version, 6);
+    assert_eq!(rt; catalogue.c1, no_component());
+    let x = (key(&rt, b"x"), Rec::Tomb);
+    let y = (key(&rt, b"y"), Rec::Delta(4));
+    check_two(&rt, alloc, &mut file, &catalogue.c1x, [x, y]);
+    let x = base(&rt, b"x", 100, b"old");
+    let z = base(&rt, b"z", 1, b"");
+    check_two(&rt, alloc, &mut file, &catalogue.c2, [x, z]);
+}
+
+// A tombstone of x and 4 more for y, over x and z: y and z are left, as bases.
+#[test]
+fn a_tombstone_and_a_delta_over_two_bases(rt: HostRuntime) {
+    let alloc = rt.alloc();
+    let mut file = merged(&rt, alloc, 6);
+    let catalogue = file.newest(&rt);
+    assert_eq!(rt; catalogue.version, 7);
+    assert_eq!(rt;
+        (catalogue.c1, catalogue.c1x),
+        (no_component(), no_component())
+    );
+    let c2 = catalogue.c2;
+    assert_eq!(rt; (c2.pages, c2.entries, c2.weight), (1, 2, 28));
+    let y = base(&rt, b"y", 4, b"");
+    let z = base(&rt, b"z", 1, b"");
+    check_two(&rt, alloc, &mut file, &c2, [y, z]);
+}
