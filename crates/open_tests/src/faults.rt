@@ -1,0 +1,61 @@
+// A disk on which one call fails, each in turn.
+use crate::maps::map_of;
+use crate::rich::{KEYS, Rich, make_rich};
+use crate::stops::{calls_of, calls_of_opening};
+use crate::stores::{copy, open, refused, report};
+use disk_mem::MemDisk;
+use disk_trait::Disk;
+use recover_open::{Report, Unreadable, check_store};
+use std::alloc::Global;
+use std::process::Abort;
+
+// A disk with what a disk has, of which this call fails.
+fn failing(rt: &impl Abort, disk: &MemDisk, call: u64) -> MemDisk {
+    let mut disk = copy(rt, disk);
+    assert!(rt; disk.fail(call).is_ok());
+    disk
+}
+
+// Checking tells a fault of a call, and what it told before once the disk answers.
+fn check_checking(rt: &impl Abort, alloc: Global, store: &Rich, call: u64, then: &Report) {
+    let mut disk = failing(rt, &store.disk, call);
+    assert_eq!(rt;
+        check_store(alloc, &mut disk),
+        Err(Unreadable::Fault),
+        "call {call}"
+    );
+    assert_eq!(rt; disk.faults(), 1, "call {call}");
+    assert_eq!(rt; report(rt, alloc, &mut disk), *then, "call {call}");
+}
+
+#[test]
+fn checking_tells_each_fault(rt: HostRuntime) {
+    let alloc = rt.alloc();
+    let store = make_rich(&rt, alloc);
+    let mut disk = copy(&rt, &store.disk);
+    let then = report(&rt, alloc, &mut disk);
+    let all = calls_of(disk);
+    assert!(rt; 10 < all, "{all} calls");
+    for call in 1..all.saturating_add(1) {
+        check_checking(&rt, alloc, &store, call, &then);
+    }
+}
+
+// Opening tells a fault of a call, and the disk that is given back opens to the map.
+fn check_opening(rt: &impl Abort, alloc: Global, store: &Rich, call: u64) {
+    let (why, disk) = refused(rt, alloc, failing(rt, &store.disk, call));
+    assert_eq!(rt; why, Unreadable::Fault, "call {call}");
+    assert_eq!(rt; disk.faults(), 1, "call {call}");
+    let (map, _) = map_of(rt, alloc, open(rt, alloc, disk), KEYS);
+    assert!(rt; map == store.map, "call {call}");
+}
+
+#[test]
+fn opening_tells_each_fault(rt: HostRuntime) {
+    let alloc = rt.alloc();
+    let store = make_rich(&rt, alloc);
+    let all = calls_of_opening(&rt, alloc, &store.disk);
+    for call in 1..all.saturating_add(1) {
+        check_opening(&rt, alloc, &store, call);
+    }
+}

@@ -1,0 +1,84 @@
+// Plain maps: what a history leads to, and what a core looks up.
+use crate::samples::{key_of, number_of};
+use crate::stores::make;
+use blsm_model::{Annals, Op, ShortReply, Text, Value};
+use disk_mem::MemDisk;
+use std::alloc::Global;
+use std::process::Abort;
+use tree_core::Core;
+use tree_machine::Kind;
+
+/// The values, or none, of the keys of the numbers from 0 on.
+pub type Map = Vec<Option<Value>>;
+
+/// The map of so many keys that has none.
+pub fn empty(rt: &impl Abort, alloc: Global, keys: usize) -> Map {
+    let mut map = Vec::new(alloc);
+    for _ in 0..keys {
+        map.push(None).expect(rt, "memory");
+    }
+    map
+}
+
+// What a write makes of the map.
+fn apply(map: &mut [Option<Value>], op: &Op) {
+    let (Op::Put(key, _) | Op::Add(key, _) | Op::Del(key)) = op else {
+        return;
+    };
+    let Some(place) = map.get_mut(number_of(key)) else {
+        return;
+    };
+    *place = match (op, place.as_ref()) {
+        (Op::Put(_, value), _) => Some(value.copy()),
+        (Op::Add(_, more), Some(value)) => Some(Value {
+            count: value.count.wrapping_add(*more),
+            text: value.text.copy(),
+        }),
+        (Op::Add(_, more), None) => Some(Value {
+            count: *more,
+            text: Text::empty(),
+        }),
+        _ => None,
+    };
+}
+
+/// What a history of so many keys leads to, in which nothing failed.
+pub fn follow(rt: &impl Abort, alloc: Global, keys: usize, annals: &Annals) -> Map {
+    let mut map = empty(rt, alloc, keys);
+    for place in 0..annals.len() as u32 {
+        if annals.short_reply(place) == Some(&ShortReply::Done) {
+            apply(&mut map, annals.op(place));
+        }
+    }
+    map
+}
+
+// The value that the entry at a place tells.
+fn told_at(rt: &impl Abort, annals: &Annals, place: u32) -> Option<Value> {
+    assert!(rt; (place as usize) < annals.len());
+    match annals.short_reply(place) {
+        Some(ShortReply::Is(value)) => Some(value.copy()),
+        Some(ShortReply::Absent) => None,
+        _ => rt.abort(),
+    }
+}
+
+// Looks up the keys of the numbers below this.
+fn look_up(rt: &impl Abort, core: &mut Core<MemDisk>, keys: usize) {
+    for number in 0..keys {
+        make(core, 0, Kind::Get(key_of(rt, number)));
+    }
+}
+
+/// What a core that was just opened looks up, of so many keys, and its disk. Its history was empty before.
+pub fn map_of(rt: &impl Abort, alloc: Global, core: Core<MemDisk>, keys: usize) -> (Map, MemDisk) {
+    let mut core = core;
+    look_up(rt, &mut core, keys);
+    let (disk, annals, _) = core.end();
+    assert_eq!(rt; annals.len(), keys);
+    let mut map = Vec::new(alloc);
+    for place in 0..annals.len() as u32 {
+        map.push(told_at(rt, &annals, place)).expect(rt, "memory");
+    }
+    (map, disk)
+}
