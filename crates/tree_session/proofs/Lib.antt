@@ -4,3 +4,4 @@ mod PayLemmas
 mod WriteLemmas
 mod WorkLemmas
 mod RunLemmas
+mod RestLemmas
