@@ -20,7 +20,7 @@ use Rattle.page_file.specs.Component.{entries_of}
 use Rattle.pacing.specs.Pace.{opened as pace_opened}
 use Rattle.tree_core.specs.Parts.{AreSettled}
 use Rattle.tree_core.specs.Standing.{StandsFor}
-use Rattle.tree_file.specs.Tree.{Tree, ReadsAsMap, map_of_tree}
+use Rattle.tree_file.specs.Tree.{Tree, HoldsTree, ReadsAsMap, map_of_tree}
 use Rattle.tree_log.specs.Log.{LogState, weight_of_tables}
 use Rattle.tree_machine.specs.Machine.{opened}
 use Rattle.tree_reading.specs.Damage.{most_version}
@@ -79,6 +79,9 @@ opens_as room runs log annals held file d honest on is same assembles =
     record {
       pairs = on.pairs;
       reads = subst (λ (r : RunsState). ReadsAsMap r.sizes on.pairs file) (sym same) on.reads;
+      image = on.image;
+      holds = subst (λ (r : RunsState). HoldsTree r.sizes on.image file) (sym same) on.holds;
+      taken = on.taken;
       tree = t;
       stands = subst (λ (r : RunsState). StandsFor on.pairs held (opened r.sizes (entries_of t.c1) (entries_of t.c2) (catalogue_of r.catalogue) d.faults room)
           (pace_opened r.sizes r.catalogue.c1.weight r.catalogue.c2.weight) d) (sym same) stands'';

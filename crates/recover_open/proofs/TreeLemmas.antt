@@ -1,8 +1,9 @@
 -- A reading, and settling what was read.
 use Rattle.std.specs.Prelude.{◌≡◌, ℕ, ◌+◌, ◌≤◌, IsTrue, List, length, max, Result, Ok, Err, IfOk, IfErr}
-use Rattle.std.proofs.Common.{◌∙◌, refl, sym, subst, inl, inr, arith}
+use Rattle.std.proofs.Common.{◌∙◌, refl, sym, subst, inl, inr, arith, ap}
 use Rattle.blsm_model.specs.Geometry.{file_length}
 use Rattle.blsm_model.specs.Sizes.{Sizes}
+use Rattle.catalog_swap.specs.declared.catalog.Catalog.{Catalog}
 use Rattle.blsm_model.specs.declared.key.Key.{Key}
 use Rattle.blsm_model.specs.declared.row.Value.{Value}
 use Rattle.disk_trait.specs.Disk.{DiskState, TellsFaultsBy}
@@ -38,12 +39,19 @@ pub ready_as : (result : Result Begun Unreadable) (d : DiskState) (sizes : Sizes
 ready_as (Ok begun) d sizes version few ready = (version, few, record { may = ready.may; settled = ready.settled; sizes_are = refl; commits = ready.commits })
 ready_as (Err why) d sizes version few ready = tt
 
-pub stands_as : (result : Result Begun Unreadable) (found : Found) (version : ℕ) (file : List ℕ) (d : DiskState) (pairs : List (Key × Value)) → ReadsAsMap found.geometry pairs file
+pub stands_as : (result : Result Begun Unreadable) (found : Found) (version : ℕ) (file : List ℕ) (d : DiskState) (pairs : List (Key × Value)) → HoldsFound found file → found.catalogue.version ≤ most_version
+    → ReadsAsMap found.geometry pairs file
     → IfOk result (λ begun. IsReady found.geometry version begun.runs begun.log d) → IfOk result (λ begun. StandsEmpty begun.runs begun.log pairs d)
     → IfOk result (λ begun. HasOpenedOn begun.runs begun.log file d)
-stands_as (Ok begun) found version file d pairs reads ready stands =
-    record { pairs = pairs; reads = subst (λ (s : Sizes). ReadsAsMap s pairs file) (sym ready.sizes_are) reads; stands = stands }
-stands_as (Err why) found version file d pairs reads ready stands = tt
+stands_as (Ok begun) found version file d pairs holds few reads ready stands = record {
+  pairs = pairs;
+  reads = subst (λ (s : Sizes). ReadsAsMap s pairs file) (sym ready.sizes_are) reads;
+  image = holds.tree;
+  holds = subst (λ (s : Sizes). HoldsTree s holds.tree file) (sym ready.sizes_are) holds.holds;
+  taken = omega (arith, few, ap (λ (c : Catalog). c.version) holds.catalogue);
+  stands = stands;
+}
+stands_as (Err why) found version file d pairs holds few reads ready stands = tt
 
 pub why_fault : (result : Result Begun Unreadable) (file : List ℕ) → IfErr result (λ why. why ≡ Fault) → IfErr result (λ why. IsWhy why file)
 why_fault (Ok begun) file is = tt

@@ -11,7 +11,7 @@ use Rattle.blsm_model.specs.declared.room.Room.{Room}
 use Rattle.blsm_model.specs.declared.key.Key.{Key}
 use Rattle.blsm_model.specs.declared.row.Value.{Value}
 use Rattle.store_file.specs.Layout.{superblock_length}
-use Rattle.tree_file.specs.Tree.{Tree, FitsSizes, ReadsAsMap, map_of_tree}
+use Rattle.tree_file.specs.Tree.{Tree, FitsSizes, HoldsTree, ReadsAsMap, map_of_tree}
 use Rattle.tree_log.specs.Log.{LogState, IsLogOf, weight_of_tables}
 use Rattle.tree_runs.specs.Runs.{RunsState}
 use Rattle.tree_runs.specs.Holding.{AreOf, StandOver}
@@ -22,6 +22,7 @@ use Rattle.core_moves.specs.declared.held.Held.{Held}
 use Rattle.core_lists.specs.Standing.{catalogue_of}
 use Rattle.tree_core.specs.Core.{CoreState}
 use Rattle.tree_core.specs.Standing.{StandsFor}
+use Rattle.tree_reading.specs.Damage.{most_version}
 use Rattle.tree_reading.specs.declared.found.Unreadable.{Unreadable}
 use Rattle.recover_open.specs.declared.opening.NotOpened.{NotOpened}
 use Rattle.tree_settling.specs.Settling.{IsDeepLight, IsSettled, MaySettle, anywhere, components_of}
@@ -44,10 +45,13 @@ pub record StandsEmpty (runs : RunsState) (log : LogState) (pairs : List (Key ×
   pub lane_b : tree.lane_b ≡ []
   pub map_is : map_of_tree tree ≡ pairs
 
--- and the file from before reads as that map
+-- and the file from before reads as that map, with a version that is taken
 pub record HasOpenedOn (runs : RunsState) (log : LogState) (file : List ℕ) (d : DiskState) : Type 0 where
   pub pairs : List (Key × Value)
   pub reads : ReadsAsMap runs.sizes pairs file
+  pub image : Tree
+  pub holds : HoldsTree runs.sizes image file
+  pub taken : image.catalogue.version ≤ most_version
   pub stands : StandsEmpty runs log pairs d
 
 -- Components and a log that were begun with, on any disk: all that settling wants of them but what the disk says.
@@ -100,10 +104,13 @@ why_of (Err refused) = Some refused.why
 abbrev pub no_entries : Room → Book
 no_entries room = record { entries = []; quanta = []; room = room }
 
--- The file reads as a map, and the core stands for the machine's first state, whose history begins with that map.
+-- The file reads as a map, with a version that is taken, and the core stands for the machine's first state, whose history begins with that map.
 pub record OpensAs (room : Room) (held : Held) (file : List ℕ) (d : DiskState) : Type 0 where
   pub pairs : List (Key × Value)
   pub reads : ReadsAsMap held.runs.sizes pairs file
+  pub image : Tree
+  pub holds : HoldsTree held.runs.sizes image file
+  pub taken : image.catalogue.version ≤ most_version
   pub tree : Tree
   pub stands : StandsFor pairs held
       (opened held.runs.sizes (entries_of tree.c1) (entries_of tree.c2) (catalogue_of held.runs.catalogue) d.faults room)

@@ -3,6 +3,7 @@ ghost use Rattle.std.specs.Prelude.{◌≡◌, ◌≢◌, ◌+◌, ◌<◌, [], 
 ghost use Rattle.disk_trait.specs.Disk.{TellsFaultsBy};
 ghost use Rattle.disk_trait.specs.Effects.{Affects};
 ghost use Rattle.disk_trait.specs.Moments.{HasSynced, IsUnwritten};
+ghost use Rattle.disk_trait.specs.Reads.{OnlyReads};
 ghost use Rattle.disk_trait.specs.Region.{span};
 ghost use Rattle.blsm_model.specs.Geometry.{file_length};
 ghost use Rattle.store_file.specs.Making.{LeavesOldOr, making_calls};
@@ -37,12 +38,13 @@ impl From<Failed> for NotMade {
 
 /// Makes a store of this geometry, which has no keys, of a disk that has no bytes. The file gets its whole length, in bytes.
 ///
-/// `NotEmpty` tells the length in bytes and comes exactly where that is above 0; then the disk was only looked at. `Fault` comes just where the
+/// `NotEmpty` tells the length in bytes and comes exactly where that is above 0; then the disk is only looked at, also where that fails. `Fault` comes just where the
 /// disk's count of faults rose. A crash leaves no store, or the store that was to be made, whatever is answered.
 pub fn make_store<D: Disk>(disk: &mut D, geometry: &Geometry) -> Result<(), NotMade>
     ensures not_empty { (n : ℕ) → result ≡ Err (NotMade.NotEmpty n) → WasNotEmpty n (D.state disk.old) (D.state disk.new) }
     ensures empty { IsTrue (D.state disk.old).tells_bytes → 0 < length (D.state disk.old).bytes → result ≢ Err NotMade.Fault
         → result ≡ Err (NotMade.NotEmpty (length (D.state disk.old).bytes)) }
+    ensures looked { IsTrue (D.state disk.old).tells_bytes → 0 < length (D.state disk.old).bytes → OnlyReads 0 1 (D.state disk.old) (D.state disk.new) }
     ensures made { OnOk result (IsTrue (D.state disk.old).is_honest → IsMadeEmpty geometry.now (D.state disk.new)) }
     ensures long { OnOk result (IsTrue (D.state disk.old).tells_bytes → length (D.state disk.new).bytes ≡ file_length geometry.now) }
 

@@ -25,7 +25,7 @@ returns-clause-stands g c = λ honest.
     let file = (g.D.Disk.state c.args.disk.now).bytes in
     let honest' = subst IsTrue (sym r.effect.effect.goes_on.is_honest) honest in
     let holds = subst (HoldsFound f) (sym (r.same honest)) (c.in_ok-found.ensures.holds honest) in
-    stands_as c.settle_found.result f f.catalogue.version file _ _ (subst (ReadsAsMap f.geometry _) (r.same honest) (found_reads f _ holds)) c.settle_found.ensures.ready
+    stands_as c.settle_found.result f f.catalogue.version file _ _ (c.in_ok-found.ensures.holds honest) c.in_ok-found.ensures.found.2.head.version (subst (ReadsAsMap f.geometry _) (r.same honest) (found_reads f _ holds)) c.settle_found.ensures.ready
     (c.settle_found.ensures.stands honest' (c.in_ok-found.ensures.only honest) holds)
 
 pub returns-clause-refused : goal.returns-clause-refused
