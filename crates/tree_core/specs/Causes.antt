@@ -110,6 +110,11 @@ IsFound (lookup.Is value) = ⊤
 IsFound lookup.Absent = ⊤
 IsFound _ = ⊥
 
+-- nor is the disk called by a lookup of a store that is stopped
+abbrev pub LooksNone : Lookup → Type 0
+LooksNone (lookup.Stopped why) = ⊤
+LooksNone _ = ⊥
+
 -- what a lookup's answer is due to
 abbrev pub FindsBecause : Lookup → Held → DiskState → DiskState → Type 0
 FindsBecause lookup.Fault old before after = (old.book.stopped ≡ None) × HasRisen before.faults after.faults

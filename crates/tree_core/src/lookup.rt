@@ -19,7 +19,7 @@ ghost use Rattle.tree_file.specs.Tree.{Tree, HoldsTree};
 ghost use Rattle.core_moves.specs.Moves.{with_book};
 ghost use Rattle.core_moves.specs.Needs.{IsOn};
 ghost use Rattle.tree_core.specs.Answers.{reply_to_get};
-ghost use Rattle.tree_core.specs.Causes.{FindsBecause, IsFound};
+ghost use Rattle.tree_core.specs.Causes.{FindsBecause, IsFound, LooksNone};
 ghost use Rattle.tree_core.specs.declared.answers.Lookup.TheVariants as lookup;
 ghost use Rattle.tree_core.specs.Answers.{found_in};
 ghost use Rattle.tree_core.specs.Core.{CoreState, HoldsPace, facts_of_held};
@@ -71,6 +71,7 @@ fn look_up<D: Disk>(held: &Held, disk: &mut D, key: &Key) -> Lookup
     ensures counted { result ≡ lookup.Fault → (D.state disk.new).faults < 2 ^ 64 }
     ensures reads { OnlyReads (file_length held.now.runs.sizes)
         (held.now.runs.catalogue.c1.pages + held.now.runs.catalogue.c1x.pages + held.now.runs.catalogue.c2.pages) (D.state disk.old) (D.state disk.new) }
+    ensures untouched { LooksNone result → disk.new ≡ disk.old }
 {
     if let Some(why) = held.book.stopped() {
         return Lookup::Stopped(why);
@@ -103,6 +104,7 @@ impl<D: Disk + Drop> Core<D> {
         ensures follows { Follows seat (facts_of_held self.old.held) (facts_of_held self.new.held) }
         ensures lasts { (start : CoreState D) → StandsSince start.held self.old.held (D.state start.disk) (D.state self.old.disk)
             → StandsSince start.held self.new.held (D.state start.disk) (D.state self.new.disk) }
+        ensures untouched { LooksNone result → self.new.disk ≡ self.old.disk }
     {
         others_may_write();
         let found = look_up(&self.held, &mut self.disk, key);
