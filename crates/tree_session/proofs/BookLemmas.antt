@@ -1,6 +1,6 @@
 -- The annals of a command: its entry, with its quanta; and the seats' works.
-use Rattle.std.specs.Prelude.{IsTrue, nat_lt, ◌==◌, ◌||◌, ◌&&◌, not, slice_index, slice_index_or, slice_set, Option}
-use Rattle.std.proofs.Common.{◌≡◌, ◌≢◌, ◌∙◌, ⊎_elim, ℕ, ◌+◌, ◌-◌, ◌≤◌, ◌<◌, Bool, true, false, List, [], ◌∷◌, ◌++◌, Some, None, length, refl, ap, sym, subst, arith}
+use Rattle.std.specs.Prelude.{◌/◌, IsTrue, nat_lt, ◌==◌, ◌||◌, ◌&&◌, not, slice_index, slice_index_or, slice_set, Option}
+use Rattle.std.proofs.Common.{◌≡◌, ◌≢◌, ◌∙◌, ⊎_elim, ℕ, ◌+◌, ◌-◌, ◌*◌, ◌≤◌, ◌<◌, Bool, true, false, List, [], ◌∷◌, ◌++◌, Some, None, length, refl, ap, sym, subst, eq-eqb, arith}
 use Rattle.std.proofs.lemmas.Bool.{false≢true, ltb-true, ltb-false, lt-ltb, eqb-false, cases_eq}
 use Rattle.std.proofs.lemmas.List.{get_or-set_same, get_or-append_right, length-set, set-set, set-get_or, set_past, set-append_right, get_or_past}
 use Rattle.blsm_model.specs.Book.{Book, entry_at, no_entry, noted, counted_up}
@@ -28,7 +28,7 @@ use Rattle.core_moves.specs.declared.held.Held.{Held}
 use Rattle.tree_core.specs.Core.{IsCore}
 use Rattle.tree_core.specs.Notes.{OwesNothing}
 use Rattle.tree_session.specs.Faults.{faults_of, faults_of_turn}
-use Rattle.tree_session.specs.Session.{EasesOthers, most_quanta}
+use Rattle.tree_session.specs.Session.{EasesOthers, most_calls, most_quanta}
 
 -- ---- quanta that are counted
 
@@ -118,6 +118,13 @@ pays_less seat old new d has k is sizes = subst (λ (s : Sizes). left_in seat s 
 
 -- ---- a write that was done
 
+-- the calls of one
+pub calls_of_write : (sizes : Sizes) (op : Op) (quanta : ℕ) → is_write op ≡ true → most_calls sizes op quanta ≡ 22 + (quanta + 1) * (sizes.quantum / 4 + 3)
+calls_of_write sizes (Put key value) quanta is = refl
+calls_of_write sizes (Add key count) quanta is = refl
+calls_of_write sizes (Del key) quanta is = refl
+calls_of_write sizes _ quanta is = absurd (false≢true is)
+
 -- the bound of a write
 pub most_of_write : (sizes : Sizes) (op : Op) → is_write op ≡ true → most_quanta sizes op ≡ work_bound sizes (total_weight (writes_of op))
 most_of_write sizes (Put key value) is = refl
@@ -181,6 +188,10 @@ finished_early n t work turns below idle = by (work.turns == n) refl
     by : (b : Bool) → (work.turns == n) ≡ b → IsTrue (is_finished n work)
     by true is = ap (λ (b : Bool). b || (nat_lt 0 work.turns && nat_lt work.turns n && not (is_worked work.last))) is
     by false is = ap (λ (b : Bool). (work.turns == n) || b) (early (eqb-false work.turns n is)) ∙ or_true (work.turns == n)
+
+-- or all its turns were made
+pub finished_full : (n : ℕ) (work : WorkSoFar) → work.turns ≡ n → IsTrue (is_finished n work)
+finished_full n work turns = ap (λ (b : Bool). b || (nat_lt 0 work.turns && nat_lt work.turns n && not (is_worked work.last))) (eq-eqb work.turns n turns)
 
 -- the reply of a work tells its last turn's fault
 pub reply_tells : (work : WorkSoFar) (stopped : Option Why) → faults_of_turn work.last ≡ faults_of (work_reply work stopped)

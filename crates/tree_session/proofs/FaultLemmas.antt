@@ -1,9 +1,10 @@
 -- Calls of the core, one after another: what they tell of faults, and what they do to the disk.
-use Rattle.std.specs.Prelude.{IsTrue, Option}
-use Rattle.std.proofs.Common.{◌≡◌, ◌∙◌, ℕ, ◌+◌, ◌≤◌, true, false, Some, None, refl, ap, sym, subst, arith}
+use Rattle.std.specs.Prelude.{◌/◌, IsTrue, Option, drop, sum}
+use Rattle.std.proofs.Common.{◌≡◌, ◌∙◌, ℕ, ◌+◌, ◌*◌, ◌≤◌, true, false, Some, None, refl, ap, sym, subst, zero-add, arith}
 use Rattle.std.proofs.lemmas.Bool.{false≢true}
 use Rattle.refusal.specs.Count.{HasRisen}
 use Rattle.blsm_model.specs.Facts.{Follows}
+use Rattle.blsm_model.specs.Format.{callers}
 use Rattle.blsm_model.specs.Geometry.{file_length}
 use Rattle.blsm_model.specs.declared.op.Op.{Op}
 use Rattle.blsm_model.specs.declared.op.Op.TheVariants.{Put, Add, Del, Get, Hold, Next, Release, Work}
@@ -12,13 +13,12 @@ use Rattle.blsm_model.specs.declared.history.Why.{Why}
 use Rattle.blsm_model.specs.declared.history.Why.TheVariants.{Faulted, BadPage}
 use Rattle.blsm_model.specs.Sizes.{Sizes}
 use Rattle.disk_trait.specs.Disk.{DiskState}
-use Rattle.disk_trait.specs.Effects.{Affects, affects_start}
-use Rattle.disk_trait.specs.Moments.{IsTimed, leaves_only_run, leaves_only_weaken, leaves_only_now, syncs_later_run, goes_on_run, goes_on_start}
-use Rattle.disk_trait.specs.Region.{Region, same_run}
+use Rattle.disk_trait.specs.Effects.{Affects}
+use Rattle.disk_trait.specs.Moments.{syncs_later_run, syncs_later_start, goes_on_run, goes_on_start}
+use Rattle.disk_trait.specs.Region.{Region}
 use Rattle.tree_machine.specs.Machine as machine
 use Rattle.tree_machine.specs.Machine.{Turned}
 use Rattle.core_moves.specs.declared.held.Held.{Held}
-use Rattle.core_moves.specs.Needs.{anywhere}
 use Rattle.tree_core.specs.Answers.{reply_to_write, reply_to_get}
 use Rattle.tree_core.specs.Causes.{RanOn, HasFailed, FoundDamaged, AdmitsBecause, CallsNone, PaysBecause, PaysNone, TurnsBecause, TurnsNone, FindsBecause}
 use Rattle.tree_core.specs.Core.{CoreState, facts_of_held}
@@ -29,7 +29,7 @@ use Rattle.tree_core.specs.declared.answers.Lookup.{Lookup}
 use Rattle.tree_core.specs.declared.answers.Lookup.TheVariants as lookup
 use Rattle.tree_core.specs.declared.answers.Payment.{Payment}
 use Rattle.tree_core.specs.declared.answers.Payment.TheVariants as payment
-use Rattle.tree_session.specs.Faults.{TellsFaults, TellsNone, Proceeds, NamesCount, faults_of, faults_of_turn, is_by_fault}
+use Rattle.tree_session.specs.Faults.{TellsFaults, TellsNone, Reaches, Proceeds, NamesCount, faults_of, faults_of_turn, is_by_fault}
 use Rattle.tree_session.specs.Session.{EasesOthers}
 
 -- ---- what one call tells
@@ -172,65 +172,85 @@ tells_then one two old mid new before between after grows grows_more first secon
 
 -- ---- the disk
 
--- a run after a run, of which one at most failed
-affects_both : {region : Region} {end most more : ℕ} {old mid new : DiskState} → IsTimed mid → new.faults ≤ old.faults + 1 → Affects region end most old mid → Affects region end more mid new → Affects region end (most + more) old new
-affects_both {region} {end} {most} {more} {old} {mid} {new} timed few first second = record {
+-- a run that failed once at most
+pub reaches_by : {region : Region} {end most : ℕ} {old new : DiskState} → Affects region end most old new → Reaches end most old new
+reaches_by run = record { goes_on = run.goes_on; calls = run.calls; syncs = run.syncs; sure = run.sure; no_shorter = run.no_shorter; no_longer = run.no_longer }
+
+-- before the first call
+pub reaches_none : {end most : ℕ} (d : DiskState) → Reaches end most d d
+reaches_none d = record {
+  goes_on = goes_on_start d;
+  calls = omega arith;
+  syncs = syncs_later_start d;
+  sure = λ some within. refl;
+  no_shorter = λ tells. omega arith;
+  no_longer = λ tells. omega arith;
+}
+
+-- a run after a run
+pub reaches_then : {end most more : ℕ} {old mid new : DiskState} → Reaches end most old mid → Reaches end more mid new → Reaches end (most + more) old new
+reaches_then {end} {most} {more} {old} {mid} {new} first second = record {
   goes_on = goes_on_run first.goes_on second.goes_on;
   calls = omega (arith, first.calls, second.calls);
   syncs = syncs_later_run first.goes_on.clock first.syncs second.syncs;
-  one_fault = few;
   sure = λ some within. second.sure (omega (arith, first.goes_on.sure_up_to, some)) (omega (arith, first.goes_on.sure_up_to, within)) ∙ first.sure some within;
-  no_shorter = λ tells. omega (arith, first.no_shorter tells, second.no_shorter (tells_still tells));
-  no_longer = λ tells. omega (arith, first.no_longer tells, second.no_longer (tells_still tells));
-  bytes = λ honest. same_run (first.bytes honest) (second.bytes (still honest));
-  images = λ honest.
-      leaves_only_run (first.images honest)
-      (leaves_only_weaken
-      (λ c was. let earlier = leaves_only_now timed (first.images honest) was.0 was.1 in (earlier.0, earlier.1, same_run earlier.2 was.2))
-      (second.images (still honest)));
+  no_shorter = λ tells. omega (arith, first.no_shorter tells, second.no_shorter (still tells));
+  no_longer = λ tells. omega (arith, first.no_longer tells, second.no_longer (still tells));
 }
   where
-    still : IsTrue old.is_honest → IsTrue mid.is_honest
-    still honest = subst IsTrue (sym first.goes_on.is_honest) honest
+    still : IsTrue old.tells_bytes → IsTrue mid.tells_bytes
+    still tells = subst IsTrue (sym first.goes_on.tells_bytes) tells
 
-    tells_still : IsTrue old.tells_bytes → IsTrue mid.tells_bytes
-    tells_still tells = subst IsTrue (sym first.goes_on.tells_bytes) tells
+-- the same run, whose calls are bounded otherwise
+pub reaches_counted : {end most fewer : ℕ} {old new : DiskState} → new.clock ≤ old.clock + fewer → Reaches end most old new → Reaches end fewer old new
+reaches_counted calls run = record { goes_on = run.goes_on; calls = calls; syncs = run.syncs; sure = run.sure; no_shorter = run.no_shorter; no_longer = run.no_longer }
+
+-- with more calls
+pub reaches_wider : {end most most' : ℕ} {old new : DiskState} → most ≤ most' → Reaches end most old new → Reaches end most' old new
+reaches_wider within run = reaches_counted (omega (arith, run.calls, within)) run
 
 -- ---- calls of the core
 
 -- no call yet
-pub proceeds_none : {D : Type 0} (state : D → DiskState) (old : CoreState D) → IsTimed (state old.disk) → Proceeds state 0 old old
-proceeds_none state old timed = record {
+pub proceeds_none : {D : Type 0} (state : D → DiskState) (calls : ℕ) (old : CoreState D) → Proceeds state 0 calls old old
+proceeds_none state calls old = record {
   sizes = refl;
-  goes_on = goes_on_start (state old.disk);
-  effect = λ few. (0, affects_start (state old.disk) timed);
+  effect = reaches_none (state old.disk);
   tells = tells_quiet old.held old.held (state old.disk) (state old.disk) refl refl;
+  alone = refl;
   lasts = λ start since. since;
 }
 
 -- one call, of a core that stands since some start
 pub proceeds_by : {D : Type 0} (state : D → DiskState) (told calls : ℕ) (start old new : CoreState D) → StandsSince start.held old.held (state start.disk) (state old.disk)
     → ((from : CoreState D) → StandsSince from.held old.held (state from.disk) (state old.disk) → StandsSince from.held new.held (state from.disk) (state new.disk))
-    → Affects anywhere (file_length old.held.runs.sizes) calls (state old.disk) (state new.disk) → TellsFaults told old.held new.held (state old.disk) (state new.disk) → Proceeds state told old new
-proceeds_by state told calls start old new since lasts effect tells = record {
-  sizes = (lasts start since).sizes ∙ sym since.sizes;
-  goes_on = effect.goes_on;
-  effect = λ few. (calls, effect);
-  tells = tells;
-  lasts = lasts;
-}
+    → Reaches (file_length old.held.runs.sizes) calls (state old.disk) (state new.disk) → TellsFaults told old.held new.held (state old.disk) (state new.disk) → sum (drop callers new.held.book.seats.quanta) ≡ sum (drop callers old.held.book.seats.quanta)
+    → Proceeds state told calls old new
+proceeds_by state told calls start old new since lasts effect tells alone = record { sizes = (lasts start since).sizes ∙ sym since.sizes; effect = effect; tells = tells; alone = alone; lasts = lasts }
 
-pub proceeds_then : {D : Type 0} (state : D → DiskState) (one two : ℕ) (old mid new : CoreState D) → IsTimed (state mid.disk) → Proceeds state one old mid → Proceeds state two mid new → Proceeds state (one + two) old new
-proceeds_then state one two old mid new timed first second = record {
+pub proceeds_then : {D : Type 0} (state : D → DiskState) (one two few more : ℕ) (old mid new : CoreState D) → Proceeds state one few old mid → Proceeds state two more mid new → Proceeds state (one + two) (few + more) old new
+proceeds_then state one two few more old mid new first second = record {
   sizes = second.sizes ∙ first.sizes;
-  goes_on = goes_on_run first.goes_on second.goes_on;
-  effect = λ few.
-      let begins = first.effect (omega (arith, few, second.goes_on.faults)) in
-      let ends = second.effect (omega (arith, few, first.goes_on.faults)) in
-      (begins.0 + ends.0, affects_both timed few begins.1 (subst (λ (s : Sizes). Affects anywhere (file_length s) ends.0 (state mid.disk) (state new.disk)) first.sizes ends.1));
-  tells = tells_then one two old.held mid.held new.held (state old.disk) (state mid.disk) (state new.disk) first.goes_on.faults second.goes_on.faults first.tells second.tells;
+  effect = reaches_then first.effect (subst (λ (s : Sizes). Reaches (file_length s) more (state mid.disk) (state new.disk)) first.sizes second.effect);
+  tells = tells_then one two old.held mid.held new.held (state old.disk) (state mid.disk) (state new.disk) first.effect.goes_on.faults second.effect.goes_on.faults first.tells second.tells;
+  alone = second.alone ∙ first.alone;
   lasts = λ start since. second.lasts start (first.lasts start since);
 }
+
+-- with more calls
+pub proceeds_wider : {D : Type 0} (state : D → DiskState) (told calls more : ℕ) (old new : CoreState D) → calls ≤ more → Proceeds state told calls old new → Proceeds state told more old new
+proceeds_wider state told calls more old new within run = record { sizes = run.sizes; effect = reaches_wider within run.effect; tells = run.tells; alone = run.alone; lasts = run.lasts }
+
+-- a call more, after n of its kind: each makes so many calls of the disk, and as many again as a quarter of a quantum
+pub proceeds_more : {D : Type 0} (state : D → DiskState) (told n few : ℕ) (old mid new : CoreState D) → Proceeds state 0 (n * (old.held.runs.sizes.quantum / 4 + few)) old mid
+    → Proceeds state told (mid.held.runs.sizes.quantum / 4 + few) mid new → Proceeds state told ((n + 1) * (old.held.runs.sizes.quantum / 4 + few)) old new
+proceeds_more state told n few old mid new first second =
+    let share = old.held.runs.sizes.quantum / 4 + few in
+    let same : mid.held.runs.sizes.quantum / 4 + few ≡ share = ap (λ (s : Sizes). s.quantum / 4 + few) first.sizes in
+    let calls : n * share + share ≡ (n + 1) * share = omega arith in
+    subst (λ (all : ℕ). Proceeds state told all old new) calls
+    (subst (λ (sum : ℕ). Proceeds state sum (n * share + share) old new) (zero-add told)
+    (proceeds_then state 0 told (n * share) share old mid new first (subst (λ (all : ℕ). Proceeds state told all mid new) same second)))
 
 -- ---- the other seats
 

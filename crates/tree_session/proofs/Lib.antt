@@ -1,4 +1,6 @@
 mod FaultLemmas
+mod GetLemmas
+mod AloneLemmas
 mod BookLemmas
 mod PayLemmas
 mod WriteLemmas

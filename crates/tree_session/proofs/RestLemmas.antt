@@ -1,5 +1,5 @@
 -- A core that was just opened rests.
-use Rattle.std.specs.Prelude.{◌≡◌, ℕ, ◌+◌, List, replicate, slice_index}
+use Rattle.std.specs.Prelude.{◌≡◌, ℕ, ◌+◌, replicate, slice_index}
 use Rattle.std.proofs.Common.{◌∙◌, ap, arith}
 use Rattle.blsm_model.specs.Book.{Book}
 use Rattle.blsm_model.specs.Format.{callers}

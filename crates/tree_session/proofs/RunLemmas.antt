@@ -17,11 +17,10 @@ use Rattle.blsm_model.specs.declared.history.Line.{Line}
 use Rattle.blsm_model.specs.declared.op.Op.{Op}
 use Rattle.blsm_model.specs.declared.room.Room.{Room}
 use Rattle.disk_trait.specs.Disk.{DiskState}
-use Rattle.disk_trait.specs.Moments.{IsTimed}
 use Rattle.tree_core.specs.Core.{CoreState}
 use Rattle.tree_session.specs.Faults.{Proceeds, TellsNone, faults_of, faults_told}
 use Rattle.tree_session.specs.Lines.{HasRoomFor, Rests}
-use Rattle.tree_session.specs.Session.{Performs, Runs, TookFew, most_quanta}
+use Rattle.tree_session.specs.Session.{AreDone, Performs, Runs, TookFew, calls_for, most_calls, most_quanta}
 use Rattle.tree_session.proofs.BookLemmas.{end_counted}
 use Rattle.tree_session.proofs.FaultLemmas.{calm_before, proceeds_none, proceeds_then}
 
@@ -32,6 +31,17 @@ took_more sizes [] [] e n few one = (one, tt)
 took_more sizes [] (m ∷ ns) e n few one = absurd few
 took_more sizes (x ∷ es) [] e n few one = absurd few
 took_more sizes (x ∷ es) (m ∷ ns) e n few one = (few.0, took_more sizes es ns e n few.1 one)
+
+calls_more : (sizes : Sizes) (es : List Entry) (ns : List ℕ) (e : Entry) (n : ℕ) → TookFew sizes es ns → calls_for sizes (es ++ e ∷ []) (ns ++ n ∷ []) ≡ calls_for sizes es ns + most_calls sizes e.op n
+calls_more sizes [] [] e n few = omega arith
+calls_more sizes [] (m ∷ ns) e n few = absurd few
+calls_more sizes (x ∷ es) [] e n few = absurd few
+calls_more sizes (x ∷ es) (m ∷ ns) e n few = let rest = calls_more sizes es ns e n few.1 in omega (arith, rest)
+
+-- one line more was done
+done_more : {D : Type 0} (state : D → DiskState) (lines : List Line) (line : Line) (old mid new : CoreState D) → AreDone state lines old mid → Performs state line.seat line.op mid new → AreDone state (lines ++ line ∷ []) old new
+done_more {D} state [] line old mid new done did = (new, subst (λ (from : CoreState D). Performs state line.seat line.op from new) done did, refl)
+done_more state (first ∷ lines) line old mid new done did = (done.0, done.1, done_more state lines line done.0 mid new done.2 did)
 
 all_more : (es : List Entry) (e : Entry) → AllByRecursion (λ x. TellsNone x.op x.reply) es → TellsNone e.op e.reply → AllByRecursion (λ x. TellsNone x.op x.reply) (es ++ e ∷ [])
 all_more [] e all one = (one, tt)
@@ -90,8 +100,9 @@ room_then room line lines entry same has seat below =
 
 -- ---- a script
 
-pub runs_none : {D : Type 0} (state : D → DiskState) (old : CoreState D) → IsTimed (state old.disk) → Rests old.held → Runs state [] old old
-runs_none state old timed rests = record {
+pub runs_none : {D : Type 0} (state : D → DiskState) (old : CoreState D) → Rests old.held → Runs state [] old old
+runs_none state old rests = record {
+  done = refl;
   added = [];
   counts = [];
   entries = sym (append-nil old.held.book.book.entries);
@@ -101,14 +112,16 @@ runs_none state old timed rests = record {
   calm = λ calm. tt;
   room = λ seat below. omega arith;
   rests = rests;
-  proceeds = proceeds_none state old timed;
+  alone = refl;
+  proceeds = proceeds_none state 0 old;
 }
 
-pub runs_more : {D : Type 0} (state : D → DiskState) (lines : List Line) (line : Line) (old mid new : CoreState D) → IsTimed (state mid.disk) → length mid.held.book.book.quanta ≡ length mid.held.book.book.entries
+pub runs_more : {D : Type 0} (state : D → DiskState) (lines : List Line) (line : Line) (old mid new : CoreState D) → length mid.held.book.book.quanta ≡ length mid.held.book.book.entries
     → 0 < slice_index mid.held.book.book.room.entries line.seat → Runs state lines old mid → Performs state line.seat line.op mid new → Runs state (lines ++ line ∷ []) old new
-runs_more state lines line old mid new timed places some so_far did =
+runs_more state lines line old mid new places some so_far did =
     let entry : Entry = record { seat = line.seat; op = line.op; reply = did.reply } in
     record {
+      done = done_more state lines line old mid new so_far.done did;
       added = so_far.added ++ entry ∷ [];
       counts = so_far.counts ++ did.quanta ∷ [];
       entries = ap (λ (b : Book). b.entries) did.annals ∙ ap (λ (es : List Entry). es ++ entry ∷ []) so_far.entries ∙ append_assoc old.held.book.book.entries so_far.added (entry ∷ []);
@@ -125,7 +138,14 @@ runs_more state lines line old mid new timed places some so_far did =
           let more = lines_more seat lines line in
           omega (arith, before, now, less, more);
       rests = did.rests;
-      proceeds = subst (λ (told : ℕ). Proceeds state told old new) (sym (told_more so_far.added entry)) (proceeds_then state (faults_told so_far.added) (faults_of did.reply) old mid new timed so_far.proceeds did.proceeds);
+      alone = did.proceeds.alone ∙ so_far.proceeds.alone;
+      proceeds =
+          let few = calls_for old.held.runs.sizes so_far.added so_far.counts in
+          let more = most_calls old.held.runs.sizes line.op did.quanta in
+          let one = subst (λ (s : Sizes). Proceeds state (faults_of did.reply) (most_calls s line.op did.quanta) mid new) so_far.proceeds.sizes did.proceeds in
+          subst (λ (told : ℕ). Proceeds state told (calls_for old.held.runs.sizes (so_far.added ++ entry ∷ []) (so_far.counts ++ did.quanta ∷ [])) old new) (sym (told_more so_far.added entry))
+          (subst (λ (calls : ℕ). Proceeds state (faults_told so_far.added + faults_of did.reply) calls old new) (sym (calls_more old.held.runs.sizes so_far.added so_far.counts entry did.quanta so_far.few))
+          (proceeds_then state (faults_told so_far.added) (faults_of did.reply) few more old mid new so_far.proceeds one));
     }
 
 -- each entry has its quanta still

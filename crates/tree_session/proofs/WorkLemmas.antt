@@ -1,17 +1,16 @@
 -- Turns of a caller's work, one after another, and its end.
-use Rattle.std.specs.Prelude.{slice_index_or, slice_set, Option}
-use Rattle.std.proofs.Common.{◌≡◌, ◌≢◌, ◌∙◌, ⊎_elim, ℕ, ◌+◌, ◌≤◌, ◌<◌, false, Some, None, length, refl, ap, sym, subst, arith}
+use Rattle.std.specs.Prelude.{◌/◌, drop, slice_index_or, slice_set, sum, Option}
+use Rattle.std.proofs.Common.{◌≡◌, ◌≢◌, ◌∙◌, ⊎_elim, ℕ, ◌+◌, ◌*◌, ◌≤◌, ◌<◌, false, Some, None, length, refl, ap, sym, subst, mul-le-mul_right, arith}
 use Rattle.std.proofs.lemmas.Bool.{cases_eq}
 use Rattle.std.proofs.lemmas.List.{get_or-set_other}
 use Rattle.blsm_model.specs.Book.{Book, noted, counted_up}
+use Rattle.blsm_model.specs.Format.{callers}
 use Rattle.blsm_model.specs.Geometry.{file_length}
 use Rattle.blsm_model.specs.declared.history.Why.{Why}
 use Rattle.blsm_model.specs.declared.history.Entry.{Entry}
 use Rattle.blsm_model.specs.declared.history.Reply.{Reply}
 use Rattle.blsm_model.specs.declared.op.Op.TheVariants.{Work}
 use Rattle.disk_trait.specs.Disk.{DiskState}
-use Rattle.disk_trait.specs.Effects.{Affects, affects_start}
-use Rattle.disk_trait.specs.Moments.{IsTimed}
 use Rattle.pacing.specs.Steps as pacing
 use Rattle.pacing.specs.Steps.{Move}
 use Rattle.seat_book.specs.State.{work_in, ended_in}
@@ -19,21 +18,20 @@ use Rattle.seat_book.specs.Turns.{turned_of}
 use Rattle.seat_book.specs.declared.turned.Turned as code_of
 use Rattle.seat_book.specs.declared.turned.Turned.TheVariants as code
 use Rattle.tree_machine.specs.Machine as machine
-use Rattle.tree_machine.specs.Machine.{Turned, WorkSoFar, is_caller, is_worked, no_work}
+use Rattle.tree_machine.specs.Machine.{Turned, WorkSoFar, is_worked, no_work}
 use Rattle.tree_machine.specs.Steps.{work_reply}
 use Rattle.core_moves.specs.declared.held.Held.{Held}
 use Rattle.core_moves.specs.Moves.{with_book}
-use Rattle.core_moves.specs.Needs.{anywhere}
 use Rattle.core_pace.specs.Turns.{move_in}
 use Rattle.tree_core.specs.Causes.{TurnsBecause}
-use Rattle.tree_core.specs.Core.{CoreState}
+use Rattle.tree_core.specs.Core.{CoreState, IsCore}
 use Rattle.tree_core.specs.Notes.{CountsTurn, OwesNothing, quanta_of_turn}
 use Rattle.tree_core.specs.Steps.{StandsSince}
-use Rattle.tree_session.specs.Faults.{Proceeds, faults_of, faults_of_turn, is_by_fault}
+use Rattle.tree_session.specs.Faults.{Proceeds, Reaches, faults_of, faults_of_turn, is_by_fault}
 use Rattle.tree_session.specs.Lines.{Rests}
 use Rattle.tree_session.specs.Session.{EasesOthers, Performs, Turns}
-use Rattle.tree_session.proofs.BookLemmas.{ended_empty, finished_early, reply_tells}
-use Rattle.tree_session.proofs.FaultLemmas.{eases_none, eases_then, proceeds_by, proceeds_none, proceeds_then, tells_quiet, turn_calm}
+use Rattle.tree_session.proofs.BookLemmas.{ended_empty, finished_early, finished_full, reply_tells}
+use Rattle.tree_session.proofs.FaultLemmas.{eases_none, eases_then, proceeds_by, proceeds_more, proceeds_none, proceeds_then, proceeds_wider, reaches_none, tells_quiet, turn_calm}
 
 -- ---- turns that worked
 
@@ -46,10 +44,11 @@ pub record Turning {D : Type 0} (state : D → DiskState) (seat t : ℕ) (old ne
   pub works : (other : ℕ) → other ≢ seat → work_in other new.held.book ≡ work_in other old.held.book
   pub even : new.held.book.stopped ≡ None → OwesNothing seat new.held
   pub others : EasesOthers seat old.held new.held
-  pub proceeds : Proceeds state 0 old new
+  pub keeps : IsCore new.held (state new.disk)
+  pub proceeds : Proceeds state 0 (t * (old.held.runs.sizes.quantum / 4 + 9)) old new
 
-pub turning_none : {D : Type 0} (state : D → DiskState) (seat : ℕ) (old : CoreState D) → IsTimed (state old.disk) → Rests old.held → Turning state seat 0 old old
-turning_none state seat old timed rests =
+pub turning_none : {D : Type 0} (state : D → DiskState) (seat : ℕ) (old : CoreState D) → Rests old.held → IsCore old.held (state old.disk) → Turning state seat 0 old old
+turning_none state seat old rests keeps =
     let none = rests.idle seat in
     record {
       annals = refl;
@@ -59,7 +58,8 @@ turning_none state seat old timed rests =
       works = λ other apart. refl;
       even = λ runs. rests.even runs seat;
       others = eases_none seat old.held;
-      proceeds = proceeds_none state old timed;
+      keeps = keeps;
+      proceeds = proceeds_none state (0 * (old.held.runs.sizes.quantum / 4 + 9)) old;
     }
 
 one_at_most : (ended : Turned) (mv : Move) → quanta_of_turn ended mv ≤ 1
@@ -92,9 +92,10 @@ one_more seat t ended old new turns few counts =
       last = ap (λ (w : WorkSoFar). w.last) counts.work;
     }
 
-pub turning_more : {D : Type 0} (state : D → DiskState) (seat t : ℕ) (old mid new : CoreState D) → IsTimed (state mid.disk) → Turning state seat t old mid → CountsTurn seat machine.Worked mid.held new.held
-    → (new.held.book.stopped ≡ None → OwesNothing seat new.held) → EasesOthers seat mid.held new.held → Proceeds state 0 mid new → Turning state seat (t + 1) old new
-turning_more state seat t old mid new timed so_far counts even others proceeds =
+pub turning_more : {D : Type 0} (state : D → DiskState) (seat t : ℕ) (old mid new : CoreState D) → Turning state seat t old mid → CountsTurn seat machine.Worked mid.held new.held
+    → (new.held.book.stopped ≡ None → OwesNothing seat new.held) → EasesOthers seat mid.held new.held → IsCore new.held (state new.disk)
+    → Proceeds state 0 (mid.held.runs.sizes.quantum / 4 + 9) mid new → Turning state seat (t + 1) old new
+turning_more state seat t old mid new so_far counts even others keeps proceeds =
     let more = one_more seat t machine.Worked mid.held new.held so_far.turns so_far.few counts in
     record {
       annals = counts.annals ∙ so_far.annals;
@@ -104,7 +105,8 @@ turning_more state seat t old mid new timed so_far counts even others proceeds =
       works = λ other apart. counts.others other apart ∙ so_far.works other apart;
       even = even;
       others = eases_then seat old.held mid.held new.held so_far.others others;
-      proceeds = proceeds_then state 0 0 old mid new timed so_far.proceeds proceeds;
+      keeps = keeps;
+      proceeds = proceeds_more state 0 t 9 old mid new so_far.proceeds proceeds;
     }
 
 -- ---- the last turn
@@ -118,10 +120,10 @@ not_worked (code.BadPage page) not = refl
 not_worked (code.Halted why) not = refl
 
 -- which didn't work
-pub turned_early : {D : Type 0} (state : D → DiskState) (seat n t : ℕ) (ended : code_of.Turned) (old mid new : CoreState D) → IsTimed (state mid.disk) → t < n → (ended ≡ code.Worked → ⊥) → Turning state seat t old mid
-    → TurnsBecause (turned_of ended) false seat mid.held new.held (state mid.disk) (state new.disk) → CountsTurn seat (turned_of ended) mid.held new.held → (new.held.book.stopped ≡ None → OwesNothing seat new.held) → EasesOthers seat mid.held new.held → Proceeds state (faults_of_turn (turned_of ended)) mid new
+pub turned_early : {D : Type 0} (state : D → DiskState) (seat n t : ℕ) (ended : code_of.Turned) (old mid new : CoreState D) → t < n → (ended ≡ code.Worked → ⊥) → Turning state seat t old mid
+    → TurnsBecause (turned_of ended) false seat mid.held new.held (state mid.disk) (state new.disk) → CountsTurn seat (turned_of ended) mid.held new.held → (new.held.book.stopped ≡ None → OwesNothing seat new.held) → EasesOthers seat mid.held new.held → Proceeds state (faults_of_turn (turned_of ended)) (mid.held.runs.sizes.quantum / 4 + 9) mid new
     → Turns state seat n old new
-turned_early state seat n t ended old mid new timed below not so_far because counts even others proceeds =
+turned_early state seat n t ended old mid new below not so_far because counts even others proceeds =
     let more = one_more seat t (turned_of ended) mid.held new.held so_far.turns so_far.few counts in
     record {
       annals = counts.annals ∙ so_far.annals;
@@ -132,16 +134,33 @@ turned_early state seat n t ended old mid new timed below not so_far because cou
       even = even;
       others = eases_then seat old.held mid.held new.held so_far.others others;
       proceeds =
-          let sum : 0 + faults_of_turn (turned_of ended) ≡ faults_of_turn (work_in seat new.held.book).last = omega (arith, ap faults_of_turn more.last) in
-          subst (λ (told : ℕ). Proceeds state told old new) sum (proceeds_then state 0 (faults_of_turn (turned_of ended)) old mid new timed so_far.proceeds proceeds);
+          let share = old.held.runs.sizes.quantum / 4 + 9 in
+          let told = faults_of_turn (turned_of ended) in
+          let within : (t + 1) * share ≤ n * share = mul-le-mul_right share (omega (arith, below)) in
+          subst (λ (last : Turned). Proceeds state (faults_of_turn last) (n * share) old new) (sym more.last)
+          (proceeds_wider state told ((t + 1) * share) (n * share) old new within (proceeds_more state told t 9 old mid new so_far.proceeds proceeds));
     }
+
+-- or all of them did
+pub turned_all : {D : Type 0} (state : D → DiskState) (seat n t : ℕ) (old new : CoreState D) → t ≡ n → Turning state seat t old new → Turns state seat n old new
+turned_all state seat n t old new all so_far = record {
+  annals = so_far.annals;
+  finished = finished_full n (work_in seat new.held.book) (so_far.turns ∙ all);
+  few = omega (arith, so_far.few, all);
+  calm = λ calm. so_far.last;
+  works = so_far.works;
+  even = so_far.even;
+  others = so_far.others;
+  proceeds = subst (λ (told : ℕ). Proceeds state told (n * (old.held.runs.sizes.quantum / 4 + 9)) old new) (sym so_far.last)
+      (subst (λ (m : ℕ). Proceeds state 0 (m * (old.held.runs.sizes.quantum / 4 + 9)) old new) all so_far.proceeds);
+}
 
 -- ---- the end
 
-pub work_ended : {D : Type 0} (state : D → DiskState) (seat n : ℕ) (old mid new : CoreState D) → IsTimed (state mid.disk) → StandsSince mid.held mid.held (state mid.disk) (state mid.disk) → Rests old.held → (old.held.book.stopped ≡ None → mid.held.book.stopped ≡ None → (any : ℕ) → OwesNothing any mid.held)
+pub work_ended : {D : Type 0} (state : D → DiskState) (seat n : ℕ) (old mid new : CoreState D) → StandsSince mid.held mid.held (state mid.disk) (state mid.disk) → StandsSince new.held new.held (state new.disk) (state new.disk) → Rests old.held → (old.held.book.stopped ≡ None → mid.held.book.stopped ≡ None → (any : ℕ) → OwesNothing any mid.held)
     → Turns state seat n old mid → new.disk ≡ mid.disk → new.held ≡ with_book (ended_in seat n mid.held.book) mid.held
     → ((from : CoreState D) → StandsSince from.held mid.held (state from.disk) (state mid.disk) → StandsSince from.held new.held (state from.disk) (state new.disk)) → Performs state seat (Work n) old new
-work_ended {D} state seat n old mid new timed since rests even turns disk held lasts = record {
+work_ended {D} state seat n old mid new since begins rests even turns disk held lasts = record {
   reply = reply;
   quanta = (work_in seat mid.held.book).quanta;
   annals = ap (λ (h : Held). h.book.book) held ∙ ap (λ (b : Book). counted_up (noted b entry) (length b.entries) (work_in seat mid.held.book).quanta) turns.annals;
@@ -151,7 +170,12 @@ work_ended {D} state seat n old mid new timed since rests even turns disk held l
     idle = λ any. ap (λ (h : Held). work_in any h.book) held ∙ idle any;
     even = λ runs any. subst (λ (h : Held). OwesNothing any h) (sym held) (even (ran (stopped runs)) (stopped runs) any);
   };
-  proceeds = subst (λ (told : ℕ). Proceeds state told old new) told (proceeds_then state (faults_of_turn (work_in seat mid.held.book).last) 0 old mid new timed turns.proceeds ending);
+  begins = begins;
+  proceeds =
+      let calls : n * (old.held.runs.sizes.quantum / 4 + 9) + 0 ≡ n * (old.held.runs.sizes.quantum / 4 + 9) = omega arith in
+      subst (λ (told : ℕ). Proceeds state told (n * (old.held.runs.sizes.quantum / 4 + 9)) old new) told
+      (subst (λ (few : ℕ). Proceeds state (faults_of_turn (work_in seat mid.held.book).last + 0) few old new) calls
+      (proceeds_then state (faults_of_turn (work_in seat mid.held.book).last) 0 (n * (old.held.runs.sizes.quantum / 4 + 9)) 0 old mid new turns.proceeds ending));
 }
   where
     reply : Reply
@@ -176,10 +200,11 @@ work_ended {D} state seat n old mid new timed since rests even turns disk held l
         by None is = is
         by (Some why) is = let still = (turns.proceeds.tells.halted why is).0 in absurd (cc (still, runs))
 
-    ending : Proceeds state 0 mid new
+    ending : Proceeds state 0 0 mid new
     ending = proceeds_by state 0 0 mid mid new since lasts
-        (subst (λ (d : D). Affects anywhere (file_length mid.held.runs.sizes) 0 (state mid.disk) (state d)) (sym disk) (affects_start (state mid.disk) timed))
+        (subst (λ (d : D). Reaches (file_length mid.held.runs.sizes) 0 (state mid.disk) (state d)) (sym disk) (reaches_none (state mid.disk)))
         (tells_quiet mid.held new.held (state mid.disk) (state new.disk) (ap (λ (h : Held). h.book.stopped) held) (ap (λ (d : D). (state d).faults) disk))
+        (ap (λ (h : Held). sum (drop callers h.book.seats.quanta)) held)
 
     told : faults_of_turn (work_in seat mid.held.book).last + 0 ≡ faults_of (work_reply (work_in seat mid.held.book) mid.held.book.stopped)
     told = let same = reply_tells (work_in seat mid.held.book) mid.held.book.stopped in omega (arith, same)

@@ -1,13 +1,13 @@
 -- A write, refused or admitted and paid for.
-use Rattle.std.specs.Prelude.{slice_index_or}
-use Rattle.std.proofs.Common.{◌≡◌, ◌∙◌, ℕ, true, List, Some, None, length, refl, ap, sym, subst, arith}
+use Rattle.std.specs.Prelude.{◌/◌, slice_index_or}
+use Rattle.std.proofs.Common.{◌≡◌, ◌∙◌, ℕ, ◌+◌, ◌*◌, true, List, Some, None, length, refl, ap, sym, subst, arith}
 use Rattle.blsm_model.specs.Book.{Book, noted, counted_up}
 use Rattle.blsm_model.specs.Legal.{is_write}
+use Rattle.blsm_model.specs.Sizes.{Sizes}
 use Rattle.blsm_model.specs.declared.history.Entry.{Entry}
 use Rattle.blsm_model.specs.declared.history.Reply.TheVariants.{Done}
 use Rattle.blsm_model.specs.declared.op.Op.{Op}
 use Rattle.disk_trait.specs.Disk.{DiskState}
-use Rattle.disk_trait.specs.Moments.{IsTimed}
 use Rattle.seat_book.specs.State.{BookState, work_in}
 use Rattle.tree_machine.specs.Machine.{WorkSoFar, no_work}
 use Rattle.core_moves.specs.declared.held.Held.{Held}
@@ -15,13 +15,14 @@ use Rattle.tree_core.specs.Answers.{reply_to_write}
 use Rattle.tree_core.specs.Causes.{AdmitsBecause}
 use Rattle.tree_core.specs.Core.{CoreState, IsCore}
 use Rattle.tree_core.specs.Notes.{NotesOne, OwesNothing}
+use Rattle.tree_core.specs.Steps.{StandsSince}
 use Rattle.tree_core.specs.declared.answers.Admission.{Admission}
 use Rattle.tree_core.specs.declared.answers.Admission.TheVariants as admission
 use Rattle.tree_session.specs.Faults.{Proceeds, faults_of}
 use Rattle.tree_session.specs.Lines.{Rests}
-use Rattle.tree_session.specs.Session.{EasesOthers, PaysOff, Performs}
-use Rattle.tree_session.proofs.BookLemmas.{all_even, count_none, last_is, paid_few}
-use Rattle.tree_session.proofs.FaultLemmas.{admit_calm, eases_then, none_told, proceeds_then}
+use Rattle.tree_session.specs.Session.{EasesOthers, PaysOff, Performs, most_calls}
+use Rattle.tree_session.proofs.BookLemmas.{all_even, calls_of_write, count_none, last_is, paid_few}
+use Rattle.tree_session.proofs.FaultLemmas.{admit_calm, eases_then, none_told, proceeds_then, proceeds_wider}
 
 -- a write that isn't admitted leaves no debt
 refused_even : (answer : Admission) (seat : ℕ) (op : Op) (old new : Held) (before after : DiskState) → (answer ≡ admission.Admitted → ⊥) → AdmitsBecause answer seat op old new before after
@@ -36,9 +37,9 @@ refused_even (admission.Stopped why) seat op old new before after not because ev
 idle_still : (old new : BookState) → new.seats.work ≡ old.seats.work → ((any : ℕ) → work_in any old ≡ no_work) → (any : ℕ) → work_in any new ≡ no_work
 idle_still old new same idle any = ap (λ (l : List WorkSoFar). slice_index_or l any no_work) same ∙ idle any
 
-pub write_refused : {D : Type 0} (state : D → DiskState) (seat : ℕ) (op : Op) (answer : Admission) (old new : CoreState D) → (answer ≡ admission.Admitted → ⊥) → AdmitsBecause answer seat op old.held new.held (state old.disk) (state new.disk)
-    → NotesOne seat op (reply_to_write answer) old.held.book new.held.book → Rests old.held → Proceeds state (faults_of (reply_to_write answer)) old new → Performs state seat op old new
-write_refused state seat op answer old new not because notes rests proceeds =
+pub write_refused : {D : Type 0} (state : D → DiskState) (seat : ℕ) (op : Op) (answer : Admission) (old new : CoreState D) → is_write op ≡ true → (answer ≡ admission.Admitted → ⊥) → AdmitsBecause answer seat op old.held new.held (state old.disk) (state new.disk)
+    → NotesOne seat op (reply_to_write answer) old.held.book new.held.book → Rests old.held → Proceeds state (faults_of (reply_to_write answer)) 22 old new → StandsSince new.held new.held (state new.disk) (state new.disk) → Performs state seat op old new
+write_refused state seat op answer old new write not because notes rests proceeds begins =
     let entry : Entry = record { seat = seat; op = op; reply = reply_to_write answer } in
     record {
       reply = reply_to_write answer;
@@ -50,17 +51,20 @@ write_refused state seat op answer old new not because notes rests proceeds =
         idle = idle_still old.held.book new.held.book notes.work rests.idle;
         even = refused_even answer seat op old.held new.held (state old.disk) (state new.disk) not because rests.even;
       };
-      proceeds = proceeds;
+      begins = begins;
+      proceeds = proceeds_wider state (faults_of (reply_to_write answer)) 22 (most_calls old.held.runs.sizes op 0) old new (omega (arith, calls_of_write old.held.runs.sizes op 0 write)) proceeds;
     }
 
-pub write_taken : {D : Type 0} (state : D → DiskState) (seat : ℕ) (op : Op) (old mid new : CoreState D) → IsTimed (state mid.disk) → is_write op ≡ true → IsCore old.held (state old.disk) → old.held.book.stopped ≡ None
-    → NotesOne seat op Done old.held.book mid.held.book → EasesOthers seat old.held mid.held → Rests old.held → Proceeds state 0 old mid → PaysOff state seat mid new → Performs state seat op old new
-write_taken state seat op old mid new timed write keeps ran notes eases rests admits pays =
+pub write_taken : {D : Type 0} (state : D → DiskState) (seat : ℕ) (op : Op) (old mid new : CoreState D) → is_write op ≡ true → IsCore old.held (state old.disk) → old.held.book.stopped ≡ None
+    → NotesOne seat op Done old.held.book mid.held.book → EasesOthers seat old.held mid.held → Rests old.held → Proceeds state 0 22 old mid → PaysOff state seat mid new → StandsSince new.held new.held (state new.disk) (state new.disk) → Performs state seat op old new
+write_taken state seat op old mid new write keeps ran notes eases rests admits pays begins =
     let entry : Entry = record { seat = seat; op = op; reply = Done } in
     let last = last_is seat op old.held.book mid.held.book write notes.annals in
     let annals : new.held.book.book ≡ counted_up (noted old.held.book.book entry) (length old.held.book.book.entries) pays.quanta =
     pays.annals ∙ ap (λ (place : ℕ). counted_up mid.held.book.book place pays.quanta) last.0 ∙ ap (λ (b : Book). counted_up b (length old.held.book.book.entries) pays.quanta) notes.annals in
-    let proceeds = proceeds_then state 0 0 old mid new timed admits pays.proceeds in
+    let payments = (pays.quanta + 1) * (old.held.runs.sizes.quantum / 4 + 3) in
+    let paid = subst (λ (s : Sizes). Proceeds state 0 ((pays.quanta + 1) * (s.quantum / 4 + 3)) mid new) admits.sizes pays.proceeds in
+    let proceeds = proceeds_then state 0 0 22 payments old mid new admits paid in
     record {
       reply = Done;
       quanta = pays.quanta;
@@ -71,5 +75,6 @@ write_taken state seat op old mid new timed write keeps ran notes eases rests ad
         idle = idle_still old.held.book new.held.book (pays.work ∙ notes.work) rests.idle;
         even = λ runs. all_even seat old.held new.held (rests.even ran) (eases_then seat old.held mid.held new.held eases pays.others) (pays.even runs);
       };
-      proceeds = proceeds;
+      begins = begins;
+      proceeds = subst (λ (calls : ℕ). Proceeds state 0 calls old new) (sym (calls_of_write old.held.runs.sizes op pays.quanta write)) proceeds;
     }

@@ -1,6 +1,7 @@
 -- How calls of the core tell what went wrong below them, on every disk, and what they do to the disk.
-use Rattle.std.specs.Prelude.{◌≡◌, ⊤, ℕ, ◌+◌, ◌≤◌, Bool, true, false, List, Option, Some, None, sum_by}
+use Rattle.std.specs.Prelude.{◌≡◌, ⊤, ℕ, ◌+◌, ◌≤◌, Bool, true, false, IsTrue, List, drop, length, max, Option, Some, None, sum, sum_by}
 use Rattle.refusal.specs.Count.{HasRisen, HasRisenBy}
+use Rattle.blsm_model.specs.Format.{callers}
 use Rattle.blsm_model.specs.Geometry.{file_length}
 use Rattle.blsm_model.specs.declared.history.Entry.{Entry}
 use Rattle.blsm_model.specs.declared.history.Reply.{Reply}
@@ -9,11 +10,10 @@ use Rattle.blsm_model.specs.declared.history.Why.{Why}
 use Rattle.blsm_model.specs.declared.op.Op.{Op}
 use Rattle.blsm_model.specs.declared.op.Op.TheVariants.{Get}
 use Rattle.blsm_model.specs.declared.history.Why.TheVariants.{Faulted}
-use Rattle.disk_trait.specs.Disk.{DiskState, GoesOn}
-use Rattle.disk_trait.specs.Effects.{Affects}
+use Rattle.disk_trait.specs.Disk.{DiskState, GoesOn, IsSure}
+use Rattle.disk_trait.specs.Moments.{SyncsLater}
 use Rattle.tree_machine.specs.Machine.{Turned, Failed}
 use Rattle.core_moves.specs.declared.held.Held.{Held}
-use Rattle.core_moves.specs.Needs.{anywhere}
 use Rattle.tree_core.specs.Core.{CoreState}
 use Rattle.tree_core.specs.Steps.{StandsSince}
 
@@ -58,10 +58,19 @@ TellsNone op reply = faults_of reply ≡ 0
 
 -- ---- calls of the core, one after another
 
--- What lasts from any start on lasts. Unless two calls of the disk failed, all were within the store's file.
-pub record Proceeds {D : Type 0} (state : D → DiskState) (told : ℕ) (old new : CoreState D) : Type 0 where
+-- At most so many calls of the disk, none of which ends behind this offset, however many of them fail.
+pub record Reaches (end most : ℕ) (old new : DiskState) : Type 0 where
+  pub goes_on : GoesOn old new
+  pub calls : new.clock ≤ old.clock + most
+  pub syncs : SyncsLater old new
+  pub sure : IsSure end old new
+  pub no_shorter : IsTrue old.tells_bytes → length old.bytes ≤ length new.bytes
+  pub no_longer : IsTrue old.tells_bytes → length new.bytes ≤ max (length old.bytes) end
+
+-- What lasts from any start on lasts, in so many calls of the disk, all within the store's file. No quantum is counted for a worker.
+pub record Proceeds {D : Type 0} (state : D → DiskState) (told calls : ℕ) (old new : CoreState D) : Type 0 where
   pub sizes : new.held.runs.sizes ≡ old.held.runs.sizes
-  pub goes_on : GoesOn (state old.disk) (state new.disk)
-  pub effect : (state new.disk).faults ≤ (state old.disk).faults + 1 → (calls : ℕ) × Affects anywhere (file_length old.held.runs.sizes) calls (state old.disk) (state new.disk)
+  pub effect : Reaches (file_length old.held.runs.sizes) calls (state old.disk) (state new.disk)
   pub tells : TellsFaults told old.held new.held (state old.disk) (state new.disk)
+  pub alone : sum (drop callers new.held.book.seats.quanta) ≡ sum (drop callers old.held.book.seats.quanta)
   pub lasts : (start : CoreState D) → StandsSince start.held old.held (state start.disk) (state old.disk) → StandsSince start.held new.held (state start.disk) (state new.disk)

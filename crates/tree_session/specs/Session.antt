@@ -1,5 +1,5 @@
 -- What one command, and a script, make of the core of a tree, on every disk.
-use Rattle.std.specs.Prelude.{◌≡◌, ◌≢◌, ⊤, ℕ, ◌+◌, ◌≤◌, ◌<◌, false, None, IsTrue, List, [], ◌∷◌, ◌++◌, length, slice_index}
+use Rattle.std.specs.Prelude.{◌≡◌, ◌≢◌, ⊤, ℕ, ◌+◌, ◌*◌, ◌/◌, ◌≤◌, ◌<◌, false, None, IsTrue, List, [], ◌∷◌, ◌++◌, drop, length, slice_index, sum}
 use Rattle.std.specs.List.{AllByRecursion}
 use Rattle.blsm_model.specs.Book.{noted, counted_up}
 use Rattle.blsm_model.specs.Format.{callers}
@@ -18,9 +18,11 @@ use Rattle.gear_sched.specs.Gears.{first_debt, second_debt}
 use Rattle.seat_book.specs.State.{work_in}
 use Rattle.tree_machine.specs.Plays.{is_finished}
 use Rattle.tree_machine.specs.Steps.{last_write}
+use Rattle.tree_runs.specs.Runs.{page_share}
 use Rattle.core_moves.specs.declared.held.Held.{Held}
 use Rattle.tree_core.specs.Core.{CoreState, IsCore}
 use Rattle.tree_core.specs.Notes.{OwesNothing}
+use Rattle.tree_core.specs.Steps.{StandsSince}
 use Rattle.tree_session.specs.Faults.{Proceeds, TellsNone, faults_of, faults_of_turn, faults_told, is_by_fault}
 use Rattle.tree_session.specs.Lines.{Rests}
 
@@ -32,7 +34,14 @@ most_quanta sizes (Get key) = 0
 most_quanta sizes (Work n) = n
 most_quanta sizes op = work_bound sizes (total_weight (writes_of op))
 
--- One entry is noted for it, with few quanta, and the session rests again.
+-- How many calls of the disk it takes at most, where its caller takes so many quanta for it: a get looks into each page at most, a turn of a work
+-- moves once, and a write is admitted and then paid for, in vain once at most.
+abbrev pub most_calls : Sizes → Op → ℕ → ℕ
+most_calls sizes (Get key) quanta = page_share sizes
+most_calls sizes (Work n) quanta = n * (sizes.quantum / 4 + 9)
+most_calls sizes op quanta = 22 + (quanta + 1) * (sizes.quantum / 4 + 3)
+
+-- One entry is noted for it, with few quanta and few calls of the disk, and the session rests again.
 pub record Performs {D : Type 0} (state : D → DiskState) (seat : ℕ) (op : Op) (old new : CoreState D) : Type 0 where
   pub reply : Reply
   pub quanta : ℕ
@@ -40,7 +49,9 @@ pub record Performs {D : Type 0} (state : D → DiskState) (seat : ℕ) (op : Op
   pub few : quanta ≤ most_quanta old.held.runs.sizes op
   pub calm : is_by_fault new.held.book.stopped ≡ false → TellsNone op reply
   pub rests : Rests new.held
-  pub proceeds : Proceeds state (faults_of reply) old new
+  -- and what lasts begins there anew
+  pub begins : StandsSince new.held new.held (state new.disk) (state new.disk)
+  pub proceeds : Proceeds state (faults_of reply) (most_calls old.held.runs.sizes op quanta) old new
 
 -- ---- a script
 
@@ -50,8 +61,19 @@ TookFew sizes [] [] = ⊤
 TookFew sizes (entry ∷ entries) (quanta ∷ more) = (quanta ≤ most_quanta sizes entry.op) × TookFew sizes entries more
 TookFew sizes _ _ = ⊥
 
+-- how many calls of the disk they took at most
+abbrev pub calls_for : Sizes → List Entry → List ℕ → ℕ
+calls_for sizes (entry ∷ entries) (quanta ∷ more) = most_calls sizes entry.op quanta + calls_for sizes entries more
+calls_for sizes _ _ = 0
+
+-- The commands of these lines were done, one after another, and there was a core between each two.
+abbrev pub AreDone : {D : Type 0} → (D → DiskState) → List Line → CoreState D → CoreState D → Type 0
+AreDone state [] old new = new ≡ old
+AreDone {D} state (line ∷ lines) old new = (mid : CoreState D) × Performs state line.seat line.op old mid × AreDone state lines mid new
+
 -- Its lines are answered, in order, one entry for each; what was noted before stays.
 pub record Runs {D : Type 0} (state : D → DiskState) (lines : List Line) (old new : CoreState D) : Type 0 where
+  pub done : AreDone state lines old new
   pub added : List Entry
   pub counts : List ℕ
   pub entries : new.held.book.book.entries ≡ old.held.book.book.entries ++ added
@@ -60,8 +82,10 @@ pub record Runs {D : Type 0} (state : D → DiskState) (lines : List Line) (old 
   pub few : TookFew old.held.runs.sizes added counts
   pub calm : is_by_fault new.held.book.stopped ≡ false → AllByRecursion (λ e. TellsNone e.op e.reply) added
   pub room : (seat : ℕ) → seat < callers → slice_index new.held.book.book.room.entries seat + length (lines_of seat lines) ≡ slice_index old.held.book.book.room.entries seat
+  -- no quantum is counted for a worker
+  pub alone : sum (drop callers new.held.book.seats.quanta) ≡ sum (drop callers old.held.book.seats.quanta)
   pub rests : Rests new.held
-  pub proceeds : Proceeds state (faults_told added) old new
+  pub proceeds : Proceeds state (faults_told added) (calls_for old.held.runs.sizes added counts) old new
 
 -- ---- the parts of a command
 
@@ -78,7 +102,7 @@ pub record PaysOff {D : Type 0} (state : D → DiskState) (seat : ℕ) (old new 
   pub even : new.held.book.stopped ≡ None → OwesNothing seat new.held
   pub others : EasesOthers seat old.held new.held
   pub keeps : IsCore new.held (state new.disk)
-  pub proceeds : Proceeds state 0 old new
+  pub proceeds : Proceeds state 0 ((quanta + 1) * (old.held.runs.sizes.quantum / 4 + 3)) old new
 
 -- A caller's work of n turns was done, and is open still.
 pub record Turns {D : Type 0} (state : D → DiskState) (seat n : ℕ) (old new : CoreState D) : Type 0 where
@@ -89,4 +113,4 @@ pub record Turns {D : Type 0} (state : D → DiskState) (seat n : ℕ) (old new 
   pub works : (other : ℕ) → other ≢ seat → work_in other new.held.book ≡ work_in other old.held.book
   pub even : new.held.book.stopped ≡ None → OwesNothing seat new.held
   pub others : EasesOthers seat old.held new.held
-  pub proceeds : Proceeds state (faults_of_turn (work_in seat new.held.book).last) old new
+  pub proceeds : Proceeds state (faults_of_turn (work_in seat new.held.book).last) (n * (old.held.runs.sizes.quantum / 4 + 9)) old new

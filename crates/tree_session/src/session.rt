@@ -6,7 +6,7 @@ ghost use Rattle.tree_session.specs.Lines.{AreRunnable, HasRoomFor, IsRunnable, 
 ghost use Rattle.tree_session.specs.Session.{Performs, Runs};
 
 use crate::works::work;
-use crate::writes::{keeps, write};
+use crate::writes::{begins, keeps, write};
 use blsm_model::{Key, Line, Op};
 use disk_trait::Disk;
 use tree_core::Core;
@@ -19,6 +19,7 @@ fn look_up<D: Disk + Drop>(core: &mut Core<D>, seat: u32, key: &Key)
 {
     keeps(core);
     let _found = core.get(seat, key);
+    begins(core);
 }
 
 /// Does the command of a line to its end. A write is admitted and paid for, a work ends at its first turn that finds nothing to do.

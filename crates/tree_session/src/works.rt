@@ -6,7 +6,7 @@ ghost use Rattle.tree_machine.specs.Plays.{most_turns};
 ghost use Rattle.tree_session.specs.Lines.{Rests};
 ghost use Rattle.tree_session.specs.Session.{Performs, Turns};
 
-use crate::writes::keeps;
+use crate::writes::{begins, keeps};
 use disk_trait::Disk;
 use seat_book::Turned;
 use tree_core::Core;
@@ -39,4 +39,5 @@ pub(crate) fn work<D: Disk + Drop>(core: &mut Core<D>, seat: u32, n: u32)
     turn(core, seat, n);
     keeps(core);
     let _reply = core.work_end(seat, n);
+    begins(core);
 }

@@ -21,6 +21,13 @@ pub(crate) fn keeps<D: Disk + Drop>(core: &Core<D>)
     let _charge = core.charge();
 }
 
+// What lasts begins anew at each state of the core.
+pub(crate) fn begins<D: Disk + Drop>(core: &Core<D>)
+    ensures { StandsSince core.now.held core.now.held (D.state core.now.disk) (D.state core.now.disk) }
+{
+    let _charge = core.charge();
+}
+
 // Pays until nothing is owed any more, or the store is stopped. The caller's last write that was done is what it pays for.
 fn pay_off<D: Disk + Drop>(core: &mut Core<D>, seat: u32)
     requires seat { seat < callers }
@@ -39,7 +46,10 @@ pub(crate) fn write<D: Disk + Drop>(core: &mut Core<D>, seat: u32, op: &Op)
     ensures { Performs D.state seat op.now core.old core.new }
 {
     keeps(core);
-    if let Admission::Admitted = core.admit(seat, op) {
-        pay_off(core, seat);
-    }
+    let Admission::Admitted = core.admit(seat, op) else {
+        begins(core);
+        return;
+    };
+    pay_off(core, seat);
+    begins(core);
 }

@@ -12,7 +12,7 @@ use Rattle.tree_session.proofs.session.run_lines.Goals as goal
 
 pub loop-line-init : goal.loop-line-init
 loop-line-init g c = record {
-  runs = runs_none g.D.Disk.state c.args.core.now (g.met.D.Disk.timed c.args.core.now.disk) c.requires.rests;
+  runs = runs_none g.D.Disk.state c.args.core.now c.requires.rests;
   places = core_places c.args.core.now.held (g.D.Disk.state c.args.core.now.disk) c.keeps.ensures.core;
   left = c.requires.room;
 }
@@ -44,7 +44,7 @@ loop-line-preserved g c =
     let more : take i lines ++ line ∷ [] ≡ take (i + 1) lines = ap (λ (l : Line). take i lines ++ l ∷ []) c.line-item.is ∙ sym (take_more lines i line below) in
     record {
       runs = subst (λ (ls : List Line). Runs state ls old new) more
-          (runs_more state (take i lines) line old mid new (g.met.D.Disk.timed mid.disk) c.loop-line.invariant.places (room_next mid.held.book.book.room line (drop (i + 1) lines) (search rules) before) c.loop-line.invariant.runs did);
+          (runs_more state (take i lines) line old mid new c.loop-line.invariant.places (room_next mid.held.book.book.room line (drop (i + 1) lines) (search rules) before) c.loop-line.invariant.runs did);
       places = places_then state line mid new c.loop-line.invariant.places did;
       left = subst (λ (b : Book). HasRoomFor b.room (drop (i + 1) lines)) (sym did.annals) (room_then mid.held.book.book.room line (drop (i + 1) lines) entry refl before);
     }

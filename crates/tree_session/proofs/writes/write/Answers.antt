@@ -3,8 +3,9 @@ use Rattle.blsm_model.specs.declared.history.Reply.TheVariants.{Done}
 use Rattle.seat_book.proofs.WordLemmas.{note_has_room}
 use Rattle.tree_core.specs.Answers.{reply_to_write}
 use Rattle.tree_session.specs.Faults.{faults_of}
+use Rattle.tree_session.proofs.AloneLemmas.{admit_alone}
 use Rattle.tree_session.proofs.BookLemmas.{last_is}
-use Rattle.tree_session.proofs.FaultLemmas.{admit_tells, eases_by, proceeds_by, tells_ran}
+use Rattle.tree_session.proofs.FaultLemmas.{admit_tells, eases_by, proceeds_by, reaches_by, tells_ran}
 use Rattle.tree_session.proofs.WriteLemmas.{write_refused, write_taken}
 use Rattle.tree_session.proofs.writes.write.Goals as goal
 
@@ -14,21 +15,25 @@ pay_off-requires-clause-seat g c = (note_has_room c.args.core.now.held.book c.ar
 pub pay_off-requires-clause-written : goal.pay_off-requires-clause-written
 pay_off-requires-clause-written g c = (last_is c.args.seat c.args.op.now c.args.core.now.held.book c.admit.new.self.held.book c.requires.write c.in-Admitted.ensures.notes.annals).1
 
-pub returns-in-Admitted : goal.returns-in-Admitted
-returns-in-Admitted g c =
+pub returns : goal.returns
+returns g c =
     let state = g.D.Disk.state in
     let old = c.args.core.now in
+    let core = c.keeps.ensures.core in
     let mid = c.admit.new.self in
     let ran = c.in-Admitted.ensures.cause.0 in
-    write_taken state c.args.seat c.args.op.now old mid c.pay_off.new.core (g.met.D.Disk.timed mid.disk) c.requires.write c.keeps.ensures.core ran.ran c.in-Admitted.ensures.notes
+    write_taken state c.args.seat c.args.op.now old mid c.pay_off.new.core c.requires.write c.keeps.ensures.core ran.ran c.in-Admitted.ensures.notes
     (eases_by c.args.seat old.held mid.held c.admit.ensures.follows) c.requires.rests
-    (proceeds_by state 0 22 old old mid c.keeps.ensures.begins (λ from since. c.admit.ensures.lasts from since) c.admit.ensures.effect (tells_ran old.held mid.held (state old.disk) (state mid.disk) ran)) c.pay_off.ensures
+    (proceeds_by state 0 22 old old mid c.keeps.ensures.begins (λ from since. c.admit.ensures.lasts from since) (reaches_by c.admit.ensures.effect) (tells_ran old.held mid.held (state old.disk) (state mid.disk) ran)
+    (admit_alone c.admit.result c.args.seat c.args.op.now old.held mid.held (state old.disk) (state mid.disk) core.pace core.holds (c.admit.ensures.numbers core.pace core.holds) c.admit.ensures.notes)) c.pay_off.ensures c.begins-2.ensures
 
 pub returns-in_default : goal.returns-in_default
 returns-in_default g c =
     let state = g.D.Disk.state in
     let old = c.args.core.now in
+    let core = c.keeps.ensures.core in
     let new = c.admit.new.self in
-    write_refused state c.args.seat c.args.op.now c.admit.result old new c.in_default.not-Admitted c.admit.ensures.cause c.admit.ensures.notes c.requires.rests
-    (proceeds_by state (faults_of (reply_to_write c.admit.result)) 22 old old new c.keeps.ensures.begins (λ from since. c.admit.ensures.lasts from since) c.admit.ensures.effect
-    (admit_tells c.admit.result c.args.seat c.args.op.now old.held new.held (state old.disk) (state new.disk) c.admit.ensures.cause (λ none. ap (λ (d : g.row.D.Denot). (state d).faults) (c.admit.ensures.untouched none))))
+    write_refused state c.args.seat c.args.op.now c.admit.result old new c.requires.write c.in_default.not-Admitted c.admit.ensures.cause c.admit.ensures.notes c.requires.rests
+    (proceeds_by state (faults_of (reply_to_write c.admit.result)) 22 old old new c.keeps.ensures.begins (λ from since. c.admit.ensures.lasts from since) (reaches_by c.admit.ensures.effect)
+    (admit_tells c.admit.result c.args.seat c.args.op.now old.held new.held (state old.disk) (state new.disk) c.admit.ensures.cause (λ none. ap (λ (d : g.row.D.Denot). (state d).faults) (c.admit.ensures.untouched none)))
+    (admit_alone c.admit.result c.args.seat c.args.op.now old.held new.held (state old.disk) (state new.disk) core.pace core.holds (c.admit.ensures.numbers core.pace core.holds) c.admit.ensures.notes)) c.begins.ensures
