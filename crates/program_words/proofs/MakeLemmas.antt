@@ -1,0 +1,77 @@
+-- The geometry that four numbers make, if any.
+use Rattle.std.proofs.Common.{◌≡◌, ℕ, Bool, true, false, Option, Some, None, cond, nat_le, ◌≤◌, ap, sym, refl, subst, ◌∙◌}
+use Rattle.std.proofs.lemmas.Bool.{leb-true, le-leb}
+use Rattle.clap.specs.Words.{Text}
+use Rattle.blsm_model.specs.Sizes.{Sizes, IsGeometry, HalfFits, RatioFits, LowFits, QuantumFits}
+use Rattle.blsm_model.specs.Geometry.{IsFirstFault}
+use Rattle.blsm_model.specs.declared.geometry.GeometryFault.{GeometryFault}
+use Rattle.blsm_model.specs.declared.geometry.GeometryFault.TheVariants.{Half, Ratio, Low, Quantum}
+use Rattle.program_words.specs.Words.{geometry_by, make_by, make}
+
+pub no_half : (half ratio low quantum : Option ℕ) → half ≡ None → None ≡ geometry_by half ratio low quantum
+no_half None ratio low quantum none = refl
+no_half (Some h) ratio low quantum none = cc
+
+pub no_ratio : (half ratio low quantum : Option ℕ) → ratio ≡ None → None ≡ geometry_by half ratio low quantum
+no_ratio None ratio low quantum none = refl
+no_ratio (Some h) None low quantum none = refl
+no_ratio (Some h) (Some r) low quantum none = cc
+
+pub no_low : (half ratio low quantum : Option ℕ) → low ≡ None → None ≡ geometry_by half ratio low quantum
+no_low None ratio low quantum none = refl
+no_low (Some h) None low quantum none = refl
+no_low (Some h) (Some r) None quantum none = refl
+no_low (Some h) (Some r) (Some l) quantum none = cc
+
+pub no_quantum : (half ratio low quantum : Option ℕ) → quantum ≡ None → None ≡ geometry_by half ratio low quantum
+no_quantum None ratio low quantum none = refl
+no_quantum (Some h) None low quantum none = refl
+no_quantum (Some h) (Some r) None quantum none = refl
+no_quantum (Some h) (Some r) (Some l) None none = refl
+no_quantum (Some h) (Some r) (Some l) (Some q) none = cc
+
+abbrev when_low : Bool → Sizes → Option Sizes
+when_low fits sizes = cond fits (Some sizes) None
+
+-- the four numbers as they were found
+pub record AreFound (sizes : Sizes) (h r l q : Option ℕ) : Type 0 where
+  pub half : Some sizes.half ≡ h
+  pub ratio : Some sizes.ratio ≡ r
+  pub low : Some sizes.low ≡ l
+  pub quantum : Some sizes.quantum ≡ q
+
+all_found : (sizes : Sizes) (half ratio low quantum : Option ℕ) → AreFound sizes half ratio low quantum → when_low (nat_le sizes.low sizes.half) sizes ≡ geometry_by half ratio low quantum
+all_found sizes half ratio low quantum found =
+    ap (λ (h : Option ℕ). geometry_by h (Some sizes.ratio) (Some sizes.low) (Some sizes.quantum)) found.half
+    ∙ ap (λ (r : Option ℕ). geometry_by half r (Some sizes.low) (Some sizes.quantum)) found.ratio
+    ∙ ap (λ (l : Option ℕ). geometry_by half ratio l (Some sizes.quantum)) found.low
+    ∙ ap (geometry_by half ratio low) found.quantum
+
+pub made : (sizes made_sizes : Sizes) (half ratio low quantum : Option ℕ) → AreFound sizes half ratio low quantum → made_sizes ≡ sizes → IsGeometry made_sizes → Some made_sizes ≡ geometry_by half ratio low quantum
+made sizes made_sizes half ratio low quantum found is fits =
+    let low_fits : sizes.low ≤ sizes.half = subst LowFits is fits.low in
+    ap (λ (s : Sizes). Some s) is ∙ sym (ap (λ (b : Bool). when_low b sizes) (le-leb sizes.low sizes.half low_fits)) ∙ all_found sizes half ratio low quantum found
+
+low_too_high : (sizes : Sizes) → (LowFits sizes → ⊥) → None ≡ when_low (nat_le sizes.low sizes.half) sizes
+low_too_high sizes never = go (nat_le sizes.low sizes.half) (λ test. never (leb-true sizes.low sizes.half test))
+  where
+    go : (b : Bool) → (b ≡ true → ⊥) → None ≡ when_low b sizes
+    go true isnt = absurd (isnt refl)
+    go false isnt = refl
+
+pub no_geometry : (sizes : Sizes) (half ratio low quantum : Option ℕ) (fault : GeometryFault) → AreFound sizes half ratio low quantum
+    → HalfFits sizes → RatioFits sizes → QuantumFits sizes → IsFirstFault sizes fault → None ≡ geometry_by half ratio low quantum
+no_geometry sizes half ratio low quantum fault found of_half of_ratio of_quantum first = low_too_high sizes (never fault first) ∙ all_found sizes half ratio low quantum found
+  where
+    never : (f : GeometryFault) → IsFirstFault sizes f → LowFits sizes → ⊥
+    never Half isnt fits = isnt of_half
+    never Ratio isnt fits = isnt.1 of_ratio
+    never Low isnt fits = isnt.2 fits
+    never Quantum isnt fits = isnt.3 of_quantum
+
+pub no_name : (name : Option Text) (sizes : Option Sizes) → None ≡ name → None ≡ make_by name sizes
+no_name None sizes none = refl
+no_name (Some n) sizes none = cc
+
+pub both_found : (name : Option Text) (sizes : Option Sizes) (n : Text) (s : Sizes) → Some n ≡ name → Some s ≡ sizes → Some (make n s) ≡ make_by name sizes
+both_found name sizes n s named sized = ap (λ (o : Option Text). make_by o (Some s)) named ∙ ap (make_by name) sized

@@ -1,0 +1,26 @@
+//! What words ask for, and why they ask for nothing.
+use blsm_model::Geometry;
+use thiserror::Error;
+
+/// What the words of the command line ask for.
+#[derive(Clone, Copy, PartialEq, Eq, Debug)]
+pub enum Request<'a> {
+    /// A new store of this geometry in the file of this name.
+    Make { name: &'a str, geometry: Geometry },
+    /// A script to be run over the store in the file of this name.
+    Run { name: &'a str },
+    /// A look at the store in the file of this name.
+    Check { name: &'a str },
+    /// A trial of so many steps, from 1 to 65,536, drawn from this seed.
+    Trial { seed: u64, count: u32 },
+}
+
+/// Why words were not read.
+#[derive(Clone, Copy, PartialEq, Eq, Debug, Drop, Error)]
+pub enum Unread {
+    /// They are not accepted.
+    #[error("the words of the command line are not accepted")]
+    Refused,
+    #[error("there is no memory to read the words of the command line")]
+    NoMemory,
+}
