@@ -1,0 +1,228 @@
+-- The headline, from what opening a store says and what a run from there on keeps.
+use Rattle.std.specs.Prelude.{◌≡◌, ◌≤◌, ◌+◌, ◌*◌, ℕ, Bool, true, false, ◌||◌, List, [], ◌∷◌, None, IsTrue, drop, sum, take}
+use Rattle.std.specs.List.{AllByRecursion, list_any}
+use Rattle.std.proofs.Common.{◌∙◌, append-nil, arith, ap, cond, refl, subst, sym}
+use Rattle.std.proofs.lemmas.List.Sums.{sum_by-take-drop}
+use Rattle.blsm_model.specs.Book.{Book}
+use Rattle.blsm_model.specs.Format.{callers}
+use Rattle.blsm_model.specs.Geometry.{high_mark, limits_of}
+use Rattle.blsm_model.specs.Legal.{IsLegal}
+use Rattle.blsm_model.specs.Rows.{puts_of}
+use Rattle.blsm_model.specs.Sizes.{Sizes}
+use Rattle.blsm_model.specs.Values.{value_at}
+use Rattle.blsm_model.specs.declared.history.Entry.{Entry}
+use Rattle.blsm_model.specs.declared.history.Line.{Line}
+use Rattle.blsm_model.specs.declared.key.Key.{Key}
+use Rattle.blsm_model.specs.declared.room.Room.{Room}
+use Rattle.blsm_model.specs.declared.op.Write.{Write}
+use Rattle.blsm_model.specs.declared.row.Value.{Value}
+use Rattle.core_moves.specs.declared.held.Held.{Held}
+use Rattle.core_moves.specs.Held.{charge_in}
+use Rattle.core_pace.specs.Opening.{IsOpened}
+use Rattle.disk_trait.specs.Disk.{DiskState, GoesOn}
+use Rattle.disk_trait.specs.Moments.{IsTimed}
+use Rattle.paced_tree.specs.Bounds.{IsBounded}
+use Rattle.paced_tree.specs.Kept.{paced_all}
+use Rattle.paced_tree.specs.Laws.{PacedIsBounded}
+use Rattle.pacing.specs.Kept.{most_taken}
+use Rattle.pacing.specs.Pace.{Pace}
+use Rattle.recover_open.specs.Opening.{KeepsMapOf, OpensAs}
+use Rattle.record_delta.specs.Entries.{Entries, entries_weight, replayed}
+use Rattle.seat_book.specs.State.{BookState, book_of, totals_in}
+use Rattle.tree_core.specs.Core.{CoreState, IsCore}
+use Rattle.tree_core.specs.Standing.{StandsFor}
+use Rattle.tree_core.specs.Steps.{IsPlayed, StandsSince}
+use Rattle.tree_file.specs.Tree.{HoldsTree, Tree, components_weight, lists_of}
+use Rattle.tree_machine.specs.declared.step.Step.{Step}
+use Rattle.tree_machine.specs.Laws.{StepKeepsOpening}
+use Rattle.tree_machine.specs.Lists.{Lists, memory_weight}
+use Rattle.tree_machine.specs.Machine.{Catalogue, Machine, WorkSoFar, charge, no_work, opened, totals}
+use Rattle.tree_machine.specs.Outcomes.{AreTold, FindsNone, NoneDamaged, is_bad_page, is_by_page, is_damaged}
+use Rattle.tree_machine.specs.Plays.{may_step, played, played_one, stepped}
+use Rattle.tree_machine.specs.Steps.{Outcome}
+use Rattle.tree_machine.proofs.PlayLemmas.{of_replicate}
+use Rattle.tree_session.specs.Session.{Runs}
+use Rattle.store_run.specs.Headline.{EndsWithin, Headline, IsReached, LeavesHistory}
+use Rattle.store_run.specs.Run.{IsRunOf, Run, finds_damage}
+use Rattle.store_run.proofs.CrashLemmas.{leaves_history}
+use Rattle.store_run.proofs.RunLemmas.{is_run_of, no_entries_yet, no_quanta_yet, run_at}
+
+-- ---- what steps keep
+
+-- the sizes and the charge at the opening
+abbrev KeepsOpening : Machine → Machine → Type 0
+KeepsOpening m end = (end.gears.sizes ≡ m.gears.sizes) × (end.counts.charge ≡ m.counts.charge)
+
+played_keeps : StepKeepsOpening → (m : Machine) (made : List (Step × Outcome)) → KeepsOpening m (played m made)
+played_keeps law m [] = (refl, refl)
+played_keeps law m (one ∷ made) =
+    let first = by (may_step m one.0) refl in
+    let rest = played_keeps law (played_one m one) made in
+    (rest.0 ∙ first.0, rest.1 ∙ first.1)
+  where
+    by : (b : Bool) → may_step m one.0 ≡ b → KeepsOpening m (cond b (stepped m one.0 one.1).state m)
+    by true can = let kept = law m one.0 one.1 can in (kept.0, kept.1)
+    by false can = (refl, refl)
+
+-- no entry tells of a damaged page
+no_reply : (entries : List Entry) → AllByRecursion (λ e. is_damaged e.reply ≡ false) entries → list_any (λ e. is_damaged e.reply) entries ≡ false
+no_reply [] none = refl
+no_reply (entry ∷ entries) none = ap (λ (b : Bool). b || list_any (λ e. is_damaged e.reply) entries) none.0 ∙ no_reply entries none.1
+
+opened_finds_none : (sizes : Sizes) (c1 c2 : Entries) (catalogue : Catalogue) (faults : ℕ) (room : Room) → FindsNone (opened sizes c1 c2 catalogue faults room)
+opened_finds_none sizes c1 c2 catalogue faults room = record {
+  entries = tt;
+  stopped = refl;
+  works = λ seat. ap (λ (w : WorkSoFar). is_bad_page w.last) (of_replicate callers seat no_work);
+}
+
+-- ---- an end that was reached
+
+-- The core stands for this state of the machine in the end, which was reached from the opening; and no page was found damaged on the way.
+pub record Ends (opening : List (Key × Value)) (held : Held) (first : Machine) (m : Machine) (pace : Pace) (d : DiskState) : Type 0 where
+  pub stands : StandsFor opening held m pace d
+  pub kept : KeepsOpening first m
+  pub none : FindsNone m
+
+no_page_of : (opening : List (Key × Value)) (held : Held) (first m : Machine) (pace : Pace) (d : DiskState) (charge : ℕ) → Ends opening held first m pace d → finds_damage (run_at charge held) ≡ false
+no_page_of opening held first m pace d charge ends =
+    subst (λ (b : BookState). (list_any (λ e. is_damaged e.reply) b.book.entries || is_by_page b.stopped) ≡ false) ends.stands.book
+    (ap (λ (b : Bool). b || is_by_page m.stopped) (no_reply m.book.entries ends.none.entries) ∙ ends.none.stopped)
+
+replies_of : (opening : List (Key × Value)) (held : Held) (first m : Machine) (pace : Pace) (d : DiskState) (sizes : Sizes) (charge : ℕ) → held.runs.sizes ≡ sizes → first.counts.charge ≡ charge
+    → Ends opening held first m pace d → IsLegal (limits_of sizes charge) opening held.book.book.entries
+replies_of opening held first m pace d sizes charge same is ends =
+    let legal = ends.stands.paced.stands.told.legal in
+    let of_sizes = subst (λ (s : Sizes). IsLegal (limits_of s m.counts.charge) opening m.book.entries) (ends.stands.sizes ∙ same) legal in
+    let of_charge = subst (λ (n : ℕ). IsLegal (limits_of sizes n) opening m.book.entries) (ends.kept.1 ∙ is) of_sizes in
+    subst (λ (b : BookState). IsLegal (limits_of sizes charge) opening b.book.entries) ends.stands.book of_charge
+
+totals_of : (held : Held) (m : Machine) → m.gears.sizes ≡ held.runs.sizes → charge m ≡ charge_in held → book_of m ≡ held.book → totals m ≡ totals_in (high_mark held.runs.sizes) (charge_in held) held.book
+totals_of held m sizes is book =
+    ap (λ (s : Sizes). totals_in (high_mark s) (charge m) (book_of m)) sizes
+    ∙ ap (λ (n : ℕ). totals_in (high_mark held.runs.sizes) n (book_of m)) is
+    ∙ ap (λ (b : BookState). totals_in (high_mark held.runs.sizes) (charge_in held) b) book
+
+-- by numbers alone
+components_within : (m : Machine) (tree : Tree) (sizes : Sizes) (most : ℕ) → IsBounded m → m.lists ≡ lists_of tree → m.gears.sizes ≡ sizes → m.counts.charge ≡ most
+    → components_weight tree ≤ most + most_taken sizes * (sum (take callers m.seats.quanta) + sum (drop callers m.seats.quanta))
+components_within m tree sizes most bounded lists same is =
+    let all : sum (take callers m.seats.quanta) + sum (drop callers m.seats.quanta) ≡ sum m.seats.quanta = sum_by-take-drop (λ n. n) m.seats.quanta callers in
+    let worked = bounded.worked in
+    let weighs : (entries_weight m.lists.c1 + entries_weight m.lists.c1x + entries_weight m.lists.c2) ≡ components_weight tree = ap (λ (l : Lists). entries_weight l.c1 + entries_weight l.c1x + entries_weight l.c2) lists in
+    let taken : most_taken m.gears.sizes * sum m.seats.quanta ≡ most_taken sizes * (sum (take callers m.seats.quanta) + sum (drop callers m.seats.quanta)) =
+    ap (λ (s : Sizes). most_taken s * sum m.seats.quanta) same ∙ ap (λ (n : ℕ). most_taken sizes * n) (sym all) in
+    numbers _ _ _ _ _ _ _ worked weighs taken is
+  where
+    numbers : (weight more weight_is charge most_is took took_is : ℕ) → weight + more ≤ charge + took → weight ≡ weight_is → took ≡ took_is → charge ≡ most_is → weight_is ≤ most_is + took_is
+    numbers weight more weight_is charge most_is took took_is le a b c = omega arith
+
+lanes_within : (m : Machine) (tree : Tree) → IsBounded m → m.lists ≡ lists_of tree → entries_weight (replayed tree.lane_a) + entries_weight (replayed tree.lane_b) ≤ m.counts.peak
+lanes_within m tree bounded lists = omega (arith, bounded.table, ap memory_weight lists)
+
+ended_of : PacedIsBounded → (opening : List (Key × Value)) (held : Held) (first m : Machine) (pace : Pace) (d : DiskState) (sizes : Sizes) (charge : ℕ) → held.runs.sizes ≡ sizes → first.counts.charge ≡ charge
+    → Ends opening held first m pace d → held.book.stopped ≡ None → EndsWithin sizes (run_at charge held) d.bytes
+ended_of law opening held first m pace d sizes charge same is ends runs =
+    let over = ends.stands.runs runs in
+    let bounded = law opening m pace ends.stands.paced in
+    record {
+      tree = over.tree;
+      holds = subst (λ (s : Sizes). HoldsTree s over.tree d.bytes) same over.over.stands.reads;
+      components = subst (λ (b : BookState). components_weight over.tree ≤ charge + most_taken sizes * (sum (take callers b.seats.quanta) + sum (drop callers b.seats.quanta))) ends.stands.book
+          (components_within m over.tree sizes charge bounded over.holds.lists (ends.stands.sizes ∙ same) (ends.kept.1 ∙ is));
+      lanes = subst (λ (b : BookState). entries_weight (replayed over.tree.lane_a) + entries_weight (replayed over.tree.lane_b) ≤ b.counts.peak) ends.stands.book
+          (lanes_within m over.tree bounded over.holds.lists);
+    }
+
+-- ---- from an opening on
+
+-- the charge of the opening is what its components weigh
+opened_charge : (sizes : Sizes) (c1 c2 : Entries) (catalogue : Catalogue) (faults : ℕ) (room : Room) (held : Held) → charge (opened sizes c1 c2 catalogue faults room) ≡ charge_in held → entries_weight c1 + entries_weight c2 ≡ charge_in held
+opened_charge sizes c1 c2 catalogue faults room held is =
+    let weigh : entries_weight c1 + entries_weight c2 ≡ charge (opened sizes c1 c2 catalogue faults room) = omega arith in
+    weigh ∙ is
+
+ends_of : StepKeepsOpening → NoneDamaged → (opening : List (Key × Value)) (sizes : Sizes) (c1 c2 : Entries) (catalogue : Catalogue) (faults : ℕ) (room : Room) (pace : Pace) (steps : List Step) (held : Held) (before after : DiskState)
+    → (play : IsPlayed opening steps held before after (opened sizes c1 c2 catalogue faults room) pace)
+    → Ends opening held (opened sizes c1 c2 catalogue faults room) (played (opened sizes c1 c2 catalogue faults room) play.made) (paced_all (opened sizes c1 c2 catalogue faults room) pace play.made) after
+ends_of keeps damaged opening sizes c1 c2 catalogue faults room pace steps held before after play = record {
+  stands = play.stands;
+  kept = played_keeps keeps (opened sizes c1 c2 catalogue faults room) play.made;
+  none = damaged (opened sizes c1 c2 catalogue faults room) play.made (opened_finds_none sizes c1 c2 catalogue faults room) play.whole;
+}
+
+-- What the opening says, and what the run keeps.
+pub record Session {D : Type 0} (state : D → DiskState) (room : Room) (lines : List Line) (first : DiskState) (old new : CoreState D) : Type 0 where
+  pub opens : OpensAs room old.held first.bytes (state old.disk)
+  pub goes_on : GoesOn first (state old.disk)
+  pub calm : (state old.disk).faults ≡ first.faults
+  pub begins : StandsSince old.held old.held (state old.disk) (state old.disk)
+  pub runs : Runs state lines old new
+
+reached_of : (sizes : Sizes) (opening : List (Key × Value)) (c1 c2 : Entries) (catalogue : Catalogue) (faults : ℕ) (room : Room) (pace : Pace) (steps : List Step) (old new : Held) (before after : DiskState)
+    → StandsFor opening old (opened sizes c1 c2 catalogue faults room) pace before → faults ≡ before.faults
+    → (play : IsPlayed opening steps new before after (opened sizes c1 c2 catalogue faults room) pace)
+    → IsReached sizes opening (run_at (charge_in old) new) room faults after.faults
+reached_of sizes opening c1 c2 catalogue faults room pace steps old new before after stands same play =
+    let first = opened sizes c1 c2 catalogue faults room in
+    record {
+      c1 = c1;
+      c2 = c2;
+      catalogue = catalogue;
+      values = λ key. stands.paced.stands.values key ∙ ap (λ (ws : List Write). value_at ws key) (append-nil (puts_of opening));
+      weigh = opened_charge sizes c1 c2 catalogue faults room old stands.charge_is;
+      made = play.made;
+      told = subst (λ (n : ℕ). AreTold first n play.made after.faults) (sym same) play.told;
+      end = played first play.made;
+      leads = refl;
+      entries = ap (λ (b : BookState). b.book.entries) play.stands.book;
+      quanta = ap (λ (b : BookState). b.book.quanta) play.stands.book;
+      totals_are = totals_of new (played first play.made) play.stands.sizes play.stands.charge_is play.stands.book;
+    }
+
+headline_from : StepKeepsOpening → NoneDamaged → PacedIsBounded → {D : Type 0} (state : D → DiskState) (room : Room) (lines : List Line) (first : DiskState) (old new : CoreState D)
+    (c1 c2 : Entries) (catalogue : Catalogue) (pace : Pace) → IsTrue first.is_honest → (session : Session state room lines first old new)
+    → StandsFor session.opens.pairs old.held (opened old.held.runs.sizes c1 c2 catalogue (state old.disk).faults room) pace (state old.disk)
+    → LeavesHistory old.held.runs.sizes session.opens.pairs (run_at (charge_in old.held) new.held) first (state old.disk) (state new.disk)
+    → Headline state old.held.runs.sizes (run_at (charge_in old.held) new.held) room first (state new.disk)
+headline_from keeps damaged bounded {D} state room lines first old new c1 c2 catalogue pace honest session stands leaves =
+    let opens = session.opens in
+    let sizes = old.held.runs.sizes in
+    let before = state old.disk in
+    let after = state new.disk in
+    let machine = opened sizes c1 c2 catalogue before.faults room in
+    let since = session.runs.proceeds.lasts old session.begins in
+    let honest_then = subst IsTrue (sym session.goes_on.is_honest) honest in
+    let come = since.come opens.pairs machine pace honest_then stands in
+    let ends = ends_of keeps damaged opens.pairs sizes c1 c2 catalogue before.faults room pace come.0 new.held before after come.1 in
+    let weigh = opened_charge sizes c1 c2 catalogue before.faults room old.held stands.charge_is in
+    record {
+      opening = opens.pairs;
+      found = record { reads = opens.reads; image = opens.image; holds = opens.holds; taken = opens.taken };
+      replies = replies_of opens.pairs new.held machine _ _ after sizes (charge_in old.held) session.runs.proceeds.sizes weigh ends;
+      no_page = no_page_of opens.pairs new.held machine _ _ after (charge_in old.held) ends;
+      opened = old.disk;
+      goes_on = since.goes_on;
+      calm = session.calm;
+      reached = reached_of sizes opens.pairs c1 c2 catalogue before.faults room pace come.0 old.held new.held before after stands refl come.1;
+      ended = λ runs. ended_of bounded opens.pairs new.held machine _ _ after sizes (charge_in old.held) session.runs.proceeds.sizes weigh ends runs;
+      crashes = leaves;
+    }
+
+-- what is printed, with the headline
+abbrev pub RunAndHeadline : {D : Type 0} → (D → DiskState) → List Line → Room → Run → DiskState → DiskState → Type 0
+RunAndHeadline state lines room run first last = (sizes : Sizes) × IsRunOf sizes lines run × Headline state sizes run room first last
+
+pub whole_headline : StepKeepsOpening → NoneDamaged → PacedIsBounded → {D : Type 0} (state : D → DiskState) (timed : (d : D) → IsTimed (state d)) (annals : Book) (faults : ℕ) (room : Room) (lines : List Line) (first : DiskState)
+    (old new : CoreState D) → IsTrue first.is_honest → IsTimed first → IsOpened annals faults old.held → IsCore new.held (state new.disk) → (session : Session state room lines first old new)
+    → KeepsMapOf old.held.runs.sizes session.opens.pairs first (state old.disk) → (disk : D) → disk ≡ new.disk → (run : Run) → run ≡ run_at (charge_in old.held) new.held
+    → RunAndHeadline state lines room run first (state disk)
+whole_headline keeps damaged bounded {D} state timed annals faults room lines first old new honest timed_first opened core session keeps_map disk same run is =
+    let sizes = old.held.runs.sizes in
+    let opens = session.opens in
+    let leaves = leaves_history state timed sizes opens.pairs lines first old new _ _ honest timed_first refl (no_entries_yet annals faults old.held opened) (no_quanta_yet annals faults old.held opened) opens.stands keeps_map session.goes_on session.begins session.runs
+    (run_at (charge_in old.held) new.held) refl refl in
+    let headline = headline_from keeps damaged bounded state room lines first old new _ _ _ _ honest session opens.stands leaves in
+    let printed = is_run_of state lines annals faults (charge_in old.held) old new opened core session.begins session.runs in
+    subst (λ (r : Run). RunAndHeadline state lines room r first (state disk)) (sym is)
+    (subst (λ (d : D). RunAndHeadline state lines room (run_at (charge_in old.held) new.held) first (state d)) (sym same) (sizes, printed, headline))

@@ -1,0 +1,4 @@
+pub mod CrashLemmas
+pub mod FaultLemmas
+pub mod HeadlineLemmas
+pub mod RunLemmas

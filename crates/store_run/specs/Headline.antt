@@ -1,0 +1,97 @@
+-- The headline, for one thread. Over an honest disk whose file reads as a map, a script was run, and this was printed. Each phrase has its word
+-- here, or in `IsRunOf`:
+--
+--   each caller's commands once, in order                        `IsRunOf.of_script`
+--   the sequential map's replies                                 `Headline.replies`; a write is refused for size or for a fault alone
+--   the memory table never passes its bytes                      `IsRunOf.peak`, `EndsWithin.lanes`
+--   each write does few merge quanta itself                      `IsRunOf.few`; and the quanta are real: `EndsWithin.components`
+--   every crash image opens to a prefix of the history           `LeavesHistory.each`, `LeavesHistory.once_synced`
+--   which holds every write that was acknowledged by then        `LeavesHistory.paced`, and in the end the whole, `LeavesHistory.whole`
+use Rattle.std.specs.Prelude.{◌≡◌, ◌≤◌, ◌+◌, ◌*◌, ℕ, false, List, length, take, None}
+use Rattle.blsm_model.specs.Geometry.{limits_of}
+use Rattle.blsm_model.specs.Legal.{IsLegal}
+use Rattle.blsm_model.specs.Rows.{puts_of}
+use Rattle.blsm_model.specs.Sizes.{Sizes}
+use Rattle.blsm_model.specs.Values.{value_at}
+use Rattle.blsm_model.specs.declared.key.Key.{Key}
+use Rattle.blsm_model.specs.declared.room.Room.{Room}
+use Rattle.blsm_model.specs.declared.row.Value.{Value}
+use Rattle.disk_trait.specs.Disk.{DiskState, GoesOn}
+use Rattle.disk_trait.specs.Moments.{LeavesOnly, LeavesOnlyOnceSynced, IsOldOr}
+use Rattle.record_delta.specs.Entries.{Entries, entries_weight, replayed}
+use Rattle.pacing.specs.Kept.{most_taken}
+use Rattle.tree_machine.specs.declared.step.Step.{Step}
+use Rattle.tree_machine.specs.Lists.{value_in}
+use Rattle.tree_machine.specs.Machine.{Catalogue, Machine, opened, totals}
+use Rattle.tree_machine.specs.Outcomes.{AreTold}
+use Rattle.tree_machine.specs.Plays.{played}
+use Rattle.tree_machine.specs.Steps.{Outcome}
+use Rattle.tree_file.specs.Tree.{Tree, HoldsTree, ReadsAsMap, components_weight}
+use Rattle.core_lists.specs.Shown.{ShowsHistory}
+use Rattle.tree_reading.specs.Damage.{most_version}
+use Rattle.recover_open.specs.Opening.{KeepsMapOf}
+use Rattle.tree_session.specs.Session.{calls_for}
+use Rattle.store_run.specs.Run.{Run, finds_damage}
+
+-- The file is a store of these sizes that reads as this map, with a version that is taken.
+pub record IsStoreWith (sizes : Sizes) (opening : List (Key × Value)) (file : List ℕ) : Type 0 where
+  pub reads : ReadsAsMap sizes opening file
+  pub image : Tree
+  pub holds : HoldsTree sizes image file
+  pub taken : image.catalogue.version ≤ most_version
+
+-- The end is reached from the opening by steps of the tree as a machine over lists, with all that is printed: the replies, so a refusal for size
+-- names the charge that stood, the quanta and the totals. A step fails only where the disk's count of faults tells it.
+pub record IsReached (sizes : Sizes) (opening : List (Key × Value)) (run : Run) (room : Room) (faults_before faults_after : ℕ) : Type 0 where
+  pub c1 : Entries
+  pub c2 : Entries
+  pub catalogue : Catalogue
+  -- it begins with C1 and C2, which are the map and weigh what is printed first
+  pub values : (key : Key) → value_in (opened sizes c1 c2 catalogue faults_before room).lists key ≡ value_at (puts_of opening) key
+  pub weigh : entries_weight c1 + entries_weight c2 ≡ run.charge
+  pub made : List (Step × Outcome)
+  pub told : AreTold (opened sizes c1 c2 catalogue faults_before room) faults_before made faults_after
+  pub end : Machine
+  pub leads : played (opened sizes c1 c2 catalogue faults_before room) made ≡ end
+  pub entries : end.book.entries ≡ run.entries
+  pub quanta : end.book.quanta ≡ run.quanta
+  pub totals_are : totals end ≡ run.totals
+
+-- What the disk has in the end: a tree whose components weigh no more than at the opening and what the printed quanta can have taken, a quantum
+-- less one and two of the heaviest entries for each, so that no merge work was done in secret; and lanes that weigh no more than the peak.
+pub record EndsWithin (sizes : Sizes) (run : Run) (file : List ℕ) : Type 0 where
+  pub tree : Tree
+  pub holds : HoldsTree sizes tree file
+  pub components : components_weight tree ≤ run.charge + most_taken sizes * (run.totals.callers + run.totals.workers)
+  pub lanes : entries_weight (replayed tree.lane_a) + entries_weight (replayed tree.lane_b) ≤ run.totals.peak
+
+-- What a crash leaves while the history is made. The disk was `first` before the call, `opened` when the store was open, and is `last` after it.
+pub record LeavesHistory (sizes : Sizes) (opening : List (Key × Value)) (run : Run) (first opened last : DiskState) : Type 0 where
+  -- up to the opening nothing of the history was written
+  pub begins : KeepsMapOf sizes opening first opened
+  -- each image of each moment is one from before, or shows a front of the history; since the first sync of the opening each shows one
+  pub each : LeavesOnly first last (IsOldOr first.images (ShowsHistory sizes opening run.entries 0))
+  pub once_synced : LeavesOnlyOnceSynced first last (ShowsHistory sizes opening run.entries 0)
+  -- once the first n commands had their calls of the disk, each image shows their n entries at least; and no more calls were made than that
+  pub paced : (n t : ℕ) (c : List ℕ) → n ≤ length run.entries → opened.clock + calls_for sizes (take n run.entries) (take n run.quanta) ≤ t → last.images_since t c
+      → ShowsHistory sizes opening run.entries n c
+  pub calls : last.clock ≤ opened.clock + calls_for sizes run.entries run.quanta
+  -- in the end each image shows the whole, and so does the disk as it reads
+  pub whole : (c : List ℕ) → last.images c → ShowsHistory sizes opening run.entries (length run.entries) c
+  pub shown : ShowsHistory sizes opening run.entries (length run.entries) last.bytes
+
+pub record Headline {D : Type 0} (state : D → DiskState) (sizes : Sizes) (run : Run) (room : Room) (first last : DiskState) : Type 0 where
+  -- what the disk had
+  pub opening : List (Key × Value)
+  pub found : IsStoreWith sizes opening first.bytes
+  -- the sequential map's replies, or refusals by name; none tells of a page
+  pub replies : IsLegal (limits_of sizes run.charge) opening run.entries
+  pub no_page : finds_damage run ≡ false
+  -- the opening failed in no call, and from there the end is reached
+  pub opened : D
+  pub goes_on : GoesOn (state opened) last
+  pub calm : (state opened).faults ≡ first.faults
+  pub reached : IsReached sizes opening run room (state opened).faults last.faults
+  -- unless the store was stopped
+  pub ended : run.totals.stopped ≡ None → EndsWithin sizes run last.bytes
+  pub crashes : LeavesHistory sizes opening run first (state opened) last

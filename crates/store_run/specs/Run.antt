@@ -1,0 +1,58 @@
+-- The run of a script over the store on a disk: what it leaves to be printed, and what holds of it on every disk, honest or not.
+use Rattle.std.specs.Prelude.{◌≡◌, ◌≤◌, ◌<◌, ◌||◌, ℕ, Bool, true, false, List, sum}
+use Rattle.std.specs.List.{list_any}
+use Rattle.refusal.specs.Count.{HasRisenBy}
+use Rattle.blsm_model.specs.Geometry.{high_mark}
+use Rattle.blsm_model.specs.Scripts.{IsOfScript, asked, asked_in}
+use Rattle.blsm_model.specs.Sizes.{Sizes, IsGeometry}
+use Rattle.blsm_model.specs.declared.history.Entry.{Entry}
+use Rattle.blsm_model.specs.declared.history.Line.{Line}
+use Rattle.blsm_model.specs.declared.history.Totals.{Totals}
+use Rattle.disk_trait.specs.Disk.{DiskState}
+use Rattle.tree_machine.specs.Outcomes.{is_by_page, is_damaged}
+use Rattle.tree_session.specs.Faults.{NamesCount, faults_told, is_by_fault}
+use Rattle.tree_session.specs.Session.{TookFew}
+use Rattle.store_run.specs.declared.run.Ending.{Ending}
+use Rattle.store_run.specs.declared.run.Ending.TheVariants.{Well, Faulted, Damaged}
+use Rattle.store_run.specs.declared.run.Finished.{Finished}
+
+-- The charge at the opening, the history, the quanta of each entry, and the totals.
+pub record Run : Type 0 where
+  pub charge : ℕ
+  pub entries : List Entry
+  pub quanta : List ℕ
+  pub totals : Totals
+
+abbrev pub run_of : Finished → Run
+run_of f = record { charge = f.charge; entries = f.annals.entries; quanta = f.annals.quanta; totals = f.totals }
+
+-- a page was found damaged, by a lookup or by a merge
+abbrev pub finds_damage : Run → Bool
+finds_damage run = list_any (λ e. is_damaged e.reply) run.entries || is_by_page run.totals.stopped
+
+-- What is printed, whatever the disk is.
+pub record IsRunOf (sizes : Sizes) (lines : List Line) (run : Run) : Type 0 where
+  pub geometry : IsGeometry sizes
+  -- each caller's commands, once, in order; and, as there is one thread, in the order of the lines
+  pub of_script : IsOfScript lines run.entries
+  pub in_order : asked_in run.entries ≡ asked lines
+  -- a write took no more quanta than its work bound, a get none, a work of n turns no more than n; their sum is printed, and nobody else works
+  pub few : TookFew sizes run.entries run.quanta
+  pub callers : run.totals.callers ≡ sum run.quanta
+  pub workers : run.totals.workers ≡ 0
+  -- the memory table weighed no more than its bytes
+  pub peak : run.totals.peak ≤ high_mark sizes
+  pub high : run.totals.high ≡ high_mark sizes
+
+-- how the run ended, by the disk's count of faults and what was found
+abbrev pub IsEnding : Ending → Run → ℕ → Type 0
+IsEnding Well run faults = (faults ≡ 0) × (finds_damage run ≡ false)
+IsEnding Faulted run faults = 0 < faults
+IsEnding Damaged run faults = (faults ≡ 0) × (finds_damage run ≡ true)
+
+-- Faults are told only as the disk counted them: the count has risen for each reply that tells one, and it stands where none does and no fault
+-- stopped the store. A stop by a fault names the count, which has risen.
+pub record AreCounted (run : Run) (first last : DiskState) : Type 0 where
+  pub risen : HasRisenBy (faults_told run.entries) first.faults last.faults
+  pub quiet : faults_told run.entries ≡ 0 → is_by_fault run.totals.stopped ≡ false → last.faults ≡ first.faults
+  pub stop : NamesCount run.totals.stopped first last

@@ -1,0 +1,105 @@
+//! A script, run over the store on a disk.
+ghost use Rattle.std.specs.Prelude.{◌≤◌, ◌+◌, ℕ, List, Err, max, length, sum, IsTrue, IfOk, IfErr, IsErr};
+ghost use Rattle.disk_trait.specs.Disk.{TellsFaultsBy};
+ghost use Rattle.disk_trait.specs.Moments.{LeavesOnly};
+ghost use Rattle.blsm_model.specs.Format.{most_entries, most_rows_asked};
+ghost use Rattle.blsm_model.specs.Sizes.{Sizes};
+ghost use Rattle.blsm_model.specs.declared.key.Key.{Key};
+ghost use Rattle.blsm_model.specs.declared.row.Value.{Value};
+ghost use Rattle.store_file.specs.Layout.{superblock_length};
+ghost use Rattle.tree_file.specs.Tree.{ReadsAsMap};
+ghost use Rattle.tree_reading.specs.Reading.{IsWhy};
+ghost use Rattle.recover_open.specs.Opening.{KeepsMapOf, ReadsAsNone};
+ghost use Rattle.tree_session.specs.Faults.{Reaches};
+ghost use Rattle.tree_session.specs.Lines.{AreRunnable, HasRoomFor};
+ghost use Rattle.store_run.specs.Run.{AreCounted, IsEnding, IsRunOf, run_of};
+ghost use Rattle.store_run.specs.Headline.{Headline};
+
+use crate::ending::ending;
+use blsm_model::{Annals, Line, Room, Totals};
+use disk_trait::Disk;
+use paced_tree::a_paced_tree_is_bounded;
+use recover_open::{Unreadable, open_store};
+use std::alloc::Global;
+use tree_machine::{outcomes_are_told, seats_apart};
+use tree_session::{an_opened_core_rests, run_lines};
+
+/// How the run of a script ended.
+#[derive(Clone, Copy, PartialEq, Eq, Debug)]
+pub enum Ending {
+    /// No call of the disk failed, and no page was found damaged.
+    Well,
+    /// A call of the disk failed.
+    Faulted,
+    /// No call of the disk failed, and a lookup or a merge found a page damaged.
+    Damaged,
+}
+
+/// What a run leaves to be printed.
+#[derive(Drop)]
+pub struct Finished {
+    /// The charge at the opening, in bytes.
+    pub charge: u64,
+    pub annals: Annals,
+    pub totals: Totals,
+    pub ending: Ending,
+}
+
+/// Opens the store on a disk and does the commands of these lines on it, one after another. The disk comes back whatever happens.
+///
+/// The refusals are those of `open_store`; then no command was done. The lines are puts, adds, dels, gets and works, of callers who have room for them.
+pub fn run_over<D: Disk + Drop>(
+    alloc: Global,
+    disk: D,
+    lines: &[Line],
+    room: Room,
+) -> (D, Result<Finished, Unreadable>)
+    requires entries { sum room.entries ≤ most_entries }
+    requires rows { sum room.rows ≤ most_rows_asked }
+    requires runnable { AreRunnable lines.now }
+    requires room { HasRoomFor room lines.now }
+
+    // On every disk: what is printed, how faults are told, and that no call ends behind the file or the superblock.
+    ensures ran { IfOk result.1 (λ finished. (sizes : Sizes) × IsRunOf sizes lines.now (run_of finished)) }
+    ensures counted { IfOk result.1 (λ finished. AreCounted (run_of finished) (D.state disk) (D.state result.0)) }
+    ensures ending { IfOk result.1 (λ finished. IsEnding finished.ending (run_of finished) (D.state result.0).faults) }
+    ensures reaches { (end : ℕ) × (calls : ℕ) × (IsTrue (D.state disk).tells_bytes → end ≤ max superblock_length (length (D.state disk).bytes))
+        × Reaches end calls (D.state disk) (D.state result.0) }
+    ensures faults { IsErr result.1 → TellsFaultsBy (Err Unreadable.Fault) result.1 (D.state disk) (D.state result.0) }
+    ensures one_fault { IsErr result.1 → (D.state result.0).faults ≤ (D.state disk).faults + 1 }
+
+    // On an honest disk: the headline, or why the store wasn't opened.
+    ensures headline { IsTrue (D.state disk).is_honest
+        → IfOk result.1 (λ finished. (sizes : Sizes) × IsRunOf sizes lines.now (run_of finished) × Headline D.state sizes (run_of finished) room (D.state disk) (D.state result.0)) }
+    ensures refused { IsTrue (D.state disk).is_honest → IfErr result.1 (λ why. IsWhy why (D.state disk).bytes) }
+
+    // Where it wasn't opened, each image of each moment is one from before or reads as the map that the file read as; where it read as none, one
+    // from before.
+    ensures keeps { (sizes : Sizes) (pairs : List (Key × Value)) → IsTrue (D.state disk).is_honest → ReadsAsMap sizes pairs (D.state disk).bytes
+        → IfErr result.1 (λ why. KeepsMapOf sizes pairs (D.state disk) (D.state result.0)) }
+    ensures untouched { IsTrue (D.state disk).is_honest → ReadsAsNone (D.state disk).bytes
+        → LeavesOnly (D.state disk) (D.state result.0) (D.state disk).images }
+{
+    an_opened_core_rests();
+    seats_apart();
+    outcomes_are_told();
+    a_paced_tree_is_bounded();
+    let mut core = match open_store(alloc, disk, room) {
+        Ok(core) => core,
+        Err(refused) => return (refused.disk, Err(refused.why)),
+    };
+    let charge = core.charge();
+    run_lines(&mut core, lines);
+    // Asked once more for what its type keeps to the end.
+    let _charge_now = core.charge();
+    let (disk, annals, totals) = core.end();
+    let faults = disk.faults();
+    let ended = ending(faults, &annals, &totals);
+    let finished = Finished {
+        charge,
+        annals,
+        totals,
+        ending: ended,
+    };
+    (disk, Ok(finished))
+}
