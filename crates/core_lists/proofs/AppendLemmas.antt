@@ -4,6 +4,7 @@ use Rattle.std.specs.Prelude.{nat_lt, ◌^◌}
 use Rattle.std.specs.List.{AllByRecursion}
 use Rattle.std.proofs.lemmas.Bool.{ltb-true}
 use Rattle.std.proofs.lemmas.List.{flat_map_more}
+use Rattle.std.proofs.lemmas.List.Sums.{sum_by_push}
 use Rattle.blsm_model.specs.Sizes.{Sizes}
 use Rattle.blsm_model.specs.Format.{least_weight, most_weight}
 use Rattle.blsm_model.specs.Geometry.{charge_limit}
@@ -24,10 +25,12 @@ use Rattle.record_delta.specs.Records.{record_of}
 use Rattle.record_delta.specs.Entries.{with_record}
 use Rattle.gear_sched.specs.Gears.{first_debt, second_debt}
 use Rattle.pacing.specs.Pace.{Pace, charge as pace_charge}
-use Rattle.pacing.specs.Steps.{Admit, MayAdmit, after as pacing_after}
+use Rattle.pacing.specs.Kept.{IsPaced}
+use Rattle.pacing.specs.Steps.{Admit, Lands, MayAdmit, after as pacing_after, ready_for as pace_ready_for}
 use Rattle.pacing.specs.Fronts.{Fronts, AreFronts, fronts_ready, fronts_written}
+use Rattle.pacing.proofs.Admissions.{ready_kept}
 use Rattle.pacing.proofs.Fronts.{step_fronts}
-use Rattle.tree_machine.specs.Lists.{Lists}
+use Rattle.tree_machine.specs.Lists.{Lists, memory_weight}
 use Rattle.tree_machine.specs.Layers.{Carries}
 use Rattle.tree_machine.specs.Machine.{Machine, charge, is_caller}
 use Rattle.tree_machine.specs.Moves.{goes_to_a, with_write, take_write, with_peak, note}
@@ -38,19 +41,23 @@ use Rattle.tree_machine.specs.declared.step.Step.{Step}
 use Rattle.tree_machine.proofs.FoldLemmas.{both_hold}
 use Rattle.tree_machine.proofs.CarryLemmas.{ready_carries}
 use Rattle.paced_tree.specs.Kept.{IsPacedTree}
+use Rattle.paced_tree.specs.Numbers.{IsPaceOf}
 use Rattle.paced_tree.specs.After.{weight_after, admitted, after_admission, unless_stopped, pace_after}
 use Rattle.paced_tree.proofs.Admissions.{Goes}
 use Rattle.paced_tree.proofs.Counted.{lands_at, writes_once}
+use Rattle.paced_tree.proofs.Moves.{ready_of}
 use Rattle.paced_tree.proofs.Steps.{caller_below, even_owes}
 use Rattle.paced_tree.proofs.Promises.{has_way, step_is_paced}
-use Rattle.tree_file.specs.Tree.{Tree, HoldsTree, ReadsAsMap}
+use Rattle.tree_file.specs.Tree.{Tree, HoldsTree, ReadsAsMap, components_weight}
 use Rattle.tree_log.specs.Log.{appended}
 use Rattle.core_moves.specs.declared.held.Held.{Held}
-use Rattle.core_lists.specs.Shown.{HasFronts, ShowsHistory}
-use Rattle.core_lists.specs.Images.{MayAppend, with_appended, history_with, AppendShows, UnsureShows}
+use Rattle.core_moves.specs.Held.{goes_ahead}
+use Rattle.core_lists.specs.Shown.{HasFronts, ShowsHistory, WeighsWithin, doubted, lanes_weight, most_worked, weight_in_doubt}
+use Rattle.core_lists.specs.Images.{MayAppend, ShowsNoted, with_appended, history_with, AppendShows, UnsureShows}
 use Rattle.core_lists.specs.Going.{GoesOn, AdmissionGoesOn}
 use Rattle.core_lists.proofs.ShownLemmas.{fronts_grow}
 use Rattle.core_lists.proofs.ShowingLemmas.{ReadsHistory, standing_reads, swapped_reads, begun_lists, shows_by, sure_writes, running_writes}
+use Rattle.core_lists.proofs.FileWeights.{paced_components, ready_counts, ready_weighs, same_work}
 use Rattle.core_lists.proofs.WriteLands.{same_way, write_has_lists}
 
 -- a test that fails
@@ -199,15 +206,54 @@ module _ (opening : List (Key × Value)) (m : Machine) (pace : Pace) (fronts : F
       shows_by false m.gears.sizes opening (history_with seat op Done m) (written opening (history_with seat op Done m)) (length m.book.entries + 1) file (enough done)
       (ap (λ (ws : List Write). puts_of opening ++ ws) (sym (sure_writes (history_with seat op Done m)))) (wrote_reads file holds)
 
-  shows_in : (file : List ℕ) → HoldsTree m.gears.sizes (with_appended write begun tree) file → ShowsHistory m.gears.sizes opening (history_with seat op FaultUnsure m) (length m.book.entries + 1) file
-  shows_in file holds =
-      shows_by true m.gears.sizes opening (history_with seat op FaultUnsure m) (written opening (history_with seat op Done m)) (length m.book.entries + 1) file (enough unsure)
-      (counts_in ∙ sym (counts_in_doubt true)) (wrote_reads file holds)
+  -- ---- what it weighs
 
-  shows_out : (file : List ℕ) → HoldsTree m.gears.sizes tree file → ShowsHistory m.gears.sizes opening (history_with seat op FaultUnsure m) (length m.book.entries + 1) file
-  shows_out file holds =
-      shows_by false m.gears.sizes opening (history_with seat op FaultUnsure m) (written opening m.book.entries) (length m.book.entries + 1) file (enough unsure)
-      (sym (append-nil before) ∙ sym (counts_in_doubt false)) (ready_reads file holds)
+  pace_of : IsPaceOf ready (pace_ready_for pace w)
+  pace_of = ready_of m pace w is.paced.stands.sound is.paced.of_tree
+
+  kept : IsPaced (pace_ready_for pace w)
+  kept = ready_kept pace w is.paced.paced
+
+  -- the components don't change
+  same_components : (b : Bool) → components_weight (appended b (key_of write, record_of write) tree) ≡ components_weight tree
+  same_components true = refl
+  same_components false = refl
+
+  -- and the tables weigh no more than before and the write
+  tables_grow : (b : Bool) → Lands (pace_ready_for pace w) w b (weight_after b (cond b at_a at_b)) → memory_weight (cond b at_a at_b) ≤ m.counts.peak + w
+  tables_grow true lands =
+      omega (arith, lands.0, kept.within.within_peak, (ready_counts w m).peak, ap (λ (p : Pace). p.b) pace_of.numbers, ap (λ (p : Pace). p.peak) pace_of.numbers)
+  tables_grow false lands =
+      omega (arith, lands.2, kept.within.within_peak, (ready_counts w m).peak, ap (λ (p : Pace). p.a) pace_of.numbers, ap (λ (p : Pace). p.peak) pace_of.numbers)
+
+  lanes_grow : lanes_weight (with_appended write begun tree) ≤ m.counts.peak + w
+  lanes_grow = omega (arith, tables_grow ahead may_admit.lands, ap memory_weight (write_has_lists seat write begun tree ready is.holds))
+
+  in_doubt : doubted (history_with seat op FaultUnsure m) ≡ doubted m.book.entries + w
+  in_doubt = sum_by_push weight_in_doubt m.book.entries unsure
+
+  weighs_in : (file : List ℕ) → HoldsTree m.gears.sizes (with_appended write begun tree) file → WeighsWithin m (history_with seat op FaultUnsure m) file
+  weighs_in file holds = record {
+    tree = with_appended write begun tree;
+    holds = holds;
+    components = subst (λ (n : ℕ). n ≤ most_worked m) (sym (same_components (goes_ahead (key_of write) begun)))
+        (subst (λ (n : ℕ). components_weight tree ≤ n) (same_work m ready carries.sizes (ready_counts w m)) (paced_components ready (pace_ready_for pace w) tree pace_of kept is.holds.lists));
+    lanes = omega (arith, lanes_grow, in_doubt);
+  }
+
+  shows_in : (file : List ℕ) → HoldsTree m.gears.sizes (with_appended write begun tree) file → ShowsNoted opening seat op FaultUnsure m file
+  shows_in file holds = (
+    shows_by true m.gears.sizes opening (history_with seat op FaultUnsure m) (written opening (history_with seat op Done m)) (length m.book.entries + 1) file (enough unsure)
+        (counts_in ∙ sym (counts_in_doubt true)) (wrote_reads file holds),
+    weighs_in file holds,
+  )
+
+  shows_out : (file : List ℕ) → HoldsTree m.gears.sizes tree file → ShowsNoted opening seat op FaultUnsure m file
+  shows_out file holds = (
+    shows_by false m.gears.sizes opening (history_with seat op FaultUnsure m) (written opening m.book.entries) (length m.book.entries + 1) file (enough unsure)
+        (sym (append-nil before) ∙ sym (counts_in_doubt false)) (ready_reads file holds),
+    ready_weighs w opening m pace tree (history_with seat op FaultUnsure m) file is.paced is.holds.lists holds,
+  )
 
 pub append_goes_on : AdmissionGoesOn
 append_goes_on opening m pace fronts seat op write begun tree is = goes_on opening m pace fronts seat op write begun tree is

@@ -1,5 +1,5 @@
 -- What the images show of each swap and rotation.
-use Rattle.std.proofs.Common.{◌≡◌, ◌∙◌, ℕ, Bool, true, false, cond, ◌&&◌, List, [], Option, Some, None, ⊎_elim, refl, ap, sym, subst, arith}
+use Rattle.std.proofs.Common.{◌≡◌, ◌∙◌, ℕ, ◌+◌, ◌≤◌, Bool, true, false, cond, ◌&&◌, List, [], Option, Some, None, ⊎_elim, refl, ap, sym, subst, arith}
 use Rattle.std.specs.Prelude.{nat_le}
 use Rattle.std.proofs.lemmas.Bool.{false≢true}
 use Rattle.disk_trait.specs.Disk.{DiskState}
@@ -8,7 +8,7 @@ use Rattle.blsm_model.specs.Histories.{written}
 use Rattle.blsm_model.specs.Rows.{map_of}
 use Rattle.blsm_model.specs.declared.key.Key.{Key}
 use Rattle.blsm_model.specs.declared.row.Value.{Value}
-use Rattle.record_delta.specs.Entries.{Entries, entries_weight}
+use Rattle.record_delta.specs.Entries.{Entries, entries_weight, replayed}
 use Rattle.record_delta.specs.Replays.{ReplaysWithin}
 use Rattle.page_file.specs.Component.{RunPage, entries_of}
 use Rattle.snow_merge.specs.Pass.{SnowState}
@@ -26,7 +26,7 @@ use Rattle.tree_machine.proofs.CarryLemmas.{deep_swapped_carries, rotate_alone_c
 use Rattle.tree_machine.proofs.MapLemmas.{map_in_is}
 use Rattle.paced_tree.specs.Numbers.{with_numbers_of}
 use Rattle.paced_tree.proofs.Moves.{pass_test, settled_of}
-use Rattle.tree_file.specs.Tree.{Tree, FitsSizes, lists_of, components_weight}
+use Rattle.tree_file.specs.Tree.{Tree, FitsSizes, HoldsTree, lists_of, components_weight}
 use Rattle.tree_file.specs.Places.{HoldsEither}
 use Rattle.tree_runs.specs.Holding.{StandOver, IsPassSwapped}
 use Rattle.core_moves.specs.declared.held.Held.{Held}
@@ -34,13 +34,14 @@ use Rattle.core_moves.specs.Held.{IsPassDone, is_run_full}
 use Rattle.core_pace.specs.Pacing.{HasPace}
 use Rattle.core_lists.specs.Standing.{IsPassAt, IsDeepAt, StandsAt}
 use Rattle.core_lists.specs.Lists.{Agrees}
-use Rattle.core_lists.specs.Shown.{HasFronts, ShowsWhole}
+use Rattle.core_lists.specs.Shown.{HasFronts, ShowsWhole, WeighsWithin, lanes_weight, most_worked}
 use Rattle.core_lists.specs.Admissions.{DeepSettlesTree}
 use Rattle.core_lists.specs.Images.{StandsIn, SettledIn, DeepSwapImages, PassSwapImages, RotationImages, SettledFronts, ReadyFronts}
 use Rattle.core_lists.proofs.SwapLands.{deep_swap_has_lists, pass_swap_has_lists, rotation_has_lists}
 use Rattle.core_lists.proofs.TestLemmas.{tests_agree_with_lists}
 use Rattle.core_lists.proofs.ShownLemmas.{steps_show, shown_fits, fronts_stay, fronts_turn}
 use Rattle.core_lists.proofs.ShowingLemmas.{whole_of, standing_shows, settled_shows, swapped_shows}
+use Rattle.core_lists.proofs.FileWeights.{paced_components, paced_lanes}
 
 -- What stands on a disk stands in the file that it reads as. No clause can range over all states of a disk, so this is a lemma.
 pub standing_is_in : (opening : List (Key × Value)) (held : Held) (m : Machine) (pace : Pace) (fronts : Fronts) (tree : Tree) (d : DiskState) (numbers : Pace) → StandsAt opening held m pace fronts tree d → HasPace held numbers
@@ -165,7 +166,7 @@ no_deep (Some deep) (Some merge) comes none = absurd (subst (λ (o : Option Deep
 
 pub rotation_images : RotationImages
 rotation_images opening held m pace fronts tree next file image is rests unmerged rotated either =
-    ⊎_elim (standing_shows opening m pace fronts tree image is.paced is.within is.at.holds.lists is.lanes) (λ holds. whole_of opening m image (record { tree = next; holds = holds; fits = fits; map_is = map_is })) either
+    ⊎_elim (standing_shows opening m pace fronts tree image is.paced is.within is.at.holds.lists is.lanes) (λ holds. whole_of opening m image (record { tree = next; holds = holds; fits = fits; map_is = map_is }) (weighs_within holds)) either
   where
     pass_none : m.merges.pass ≡ None
     pass_none = no_pass m.merges.pass held.runs.pass is.at.holds.pass rests
@@ -201,4 +202,15 @@ rotation_images opening held m pace fronts tree next file image is rests unmerge
       replays = subst (λ (n : ℕ). ReplaysWithin m.gears.sizes n next.lane_a next.lane_b) (sym same_weight)
           (subst (λ (es : Entries). ReplaysWithin m.gears.sizes (components_weight tree) es next.lane_b) (sym rotated.lane_a)
           (subst (λ (es : Entries). ReplaysWithin m.gears.sizes (components_weight tree) tree.lane_a es) (sym rotated.lane_b) old_fits.replays));
+    }
+
+    lanes_weigh : lanes_weight next ≡ lanes_weight tree
+    lanes_weigh = ap (λ (es : Entries). entries_weight (replayed es) + entries_weight (replayed next.lane_b)) rotated.lane_a ∙ ap (λ (es : Entries). entries_weight (replayed tree.lane_a) + entries_weight (replayed es)) rotated.lane_b
+
+    weighs_within : HoldsTree m.gears.sizes next image → WeighsWithin m m.book.entries image
+    weighs_within holds = record {
+      tree = next;
+      holds = holds;
+      components = subst (λ (n : ℕ). n ≤ most_worked m) (sym same_weight) (paced_components m pace tree is.paced.of_tree is.paced.paced is.at.holds.lists);
+      lanes = omega (arith, lanes_weigh, paced_lanes m pace tree is.paced.of_tree is.paced.paced is.at.holds.lists);
     }

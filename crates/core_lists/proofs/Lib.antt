@@ -6,6 +6,7 @@ pub mod TestLemmas
 pub mod LookupLemmas
 pub mod ShownLemmas
 pub mod AdmissionLands
+pub mod FileWeights
 pub mod ShowingLemmas
 pub mod ImageLemmas
 pub mod AppendLemmas

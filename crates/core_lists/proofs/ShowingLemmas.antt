@@ -29,8 +29,9 @@ use Rattle.tree_machine.proofs.CarryLemmas.{deep_swapped_carries, ready_carries}
 use Rattle.paced_tree.specs.Kept.{IsPacedTree}
 use Rattle.paced_tree.proofs.Promises.{has_way}
 use Rattle.tree_file.specs.Tree.{Tree, HoldsTree, ReadsAsMap, lists_of}
-use Rattle.core_lists.specs.Shown.{ShowsHistory, ShowsWhole, HasFronts, StandingShows, SettledShows, SwappedShows, ShowingIsKept, QuietEntryCountsNone, QuietEntryShows}
+use Rattle.core_lists.specs.Shown.{ShowsHistory, ShowsWhole, WeighsWithin, HasFronts, StandingShows, SettledShows, SwappedShows, ShowingIsKept, QuietEntryCountsNone, QuietEntryShows}
 use Rattle.core_lists.proofs.ShownLemmas.{steps_show, deep_swap_shows, ready_shows, images_show}
+use Rattle.core_lists.proofs.FileWeights.{paced_weighs, settled_weighs, ready_weighs}
 
 -- ---- what counts
 
@@ -89,9 +90,11 @@ shows_by unsure sizes opening history writes n file few same reads = (
 abbrev pub ReadsHistory : List (Key × Value) → Machine → List ℕ → Type 0
 ReadsHistory opening m file = ReadsAsMap m.gears.sizes (map_of (written opening m.book.entries)) file
 
-pub whole_of : (opening : List (Key × Value)) (m : Machine) (file : List ℕ) → ReadsHistory opening m file → ShowsWhole opening m file
-whole_of opening m file reads =
-    shows_by false m.gears.sizes opening m.book.entries (written opening m.book.entries) (length m.book.entries) file (omega arith) (ap (λ ws. puts_of opening ++ ws) (sym (sure_writes m.book.entries))) reads
+pub whole_of : (opening : List (Key × Value)) (m : Machine) (file : List ℕ) → ReadsHistory opening m file → WeighsWithin m m.book.entries file → ShowsWhole opening m file
+whole_of opening m file reads weighs = (
+  shows_by false m.gears.sizes opening m.book.entries (written opening m.book.entries) (length m.book.entries) file (omega arith) (ap (λ ws. puts_of opening ++ ws) (sym (sure_writes m.book.entries))) reads,
+  weighs,
+)
 
 pub standing_reads : (opening : List (Key × Value)) (m : Machine) (pace : Pace) (fronts : Fronts) (tree : Tree) (file : List ℕ) → IsPacedTree opening m pace → AreFronts pace fronts → m.lists ≡ lists_of tree
     → HasFronts tree m.lists fronts → HoldsTree m.gears.sizes tree file → ReadsHistory opening m file
@@ -123,7 +126,8 @@ swapped_reads opening m pace fronts next file paced within lists lanes holds =
     (subst (λ (s : Sizes). HoldsTree s next file) (sym carries.sizes) holds))
 
 pub standing_shows : StandingShows
-standing_shows opening m pace fronts tree file paced within lists lanes holds = whole_of opening m file (standing_reads opening m pace fronts tree file paced within lists lanes holds)
+standing_shows opening m pace fronts tree file paced within lists lanes holds =
+    whole_of opening m file (standing_reads opening m pace fronts tree file paced within lists lanes holds) (paced_weighs m pace tree m.book.entries file paced.of_tree paced.paced lists holds)
 
 pub settled_shows : SettledShows
 settled_shows opening m pace fronts next file paced within lists lanes holds =
@@ -131,9 +135,11 @@ settled_shows opening m pace fronts next file paced within lists lanes holds =
     whole_of opening m file (reads_as opening m (deep_swapped m) file carries.sizes carries.book
     (images_show opening (deep_swapped m) (deep_settled pace) fronts next file (deep_swap_shows opening m pace fronts next paced within lists lanes)
     (subst (λ (s : Sizes). HoldsTree s next file) (sym carries.sizes) holds)))
+    (settled_weighs opening m pace next m.book.entries file paced lists holds)
 
 pub swapped_shows : SwappedShows
-swapped_shows opening m pace fronts next file paced within lists lanes holds = whole_of opening m file (swapped_reads opening m pace fronts next file paced within lists lanes holds)
+swapped_shows opening m pace fronts next file paced within lists lanes holds =
+    whole_of opening m file (swapped_reads opening m pace fronts next file paced within lists lanes holds) (ready_weighs 0 opening m pace next m.book.entries file paced (begun_lists 0 m ∙ lists) holds)
 
 -- ---- as the history grows
 

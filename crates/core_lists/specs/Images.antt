@@ -30,7 +30,7 @@ use Rattle.core_moves.specs.declared.held.Held.{Held}
 use Rattle.core_moves.specs.Held.{IsPassDone, IsDeepDone, is_run_full, goes_ahead}
 use Rattle.core_pace.specs.Pacing.{HasPace}
 use Rattle.core_lists.specs.Standing.{HoldsMachine, IsAt}
-use Rattle.core_lists.specs.Shown.{HasFronts, ShowsHistory, ShowsWhole}
+use Rattle.core_lists.specs.Shown.{HasFronts, ShowsHistory, ShowsWhole, WeighsWithin}
 use Rattle.core_lists.specs.Admissions.{DeepSettlesTree, PassSettlesTree}
 
 -- ---- the lists of a swap's tree, also where the swap fails and an image may hold it
@@ -122,6 +122,11 @@ with_appended write begun tree = appended (goes_ahead (key_of write) begun) (key
 abbrev pub history_with : ℕ → Op → Reply → Machine → List Entry
 history_with seat op reply m = m.book.entries ++ record { seat = seat; op = op; reply = reply } ∷ []
 
+-- all of the history with the write's entry, and no work that the machine doesn't count
+abbrev pub ShowsNoted : List (Key × Value) → ℕ → Op → Reply → Machine → List ℕ → Type 0
+ShowsNoted opening seat op reply m file =
+    ShowsHistory m.gears.sizes opening (history_with seat op reply m) (length m.book.entries + 1) file × WeighsWithin m (history_with seat op reply m) file
+
 -- A file that has the write shows the history with it as done.
 abbrev pub AppendShows : Type 0
 AppendShows =
@@ -132,4 +137,4 @@ AppendShows =
 abbrev pub UnsureShows : Type 0
 UnsureShows =
     (opening : List (Key × Value)) (m : Machine) (pace : Pace) (fronts : Fronts) (seat : ℕ) (op : Op) (write : Write) (begun : Held) (tree : Tree) (file : List ℕ) → MayAppend opening m pace fronts seat op write begun tree
-    → HoldsEither m.gears.sizes tree (with_appended write begun tree) file → ShowsHistory m.gears.sizes opening (history_with seat op FaultUnsure m) (length m.book.entries + 1) file
+    → HoldsEither m.gears.sizes tree (with_appended write begun tree) file → ShowsNoted opening seat op FaultUnsure m file

@@ -1,5 +1,5 @@
--- What a crash shows: each image that holds the tree reads as the map of the history.
-use Rattle.std.specs.Prelude.{◌≡◌, ◌⊎◌, ℕ, ◌+◌, ◌≤◌, Bool, true, false, [], ◌∷◌, ◌++◌, List, length}
+-- What a crash shows: each image that holds the tree reads as the map of the history, and weighs no more than was worked and written.
+use Rattle.std.specs.Prelude.{◌≡◌, ◌⊎◌, ℕ, ◌+◌, ◌*◌, ◌≤◌, Bool, true, false, [], ◌∷◌, ◌++◌, List, length, sum, sum_by, if◌then◌else◌}
 use mathlib.Core.List.{IsPrefix}
 use Rattle.blsm_model.specs.declared.key.Key.{Key}
 use Rattle.blsm_model.specs.declared.row.Value.{Value}
@@ -7,12 +7,13 @@ use Rattle.blsm_model.specs.declared.history.Entry.{Entry}
 use Rattle.blsm_model.specs.Sizes.{Sizes}
 use Rattle.blsm_model.specs.Histories.{written, is_done, writes_of}
 use Rattle.blsm_model.specs.Images.{Shows, counted_with, is_unsure}
+use Rattle.blsm_model.specs.Legal.{total_weight}
 use Rattle.blsm_model.specs.Rows.{map_of}
 use Rattle.blsm_model.specs.Values.{value_at}
 use Rattle.record_delta.specs.declared.record.Rec.{Rec}
-use Rattle.record_delta.specs.Entries.{entries_weight, with_record}
+use Rattle.record_delta.specs.Entries.{entries_weight, replayed, with_record}
 use Rattle.pacing.specs.Pace.{Pace}
-use Rattle.pacing.specs.Kept.{IsPaced}
+use Rattle.pacing.specs.Kept.{IsPaced, most_taken}
 use Rattle.pacing.specs.Steps.{deep_settled, ready_for as pace_ready_for}
 use Rattle.pacing.specs.Fronts.{Fronts, AreFronts, fronts_ready, fronts_turned, fronts_written}
 use Rattle.tree_machine.specs.Lists.{Lists, value_in}
@@ -22,7 +23,7 @@ use Rattle.tree_machine.specs.Steps.{deep_swapped, swapped, ready_for}
 use Rattle.paced_tree.specs.Kept.{IsPacedTree}
 use Rattle.paced_tree.specs.Lanes.{IsLane}
 use Rattle.paced_tree.specs.Numbers.{with_numbers_of}
-use Rattle.tree_file.specs.Tree.{Tree, HoldsTree, FitsSizes, ReadsAsMap, lists_of}
+use Rattle.tree_file.specs.Tree.{Tree, HoldsTree, FitsSizes, ReadsAsMap, components_weight, lists_of}
 use Rattle.tree_log.specs.Log.{appended}
 
 -- The lanes replay to the tables, and no front of a lane weighs more than these.
@@ -69,15 +70,49 @@ ImagesShow =
     (opening : List (Key × Value)) (m : Machine) (pace : Pace) (fronts : Fronts) (tree : Tree) (file : List ℕ) → IsShown opening m pace fronts tree
     → HoldsTree m.gears.sizes tree file → ReadsAsMap m.gears.sizes (map_of (written opening m.book.entries)) file
 
+-- ---- what a file weighs
+
+-- the weight of an entry's writes where its reply is unsure, so that a file may have them or not
+abbrev pub weight_in_doubt : Entry → ℕ
+weight_in_doubt entry = if is_unsure entry.reply then total_weight (writes_of entry.op) else 0
+
+abbrev pub doubted : List Entry → ℕ
+doubted history = sum_by weight_in_doubt history
+
+-- what the tables weigh to which the lanes replay
+abbrev pub lanes_weight : Tree → ℕ
+lanes_weight tree = entries_weight (replayed tree.lane_a) + entries_weight (replayed tree.lane_b)
+
+-- The file holds a tree whose components and lanes weigh no more than these.
+pub record HoldsWithin (sizes : Sizes) (most_components most_lanes : ℕ) (file : List ℕ) : Type 0 where
+  pub tree : Tree
+  pub holds : HoldsTree sizes tree file
+  pub components : components_weight tree ≤ most_components
+  pub lanes : lanes_weight tree ≤ most_lanes
+
+-- the charge at the opening, and what all quanta can have taken
+abbrev pub most_worked : Machine → ℕ
+most_worked m = m.counts.charge + most_taken m.gears.sizes * sum m.seats.quanta
+
+-- The components weigh no more than was worked, so that no merge work is done in secret; the lanes no more than the peak and the writes in doubt.
+abbrev pub WeighsWithin : Machine → List Entry → List ℕ → Type 0
+WeighsWithin m history file = HoldsWithin m.gears.sizes (most_worked m) (m.counts.peak + doubted history) file
+
+-- The later machine counts the same charge, peak and quanta, so that a file may weigh as much for it.
+pub record CountsAs (m later : Machine) : Type 0 where
+  pub charge : later.counts.charge ≡ m.counts.charge
+  pub peak : later.counts.peak ≡ m.counts.peak
+  pub quanta : later.seats.quanta ≡ m.seats.quanta
+
 -- ---- in the words of what an image may show
 
 -- The file reads as the map after a front of the history that has n entries at least, where a write in doubt counts or not.
 abbrev pub ShowsHistory : Sizes → List (Key × Value) → List Entry → ℕ → List ℕ → Type 0
 ShowsHistory sizes opening history n file = (pairs : List (Key × Value)) × Shows pairs opening history n × ReadsAsMap sizes pairs file
 
--- all of the machine's history
+-- all of the machine's history, and no work that the machine doesn't count
 abbrev pub ShowsWhole : List (Key × Value) → Machine → List ℕ → Type 0
-ShowsWhole opening m file = ShowsHistory m.gears.sizes opening m.book.entries (length m.book.entries) file
+ShowsWhole opening m file = ShowsHistory m.gears.sizes opening m.book.entries (length m.book.entries) file × WeighsWithin m m.book.entries file
 
 -- Each file shows it that holds the machine's tree;
 abbrev pub StandingShows : Type 0

@@ -26,6 +26,7 @@ use Rattle.tree_machine.specs.Machine.{opened}
 use Rattle.tree_reading.specs.Damage.{most_version}
 use Rattle.tree_runs.specs.Holding.{StandOver}
 use Rattle.tree_runs.specs.Runs.{RunsState}
+use Rattle.tree_settling.specs.Settling.{components_of}
 use Rattle.recover_open.specs.Opening.{HasOpenedOn, IsReady, KeepsMapOf, OpensAs, no_entries}
 
 ready_settled : (runs : RunsState) (log : LogState) (room : Room) (d : DiskState) (sizes : Sizes) (version : ℕ) → version ≤ most_version → IsReady sizes version runs log d → sum room.entries ≤ most_entries
@@ -67,9 +68,10 @@ AssemblesOver runs log annals held d last = (tree : Tree) → IsTrue d.is_honest
     (pace_opened runs.sizes runs.catalogue.c1.weight runs.catalogue.c2.weight) last
 
 pub opens_as : (room : Room) (runs : RunsState) (log : LogState) (annals : Book) (held : Held) (file : List ℕ) (d : DiskState) → IsTrue d.is_honest → HasOpenedOn runs log file d → annals ≡ no_entries room → held.runs ≡ runs
-    → AssemblesOver runs log annals held d d → OpensAs room held file d
-opens_as room runs log annals held file d honest on is same assembles =
+    → charge_in held ≡ held.runs.catalogue.c1.weight + held.runs.catalogue.c2.weight → AssemblesOver runs log annals held d d → OpensAs room held file d
+opens_as room runs log annals held file d honest on is same charge assembles =
     let s = on.stands in
+    let pairs = map_of_tree on.image in
     let t = s.tree in
     let stands = assembles t honest s.over s.lane_a s.lane_b in
     let stands' = subst (λ (b : Book). StandsFor (map_of_tree t) held (opened runs.sizes (entries_of t.c1) (entries_of t.c2) (catalogue_of runs.catalogue) d.faults b.room)
@@ -77,13 +79,14 @@ opens_as room runs log annals held file d honest on is same assembles =
     let stands'' = subst (λ (l : List (Key × Value)). StandsFor l held (opened runs.sizes (entries_of t.c1) (entries_of t.c2) (catalogue_of runs.catalogue) d.faults room)
     (pace_opened runs.sizes runs.catalogue.c1.weight runs.catalogue.c2.weight) d) s.map_is stands' in
     record {
-      pairs = on.pairs;
-      reads = subst (λ (r : RunsState). ReadsAsMap r.sizes on.pairs file) (sym same) on.reads;
+      pairs = pairs;
+      reads = subst (λ (r : RunsState). ReadsAsMap r.sizes pairs file) (sym same) (record { tree = on.image; holds = on.holds; fits = on.fits; map_is = refl });
       image = on.image;
       holds = subst (λ (r : RunsState). HoldsTree r.sizes on.image file) (sym same) on.holds;
       taken = on.taken;
+      light = omega (arith, charge, s.light, ap (λ (r : RunsState). components_of r.catalogue) same);
       tree = t;
-      stands = subst (λ (r : RunsState). StandsFor on.pairs held (opened r.sizes (entries_of t.c1) (entries_of t.c2) (catalogue_of r.catalogue) d.faults room)
+      stands = subst (λ (r : RunsState). StandsFor pairs held (opened r.sizes (entries_of t.c1) (entries_of t.c2) (catalogue_of r.catalogue) d.faults room)
           (pace_opened r.sizes r.catalogue.c1.weight r.catalogue.c2.weight) d) (sym same) stands'';
     }
 

@@ -1,6 +1,6 @@
 -- What was begun with may be settled, and what that leads to.
-use Rattle.std.specs.Prelude.{◌≡◌, ℕ, Bool, IsTrue, List, [], length}
-use Rattle.std.proofs.Common.{◌∙◌, refl, sym, subst, arith}
+use Rattle.std.specs.Prelude.{◌≡◌, ℕ, ◌+◌, Bool, IsTrue, List, [], length}
+use Rattle.std.proofs.Common.{◌∙◌, refl, ap, sym, subst, arith}
 use Rattle.std.proofs.lemmas.List.{nil_from_length}
 use Rattle.blsm_model.specs.declared.key.Key.{Key}
 use Rattle.blsm_model.specs.declared.row.Value.{Value}
@@ -9,15 +9,15 @@ use Rattle.blsm_model.specs.Sizes.{Sizes}
 use Rattle.catalog_swap.specs.Slots.{AreSameSlots}
 use Rattle.disk_trait.specs.Disk.{DiskState, Only}
 use Rattle.gated_log.specs.Lane.{blocks}
-use Rattle.record_delta.specs.Entries.{Entries}
-use Rattle.tree_file.specs.Tree.{HoldsTree, map_of_tree}
-use Rattle.tree_log.specs.Log.{LogState}
+use Rattle.record_delta.specs.Entries.{Entries, entries_weight}
+use Rattle.tree_file.specs.Tree.{Tree, HoldsTree, map_of_tree}
+use Rattle.tree_log.specs.Log.{LogState, weight_of_tables}
 use Rattle.tree_log.proofs.LogLemmas.{lane_ends}
 use Rattle.tree_reading.specs.declared.found.Found.{Found}
 use Rattle.tree_reading.specs.Reading.{HoldsFound}
 use Rattle.tree_runs.specs.Runs.{RunsState, AreRunning}
-use Rattle.tree_settling.specs.Settling.{IsSettled, KeepsMap, MaySettle, ShowsMap}
-use Rattle.recover_open.specs.Opening.{BeginsIn, HasBegun, StandsEmpty}
+use Rattle.tree_settling.specs.Settling.{IsSettled, KeepsMap, MaySettle, SettlesOn, ShowsMap, components_of}
+use Rattle.recover_open.specs.Opening.{BeginsIn, HasBegun, StandsEmpty, weight_of_tree}
 
 pub may_settle : (runs : RunsState) (log : LogState) (d : DiskState) → HasBegun runs log → ((honest : Bool) (file : List ℕ) → AreRunning honest file runs)
     → (IsTrue d.tells_bytes → length d.bytes ≡ file_length runs.sizes) → MaySettle runs log d
@@ -68,11 +68,29 @@ keeps_found sizes runs pairs old new is keeps = subst (λ (s : Sizes). KeepsMap 
 none_at_start : (entries : Entries) → length (blocks entries) ≡ 0 → entries ≡ []
 none_at_start entries none = nil_from_length entries (omega (arith, none, lane_ends entries))
 
-pub stands_empty : (runs : RunsState) (log : LogState) (pairs : List (Key × Value)) (d : DiskState) → IsSettled runs log → ShowsMap runs log pairs d → StandsEmpty runs log pairs d
-stands_empty runs log pairs d settled shows = record {
-  tree = shows.tree;
-  over = shows.over;
-  lane_a = none_at_start shows.tree.lane_a (sym shows.log_of.end_a ∙ settled.end_a);
-  lane_b = none_at_start shows.tree.lane_b (sym shows.log_of.end_b ∙ settled.end_b);
-  map_is = shows.map_is;
-}
+-- what was begun with weighs what the tree in the file does
+begun_weighs : (runs : RunsState) (log : LogState) (image : Tree) (file : List ℕ) → BeginsIn runs log image file → components_of runs.catalogue + weight_of_tables log ≡ weight_of_tree image
+begun_weighs runs log image file begins =
+    let here = begins.are_of.holds in
+    omega (
+      arith,
+      ap components_of begins.are_of.catalogue,
+      here.c1.weight_is,
+      here.c1x.weight_is,
+      here.c2.weight_is,
+      ap entries_weight begins.log_of.a,
+      ap entries_weight begins.log_of.b,
+    )
+
+pub stands_empty : (runs runs' : RunsState) (log log' : LogState) (image : Tree) (old new : DiskState) → IsTrue old.is_honest → BeginsIn runs log image old.bytes
+    → ShowsMap runs log (map_of_tree image) old → SettlesOn runs runs' log log' old new → IsSettled runs' log' → StandsEmpty runs' log' image new
+stands_empty runs runs' log log' image old new honest begins showed on settled =
+    let shows = on.shows (map_of_tree image) honest showed in
+    record {
+      tree = shows.tree;
+      over = shows.over;
+      lane_a = none_at_start shows.tree.lane_a (sym shows.log_of.end_a ∙ settled.end_a);
+      lane_b = none_at_start shows.tree.lane_b (sym shows.log_of.end_b ∙ settled.end_b);
+      map_is = shows.map_is;
+      light = omega (arith, on.light, begun_weighs runs log image old.bytes begins);
+    }

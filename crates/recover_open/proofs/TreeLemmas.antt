@@ -10,7 +10,7 @@ use Rattle.disk_trait.specs.Disk.{DiskState, TellsFaultsBy}
 use Rattle.disk_trait.specs.Effects.{Affects, affects_more, affects_wider}
 use Rattle.disk_trait.specs.Moments.{IsTimed, LeavesOnly, LeavesOnlyOnceSynced, SyncsLater, leaves_only_run, leaves_only_weaken, once_synced_more, once_synced_weaken}
 use Rattle.refusal.specs.Count.{HasRisen}
-use Rattle.tree_file.specs.Tree.{Tree, HoldsTree, ReadsAsMap, map_of_tree}
+use Rattle.tree_file.specs.Tree.{Tree, FitsSizes, HoldsTree, ReadsAsMap, map_of_tree}
 use Rattle.tree_reading.specs.declared.found.Found.{Found}
 use Rattle.tree_reading.specs.declared.found.Unreadable.{Unreadable}
 use Rattle.tree_reading.specs.declared.found.Unreadable.TheVariants.{Fault}
@@ -39,19 +39,17 @@ pub ready_as : (result : Result Begun Unreadable) (d : DiskState) (sizes : Sizes
 ready_as (Ok begun) d sizes version few ready = (version, few, record { may = ready.may; settled = ready.settled; sizes_are = refl; commits = ready.commits })
 ready_as (Err why) d sizes version few ready = tt
 
-pub stands_as : (result : Result Begun Unreadable) (found : Found) (version : ℕ) (file : List ℕ) (d : DiskState) (pairs : List (Key × Value)) → HoldsFound found file → found.catalogue.version ≤ most_version
-    → ReadsAsMap found.geometry pairs file
-    → IfOk result (λ begun. IsReady found.geometry version begun.runs begun.log d) → IfOk result (λ begun. StandsEmpty begun.runs begun.log pairs d)
+pub stands_as : (result : Result Begun Unreadable) (found : Found) (version : ℕ) (file : List ℕ) (d : DiskState) → (holds : HoldsFound found file) → found.catalogue.version ≤ most_version
+    → IfOk result (λ begun. IsReady found.geometry version begun.runs begun.log d) → IfOk result (λ begun. StandsEmpty begun.runs begun.log holds.tree d)
     → IfOk result (λ begun. HasOpenedOn begun.runs begun.log file d)
-stands_as (Ok begun) found version file d pairs holds few reads ready stands = record {
-  pairs = pairs;
-  reads = subst (λ (s : Sizes). ReadsAsMap s pairs file) (sym ready.sizes_are) reads;
+stands_as (Ok begun) found version file d holds few ready stands = record {
   image = holds.tree;
   holds = subst (λ (s : Sizes). HoldsTree s holds.tree file) (sym ready.sizes_are) holds.holds;
+  fits = subst (λ (s : Sizes). FitsSizes s holds.tree) (sym ready.sizes_are) holds.fits;
   taken = omega (arith, few, ap (λ (c : Catalog). c.version) holds.catalogue);
   stands = stands;
 }
-stands_as (Err why) found version file d pairs holds few reads ready stands = tt
+stands_as (Err why) found version file d holds few ready stands = tt
 
 pub why_fault : (result : Result Begun Unreadable) (file : List ℕ) → IfErr result (λ why. why ≡ Fault) → IfErr result (λ why. IsWhy why file)
 why_fault (Ok begun) file is = tt

@@ -11,14 +11,16 @@ use Rattle.blsm_model.specs.declared.room.Room.{Room}
 use Rattle.blsm_model.specs.declared.key.Key.{Key}
 use Rattle.blsm_model.specs.declared.row.Value.{Value}
 use Rattle.store_file.specs.Layout.{superblock_length}
-use Rattle.tree_file.specs.Tree.{Tree, FitsSizes, HoldsTree, ReadsAsMap, map_of_tree}
+use Rattle.tree_file.specs.Tree.{Tree, FitsSizes, HoldsTree, ReadsAsMap, components_weight, map_of_tree}
 use Rattle.tree_log.specs.Log.{LogState, IsLogOf, weight_of_tables}
 use Rattle.tree_runs.specs.Runs.{RunsState}
 use Rattle.tree_runs.specs.Holding.{AreOf, StandOver}
 use Rattle.page_file.specs.Component.{entries_of}
 use Rattle.pacing.specs.Pace.{opened as pace_opened}
 use Rattle.tree_machine.specs.Machine.{opened}
+use Rattle.core_moves.specs.Held.{charge_in}
 use Rattle.core_moves.specs.declared.held.Held.{Held}
+use Rattle.core_lists.specs.Shown.{lanes_weight}
 use Rattle.core_lists.specs.Standing.{catalogue_of}
 use Rattle.tree_core.specs.Core.{CoreState}
 use Rattle.tree_core.specs.Standing.{StandsFor}
@@ -37,22 +39,27 @@ pub record KeepsMapOf (sizes : Sizes) (pairs : List (Key × Value)) (old new : D
 abbrev pub ReadsAsNone : List ℕ → Type 0
 ReadsAsNone file = (sizes : Sizes) (pairs : List (Key × Value)) → ReadsAsMap sizes pairs file → ⊥
 
--- The disk stands on a tree with empty lanes, of which these components and this log are, and which has this map.
-pub record StandsEmpty (runs : RunsState) (log : LogState) (pairs : List (Key × Value)) (d : DiskState) : Type 0 where
+-- how much a tree weighs: its components, and the tables that its lanes replay to
+abbrev pub weight_of_tree : Tree → ℕ
+weight_of_tree tree = components_weight tree + lanes_weight tree
+
+-- The disk stands on a tree with empty lanes, of which these components and this log are. It has the map of the tree that was read, and its components
+-- weigh no more than that tree.
+pub record StandsEmpty (runs : RunsState) (log : LogState) (image : Tree) (d : DiskState) : Type 0 where
   pub tree : Tree
   pub over : StandOver runs tree log.a.entries d
   pub lane_a : tree.lane_a ≡ []
   pub lane_b : tree.lane_b ≡ []
-  pub map_is : map_of_tree tree ≡ pairs
+  pub map_is : map_of_tree tree ≡ map_of_tree image
+  pub light : components_of runs.catalogue ≤ weight_of_tree image
 
--- and the file from before reads as that map, with a version that is taken
+-- and the file from before holds that tree, which fits, with a version that is taken
 pub record HasOpenedOn (runs : RunsState) (log : LogState) (file : List ℕ) (d : DiskState) : Type 0 where
-  pub pairs : List (Key × Value)
-  pub reads : ReadsAsMap runs.sizes pairs file
   pub image : Tree
   pub holds : HoldsTree runs.sizes image file
+  pub fits : FitsSizes runs.sizes image
   pub taken : image.catalogue.version ≤ most_version
-  pub stands : StandsEmpty runs log pairs d
+  pub stands : StandsEmpty runs log image d
 
 -- Components and a log that were begun with, on any disk: all that settling wants of them but what the disk says.
 pub record HasBegun (runs : RunsState) (log : LogState) : Type 0 where
@@ -111,6 +118,8 @@ pub record OpensAs (room : Room) (held : Held) (file : List ℕ) (d : DiskState)
   pub image : Tree
   pub holds : HoldsTree held.runs.sizes image file
   pub taken : image.catalogue.version ≤ most_version
+  -- settling adds no weight to what was read
+  pub light : charge_in held ≤ weight_of_tree image
   pub tree : Tree
   pub stands : StandsFor pairs held
       (opened held.runs.sizes (entries_of tree.c1) (entries_of tree.c2) (catalogue_of held.runs.catalogue) d.faults room)

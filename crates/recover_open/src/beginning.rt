@@ -60,7 +60,7 @@ pub(crate) fn settle_found<D: Disk>(
     ensures keeps { IsTrue (D.state disk.old).is_honest → Only (D.state disk.old).bytes (D.state disk.old).images → (holds : HoldsFound found (D.state disk.old).bytes)
         → KeepsMap found.geometry (map_of_tree holds.tree) (D.state disk.old) (D.state disk.new) }
     ensures stands { IsTrue (D.state disk.old).is_honest → Only (D.state disk.old).bytes (D.state disk.old).images → (holds : HoldsFound found (D.state disk.old).bytes)
-        → IfOk result (λ begun. StandsEmpty begun.runs begun.log (map_of_tree holds.tree) (D.state disk.new)) }
+        → IfOk result (λ begun. StandsEmpty begun.runs begun.log holds.tree (D.state disk.new)) }
     ensures why { IsTrue (D.state disk.old).is_honest → Only (D.state disk.old).bytes (D.state disk.old).images → HoldsFound found (D.state disk.old).bytes
         → IfErr result (λ why. why ≡ Unreadable.Fault) }
     ensures effect { (calls : ℕ) × Affects anywhere (file_length found.geometry) calls (D.state disk.old) (D.state disk.new) }

@@ -1,6 +1,6 @@
 -- What a crash leaves while a script is run: a front of its history, which has the entries that had their calls of the disk.
 use Rattle.std.specs.Prelude.{slice_index, slice_set}
-use Rattle.std.proofs.Common.{◌≡◌, ◌∙◌, ℕ, zero, suc, ◌+◌, ◌-◌, ◌≤◌, List, [], ◌∷◌, ◌++◌, Option, None, Some, IsSome, IsTrue, ◌⊎◌, inl, inr, ⊎_elim, take, length, refl, ap, sym, subst, arith, append_assoc, append-nil, length-append}
+use Rattle.std.proofs.Common.{◌≡◌, ◌∙◌, ℕ, zero, suc, ◌+◌, ◌-◌, ◌≤◌, List, [], ◌∷◌, ◌++◌, Option, None, Some, IsSome, IsTrue, inl, inr, ⊎_elim, take, length, refl, ap, sym, subst, arith, append_assoc, append-nil, length-append}
 use Rattle.std.proofs.lemmas.List.{get_or-append_right, set-append_right}
 use mathlib.Core.List.{IsPrefix}
 use Rattle.blsm_model.specs.Book.{Book}
@@ -46,24 +46,30 @@ record ShowsAll (sizes : Sizes) (opening : List (Key × Value)) (history : List 
   reads : ShowsHistory sizes opening history (length history) d.bytes
   each : (c : List ℕ) → d.images c → ShowsHistory sizes opening history (length history) c
 
--- a core that stands for a state of the machine shows the whole of what it noted, while it runs and once it is stopped
-shows_all : (sizes : Sizes) (opening : List (Key × Value)) (held : Held) (m : Machine) (pace : Pace) (d : DiskState) → held.runs.sizes ≡ sizes → StandsFor opening held m pace d
-    → ShowsAll sizes opening held.book.book.entries d
-shows_all sizes opening held m pace d same s = record { reads = noted d.bytes (shown held.book.stopped refl).reads; each = λ c left. noted c ((shown held.book.stopped refl).each c left) }
+-- while it runs and once it is stopped
+pub shown_now : (opening : List (Key × Value)) (held : Held) (m : Machine) (pace : Pace) (d : DiskState) → StandsFor opening held m pace d → HasStopped opening m d
+shown_now opening held m pace d s = by held.book.stopped refl
   where
-    shown : (stopped : Option Why) → held.book.stopped ≡ stopped → HasStopped opening m d
-    shown None is =
+    by : (stopped : Option Why) → held.book.stopped ≡ stopped → HasStopped opening m d
+    by None is =
         let over = s.runs is in
         record {
           reads = standing_shows opening m pace over.fronts over.tree d.bytes s.paced over.within over.holds.lists over.lanes (subst (λ (z : Sizes). HoldsTree z over.tree d.bytes) (sym s.sizes) over.over.stands.reads);
           each = λ c left. standing_shows opening m pace over.fronts over.tree c s.paced over.within over.holds.lists over.lanes (subst (λ (z : Sizes). HoldsTree z over.tree c) (sym s.sizes) (over.over.stands.each c left));
         }
-    shown (Some why) is = s.stopped (subst IsSome (sym is) refl)
+    by (Some why) is = s.stopped (subst IsSome (sym is) refl)
 
+-- a core that stands for a state of the machine shows the whole of what it noted
+shows_all : (sizes : Sizes) (opening : List (Key × Value)) (held : Held) (m : Machine) (pace : Pace) (d : DiskState) → held.runs.sizes ≡ sizes → StandsFor opening held m pace d
+    → ShowsAll sizes opening held.book.book.entries d
+shows_all sizes opening held m pace d same s =
+    let shown = shown_now opening held m pace d s in
+    record { reads = noted d.bytes shown.reads; each = λ c left. noted c (shown.each c left) }
+  where
     noted : (file : List ℕ) → ShowsWhole opening m file → ShowsHistory sizes opening held.book.book.entries (length held.book.book.entries) file
     noted file shows =
         subst (λ (z : Sizes). ShowsHistory z opening held.book.book.entries (length held.book.book.entries) file) (s.sizes ∙ same)
-        (subst (λ (es : List Entry). ShowsHistory m.gears.sizes opening es (length es) file) (ap (λ (b : BookState). b.book.entries) s.book) shows)
+        (subst (λ (es : List Entry). ShowsHistory m.gears.sizes opening es (length es) file) (ap (λ (b : BookState). b.book.entries) s.book) shows.0)
 
 -- ---- from a core on
 

@@ -18,24 +18,23 @@ use Rattle.blsm_model.specs.declared.op.Write.{Write}
 use Rattle.blsm_model.specs.declared.row.Value.{Value}
 use Rattle.core_moves.specs.declared.held.Held.{Held}
 use Rattle.core_moves.specs.Held.{charge_in}
+use Rattle.core_lists.specs.Shown.{WeighsWithin, doubted, lanes_weight, most_worked}
+use Rattle.core_lists.proofs.FileWeights.{running_is_sure}
 use Rattle.core_pace.specs.Opening.{IsOpened}
 use Rattle.disk_trait.specs.Disk.{DiskState, GoesOn}
 use Rattle.disk_trait.specs.Moments.{IsTimed}
-use Rattle.paced_tree.specs.Bounds.{IsBounded}
 use Rattle.paced_tree.specs.Kept.{paced_all}
-use Rattle.paced_tree.specs.Laws.{PacedIsBounded}
 use Rattle.pacing.specs.Kept.{most_taken}
 use Rattle.pacing.specs.Pace.{Pace}
 use Rattle.recover_open.specs.Opening.{KeepsMapOf, OpensAs}
-use Rattle.record_delta.specs.Entries.{Entries, entries_weight, replayed}
+use Rattle.record_delta.specs.Entries.{Entries, entries_weight}
 use Rattle.seat_book.specs.State.{BookState, book_of, totals_in}
 use Rattle.tree_core.specs.Core.{CoreState, IsCore}
 use Rattle.tree_core.specs.Standing.{StandsFor}
 use Rattle.tree_core.specs.Steps.{IsPlayed, StandsSince}
-use Rattle.tree_file.specs.Tree.{HoldsTree, Tree, components_weight, lists_of}
+use Rattle.tree_file.specs.Tree.{Tree, HoldsTree, components_weight, lists_of}
 use Rattle.tree_machine.specs.declared.step.Step.{Step}
 use Rattle.tree_machine.specs.Laws.{StepKeepsOpening}
-use Rattle.tree_machine.specs.Lists.{Lists, memory_weight}
 use Rattle.tree_machine.specs.Machine.{Catalogue, Machine, WorkSoFar, charge, no_work, opened, totals}
 use Rattle.tree_machine.specs.Outcomes.{AreTold, FindsNone, NoneDamaged, is_bad_page, is_by_page, is_damaged}
 use Rattle.tree_machine.specs.Plays.{may_step, played, played_one, stepped}
@@ -44,7 +43,7 @@ use Rattle.tree_machine.proofs.PlayLemmas.{of_replicate}
 use Rattle.tree_session.specs.Session.{Runs}
 use Rattle.store_run.specs.Headline.{EndsWithin, Headline, IsReached, LeavesHistory}
 use Rattle.store_run.specs.Run.{IsRunOf, Run, finds_damage}
-use Rattle.store_run.proofs.CrashLemmas.{leaves_history}
+use Rattle.store_run.proofs.CrashLemmas.{leaves_history, shown_now}
 use Rattle.store_run.proofs.RunLemmas.{is_run_of, no_entries_yet, no_quanta_yet, run_at}
 
 -- ---- what steps keep
@@ -103,35 +102,25 @@ totals_of held m sizes is book =
     ∙ ap (λ (n : ℕ). totals_in (high_mark held.runs.sizes) n (book_of m)) is
     ∙ ap (λ (b : BookState). totals_in (high_mark held.runs.sizes) (charge_in held) b) book
 
--- by numbers alone
-components_within : (m : Machine) (tree : Tree) (sizes : Sizes) (most : ℕ) → IsBounded m → m.lists ≡ lists_of tree → m.gears.sizes ≡ sizes → m.counts.charge ≡ most
-    → components_weight tree ≤ most + most_taken sizes * (sum (take callers m.seats.quanta) + sum (drop callers m.seats.quanta))
-components_within m tree sizes most bounded lists same is =
-    let all : sum (take callers m.seats.quanta) + sum (drop callers m.seats.quanta) ≡ sum m.seats.quanta = sum_by-take-drop (λ n. n) m.seats.quanta callers in
-    let worked = bounded.worked in
-    let weighs : (entries_weight m.lists.c1 + entries_weight m.lists.c1x + entries_weight m.lists.c2) ≡ components_weight tree = ap (λ (l : Lists). entries_weight l.c1 + entries_weight l.c1x + entries_weight l.c2) lists in
-    let taken : most_taken m.gears.sizes * sum m.seats.quanta ≡ most_taken sizes * (sum (take callers m.seats.quanta) + sum (drop callers m.seats.quanta)) =
-    ap (λ (s : Sizes). most_taken s * sum m.seats.quanta) same ∙ ap (λ (n : ℕ). most_taken sizes * n) (sym all) in
-    numbers _ _ _ _ _ _ _ worked weighs taken is
-  where
-    numbers : (weight more weight_is charge most_is took took_is : ℕ) → weight + more ≤ charge + took → weight ≡ weight_is → took ≡ took_is → charge ≡ most_is → weight_is ≤ most_is + took_is
-    numbers weight more weight_is charge most_is took took_is le a b c = omega arith
-
-lanes_within : (m : Machine) (tree : Tree) → IsBounded m → m.lists ≡ lists_of tree → entries_weight (replayed tree.lane_a) + entries_weight (replayed tree.lane_b) ≤ m.counts.peak
-lanes_within m tree bounded lists = omega (arith, bounded.table, ap memory_weight lists)
-
-ended_of : PacedIsBounded → (opening : List (Key × Value)) (held : Held) (first m : Machine) (pace : Pace) (d : DiskState) (sizes : Sizes) (charge : ℕ) → held.runs.sizes ≡ sizes → first.counts.charge ≡ charge
-    → Ends opening held first m pace d → held.book.stopped ≡ None → EndsWithin sizes (run_at charge held) d.bytes
-ended_of law opening held first m pace d sizes charge same is ends runs =
-    let over = ends.stands.runs runs in
-    let bounded = law opening m pace ends.stands.paced in
+-- whether it runs or was stopped
+ended_of : (opening : List (Key × Value)) (held : Held) (first m : Machine) (pace : Pace) (d : DiskState) (sizes : Sizes) (charge : ℕ) → held.runs.sizes ≡ sizes → first.counts.charge ≡ charge
+    → Ends opening held first m pace d → EndsWithin sizes (run_at charge held) d.bytes
+ended_of opening held first m pace d sizes charge same is ends =
+    let weighs : WeighsWithin m m.book.entries d.bytes = (shown_now opening held m pace d ends.stands).reads.1 in
+    let one : m.gears.sizes ≡ sizes = ends.stands.sizes ∙ same in
+    let all : sum m.seats.quanta ≡ sum (take callers m.seats.quanta) + sum (drop callers m.seats.quanta) = sym (sum_by-take-drop (λ n. n) m.seats.quanta callers) in
+    let work : most_worked m ≡ charge + most_taken sizes * (sum (take callers m.seats.quanta) + sum (drop callers m.seats.quanta)) =
+    ap (λ (n : ℕ). n + most_taken m.gears.sizes * sum m.seats.quanta) (ends.kept.1 ∙ is)
+    ∙ ap (λ (s : Sizes). charge + most_taken s * sum m.seats.quanta) one
+    ∙ ap (λ (n : ℕ). charge + most_taken sizes * n) all in
     record {
-      tree = over.tree;
-      holds = subst (λ (s : Sizes). HoldsTree s over.tree d.bytes) same over.over.stands.reads;
-      components = subst (λ (b : BookState). components_weight over.tree ≤ charge + most_taken sizes * (sum (take callers b.seats.quanta) + sum (drop callers b.seats.quanta))) ends.stands.book
-          (components_within m over.tree sizes charge bounded over.holds.lists (ends.stands.sizes ∙ same) (ends.kept.1 ∙ is));
-      lanes = subst (λ (b : BookState). entries_weight (replayed over.tree.lane_a) + entries_weight (replayed over.tree.lane_b) ≤ b.counts.peak) ends.stands.book
-          (lanes_within m over.tree bounded over.holds.lists);
+      tree = weighs.tree;
+      holds = subst (λ (s : Sizes). HoldsTree s weighs.tree d.bytes) one weighs.holds;
+      components = subst (λ (b : BookState). components_weight weighs.tree ≤ charge + most_taken sizes * (sum (take callers b.seats.quanta) + sum (drop callers b.seats.quanta))) ends.stands.book
+          (subst (λ (n : ℕ). components_weight weighs.tree ≤ n) work weighs.components);
+      lanes = subst (λ (b : BookState). lanes_weight weighs.tree ≤ b.counts.peak + doubted b.book.entries) ends.stands.book weighs.lanes;
+      sure = λ runs. subst (λ (b : BookState). doubted b.book.entries ≡ 0) ends.stands.book
+          (running_is_sure m.book.entries (ends.stands.paced.stands.told.running (ap (λ (b : BookState). b.stopped) ends.stands.book ∙ runs)));
     }
 
 -- ---- from an opening on
@@ -160,15 +149,19 @@ pub record Session {D : Type 0} (state : D → DiskState) (room : Room) (lines :
   pub runs : Runs state lines old new
 
 reached_of : (sizes : Sizes) (opening : List (Key × Value)) (c1 c2 : Entries) (catalogue : Catalogue) (faults : ℕ) (room : Room) (pace : Pace) (steps : List Step) (old new : Held) (before after : DiskState)
-    → StandsFor opening old (opened sizes c1 c2 catalogue faults room) pace before → faults ≡ before.faults
+    → old.runs.sizes ≡ sizes → old.book.stopped ≡ None → StandsFor opening old (opened sizes c1 c2 catalogue faults room) pace before → faults ≡ before.faults
     → (play : IsPlayed opening steps new before after (opened sizes c1 c2 catalogue faults room) pace)
-    → IsReached sizes opening (run_at (charge_in old) new) room faults after.faults
-reached_of sizes opening c1 c2 catalogue faults room pace steps old new before after stands same play =
+    → IsReached sizes opening (run_at (charge_in old) new) room before.bytes faults after.faults
+reached_of sizes opening c1 c2 catalogue faults room pace steps old new before after of_sizes ran stands same play =
     let first = opened sizes c1 c2 catalogue faults room in
+    let over = stands.runs ran in
     record {
       c1 = c1;
       c2 = c2;
       catalogue = catalogue;
+      tree = over.tree;
+      holds = subst (λ (s : Sizes). HoldsTree s over.tree before.bytes) of_sizes over.over.stands.reads;
+      begins = over.holds.lists;
       values = λ key. stands.paced.stands.values key ∙ ap (λ (ws : List Write). value_at ws key) (append-nil (puts_of opening));
       weigh = opened_charge sizes c1 c2 catalogue faults room old stands.charge_is;
       made = play.made;
@@ -180,12 +173,20 @@ reached_of sizes opening c1 c2 catalogue faults room pace steps old new before a
       totals_are = totals_of new (played first play.made) play.stands.sizes play.stands.charge_is play.stands.book;
     }
 
-headline_from : StepKeepsOpening → NoneDamaged → PacedIsBounded → {D : Type 0} (state : D → DiskState) (room : Room) (lines : List Line) (first : DiskState) (old new : CoreState D)
-    (c1 c2 : Entries) (catalogue : Catalogue) (pace : Pace) → IsTrue first.is_honest → (session : Session state room lines first old new)
+-- what stands in the end, if the store runs
+stands_of : (opening : List (Key × Value)) (held : Held) (first m : Machine) (pace : Pace) (d : DiskState) (sizes : Sizes) → held.runs.sizes ≡ sizes → Ends opening held first m pace d → held.book.stopped ≡ None
+    → (tree : Tree) × HoldsTree sizes tree d.bytes × (m.lists ≡ lists_of tree)
+stands_of opening held first m pace d sizes same ends runs =
+    let over = ends.stands.runs runs in
+    (over.tree, subst (λ (s : Sizes). HoldsTree s over.tree d.bytes) same over.over.stands.reads, over.holds.lists)
+
+headline_from : StepKeepsOpening → NoneDamaged → {D : Type 0} (state : D → DiskState) (room : Room) (lines : List Line) (first : DiskState) (old new : CoreState D)
+    (c1 c2 : Entries) (catalogue : Catalogue) (pace : Pace) → IsTrue first.is_honest → (session : Session state room lines first old new) → old.held.book.stopped ≡ None
     → StandsFor session.opens.pairs old.held (opened old.held.runs.sizes c1 c2 catalogue (state old.disk).faults room) pace (state old.disk)
     → LeavesHistory old.held.runs.sizes session.opens.pairs (run_at (charge_in old.held) new.held) first (state old.disk) (state new.disk)
     → Headline state old.held.runs.sizes (run_at (charge_in old.held) new.held) room first (state new.disk)
-headline_from keeps damaged bounded {D} state room lines first old new c1 c2 catalogue pace honest session stands leaves =
+unfolding reached_of
+headline_from keeps damaged {D} state room lines first old new c1 c2 catalogue pace honest session ran stands leaves =
     let opens = session.opens in
     let sizes = old.held.runs.sizes in
     let before = state old.disk in
@@ -199,13 +200,15 @@ headline_from keeps damaged bounded {D} state room lines first old new c1 c2 cat
     record {
       opening = opens.pairs;
       found = record { reads = opens.reads; image = opens.image; holds = opens.holds; taken = opens.taken };
+      light = opens.light;
       replies = replies_of opens.pairs new.held machine _ _ after sizes (charge_in old.held) session.runs.proceeds.sizes weigh ends;
       no_page = no_page_of opens.pairs new.held machine _ _ after (charge_in old.held) ends;
       opened = old.disk;
       goes_on = since.goes_on;
       calm = session.calm;
-      reached = reached_of sizes opens.pairs c1 c2 catalogue before.faults room pace come.0 old.held new.held before after stands refl come.1;
-      ended = λ runs. ended_of bounded opens.pairs new.held machine _ _ after sizes (charge_in old.held) session.runs.proceeds.sizes weigh ends runs;
+      reached = reached_of sizes opens.pairs c1 c2 catalogue before.faults room pace come.0 old.held new.held before after refl ran stands refl come.1;
+      ended = ended_of opens.pairs new.held machine _ _ after sizes (charge_in old.held) session.runs.proceeds.sizes weigh ends;
+      stands = λ runs. stands_of opens.pairs new.held machine _ _ after sizes session.runs.proceeds.sizes ends runs;
       crashes = leaves;
     }
 
@@ -213,16 +216,16 @@ headline_from keeps damaged bounded {D} state room lines first old new c1 c2 cat
 abbrev pub RunAndHeadline : {D : Type 0} → (D → DiskState) → List Line → Room → Run → DiskState → DiskState → Type 0
 RunAndHeadline state lines room run first last = (sizes : Sizes) × IsRunOf sizes lines run × Headline state sizes run room first last
 
-pub whole_headline : StepKeepsOpening → NoneDamaged → PacedIsBounded → {D : Type 0} (state : D → DiskState) (timed : (d : D) → IsTimed (state d)) (annals : Book) (faults : ℕ) (room : Room) (lines : List Line) (first : DiskState)
+pub whole_headline : StepKeepsOpening → NoneDamaged → {D : Type 0} (state : D → DiskState) (timed : (d : D) → IsTimed (state d)) (annals : Book) (faults : ℕ) (room : Room) (lines : List Line) (first : DiskState)
     (old new : CoreState D) → IsTrue first.is_honest → IsTimed first → IsOpened annals faults old.held → IsCore new.held (state new.disk) → (session : Session state room lines first old new)
     → KeepsMapOf old.held.runs.sizes session.opens.pairs first (state old.disk) → (disk : D) → disk ≡ new.disk → (run : Run) → run ≡ run_at (charge_in old.held) new.held
     → RunAndHeadline state lines room run first (state disk)
-whole_headline keeps damaged bounded {D} state timed annals faults room lines first old new honest timed_first opened core session keeps_map disk same run is =
+whole_headline keeps damaged {D} state timed annals faults room lines first old new honest timed_first opened core session keeps_map disk same run is =
     let sizes = old.held.runs.sizes in
     let opens = session.opens in
     let leaves = leaves_history state timed sizes opens.pairs lines first old new _ _ honest timed_first refl (no_entries_yet annals faults old.held opened) (no_quanta_yet annals faults old.held opened) opens.stands keeps_map session.goes_on session.begins session.runs
     (run_at (charge_in old.held) new.held) refl refl in
-    let headline = headline_from keeps damaged bounded state room lines first old new _ _ _ _ honest session opens.stands leaves in
+    let headline = headline_from keeps damaged state room lines first old new _ _ _ _ honest session (ap (λ (b : BookState). b.stopped) opened.book) opens.stands leaves in
     let printed = is_run_of state lines annals faults (charge_in old.held) old new opened core session.begins session.runs in
     subst (λ (r : Run). RunAndHeadline state lines room r first (state disk)) (sym is)
     (subst (λ (d : D). RunAndHeadline state lines room (run_at (charge_in old.held) new.held) first (state d)) (sym same) (sizes, printed, headline))

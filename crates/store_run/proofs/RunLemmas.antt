@@ -1,5 +1,6 @@
 -- What a run leaves to be printed, on every disk.
-use Rattle.std.specs.Prelude.{◌≡◌, ℕ, zero, suc, ◌+◌, List, [], ◌∷◌, ◌++◌, drop, slice_index_or, sum, sum_by, take}
+use Rattle.std.specs.Prelude.{◌≡◌, ℕ, zero, suc, List, [], ◌∷◌, ◌++◌, drop, slice_index_or, sum, sum_by, take}
+use Rattle.std.specs.List.{AllByRecursion}
 use Rattle.std.proofs.Common.{◌∙◌, refl, ap, sym, subst, arith}
 use Rattle.std.proofs.lemmas.List.Sums.{sum_by-cons}
 use Rattle.blsm_model.specs.Book.{Book}
@@ -19,6 +20,7 @@ use Rattle.seat_book.specs.State.{BookState, totals_in}
 use Rattle.tree_core.specs.Core.{CoreState, IsCore}
 use Rattle.tree_core.specs.Steps.{StandsSince}
 use Rattle.tree_machine.specs.Machine.{WorkSoFar, no_work}
+use Rattle.tree_session.specs.Faults.{NamesStop}
 use Rattle.tree_session.specs.Lines.{Rests}
 use Rattle.tree_session.specs.Session.{Runs, TookFew}
 use Rattle.store_run.specs.Run.{IsRunOf, Run}
@@ -75,6 +77,7 @@ is_run_of state lines annals faults charge old new opened core begins runs =
       few = subst (λ (es : List Entry). TookFew old.held.runs.sizes es new.held.book.book.quanta) (sym entries) (subst (λ (ns : List ℕ). TookFew old.held.runs.sizes runs.added ns) (sym quanta) runs.few);
       callers = by_callers new.held (state new.disk) core runs.rests;
       workers = runs.alone ∙ ap (λ (b : BookState). sum (drop callers b.seats.quanta)) opened.book;
+      stops = subst (λ (es : List Entry). AllByRecursion (λ e. NamesStop e.reply new.held.book.stopped) es) (sym entries) runs.names;
       peak = (runs.proceeds.lasts old begins).peak;
       high = ap high_mark runs.proceeds.sizes;
     }

@@ -4,7 +4,7 @@
 --   each caller's commands once, in order                        `IsRunOf.of_script`
 --   the sequential map's replies                                 `Headline.replies`; a write is refused for size or for a fault alone
 --   the memory table never passes its bytes                      `IsRunOf.peak`, `EndsWithin.lanes`
---   each write does few merge quanta itself                      `IsRunOf.few`; and the quanta are real: `EndsWithin.components`
+--   each write does few merge quanta itself                      `IsRunOf.few`; and the quanta are real: `EndsWithin.components`, `Headline.stands`
 --   every crash image opens to a prefix of the history           `LeavesHistory.each`, `LeavesHistory.once_synced`
 --   which holds every write that was acknowledged by then        `LeavesHistory.paced`, and in the end the whole, `LeavesHistory.whole`
 use Rattle.std.specs.Prelude.{◌≡◌, ◌≤◌, ◌+◌, ◌*◌, ℕ, false, List, length, take, None}
@@ -18,7 +18,7 @@ use Rattle.blsm_model.specs.declared.room.Room.{Room}
 use Rattle.blsm_model.specs.declared.row.Value.{Value}
 use Rattle.disk_trait.specs.Disk.{DiskState, GoesOn}
 use Rattle.disk_trait.specs.Moments.{LeavesOnly, LeavesOnlyOnceSynced, IsOldOr}
-use Rattle.record_delta.specs.Entries.{Entries, entries_weight, replayed}
+use Rattle.record_delta.specs.Entries.{Entries, entries_weight}
 use Rattle.pacing.specs.Kept.{most_taken}
 use Rattle.tree_machine.specs.declared.step.Step.{Step}
 use Rattle.tree_machine.specs.Lists.{value_in}
@@ -26,10 +26,10 @@ use Rattle.tree_machine.specs.Machine.{Catalogue, Machine, opened, totals}
 use Rattle.tree_machine.specs.Outcomes.{AreTold}
 use Rattle.tree_machine.specs.Plays.{played}
 use Rattle.tree_machine.specs.Steps.{Outcome}
-use Rattle.tree_file.specs.Tree.{Tree, HoldsTree, ReadsAsMap, components_weight}
-use Rattle.core_lists.specs.Shown.{ShowsHistory}
+use Rattle.tree_file.specs.Tree.{Tree, HoldsTree, ReadsAsMap, components_weight, lists_of}
+use Rattle.core_lists.specs.Shown.{ShowsHistory, doubted, lanes_weight}
 use Rattle.tree_reading.specs.Damage.{most_version}
-use Rattle.recover_open.specs.Opening.{KeepsMapOf}
+use Rattle.recover_open.specs.Opening.{KeepsMapOf, weight_of_tree}
 use Rattle.tree_session.specs.Session.{calls_for}
 use Rattle.store_run.specs.Run.{Run, finds_damage}
 
@@ -42,11 +42,14 @@ pub record IsStoreWith (sizes : Sizes) (opening : List (Key × Value)) (file : L
 
 -- The end is reached from the opening by steps of the tree as a machine over lists, with all that is printed: the replies, so a refusal for size
 -- names the charge that stood, the quanta and the totals. A step fails only where the disk's count of faults tells it.
-pub record IsReached (sizes : Sizes) (opening : List (Key × Value)) (run : Run) (room : Room) (faults_before faults_after : ℕ) : Type 0 where
+pub record IsReached (sizes : Sizes) (opening : List (Key × Value)) (run : Run) (room : Room) (file : List ℕ) (faults_before faults_after : ℕ) : Type 0 where
   pub c1 : Entries
   pub c2 : Entries
   pub catalogue : Catalogue
-  -- it begins with C1 and C2, which are the map and weigh what is printed first
+  -- it begins with the components that the file has, which are the map and weigh what is printed first
+  pub tree : Tree
+  pub holds : HoldsTree sizes tree file
+  pub begins : (opened sizes c1 c2 catalogue faults_before room).lists ≡ lists_of tree
   pub values : (key : Key) → value_in (opened sizes c1 c2 catalogue faults_before room).lists key ≡ value_at (puts_of opening) key
   pub weigh : entries_weight c1 + entries_weight c2 ≡ run.charge
   pub made : List (Step × Outcome)
@@ -57,13 +60,16 @@ pub record IsReached (sizes : Sizes) (opening : List (Key × Value)) (run : Run)
   pub quanta : end.book.quanta ≡ run.quanta
   pub totals_are : totals end ≡ run.totals
 
--- What the disk has in the end: a tree whose components weigh no more than at the opening and what the printed quanta can have taken, a quantum
--- less one and two of the heaviest entries for each, so that no merge work was done in secret; and lanes that weigh no more than the peak.
+-- What the disk has in the end, also of a store that was stopped: a tree whose components weigh no more than at the opening and what the printed
+-- quanta can have taken, a quantum less one and two of the heaviest entries for each, so that no merge work was done in secret; and lanes that weigh
+-- no more than the peak, and the write in doubt where one is.
 pub record EndsWithin (sizes : Sizes) (run : Run) (file : List ℕ) : Type 0 where
   pub tree : Tree
   pub holds : HoldsTree sizes tree file
   pub components : components_weight tree ≤ run.charge + most_taken sizes * (run.totals.callers + run.totals.workers)
-  pub lanes : entries_weight (replayed tree.lane_a) + entries_weight (replayed tree.lane_b) ≤ run.totals.peak
+  pub lanes : lanes_weight tree ≤ run.totals.peak + doubted run.entries
+  -- a write in doubt stops the store
+  pub sure : run.totals.stopped ≡ None → doubted run.entries ≡ 0
 
 -- What a crash leaves while the history is made. The disk was `first` before the call, `opened` when the store was open, and is `last` after it.
 pub record LeavesHistory (sizes : Sizes) (opening : List (Key × Value)) (run : Run) (first opened last : DiskState) : Type 0 where
@@ -84,6 +90,8 @@ pub record Headline {D : Type 0} (state : D → DiskState) (sizes : Sizes) (run 
   -- what the disk had
   pub opening : List (Key × Value)
   pub found : IsStoreWith sizes opening first.bytes
+  -- of which the opening made nothing heavier
+  pub light : run.charge ≤ weight_of_tree found.image
   -- the sequential map's replies, or refusals by name; none tells of a page
   pub replies : IsLegal (limits_of sizes run.charge) opening run.entries
   pub no_page : finds_damage run ≡ false
@@ -91,7 +99,8 @@ pub record Headline {D : Type 0} (state : D → DiskState) (sizes : Sizes) (run 
   pub opened : D
   pub goes_on : GoesOn (state opened) last
   pub calm : (state opened).faults ≡ first.faults
-  pub reached : IsReached sizes opening run room (state opened).faults last.faults
-  -- unless the store was stopped
-  pub ended : run.totals.stopped ≡ None → EndsWithin sizes run last.bytes
+  pub reached : IsReached sizes opening run room (state opened).bytes (state opened).faults last.faults
+  pub ended : EndsWithin sizes run last.bytes
+  -- unless a fault stopped the store, the disk has just the components and the tables to which the steps led
+  pub stands : run.totals.stopped ≡ None → (tree : Tree) × HoldsTree sizes tree last.bytes × (reached.end.lists ≡ lists_of tree)
   pub crashes : LeavesHistory sizes opening run first (state opened) last

@@ -1,6 +1,6 @@
 -- The run of a script over the store on a disk: what it leaves to be printed, and what holds of it on every disk, honest or not.
 use Rattle.std.specs.Prelude.{◌≡◌, ◌≤◌, ◌<◌, ◌||◌, ℕ, Bool, true, false, List, sum}
-use Rattle.std.specs.List.{list_any}
+use Rattle.std.specs.List.{AllByRecursion, list_any}
 use Rattle.refusal.specs.Count.{HasRisenBy}
 use Rattle.blsm_model.specs.Geometry.{high_mark}
 use Rattle.blsm_model.specs.Scripts.{IsOfScript, asked, asked_in}
@@ -10,7 +10,7 @@ use Rattle.blsm_model.specs.declared.history.Line.{Line}
 use Rattle.blsm_model.specs.declared.history.Totals.{Totals}
 use Rattle.disk_trait.specs.Disk.{DiskState}
 use Rattle.tree_machine.specs.Outcomes.{is_by_page, is_damaged}
-use Rattle.tree_session.specs.Faults.{NamesCount, faults_told, is_by_fault}
+use Rattle.tree_session.specs.Faults.{NamesCount, NamesStop, faults_told, is_by_fault}
 use Rattle.tree_session.specs.Session.{TookFew}
 use Rattle.store_run.specs.declared.run.Ending.{Ending}
 use Rattle.store_run.specs.declared.run.Ending.TheVariants.{Well, Faulted, Damaged}
@@ -40,6 +40,8 @@ pub record IsRunOf (sizes : Sizes) (lines : List Line) (run : Run) : Type 0 wher
   pub few : TookFew sizes run.entries run.quanta
   pub callers : run.totals.callers ≡ sum run.quanta
   pub workers : run.totals.workers ≡ 0
+  -- a reply that the store is stopped names what stopped it
+  pub stops : AllByRecursion (λ e. NamesStop e.reply run.totals.stopped) run.entries
   -- the memory table weighed no more than its bytes
   pub peak : run.totals.peak ≤ high_mark sizes
   pub high : run.totals.high ≡ high_mark sizes

@@ -18,7 +18,6 @@ ghost use Rattle.store_run.specs.Headline.{Headline};
 use crate::ending::ending;
 use blsm_model::{Annals, Line, Room, Totals};
 use disk_trait::Disk;
-use paced_tree::a_paced_tree_is_bounded;
 use recover_open::{Unreadable, open_store};
 use std::alloc::Global;
 use tree_machine::{outcomes_are_told, seats_apart};
@@ -83,7 +82,6 @@ pub fn run_over<D: Disk + Drop>(
     an_opened_core_rests();
     seats_apart();
     outcomes_are_told();
-    a_paced_tree_is_bounded();
     let mut core = match open_store(alloc, disk, room) {
         Ok(core) => core,
         Err(refused) => return (refused.disk, Err(refused.why)),

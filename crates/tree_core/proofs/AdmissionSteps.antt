@@ -49,9 +49,10 @@ use Rattle.core_moves.specs.Moves.{with_book}
 use Rattle.core_pace.specs.Pacing.{HasPace}
 use Rattle.core_lists.specs.Standing.{IsAt}
 use Rattle.core_lists.specs.Going.{GoesOn}
-use Rattle.core_lists.specs.Shown.{HasFronts, ShowsHistory, ShowsWhole}
-use Rattle.core_lists.specs.Images.{history_with}
+use Rattle.core_lists.specs.Shown.{CountsAs, HasFronts, ShowsHistory, ShowsWhole, doubted}
+use Rattle.core_lists.specs.Images.{ShowsNoted, history_with}
 use Rattle.core_lists.proofs.AppendLemmas.{not_past}
+use Rattle.core_lists.proofs.FileWeights.{counts_itself, deep_swapped_counts, doubt_grows, ready_counts, weighs_as}
 use Rattle.core_lists.proofs.GoingLemmas.{admission_fits, refusal_goes_on}
 use Rattle.core_lists.proofs.ShowingLemmas.{standing_shows, showing_is_kept, quiet_entry_counts_none, quiet_entry_shows}
 use Rattle.core_lists.proofs.WriteLands.{book_lands}
@@ -75,21 +76,26 @@ module _ (opening : List (Key × Value)) (seat : ℕ) (op : Op) (m : Machine) wh
   entry reply = record { seat = seat; op = op; reply = reply }
 
   -- an entry that counts no write
-  noted_whole : (reply : Reply) (file : List ℕ) → is_done reply ≡ false → is_unsure reply ≡ false → ShowsWhole opening m file
-      → ShowsHistory m.gears.sizes opening (history_with seat op reply m) (length m.book.entries + 1) file
-  noted_whole reply file undone sure shows = quiet_entry_shows m.gears.sizes opening m.book.entries (entry reply) file (quiet_entry_counts_none (entry reply) (inr (undone, sure))) shows
+  noted_whole : (reply : Reply) (file : List ℕ) → is_done reply ≡ false → is_unsure reply ≡ false → ShowsWhole opening m file → ShowsNoted opening seat op reply m file
+  noted_whole reply file undone sure shows = (
+    quiet_entry_shows m.gears.sizes opening m.book.entries (entry reply) file (quiet_entry_counts_none (entry reply) (inr (undone, sure))) shows.0,
+    weighs_as m m m.book.entries (history_with seat op reply m) file refl (counts_itself m) (doubt_grows m.book.entries (entry reply ∷ [])) shows.1,
+  )
 
   -- any entry
   kept_whole : (reply : Reply) (file : List ℕ) → ShowsWhole opening m file → ShowsHistory m.gears.sizes opening (history_with seat op reply m) (length m.book.entries) file
-  kept_whole reply file shows = showing_is_kept m.gears.sizes opening m.book.entries (history_with seat op reply m) (length m.book.entries) (length m.book.entries) file (entry reply ∷ [], refl) (omega arith) shows
+  kept_whole reply file shows = showing_is_kept m.gears.sizes opening m.book.entries (history_with seat op reply m) (length m.book.entries) (length m.book.entries) file (entry reply ∷ [], refl) (omega arith) shows.0
 
-  -- a later machine of the same sizes and history
-  shows_after : (reply : Reply) (why : Why) (later : Machine) (file : List ℕ) → later.gears.sizes ≡ m.gears.sizes → later.book ≡ m.book
-      → ShowsHistory m.gears.sizes opening (history_with seat op reply m) (length m.book.entries + 1) file → ShowsWhole opening (note seat op reply (stop why later)) file
-  shows_after reply why later file sizes book shows =
-      subst (λ (n : ℕ). ShowsHistory later.gears.sizes opening (later.book.entries ++ entry reply ∷ []) n file) (sym (length-append later.book.entries (entry reply ∷ [])))
-      (subst (λ (b : Book). ShowsHistory later.gears.sizes opening (b.entries ++ entry reply ∷ []) (length b.entries + 1) file) (sym book)
-      (subst (λ (z : Sizes). ShowsHistory z opening (history_with seat op reply m) (length m.book.entries + 1) file) (sym sizes) shows))
+  -- a later machine of the same sizes, history and counts
+  shows_after : (reply : Reply) (why : Why) (later : Machine) (file : List ℕ) → later.gears.sizes ≡ m.gears.sizes → later.book ≡ m.book → CountsAs m later → ShowsNoted opening seat op reply m file
+      → ShowsWhole opening (note seat op reply (stop why later)) file
+  shows_after reply why later file sizes book counts shows = (
+    subst (λ (n : ℕ). ShowsHistory later.gears.sizes opening (later.book.entries ++ entry reply ∷ []) n file) (sym (length-append later.book.entries (entry reply ∷ [])))
+        (subst (λ (b : Book). ShowsHistory later.gears.sizes opening (b.entries ++ entry reply ∷ []) (length b.entries + 1) file) (sym book)
+        (subst (λ (z : Sizes). ShowsHistory z opening (history_with seat op reply m) (length m.book.entries + 1) file) (sym sizes) shows.0)),
+    weighs_as m (note seat op reply (stop why later)) (history_with seat op reply m) (later.book.entries ++ entry reply ∷ []) file sizes (record { charge = counts.charge; peak = counts.peak; quanta = counts.quanta })
+        (omega (arith, ap (λ (b : Book). doubted (b.entries ++ entry reply ∷ [])) book)) shows.1,
+  )
 
   images_after : (reply : Reply) (later : Machine) (before after : DiskState) → later.book ≡ m.book
       → LeavesOnly before after (ShowsHistory m.gears.sizes opening (history_with seat op reply m) (length m.book.entries))
@@ -224,8 +230,11 @@ module _ (opening : List (Key × Value)) (seat : ℕ) (op : Op) (held : Held) (m
       shown = is.stands.stopped (ap is_some stop)
 
       noted : (file : List ℕ) → ShowsWhole opening m file → ShowsWhole opening (note seat op (Stopped why) m) file
-      noted file shows = subst (λ (n : ℕ). ShowsHistory m.gears.sizes opening (history_with seat op (Stopped why) m) n file) (sym (length-append m.book.entries (entry opening seat op m (Stopped why) ∷ [])))
-          (noted_whole opening seat op m (Stopped why) file refl refl shows)
+      noted file shows =
+          let with = noted_whole opening seat op m (Stopped why) file refl refl shows in (
+            subst (λ (n : ℕ). ShowsHistory m.gears.sizes opening (history_with seat op (Stopped why) m) n file) (sym (length-append m.book.entries (entry opening seat op m (Stopped why) ∷ []))) with.0,
+            with.1,
+          )
 
   -- ---- while it runs
 
@@ -290,44 +299,44 @@ module _ (opening : List (Key × Value)) (seat : ℕ) (op : Op) (held : Held) (m
         stopped reply = with_book (noted_in seat op reply (stopped_in why left.book)) left
 
         fails_by : (reply : Reply) (commits : ℕ) (later : Machine) → admit_fitting m seat op w (FailedAfter commits after.faults) ≡ replied seat op reply (stop why later) → commits ≤ swaps_due m
-            → TellsOf left later → later.gears.sizes ≡ m.gears.sizes → later.book ≡ m.book
-            → ((c : List ℕ) → after.images c → ShowsHistory m.gears.sizes opening (history_with seat op reply m) (length m.book.entries + 1) c)
-            → ShowsHistory m.gears.sizes opening (history_with seat op reply m) (length m.book.entries + 1) after.bytes
+            → TellsOf left later → later.gears.sizes ≡ m.gears.sizes → later.book ≡ m.book → CountsAs m later
+            → ((c : List ℕ) → after.images c → ShowsNoted opening seat op reply m c)
+            → ShowsNoted opening seat op reply m after.bytes
             → LeavesOnly d after (ShowsHistory m.gears.sizes opening (history_with seat op reply m) (length m.book.entries))
             → IsStep opening seat asked (Replied reply) (stopped reply) d after m pace
-        fails_by reply commits later same few left_tells sizes book each reads images =
+        fails_by reply commits later same few left_tells sizes book counts each reads images =
             step_by (FailedAfter commits after.faults) reply (note seat op reply (stop why later)) (stopped reply) after
             (admission_fits m seat op (FailedAfter commits after.faults) runs room_here ∙ same)
             (calls_here, few, rose d.faults after.faults order small risen, refl) refl (stopped_tells seat op reply why left later left_tells)
             (λ (still : Some why ≡ None). absurd (none-some why (sym still)))
-            (λ some. record { reads = shows_after opening seat op m reply why later after.bytes sizes book reads; each = λ c here. shows_after opening seat op m reply why later c sizes book (each c here) })
+            (λ some. record { reads = shows_after opening seat op m reply why later after.bytes sizes book counts reads; each = λ c here. shows_after opening seat op m reply why later c sizes book counts (each c here) })
             (images_after opening seat op m reply later d after book images)
 
         -- a swap failed
         lost_steps : IsTimed after → HasLost m left → LeavesOnly d after (ShowsWhole opening m) → ShowsWhole opening m after.bytes → IsStep opening seat asked (Replied FaultLost) (stopped FaultLost) d after m pace
         lost_steps timed lost images reads = ⊎_elim
-            (λ deep. by 0 m (deep_lost seat op w after.faults m deep.1) (omega arith) deep.0 refl refl)
+            (λ deep. by 0 m (deep_lost seat op w after.faults m deep.1) (omega arith) deep.0 refl refl (counts_itself m))
             (λ pass.
             let carries = deep_swapped_carries m is.stands.paced.stands.sound in
-            by (one_if (deep_done m)) (deep_swapped m) (pass_lost seat op w after.faults m pass.1) (omega arith) pass.0 carries.sizes carries.book)
+            by (one_if (deep_done m)) (deep_swapped m) (pass_lost seat op w after.faults m pass.1) (omega arith) pass.0 carries.sizes carries.book (deep_swapped_counts m))
             lost
           where
             by : (commits : ℕ) (later : Machine) → admit_fitting m seat op w (FailedAfter commits after.faults) ≡ replied seat op FaultLost (stop why later) → commits ≤ swaps_due m
-                → TellsOf left later → later.gears.sizes ≡ m.gears.sizes → later.book ≡ m.book → IsStep opening seat asked (Replied FaultLost) (stopped FaultLost) d after m pace
-            by commits later same few left_tells sizes book =
-                fails_by FaultLost commits later same few left_tells sizes book
+                → TellsOf left later → later.gears.sizes ≡ m.gears.sizes → later.book ≡ m.book → CountsAs m later → IsStep opening seat asked (Replied FaultLost) (stopped FaultLost) d after m pace
+            by commits later same few left_tells sizes book counts =
+                fails_by FaultLost commits later same few left_tells sizes book counts
                 (λ c here. noted_whole opening seat op m FaultLost c refl refl (leaves_only_now timed images c here))
                 (noted_whole opening seat op m FaultLost after.bytes refl refl reads)
                 (leaves_only_weaken (λ c shows. kept_whole opening seat op m FaultLost c shows) images)
 
         -- the append failed
         unsure_steps : TellsOf left (ready_for w m) → LeavesOnly d after (ShowsHistory m.gears.sizes opening (history_with seat op FaultUnsure m) (length m.book.entries))
-            → ((c : List ℕ) → after.images c → ShowsHistory m.gears.sizes opening (history_with seat op FaultUnsure m) (length m.book.entries + 1) c)
-            → ShowsHistory m.gears.sizes opening (history_with seat op FaultUnsure m) (length m.book.entries + 1) after.bytes
+            → ((c : List ℕ) → after.images c → ShowsNoted opening seat op FaultUnsure m c)
+            → ShowsNoted opening seat op FaultUnsure m after.bytes
             → IsStep opening seat asked (Replied FaultUnsure) (stopped FaultUnsure) d after m pace
         unsure_steps left_tells images each reads =
             let carries = ready_carries w m is.stands.paced.stands.sound (has_way opening m pace is.stands.paced) in
-            fails_by FaultUnsure (swaps_due m) (ready_for w m) (append_lost seat op w after.faults m) (omega arith) left_tells carries.sizes carries.book each reads images
+            fails_by FaultUnsure (swaps_due m) (ready_for w m) (append_lost seat op w after.faults m) (omega arith) left_tells carries.sizes carries.book (ready_counts w m) each reads images
 
         -- a call failed
         pub failed_steps : (begun : Bool) → IsTimed after → TakesOver (Failed begun) opening seat op m pace left d after

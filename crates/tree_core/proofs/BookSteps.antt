@@ -59,7 +59,7 @@ leave_steps opening seat held m pace d timed s can = record {
       ((steps_book m).leave seat ∙ ap (λ (b : BookState). left_in seat b) s.book) refl
       (step_is_paced opening m pace (record { seat = seat; kind = kind.Leave }) Well s.paced can tt)
       (λ tree over. over)
-      (λ stopped. shows_same opening m (leave m seat).state d (shows_now opening held m pace d s) refl refl);
+      (λ stopped. shows_same opening m (leave m seat).state d (shows_now opening held m pace d s) refl (record { charge = refl; peak = refl; quanta = refl }) refl);
   answers = refl;
   images = leaves_longer opening m m.book.entries d d (prefix_self m.book.entries) (leaves_now opening held m pace d timed s);
 }
@@ -119,7 +119,7 @@ end_steps opening seat n reply held m pace d timed is s can =
           ((steps_book m).ending seat n ∙ ap (λ (b : BookState). ended_in seat n b) s.book) refl
           (step_is_paced opening m pace (record { seat = seat; kind = kind.WorkEnd n }) Well s.paced can tt)
           (λ tree over. over)
-          (λ stopped. shows_entry opening m after d d entry (shows_now opening held m pace d s) refl refl (quiet_entry_counts_none entry (inl refl)) refl (λ c left. left));
+          (λ stopped. shows_entry opening m after d d entry (shows_now opening held m pace d s) refl (record { charge = refl; peak = refl; quanta = refl }) refl (quiet_entry_counts_none entry (inl refl)) refl (λ c left. left));
       answers = ap (λ (r : Reply). Replied r) (is ∙ ap (λ (b : BookState). work_reply (work_in seat b) b.stopped) (sym s.book));
       images = leaves_longer opening m (m.book.entries ++ entry ∷ []) d d ((entry ∷ [], refl)) (leaves_now opening held m pace d timed s);
     }

@@ -96,7 +96,7 @@ get_step {end} {most} {d} {d2} opening seat key r outcome held m pace reads hone
             stands = (stands_read held.runs.sizes tree reads honest over.stands).0;
             are_of = subst (λ (file : List ℕ). AreOf held.runs tree held.log.a.entries file) (sym (reads.same.same.bytes honest)) over.are_of;
           })
-          (λ stopped. shows_entry opening m after d d2 entry shown refl refl (quiet_entry_counts_none entry (inl refl)) (reads.same.same.bytes honest) (reads.same.same.images honest)));
+          (λ stopped. shows_entry opening m after d d2 entry shown refl (record { charge = refl; peak = refl; quanta = refl }) refl (quiet_entry_counts_none entry (inl refl)) (reads.same.same.bytes honest) (reads.same.same.images honest)));
       answers = ap (λ (t : Stepped). t.answer) (sym is);
       images = subst (λ (t : Stepped). Rattle.disk_trait.specs.Moments.LeavesOnly d d2 (Rattle.core_lists.specs.Shown.ShowsHistory m.gears.sizes opening t.state.book.entries (length m.book.entries))) (sym is)
           (leaves_longer opening m (m.book.entries ++ entry ∷ []) d d2 (entry ∷ [], refl) (leaves_only_weaken shown.each (only_reads_each reads honest)));

@@ -54,7 +54,7 @@ pub halted_payment : (opening : List (Key × Value)) (seat : ℕ) (why : Why) (h
 halted_payment opening seat why held m pace d timed is stands =
     step_by opening seat kind.Pay (Turn (machine.Halted why)) held d d m pace Well halted pace (ap (λ (o : Option Why). pay_running o m seat Well) stop_is)
     (ap (λ (o : Option Why). unless_stopped o pace (after_payment m pace seat Well)) stop_is) tt refl stands refl
-    (leaves_only_start d (ShowsWhole opening m) timed (λ c here. (stands.stopped (ap is_some is)).each c here))
+    (leaves_only_start d _ timed (λ c here. ((stands.stopped (ap is_some is)).each c here).0))
   where
     halted : Stepped
     halted = record { state = m; answer = Turn (machine.Halted why) }

@@ -76,7 +76,7 @@ none_is_played opening held d m pace timed s = record {
   whole = tt;
   stands = s;
   grows = prefix_self m.book.entries;
-  images = leaves_now opening held m pace d timed s;
+  images = leaves_only_weaken (λ c shows. shows.0) (leaves_now opening held m pace d timed s);
 }
 
 -- a step of one seat notes one entry at most
@@ -128,7 +128,7 @@ passed_is_played opening step held d m pace timed none cannot s =
       whole = (refl, tt);
       stands = subst (λ (p : Pace). StandsFor opening held (played_one m (step, Well)) p d) (sym paced_is) (subst (λ (x : Machine). StandsFor opening held x pace d) (sym played_is) s);
       grows = subst (λ (x : Machine). IsPrefix m.book.entries x.book.entries) (sym played_is) (prefix_self m.book.entries);
-      images = subst (λ (x : Machine). LeavesOnly d d (ShowsHistory m.gears.sizes opening x.book.entries (length m.book.entries))) (sym played_is) (leaves_now opening held m pace d timed s);
+      images = subst (λ (x : Machine). LeavesOnly d d (ShowsHistory m.gears.sizes opening x.book.entries (length m.book.entries))) (sym played_is) (leaves_only_weaken (λ c shows. shows.0) (leaves_now opening held m pace d timed s));
     }
 
 -- ---- one after another

@@ -92,7 +92,7 @@ shows_at opening held m pace d tree file r holds =
 pub leaves_same : (opening : List (Key × Value)) (m : Machine) (before after : DiskState) (entries : List Entry) (P : List ℕ → Type 0) → entries ≡ m.book.entries → ((c : List ℕ) → P c → ShowsWhole opening m c) → LeavesOnly before after P
     → LeavesOnly before after (ShowsHistory m.gears.sizes opening entries (length m.book.entries))
 leaves_same opening m before after entries P same shows leaves =
-    leaves_only_weaken (λ c has. subst (λ (h : List Entry). ShowsHistory m.gears.sizes opening h (length m.book.entries) c) (sym same) (shows c has)) leaves
+    leaves_only_weaken (λ c has. subst (λ (h : List Entry). ShowsHistory m.gears.sizes opening h (length m.book.entries) c) (sym same) (shows c has).0) leaves
 
 -- A step by what it makes of the machine and of the pace.
 pub step_by : (opening : List (Key × Value)) (seat : ℕ) (kind : Kind) (answer : Answer) (new : Held) (before after : DiskState) (m : Machine) (pace : Pace) (outcome : Outcome) (s : Stepped) (p : Pace)

@@ -1,5 +1,5 @@
 -- Steps that change the book alone: a lookup, the end of a work, a leave, and whatever is asked of a tree that has stopped.
-use Rattle.std.specs.Prelude.{◌≡◌, ◌⊎◌, ℕ, ◌+◌, Bool, List, [], ◌∷◌, ◌++◌, Option, Some, None, IsSome, IsTrue, length}
+use Rattle.std.specs.Prelude.{◌≡◌, ◌⊎◌, ℕ, ◌+◌, ◌≤◌, Bool, List, [], ◌∷◌, ◌++◌, Option, Some, None, IsSome, IsTrue, length}
 use Rattle.std.proofs.Common.{◌∙◌, ⊎_elim, inl, inr, refl, ap, sym, subst, arith}
 use mathlib.Core.List.{IsPrefix}
 use Rattle.blsm_model.specs.declared.key.Key.{Key}
@@ -27,7 +27,8 @@ use Rattle.core_moves.specs.Needs.{IsOn}
 use Rattle.core_pace.specs.Pacing.{IsRunBook}
 use Rattle.core_pace.proofs.TurnLemmas.{book_is_paced}
 use Rattle.core_lists.specs.Standing.{HoldsMachine, IsPassAt, IsDeepAt}
-use Rattle.core_lists.specs.Shown.{ShowsHistory, ShowsWhole}
+use Rattle.core_lists.specs.Shown.{CountsAs, ShowsHistory, ShowsWhole, doubted}
+use Rattle.core_lists.proofs.FileWeights.{doubt_grows, weighs_as}
 use Rattle.core_lists.proofs.ShowingLemmas.{standing_shows, showing_is_kept, quiet_entry_shows}
 use Rattle.paced_tree.specs.Kept.{IsPacedTree}
 use Rattle.tree_core.specs.Core.{IsTold, HoldsPace}
@@ -143,35 +144,40 @@ quiet_stands opening held b m after pace d d2 s same book stopped paced stays sh
 -- ---- what is shown
 
 -- The whole history, with one entry more that counts no write, of a disk whose bytes and images are those from before.
-pub shows_entry : (opening : List (Key × Value)) (m after : Machine) (d d2 : DiskState) (entry : Entry) → HasStopped opening m d → after.gears ≡ m.gears → after.book.entries ≡ m.book.entries ++ entry ∷ []
+pub shows_entry : (opening : List (Key × Value)) (m after : Machine) (d d2 : DiskState) (entry : Entry) → HasStopped opening m d → after.gears ≡ m.gears → CountsAs m after → after.book.entries ≡ m.book.entries ++ entry ∷ []
     → ((unsure : Bool) → counted_with unsure entry ≡ []) → (d2.bytes ≡ d.bytes) → ((c : List ℕ) → d2.images c → d.images c) → HasStopped opening after d2
-shows_entry opening m after d d2 entry shown gears noted none bytes images = record {
+shows_entry opening m after d d2 entry shown gears counts noted none bytes images = record {
   reads = subst (λ (file : List ℕ). ShowsWhole opening after file) (sym bytes) (more d.bytes shown.reads);
   each = λ c left. more c (shown.each c (images c left));
 }
   where
     more : (file : List ℕ) → ShowsWhole opening m file → ShowsWhole opening after file
     more file shows =
-        let with = quiet_entry_shows m.gears.sizes opening m.book.entries entry file none shows in
-        let all : length m.book.entries + 1 ≡ length (m.book.entries ++ entry ∷ []) = sym (Rattle.std.proofs.Common.length-append m.book.entries (entry ∷ [])) in
-        subst (λ (g : GearState). ShowsHistory g.sizes opening after.book.entries (length after.book.entries) file) (sym gears)
-        (subst (λ (es : List Entry). ShowsHistory m.gears.sizes opening es (length es) file) (sym noted)
-        (subst (λ (n : ℕ). ShowsHistory m.gears.sizes opening (m.book.entries ++ entry ∷ []) n file) all with))
+        let with = quiet_entry_shows m.gears.sizes opening m.book.entries entry file none shows.0 in
+        let all : length m.book.entries + 1 ≡ length (m.book.entries ++ entry ∷ []) = sym (Rattle.std.proofs.Common.length-append m.book.entries (entry ∷ [])) in (
+          subst (λ (g : GearState). ShowsHistory g.sizes opening after.book.entries (length after.book.entries) file) (sym gears)
+              (subst (λ (es : List Entry). ShowsHistory m.gears.sizes opening es (length es) file) (sym noted)
+              (subst (λ (n : ℕ). ShowsHistory m.gears.sizes opening (m.book.entries ++ entry ∷ []) n file) all with)),
+          weighs_as m after m.book.entries after.book.entries file (ap (λ (g : GearState). g.sizes) gears) counts
+              (subst (λ (es : List Entry). doubted m.book.entries ≤ doubted es) (sym noted) (doubt_grows m.book.entries (entry ∷ []))) shows.1,
+        )
 
 -- the same history
-pub shows_same : (opening : List (Key × Value)) (m after : Machine) (d : DiskState) → HasStopped opening m d → after.gears ≡ m.gears → after.book.entries ≡ m.book.entries → HasStopped opening after d
-shows_same opening m after d shown gears noted = record { reads = same d.bytes shown.reads; each = λ c left. same c (shown.each c left) }
+pub shows_same : (opening : List (Key × Value)) (m after : Machine) (d : DiskState) → HasStopped opening m d → after.gears ≡ m.gears → CountsAs m after → after.book.entries ≡ m.book.entries → HasStopped opening after d
+shows_same opening m after d shown gears counts noted = record { reads = same d.bytes shown.reads; each = λ c left. same c (shown.each c left) }
   where
     same : (file : List ℕ) → ShowsWhole opening m file → ShowsWhole opening after file
-    same file shows =
-        subst (λ (g : GearState). ShowsHistory g.sizes opening after.book.entries (length after.book.entries) file) (sym gears)
-        (subst (λ (es : List Entry). ShowsHistory m.gears.sizes opening es (length es) file) (sym noted) shows)
+    same file shows = (
+      subst (λ (g : GearState). ShowsHistory g.sizes opening after.book.entries (length after.book.entries) file) (sym gears)
+          (subst (λ (es : List Entry). ShowsHistory m.gears.sizes opening es (length es) file) (sym noted) shows.0),
+      weighs_as m after m.book.entries after.book.entries file (ap (λ (g : GearState). g.sizes) gears) counts (subst (λ (es : List Entry). doubted m.book.entries ≤ doubted es) (sym noted) (omega arith)) shows.1,
+    )
 
 -- What showed the history before a step shows the longer one after it, with all entries from before.
 pub leaves_longer : (opening : List (Key × Value)) (m : Machine) (longer : List Entry) (before after : DiskState) → IsPrefix m.book.entries longer → LeavesOnly before after (ShowsWhole opening m)
     → LeavesOnly before after (ShowsHistory m.gears.sizes opening longer (length m.book.entries))
 leaves_longer opening m longer before after begins leaves =
-    leaves_only_weaken (λ file shows. showing_is_kept m.gears.sizes opening m.book.entries longer (length m.book.entries) (length m.book.entries) file begins (omega arith) shows) leaves
+    leaves_only_weaken (λ file shows. showing_is_kept m.gears.sizes opening m.book.entries longer (length m.book.entries) (length m.book.entries) file begins (omega arith) shows.0) leaves
 
 -- no call, no other moment
 pub leaves_now : (opening : List (Key × Value)) (held : Held) (m : Machine) (pace : Pace) (d : DiskState) → IsTimed d → StandsFor opening held m pace d → LeavesOnly d d (ShowsWhole opening m)

@@ -45,7 +45,7 @@ use Rattle.core_pace.proofs.EventLemmas.{settled_between, moves_are_told}
 use Rattle.core_lists.specs.Standing.{HoldsMachine, IsAt}
 use Rattle.core_lists.specs.Shown.{ShowsHistory, ShowsWhole}
 use Rattle.core_lists.specs.Admissions.{DeepSettlesTree, PassSettlesTree, IsReadied}
-use Rattle.core_lists.specs.Images.{StandsIn, SettledIn, MayAppend, with_appended, history_with}
+use Rattle.core_lists.specs.Images.{StandsIn, SettledIn, MayAppend, ShowsNoted, with_appended, history_with}
 use Rattle.core_lists.proofs.AdmissionLands.{deep_settling_lands, readying_lands}
 use Rattle.core_lists.proofs.WriteLands.{write_lands}
 use Rattle.core_lists.proofs.ShowingLemmas.{standing_shows, settled_shows, swapped_shows, showing_is_kept, prefix_self}
@@ -335,7 +335,7 @@ module _ (opening : List (Key × Value)) (old : Held) (m : Machine) (pace : Pace
   Shows_with reply n image = ShowsHistory m.gears.sizes opening (history_with seat op reply m) n image
 
   without : (reply : Reply) (image : List ℕ) → ShowsWhole opening m image → Shows_with reply (length m.book.entries) image
-  without reply image shows = showing_is_kept m.gears.sizes opening m.book.entries (history_with seat op reply m) (length m.book.entries) (length m.book.entries) image (entry reply ∷ [], refl) (omega arith) shows
+  without reply image shows = showing_is_kept m.gears.sizes opening m.book.entries (history_with seat op reply m) (length m.book.entries) (length m.book.entries) image (entry reply ∷ [], refl) (omega arith) shows.0
 
   fewer : (reply : Reply) (image : List ℕ) → Shows_with reply (length m.book.entries + 1) image → Shows_with reply (length m.book.entries) image
   fewer reply image shows = showing_is_kept m.gears.sizes opening (history_with seat op reply m) (history_with seat op reply m) (length m.book.entries + 1) (length m.book.entries) image (prefix_self (history_with seat op reply m)) (omega arith) shows
@@ -349,7 +349,7 @@ module _ (opening : List (Key × Value)) (old : Held) (m : Machine) (pace : Pace
       (λ holds. fewer Done image (append_shows opening m pace limits seat op write begun next image may_append holds))
       (subst (λ (s : Sizes). HoldsEither s next appended_tree image) sizes_begun either)
 
-  doubt_shows : (image : List ℕ) → HoldsEither begun.runs.sizes next appended_tree image → Shows_with FaultUnsure (length m.book.entries + 1) image
+  doubt_shows : (image : List ℕ) → HoldsEither begun.runs.sizes next appended_tree image → ShowsNoted opening seat op FaultUnsure m image
   doubt_shows image either = unsure_shows opening m pace limits seat op write begun next image may_append (subst (λ (s : Sizes). HoldsEither s next appended_tree image) sizes_begun either)
 
   becomes : (ok : Bool) (after : DiskState) → Appends (key_of write) (record_of write) begun ok last after → Becomes begun.runs.sizes next appended_tree ok last after
@@ -363,13 +363,13 @@ module _ (opening : List (Key × Value)) (old : Held) (m : Machine) (pace : Pace
   begun_between = (moves_are_told old settled ready is.numbers w is.paced has.deep then.pass).1
 
   pub doubt_leaves : (new : Held) → new ≡ begun → (ok : Bool) (after : DiskState) → Appends (key_of write) (record_of write) begun ok last after
-      → TellsOf new (ready_for w m) × LeavesOnly d after (Shows_with FaultUnsure (length m.book.entries)) × ((c : List ℕ) → after.images c → Shows_with FaultUnsure (length m.book.entries + 1) c) × Shows_with FaultUnsure (length m.book.entries + 1) after.bytes
+      → TellsOf new (ready_for w m) × LeavesOnly d after (Shows_with FaultUnsure (length m.book.entries)) × ((c : List ℕ) → after.images c → ShowsNoted opening seat op FaultUnsure m c) × ShowsNoted opening seat op FaultUnsure m after.bytes
   doubt_leaves new same ok after appends =
       let left = becomes ok after appends in (
         subst (λ (h : Held). TellsOf h (ready_for w m)) (sym (same ∙ then.is_begun))
             (tells_of (begun_in w ready) next (ready_for w m) last.bytes (pace_ready_for is.numbers w) readied.begun (ready_carries w m is.stands.paced.stands.sound (has_way opening m pace is.stands.paced)).sound
             begun_between.numbers begun_between.one.gears),
-        leaves_only_run (leaves_only_weaken (without FaultUnsure) before.0) (leaves_only_weaken (λ c either. fewer FaultUnsure c (doubt_shows c either)) left.each),
+        leaves_only_run (leaves_only_weaken (without FaultUnsure) before.0) (leaves_only_weaken (λ c either. fewer FaultUnsure c (doubt_shows c either).0) left.each),
         (λ c here. doubt_shows c (left.either.each c here)),
         doubt_shows after.bytes left.either.reads,
       )

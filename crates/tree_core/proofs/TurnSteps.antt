@@ -48,6 +48,7 @@ use Rattle.core_lists.specs.Lists.{turn_noted, helped}
 use Rattle.core_lists.specs.Shown.{ShowsWhole}
 use Rattle.core_lists.specs.Steps.{IsSteady, WorkLands, HelpLands, TurnsTree, choice_of, chosen_by}
 use Rattle.core_lists.specs.Going.{GoesOn, IsOpenTo, kind_of_turn}
+use Rattle.core_lists.proofs.FileWeights.{weighs_as}
 use Rattle.core_lists.proofs.TestLemmas.{tests_agree_with_lists}
 use Rattle.core_lists.proofs.StepLands.{choices_agree}
 use Rattle.core_lists.proofs.ImageLemmas.{deep_swap_images, pass_swap_images, rotation_images}
@@ -73,6 +74,18 @@ unfolding counted_seats
 counted_is true seat ended m b is = ap (λ (x : BookState). counted_by true seat ended 0 x) is
 counted_is false seat ended m b is = ap (λ (x : BookState). counted_by false seat ended 0 x) is
 
+-- so a file shows as much of it
+counted_quanta : (w : Bool) (seat : ℕ) (ended : Turned) (m : Machine) → (counted_seats w seat ended m).quanta ≡ m.seats.quanta
+unfolding counted_seats
+counted_quanta true seat ended m = refl
+counted_quanta false seat ended m = refl
+
+counted_shows : (w : Bool) (opening : List (Key × Value)) (seat : ℕ) (ended : Turned) (m : Machine) (file : List ℕ) → ShowsWhole opening m file → ShowsWhole opening (record m { seats = counted_seats w seat ended m }) file
+counted_shows w opening seat ended m file shows = (
+  shows.0,
+  weighs_as m (record m { seats = counted_seats w seat ended m }) m.book.entries m.book.entries file refl (record { charge = refl; peak = refl; quanta = counted_quanta w seat ended m }) (omega arith) shows.1,
+)
+
 halted_as : (w : Bool) (seat : ℕ) (why : Why) (m : Machine) → m.stopped ≡ Some why
     → stepped_as m seat (kind_of_turn w) Well ≡ record { state = record m { seats = counted_seats w seat (machine.Halted why) m }; answer = Turn (machine.Halted why) }
 unfolding counted_seats
@@ -96,7 +109,7 @@ pub halted_turn : (w : Bool) (opening : List (Key × Value)) (seat : ℕ) (why :
     → b ≡ counted_by w seat (machine.Halted why) 0 old.book → StandsFor opening old m pace d → IsTrue (may m seat (kind_of_turn w)) → IsStep opening seat (kind_of_turn w) (Turn (machine.Halted why)) (with_book b old) d d m pace
 halted_turn w opening seat why old b m pace d timed is counts stands ok =
     step_by opening seat (kind_of_turn w) (Turn (machine.Halted why)) (with_book b old) d d m pace Well stepped pace (halted_as w seat why m stop_is) (halted_pace w seat why m pace stop_is) (possible_well w m seat d.faults d.faults) refl stood refl
-    (leaves_only_start d (ShowsWhole opening m) timed (λ c here. stopped.each c here))
+    (leaves_only_start d _ timed (λ c here. (stopped.each c here).0))
   where
     then : Machine
     then = record m { seats = counted_seats w seat (machine.Halted why) m }
@@ -122,7 +135,7 @@ halted_turn w opening seat why old b m pace d timed is counts stands ok =
       book = book_is;
       charge_is = stands.charge_is;
       runs = λ runs. absurd (let e = ap (λ (x : BookState). x.stopped) book_is in cc (e, runs, stop_is));
-      stopped = λ some. record { reads = stopped.reads; each = stopped.each };
+      stopped = λ some. record { reads = counted_shows w opening seat (machine.Halted why) m d.bytes stopped.reads; each = λ c here. counted_shows w opening seat (machine.Halted why) m c (stopped.each c here) };
     }
 
 -- ---- what the images show of a move
@@ -301,6 +314,9 @@ failed_turn w opening seat f old moved m pace tree before after made kept counte
     shows : (c : List ℕ) → HoldsEither old.runs.sizes tree o.next c → ShowsWhole opening m c
     shows c here = move_shown (move_in w old) w opening old m pace before tree o.next c o.runs refl o.may_move o.leaves.makes (same_sizes opening old m pace before tree o.runs) here
 
+    stop_shows : (file : List ℕ) → ShowsWhole opening m file → ShowsWhole opening stepped.state file
+    stop_shows file shown = counted_shows w opening seat machine.Failed (stop (Faulted f) m) file shown
+
     book_is : book_of stepped.state ≡ counted_by w seat machine.Failed 0 (stopped_in (Faulted f) moved.book)
     book_is =
         counted_is w seat machine.Failed (stop (Faulted f) m) (stopped_in (Faulted f) old.book) (ap (λ (x : BookState). stopped_in (Faulted f) x) o.runs.holds.book)
@@ -315,7 +331,7 @@ failed_turn w opening seat f old moved m pace tree before after made kept counte
       book = book_is;
       charge_is = (tests_agree_with_lists old tree m before.bytes o.runs.numbers (record { are_of = o.runs.over.are_of; holds = o.runs.holds }) o.runs.goes.paced.stands.sound o.runs.has).charge_is ∙ sym (charge_kept old moved kept);
       runs = λ none. absurd (let e = ap (λ (x : BookState). x.stopped) book_is in cc (e, none));
-      stopped = λ some. record { reads = shows after.bytes o.leaves.either.reads; each = λ c here. shows c (o.leaves.either.each c here) };
+      stopped = λ some. record { reads = stop_shows after.bytes (shows after.bytes o.leaves.either.reads); each = λ c here. stop_shows c (shows c (o.leaves.either.each c here)) };
     }
 
 -- ---- any turn

@@ -24,7 +24,7 @@ pub record RunsOver (held : Held) (m : Machine) (pace : Pace) (d : DiskState) : 
   pub within : AreFronts pace fronts
   pub lanes : HasFronts tree m.lists fronts
 
--- Once it is stopped, each image and what the disk reads as show the whole history.
+-- Once it is stopped, each image and what the disk reads as show the whole history, and no work that wasn't counted.
 pub record HasStopped (opening : List (Key × Value)) (m : Machine) (d : DiskState) : Type 0 where
   pub reads : ShowsWhole opening m d.bytes
   pub each : (c : List ℕ) → d.images c → ShowsWhole opening m c

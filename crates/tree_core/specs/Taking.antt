@@ -1,5 +1,5 @@
 -- What the parts of a call leave, before the book is told.
-use Rattle.std.specs.Prelude.{◌≡◌, ◌⊎◌, ℕ, ◌+◌, true, false, List, length}
+use Rattle.std.specs.Prelude.{◌≡◌, ◌⊎◌, ℕ, true, false, List, length}
 use Rattle.refusal.specs.Count.{HasRisen}
 use Rattle.blsm_model.specs.declared.key.Key.{Key}
 use Rattle.blsm_model.specs.declared.row.Value.{Value}
@@ -27,7 +27,7 @@ use Rattle.core_moves.specs.Needs.{IsOn}
 use Rattle.core_moves.specs.Moves.{SettlesDeep, SettlesPass, begun_in, WritesIn}
 use Rattle.core_lists.specs.Standing.{HoldsMachine}
 use Rattle.core_lists.specs.Shown.{ShowsHistory, ShowsWhole}
-use Rattle.core_lists.specs.Images.{history_with}
+use Rattle.core_lists.specs.Images.{ShowsNoted, history_with}
 use Rattle.core_lists.specs.Going.{GoesOn}
 use Rattle.tree_core.specs.declared.admission.Taking.{Taking}
 use Rattle.tree_core.specs.declared.admission.Taking.TheVariants.{Taken, Failed}
@@ -83,8 +83,8 @@ TakesOver Taken opening seat op m pace new before after =
 TakesOver (Failed true) opening seat op m pace new before after =
     TellsOf new (ready_for (total_weight (writes_of op)) m)
     × LeavesOnly before after (ShowsHistory m.gears.sizes opening (history_with seat op FaultUnsure m) (length m.book.entries))
-    × ((c : List ℕ) → after.images c → ShowsHistory m.gears.sizes opening (history_with seat op FaultUnsure m) (length m.book.entries + 1) c)
-    × ShowsHistory m.gears.sizes opening (history_with seat op FaultUnsure m) (length m.book.entries + 1) after.bytes
+    × ((c : List ℕ) → after.images c → ShowsNoted opening seat op FaultUnsure m c)
+    × ShowsNoted opening seat op FaultUnsure m after.bytes
 TakesOver (Failed false) opening seat op m pace new before after = HasLost m new × LeavesOnly before after (ShowsWhole opening m) × ShowsWhole opening m after.bytes
 
 -- how it tells the disk's faults

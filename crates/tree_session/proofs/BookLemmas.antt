@@ -27,7 +27,7 @@ use Rattle.tree_machine.proofs.FoldLemmas.{both_hold, both}
 use Rattle.core_moves.specs.declared.held.Held.{Held}
 use Rattle.tree_core.specs.Core.{IsCore}
 use Rattle.tree_core.specs.Notes.{OwesNothing}
-use Rattle.tree_session.specs.Faults.{faults_of, faults_of_turn}
+use Rattle.tree_session.specs.Faults.{NamesStop, faults_of, faults_of_turn}
 use Rattle.tree_session.specs.Session.{EasesOthers, most_calls, most_quanta}
 
 -- ---- quanta that are counted
@@ -207,6 +207,22 @@ reply_tells work stopped = by work.last stopped
     by machine.Closed None = refl
     by machine.Closed (Some why) = refl
     by (machine.Halted cause) None = refl
+    by (machine.Halted cause) (Some why) = refl
+
+-- nor does it tell of another stop
+pub reply_names : (work : WorkSoFar) (stopped : Option Why) → NamesStop (work_reply work stopped) stopped
+reply_names work stopped = by work.last stopped
+  where
+    by : (last : Turned) (o : Option Why) → NamesStop (work_reply (record work { last = last }) o) o
+    by machine.Failed o = tt
+    by (machine.BadPage page) o = tt
+    by machine.Worked None = tt
+    by machine.Worked (Some why) = refl
+    by machine.Idle None = tt
+    by machine.Idle (Some why) = refl
+    by machine.Closed None = tt
+    by machine.Closed (Some why) = refl
+    by (machine.Halted cause) None = tt
     by (machine.Halted cause) (Some why) = refl
 
 -- a work that ended is empty

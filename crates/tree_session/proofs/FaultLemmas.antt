@@ -9,6 +9,7 @@ use Rattle.blsm_model.specs.Geometry.{file_length}
 use Rattle.blsm_model.specs.declared.op.Op.{Op}
 use Rattle.blsm_model.specs.declared.op.Op.TheVariants.{Put, Add, Del, Get, Hold, Next, Release, Work}
 use Rattle.blsm_model.specs.declared.history.Reply.{Reply}
+use Rattle.blsm_model.specs.declared.history.Reply.TheVariants.{Stopped}
 use Rattle.blsm_model.specs.declared.history.Why.{Why}
 use Rattle.blsm_model.specs.declared.history.Why.TheVariants.{Faulted, BadPage}
 use Rattle.blsm_model.specs.Sizes.{Sizes}
@@ -29,7 +30,7 @@ use Rattle.tree_core.specs.declared.answers.Lookup.{Lookup}
 use Rattle.tree_core.specs.declared.answers.Lookup.TheVariants as lookup
 use Rattle.tree_core.specs.declared.answers.Payment.{Payment}
 use Rattle.tree_core.specs.declared.answers.Payment.TheVariants as payment
-use Rattle.tree_session.specs.Faults.{TellsFaults, TellsNone, Reaches, Proceeds, NamesCount, faults_of, faults_of_turn, is_by_fault}
+use Rattle.tree_session.specs.Faults.{NamesStop, TellsFaults, TellsNone, Reaches, Proceeds, NamesCount, faults_of, faults_of_turn, is_by_fault}
 use Rattle.tree_session.specs.Session.{EasesOthers}
 
 -- ---- what one call tells
@@ -143,6 +144,27 @@ calm_before told old new before after tells calm = by old.book.stopped refl
     by : (o : Option Why) → old.book.stopped ≡ o → is_by_fault old.book.stopped ≡ false
     by None is = ap is_by_fault is
     by (Some why) is = ap is_by_fault (is ∙ sym (tells.halted why is).0) ∙ calm
+
+-- ---- which stop is told
+
+pub admit_names : (result : Admission) (seat : ℕ) (op : Op) (old new : Held) (before after : DiskState) → AdmitsBecause result seat op old new before after → NamesStop (reply_to_write result) new.book.stopped
+admit_names admission.Admitted seat op old new before after because = tt
+admit_names (admission.Full charge) seat op old new before after because = tt
+admit_names (admission.Fault true) seat op old new before after because = tt
+admit_names (admission.Fault false) seat op old new before after because = tt
+admit_names (admission.Stopped why) seat op old new before after because = ap (λ (h : Held). h.book.stopped) because.1 ∙ because.0
+
+pub get_names : (result : Lookup) (old new : Held) (before after : DiskState) → FindsBecause result old before after → new.book.stopped ≡ old.book.stopped → NamesStop (reply_to_get result) new.book.stopped
+get_names (lookup.Is value) old new before after because same = tt
+get_names lookup.Absent old new before after because same = tt
+get_names lookup.Fault old new before after because same = tt
+get_names (lookup.Damaged page) old new before after because same = tt
+get_names (lookup.Stopped why) old new before after because same = same ∙ because.0
+
+-- a stop lasts, and so does what was told of it
+pub names_still : (told : ℕ) (reply : Reply) (old new : Held) (before after : DiskState) → TellsFaults told old new before after → NamesStop reply old.book.stopped → NamesStop reply new.book.stopped
+names_still told (Stopped why) old new before after tells names = (tells.halted why names).0
+names_still told _ old new before after tells names = tt
 
 -- ---- and one after another
 

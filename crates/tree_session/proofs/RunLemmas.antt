@@ -17,12 +17,13 @@ use Rattle.blsm_model.specs.declared.history.Line.{Line}
 use Rattle.blsm_model.specs.declared.op.Op.{Op}
 use Rattle.blsm_model.specs.declared.room.Room.{Room}
 use Rattle.disk_trait.specs.Disk.{DiskState}
+use Rattle.core_moves.specs.declared.held.Held.{Held}
 use Rattle.tree_core.specs.Core.{CoreState}
-use Rattle.tree_session.specs.Faults.{Proceeds, TellsNone, faults_of, faults_told}
+use Rattle.tree_session.specs.Faults.{NamesStop, Proceeds, TellsFaults, TellsNone, faults_of, faults_told}
 use Rattle.tree_session.specs.Lines.{HasRoomFor, Rests}
 use Rattle.tree_session.specs.Session.{AreDone, Performs, Runs, TookFew, calls_for, most_calls, most_quanta}
 use Rattle.tree_session.proofs.BookLemmas.{end_counted}
-use Rattle.tree_session.proofs.FaultLemmas.{calm_before, proceeds_none, proceeds_then}
+use Rattle.tree_session.proofs.FaultLemmas.{calm_before, names_still, proceeds_none, proceeds_then}
 
 -- ---- lists
 
@@ -46,6 +47,12 @@ done_more state (first ∷ lines) line old mid new done did = (done.0, done.1, d
 all_more : (es : List Entry) (e : Entry) → AllByRecursion (λ x. TellsNone x.op x.reply) es → TellsNone e.op e.reply → AllByRecursion (λ x. TellsNone x.op x.reply) (es ++ e ∷ [])
 all_more [] e all one = (one, tt)
 all_more (x ∷ es) e all one = (all.0, all_more es e all.1 one)
+
+-- what was told of a stop holds still, and of one reply more
+names_more : (told : ℕ) (es : List Entry) (e : Entry) (old new : Held) (before after : DiskState) → TellsFaults told old new before after → AllByRecursion (λ x. NamesStop x.reply old.book.stopped) es
+    → NamesStop e.reply new.book.stopped → AllByRecursion (λ x. NamesStop x.reply new.book.stopped) (es ++ e ∷ [])
+names_more told [] e old new before after tells all one = (one, tt)
+names_more told (x ∷ es) e old new before after tells all one = (names_still told x.reply old new before after tells all.0, names_more told es e old new before after tells all.1 one)
 
 told_more : (es : List Entry) (e : Entry) → faults_told (es ++ e ∷ []) ≡ faults_told es + faults_of e.reply
 told_more es e =
@@ -110,6 +117,7 @@ runs_none state old rests = record {
   asked_for = refl;
   few = tt;
   calm = λ calm. tt;
+  names = tt;
   room = λ seat below. omega arith;
   rests = rests;
   alone = refl;
@@ -131,6 +139,7 @@ runs_more state lines line old mid new places some so_far did =
           ∙ sym (map-append (λ (l : Line). (l.seat, l.op)) lines (line ∷ []));
       few = took_more old.held.runs.sizes so_far.added so_far.counts entry did.quanta so_far.few (subst (λ (s : Sizes). did.quanta ≤ most_quanta s line.op) so_far.proceeds.sizes did.few);
       calm = λ calm. all_more so_far.added entry (so_far.calm (calm_before (faults_of did.reply) mid.held new.held (state mid.disk) (state new.disk) did.proceeds.tells calm)) (did.calm calm);
+      names = names_more (faults_of did.reply) so_far.added entry mid.held new.held (state mid.disk) (state new.disk) did.proceeds.tells so_far.names did.names;
       room = λ seat below.
           let before = so_far.room seat below in
           let now = ap (λ (b : Book). slice_index b.room.entries seat) did.annals in

@@ -27,10 +27,10 @@ use Rattle.tree_core.specs.Causes.{TurnsBecause}
 use Rattle.tree_core.specs.Core.{CoreState, IsCore}
 use Rattle.tree_core.specs.Notes.{CountsTurn, OwesNothing, quanta_of_turn}
 use Rattle.tree_core.specs.Steps.{StandsSince}
-use Rattle.tree_session.specs.Faults.{Proceeds, Reaches, faults_of, faults_of_turn, is_by_fault}
+use Rattle.tree_session.specs.Faults.{NamesStop, Proceeds, Reaches, faults_of, faults_of_turn, is_by_fault}
 use Rattle.tree_session.specs.Lines.{Rests}
 use Rattle.tree_session.specs.Session.{EasesOthers, Performs, Turns}
-use Rattle.tree_session.proofs.BookLemmas.{ended_empty, finished_early, finished_full, reply_tells}
+use Rattle.tree_session.proofs.BookLemmas.{ended_empty, finished_early, finished_full, reply_names, reply_tells}
 use Rattle.tree_session.proofs.FaultLemmas.{eases_none, eases_then, proceeds_by, proceeds_more, proceeds_none, proceeds_then, proceeds_wider, reaches_none, tells_quiet, turn_calm}
 
 -- ---- turns that worked
@@ -166,6 +166,7 @@ work_ended {D} state seat n old mid new since begins rests even turns disk held 
   annals = ap (λ (h : Held). h.book.book) held ∙ ap (λ (b : Book). counted_up (noted b entry) (length b.entries) (work_in seat mid.held.book).quanta) turns.annals;
   few = turns.few;
   calm = λ calm. sym (reply_tells (work_in seat mid.held.book) mid.held.book.stopped) ∙ turns.calm (ap is_by_fault (sym (ap (λ (h : Held). h.book.stopped) held)) ∙ calm);
+  names = subst (λ (o : Option Why). NamesStop reply o) (sym (ap (λ (h : Held). h.book.stopped) held)) (reply_names (work_in seat mid.held.book) mid.held.book.stopped);
   rests = record {
     idle = λ any. ap (λ (h : Held). work_in any h.book) held ∙ idle any;
     even = λ runs any. subst (λ (h : Held). OwesNothing any h) (sym held) (even (ran (stopped runs)) (stopped runs) any);

@@ -22,7 +22,7 @@ use Rattle.tree_session.specs.Faults.{Proceeds, faults_of}
 use Rattle.tree_session.specs.Lines.{Rests}
 use Rattle.tree_session.specs.Session.{EasesOthers, PaysOff, Performs, most_calls}
 use Rattle.tree_session.proofs.BookLemmas.{all_even, calls_of_write, count_none, last_is, paid_few}
-use Rattle.tree_session.proofs.FaultLemmas.{admit_calm, eases_then, none_told, proceeds_then, proceeds_wider}
+use Rattle.tree_session.proofs.FaultLemmas.{admit_calm, admit_names, eases_then, none_told, proceeds_then, proceeds_wider}
 
 -- a write that isn't admitted leaves no debt
 refused_even : (answer : Admission) (seat : ℕ) (op : Op) (old new : Held) (before after : DiskState) → (answer ≡ admission.Admitted → ⊥) → AdmitsBecause answer seat op old new before after
@@ -47,6 +47,7 @@ write_refused state seat op answer old new write not because notes rests proceed
       annals = notes.annals ∙ sym (count_none (noted old.held.book.book entry) (length old.held.book.book.entries));
       few = omega arith;
       calm = λ calm. none_told op (reply_to_write answer) (admit_calm answer seat op old.held new.held (state old.disk) (state new.disk) because calm);
+      names = admit_names answer seat op old.held new.held (state old.disk) (state new.disk) because;
       rests = record {
         idle = idle_still old.held.book new.held.book notes.work rests.idle;
         even = refused_even answer seat op old.held new.held (state old.disk) (state new.disk) not because rests.even;
@@ -71,6 +72,7 @@ write_taken state seat op old mid new write keeps ran notes eases rests admits p
       annals = annals;
       few = paid_few seat pays.quanta op old.held new.held (state old.disk) (state new.disk) write keeps pays.keeps proceeds.sizes annals;
       calm = λ calm. none_told op Done refl;
+      names = tt;
       rests = record {
         idle = idle_still old.held.book new.held.book (pays.work ∙ notes.work) rests.idle;
         even = λ runs. all_even seat old.held new.held (rests.even ran) (eases_then seat old.held mid.held new.held eases pays.others) (pays.even runs);

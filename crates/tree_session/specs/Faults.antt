@@ -5,7 +5,7 @@ use Rattle.blsm_model.specs.Format.{callers}
 use Rattle.blsm_model.specs.Geometry.{file_length}
 use Rattle.blsm_model.specs.declared.history.Entry.{Entry}
 use Rattle.blsm_model.specs.declared.history.Reply.{Reply}
-use Rattle.blsm_model.specs.declared.history.Reply.TheVariants.{Fault, FaultLost, FaultUnsure}
+use Rattle.blsm_model.specs.declared.history.Reply.TheVariants.{Fault, FaultLost, FaultUnsure, Stopped}
 use Rattle.blsm_model.specs.declared.history.Why.{Why}
 use Rattle.blsm_model.specs.declared.op.Op.{Op}
 use Rattle.blsm_model.specs.declared.op.Op.TheVariants.{Get}
@@ -42,6 +42,11 @@ is_by_fault _ = false
 abbrev pub NamesCount : Option Why → DiskState → DiskState → Type 0
 NamesCount (Some (Faulted faults)) before after = (faults ≡ after.faults) × HasRisen before.faults after.faults
 NamesCount _ before after = ⊤
+
+-- a reply that the store is stopped names this cause
+abbrev pub NamesStop : Reply → Option Why → Type 0
+NamesStop (Stopped why) stopped = stopped ≡ Some why
+NamesStop _ stopped = ⊤
 
 -- So many faults are told. The count has risen for each; it stands where none is told and no fault stopped the store. A store that is stopped
 -- stays so, for the same cause, and no call of its disk fails.

@@ -23,7 +23,7 @@ use Rattle.core_moves.specs.declared.held.Held.{Held}
 use Rattle.tree_core.specs.Core.{CoreState, IsCore}
 use Rattle.tree_core.specs.Notes.{OwesNothing}
 use Rattle.tree_core.specs.Steps.{StandsSince}
-use Rattle.tree_session.specs.Faults.{Proceeds, TellsNone, faults_of, faults_of_turn, faults_told, is_by_fault}
+use Rattle.tree_session.specs.Faults.{NamesStop, Proceeds, TellsNone, faults_of, faults_of_turn, faults_told, is_by_fault}
 use Rattle.tree_session.specs.Lines.{Rests}
 
 -- ---- one command
@@ -48,6 +48,8 @@ pub record Performs {D : Type 0} (state : D → DiskState) (seat : ℕ) (op : Op
   pub annals : new.held.book.book ≡ counted_up (noted old.held.book.book (record { seat = seat; op = op; reply = reply })) (length old.held.book.book.entries) quanta
   pub few : quanta ≤ most_quanta old.held.runs.sizes op
   pub calm : is_by_fault new.held.book.stopped ≡ false → TellsNone op reply
+  -- it tells of a stop with its cause
+  pub names : NamesStop reply new.held.book.stopped
   pub rests : Rests new.held
   -- and what lasts begins there anew
   pub begins : StandsSince new.held new.held (state new.disk) (state new.disk)
@@ -81,6 +83,7 @@ pub record Runs {D : Type 0} (state : D → DiskState) (lines : List Line) (old 
   pub asked_for : asked_in added ≡ asked lines
   pub few : TookFew old.held.runs.sizes added counts
   pub calm : is_by_fault new.held.book.stopped ≡ false → AllByRecursion (λ e. TellsNone e.op e.reply) added
+  pub names : AllByRecursion (λ e. NamesStop e.reply new.held.book.stopped) added
   pub room : (seat : ℕ) → seat < callers → slice_index new.held.book.book.room.entries seat + length (lines_of seat lines) ≡ slice_index old.held.book.book.room.entries seat
   -- no quantum is counted for a worker
   pub alone : sum (drop callers new.held.book.seats.quanta) ≡ sum (drop callers old.held.book.seats.quanta)

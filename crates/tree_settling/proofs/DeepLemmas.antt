@@ -16,10 +16,10 @@ use Rattle.mem_table.specs.Tables.{Contents}
 use Rattle.record_delta.specs.Entries.{Entries, replayed}
 use Rattle.tree_file.specs.Tree.{Tree, HoldsTree, FitsSizes}
 use Rattle.tree_file.specs.Places.{HoldsEither}
-use Rattle.tree_log.specs.Log.{LogState, IsLogOf}
+use Rattle.tree_log.specs.Log.{LogState, IsLogOf, weight_of_tables}
 use Rattle.tree_runs.specs.Runs.{RunsState, AreRunning, left_for_deep, made_by_deep}
 use Rattle.tree_runs.specs.Holding.{IsDeepSwapped, LeavesSwapped, StandOver, SwapsDeep, with_deep_run}
-use Rattle.tree_settling.specs.Settling.{MergesGoOn, LeavesMaps, MaySettle, ShowsMap, anywhere}
+use Rattle.tree_settling.specs.Settling.{MergesGoOn, IsDeepLight, LeavesMaps, MaySettle, ShowsMap, anywhere, components_of}
 use Rattle.tree_settling.proofs.NextLemmas.{Follows, deep_follows}
 use Rattle.tree_settling.proofs.StepLemmas.{honest_still, kept_swapped, stays_long}
 use Rattle.tree_settling.proofs.TakenLemmas.{well_then}
@@ -87,11 +87,17 @@ module _ (done : Bool) (a : Contents) (runs mid new : RunsState) (log : LogState
         map_is = x.3.map_is ∙ shows.map_is;
       }
 
+  next_catalogue : SwapsDeep mid new → new.catalogue ≡ with_deep_run (made_by_deep mid.deep) runs.catalogue
+  next_catalogue swaps = swaps.catalogue ∙ ap (with_deep_run (made_by_deep mid.deep)) swap.goes.catalogue
+
+  -- its run weighs no more than C1' and C2, whose place it takes
+  pub deep_light : IsDeepLight runs → left_for_deep mid.deep ≡ 0 → SwapsDeep mid new → components_of new.catalogue + weight_of_tables log ≤ components_of runs.catalogue + weight_of_tables log
+  deep_light light none swaps = omega (arith, ap components_of (next_catalogue swaps), swap.goes.deep, none, light)
+
   pub deep_may : MaySettle runs log before → left_for_deep mid.deep ≡ 0 → SwapsDeep mid new → AreRunning after.is_honest after.bytes new → MaySettle new log after
   deep_may may none swaps running =
       let sizes : new.sizes ≡ runs.sizes = swaps.sizes ∙ swap.goes.sizes in
-      let catalogue : new.catalogue ≡ with_deep_run (made_by_deep mid.deep) runs.catalogue = swaps.catalogue ∙ ap (with_deep_run (made_by_deep mid.deep)) swap.goes.catalogue in
-      let light : (made_by_deep mid.deep).weight ≤ runs.catalogue.c1x.weight + runs.catalogue.c2.weight = omega (arith, swap.goes.deep, none, may.deep) in
+      let catalogue : new.catalogue ≡ with_deep_run (made_by_deep mid.deep) runs.catalogue = next_catalogue swaps in
       record {
         running = running;
         long = stays_long runs.sizes new.sizes sizes may.long (deep_leaves).effect;
@@ -102,7 +108,7 @@ module _ (done : Bool) (a : Contents) (runs mid new : RunsState) (log : LogState
         lanes_are = refl;
         log_of = log_keeps may.lanes (record may.lanes { catalogue = new.catalogue }) log (ap (λ (c : Catalog). c.lanes) catalogue ∙ ap (λ (c : Catalog). c.lanes) (sym may.lanes_are)) refl refl may.log_of;
         mark = omega (arith, ap (λ (c : Catalog). c.c1.weight) catalogue, ap c1_mark sizes, may.mark);
-        full = omega (arith, ap (λ (c : Catalog). c.c1.weight) catalogue, ap (λ (c : Catalog). c.c1x.weight) catalogue, ap (λ (c : Catalog). c.c2.weight) catalogue, ap capacity sizes, light, may.full);
+        full = omega (arith, deep_light may.deep none swaps, ap capacity sizes, may.full);
         deep = omega (arith, ap (λ (o : Option DeepState). (made_by_deep o).weight + left_for_deep o) swaps.deep);
         reserved_a = omega (arith, ap high_mark sizes, may.reserved_a);
         reserved_b = omega (arith, ap high_mark sizes, may.reserved_b);

@@ -192,14 +192,29 @@ module _ (done : Bool) (a : Contents) (runs begun mid new : RunsState) (log : Lo
         map_is = x.3.map_is ∙ shows.map_is;
       }
 
+  next_catalogue : SwapsPass mid new → new.catalogue ≡ with_pass_run mid.sizes (made_by_pass mid.pass) runs.catalogue
+  next_catalogue swaps = swaps.catalogue ∙ ap (with_pass_run mid.sizes (made_by_pass mid.pass)) same_catalogue
+
+  -- its run weighs no more than table A and C1, which give place to it
+  pub pass_light : (log' : LogState) → SwapsPass mid new → log' ≡ turned_log log → components_of new.catalogue + weight_of_tables log' ≤ components_of runs.catalogue + weight_of_tables log
+  pass_light log' swaps turned =
+      omega (
+        arith,
+        ap components_of (next_catalogue swaps),
+        next_weighs mid.sizes (made_by_pass mid.pass) runs.catalogue,
+        ap weight_of_tables turned,
+        swap.goes.pass,
+        swap.none,
+        begun_light runs begun a.entries swap.begins,
+        ap (λ (t : Contents). entries_weight t.entries) swap.table,
+      )
+
   pub pass_may : (log' : LogState) → MaySettle runs log before → SwapsPass mid new
       → ((tree next : Tree) → TurnsRoles tree.catalogue next.catalogue → next.lane_a ≡ tree.lane_b → next.lane_b ≡ [] → IsLogOf tree log → IsLogOf next log')
       → log' ≡ turned_log log → AreRunning after.is_honest after.bytes new → MaySettle new log' after
   pass_may log' may swaps turns turned running =
       let sizes : new.sizes ≡ runs.sizes = swaps.sizes ∙ same_sizes in
-      let catalogue : new.catalogue ≡ with_pass_run mid.sizes (made_by_pass mid.pass) runs.catalogue = swaps.catalogue ∙ ap (with_pass_run mid.sizes (made_by_pass mid.pass)) same_catalogue in
-      let light : (made_by_pass mid.pass).weight ≤ entries_weight log.a.entries + runs.catalogue.c1.weight =
-      omega (arith, swap.goes.pass, swap.none, begun_light runs begun a.entries swap.begins, ap (λ (t : Contents). entries_weight t.entries) swap.table) in
+      let catalogue : new.catalogue ≡ with_pass_run mid.sizes (made_by_pass mid.pass) runs.catalogue = next_catalogue swaps in
       let next : Tree = record may.lanes { catalogue = new.catalogue; lane_a = may.lanes.lane_b; lane_b = [] } in
       record {
         running = running;
@@ -221,8 +236,7 @@ module _ (done : Bool) (a : Contents) (runs begun mid new : RunsState) (log : Lo
               ap c1_mark same_sizes,
               ap c1_mark sizes,
             );
-        full =
-            omega (arith, ap components_of catalogue, next_weighs mid.sizes (made_by_pass mid.pass) runs.catalogue, ap weight_of_tables turned, ap capacity sizes, light, may.full);
+        full = omega (arith, pass_light log' swaps turned, ap capacity sizes, may.full);
         deep =
             omega (
               arith,

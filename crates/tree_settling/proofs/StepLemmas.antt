@@ -83,6 +83,7 @@ settles_start runs log d timed may = record {
   };
   shows = λ pairs honest shows. shows;
   may = may;
+  light = omega arith;
   sizes = refl;
   calm = refl;
 }
@@ -103,6 +104,7 @@ settles_run old mid new log log' log'' before d after timed step rest = record {
   leaves = leaves_run old mid log log' before d after timed step rest.leaves;
   shows = λ pairs honest shows. rest.shows pairs (honest_still step.leaves.effect honest) (step.shows pairs honest shows);
   may = rest.may;
+  light = omega (arith, step.light, rest.light);
   sizes = rest.sizes ∙ step.sizes;
   calm = rest.calm ∙ step.calm;
 }

@@ -95,11 +95,12 @@ pub record LeavesMaps (runs : RunsState) (log : LogState) (old new : DiskState) 
   pub calls : ℕ
   pub effect : Affects anywhere (file_length runs.sizes) calls old new
 
--- And once it is done: the disk shows the map that it showed, and settling may go on.
+-- And once it is done: the disk shows the map that it showed, and settling may go on. Components and tables together weigh no more than they did.
 pub record SettlesOn (runs runs' : RunsState) (log log' : LogState) (old new : DiskState) : Type 0 where
   pub leaves : LeavesMaps runs log old new
   pub shows : (pairs : List (Key × Value)) → IsTrue old.is_honest → ShowsMap runs log pairs old → ShowsMap runs' log' pairs new
   pub may : MaySettle runs' log' new
+  pub light : components_of runs'.catalogue + weight_of_tables log' ≤ components_of runs.catalogue + weight_of_tables log
   pub sizes : runs'.sizes ≡ runs.sizes
   pub calm : new.faults ≡ old.faults
 

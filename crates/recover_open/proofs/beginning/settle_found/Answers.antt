@@ -18,8 +18,9 @@ returns-in-Ok-clause-keeps g c = λ honest only holds.
 pub returns-in-Ok-clause-stands : goal.returns-in-Ok-clause-stands
 returns-in-Ok-clause-stands g c = λ honest only holds.
     let b = c.begin-runs.ensures in
-    let shows = shows_begun c.args.found c.begin-runs.result.runs c.begin-runs.result.log (g.D.Disk.state c.args.disk.now) b.sizes only holds (b.lists (g.D.Disk.state c.args.disk.now).bytes holds) in
-    stands_empty c.settle.new.runs c.settle.new.log _ _ c.in-Ok.ensures.settled (c.in-Ok.ensures.on.shows _ honest shows)
+    let begins = b.lists (g.D.Disk.state c.args.disk.now).bytes holds in
+    let shows = shows_begun c.args.found c.begin-runs.result.runs c.begin-runs.result.log (g.D.Disk.state c.args.disk.now) b.sizes only holds begins in
+    stands_empty c.begin-runs.result.runs c.settle.new.runs c.begin-runs.result.log c.settle.new.log holds.tree _ _ honest begins shows c.in-Ok.ensures.on c.in-Ok.ensures.settled
 
 pub returns-in-Err-Damaged-clause-keeps : goal.returns-in-Err-Damaged-clause-keeps
 returns-in-Err-Damaged-clause-keeps g c = λ honest only holds.

@@ -20,7 +20,7 @@ returns-in-Ok-open_tree-clause-stands g c = λ honest.
     let file = (g.D.Disk.state c.args.disk).bytes in
     let honest' = subst IsTrue (sym c.open_tree.ensures.effect.effect.goes_on.is_honest) honest in
     let opens = opens_as c.args.room b.runs b.log c.in-Ok.memory.annals c.assemble.result.held file (g.D.Disk.state c.open_tree.new.disk) honest' (c.in-Ok-open_tree.ensures.stands honest) c.in-Ok.ensures
-    c.assemble.ensures.runs c.assemble.ensures.stands in
+    c.assemble.ensures.runs (charge_opened _ _ c.assemble.result.held c.assemble.ensures.opened) c.assemble.ensures.stands in
     subst (λ d. OpensAs c.args.room c.assemble.result.held file (g.D.Disk.state d)) (sym c.assemble.ensures.disk) opens
 
 pub returns-in-Ok-open_tree-clause-keeps : goal.returns-in-Ok-open_tree-clause-keeps

@@ -1,6 +1,7 @@
-use Rattle.std.proofs.Common.{sym, subst, IsTrue}
-use Rattle.tree_file.specs.Tree.{ReadsAsMap}
+use Rattle.std.proofs.Common.{sym, subst, IsTrue, List, ℕ}
+use Rattle.std.specs.Prelude.{IfOk}
 use Rattle.tree_reading.specs.Reading.{HoldsFound}
+use Rattle.recover_open.specs.Opening.{StandsEmpty}
 use Rattle.recover_open.proofs.TreeLemmas.{found_reads, ready_as, stands_as, why_fault, keeps_read, keeps_settled, keeps_same, stays_on, faults_on}
 use Rattle.recover_open.proofs.opening.open_tree.Goals as goal
 
@@ -22,11 +23,12 @@ pub returns-clause-stands : goal.returns-clause-stands
 returns-clause-stands g c = λ honest.
     let f = c.in_ok-found.found in
     let r = c.read_synced.ensures in
-    let file = (g.D.Disk.state c.args.disk.now).bytes in
+    let holds = c.in_ok-found.ensures.holds honest in
     let honest' = subst IsTrue (sym r.effect.effect.goes_on.is_honest) honest in
-    let holds = subst (HoldsFound f) (sym (r.same honest)) (c.in_ok-found.ensures.holds honest) in
-    stands_as c.settle_found.result f f.catalogue.version file _ _ (c.in_ok-found.ensures.holds honest) c.in_ok-found.ensures.found.2.head.version (subst (ReadsAsMap f.geometry _) (r.same honest) (found_reads f _ holds)) c.settle_found.ensures.ready
-    (c.settle_found.ensures.stands honest' (c.in_ok-found.ensures.only honest) holds)
+    let stands =
+    subst (λ (file : List ℕ). (holds : HoldsFound f file) → IfOk c.settle_found.result (λ begun. StandsEmpty begun.runs begun.log holds.tree (g.D.Disk.state c.settle_found.new.disk))) (r.same honest)
+    (c.settle_found.ensures.stands honest' (c.in_ok-found.ensures.only honest)) in
+    stands_as c.settle_found.result f f.catalogue.version _ _ holds c.in_ok-found.ensures.found.2.head.version c.settle_found.ensures.ready (stands holds)
 
 pub returns-clause-refused : goal.returns-clause-refused
 returns-clause-refused g c = λ honest.

@@ -69,7 +69,7 @@ returns-clause-headline g c = λ honest.
     let old = c.in-Ok.core in
     let new = c.run_lines.new.core in
     let opens = c.in-Ok.ensures.stands honest in
-    whole_headline c.seats_apart.ensures.opening c.outcomes_are_told.ensures.pages c.a_paced_tree_is_bounded.ensures.bounded g.D.Disk.state g.met.D.Disk.timed (no_entries c.args.room) (g.D.Disk.state old.disk).faults c.args.room
+    whole_headline c.seats_apart.ensures.opening c.outcomes_are_told.ensures.pages g.D.Disk.state g.met.D.Disk.timed (no_entries c.args.room) (g.D.Disk.state old.disk).faults c.args.room
     c.args.lines.now (g.D.Disk.state c.args.disk) old new honest (g.met.D.Disk.timed c.args.disk) c.in-Ok.ensures.opened c.charge-charge_now.ensures.kept
     (record {
       opens = opens;

@@ -1,5 +1,5 @@
 use Rattle.std.specs.Prelude.{drop, sum}
-use Rattle.std.proofs.Common.{◌∙◌, ◌+◌, length, sym, ap, subst, arith}
+use Rattle.std.proofs.Common.{◌∙◌, length, sym, ap, subst, arith}
 use Rattle.blsm_model.specs.Book.{noted}
 use Rattle.blsm_model.specs.Format.{callers}
 use Rattle.blsm_model.specs.declared.history.Entry.{Entry}
@@ -10,7 +10,7 @@ use Rattle.tree_core.specs.Answers.{reply_to_get}
 use Rattle.tree_session.specs.Faults.{faults_of}
 use Rattle.tree_session.specs.Lines.{Rests}
 use Rattle.tree_session.proofs.BookLemmas.{count_none}
-use Rattle.tree_session.proofs.FaultLemmas.{get_tells, proceeds_by, reaches_by, reaches_counted}
+use Rattle.tree_session.proofs.FaultLemmas.{get_names, get_tells, proceeds_by, reaches_by, reaches_counted}
 use Rattle.tree_session.proofs.GetLemmas.{get_calls}
 use Rattle.tree_session.proofs.session.look_up.Goals as goal
 
@@ -28,6 +28,7 @@ returns g c =
       annals = ap (λ (h : Held). h.book.book) held ∙ sym (count_none (noted old.held.book.book entry) (length old.held.book.book.entries));
       few = omega arith;
       calm = λ calm. tt;
+      names = get_names c.get-found.result old.held new.held (state old.disk) (state new.disk) c.get-found.ensures.cause (ap (λ (h : Held). h.book.stopped) held);
       begins = c.begins.ensures;
       rests = subst (λ (h : Held). Rests h) (sym held) (record { idle = λ seat. c.requires.rests.idle seat; even = λ runs seat. c.requires.rests.even runs seat });
       proceeds =

@@ -2,7 +2,7 @@ use Rattle.std.proofs.Common.{◌∙◌, true, false, Err, refl, ap, sym, subst}
 use Rattle.std.proofs.lemmas.Result.{err_from_is_err_and}
 use Rattle.mem_table.specs.Tables.{Contents}
 use Rattle.tree_runs.specs.Holding.{StandOver}
-use Rattle.tree_settling.proofs.DeepLemmas.{IsDeepSwap, deep_leaves, deep_may, deep_shows}
+use Rattle.tree_settling.proofs.DeepLemmas.{IsDeepSwap, deep_leaves, deep_light, deep_may, deep_shows}
 use Rattle.tree_settling.proofs.StepLemmas.{affects_anywhere, left_map, stays_long}
 use Rattle.tree_settling.proofs.ToldLemmas.{ends_from, fault_then, well_told}
 use Rattle.tree_settling.proofs.settling.finish_deep.Goals as goal
@@ -62,6 +62,9 @@ returns-clause-on g c =
       may =
           deep_may true c.a.result.now c.args.runs.now c.take_deep.new.runs c.swap_deep.new.self c.args.log.now before mid after swap c.requires.may c.in_ok-take_deep.ensures.done.1
           c.in_ok-swap_deep.ensures.swaps c.in_ok-swap_deep.ensures.running;
+      light =
+          deep_light true c.a.result.now c.args.runs.now c.take_deep.new.runs c.swap_deep.new.self c.args.log.now before mid after swap c.requires.may.deep c.in_ok-take_deep.ensures.done.1
+          c.in_ok-swap_deep.ensures.swaps;
       sizes = c.in_ok-swap_deep.ensures.swaps.sizes ∙ c.in_ok-take_deep.ensures.goes_on.sizes;
       calm = c.in_ok-swap_deep.ensures.faults ∙ c.in_ok-take_deep.ensures.goes_on.well.calm;
     }

@@ -2,7 +2,7 @@ use Rattle.std.proofs.Common.{◌∙◌, true, false, Err, refl, ap, sym, subst}
 use Rattle.std.proofs.lemmas.Result.{err_from_is_err_and}
 use Rattle.mem_table.specs.Tables.{Contents}
 use Rattle.tree_runs.specs.Holding.{StandOver}
-use Rattle.tree_settling.proofs.PassLemmas.{IsPassSwap, begun_fits, begun_left, begun_over, pass_leaves, pass_may, pass_shows, same_sizes}
+use Rattle.tree_settling.proofs.PassLemmas.{IsPassSwap, begun_fits, begun_left, begun_over, pass_leaves, pass_light, pass_may, pass_shows, same_sizes}
 use Rattle.tree_settling.proofs.StepLemmas.{affects_anywhere}
 use Rattle.tree_settling.proofs.ToldLemmas.{ends_from, fault_then, well_told}
 use Rattle.tree_settling.proofs.settling.finish_pass.Goals as goal
@@ -79,6 +79,9 @@ returns-clause-on g c =
       may =
           pass_may true c.a-a.result.now c.args.runs.now c.begin_pass.new.self c.take_pass.new.runs c.swap_pass.new.self c.args.log.now before mid after swap c.turn.new.self c.requires.may
           c.in_ok-swap_pass.ensures.swaps c.turn.ensures.is_of c.turn.ensures.log c.in_ok-swap_pass.ensures.running;
+      light =
+          pass_light true c.a-a.result.now c.args.runs.now c.begin_pass.new.self c.take_pass.new.runs c.swap_pass.new.self c.args.log.now before mid after swap c.turn.new.self
+          c.in_ok-swap_pass.ensures.swaps c.turn.ensures.log;
       sizes = c.in_ok-swap_pass.ensures.swaps.sizes ∙ same_sizes true c.a-a.result.now c.args.runs.now c.begin_pass.new.self c.take_pass.new.runs c.swap_pass.new.self c.args.log.now before mid after swap;
       calm = c.in_ok-swap_pass.ensures.faults ∙ c.in_ok-take_pass.ensures.goes_on.well.calm;
     }

@@ -1,0 +1,160 @@
+-- What a file weighs that holds the tree, also within an admission.
+use Rattle.std.specs.Prelude.{nat_le, nat_lt, sum}
+use Rattle.std.proofs.Common.{◌≡◌, ◌∙◌, ℕ, ◌+◌, ◌*◌, ◌≤◌, Bool, true, false, cond, not, ◌&&◌, ◌||◌, List, [], ◌∷◌, ◌++◌, refl, ap, sym, subst, arith}
+use Rattle.std.proofs.lemmas.Bool.{false≢true}
+use Rattle.std.proofs.lemmas.List.Sums.{sum_by-append, sum_by-cons}
+use Rattle.blsm_model.specs.declared.key.Key.{Key}
+use Rattle.blsm_model.specs.declared.row.Value.{Value}
+use Rattle.blsm_model.specs.declared.op.Op.{Op}
+use Rattle.blsm_model.specs.declared.history.Entry.{Entry}
+use Rattle.blsm_model.specs.declared.history.Reply.{Reply}
+use Rattle.blsm_model.specs.declared.history.Reply.TheVariants.{FaultUnsure}
+use Rattle.blsm_model.specs.Geometry.{c1_mark}
+use Rattle.blsm_model.specs.Histories.{writes_of}
+use Rattle.blsm_model.specs.Images.{is_unsure}
+use Rattle.blsm_model.specs.Legal.{is_running, is_stopped, is_stopping, total_weight}
+use Rattle.blsm_model.specs.Sizes.{Sizes}
+use Rattle.record_delta.specs.Entries.{entries_weight, replayed}
+use Rattle.page_file.specs.Component.{entries_of}
+use Rattle.pacing.specs.Kept.{IsPaced, most_taken}
+use Rattle.pacing.specs.Pace.{Pace}
+use Rattle.pacing.specs.Steps.{deep_settled, ready_for as pace_ready_for}
+use Rattle.pacing.proofs.Admissions.{deep_settled_kept, ready_kept}
+use Rattle.tree_machine.specs.Lists.{Lists}
+use Rattle.tree_machine.specs.Machine.{Machine, in_pass, pass_done, deep_done}
+use Rattle.tree_machine.specs.Moves.{begin_pass, end_pass, output_of, rotate, swap_deep, swap_pass}
+use Rattle.tree_machine.specs.Steps.{deep_swapped, pass_begun_for, pass_swapped, ready_for, swapped}
+use Rattle.tree_machine.proofs.CarryLemmas.{deep_swapped_carries, ready_carries}
+use Rattle.tree_machine.proofs.FoldLemmas.{both_hold}
+use Rattle.paced_tree.specs.Kept.{IsPacedTree}
+use Rattle.paced_tree.specs.Numbers.{IsPaceOf}
+use Rattle.paced_tree.proofs.Moves.{settled_of, ready_of}
+use Rattle.paced_tree.proofs.Promises.{has_way}
+use Rattle.tree_file.specs.Tree.{Tree, HoldsTree, components_weight, lists_of}
+use Rattle.core_lists.specs.Shown.{CountsAs, WeighsWithin, doubted, lanes_weight, most_worked, weight_in_doubt}
+
+-- ---- machines that count the same
+
+pub counts_itself : (m : Machine) → CountsAs m m
+counts_itself m = record { charge = refl; peak = refl; quanta = refl }
+
+counts_then : (a b c : Machine) → CountsAs a b → CountsAs b c → CountsAs a c
+counts_then a b c first second = record { charge = second.charge ∙ first.charge; peak = second.peak ∙ first.peak; quanta = second.quanta ∙ first.quanta }
+
+counts_back : (m later : Machine) → CountsAs m later → CountsAs later m
+counts_back m later counts = record { charge = sym counts.charge; peak = sym counts.peak; quanta = sym counts.quanta }
+
+-- no swap counts a quantum or a write
+pub deep_swapped_counts : (m : Machine) → CountsAs m (deep_swapped m)
+deep_swapped_counts m = by (deep_done m)
+  where
+    by : (b : Bool) → CountsAs m (cond b (swap_deep m) m)
+    by true = record { charge = refl; peak = refl; quanta = refl }
+    by false = counts_itself m
+
+swap_pass_counts : (m : Machine) → CountsAs m (swap_pass m)
+swap_pass_counts m = by (nat_le (c1_mark m.gears.sizes) (entries_weight (output_of m.merges.pass)))
+  where
+    by : (b : Bool) → CountsAs m (cond b (rotate (end_pass m)) (end_pass m))
+    by true = record { charge = refl; peak = refl; quanta = refl }
+    by false = record { charge = refl; peak = refl; quanta = refl }
+
+pass_swapped_counts : (m : Machine) → CountsAs m (pass_swapped m)
+pass_swapped_counts m = by (pass_done m)
+  where
+    by : (b : Bool) → CountsAs m (cond b (swap_pass m) m)
+    by true = swap_pass_counts m
+    by false = counts_itself m
+
+begun_counts : (weight : ℕ) (m : Machine) → CountsAs m (pass_begun_for weight m)
+begun_counts weight m = by (not (in_pass m) && nat_lt m.gears.sizes.low (m.spring + weight))
+  where
+    by : (b : Bool) → CountsAs m (cond b (begin_pass m) m)
+    by true = record { charge = refl; peak = refl; quanta = refl }
+    by false = counts_itself m
+
+pub ready_counts : (weight : ℕ) (m : Machine) → CountsAs m (ready_for weight m)
+ready_counts weight m =
+    counts_then m (swapped m) (ready_for weight m) (counts_then m (deep_swapped m) (swapped m) (deep_swapped_counts m) (pass_swapped_counts (deep_swapped m))) (begun_counts weight (swapped m))
+
+-- ---- as the history grows
+
+pub doubt_grows : (history more : List Entry) → doubted history ≤ doubted (history ++ more)
+doubt_grows history more = omega (arith, sum_by-append weight_in_doubt history more)
+
+-- a history of a tree that runs has no write in doubt
+sure_reply : (op : Op) (reply : Reply) → not (is_stopping op reply || is_stopped reply) ≡ true → cond (is_unsure reply) (total_weight (writes_of op)) 0 ≡ 0
+sure_reply op FaultUnsure runs = absurd (false≢true runs)
+sure_reply op _ runs = refl
+
+pub running_is_sure : (history : List Entry) → is_running history ≡ true → doubted history ≡ 0
+running_is_sure [] runs = refl
+running_is_sure (e ∷ es) runs =
+    let parts = both_hold (not (is_stopping e.op e.reply || is_stopped e.reply)) (is_running es) runs in
+    sum_by-cons weight_in_doubt e es ∙ omega (arith, sure_reply e.op e.reply parts.0, running_is_sure es parts.1)
+
+pub same_work : (m later : Machine) → later.gears.sizes ≡ m.gears.sizes → CountsAs m later → most_worked later ≡ most_worked m
+same_work m later sizes counts =
+    ap (λ (n : ℕ). n + most_taken later.gears.sizes * sum later.seats.quanta) counts.charge
+    ∙ ap (λ (s : Sizes). m.counts.charge + most_taken s * sum later.seats.quanta) sizes
+    ∙ ap (λ (quanta : List ℕ). m.counts.charge + most_taken m.gears.sizes * sum quanta) counts.quanta
+
+-- A file weighs no more for a later machine that counts the same, nor for a history with more in doubt.
+pub weighs_as : (m later : Machine) (history longer : List Entry) (file : List ℕ) → later.gears.sizes ≡ m.gears.sizes → CountsAs m later → doubted history ≤ doubted longer → WeighsWithin m history file
+    → WeighsWithin later longer file
+weighs_as m later history longer file sizes counts more weighs = record {
+  tree = weighs.tree;
+  holds = subst (λ (s : Sizes). HoldsTree s weighs.tree file) (sym sizes) weighs.holds;
+  components = subst (λ (n : ℕ). components_weight weighs.tree ≤ n) (sym (same_work m later sizes counts)) weighs.components;
+  lanes = omega (arith, weighs.lanes, counts.peak, more);
+}
+
+-- ---- by the pace
+
+pub paced_components : (m : Machine) (pace : Pace) (tree : Tree) → IsPaceOf m pace → IsPaced pace → m.lists ≡ lists_of tree → components_weight tree ≤ most_worked m
+paced_components m pace tree of_tree paced lists =
+    let sizes : pace.gears.sizes ≡ m.gears.sizes = sym (ap (λ (p : Pace). p.gears.sizes) of_tree.numbers) in
+    let c1 : entries_weight (entries_of tree.c1) ≡ pace.c1 = sym (ap (λ (l : Lists). entries_weight l.c1) lists) ∙ ap (λ (p : Pace). p.c1) of_tree.numbers in
+    let c1x : entries_weight (entries_of tree.c1x) ≡ pace.c1x = sym (ap (λ (l : Lists). entries_weight l.c1x) lists) ∙ ap (λ (p : Pace). p.c1x) of_tree.numbers in
+    let c2 : entries_weight (entries_of tree.c2) ≡ pace.c2 = sym (ap (λ (l : Lists). entries_weight l.c2) lists) ∙ ap (λ (p : Pace). p.c2) of_tree.numbers in
+    let opening : pace.opening ≡ m.counts.charge = sym (ap (λ (p : Pace). p.opening) of_tree.numbers) in
+    let took : most_taken pace.gears.sizes * pace.work ≡ most_taken m.gears.sizes * sum m.seats.quanta =
+    ap (λ (s : Sizes). most_taken s * pace.work) sizes ∙ ap (λ (n : ℕ). most_taken m.gears.sizes * n) of_tree.booked.worked in
+    numbers _ _ _ _ _ _ _ _ _ _ _ paced.within.worked c1 c1x c2 opening took
+  where
+    numbers : (c1 c1x c2 taken opening took one two three charge most : ℕ) → c1 + c1x + c2 + taken ≤ opening + took → one ≡ c1 → two ≡ c1x → three ≡ c2 → opening ≡ charge → took ≡ most → one + two + three ≤ charge + most
+    numbers c1 c1x c2 taken opening took one two three charge most le a b c d e = omega arith
+
+pub paced_lanes : (m : Machine) (pace : Pace) (tree : Tree) → IsPaceOf m pace → IsPaced pace → m.lists ≡ lists_of tree → lanes_weight tree ≤ m.counts.peak
+paced_lanes m pace tree of_tree paced lists =
+    let a : entries_weight (replayed tree.lane_a) ≡ pace.a = sym (ap (λ (l : Lists). entries_weight l.a) lists) ∙ ap (λ (p : Pace). p.a) of_tree.numbers in
+    let b : entries_weight (replayed tree.lane_b) ≡ pace.b = sym (ap (λ (l : Lists). entries_weight l.b) lists) ∙ ap (λ (p : Pace). p.b) of_tree.numbers in
+    let peak : m.counts.peak ≡ pace.peak = ap (λ (p : Pace). p.peak) of_tree.numbers in
+    omega (arith, paced.within.within_peak, a, b, peak)
+
+-- each file that holds the tree of a machine that is paced,
+pub paced_weighs : (m : Machine) (pace : Pace) (tree : Tree) (history : List Entry) (file : List ℕ) → IsPaceOf m pace → IsPaced pace → m.lists ≡ lists_of tree → HoldsTree m.gears.sizes tree file → WeighsWithin m history file
+paced_weighs m pace tree history file of_tree paced lists holds = record {
+  tree = tree;
+  holds = holds;
+  components = paced_components m pace tree of_tree paced lists;
+  lanes = omega (arith, paced_lanes m pace tree of_tree paced lists);
+}
+
+-- the tree after the deep merge's swap,
+pub settled_weighs : (opening : List (Key × Value)) (m : Machine) (pace : Pace) (next : Tree) (history : List Entry) (file : List ℕ) → IsPacedTree opening m pace → (deep_swapped m).lists ≡ lists_of next
+    → HoldsTree m.gears.sizes next file → WeighsWithin m history file
+settled_weighs opening m pace next history file paced lists holds =
+    let sizes = (deep_swapped_carries m paced.stands.sound).sizes in
+    weighs_as (deep_swapped m) m history history file (sym sizes) (counts_back m (deep_swapped m) (deep_swapped_counts m)) (omega arith)
+    (paced_weighs (deep_swapped m) (deep_settled pace) next history file (settled_of m pace paced.stands.sound paced.of_tree) (deep_settled_kept pace paced.paced).kept lists
+    (subst (λ (s : Sizes). HoldsTree s next file) (sym sizes) holds))
+
+-- and the one that stands when a write is to be appended
+pub ready_weighs : (weight : ℕ) (opening : List (Key × Value)) (m : Machine) (pace : Pace) (next : Tree) (history : List Entry) (file : List ℕ) → IsPacedTree opening m pace → (ready_for weight m).lists ≡ lists_of next
+    → HoldsTree m.gears.sizes next file → WeighsWithin m history file
+ready_weighs weight opening m pace next history file paced lists holds =
+    let sizes = (ready_carries weight m paced.stands.sound (has_way opening m pace paced)).sizes in
+    weighs_as (ready_for weight m) m history history file (sym sizes) (counts_back m (ready_for weight m) (ready_counts weight m)) (omega arith)
+    (paced_weighs (ready_for weight m) (pace_ready_for pace weight) next history file (ready_of m pace weight paced.stands.sound paced.of_tree) (ready_kept pace weight paced.paced) lists
+    (subst (λ (s : Sizes). HoldsTree s next file) (sym sizes) holds))
