@@ -1,16 +1,15 @@
-//! The program: it makes the real streams and a shelf in memory with one empty disk named `mem`, and makes the one call.
+//! The program: it makes the real streams and a shelf of files, and makes the one call.
 #![tactic(auto)]
 
-ghost use Rattle.std.specs.Prelude.{IfOk, map, string_bytes};
+ghost use Rattle.std.specs.Prelude.{map, string_bytes};
 ghost use Rattle.std.specs.Process.{exit_status};
-ghost use Rattle.disk_mem.specs.Shelved.{shelf_state};
 ghost use Rattle.blsm_run.specs.Outcome.{Tells, no_memory};
-ghost use Rattle.blsm.specs.Program.{HasEmptyDisk, EndsWith};
+ghost use Rattle.blsm.specs.Program.{EndsWith};
 
 use blsm_model::NoGate;
 use blsm_run::{Status, blsm_run};
-use disk_mem::{MemDisk, MemShelf};
-use real_edge::{StdSink, StdSource};
+use disk_trait::Shelf;
+use real_edge::{FileShelf, StdSink, StdSource};
 use refusal::{Failed, NoMemory};
 use std::alloc::Global;
 use std::env;
@@ -20,24 +19,6 @@ use std::rt::Env;
 use std::sync::Wait;
 use std::thread::Threads;
 use text_io::{Sink, Source, write_all};
-
-// What the disk has room for, in bytes, and of how many it keeps a record: making a store writes 23,511,040.
-const DISK_LIMIT: u64 = 1 << 25;
-
-const DISK_RECORD: u64 = 1 << 25;
-
-// How many fetches the shelf notes.
-const FETCHES: u32 = 16;
-
-// A shelf with one disk, which is named `mem` and has no bytes.
-fn shelf(alloc: Global) -> Result<MemShelf, NoMemory>
-    ensures { IfOk result (λ shelf. HasEmptyDisk (shelf_state shelf)) }
-{
-    let mut shelf = MemShelf::new(alloc, FETCHES)?;
-    let disk = MemDisk::new(alloc, DISK_LIMIT, DISK_RECORD)?;
-    shelf.put(alloc, "mem", disk)?;
-    Ok(shelf)
-}
 
 // The words of the command line. Where one is no text there are none, and the call refuses them.
 fn words<R: Env + Alloc<A = Global>>(rt: &R, alloc: Global) -> Result<Vec<String>, NoMemory> {
@@ -63,25 +44,31 @@ fn tell_no_memory<K: Sink>(sink: &mut K) -> Status
     }
 }
 
-// Makes the call over a new shelf, and answers the exit code.
-fn call<R: Threads + Wait + Sync, S: Source, K: Sink>(
+// Makes the call, and answers the exit code.
+fn call<R: Threads + Wait + Sync, S: Source, K: Sink, H: Shelf>(
     rt: &R,
     alloc: Global,
     words: &[String],
     source: &mut S,
     sink: &mut K,
+    shelf: &mut H,
 ) -> ExitCode
-    ensures { EndsWith (map string_bytes words.now) (S.left source.old) (S.left source.new) (record {
+    ensures { EndsWith H.D.state (record {
+      words = map string_bytes words.now;
+      left = S.left source.old;
+      left_after = S.left source.new;
+      source_faults = S.faults source.old;
+      source_faults_after = S.faults source.new;
+      shelf = H.state shelf.old;
+      shelf_after = H.state shelf.new;
+    }) (record {
       held = K.held sink.old;
       held_after = K.held sink.new;
       faults = K.faults sink.old;
       faults_after = K.faults sink.new;
     }) (exit_status result) }
 {
-    let Ok(mut shelf) = shelf(alloc) else {
-        return ExitCode::from(tell_no_memory(sink).code());
-    };
-    let status = blsm_run(rt, alloc, words, source, sink, &mut shelf, &NoGate);
+    let status = blsm_run(rt, alloc, words, source, sink, shelf, &NoGate);
     ExitCode::from(status.code())
 }
 
@@ -92,7 +79,8 @@ fn main(rt: HostRuntime) -> ExitCode {
         return ExitCode::from(tell_no_memory(&mut sink).code());
     };
     let mut source = StdSource::new(rt.stdin());
-    call(&rt, alloc, &words, &mut source, &mut sink)
+    let mut shelf = FileShelf::new(&rt);
+    call(&rt, alloc, &words, &mut source, &mut sink, &mut shelf)
 }
 
 #[cfg(test)]

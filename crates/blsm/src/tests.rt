@@ -1,82 +1,187 @@
-//! The program's call, run over a source, a sink and a disk in memory.
+//! The program's call, run over a source, a sink and a shelf of disks in memory.
 
-mod call;
-mod disks;
-mod full;
-mod long;
-mod opening;
-mod streams;
-mod table;
+mod damage;
+mod faults;
+mod order;
+mod rows;
+mod statuses;
 
-use blsm_model::NoGate;
-use blsm_run::{Status, blsm_run};
+use crate::call;
 use disk_mem::{MemDisk, MemShelf};
 use disk_trait::{Disk, Shelf};
-use refusal::NoMemory;
 use std::alloc::Global;
-use std::process::Abort;
+use std::process::{Abort, ExitCode};
 use std::sync::Wait;
-use std::test::Fail;
 use std::thread::Threads;
-use text_io::{FaultlessSink, FaultlessSource, Sink, Source};
+use text_io::{FaultlessSink, FaultlessSource};
 
-// The words of a run over the disk `mem`.
-const RUN: [&str; 3] = ["blsm", "run", "mem"];
+// The name of the disk.
+const NAME: &str = "store";
 
-// What the disk has room for, and of how many bytes it keeps a record: a store has 23,511,040 bytes.
+const MAKE: [&str; 3] = ["blsm", "make", NAME];
+
+const RUN: [&str; 3] = ["blsm", "run", NAME];
+
+const CHECK: [&str; 3] = ["blsm", "check", NAME];
+
+// A store of the smallest geometry, whose file has 3,481,600 bytes.
+const MAKE_SMALLEST: [&str; 7] = ["blsm", "make", NAME, "--half", "17408", "--ratio", "2"];
+
+// What a disk has room for, in bytes, and of how many it keeps a record: the file of a store of the default geometry has 23,511,040.
 const DISK_LIMIT: u64 = 1 << 25;
 
+const DISK_RECORD: u64 = 1 << 26;
+
 // How many bytes a text may have.
-const TEXT_LIMIT: u64 = 1 << 21;
+const TEXT_LIMIT: u64 = 1 << 20;
 
-fn empty_disk(alloc: Global) -> Result<MemDisk, NoMemory> {
-    MemDisk::new(alloc, DISK_LIMIT, DISK_LIMIT)
-}
+// How many fetches a shelf notes.
+const FETCHES: u32 = 1 << 10;
 
-fn owned(alloc: Global, words: &[&str]) -> Result<Vec<String>, Fail> {
+fn owned(rt: &impl Abort, alloc: Global, words: &[&str]) -> Vec<String> {
     let mut list = Vec::new(alloc);
     for word in words {
-        list.push(String::from_str(alloc, word)?)?;
+        let Ok(word) = String::from_str(alloc, word) else {
+            rt.abort()
+        };
+        if list.push(word).is_err() {
+            rt.abort()
+        }
     }
-    Ok(list)
+    list
 }
 
-// Makes the call over a shelf with this disk, named `mem`, and answers the status and the disk as it was given back.
-fn run_with<R: Threads + Wait + Sync, S: Source, K: Sink>(
+fn empty_disk(rt: &impl Abort, alloc: Global) -> MemDisk {
+    match MemDisk::new(alloc, DISK_LIMIT, DISK_RECORD) {
+        Ok(disk) => disk,
+        Err(_) => rt.abort(),
+    }
+}
+
+// A shelf with this one disk.
+fn shelf_of(rt: &impl Abort, alloc: Global, disk: MemDisk) -> MemShelf {
+    let Ok(mut shelf) = MemShelf::new(alloc, FETCHES) else {
+        rt.abort()
+    };
+    if shelf.put(alloc, NAME, disk).is_err() {
+        rt.abort()
+    }
+    shelf
+}
+
+// The disk, which a test looks at or changes, is out until it is given back.
+fn take_disk(rt: &impl Abort, shelf: &mut MemShelf) -> MemDisk {
+    match shelf.fetch(NAME, false) {
+        Ok(disk) => disk,
+        Err(_) => rt.abort(),
+    }
+}
+
+// The disk goes back.
+fn put_back(shelf: &mut MemShelf, disk: MemDisk) {
+    shelf.give_back(NAME, disk);
+}
+
+// A shelf with a copy of the disk of this one, as it reads, whose calls are counted anew.
+fn copy_of(rt: &impl Abort, alloc: Global, shelf: &mut MemShelf) -> MemDisk {
+    let mut disk = take_disk(rt, shelf);
+    assert!(rt; disk.sync().is_ok());
+    let copy = disk.image(0);
+    put_back(shelf, disk);
+    match copy {
+        Ok(copy) => copy,
+        Err(_) => rt.abort(),
+    }
+}
+
+// Makes the call over streams that can't fail, and answers its exit code and its text.
+fn outcome<R: Abort + Threads + Wait + Sync>(
     rt: &R,
     alloc: Global,
+    shelf: &mut MemShelf,
     words: &[&str],
-    source: &mut S,
-    sink: &mut K,
-    disk: MemDisk,
-) -> Result<(Status, MemDisk), Fail> {
-    let words = owned(alloc, words)?;
-    // Room for the call's one fetch, and for one more.
-    let mut shelf = MemShelf::new(alloc, 2)?;
-    shelf.put(alloc, "mem", disk)?;
-    let status = blsm_run(rt, alloc, &words, source, sink, &mut shelf, &NoGate);
-    let disk = shelf.fetch("mem", false).map_err(|_| "the disk is gone")?;
-    Ok((status, disk))
+    script: &[u8],
+) -> (ExitCode, String) {
+    let words = owned(rt, alloc, words);
+    let Ok(mut source) = FaultlessSource::new(alloc, script) else {
+        rt.abort()
+    };
+    let Ok(mut sink) = FaultlessSink::new(alloc, TEXT_LIMIT) else {
+        rt.abort()
+    };
+    let code = call(rt, alloc, &words, &mut source, &mut sink, shelf);
+    let Ok(text) = str::from_utf8(sink.bytes()) else {
+        rt.abort()
+    };
+    match String::from_str(alloc, text) {
+        Ok(text) => (code, text),
+        Err(_) => rt.abort(),
+    }
 }
 
-// Makes the call over streams that don't fail, compares its status and its text, and answers the disk.
+// Makes the call, and compares its exit code and its text.
 fn check<R: Abort + Threads + Wait + Sync>(
     rt: &R,
     alloc: Global,
+    shelf: &mut MemShelf,
     words: &[&str],
-    input: &[u8],
-    disk: MemDisk,
-    wanted: (Status, &str),
-) -> Result<MemDisk, Fail> {
-    let mut source = FaultlessSource::new(alloc, input)?;
-    let mut sink = FaultlessSink::new(alloc, TEXT_LIMIT)?;
-    let (status, disk) = run_with(rt, alloc, words, &mut source, &mut sink, disk)?;
-    let text = str::from_utf8(sink.bytes()).map_err(|_| "not a text")?;
-    assert_eq!(rt; text, wanted.1);
-    assert_eq!(rt; status, wanted.0);
-    Ok(disk)
+    script: &[u8],
+    wanted: (u8, &str),
+) {
+    let (code, text) = outcome(rt, alloc, shelf, words, script);
+    assert_eq!(rt; text.as_str(), wanted.1);
+    assert_eq!(rt; code, ExitCode::from(wanted.0));
 }
 
-fn length_of(disk: &mut MemDisk) -> Result<u64, &'static str> {
-    disk.len().map_err(|_| "no length")
+// Makes the call, which ends well, and answers its text.
+fn run_text<R: Abort + Threads + Wait + Sync>(
+    rt: &R,
+    alloc: Global,
+    shelf: &mut MemShelf,
+    words: &[&str],
+    script: &[u8],
+) -> String {
+    let (code, text) = outcome(rt, alloc, shelf, words, script);
+    assert_eq!(rt; code, ExitCode::from(0));
+    text
+}
+
+// A shelf with a store that was just made by these words, of this length in bytes.
+fn shelf_with_store<R: Abort + Threads + Wait + Sync>(
+    rt: &R,
+    alloc: Global,
+    words: &[&str],
+    made: &str,
+) -> MemShelf {
+    let mut shelf = shelf_of(rt, alloc, empty_disk(rt, alloc));
+    check(rt, alloc, &mut shelf, words, b"", (0, made));
+    shelf
+}
+
+// A shelf with a store of the default geometry.
+fn shelf_with_default<R: Abort + Threads + Wait + Sync>(rt: &R, alloc: Global) -> MemShelf {
+    shelf_with_store(rt, alloc, &MAKE, "made 23511040\n")
+}
+
+// A shelf with one of the smallest geometry.
+fn shelf_with_smallest<R: Abort + Threads + Wait + Sync>(rt: &R, alloc: Global) -> MemShelf {
+    shelf_with_store(rt, alloc, &MAKE_SMALLEST, "made 3481600\n")
+}
+
+// Puts a line behind a text.
+fn add(rt: &impl Abort, text: &mut String, line: &str) {
+    if text.push_str(line).is_err() || text.push('\n').is_err() {
+        rt.abort()
+    }
+}
+
+// So many times one letter.
+fn letters(rt: &impl Abort, alloc: Global, letter: u8, count: usize) -> String {
+    let Ok(bytes) = vec![in alloc; letter; count] else {
+        rt.abort()
+    };
+    match String::from_utf8(bytes) {
+        Ok(text) => text,
+        Err(_) => rt.abort(),
+    }
 }

@@ -1,14 +1,5 @@
-pub mod LogLemmas
-pub mod TableLemmas
-pub mod MemoryLemmas
-pub mod RunLemmas
-pub mod OpeningLemmas
-pub mod ShowingLemmas
-pub mod CrashLemmas
-pub mod SessionLemmas
-pub mod ShownLemmas
 pub mod ShelfLemmas
+pub mod RunLemmas
 pub mod CauseLemmas
 pub mod AnswerLemmas
-pub mod WordLemmas
-pub mod WordExamples
+pub mod TrialLemmas

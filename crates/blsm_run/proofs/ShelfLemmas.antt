@@ -1,74 +1,151 @@
--- What a run over a disk of a shelf says of the shelf.
-use Rattle.std.proofs.Common.{◌≡◌, ℕ, ◌+◌, ◌-◌, ◌^◌, ◌<◌, ◌≤◌, min, List, Some, Option, IfSome, IsSome, IsTrue, Result, Ok, Err, refl, sym, subst, ◌∙◌, arith}
+-- What was done to a disk between its fetch and its return was done to the disk of that name of the shelf.
+use Rattle.std.proofs.Common.{◌≡◌, ◌≢◌, ℕ, ◌+◌, ◌-◌, ◌^◌, ◌<◌, ◌≤◌, min, List, Some, Option, IfSome, IsSome, IsTrue, Result, Ok, Err, IsErr, OnErr, OnOk, length, zero, suc, refl, sym, subst, ◌∙◌, inl, inr, arith}
+use Rattle.std.proofs.lemmas.Result.{IfOk-at_ok}
 use Rattle.refusal.specs.Count.{HasRisen, HasRisenBy}
-use Rattle.disk_trait.specs.Disk.{DiskState}
-use Rattle.disk_trait.specs.Shelf.{ShelfState, TakesOut, PutsBack, IsFreshCount}
+use Rattle.disk_trait.specs.Disk.{DiskState, TellsFaultsBy}
+use Rattle.disk_trait.specs.Shelf.{ShelfState, TakesOut, PutsBack, IsFreshCount, KeepsDisks}
+use Rattle.blsm_model.specs.Geometry.{file_length}
+use Rattle.blsm_model.specs.Sizes.{Sizes}
 use Rattle.blsm_model.specs.declared.history.Line.{Line}
-use Rattle.blsm_model.specs.declared.op.Write.{Write}
-use Rattle.blsm_model.specs.Sizes.{Sizes, IsGeometry}
-use Rattle.blsm_model.specs.Legal.{total_weight}
-use Rattle.blsm_run.specs.declared.outcome.Finished.{Finished}
-use Rattle.blsm_run.specs.declared.outcome.Refusal.{Refusal}
-use Rattle.blsm_run.specs.declared.outcome.Refusal.TheVariants as refusal
-use Rattle.blsm_run.specs.Memory.{fault_count}
-use Rattle.blsm_run.specs.Outside.{OfTheDisk}
-use Rattle.blsm_run.specs.Holding.{most_opening_calls}
-use Rattle.blsm_run.specs.Opening.{IsRefusedSoon}
-use Rattle.blsm_run.specs.Showing.{HasShown, calls_for}
-use Rattle.blsm_run.specs.Cause.{Finishes, IsToldBy, IsRunOnShelf}
-use Rattle.blsm_run.specs.Session.{run_of, RunsOverDisk, IsRefusedOnShelf, IsFoundOnShelf, RunsOnShelf}
-use Rattle.blsm_run.proofs.ShownLemmas.{fresh_refused, fresh_shown, fresh_calls}
+use Rattle.blsm_model.specs.declared.room.Room.{Room}
+use Rattle.tree_reading.specs.Reading.{HasLooked, IsWhy, at_superblock, within, reading_calls}
+use Rattle.tree_reading.specs.Report.{IsReportOf}
+use Rattle.tree_reading.specs.declared.found.Unreadable.{Unreadable}
+use Rattle.tree_reading.specs.declared.found.Unreadable.TheVariants as unreadable
+use Rattle.tree_reading.specs.declared.report.Report.{Report}
+use Rattle.recover_open.specs.Making.{IsMadeEmpty, WasNotEmpty}
+use Rattle.recover_open.specs.declared.making.NotMade.{NotMade}
+use Rattle.recover_open.specs.declared.making.NotMade.TheVariants as not_made
+use Rattle.tree_session.specs.Faults.{faults_told}
+use Rattle.store_run.specs.declared.run.Finished.{Finished}
+use Rattle.store_run.specs.Headline.{Headline}
+use Rattle.store_run.specs.Run.{AreCounted, IsEnding, IsRunOf, run_of}
+use Rattle.blsm_run.specs.Outcome.{refusal_of_making, refusal_of_store}
+use Rattle.blsm_run.specs.Outside.{HasRisenOnce, OfTheDisk}
+use Rattle.blsm_run.specs.Stores.{WasCalm, HasFailedOnce, LeavesMade, WasMade, MakesOnShelf, LeavesClosed, WasRefused, HasRunOn, RunsOnShelf, StaysWithin, WasUnreadable, WasChecked, ChecksOnShelf}
 
-module _ {D : Type 0} (state : D → DiskState) (name : List ℕ) (lines : List Line) (old mid new : ShelfState D) (disk last : D) (count : (state disk).faults ≡ 0) (taken : IsTrue old.tells_disks → TakesOut state name old mid disk) (stands : mid.faults ≡ old.faults) (told : mid.tells_disks ≡ old.tells_disks) (put : IsTrue mid.tells_disks → IsTrue (mid.is_out name) → PutsBack name mid new last) (faults : new.faults ≡ min (mid.faults + (state last).faults) (2 ^ 64 - 1)) where
-  -- what is said of the disk that stood under the name, and of the one that stands there again
-  of_the_disk : (P : DiskState → DiskState → Type 0) → ((before : D) → IsFreshCount (state before) (state disk) → P (state before) (state last)) → OfTheDisk state name old new P
+-- the fetch failed
+pub not_fetched : {D E : Type 0} (state : D → DiskState) (name : List ℕ) (old new : ShelfState D) (P : DiskState → DiskState → Type 0) (result : Result D E) → ((disk : D) → result ≡ Ok disk → ⊥)
+    → OnErr result (IsTrue old.tells_disks → KeepsDisks old new) → (IsErr result → HasRisen old.faults new.faults) → new.faults ≤ old.faults + 1 → HasFailedOnce state name old new P
+not_fetched state name old new P (Ok disk) none keeps risen once = absurd (none disk refl)
+not_fetched state name old new P (Err error) none keeps risen once = record { disk = inl keeps; rose = (risen refl, once) }
+
+-- A disk was fetched under its name, and what it became was given back.
+pub record CameBack {D : Type 0} (state : D → DiskState) (name : List ℕ) (old mid new : ShelfState D) (disk last : D) : Type 0 where
+  pub count : (state disk).faults ≡ 0
+  pub taken : IsTrue old.tells_disks → TakesOut state name old mid disk
+  pub stands : mid.faults ≡ old.faults
+  pub told : mid.tells_disks ≡ old.tells_disks
+  pub put : IsTrue mid.tells_disks → IsTrue (mid.is_out name) → PutsBack name mid new last
+  pub faults : new.faults ≡ min (mid.faults + (state last).faults) (2 ^ 64 - 1)
+
+-- where it wasn't by a fault, a looking makes at most one
+looked_once : {most : Sizes → ℕ} {first last : DiskState} → HasLooked most first last → last.faults ≤ first.faults + 1
+looked_once (at_superblock reads) = reads.effect.one_fault
+looked_once (within sizes geometry long reads) = reads.effect.one_fault
+
+-- a disk on which a store was made had no bytes
+was_empty : (result : Result (Unit {0}) NotMade) (n : ℕ) → result ≡ Ok tt → (0 < n → result ≢ Err not_made.Fault → result ≡ Err (not_made.NotEmpty n)) → n ≡ 0
+was_empty result zero is full = refl
+was_empty result (suc n) is full =
+    let wrong : result ≡ Err (not_made.NotEmpty (suc n)) = full (omega arith) (λ other. cc) in
+    absurd cc
+
+module _ {D : Type 0} (state : D → DiskState) (name : List ℕ) (old mid new : ShelfState D) (disk last : D) (w : CameBack state name old mid new disk last) where
+  -- what is said of the disk as it was fetched and as it was given back
+  of_the_disk : (P : DiskState → DiskState → Type 0) → P (state disk) (state last) → OfTheDisk state name old new P
   of_the_disk P says tells =
-      let took = taken tells in
-      subst (λ (o : Option D). IfSome o (λ first. (d : D) × (new.disk_at name ≡ Some d) × P (state first) (state d))) (sym took.stood.1)
-      (last, (put (told ∙ tells) took.out).stands, says took.stood.0 took.stood.2)
+      let took = w.taken tells in
+      subst (λ (o : Option D). IfSome o (λ stood. (first : D) × (final : D) × IsFreshCount (state stood) (state first) × (new.disk_at name ≡ Some final) × P (state first) (state final))) (sym took.stood.1)
+      (disk, last, took.stood.2, (w.put (w.told ∙ tells) took.out).stands, says)
 
   stood : IsTrue old.tells_disks → IsSome (old.disk_at name)
-  stood tells = subst (λ (o : Option D). IsSome o) (sym (taken tells).stood.1) refl
+  stood tells = subst (λ (o : Option D). IsSome o) (sym (w.taken tells).stood.1) refl
 
-  rises_by : (n : ℕ) → n ≤ (state last).faults → HasRisenBy n old.faults new.faults
-  rises_by n few = grind (arith, stands, faults, few)
+  rises_by : (n : ℕ) → HasRisenBy n (state disk).faults (state last).faults → HasRisenBy n old.faults new.faults
+  rises_by n risen = grind (arith, w.stands, w.faults, w.count, risen)
 
-  rises : 0 < (state last).faults → HasRisen old.faults new.faults
-  rises some = grind (arith, stands, faults, some)
+  rises_so : new.faults ≡ min (old.faults + (state last).faults) (2 ^ 64 - 1)
+  rises_so = subst (λ (n : ℕ). new.faults ≡ min (n + (state last).faults) (2 ^ 64 - 1)) w.stands w.faults
 
   stays : (state last).faults ≡ 0 → new.faults ≤ old.faults
-  stays none = grind (arith, stands, faults, none)
+  stays none = grind (arith, w.stands, w.faults, none)
 
-  finished_on_shelf : (finished : Finished) (sizes : Sizes) (log : List Write) → IsGeometry sizes → total_weight log ≤ sizes.half → Finishes sizes log lines (run_of finished) (IsTrue finished.is_faulted) (state last)
-      → (state last).clock ≤ (state disk).clock + most_opening_calls + calls_for finished.annals.entries
-      → (IsTrue (state disk).is_honest → HasShown sizes log finished.annals.entries (state disk) (state last)) → IsRunOnShelf state name lines (run_of finished) (IsTrue finished.is_faulted) old new
-  finished_on_shelf finished sizes log geometry fits has few shown = record {
-    sizes = sizes;
-    log = log;
-    geometry = geometry;
-    log_fits = fits;
-    finished = has.0;
+  was_calm : (P : DiskState → DiskState → Type 0) → (state last).faults ≡ (state disk).faults → P (state disk) (state last) → WasCalm state name old new P
+  was_calm P calm says = record { stood = stood; disk = of_the_disk P says; quiet = stays (calm ∙ w.count) }
+
+  rose_once : HasRisen (state disk).faults (state last).faults → (state last).faults ≤ (state disk).faults + 1 → HasRisenOnce old.faults new.faults
+  rose_once risen once = (grind (arith, w.stands, w.faults, w.count, risen), grind (arith, w.stands, w.faults, w.count, once))
+
+  has_failed : (P : DiskState → DiskState → Type 0) → HasRisen (state disk).faults (state last).faults → (state last).faults ≤ (state disk).faults + 1 → P (state disk) (state last)
+      → HasFailedOnce state name old new P
+  has_failed P risen once says = record { disk = inr (of_the_disk P says); rose = rose_once risen once }
+
+  -- ---- making
+
+  pub made : (sizes : Sizes) (n : ℕ) (result : Result (Unit {0}) NotMade) → n ≡ file_length sizes → result ≡ Ok tt
+      → (IsTrue (state disk).tells_bytes → 0 < length (state disk).bytes → result ≢ Err not_made.Fault → result ≡ Err (not_made.NotEmpty (length (state disk).bytes)))
+      → OnOk result (IsTrue (state disk).is_honest → IsMadeEmpty sizes (state last)) → OnOk result (IsTrue (state disk).tells_bytes → length (state last).bytes ≡ file_length sizes)
+      → LeavesMade sizes (state disk) (state last)
+      → TellsFaultsBy (Err not_made.Fault) result (state disk) (state last) → MakesOnShelf state name sizes old new (Ok n)
+  made sizes n result is_length is full empty long leaves tells = (
+    is_length,
+    was_calm (WasMade sizes) (tells.stands (λ wrong. cc)) (record {
+      none = λ tells_bytes. was_empty result (length (state disk).bytes) is (full tells_bytes);
+      made = IfOk-at_ok (λ done. IsTrue (state disk).is_honest → IsMadeEmpty sizes (state last)) is empty;
+      long = IfOk-at_ok (λ done. IsTrue (state disk).tells_bytes → length (state last).bytes ≡ file_length sizes) is long;
+      leaves = leaves;
+    }),
+  )
+
+  pub not_made_so : (sizes : Sizes) (why : NotMade) (result : Result (Unit {0}) NotMade) → result ≡ Err why
+      → ((n : ℕ) → result ≡ Err (not_made.NotEmpty n) → WasNotEmpty n (state disk) (state last)) → LeavesMade sizes (state disk) (state last)
+      → TellsFaultsBy (Err not_made.Fault) result (state disk) (state last) → MakesOnShelf state name sizes old new (Err (refusal_of_making why))
+  not_made_so sizes (not_made.NotEmpty n) result is had leaves tells = was_calm (WasNotEmpty n) (tells.stands (λ wrong. cc)) (had n is)
+  not_made_so sizes not_made.Fault result is had leaves tells = has_failed (LeavesMade sizes) (tells.failed is) leaves.effect.one_fault leaves
+
+  -- ---- running
+
+  pub ran : (lines : List Line) (finished : Finished) (room : Room) → (sizes : Sizes) × IsRunOf sizes lines (run_of finished) → AreCounted (run_of finished) (state disk) (state last)
+      → IsEnding finished.ending (run_of finished) (state last).faults → StaysWithin (state disk) (state last)
+      → (IsTrue (state disk).is_honest → (sizes : Sizes) × IsRunOf sizes lines (run_of finished) × Headline state sizes (run_of finished) room (state disk) (state last))
+      → RunsOnShelf state name lines old new (Ok finished)
+  ran lines finished room printed counted ended inside headline = record {
+    sizes = printed.0;
+    printed = printed.1;
     stood = stood;
-    shown = of_the_disk (λ a b. IsTrue a.is_honest → HasShown sizes log finished.annals.entries a b) (λ before fresh honest. fresh_shown fresh sizes log finished.annals.entries (state last) shown honest);
-    calls = of_the_disk (λ a b. b.clock ≤ a.clock + most_opening_calls + calls_for finished.annals.entries)
-        (λ before fresh. omega (arith, fresh_calls fresh (state last) (most_opening_calls + calls_for finished.annals.entries) (omega (arith, few))));
-    told_by = of_the_disk (λ a b. IsToldBy (run_of finished) (IsTrue finished.is_faulted) b) (λ before fresh. has.1);
-    faults = rises_by (fault_count finished.annals.entries) has.1.faults;
-    rose = λ faulted. rises (has.1.counted faulted);
-    quiet = λ still. stays (has.1.calm still);
+    disk =
+        of_the_disk (HasRunOn state lines (run_of finished) finished.ending) (record {
+          counted = counted;
+          ended = ended;
+          within = inside;
+          headline = λ honest. let said = headline honest in (said.0, room, said.1, said.2);
+        });
+    count = (state last).faults;
+    ended = ended;
+    rose = rises_so;
+    faults = rises_by (faults_told finished.annals.entries) counted.risen;
   }
 
-  refused : (r : Refusal) → IsRefusedSoon (state disk) (state last) r → IsRefusedOnShelf state name old new r
-  refused r says = of_the_disk (λ a b. IsRefusedSoon a b r) (λ before fresh. fresh_refused fresh (state last) r says)
+  pub not_run : (lines : List Line) (why : Unreadable) (result : Result Finished Unreadable) → result ≡ Err why → (IsTrue (state disk).is_honest → IsWhy why (state disk).bytes)
+      → LeavesClosed (state disk) (state last) → (state last).faults ≤ (state disk).faults + 1
+      → TellsFaultsBy (Err unreadable.Fault) result (state disk) (state last) → RunsOnShelf state name lines old new (Err (refusal_of_store why))
+  not_run lines unreadable.NotAStore result is because leaves once tells = was_calm (WasRefused unreadable.NotAStore) (tells.stands (λ wrong. cc)) (record { because = because; leaves = leaves })
+  not_run lines (unreadable.Damaged place) result is because leaves once tells = was_calm (WasRefused (unreadable.Damaged place)) (tells.stands (λ wrong. cc)) (record { because = because; leaves = leaves })
+  not_run lines (unreadable.Worn version) result is because leaves once tells = was_calm (WasRefused (unreadable.Worn version)) (tells.stands (λ wrong. cc)) (record { because = because; leaves = leaves })
+  not_run lines unreadable.Fault result is because leaves once tells = has_failed LeavesClosed (tells.failed is) once leaves
+  not_run lines unreadable.NoMemory result is because leaves once tells = was_calm (WasRefused unreadable.NoMemory) (tells.stands (λ wrong. cc)) (record { because = because; leaves = leaves })
 
-  found : (r : Refusal) → IsRefusedSoon (state disk) (state last) r → (state last).faults ≡ (state disk).faults → IsFoundOnShelf state name old new r
-  found r says calm = (refused r says, stood, of_the_disk (λ a b. b.faults ≡ 0) (λ before fresh. calm ∙ count), stays (calm ∙ count))
+  -- ---- checking
 
-  pub on_shelf : (result : Result Finished Refusal) → RunsOverDisk lines (state disk) (state last) result → RunsOnShelf state name lines old new result
-  on_shelf (Ok finished) runs = finished_on_shelf finished runs.0 runs.1 runs.2 runs.3 runs.4 runs.5 runs.6
-  on_shelf (Err refusal.DiskFault) runs = (refused refusal.DiskFault runs.0, (grind (arith, stands, faults, count, runs.1.0), grind (arith, stands, faults, count, runs.1.1)))
-  on_shelf (Err refusal.NotAStore) runs = found refusal.NotAStore runs.0 runs.1
-  on_shelf (Err refusal.DamagedSlots) runs = found refusal.DamagedSlots runs.0 runs.1
-  on_shelf (Err refusal.DamagedLane) runs = found refusal.DamagedLane runs.0 runs.1
-  on_shelf (Err refusal.NoMemory) runs = found refusal.NoMemory runs.0 runs.1
-  on_shelf (Err _) runs = absurd runs.0.0
+  pub checked : (report : Report) (result : Result Report Unreadable) → result ≡ Ok report → (IsTrue (state disk).is_honest → IsReportOf report (state disk).bytes)
+      → HasLooked reading_calls (state disk) (state last) → TellsFaultsBy (Err unreadable.Fault) result (state disk) (state last) → ChecksOnShelf state name old new (Ok report)
+  checked report result is says looked tells = was_calm (WasChecked report) (tells.stands (λ wrong. cc)) (record { tells = says; looked = looked })
+
+  pub not_checked : (why : Unreadable) (result : Result Report Unreadable) → result ≡ Err why → (IsTrue (state disk).is_honest → IsWhy why (state disk).bytes)
+      → HasLooked reading_calls (state disk) (state last) → TellsFaultsBy (Err unreadable.Fault) result (state disk) (state last) → ChecksOnShelf state name old new (Err (refusal_of_store why))
+  not_checked unreadable.NotAStore result is because looked tells = was_calm (WasUnreadable unreadable.NotAStore) (tells.stands (λ wrong. cc)) (record { because = because; looked = looked })
+  not_checked (unreadable.Damaged place) result is because looked tells = was_calm (WasUnreadable (unreadable.Damaged place)) (tells.stands (λ wrong. cc)) (record { because = because; looked = looked })
+  not_checked (unreadable.Worn version) result is because looked tells = was_calm (WasUnreadable (unreadable.Worn version)) (tells.stands (λ wrong. cc)) (record { because = because; looked = looked })
+  not_checked unreadable.Fault result is because looked tells = has_failed (HasLooked reading_calls) (tells.failed is) (looked_once looked) looked
+  not_checked unreadable.NoMemory result is because looked tells = was_calm (WasUnreadable unreadable.NoMemory) (tells.stands (λ wrong. cc)) (record { because = because; looked = looked })

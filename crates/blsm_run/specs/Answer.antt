@@ -1,40 +1,56 @@
 -- The whole promise of the program's call.
-use Rattle.std.specs.Prelude.{◌≡◌, ◌⊎◌, ◌<◌, ◌≤◌, ℕ, ◌-◌, ◌^◌, IsTrue, Some, List, length}
+use Rattle.std.specs.Prelude.{◌≡◌, ◌⊎◌, ◌<◌, ◌≤◌, ⊤, ℕ, ◌-◌, ◌^◌, [], IsTrue, Some, List, length}
 use Rattle.disk_trait.specs.Disk.{DiskState}
 use Rattle.blsm_model.specs.declared.history.Line.{Line}
-use Rattle.blsm_run.specs.declared.status.Status.{Status}
-use Rattle.blsm_run.specs.declared.status.Status.TheVariants.{Done, NoMemory}
-use Rattle.blsm_model.specs.declared.op.Write.{Write}
+use Rattle.blsm_model.specs.declared.key.Key.{Key}
+use Rattle.blsm_model.specs.declared.row.Value.{Value}
 use Rattle.blsm_model.specs.Format.{most_script}
 use Rattle.blsm_model.specs.Sizes.{Sizes}
-use Rattle.blsm_run.specs.Holding.{IsFound}
-use Rattle.blsm_run.specs.Words.{AreAccepted}
 use Rattle.script_text.specs.Grammar.{IsScript}
-use Rattle.blsm_run.specs.Outside.{Outside, name}
+use Rattle.program_words.specs.Words.{Asked, make, run, check, trial}
+use Rattle.store_run.specs.Headline.{IsStoreWith}
+use Rattle.blsm_run.specs.declared.status.Status.{Status}
+use Rattle.blsm_run.specs.declared.status.Status.TheVariants.{Done, SinkFault, NoMemory}
+use Rattle.blsm_run.specs.Outside.{Outside}
 use Rattle.blsm_run.specs.Outcome.{Outcome, Written, Tells}
-use Rattle.blsm_run.specs.Cause.{Cause}
+use Rattle.blsm_run.specs.Cause.{Cause, WasAsked}
 
 -- a count that didn't rise, and doesn't stand at the end of its type
 abbrev pub IsQuietCount : ℕ → ℕ → Type 0
 IsQuietCount old new = (new < 2 ^ 64 - 1) × (new ≡ old)
 
--- a file that is to be made into a store, or is one whose log can be replayed
-abbrev pub IsOpenable : List ℕ → Type 0
-IsOpenable file = (sizes : Sizes) × (writes : List Write) × IsFound sizes writes file
-
--- Where the outside does its part: accepted words, a script within the grammar and the limits, an honest disk without bytes or with a store, and no count that rose.
-pub record IsGranted {D : Type 0} (state : D → DiskState) (o : Outside D) (w : Written) : Type 0 where
-  pub words : AreAccepted o.words
+-- the source tells a script within the grammar and the limits
+pub record TellsScript {D : Type 0} (o : Outside D) : Type 0 where
   pub input : List ℕ
   pub told : o.left ≡ Some input
   pub short : length input ≤ most_script
   pub lines : List Line
   pub script : IsScript input lines
-  pub disks : IsTrue o.shelf.tells_disks
+
+-- an honest disk stands under this name, of which this holds
+pub record HasDisk {D : Type 0} (state : D → DiskState) (o : Outside D) (name : List ℕ) (P : List ℕ → Type 0) : Type 0 where
+  pub tells : IsTrue o.shelf.tells_disks
   pub disk : D
-  pub stands : o.shelf.disk_at (name o) ≡ Some disk
+  pub stands : o.shelf.disk_at name ≡ Some disk
   pub honest : IsTrue (state disk).is_honest
-  pub found : IsOpenable (state disk).bytes
+  pub is : P (state disk).bytes
+
+-- the file is a store that reads as a map, with a version that is taken
+abbrev pub IsOpenable : List ℕ → Type 0
+IsOpenable file = (sizes : Sizes) × (opening : List (Key × Value)) × IsStoreWith sizes opening file
+
+-- what is asked for can be done
+abbrev pub CanBeDone : {D : Type 0} → (D → DiskState) → Outside D → Asked → Type 0
+CanBeDone state o (make name sizes) = HasDisk state o name (λ file. file ≡ [])
+CanBeDone state o (run name) = HasDisk state o name IsOpenable × TellsScript o
+CanBeDone state o (check name) = HasDisk state o name IsOpenable
+CanBeDone state o (trial seed count) = ⊤
+
+-- Where the outside does its part: accepted words that ask for something that can be done, and no count that rose.
+pub record IsGranted {D : Type 0} (state : D → DiskState) (o : Outside D) (w : Written) : Type 0 where
+  pub what : Asked
+  pub asked : WasAsked o what
+  pub can : CanBeDone state o what
   pub source_quiet : IsQuietCount o.source_faults o.source_faults_after
   pub shelf_quiet : IsQuietCount o.shelf.faults o.shelf_after.faults
   pub sink_quiet : IsQuietCount w.faults w.faults_after
@@ -44,5 +60,7 @@ pub record Answers {D : Type 0} (state : D → DiskState) (o : Outside D) (w : W
   pub outcome : Outcome
   pub tells : Tells w outcome status
   pub cause : Cause state o outcome
-  -- where the outside does its part, the script is run without a fault, or memory runs out before its first command
+  -- where the outside does its part, what is asked for is done without a fault, or memory runs out before its first command
   pub completes : IsGranted state o w → (status ≡ Done) ⊎ (status ≡ NoMemory)
+  -- and the words of a trial, whose disk can't fail, ask for no more than a sink that doesn't
+  pub tries : (seed count : ℕ) → WasAsked o (trial seed count) → (status ≡ Done) ⊎ (status ≡ SinkFault) ⊎ (status ≡ NoMemory)

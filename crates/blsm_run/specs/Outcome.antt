@@ -1,19 +1,30 @@
 -- How a call ends, and what it writes then.
-use Rattle.std.specs.Prelude.{◌≡◌, ◌⊎◌, ℕ, Bool, if◌then◌else◌, Option, List, [], ◌∷◌, ◌++◌, codes, decimal}
-use Rattle.refusal.specs.Count.{HasRisen}
+use Rattle.std.specs.Prelude.{◌≡◌, ◌⊎◌, ⊤, ℕ, Option, List, [], ◌∷◌, ◌++◌, codes, decimal, Result, Ok, Err}
+use Rattle.std.specs.List.{All}
 use Rattle.text_io.specs.Text.{Adds, AddsFront}
-use Rattle.blsm_model.specs.declared.history.Entry.{Entry}
-use Rattle.blsm_model.specs.declared.history.Totals.{Totals}
-use Rattle.blsm_model.specs.Printed.{history_text}
+use Rattle.blsm_model.specs.declared.component.Component.{Component}
+use Rattle.blsm_model.specs.Printed.{and_number, history_text}
+use Rattle.script_text.specs.Generated.{HasMadeKeys}
+use Rattle.script_text.specs.Summary.{summary_text}
+use Rattle.tree_reading.specs.declared.found.Place.{Place}
+use Rattle.tree_reading.specs.declared.found.Place.TheVariants.{Slots, Lane, Page}
+use Rattle.tree_reading.specs.declared.found.Unreadable.{Unreadable}
+use Rattle.tree_reading.specs.declared.found.Unreadable.TheVariants as unreadable
+use Rattle.tree_reading.specs.declared.report.Report.{Report}
+use Rattle.recover_open.specs.declared.making.NotMade.{NotMade}
+use Rattle.recover_open.specs.declared.making.NotMade.TheVariants as not_made
+use Rattle.store_run.specs.declared.run.Ending.{Ending}
+use Rattle.store_run.specs.declared.run.Ending.TheVariants as ending
+use Rattle.store_run.specs.Run.{Run, run_of}
+use Rattle.program_words.specs.declared.request.Unread.{Unread}
+use Rattle.program_words.specs.declared.request.Unread.TheVariants as unread
+use Rattle.blsm_run.specs.declared.outcome.Answer.{Answer}
+use Rattle.blsm_run.specs.declared.outcome.Answer.TheVariants as answer
+use Rattle.blsm_run.specs.declared.outcome.Refusal.{Refusal}
+use Rattle.blsm_run.specs.declared.outcome.Refusal.TheVariants as refusal
 use Rattle.blsm_run.specs.declared.status.Status.{Status}
-use Rattle.blsm_run.specs.declared.status.Status.TheVariants.{Done, Usage, BadLine, TooBig, NotAStore, Damaged, DiskFault, SourceFault, SinkFault, NoMemory}
-
--- what a run leaves to be printed: the charge at the opening, the history, the quanta of each entry, the totals
-pub record Run : Type 0 where
-  pub charge : ℕ
-  pub entries : List Entry
-  pub quanta : List ℕ
-  pub totals : Totals
+use Rattle.blsm_run.specs.Outside.{HasRisenOnce}
+use Rattle.blsm_run.specs.declared.status.Status.TheVariants.{Done, Usage, BadLine, TooBig, NotAStore, NotEmpty, Damaged, DiskFault, SourceFault, SinkFault, NoMemory}
 
 -- how a call ends, if the sink takes all of its text
 pub data Outcome : Type 0 where
@@ -23,11 +34,57 @@ pub data Outcome : Type 0 where
   bad_line : ℕ → Outcome
   disk_fault : Outcome
   not_a_store : Outcome
-  damaged_slots : Outcome
-  damaged_lane : Outcome
+  not_empty : ℕ → Outcome
+  damaged : Place → Outcome
+  worn : ℕ → Outcome
   no_memory : Outcome
-  -- the script was run, and whether the disk's count of faults rose in it
-  ran : Run → Bool → Outcome
+  -- a store of this length was made
+  made : ℕ → Outcome
+  -- the script was run, and how that ended
+  ran : Run → Ending → Outcome
+  checked : Report → Outcome
+  -- the script of so many commands from this seed was run
+  tried : ℕ → ℕ → Run → Outcome
+
+-- ---- what the program's own answers stand for
+
+abbrev pub refusal_of_words : Unread → Refusal
+refusal_of_words unread.Refused = refusal.Usage
+refusal_of_words unread.NoMemory = refusal.NoMemory
+
+abbrev pub refusal_of_store : Unreadable → Refusal
+refusal_of_store unreadable.NotAStore = refusal.NotAStore
+refusal_of_store (unreadable.Damaged place) = refusal.Damaged place
+refusal_of_store (unreadable.Worn version) = refusal.Worn version
+refusal_of_store unreadable.Fault = refusal.DiskFault
+refusal_of_store unreadable.NoMemory = refusal.NoMemory
+
+abbrev pub refusal_of_making : NotMade → Refusal
+refusal_of_making (not_made.NotEmpty length) = refusal.NotEmpty length
+refusal_of_making not_made.Fault = refusal.DiskFault
+
+abbrev pub outcome_of : Result Answer Refusal → Outcome
+outcome_of (Ok (answer.Made length)) = made length
+outcome_of (Ok (answer.Ran finished)) = ran (run_of finished) finished.ending
+outcome_of (Ok (answer.Checked report)) = checked report
+outcome_of (Ok (answer.Tried seed count finished)) = tried seed count (run_of finished)
+outcome_of (Err refusal.Usage) = usage
+outcome_of (Err refusal.SourceFault) = source_fault
+outcome_of (Err refusal.TooBig) = too_big
+outcome_of (Err (refusal.BadLine n)) = bad_line n
+outcome_of (Err refusal.DiskFault) = disk_fault
+outcome_of (Err refusal.NotAStore) = not_a_store
+outcome_of (Err (refusal.NotEmpty n)) = not_empty n
+outcome_of (Err (refusal.Damaged place)) = damaged place
+outcome_of (Err (refusal.Worn version)) = worn version
+outcome_of (Err refusal.NoMemory) = no_memory
+
+-- the keys of a trial's history are the generator's, by which its summary counts
+abbrev pub HasMadeAnswer : Result Answer Refusal → Type 0
+HasMadeAnswer (Ok (answer.Tried seed count finished)) = All (λ e. HasMadeKeys e.op) finished.annals.entries
+HasMadeAnswer _ = ⊤
+
+-- ---- statuses
 
 -- the exit status
 abbrev pub code_of : Status → ℕ
@@ -36,11 +93,17 @@ code_of Usage = 1
 code_of BadLine = 2
 code_of TooBig = 3
 code_of NotAStore = 4
+code_of NotEmpty = 5
 code_of Damaged = 6
 code_of DiskFault = 7
 code_of SourceFault = 8
 code_of SinkFault = 9
 code_of NoMemory = 10
+
+abbrev pub status_of_ending : Ending → Status
+status_of_ending ending.Well = Done
+status_of_ending ending.Faulted = DiskFault
+status_of_ending ending.Damaged = Damaged
 
 abbrev pub status_of : Outcome → Status
 status_of usage = Usage
@@ -49,13 +112,33 @@ status_of too_big = TooBig
 status_of (bad_line n) = BadLine
 status_of disk_fault = DiskFault
 status_of not_a_store = NotAStore
-status_of damaged_slots = Damaged
-status_of damaged_lane = Damaged
+status_of (not_empty n) = NotEmpty
+status_of (damaged place) = Damaged
+status_of (worn version) = Damaged
 status_of no_memory = NoMemory
-status_of (ran run faulted) = if faulted then DiskFault else Done
+status_of (made length) = Done
+status_of (ran run end) = status_of_ending end
+status_of (checked report) = Done
+status_of (tried seed count run) = Done
+
+-- ---- texts
 
 abbrev pub newline : List ℕ
 newline = 10 ∷ []
+
+abbrev pub place_text : Place → List ℕ
+place_text Slots = codes "damaged slots" ++ newline
+place_text (Lane lane) = codes "damaged lane " ++ decimal lane ++ newline
+place_text (Page page) = codes "damaged page " ++ decimal page ++ newline
+
+-- a component's name, entries and weight
+abbrev pub and_component : List ℕ → Component → List ℕ
+and_component name component = name ++ and_number component.entries ++ and_number component.weight
+
+abbrev pub report_text : Report → List ℕ
+report_text report =
+    codes "ok version" ++ and_number report.version ++ and_component (codes " c1") report.c1 ++ and_component (codes " c1x") report.c1x
+    ++ and_component (codes " c2") report.c2 ++ codes " lanes" ++ and_number report.lane_a ++ and_number report.lane_b ++ newline
 
 abbrev pub text_of : Outcome → List ℕ
 text_of usage = codes "usage" ++ newline
@@ -64,10 +147,16 @@ text_of too_big = codes "too big" ++ newline
 text_of (bad_line n) = codes "bad line " ++ decimal n ++ newline
 text_of disk_fault = codes "disk fault" ++ newline
 text_of not_a_store = codes "not a store" ++ newline
-text_of damaged_slots = codes "damaged slots" ++ newline
-text_of damaged_lane = codes "damaged lane 0" ++ newline
+text_of (not_empty n) = codes "not empty " ++ decimal n ++ newline
+text_of (damaged place) = place_text place
+text_of (worn version) = codes "worn " ++ decimal version ++ newline
 text_of no_memory = codes "no memory" ++ newline
-text_of (ran run faulted) = history_text run.charge run.entries run.quanta run.totals
+text_of (made length) = codes "made " ++ decimal length ++ newline
+text_of (ran run end) = history_text run.charge run.entries run.quanta run.totals
+text_of (checked report) = report_text report
+text_of (tried seed count run) = summary_text seed count run.entries run.quanta run.totals
+
+-- ---- the sink
 
 -- what is seen of the sink: what it held and holds, where it tells it, and its count of faults
 pub record Written : Type 0 where
@@ -76,8 +165,8 @@ pub record Written : Type 0 where
   pub faults : ℕ
   pub faults_after : ℕ
 
--- The text is written and the status answered, and the sink's count stands; or the sink failed, and a front of the text is written, and its status answered.
+-- The text is written and the status answered, and the sink's count stands; or the sink failed, once, and a front of the text is written, and its status answered.
 abbrev pub Tells : Written → Outcome → Status → Type 0
 Tells w outcome status =
     ((status ≡ status_of outcome) × Adds (text_of outcome) w.held w.held_after × (w.faults_after ≡ w.faults))
-    ⊎ ((status ≡ SinkFault) × HasRisen w.faults w.faults_after × AddsFront (text_of outcome) w.held w.held_after)
+    ⊎ ((status ≡ SinkFault) × HasRisenOnce w.faults w.faults_after × AddsFront (text_of outcome) w.held w.held_after)

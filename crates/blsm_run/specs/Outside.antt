@@ -1,9 +1,8 @@
 -- What is seen of one call from outside, but for the text that it writes, and what it did to the shelf.
-use Rattle.std.specs.Prelude.{◌≡◌, ◌⊎◌, ◌<◌, ◌≤◌, ℕ, ◌+◌, ◌-◌, ◌^◌, true, IsTrue, Option, Some, None, List, [], ◌∷◌, ◌++◌, length, IfSome, IsSome}
+use Rattle.std.specs.Prelude.{◌≡◌, ◌⊎◌, ◌<◌, ◌≤◌, ℕ, ◌+◌, ◌-◌, ◌^◌, Bool, IsTrue, Option, Some, None, List, [], ◌∷◌, ◌++◌, length, IfSome, IsSome}
 use Rattle.refusal.specs.Count.{HasRisen}
 use Rattle.disk_trait.specs.Disk.{DiskState}
-use Rattle.disk_trait.specs.Shelf.{ShelfState, KeepsOthers, KeepsDisks}
-use Rattle.blsm_run.specs.Words.{disk_name}
+use Rattle.disk_trait.specs.Shelf.{ShelfState, IsFreshCount, KeepsOthers, KeepsDisks}
 
 -- The words, what the source had left and has left, where it tells it, its count of faults, and the shelf: before the call and after it.
 pub record Outside (D : Type 0) : Type 0 where
@@ -19,23 +18,21 @@ pub record Outside (D : Type 0) : Type 0 where
 abbrev pub HasRisenOnce : ℕ → ℕ → Type 0
 HasRisenOnce old new = HasRisen old new × (new ≤ old + 1)
 
-abbrev pub name : {D : Type 0} → Outside D → List ℕ
-name o = disk_name o.words
-
 -- no fetch was made
 pub record HasNotFetched {D : Type 0} (old new : ShelfState D) : Type 0 where
   pub disks : IsTrue old.tells_disks → KeepsDisks old new
   pub fetches : IsTrue old.tells_fetches → new.fetches ≡ old.fetches
   pub faults : new.faults ≡ old.faults
 
--- One fetch was made, of the name and with leave to make a missing disk. What it gave was given back under that name, and no other disk changed.
-pub record HasFetched {D : Type 0} (name : List ℕ) (old new : ShelfState D) : Type 0 where
+-- One fetch was made, of the name, with or without leave to make a missing disk. What it gave was given back under that name, and no other disk changed.
+pub record HasFetched {D : Type 0} (name : List ℕ) (fresh : Bool) (old new : ShelfState D) : Type 0 where
   pub fetches : IsTrue old.tells_fetches → length old.fetches < 2 ^ 64 - 1
-      → (new.fetches ≡ old.fetches ++ Some (name, true) ∷ []) ⊎ (new.fetches ≡ old.fetches ++ None ∷ [])
+      → (new.fetches ≡ old.fetches ++ Some (name, fresh) ∷ []) ⊎ (new.fetches ≡ old.fetches ++ None ∷ [])
   pub back : IsTrue old.tells_disks → IsSome (old.disk_at name) → IsSome (new.disk_at name)
   pub others : IsTrue old.tells_disks → KeepsOthers name old new
 
--- Where a disk stood under the name, one stands there again, and this holds of it before and after.
+-- Where a disk stood under the name, one stands there again, and this holds of it as it was fetched, its count at 0 and all else as it stood, and as
+-- it was given back.
 abbrev pub OfTheDisk : {D : Type 0} → (D → DiskState) → List ℕ → ShelfState D → ShelfState D → (DiskState → DiskState → Type 0) → Type 0
 OfTheDisk {D} state name old new P = IsTrue old.tells_disks
-    → IfSome (old.disk_at name) (λ first. (last : D) × (new.disk_at name ≡ Some last) × P (state first) (state last))
+    → IfSome (old.disk_at name) (λ stood. (first : D) × (last : D) × IsFreshCount (state stood) (state first) × (new.disk_at name ≡ Some last) × P (state first) (state last))

@@ -1,14 +1,17 @@
 //! What a call answers: the text that it writes, and its status.
-ghost use Rattle.std.specs.Prelude.{◌≡◌, ◌++◌, decimal, Err};
+ghost use Rattle.std.specs.Prelude.{◌≡◌, ◌++◌, decimal, Ok, Err};
 ghost use Rattle.text_io.specs.Text.{Writes};
-ghost use Rattle.blsm_run.specs.Outcome.{text_of, status_of, newline, Tells};
-ghost use Rattle.blsm_run.specs.Session.{outcome_of};
+ghost use Rattle.blsm_model.specs.Printed.{and_number};
+ghost use Rattle.blsm_run.specs.Outcome.{Tells, HasMadeAnswer, and_component, newline, outcome_of, place_text, report_text, status_of, status_of_ending, text_of};
 
 use crate::Status;
-use crate::outcome::{Finished, Refusal};
+use crate::outcome::{Answer, Refusal};
+use blsm_model::Component;
 use itoa::Buffer;
+use recover_open::{Place, Report};
 use refusal::Failed;
-use script_text::print_history;
+use script_text::{print_history, print_summary};
+use store_run::{Ending, Finished};
 use text_io::{Sink, write_all};
 
 fn print_number<K: Sink>(sink: &mut K, number: u64) -> Result<(), Failed>
@@ -28,6 +31,47 @@ fn print_numbered<K: Sink>(sink: &mut K, name: &[u8], number: u64) -> Result<(),
     write_all(sink, b"\n")
 }
 
+// A number behind a space.
+fn print_and_number<K: Sink>(sink: &mut K, number: u64) -> Result<(), Failed>
+    ensures { Writes (and_number number) result (K.held sink.old) (K.held sink.new) (K.faults sink.old) (K.faults sink.new) }
+{
+    write_all(sink, b" ")?;
+    print_number(sink, number)
+}
+
+// A component's entries and weight, behind its name.
+fn print_component<K: Sink>(sink: &mut K, name: &[u8], component: &Component) -> Result<(), Failed>
+    ensures { Writes (and_component name.now component.now) result (K.held sink.old) (K.held sink.new) (K.faults sink.old) (K.faults sink.new) }
+{
+    write_all(sink, name)?;
+    print_and_number(sink, component.entries)?;
+    print_and_number(sink, component.weight)
+}
+
+fn print_report<K: Sink>(sink: &mut K, report: &Report) -> Result<(), Failed>
+    ensures { Writes (report_text report.now) result (K.held sink.old) (K.held sink.new) (K.faults sink.old) (K.faults sink.new) }
+{
+    write_all(sink, b"ok version")?;
+    print_and_number(sink, report.version)?;
+    print_component(sink, b" c1", &report.c1)?;
+    print_component(sink, b" c1x", &report.c1x)?;
+    print_component(sink, b" c2", &report.c2)?;
+    write_all(sink, b" lanes")?;
+    print_and_number(sink, report.lane_a)?;
+    print_and_number(sink, report.lane_b)?;
+    write_all(sink, b"\n")
+}
+
+fn print_place<K: Sink>(sink: &mut K, place: Place) -> Result<(), Failed>
+    ensures { Writes (place_text place) result (K.held sink.old) (K.held sink.new) (K.faults sink.old) (K.faults sink.new) }
+{
+    match place {
+        Place::Slots => write_all(sink, b"damaged slots\n"),
+        Place::Lane(lane) => print_numbered(sink, b"damaged lane ", u64::from(lane)),
+        Place::Page(page) => print_numbered(sink, b"damaged page ", u64::from(page)),
+    }
+}
+
 fn print_refusal<K: Sink>(sink: &mut K, refusal: Refusal) -> Result<(), Failed>
     ensures { Writes (text_of (outcome_of (Err refusal))) result (K.held sink.old) (K.held sink.new) (K.faults sink.old) (K.faults sink.new) }
 {
@@ -38,47 +82,83 @@ fn print_refusal<K: Sink>(sink: &mut K, refusal: Refusal) -> Result<(), Failed>
         Refusal::BadLine(line) => print_numbered(sink, b"bad line ", line),
         Refusal::DiskFault => write_all(sink, b"disk fault\n"),
         Refusal::NotAStore => write_all(sink, b"not a store\n"),
-        Refusal::DamagedSlots => write_all(sink, b"damaged slots\n"),
-        Refusal::DamagedLane => write_all(sink, b"damaged lane 0\n"),
+        Refusal::NotEmpty(length) => print_numbered(sink, b"not empty ", length),
+        Refusal::Damaged(place) => print_place(sink, place),
+        Refusal::Worn(version) => print_numbered(sink, b"worn ", version),
         Refusal::NoMemory => write_all(sink, b"no memory\n"),
     }
 }
 
-// Writes the text of an answer: the history, or the line of a refusal.
-fn print_answer<K: Sink>(sink: &mut K, answer: &Result<Finished, Refusal>) -> Result<(), Failed>
+// What was done: the length of a store that was made, the history of a run, the report of a check, the summary of a trial.
+fn print_done<K: Sink>(sink: &mut K, answer: &Answer) -> Result<(), Failed>
+    requires { HasMadeAnswer (Ok answer.now) }
+    ensures { Writes (text_of (outcome_of (Ok answer.now))) result (K.held sink.old) (K.held sink.new) (K.faults sink.old) (K.faults sink.new) }
+{
+    match answer {
+        Answer::Made(length) => print_numbered(sink, b"made ", *length),
+        Answer::Ran(run) => print_history(sink, run.charge, &run.annals, &run.totals),
+        Answer::Checked(report) => print_report(sink, report),
+        Answer::Tried(seed, count, run) => print_summary(
+            sink,
+            *seed,
+            *count,
+            &run.annals,
+            &run.totals,
+        ),
+    }
+}
+
+fn print_answer<K: Sink>(sink: &mut K, answer: &Result<Answer, Refusal>) -> Result<(), Failed>
+    requires { HasMadeAnswer answer.now }
     ensures { Writes (text_of (outcome_of answer.now)) result (K.held sink.old) (K.held sink.new) (K.faults sink.old) (K.faults sink.new) }
 {
     match answer {
-        Ok(finished) => print_history(sink, finished.charge, &finished.annals, &finished.totals),
+        Ok(done) => print_done(sink, done),
         Err(refusal) => print_refusal(sink, *refusal),
     }
 }
 
+// The status of a run whose history was written.
+fn status_of_run(run: &Finished) -> Status
+    ensures { result ≡ status_of_ending run.now.ending }
+{
+    match run.ending {
+        Ending::Well => Status::Done,
+        Ending::Faulted => Status::DiskFault,
+        Ending::Damaged => Status::Damaged,
+    }
+}
+
+fn status_of_refusal(refusal: Refusal) -> Status
+    ensures { result ≡ status_of (outcome_of (Err refusal)) }
+{
+    match refusal {
+        Refusal::Usage => Status::Usage,
+        Refusal::SourceFault => Status::SourceFault,
+        Refusal::TooBig => Status::TooBig,
+        Refusal::BadLine(_) => Status::BadLine,
+        Refusal::DiskFault => Status::DiskFault,
+        Refusal::NotAStore => Status::NotAStore,
+        Refusal::NotEmpty(_) => Status::NotEmpty,
+        Refusal::Damaged(_) | Refusal::Worn(_) => Status::Damaged,
+        Refusal::NoMemory => Status::NoMemory,
+    }
+}
+
 // The status of an answer whose text was written.
-fn status_for(answer: &Result<Finished, Refusal>) -> Status
+fn status_for(answer: &Result<Answer, Refusal>) -> Status
     ensures { result ≡ status_of (outcome_of answer.now) }
 {
     match answer {
-        Ok(finished) => {
-            if finished.is_faulted {
-                Status::DiskFault
-            } else {
-                Status::Done
-            }
-        }
-        Err(Refusal::Usage) => Status::Usage,
-        Err(Refusal::SourceFault) => Status::SourceFault,
-        Err(Refusal::TooBig) => Status::TooBig,
-        Err(Refusal::BadLine(_)) => Status::BadLine,
-        Err(Refusal::DiskFault) => Status::DiskFault,
-        Err(Refusal::NotAStore) => Status::NotAStore,
-        Err(Refusal::DamagedSlots | Refusal::DamagedLane) => Status::Damaged,
-        Err(Refusal::NoMemory) => Status::NoMemory,
+        Ok(Answer::Made(_) | Answer::Checked(_) | Answer::Tried(..)) => Status::Done,
+        Ok(Answer::Ran(run)) => status_of_run(run),
+        Err(refusal) => status_of_refusal(*refusal),
     }
 }
 
 /// Writes the text of an answer, and answers its status.
-pub(crate) fn tell<K: Sink>(sink: &mut K, answer: &Result<Finished, Refusal>) -> Status
+pub(crate) fn tell<K: Sink>(sink: &mut K, answer: &Result<Answer, Refusal>) -> Status
+    requires { HasMadeAnswer answer.now }
     ensures { Tells (record {
       held = K.held sink.old;
       held_after = K.held sink.new;

@@ -1,16 +1,14 @@
-//! The program's one call: it reads the words and the script, runs the script over one store, and prints the history.
+//! The program's one call: it reads the words, does what they ask for over a shelf of disks, and prints the answer.
 //! `main` makes the real ends, calls it, and ends with its status.
 #![tactic(auto)]
 
 mod answer;
-mod opening;
 mod outcome;
 mod perform;
 mod run;
-mod session;
+mod source;
 mod status;
-mod store;
-mod words;
+mod stores;
 
 pub use run::blsm_run;
 pub use status::Status;

@@ -1,45 +1,84 @@
-//! The steps of a call up to its answer: the words, the source, the script, the store.
-ghost use Rattle.std.specs.Prelude.{◌≡◌, ◌≤◌, map, string_bytes, IfErr, IfOk};
-ghost use Rattle.blsm_run.specs.Reading.{ReadsScript};
+//! The steps of a call up to its answer.
+ghost use Rattle.std.specs.Prelude.{◌≡◌, ℕ, List, Some, map, string_bytes};
+ghost use Rattle.program_words.specs.Words.{AreAccepted, IsInRange, asked_by, asked_of, run};
 ghost use Rattle.blsm_run.specs.Cause.{Cause};
-ghost use Rattle.blsm_run.specs.Session.{outcome_of};
+ghost use Rattle.blsm_run.specs.Outcome.{HasMadeAnswer, outcome_of};
 
-use crate::outcome::{Finished, Refusal};
-use crate::session::run_on_shelf;
-use crate::words::{Unread, name_of};
+use crate::outcome::{Answer, Refusal};
+use crate::source::read_source;
+use crate::stores::{check_on_shelf, make_on_shelf, run_on_shelf};
 use disk_trait::Shelf;
-use script_text::{Script, ScriptFault, read_script};
+use program_words::{Request, asked_in_range, read_words};
+use script_text::made_histories;
 use std::alloc::Global;
-use text_io::{ReadFault, Source, read_all};
+use store_trial::try_seed;
+use text_io::Source;
 
-// How many bytes a script may have.
-const MAX_SCRIPT: usize = 8_388_608;
-
-// Reads the source to its end, as a script.
-fn read_source<S: Source>(alloc: Global, source: &mut S) -> Result<Script, Refusal>
-    ensures { ReadsScript (S.left source.old) (S.left source.new) (S.faults source.old) (S.faults source.new) result }
+// Reads the script and runs it over the store on the disk of a name, for which the words ask.
+fn run<S: Source, H: Shelf>(
+    alloc: Global,
+    source: &mut S,
+    shelf: &mut H,
+    name: &str,
+) -> Result<Answer, Refusal>
+    ensures cause { (words : List (List ℕ)) → AreAccepted words → asked_by words ≡ Some (run name.now) → Cause H.D.state (record {
+      words = words;
+      left = S.left source.old;
+      left_after = S.left source.new;
+      source_faults = S.faults source.old;
+      source_faults_after = S.faults source.new;
+      shelf = H.state shelf.old;
+      shelf_after = H.state shelf.new;
+    }) (outcome_of result) }
+    ensures made { HasMadeAnswer result }
 {
-    let bytes = match read_all(alloc, source, MAX_SCRIPT) {
-        Ok(bytes) => bytes,
-        Err(ReadFault::Failed) => return Err(Refusal::SourceFault),
-        Err(ReadFault::TooLong) => return Err(Refusal::TooBig),
-        Err(ReadFault::NoMemory) => return Err(Refusal::NoMemory),
-    };
-    match read_script(alloc, &bytes) {
-        Ok(script) => Ok(script),
-        Err(ScriptFault::Bad(line)) => Err(Refusal::BadLine(u64::from(line))),
-        Err(ScriptFault::NoMemory) => Err(Refusal::NoMemory),
+    let script = read_source(alloc, source)?;
+    let finished = run_on_shelf(alloc, shelf, name, script.lines(), script.room())?;
+    Ok(Answer::Ran(finished))
+}
+
+// Does what a request asks for, which the words gave.
+fn carry_out<S: Source, H: Shelf>(
+    alloc: Global,
+    request: Request,
+    source: &mut S,
+    shelf: &mut H,
+) -> Result<Answer, Refusal>
+    requires range { IsInRange (asked_of request) }
+    ensures cause { (words : List (List ℕ)) → AreAccepted words → asked_by words ≡ Some (asked_of request.entry) → Cause H.D.state (record {
+      words = words;
+      left = S.left source.old;
+      left_after = S.left source.new;
+      source_faults = S.faults source.old;
+      source_faults_after = S.faults source.new;
+      shelf = H.state shelf.old;
+      shelf_after = H.state shelf.new;
+    }) (outcome_of result) }
+    ensures made { HasMadeAnswer result }
+{
+    made_histories();
+    match request {
+        Request::Make { name, geometry } => Ok(Answer::Made(make_on_shelf(
+            shelf, name, &geometry,
+        )?)),
+        Request::Run { name } => run(alloc, source, shelf, name),
+        Request::Check { name } => Ok(Answer::Checked(check_on_shelf(alloc, shelf, name)?)),
+        Request::Trial { seed, count } => Ok(Answer::Tried(
+            seed,
+            count,
+            try_seed(alloc, seed, count)?,
+        )),
     }
 }
 
-/// Reads the words and the script, and runs the script over the disk that the words name.
+/// Does what the words ask for.
 pub(crate) fn perform<S: Source, H: Shelf>(
     alloc: Global,
     words: &[String],
     source: &mut S,
     shelf: &mut H,
-) -> Result<Finished, Refusal>
-    ensures { Cause H.D.state (record {
+) -> Result<Answer, Refusal>
+    ensures cause { Cause H.D.state (record {
       words = map string_bytes words.now;
       left = S.left source.old;
       left_after = S.left source.new;
@@ -48,14 +87,11 @@ pub(crate) fn perform<S: Source, H: Shelf>(
       shelf = H.state shelf.old;
       shelf_after = H.state shelf.new;
     }) (outcome_of result) }
+    ensures made { HasMadeAnswer result }
 {
-    let name = match name_of(alloc, words) {
-        Ok(name) => name,
-        Err(Unread::Refused) => return Err(Refusal::Usage),
-        Err(Unread::NoMemory) => return Err(Refusal::NoMemory),
-    };
-    let script = read_source(alloc, source)?;
-    let lines = script.lines();
-    let room = script.room();
-    run_on_shelf(alloc, shelf, name, lines, room)
+    asked_in_range();
+    match read_words(alloc, words) {
+        Ok(request) => carry_out(alloc, request, source, shelf),
+        Err(why) => Err(Refusal::from(why)),
+    }
 }

@@ -11,9 +11,11 @@ use std::alloc::Global;
 use std::sync::Wait;
 use std::thread::Threads;
 use text_io::{Sink, Source};
+use tree_file::one_tree;
+use tree_reading::a_map_is_read;
 
-/// Reads the words and the script, opens the store on the disk that the words name, or makes one where the disk has no bytes, runs the
-/// script over it, and prints its history.
+/// Reads the words and does what they ask for: it makes a store on the disk of a name, runs a script from the source over the store on one and
+/// prints its history, checks the store on one and prints its numbers, or runs a script that a seed makes and prints its summary.
 pub fn blsm_run<R: Threads + Wait + Sync, S: Source, K: Sink, H: Shelf, G: Gate + Sync>(
     _rt: &R,
     alloc: Global,
@@ -38,6 +40,8 @@ pub fn blsm_run<R: Threads + Wait + Sync, S: Source, K: Sink, H: Shelf, G: Gate 
       faults_after = K.faults sink.new;
     }) result }
 {
+    one_tree();
+    a_map_is_read();
     let answer = perform(alloc, words, src, shelf);
     tell(sink, &answer)
 }

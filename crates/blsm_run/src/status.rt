@@ -4,7 +4,7 @@ ghost use Rattle.std.specs.Prelude.{◌≡◌};
 /// How a call ends. The numbers are the exit statuses.
 #[derive(Clone, Copy, Debug, PartialEq, Eq)]
 pub enum Status {
-    /// The script was run, and no call of the disk failed.
+    /// What was asked for was done.
     Done = 0,
     /// The words are not accepted.
     Usage = 1,
@@ -14,7 +14,9 @@ pub enum Status {
     TooBig = 3,
     /// The disk is no store.
     NotAStore = 4,
-    /// A part of the store is not of the written form.
+    /// The disk has bytes already.
+    NotEmpty = 5,
+    /// A part of the store is not of the written form, or the store is worn.
     Damaged = 6,
     /// The shelf or the disk failed.
     DiskFault = 7,

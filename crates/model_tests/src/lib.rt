@@ -12,3 +12,5 @@ mod samples;
 mod scripts;
 #[cfg(test)]
 mod streams;
+#[cfg(test)]
+mod trials;

@@ -1,6 +1,6 @@
 // Scripts that are read, and histories that are printed.
-ghost use Rattle.std.specs.Prelude.{◌≡◌, length};
-ghost use Rattle.blsm_model.specs.Book.{rows_given};
+ghost use Rattle.std.specs.Prelude.{◌≡◌, OnOk, length};
+ghost use Rattle.blsm_model.specs.Book.{noted, rows_given};
 
 use crate::samples::{key, value};
 use blsm_model::{Annals, Entry, Line, Op, Reply, Room, Row, RowList, Totals, Why};
@@ -13,7 +13,8 @@ use text_io::MemSink;
 
 #[test]
 fn a_script_is_its_lines(rt: HostRuntime) -> Result<(), Fail> {
-    let text = b"1 put a 5 hi\n16 add n 18446744073709551615\n1 del a\n2 put - 0 -\n1 get a";
+    let text =
+        b"1 put a 5 hi\n16 add n 18446744073709551615\n1 del a\n2 put - 0 -\n1 get a\n3 work 1000";
     let script = read_script(rt.alloc(), text)?;
     let wanted = [
         Line {
@@ -36,12 +37,16 @@ fn a_script_is_its_lines(rt: HostRuntime) -> Result<(), Fail> {
             seat: 0,
             op: Op::Get(key(b"a")?),
         },
+        Line {
+            seat: 2,
+            op: Op::Work(1000),
+        },
     ];
     assert_eq!(rt; script.lines(), wanted.as_slice());
     let room = script.room();
     assert_eq!(rt;
         room.entries,
-        [3, 1, 0, 0, 0, 0, 0, 0, 0, 0, 0, 0, 0, 0, 0, 1]
+        [3, 1, 1, 0, 0, 0, 0, 0, 0, 0, 0, 0, 0, 0, 0, 1]
     );
     assert_eq!(rt; room.rows, [0; 16]);
     Ok(())
@@ -54,7 +59,7 @@ fn count_lines(rt: &HostRuntime, text: &[u8]) -> Result<usize, ScriptFault> {
 
 #[test]
 fn the_first_bad_line_is_named(rt: HostRuntime) -> Result<(), Fail> {
-    let cases: [(&[u8], Result<usize, ScriptFault>); 38] = [
+    let cases: [(&[u8], Result<usize, ScriptFault>); 47] = [
         (b"", Ok(0)),
         (b"1 get a", Ok(1)),
         (b"1 get a\n", Ok(1)),
@@ -62,6 +67,8 @@ fn the_first_bad_line_is_named(rt: HostRuntime) -> Result<(), Fail> {
         (b"1 put a 0 -", Ok(1)),
         (b"1 put a 0 --", Ok(1)),
         (b"1 get !~", Ok(1)),
+        (b"1 work 1", Ok(1)),
+        (b"16 work 100000\n", Ok(1)),
         (b"\n", Err(ScriptFault::Bad(1))),
         (b"\n1 get a", Err(ScriptFault::Bad(1))),
         (b"1 get a\n\n", Err(ScriptFault::Bad(2))),
@@ -91,6 +98,13 @@ fn the_first_bad_line_is_named(rt: HostRuntime) -> Result<(), Fail> {
         (b"1 add a", Err(ScriptFault::Bad(1))),
         (b"1 put a 1", Err(ScriptFault::Bad(1))),
         (b"1 put a 1 ", Err(ScriptFault::Bad(1))),
+        (b"1 work 0", Err(ScriptFault::Bad(1))),
+        (b"1 work 100001", Err(ScriptFault::Bad(1))),
+        (b"1 work 01", Err(ScriptFault::Bad(1))),
+        (b"1 work +1", Err(ScriptFault::Bad(1))),
+        (b"1 work", Err(ScriptFault::Bad(1))),
+        (b"1 work 1 1", Err(ScriptFault::Bad(1))),
+        (b"1 hold a b", Err(ScriptFault::Bad(1))),
         (b"1 next 1", Err(ScriptFault::Bad(1))),
         (b"1 drop", Err(ScriptFault::Bad(1))),
     ];
@@ -134,7 +148,9 @@ fn count_rows(reply: &Reply) -> u32
 }
 
 // Notes an entry, if there is room for it.
-fn note(annals: &mut Annals, seat: u32, op: Op, reply: Reply) -> Result<(), &'static str> {
+pub fn note(annals: &mut Annals, seat: u32, op: Op, reply: Reply) -> Result<(), &'static str>
+    ensures { OnOk result (annals.new ≡ noted annals.old (record { seat = seat; op = op; reply = reply })) }
+{
     let room = annals.room();
     if 16 <= seat || room.entries[seat as usize] == 0 {
         return Err("no room");

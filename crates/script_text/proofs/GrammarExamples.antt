@@ -57,6 +57,16 @@ dash is_text = is_text.no_dash refl
 next_one : IsCommand (Next 1) → ⊥
 next_one allowed = allowed
 
+-- a work is for one turn at least, and 100,000 at most
+no_turns : IsCommand (Work 0) → ⊥
+no_turns allowed = absurd (omega (arith, allowed.0))
+
+most_work : IsCommand (Work 100000)
+most_work = (omega arith, omega arith)
+
+more_work : IsCommand (Work 100001) → ⊥
+more_work allowed = absurd (omega (arith, allowed.1))
+
 -- no line has a number that begins with 0
 one_digit : Lacks 32 (49 ∷ [])
 one_digit = All-from_recursion (λ byte. byte ≢ 32) (49 ∷ []) ((λ same. absurd (omega (arith, same))), tt)

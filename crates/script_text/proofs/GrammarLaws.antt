@@ -46,7 +46,7 @@ one_put key value (Get k) x y is = absurd (omega (arith, heads is))
 one_put key value (Hold low high) x y is = absurd y
 one_put key value (Next n) x y is = absurd y
 one_put key value Release x y is = absurd y
-one_put key value (Work n) x y is = absurd y
+one_put key value (Work n) x y is = absurd (omega (arith, heads is))
 
 one_add : (key : List ℕ) (count : ℕ) (y : Op) → IsCommand (Add key count) → IsCommand y → command_text (Add key count) ≡ command_text y → Add key count ≡ y
 one_add key count (Put k v) x y is = absurd (omega (arith, heads is))
@@ -60,7 +60,7 @@ one_add key count (Get k) x y is = absurd (omega (arith, heads is))
 one_add key count (Hold low high) x y is = absurd y
 one_add key count (Next n) x y is = absurd y
 one_add key count Release x y is = absurd y
-one_add key count (Work n) x y is = absurd y
+one_add key count (Work n) x y is = absurd (omega (arith, heads is))
 
 one_del : (key : List ℕ) (y : Op) → IsCommand y → command_text (Del key) ≡ command_text y → Del key ≡ y
 one_del key (Put k v) y is = absurd (omega (arith, heads is))
@@ -70,7 +70,7 @@ one_del key (Get k) y is = absurd (omega (arith, heads is))
 one_del key (Hold low high) y is = absurd y
 one_del key (Next n) y is = absurd y
 one_del key Release y is = absurd y
-one_del key (Work n) y is = absurd y
+one_del key (Work n) y is = absurd (omega (arith, heads is))
 
 one_get : (key : List ℕ) (y : Op) → IsCommand y → command_text (Get key) ≡ command_text y → Get key ≡ y
 one_get key (Put k v) y is = absurd (omega (arith, heads is))
@@ -80,7 +80,17 @@ one_get key (Get k) y is = ap (λ (l : List ℕ). Get l) (ap (λ (l : List ℕ).
 one_get key (Hold low high) y is = absurd y
 one_get key (Next n) y is = absurd y
 one_get key Release y is = absurd y
-one_get key (Work n) y is = absurd y
+one_get key (Work n) y is = absurd (omega (arith, heads is))
+
+one_work : (n : ℕ) (y : Op) → IsCommand (Work n) → IsCommand y → command_text (Work n) ≡ command_text y → Work n ≡ y
+one_work n (Put k v) x y is = absurd (omega (arith, heads is))
+one_work n (Add k m) x y is = absurd (omega (arith, heads is))
+one_work n (Del k) x y is = absurd (omega (arith, heads is))
+one_work n (Get k) x y is = absurd (omega (arith, heads is))
+one_work n (Hold low high) x y is = absurd y
+one_work n (Next m) x y is = absurd y
+one_work n Release x y is = absurd y
+one_work n (Work m) x y is = ap Work (decimal_injective n m (omega (arith, x.1)) (omega (arith, y.1)) (ap (λ (l : List ℕ). drop 5 l) is))
 
 one_command : (x y : Op) → IsCommand x → IsCommand y → command_text x ≡ command_text y → x ≡ y
 one_command (Put key value) y allowed_x allowed_y is = one_put key value y allowed_x allowed_y is
@@ -90,7 +100,7 @@ one_command (Get key) y allowed_x allowed_y is = one_get key y allowed_y is
 one_command (Hold low high) y allowed_x allowed_y is = absurd allowed_x
 one_command (Next n) y allowed_x allowed_y is = absurd allowed_x
 one_command Release y allowed_x allowed_y is = absurd allowed_x
-one_command (Work n) y allowed_x allowed_y is = absurd allowed_x
+one_command (Work n) y allowed_x allowed_y is = one_work n y allowed_x allowed_y is
 
 seat_small : (line : Line) → IsAllowed line → line.seat + 1 < 2 ^ 64
 seat_small line allowed = omega (arith, allowed.seat)
@@ -134,7 +144,10 @@ command_lacks (Get key) is_key =
 command_lacks (Hold low high) allowed = absurd allowed
 command_lacks (Next n) allowed = absurd allowed
 command_lacks Release allowed = absurd allowed
-command_lacks (Work n) allowed = absurd allowed
+command_lacks (Work n) allowed =
+    All-append (λ byte. byte ≢ 10) (codes "work") (and_number n)
+    (All-from_recursion (λ byte. byte ≢ 10) (codes "work") (λ same. absurd (omega arith), (λ same. absurd (omega arith), (λ same. absurd (omega arith), (λ same. absurd (omega arith), tt)))))
+    (number_lacks n (omega (arith, allowed.1)))
 
 line_lacks : (line : Line) → IsAllowed line → Lacks 10 (line_text line)
 line_lacks line allowed =

@@ -1,6 +1,9 @@
+pub mod GeneratedLaws
 pub mod GrammarExamples
 pub mod GrammarLaws
+pub mod PresentLemmas
 pub mod PrintLemmas
 pub mod ReadLemmas
 pub mod RoomLemmas
 pub mod ScriptLemmas
+pub mod SummaryLemmas

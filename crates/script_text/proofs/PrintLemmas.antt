@@ -38,7 +38,7 @@ entries_joined place es fs qs rs e q n same here =
     ∙ ap (λ m. entries_text place es qs ++ entries_text m (e ∷ fs) (q ∷ rs)) here
     ∙ sym (append_assoc (entries_text place es qs) (entry_text n e q) (entries_text (n + 1) fs rs))
 
-as_long : (es : List Entry) (qs : List ℕ) (i : ℕ) → length qs ≡ length es → i < length es → length (take i qs) ≡ length (take i es)
+pub as_long : (es : List Entry) (qs : List ℕ) (i : ℕ) → length qs ≡ length es → i < length es → length (take i qs) ≡ length (take i es)
 as_long es qs i same within = length-take-le i qs (omega arith) ∙ sym (length-take-le i es (omega arith))
 
 -- the entries before a place, the entry there, and the rest

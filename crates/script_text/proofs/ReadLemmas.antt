@@ -18,7 +18,7 @@ use Rattle.blsm_model.specs.Printed.{command_text, and_value, and_number}
 use Rattle.script_text.specs.declared.read_line.Verb.{Verb}
 use Rattle.script_text.specs.declared.read_line.Verb.TheVariants as verb
 use Rattle.script_text.specs.Grammar.{IsVisible, IsCommand}
-use Rattle.script_text.specs.Reading.{Reads, Lacks, IsJoined, BeginsAsNumber, SpellsNumber, SpellsSeat, SpellsKeyAndValue, SpellsKeyAndNumber, SpellsArguments, verb_text}
+use Rattle.script_text.specs.Reading.{Reads, Lacks, IsJoined, BeginsAsNumber, SpellsNumber, SpellsSeat, SpellsKeyAndValue, SpellsKeyAndNumber, SpellsArguments, SpellsTurns, verb_text}
 
 -- an answer of none
 pub reads_nothing : {X : Type 0} (Spells : List ℕ → X → Type 0) (bytes : List ℕ) (result : Option X) → result ≡ None → ((x : X) → Spells bytes x → ⊥) → Reads Spells bytes result
@@ -98,6 +98,10 @@ number_is_text n bytes (spelled, small) = subst (λ (b : List ℕ). IsUtf8 b) (s
 pub seat_is : (n seat : ℕ) (bytes : List ℕ) → SpellsNumber bytes n → SpellsSeat bytes seat → n ≡ seat + 1
 seat_is n seat bytes (spelled, small) (of_seat, within) = decimal_injective n (seat + 1) small (omega arith) (sym spelled ∙ of_seat)
 
+-- no number but this one is read as turns
+pub turns_are : (m n : ℕ) (bytes : List ℕ) → SpellsNumber bytes m → SpellsTurns bytes n → m ≡ n
+turns_are m n bytes (spelled, small) (of_turns, some, few) = decimal_injective m n small (omega arith) (sym spelled ∙ of_turns)
+
 pub heads : {x y : ℕ} {xs ys : List ℕ} → x ∷ xs ≡ y ∷ ys → x ≡ y
 heads same = cc
 
@@ -110,7 +114,7 @@ no_put bytes none (Get key) (is, allowed) = absurd (omega (arith, heads is))
 no_put bytes none (Hold low high) (is, allowed) = allowed
 no_put bytes none (Next n) (is, allowed) = allowed
 no_put bytes none Release (is, allowed) = allowed
-no_put bytes none (Work n) (is, allowed) = allowed
+no_put bytes none (Work n) (is, allowed) = absurd (omega (arith, heads is))
 
 -- what isn't a key and a number is no add's arguments
 pub no_add : (bytes : List ℕ) → ((x : List ℕ × ℕ) → SpellsKeyAndNumber bytes x → ⊥) → (op : Op) → SpellsArguments verb.Add bytes op → ⊥
@@ -121,7 +125,18 @@ no_add bytes none (Get key) (is, allowed) = absurd (omega (arith, heads is))
 no_add bytes none (Hold low high) (is, allowed) = allowed
 no_add bytes none (Next n) (is, allowed) = allowed
 no_add bytes none Release (is, allowed) = allowed
-no_add bytes none (Work n) (is, allowed) = allowed
+no_add bytes none (Work n) (is, allowed) = absurd (omega (arith, heads is))
+
+-- what isn't a number of turns is no work's argument
+pub no_work : (bytes : List ℕ) → ((n : ℕ) → SpellsTurns bytes n → ⊥) → (op : Op) → SpellsArguments verb.Work bytes op → ⊥
+no_work bytes none (Put key value) (is, allowed) = absurd (omega (arith, heads is))
+no_work bytes none (Add key count) (is, allowed) = absurd (omega (arith, heads is))
+no_work bytes none (Del key) (is, allowed) = absurd (omega (arith, heads is))
+no_work bytes none (Get key) (is, allowed) = absurd (omega (arith, heads is))
+no_work bytes none (Hold low high) (is, allowed) = allowed
+no_work bytes none (Next n) (is, allowed) = allowed
+no_work bytes none Release (is, allowed) = allowed
+no_work bytes none (Work n) (is, (some, few)) = none n (sym (ap (λ (l : List ℕ). drop 5 l) is), some, few)
 
 -- a command is a first word and something behind a space
 pub verb_of : (op : Op) → IsCommand op → (v : Verb) × (rest : List ℕ) × (command_text op ≡ verb_text v ++ 32 ∷ rest)
@@ -132,7 +147,7 @@ verb_of (Get key) allowed = (verb.Get, key, refl)
 verb_of (Hold low high) allowed = absurd allowed
 verb_of (Next n) allowed = absurd allowed
 verb_of Release allowed = absurd allowed
-verb_of (Work n) allowed = absurd allowed
+verb_of (Work n) allowed = (verb.Work, decimal n, refl)
 
 -- and that word has no space
 pub verb_lacks : (v : Verb) → Lacks 32 (verb_text v)
@@ -140,3 +155,4 @@ verb_lacks verb.Put = All-from_recursion (λ byte. byte ≢ 32) (verb_text verb.
 verb_lacks verb.Add = All-from_recursion (λ byte. byte ≢ 32) (verb_text verb.Add) (λ same. absurd (omega arith), (λ same. absurd (omega arith), (λ same. absurd (omega arith), tt)))
 verb_lacks verb.Del = All-from_recursion (λ byte. byte ≢ 32) (verb_text verb.Del) (λ same. absurd (omega arith), (λ same. absurd (omega arith), (λ same. absurd (omega arith), tt)))
 verb_lacks verb.Get = All-from_recursion (λ byte. byte ≢ 32) (verb_text verb.Get) (λ same. absurd (omega arith), (λ same. absurd (omega arith), (λ same. absurd (omega arith), tt)))
+verb_lacks verb.Work = All-from_recursion (λ byte. byte ≢ 32) (verb_text verb.Work) (λ same. absurd (omega arith), (λ same. absurd (omega arith), (λ same. absurd (omega arith), (λ same. absurd (omega arith), tt))))

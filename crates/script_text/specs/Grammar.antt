@@ -22,6 +22,10 @@ pub record IsText (text : List ℕ) : Type 0 where
   pub visible : All IsVisible text
   pub no_dash : text ≢ 45 ∷ []
 
+-- how many turns of merging a command may ask for
+abbrev pub most_turns : ℕ
+most_turns = 100000
+
 -- a command that a script may have
 abbrev pub IsCommand : Op → Type 0
 IsCommand (Put key value) = IsKey key × (value.count < 2 ^ 64) × IsText value.text
@@ -31,7 +35,7 @@ IsCommand (Get key) = IsKey key
 IsCommand (Hold low high) = ⊥
 IsCommand (Next n) = ⊥
 IsCommand Release = ⊥
-IsCommand (Work n) = ⊥
+IsCommand (Work n) = (1 ≤ n) × (n ≤ most_turns)
 
 -- a line that a script may have
 pub record IsAllowed (line : Line) : Type 0 where

@@ -1,3 +1,5 @@
+pub mod Generated
 pub mod Grammar
 pub mod Reading
 pub mod Script
+pub mod Summary

@@ -7,7 +7,7 @@ use Rattle.blsm_model.specs.declared.op.Op.{Op}
 use Rattle.script_text.specs.declared.read_line.Verb.{Verb}
 use Rattle.script_text.specs.declared.read_line.Verb.TheVariants as verb
 use Rattle.blsm_model.specs.Printed.{and_number, and_value, and_word, command_text, spelled}
-use Rattle.script_text.specs.Grammar.{IsCommand, IsKey, IsText}
+use Rattle.script_text.specs.Grammar.{IsCommand, IsKey, IsText, most_turns}
 
 -- the answer is what the bytes spell, and there is none only where they spell nothing
 abbrev pub Reads : {X : Type 0} → (List ℕ → X → Type 0) → List ℕ → Option X → Type 0
@@ -34,6 +34,9 @@ SpellsNumber bytes n = (bytes ≡ decimal n) × (n < 2 ^ 64)
 abbrev pub SpellsSeat : List ℕ → ℕ → Type 0
 SpellsSeat bytes seat = (bytes ≡ decimal (seat + 1)) × (seat < callers)
 
+abbrev pub SpellsTurns : List ℕ → ℕ → Type 0
+SpellsTurns bytes n = (bytes ≡ decimal n) × (1 ≤ n) × (n ≤ most_turns)
+
 abbrev pub SpellsKey : List ℕ → List ℕ → Type 0
 SpellsKey bytes key = (bytes ≡ key) × IsKey key
 
@@ -54,6 +57,7 @@ verb_text verb.Put = codes "put"
 verb_text verb.Add = codes "add"
 verb_text verb.Del = codes "del"
 verb_text verb.Get = codes "get"
+verb_text verb.Work = codes "work"
 
 abbrev pub SpellsVerb : List ℕ → Verb → Type 0
 SpellsVerb bytes v = bytes ≡ verb_text v

@@ -3,12 +3,16 @@
 #![tactic(auto)]
 
 mod command;
+mod generator;
 mod piece;
 mod print;
 mod read_line;
 mod read_word;
 mod reply;
 mod script;
+mod summary;
 
+pub use generator::{MADE_KEYS, generate, made_histories};
 pub use print::print_history;
 pub use script::{MOST_LINES, Script, ScriptFault, read_script};
+pub use summary::print_summary;

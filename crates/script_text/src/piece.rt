@@ -13,6 +13,9 @@ pub const NUMBER: usize = 20;
 
 pub const AND_NUMBER: usize = 1 + NUMBER;
 
+// A sum of two numbers is printed as one of 128 bits.
+pub const AND_SUM: usize = 1 + 40;
+
 pub const AND_KEY: usize = 1 + Key::MAX_LEN;
 
 pub const AND_TEXT: usize = 1 + Text::MAX_LEN;
@@ -118,6 +121,19 @@ impl Piece {
     {
         self.add(name);
         self.add_and_number(n);
+    }
+
+    // A word, and the sum of two numbers behind a space.
+    pub fn add_named_sum(&mut self, name: &[u8], first: u64, second: u64)
+        requires { length self.old + length name.now + AND_SUM ≤ LONGEST }
+        ensures text { self.new ≡ self.old ++ (name.now ++ and_number (first + second)) }
+        ensures fits { length self.new ≤ length self.old + length name.now + AND_SUM }
+    {
+        self.add(name);
+        self.add(b" ");
+        let mut buffer = Buffer::new();
+        let digits = buffer.format(u128::from(first) + u128::from(second));
+        self.add(digits.as_bytes());
     }
 
     // A key with a space before it.

@@ -3,7 +3,7 @@ ghost use Rattle.std.specs.Option.{option_copied};
 ghost use Rattle.script_text.specs.Grammar.{IsLine};
 ghost use Rattle.script_text.specs.Reading.{IsJoined, Lacks, Reads, SpellsArguments, SpellsCommand, SpellsKeyAndNumber, SpellsKeyAndValue, SpellsValue, SpellsVerb};
 
-use crate::read_word::{read_key, read_number, read_seat, read_text};
+use crate::read_word::{read_key, read_number, read_seat, read_text, read_turns};
 use blsm_model::{Key, Line, Op, Value};
 
 // The front before the first such byte, and the rest behind it, if there is such a byte.
@@ -53,6 +53,7 @@ enum Verb {
     Add,
     Del,
     Get,
+    Work,
 }
 
 fn read_verb(word: &[u8]) -> Option<Verb>
@@ -63,6 +64,7 @@ fn read_verb(word: &[u8]) -> Option<Verb>
         b"add" => Some(Verb::Add),
         b"del" => Some(Verb::Del),
         b"get" => Some(Verb::Get),
+        b"work" => Some(Verb::Work),
         _ => None,
     }
 }
@@ -82,6 +84,7 @@ fn read_arguments(verb: Verb, bytes: &[u8]) -> Option<Op>
         }
         Verb::Del => Some(Op::Del(read_key(bytes)?)),
         Verb::Get => Some(Op::Get(read_key(bytes)?)),
+        Verb::Work => Some(Op::Work(read_turns(bytes)?)),
     }
 }
 

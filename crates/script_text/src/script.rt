@@ -5,7 +5,7 @@ ghost use Rattle.std.specs.List.{All};
 ghost use Rattle.blsm_model.specs.Format.{callers, most_lines, most_rows_asked};
 ghost use Rattle.blsm_model.specs.Scripts.{lines_of};
 ghost use Rattle.script_text.specs.Grammar.{IsAllowed, IsBadLine, IsOnlyBadLine, IsOnlyReading, IsScript};
-ghost use Rattle.script_text.specs.Script.{IfBad, rows_asked};
+ghost use Rattle.script_text.specs.Script.{AreLines, IfBad, rows_asked};
 ghost use Rattle.script_text.specs.declared.script.ScriptFault.TheVariants.{NoMemory};
 
 use crate::read_line::{cut, read_line};
@@ -57,6 +57,14 @@ impl Model for Script {
 }
 
 impl Script {
+    // The script of these lines.
+    pub(crate) fn from_lines(lines: Vec<Line>) -> Script
+        requires { AreLines lines.items }
+        ensures { result ≡ lines.items }
+    {
+        Script { lines }
+    }
+
     /// The lines in order.
     pub fn lines(&self) -> &[Line]
         ensures lines { result.now ≡ self.now }

@@ -1,11 +1,8 @@
-use Rattle.blsm_run.specs.Session.{outcome_of}
-use Rattle.blsm_run.proofs.AnswerLemmas.{completes}
+use Rattle.blsm_run.specs.Outcome.{outcome_of}
+use Rattle.blsm_run.proofs.AnswerLemmas.{answers}
 use Rattle.blsm_run.proofs.run.blsm_run.Goals as goal
 
 pub returns : goal.returns
-returns g c = record {
-  outcome = outcome_of c.perform-answer.result;
-  tells = c.tell.ensures;
-  cause = c.perform-answer.ensures;
-  completes = completes g.H.D.Disk.state _ _ (outcome_of c.perform-answer.result) c.tell.result c.perform-answer.ensures c.tell.ensures;
-}
+returns g c =
+    answers g.H.D.Disk.state (g.met.H.D.Disk g.world.𝓛 g.world.𝓜 g.world.𝓡 ((λ s x. x), (λ x. x), (λ x. x), λ x. x)).honest_tells c.one_tree.ensures.same c.a_map_is_read.ensures _ _ (outcome_of c.perform-answer.result) c.tell.result
+    c.perform-answer.ensures.cause c.tell.ensures

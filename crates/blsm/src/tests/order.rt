@@ -1,0 +1,84 @@
+// Which of two causes is told: the words come first, then the source, the script, and the disk; a sink that fails replaces any.
+use super::{NAME, letters, owned, shelf_with_smallest};
+use crate::call;
+use std::alloc::Global;
+use std::process::{Abort, ExitCode};
+use std::sync::Wait;
+use std::thread::Threads;
+use text_io::{FaultlessSink, MemSink, MemSource, Sink};
+
+// A disk that isn't there.
+const MISSING: [&str; 3] = ["blsm", "run", "other"];
+
+// Makes the call over a source of which these calls fail, and compares its text and its exit code.
+fn check_over<R: Abort + Threads + Wait + Sync>(
+    rt: &R,
+    alloc: Global,
+    words: &[&str],
+    script: &[u8],
+    fails: &[u64],
+    wanted: (u8, &[u8]),
+) {
+    let words = owned(rt, alloc, words);
+    let mut shelf = shelf_with_smallest(rt, alloc);
+    let Ok(mut source) = MemSource::new(alloc, script, fails) else {
+        rt.abort()
+    };
+    let Ok(mut sink) = FaultlessSink::new(alloc, 100) else {
+        rt.abort()
+    };
+    let code = call(rt, alloc, &words, &mut source, &mut sink, &mut shelf);
+    assert!(rt; sink.bytes() == wanted.1);
+    assert_eq!(rt; code, ExitCode::from(wanted.0));
+}
+
+#[test]
+fn the_words_before_the_source(rt: HostRuntime) {
+    let words = ["blsm", "run"];
+    check_over(&rt, rt.alloc(), &words, b"1 frob\n", &[1], (1, b"usage\n"));
+}
+
+#[test]
+fn the_source_before_the_script_and_the_disk(rt: HostRuntime) {
+    let wanted: (u8, &[u8]) = (8, b"source fault\n");
+    check_over(&rt, rt.alloc(), &MISSING, b"1 frob\n", &[1], wanted);
+}
+
+#[test]
+fn the_size_before_the_script_and_the_disk(rt: HostRuntime) {
+    let alloc = rt.alloc();
+    let big = letters(&rt, alloc, b'x', 8_388_609);
+    let wanted: (u8, &[u8]) = (3, b"too big\n");
+    check_over(&rt, alloc, &MISSING, big.as_bytes(), &[], wanted);
+}
+
+#[test]
+fn the_script_before_the_disk(rt: HostRuntime) {
+    let wanted: (u8, &[u8]) = (2, b"bad line 1\n");
+    check_over(&rt, rt.alloc(), &MISSING, b"1 frob\n", &[], wanted);
+}
+
+// Makes the call over a sink whose first call fails.
+fn check_sink<R: Abort + Threads + Wait + Sync>(rt: &R, alloc: Global, words: &[&str]) {
+    let words = owned(rt, alloc, words);
+    let mut shelf = shelf_with_smallest(rt, alloc);
+    let Ok(mut source) = MemSource::new(alloc, b"1 frob\n", &[]) else {
+        rt.abort()
+    };
+    let Ok(mut sink) = MemSink::new(alloc, 100, &[1]) else {
+        rt.abort()
+    };
+    let code = call(rt, alloc, &words, &mut source, &mut sink, &mut shelf);
+    assert!(rt; sink.bytes().is_empty());
+    assert_eq!(rt; sink.faults(), 1);
+    assert_eq!(rt; code, ExitCode::from(9));
+}
+
+#[test]
+fn a_sink_that_fails_before_all(rt: HostRuntime) {
+    let alloc = rt.alloc();
+    check_sink(&rt, alloc, &["blsm", "run"]);
+    check_sink(&rt, alloc, &["blsm", "run", NAME]);
+    check_sink(&rt, alloc, &MISSING);
+    check_sink(&rt, alloc, &["blsm", "check", NAME]);
+}

@@ -1,0 +1,46 @@
+use Rattle.std.proofs.Common.{Err, IsErr, refl, sym, subst}
+use Rattle.std.proofs.lemmas.Result.{IfErr-at_err, IfOk-at_ok}
+use Rattle.blsm_run.specs.declared.outcome.Refusal.{Refusal}
+use Rattle.blsm_run.specs.Stores.{LeavesClosed, RunsOnShelf}
+use Rattle.blsm_run.proofs.ShelfLemmas.{CameBack, not_fetched, not_run, ran}
+use Rattle.blsm_run.proofs.stores.run_on_shelf.Goals as goal
+
+pub returns-in_default-clause-runs : goal.returns-in_default-clause-runs
+returns-in_default-clause-runs g c =
+    let f = c.fetch.ensures in
+    not_fetched g.H.D.Disk.state c.args.name.now (g.H.Shelf.state c.args.shelf.now) (g.H.Shelf.state c.fetch.new.self) LeavesClosed c.fetch.result c.in_default.not-Ok f.err f.failed f.one_fault
+
+pub returns-in-Ok-outcome-clause-runs : goal.returns-in-Ok-outcome-clause-runs
+returns-in-Ok-outcome-clause-runs g c =
+    let state = g.H.D.Disk.state in
+    let name = c.args.name.now in
+    let old = g.H.Shelf.state c.args.shelf.now in
+    let mid = g.H.Shelf.state c.fetch.new.self in
+    let new = g.H.Shelf.state c.give_back.new.self in
+    let first = c.in-Ok.disk in
+    let last = c.run_over-disk.result.0 in
+    let fetched = c.in-Ok.ensures in
+    let back = c.give_back.ensures in
+    let m = c.run_over-disk.ensures in
+    let w : CameBack state name old mid new first last = record { count = fetched.count; taken = fetched.taken; stands = fetched.stands; told = fetched.told.disks; put = back.put; faults = back.faults } in
+    let is = c.in-Ok-outcome.is in
+    ran state name old mid new first last w c.args.lines.now c.in-Ok-outcome.finished c.args.room (IfOk-at_ok _ is m.ran) (IfOk-at_ok _ is m.counted) (IfOk-at_ok _ is m.ending) m.reaches (λ honest. IfOk-at_ok _ is (m.headline honest))
+
+pub returns-in-Err-clause-runs : goal.returns-in-Err-clause-runs
+returns-in-Err-clause-runs g c =
+    let state = g.H.D.Disk.state in
+    let name = c.args.name.now in
+    let old = g.H.Shelf.state c.args.shelf.now in
+    let mid = g.H.Shelf.state c.fetch.new.self in
+    let new = g.H.Shelf.state c.give_back.new.self in
+    let first = c.in-Ok.disk in
+    let last = c.run_over-disk.result.0 in
+    let fetched = c.in-Ok.ensures in
+    let back = c.give_back.ensures in
+    let m = c.run_over-disk.ensures in
+    let w : CameBack state name old mid new first last = record { count = fetched.count; taken = fetched.taken; stands = fetched.stands; told = fetched.told.disks; put = back.put; faults = back.faults } in
+    let is = c.in-Err.is in
+    let failed : IsErr c.run_over-disk.result.1 = subst (λ r. IsErr r) (sym is) refl in
+    subst (λ (why : Refusal). RunsOnShelf state name c.args.lines.now old new (Err why)) (sym c.from.ensures)
+    (not_run state name old mid new first last w c.args.lines.now c.in-Err.why c.run_over-disk.result.1 is (λ honest. IfErr-at_err _ is (m.refused honest))
+    (record { keeps = λ sizes pairs honest reads. IfErr-at_err _ is (m.keeps sizes pairs honest reads); untouched = m.untouched; within = m.reaches }) (m.one_fault failed) (m.faults failed))

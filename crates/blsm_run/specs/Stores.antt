@@ -1,0 +1,139 @@
+-- What is done to the store on the disk of a name of a shelf, and what that answers.
+use Rattle.std.specs.Prelude.{◌≡◌, ◌⊎◌, ◌<◌, ◌≤◌, ◌+◌, ◌-◌, ◌^◌, ℕ, [], max, min, IsTrue, IsSome, List, length, Result, Ok, Err}
+use Rattle.refusal.specs.Count.{HasRisenBy}
+use Rattle.disk_trait.specs.Disk.{DiskState}
+use Rattle.disk_trait.specs.Effects.{Affects}
+use Rattle.disk_trait.specs.Moments.{IsUnwritten, LeavesOnly}
+use Rattle.disk_trait.specs.Reads.{OnlyReads}
+use Rattle.disk_trait.specs.Region.{span}
+use Rattle.disk_trait.specs.Shelf.{ShelfState, KeepsDisks}
+use Rattle.blsm_model.specs.Geometry.{file_length}
+use Rattle.blsm_model.specs.Sizes.{Sizes}
+use Rattle.blsm_model.specs.declared.history.Line.{Line}
+use Rattle.blsm_model.specs.declared.key.Key.{Key}
+use Rattle.blsm_model.specs.declared.room.Room.{Room}
+use Rattle.blsm_model.specs.declared.row.Value.{Value}
+use Rattle.store_file.specs.Layout.{superblock_length}
+use Rattle.store_file.specs.Making.{LeavesOldOr, making_calls}
+use Rattle.tree_file.specs.Tree.{ReadsAsMap}
+use Rattle.tree_reading.specs.Reading.{HasLooked, IsWhy, reading_calls}
+use Rattle.tree_reading.specs.Report.{IsReportOf}
+use Rattle.tree_reading.specs.declared.found.Unreadable.{Unreadable}
+use Rattle.tree_reading.specs.declared.found.Unreadable.TheVariants as unreadable
+use Rattle.tree_reading.specs.declared.report.Report.{Report}
+use Rattle.recover_open.specs.Making.{IsEmptyOrNone, IsMadeEmpty, WasNotEmpty}
+use Rattle.recover_open.specs.Opening.{KeepsMapOf, ReadsAsNone}
+use Rattle.tree_session.specs.Faults.{Reaches, faults_told}
+use Rattle.store_run.specs.declared.run.Ending.{Ending}
+use Rattle.store_run.specs.declared.run.Finished.{Finished}
+use Rattle.store_run.specs.Headline.{Headline}
+use Rattle.store_run.specs.Run.{Run, AreCounted, IsEnding, IsRunOf, run_of}
+use Rattle.blsm_run.specs.declared.outcome.Refusal.{Refusal}
+use Rattle.blsm_run.specs.declared.outcome.Refusal.TheVariants as refusal
+use Rattle.blsm_run.specs.Outside.{HasRisenOnce, OfTheDisk}
+
+-- The disk of the name was fetched and no call of it failed: one stood there, of which this holds, and the shelf's count of faults stands.
+pub record WasCalm {D : Type 0} (state : D → DiskState) (name : List ℕ) (old new : ShelfState D) (P : DiskState → DiskState → Type 0) : Type 0 where
+  pub stood : IsTrue old.tells_disks → IsSome (old.disk_at name)
+  pub disk : OfTheDisk state name old new P
+  pub quiet : new.faults ≤ old.faults
+
+-- A call failed, once: the fetch, and no disk has changed, or one of the disk, of which this holds.
+pub record HasFailedOnce {D : Type 0} (state : D → DiskState) (name : List ℕ) (old new : ShelfState D) (P : DiskState → DiskState → Type 0) : Type 0 where
+  pub disk : (IsTrue old.tells_disks → KeepsDisks old new) ⊎ OfTheDisk state name old new P
+  pub rose : HasRisenOnce old.faults new.faults
+
+-- ---- making
+
+-- What making leaves of a disk, whatever it answers: where it had no bytes, no store or an empty one at each moment, as `LeavesOldOr` has it, and up to
+-- the first sync what it had; where it had some, it was only looked at.
+pub record LeavesMade (sizes : Sizes) (first last : DiskState) : Type 0 where
+  pub empty : IsTrue first.is_honest → first.bytes ≡ [] → LeavesOldOr first last (IsEmptyOrNone sizes)
+  pub unsynced : IsTrue first.is_honest → IsTrue first.tells_images → IsUnwritten first last
+  pub looked : IsTrue first.tells_bytes → 0 < length first.bytes → OnlyReads 0 1 first last
+  pub effect : Affects (span 0 (file_length sizes)) (file_length sizes) (making_calls sizes + 1) first last
+
+-- It had no bytes, and is an empty store now, as each image is.
+pub record WasMade (sizes : Sizes) (first last : DiskState) : Type 0 where
+  pub none : IsTrue first.tells_bytes → length first.bytes ≡ 0
+  pub made : IsTrue first.is_honest → IsMadeEmpty sizes last
+  pub long : IsTrue first.tells_bytes → length last.bytes ≡ file_length sizes
+  pub leaves : LeavesMade sizes first last
+
+abbrev pub MakesOnShelf : {D : Type 0} → (D → DiskState) → List ℕ → Sizes → ShelfState D → ShelfState D → Result ℕ Refusal → Type 0
+MakesOnShelf state name sizes old new (Ok length) = (length ≡ file_length sizes) × WasCalm state name old new (WasMade sizes)
+MakesOnShelf state name sizes old new (Err (refusal.NotEmpty n)) = WasCalm state name old new (WasNotEmpty n)
+MakesOnShelf state name sizes old new (Err refusal.DiskFault) = HasFailedOnce state name old new (LeavesMade sizes)
+MakesOnShelf state name sizes old new (Err refusal) = ⊥
+
+-- ---- refusals of a store
+
+-- why a store isn't read, where that is the cause
+abbrev pub WhyOf : Refusal → (Unreadable → Type 0) → Type 0
+WhyOf refusal.NotAStore P = P unreadable.NotAStore
+WhyOf (refusal.Damaged place) P = P (unreadable.Damaged place)
+WhyOf (refusal.Worn version) P = P (unreadable.Worn version)
+WhyOf refusal.NoMemory P = P unreadable.NoMemory
+WhyOf refusal P = ⊥
+
+-- ---- running
+
+-- On any disk: no call ended behind the file, or behind a superblock where the file is shorter.
+abbrev pub StaysWithin : DiskState → DiskState → Type 0
+StaysWithin first last = (end : ℕ) × (calls : ℕ) × (IsTrue first.tells_bytes → end ≤ max superblock_length (length first.bytes)) × Reaches end calls first last
+
+-- What an opening that gives up leaves: where the disk read as a map, each image of each moment is one from before or reads as that map, and since
+-- the first sync as that map; where it read as none each is one from before.
+pub record LeavesClosed (first last : DiskState) : Type 0 where
+  pub keeps : (sizes : Sizes) (pairs : List (Key × Value)) → IsTrue first.is_honest → ReadsAsMap sizes pairs first.bytes → KeepsMapOf sizes pairs first last
+  pub untouched : IsTrue first.is_honest → ReadsAsNone first.bytes → LeavesOnly first last first.images
+  pub within : StaysWithin first last
+
+-- it was refused for what its file is
+pub record WasRefused (why : Unreadable) (first last : DiskState) : Type 0 where
+  pub because : IsTrue first.is_honest → IsWhy why first.bytes
+  pub leaves : LeavesClosed first last
+
+-- A script was run over the disk. On an honest one the headline holds.
+pub record HasRunOn {D : Type 0} (state : D → DiskState) (lines : List Line) (run : Run) (ending : Ending) (first last : DiskState) : Type 0 where
+  pub counted : AreCounted run first last
+  pub ended : IsEnding ending run last.faults
+  pub within : StaysWithin first last
+  pub headline : IsTrue first.is_honest → (sizes : Sizes) × (room : Room) × IsRunOf sizes lines run × Headline state sizes run room first last
+
+-- A script was run over the disk of this name of a shelf.
+pub record IsRunOnShelf {D : Type 0} (state : D → DiskState) (name : List ℕ) (lines : List Line) (run : Run) (ending : Ending) (old new : ShelfState D) : Type 0 where
+  -- on every disk
+  pub sizes : Sizes
+  pub printed : IsRunOf sizes lines run
+  -- one stood there
+  pub stood : IsTrue old.tells_disks → IsSome (old.disk_at name)
+  pub disk : OfTheDisk state name old new (HasRunOn state lines run ending)
+  -- it ended by the disk's own count of faults, by which the shelf's rose, and by what was found
+  pub count : ℕ
+  pub ended : IsEnding ending run count
+  pub rose : new.faults ≡ min (old.faults + count) (2 ^ 64 - 1)
+  -- faults are told only as often as the shelf's count rose
+  pub faults : HasRisenBy (faults_told run.entries) old.faults new.faults
+
+abbrev pub RunsOnShelf : {D : Type 0} → (D → DiskState) → List ℕ → List Line → ShelfState D → ShelfState D → Result Finished Refusal → Type 0
+RunsOnShelf state name lines old new (Ok finished) = IsRunOnShelf state name lines (run_of finished) finished.ending old new
+RunsOnShelf state name lines old new (Err refusal.DiskFault) = HasFailedOnce state name old new LeavesClosed
+RunsOnShelf state name lines old new (Err refusal) = WhyOf refusal (λ why. WasCalm state name old new (WasRefused why))
+
+-- ---- checking
+
+-- it was looked at, and this is why it doesn't read
+pub record WasUnreadable (why : Unreadable) (first last : DiskState) : Type 0 where
+  pub because : IsTrue first.is_honest → IsWhy why first.bytes
+  pub looked : HasLooked reading_calls first last
+
+-- it was looked at, and these are its numbers
+pub record WasChecked (report : Report) (first last : DiskState) : Type 0 where
+  pub tells : IsTrue first.is_honest → IsReportOf report first.bytes
+  pub looked : HasLooked reading_calls first last
+
+abbrev pub ChecksOnShelf : {D : Type 0} → (D → DiskState) → List ℕ → ShelfState D → ShelfState D → Result Report Refusal → Type 0
+ChecksOnShelf state name old new (Ok report) = WasCalm state name old new (WasChecked report)
+ChecksOnShelf state name old new (Err refusal.DiskFault) = HasFailedOnce state name old new (HasLooked reading_calls)
+ChecksOnShelf state name old new (Err refusal) = WhyOf refusal (λ why. WasCalm state name old new (WasUnreadable why))

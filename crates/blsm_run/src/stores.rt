@@ -1,0 +1,79 @@
+//! What is done to the store on the disk of a name. The disk goes back to the shelf whatever happens.
+ghost use Rattle.std.specs.Prelude.{◌≤◌, false, sum, true};
+ghost use Rattle.blsm_model.specs.Format.{most_entries, most_rows_asked};
+ghost use Rattle.tree_session.specs.Lines.{AreRunnable, HasRoomFor};
+ghost use Rattle.blsm_run.specs.Outside.{HasFetched};
+ghost use Rattle.blsm_run.specs.Stores.{ChecksOnShelf, MakesOnShelf, RunsOnShelf};
+
+use crate::outcome::Refusal;
+use blsm_model::{Geometry, Line, Room};
+use disk_trait::Shelf;
+use recover_open::{Report, check_store, make_store};
+use std::alloc::Global;
+use store_run::{Finished, run_over};
+
+/// Makes a store of this geometry on the disk of a name, which may be a new one, and answers its length in bytes.
+pub(crate) fn make_on_shelf<H: Shelf>(
+    shelf: &mut H,
+    name: &str,
+    geometry: &Geometry,
+) -> Result<u64, Refusal>
+    ensures fetched { HasFetched name.now true (H.state shelf.old) (H.state shelf.new) }
+    ensures makes { MakesOnShelf H.D.state name.now geometry.now (H.state shelf.old) (H.state shelf.new) result }
+{
+    let Ok(mut disk) = shelf.fetch(name, true) else {
+        return Err(Refusal::DiskFault);
+    };
+    let made = make_store(&mut disk, geometry);
+    shelf.give_back(name, disk);
+    match made {
+        Ok(()) => Ok(geometry.length()),
+        Err(why) => Err(Refusal::from(why)),
+    }
+}
+
+/// Runs a script over the store on the disk of a name.
+pub(crate) fn run_on_shelf<H: Shelf>(
+    alloc: Global,
+    shelf: &mut H,
+    name: &str,
+    lines: &[Line],
+    room: Room,
+) -> Result<Finished, Refusal>
+    requires entries { sum room.entries ≤ most_entries }
+    requires rows { sum room.rows ≤ most_rows_asked }
+    requires runnable { AreRunnable lines.now }
+    requires room { HasRoomFor room lines.now }
+    ensures fetched { HasFetched name.now false (H.state shelf.old) (H.state shelf.new) }
+    ensures runs { RunsOnShelf H.D.state name.now lines.now (H.state shelf.old) (H.state shelf.new) result }
+{
+    let Ok(disk) = shelf.fetch(name, false) else {
+        return Err(Refusal::DiskFault);
+    };
+    let (disk, outcome) = run_over(alloc, disk, lines, room);
+    shelf.give_back(name, disk);
+    match outcome {
+        Ok(finished) => Ok(finished),
+        Err(why) => Err(Refusal::from(why)),
+    }
+}
+
+/// Checks the store on the disk of a name.
+pub(crate) fn check_on_shelf<H: Shelf>(
+    alloc: Global,
+    shelf: &mut H,
+    name: &str,
+) -> Result<Report, Refusal>
+    ensures fetched { HasFetched name.now false (H.state shelf.old) (H.state shelf.new) }
+    ensures checks { ChecksOnShelf H.D.state name.now (H.state shelf.old) (H.state shelf.new) result }
+{
+    let Ok(mut disk) = shelf.fetch(name, false) else {
+        return Err(Refusal::DiskFault);
+    };
+    let checked = check_store(alloc, &mut disk);
+    shelf.give_back(name, disk);
+    match checked {
+        Ok(report) => Ok(report),
+        Err(why) => Err(Refusal::from(why)),
+    }
+}

@@ -1,0 +1,11 @@
+use Rattle.script_text.proofs.PresentLemmas.{tells_put, tells_add, tells_del}
+use Rattle.script_text.proofs.summary.note_write.Goals as goal
+
+pub returns-in-Put : goal.returns-in-Put
+returns-in-Put c = λ writes tells. rw c.in-Put.is (tells_put c.args.flags.now writes c.in-Put.key c.in-Put.field-1 c.place_of.result c.place_of.ensures.within c.place_of.ensures.is tells)
+
+pub returns-in-Add : goal.returns-in-Add
+returns-in-Add c = λ writes tells. rw c.in-Add.is (tells_add c.args.flags.now writes c.in-Add.key c.in-Add.field-1 c.place_of-in-Add.result c.place_of-in-Add.ensures.within c.place_of-in-Add.ensures.is tells)
+
+pub returns-in-Del : goal.returns-in-Del
+returns-in-Del c = λ writes tells. rw c.in-Del.is (tells_del c.args.flags.now writes c.in-Del.key c.place_of-in-Del.result c.place_of-in-Del.ensures.within c.place_of-in-Del.ensures.is tells)

@@ -1,0 +1,133 @@
+// A script that is made from a seed.
+ghost use Rattle.std.specs.Prelude.{◌≡◌, ℕ, ◌<◌, ◌≤◌, IfOk, List};
+ghost use Rattle.std.specs.List.{All};
+ghost use Rattle.blsm_model.specs.declared.history.Entry.{Entry};
+ghost use Rattle.blsm_model.specs.Format.{most_lines};
+ghost use Rattle.blsm_model.specs.Scripts.{IsOfScript};
+ghost use Rattle.script_text.specs.Generated.{HasMadeKeys, after_command, digit_at, drawn, generated, key_at, next_state, op_from, op_of, text_at};
+
+use crate::script::Script;
+use blsm_model::{Key, Line, Op, Text, Value};
+use refusal::NoMemory;
+use std::alloc::Global;
+
+// A linear congruential generator, with Knuth's numbers for 64 bits.
+const MULTIPLIER: u64 = 6_364_136_223_846_793_005;
+
+const INCREMENT: u64 = 1_442_695_040_888_963_407;
+
+// How many of the state's low bits are not drawn.
+const HIDDEN_BITS: u32 = 33;
+
+/// How many keys a script that is made may have.
+pub const MADE_KEYS: u32 = 1_500;
+
+// A text has 160 bytes at least, and so many at most.
+const MOST_TEXT: usize = 199;
+
+// The state from which the next number is drawn.
+#[derive(Drop)]
+struct Generator {
+    state: u64,
+}
+
+impl Generator {
+    fn draw(&mut self) -> u64
+        ensures state { self.new.state ≡ next_state self.old.state }
+        ensures number { result ≡ drawn self.new.state }
+    {
+        self.state = self.state.wrapping_mul(MULTIPLIER).wrapping_add(INCREMENT);
+        self.state >> HIDDEN_BITS
+    }
+
+    // The next command, for which four numbers are drawn, whether it has use for them or not.
+    fn make_line(&mut self) -> Line
+        ensures line { result ≡ record { seat = 0; op = op_from self.old.state } }
+        ensures state { self.new.state ≡ after_command self.old.state }
+    {
+        let kind = self.draw() % 100;
+        let place = self.draw() % u64::from(MADE_KEYS);
+        let count = self.draw() % 1000;
+        let size = 160 + self.draw() % 40;
+        Line {
+            seat: 0,
+            op: make_op(kind, place, count, size as usize),
+        }
+    }
+}
+
+#[tactic(auto, unfolding(crate::specs::Generated::op_of))]
+fn make_op(kind: u64, place: u64, count: u64, size: usize) -> Op
+    requires { size ≤ MOST_TEXT }
+    ensures { result ≡ op_of kind place count size }
+{
+    let key = make_key(place);
+    match kind {
+        0..=59 => Op::Put(
+            key,
+            Value {
+                count,
+                text: make_text(place, size),
+            },
+        ),
+        60..=77 => Op::Add(key, count),
+        78..=79 => Op::Del(key),
+        _ => Op::Get(key),
+    }
+}
+
+fn make_digit(place: u64, unit: u64) -> u8
+    requires { 0 < unit }
+    ensures { result ≡ digit_at unit place }
+{
+    b'0' + (place / unit % 10) as u8
+}
+
+#[tactic(auto, unfolding(crate::specs::Generated::key_at))]
+fn make_key(place: u64) -> Key
+    ensures { result ≡ key_at place }
+{
+    let bytes = [
+        b'k',
+        make_digit(place, 10_000),
+        make_digit(place, 1_000),
+        make_digit(place, 100),
+        make_digit(place, 10),
+        make_digit(place, 1),
+    ];
+    match Key::from_bytes(&bytes) {
+        Some(key) => key,
+        None => unreachable!(),
+    }
+}
+
+fn make_text(place: u64, size: usize) -> Text
+    requires { size ≤ MOST_TEXT }
+    ensures { result ≡ text_at place size }
+{
+    let letter = b'a' + (place % 26) as u8;
+    let bytes = [letter; MOST_TEXT];
+    match Text::from_bytes(&bytes[..size]) {
+        Some(text) => text,
+        None => unreachable!(),
+    }
+}
+
+/// Makes the script of a seed: so many commands of the first caller, at most 65,536, on 1,500 keys. `NoMemory` where
+/// memory is refused.
+pub fn generate(alloc: Global, seed: u64, count: u32) -> Result<Script, NoMemory>
+    requires { count ≤ most_lines }
+    ensures { IfOk result (λ script. script ≡ generated seed count) }
+{
+    let mut generator = Generator { state: seed };
+    let mut lines = Vec::new(alloc);
+    while lines.len() < count as usize {
+        lines.push(generator.make_line())?;
+    }
+    Ok(Script::from_lines(lines))
+}
+
+/// Does nothing, and stands for its clause: the keys of each history of a script that is made are the generator's.
+pub fn made_histories()
+    ensures { (seed count : ℕ) (history : List Entry) → IsOfScript (generated seed count) history → All (λ e. HasMadeKeys e.op) history }
+{}

@@ -1,0 +1,3 @@
+mod RunnableLemmas
+mod FreshLemmas
+mod TrialLemmas
