@@ -22,11 +22,11 @@ use Rattle.store_run.specs.declared.run.Ending.{Ending}
 use Rattle.store_run.specs.declared.run.Ending.TheVariants as ending
 use Rattle.blsm_run.specs.declared.status.Status.{Status}
 use Rattle.blsm_run.specs.declared.status.Status.TheVariants.{Done, NoMemory}
-use Rattle.blsm_run.specs.Outside.{Outside, OfTheDisk}
+use Rattle.blsm_run.specs.Outside.{IsQuietCount, OfTheDisk, Outside}
 use Rattle.blsm_run.specs.Outcome.{Outcome, usage, source_fault, too_big, bad_line, disk_fault, not_a_store, not_empty, damaged, worn, no_memory, made, ran, checked, tried, Written, Tells, status_of}
 use Rattle.blsm_run.specs.Stores.{WasCalm, WasRefused, WasUnreadable, HasRunOn}
 use Rattle.blsm_run.specs.Cause.{Cause, WasAsked, AsksToRun, AsksToCheck}
-use Rattle.blsm_run.specs.Answer.{Answers, IsGranted, IsOpenable, IsQuietCount, HasDisk, CanBeDone}
+use Rattle.blsm_run.specs.Answer.{Answers, IsGranted, IsOpenable, HasDisk, CanBeDone}
 use Rattle.blsm_run.proofs.TrialLemmas.{ends_trial}
 
 quiet_is_no_rise : (old new : ℕ) → IsQuietCount old new → HasRisen old new → ⊥

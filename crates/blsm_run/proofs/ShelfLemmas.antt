@@ -21,7 +21,7 @@ use Rattle.store_run.specs.declared.run.Finished.{Finished}
 use Rattle.store_run.specs.Headline.{Headline}
 use Rattle.store_run.specs.Run.{AreCounted, IsEnding, IsRunOf, run_of}
 use Rattle.blsm_run.specs.Outcome.{refusal_of_making, refusal_of_store}
-use Rattle.blsm_run.specs.Outside.{HasRisenOnce, OfTheDisk}
+use Rattle.blsm_run.specs.Outside.{HasRisenOnce, IsQuietCount, OfTheDisk}
 use Rattle.blsm_run.specs.Stores.{WasCalm, HasFailedOnce, LeavesMade, WasMade, MakesOnShelf, LeavesClosed, WasRefused, HasRunOn, RunsOnShelf, StaysWithin, WasUnreadable, WasChecked, ChecksOnShelf}
 
 -- the fetch failed
@@ -29,6 +29,11 @@ pub not_fetched : {D E : Type 0} (state : D → DiskState) (name : List ℕ) (ol
     → OnErr result (IsTrue old.tells_disks → KeepsDisks old new) → (IsErr result → HasRisen old.faults new.faults) → new.faults ≤ old.faults + 1 → HasFailedOnce state name old new P
 not_fetched state name old new P (Ok disk) none keeps risen once = absurd (none disk refl)
 not_fetched state name old new P (Err error) none keeps risen once = record { disk = inl keeps; rose = (risen refl, once) }
+
+-- and that is told
+pub never_quiet : {D E : Type 0} (result : Result D E) (old new : ℕ) → ((disk : D) → result ≡ Ok disk → ⊥) → (IsErr result → HasRisen old new) → IsQuietCount old new → ⊥
+never_quiet (Ok disk) old new none risen quiet = none disk refl
+never_quiet (Err error) old new none risen quiet = absurd (grind (arith, quiet.0, quiet.1, risen refl))
 
 -- A disk was fetched under its name, and what it became was given back.
 pub record CameBack {D : Type 0} (state : D → DiskState) (name : List ℕ) (old mid new : ShelfState D) (disk last : D) : Type 0 where
@@ -79,7 +84,7 @@ module _ {D : Type 0} (state : D → DiskState) (name : List ℕ) (old mid new :
 
   has_failed : (P : DiskState → DiskState → Type 0) → HasRisen (state disk).faults (state last).faults → (state last).faults ≤ (state disk).faults + 1 → P (state disk) (state last)
       → HasFailedOnce state name old new P
-  has_failed P risen once says = record { disk = inr (of_the_disk P says); rose = rose_once risen once }
+  has_failed P risen once says = record { disk = inr (stood, of_the_disk P says); rose = rose_once risen once }
 
   -- ---- making
 

@@ -1,5 +1,5 @@
 -- The whole promise of the program's call.
-use Rattle.std.specs.Prelude.{◌≡◌, ◌⊎◌, ◌<◌, ◌≤◌, ⊤, ℕ, ◌-◌, ◌^◌, [], IsTrue, Some, List, length}
+use Rattle.std.specs.Prelude.{◌≡◌, ◌⊎◌, ◌≤◌, ⊤, ℕ, [], IsTrue, Some, List, length}
 use Rattle.disk_trait.specs.Disk.{DiskState}
 use Rattle.blsm_model.specs.declared.history.Line.{Line}
 use Rattle.blsm_model.specs.declared.key.Key.{Key}
@@ -11,13 +11,9 @@ use Rattle.program_words.specs.Words.{Asked, make, run, check, trial}
 use Rattle.store_run.specs.Headline.{IsStoreWith}
 use Rattle.blsm_run.specs.declared.status.Status.{Status}
 use Rattle.blsm_run.specs.declared.status.Status.TheVariants.{Done, SinkFault, NoMemory}
-use Rattle.blsm_run.specs.Outside.{Outside}
+use Rattle.blsm_run.specs.Outside.{Outside, IsQuietCount}
 use Rattle.blsm_run.specs.Outcome.{Outcome, Written, Tells}
 use Rattle.blsm_run.specs.Cause.{Cause, WasAsked}
-
--- a count that didn't rise, and doesn't stand at the end of its type
-abbrev pub IsQuietCount : ℕ → ℕ → Type 0
-IsQuietCount old new = (new < 2 ^ 64 - 1) × (new ≡ old)
 
 -- the source tells a script within the grammar and the limits
 pub record TellsScript {D : Type 0} (o : Outside D) : Type 0 where

@@ -18,16 +18,22 @@ pub record Outside (D : Type 0) : Type 0 where
 abbrev pub HasRisenOnce : ℕ → ℕ → Type 0
 HasRisenOnce old new = HasRisen old new × (new ≤ old + 1)
 
+-- a count that didn't rise, and doesn't stand at the end of its type
+abbrev pub IsQuietCount : ℕ → ℕ → Type 0
+IsQuietCount old new = (new < 2 ^ 64 - 1) × (new ≡ old)
+
 -- no fetch was made
 pub record HasNotFetched {D : Type 0} (old new : ShelfState D) : Type 0 where
   pub disks : IsTrue old.tells_disks → KeepsDisks old new
   pub fetches : IsTrue old.tells_fetches → new.fetches ≡ old.fetches
   pub faults : new.faults ≡ old.faults
 
--- One fetch was made, of the name, with or without leave to make a missing disk. What it gave was given back under that name, and no other disk changed.
+-- One fetch was made, of the name, with or without leave to make a missing disk: it is noted so where no count rose, and else so or as one that was
+-- refused. What it gave was given back under that name, and no other disk changed.
 pub record HasFetched {D : Type 0} (name : List ℕ) (fresh : Bool) (old new : ShelfState D) : Type 0 where
   pub fetches : IsTrue old.tells_fetches → length old.fetches < 2 ^ 64 - 1
       → (new.fetches ≡ old.fetches ++ Some (name, fresh) ∷ []) ⊎ (new.fetches ≡ old.fetches ++ None ∷ [])
+  pub named : IsTrue old.tells_fetches → length old.fetches < 2 ^ 64 - 1 → IsQuietCount old.faults new.faults → new.fetches ≡ old.fetches ++ Some (name, fresh) ∷ []
   pub back : IsTrue old.tells_disks → IsSome (old.disk_at name) → IsSome (new.disk_at name)
   pub others : IsTrue old.tells_disks → KeepsOthers name old new
 

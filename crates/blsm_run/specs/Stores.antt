@@ -38,9 +38,9 @@ pub record WasCalm {D : Type 0} (state : D → DiskState) (name : List ℕ) (old
   pub disk : OfTheDisk state name old new P
   pub quiet : new.faults ≤ old.faults
 
--- A call failed, once: the fetch, and no disk has changed, or one of the disk, of which this holds.
+-- A call failed, once: the fetch, and no disk has changed, or one of the disk that stood there, of which this holds.
 pub record HasFailedOnce {D : Type 0} (state : D → DiskState) (name : List ℕ) (old new : ShelfState D) (P : DiskState → DiskState → Type 0) : Type 0 where
-  pub disk : (IsTrue old.tells_disks → KeepsDisks old new) ⊎ OfTheDisk state name old new P
+  pub disk : (IsTrue old.tells_disks → KeepsDisks old new) ⊎ ((IsTrue old.tells_disks → IsSome (old.disk_at name)) × OfTheDisk state name old new P)
   pub rose : HasRisenOnce old.faults new.faults
 
 -- ---- making

@@ -1,5 +1,5 @@
 -- Spellings: how long they are, and that none begins another.
-use Rattle.std.proofs.Common.{◌≡◌, ℕ, zero, suc, ◌+◌, ◌^◌, ◌<◌, ◌≤◌, List, [], ◌∷◌, ◌++◌, length, get_or, take, drop, true, false, Option, Some, None, ◌⊎◌, inl, inr, refl, ap, sym, ◌∙◌, append_assoc, length-append, length-drop, arith}
+use Rattle.std.proofs.Common.{◌≡◌, ℕ, zero, suc, ◌+◌, ◌^◌, ◌<◌, ◌≤◌, List, [], ◌∷◌, ◌++◌, length, get_or, take, drop, true, false, Option, Some, None, ◌⊎◌, inl, inr, refl, ap, sym, subst, ◌∙◌, append_assoc, length-append, length-drop, arith}
 use Rattle.std.specs.Prelude.{IfSome, IfNone, is_some, unwrap_or}
 use Rattle.std.specs.Int.{w16, w64, to_be_bytes, from_be_bytes}
 use Rattle.std.proofs.lemmas.Bool.{cases_lt, false≢true}
@@ -264,6 +264,57 @@ pub found_whole : (bytes tail : List ℕ) (h : Head) (r : Option (Key × Rec × 
     → IfSome r (λ e. HasParts h tail e.0 e.1 × (e.2 ≡ weight e.0 e.1)) → IfSome r (λ e. BeginsWith bytes e.0 e.1 × (e.2 ≡ weight e.0 e.1))
 found_whole bytes tail h None read found = tt
 found_whole bytes tail h (Some e) read found = (from_parts bytes tail h e.0 e.1 read found.0, found.1)
+
+-- ---- the key alone
+
+pub no_text : (text : List ℕ) → length text ≡ 0 → text ≡ []
+no_text [] none = refl
+no_text (b ∷ text) none = absurd (omega (arith, none))
+
+pub to_kind : (h : Head) (bytes : List ℕ) (key : Key) (rec : Rec) → HasParts h bytes key rec → IsOf h.kind h.count (text_of rec) rec
+to_kind h bytes key rec p = of_kind h bytes key rec (text_of rec) p refl
+
+-- where the numbers of a head are right, the bytes behind it are a key and a text, if they are as many
+pub from_head : (h : Head) (bytes : List ℕ) → h.count < 2 ^ 64 → 1 ≤ h.key_len → h.key_len ≤ 64 → h.text_len ≤ 435 → h.key_len + h.text_len ≤ length bytes
+    → ((text : List ℕ) → length text ≡ h.text_len → (rec : Rec) × IsOf h.kind h.count text rec) → (rec : Rec) × HasParts h bytes (take h.key_len bytes) rec
+from_head h bytes count_fits key_least key_most text_most long records =
+    let key : List ℕ = take h.key_len bytes in
+    let text : List ℕ = take h.text_len (drop h.key_len bytes) in
+    let key_len : length key ≡ h.key_len = omega (arith, length-take h.key_len bytes, long) in
+    let text_len : length text ≡ h.text_len = omega (arith, length-take h.text_len (drop h.key_len bytes), length-drop h.key_len bytes, long) in
+    let at = are_read bytes h.key_len h.text_len key text long refl refl (omega (arith, key_len, key_least), omega (arith, key_len, key_most)) (omega (arith, text_len, text_most)) in
+    let of = records text text_len in
+    let is = of.1 in (
+      of.0,
+      record {
+        entry = record {
+          key_least = at.key_least;
+          key_most = at.key_most;
+          in_range = record { count_fits = omega (arith, is.count_is, count_fits); text_fits = omega (arith, at.text_most, ap (length {A = ℕ}) is.text_is) };
+        };
+        kind_is = is.kind_is;
+        key_len_is = key_len;
+        text_len_is = omega (arith, ap (length {A = ℕ}) is.text_is, text_len);
+        count_is = is.count_is;
+        rest = at.rest;
+        parts = subst (λ (l : List ℕ). bytes ≡ key ++ l ++ at.rest) (sym is.text_is) at.parts;
+      },
+    )
+
+-- too few bytes for a head's key and text
+pub too_few : (h : Head) (bytes : List ℕ) (key : Key) (rec : Rec) → HasParts h bytes key rec → length bytes < h.key_len + h.text_len → ⊥
+too_few h bytes key rec p few =
+    omega (arith, few, p.key_len_is, p.text_len_is, ap (length {A = ℕ}) p.parts, length-append (key ++ text_of rec) p.rest, length-append key (text_of rec))
+
+pub found_key : (bytes tail there : List ℕ) (h : Head) (rec : Rec) → bytes ≡ head h.kind h.key_len h.text_len h.count ++ tail → tail ≡ there
+    → HasParts h tail (take h.key_len tail) rec
+    → (r : Rec) × BeginsWith bytes (take h.key_len there) r × (13 + (h.key_len + h.text_len) ≡ weight (take h.key_len there) r)
+found_key bytes tail there h rec read same p =
+    let key_is : take h.key_len tail ≡ take h.key_len there = ap (take h.key_len) same in (
+      rec,
+      subst (λ (k : Key). BeginsWith bytes k rec) key_is (from_parts bytes tail h (take h.key_len tail) rec read p),
+      omega (arith, p.key_len_is, p.text_len_is, ap (length {A = ℕ}) key_is),
+    )
 
 -- ---- bytes behind an entry
 

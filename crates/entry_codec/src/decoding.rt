@@ -1,5 +1,5 @@
 //! Reading an entry, from any bytes.
-ghost use Rattle.std.specs.Prelude.{◌≡◌, ◌+◌, ◌≤◌, ◌<◌, ◌++◌, ◌^◌, List, ℕ, Some, IfSome, IfNone, length, drop};
+ghost use Rattle.std.specs.Prelude.{◌≡◌, ◌+◌, ◌≤◌, ◌<◌, ◌++◌, ◌^◌, List, ℕ, Some, IfSome, IfNone, IsTrue, length, take, drop};
 ghost use Rattle.blsm_model.specs.declared.key.Key.{Key};
 ghost use Rattle.record_delta.specs.declared.record.Rec.{Rec};
 ghost use Rattle.record_delta.specs.Records.{weight};
@@ -17,6 +17,33 @@ struct Head {
     key_len: u16,
     text_len: u16,
     count: u64,
+}
+
+impl Head {
+    // Whether there is a record of this kind that has this count and a text of this length.
+    fn has_record(self) -> bool
+        ensures some { IsTrue result → (text : List ℕ) → length text ≡ self.text_len → (rec : Rec) × IsOf self.kind self.count text rec }
+        ensures only { (text : List ℕ) (rec : Rec) → length text ≡ self.text_len → IsOf self.kind self.count text rec → IsTrue result }
+    {
+        let is_bare = self.text_len == 0;
+        match self.kind {
+            BASE => true,
+            DELTA => is_bare,
+            TOMB => is_bare && self.count == 0,
+            _ => false,
+        }
+    }
+
+    // Whether any bytes behind this head are an entry's key and text, if they are as many as it says.
+    fn is_right(self) -> bool
+        ensures some { IsTrue result → (bytes : List ℕ) → self.key_len + self.text_len ≤ length bytes
+            → (rec : Rec) × HasParts self bytes (take self.key_len bytes) rec }
+        ensures only { (bytes : List ℕ) (key : Key) (rec : Rec) → HasParts self bytes key rec → IsTrue result }
+    {
+        let key_len = self.key_len as usize;
+        let text_len = self.text_len as usize;
+        1 <= key_len && key_len <= Key::MAX_LEN && text_len <= Text::MAX_LEN && self.has_record()
+    }
 }
 
 fn head_at(bytes: &[u8]) -> Head
@@ -89,4 +116,26 @@ pub fn decode(bytes: &[u8]) -> Option<(Key, Rec, usize)>
     }
     let head = head_at(bytes);
     entry(&head, &bytes[HEAD_LEN..])
+}
+
+/// Reads the key of the entry at the front of any bytes where it stands, and the entry's length in bytes. `None` exactly where
+/// no front of the bytes is the spelling of an entry. Bytes may follow. It copies neither the key nor the record.
+pub fn peek_key(bytes: &[u8]) -> Option<(&[u8], usize)>
+    ensures found { IfSome result (λ p. (rec : Rec) × BeginsWith bytes.now p.0.now rec × (p.1 ≡ weight p.0.now rec)) }
+    ensures none { IfNone result ((key : Key) (rec : Rec) → BeginsWith bytes.now key rec → ⊥) }
+{
+    if bytes.len() < HEAD_LEN {
+        return None;
+    }
+    let head = head_at(bytes);
+    if !head.is_right() {
+        return None;
+    }
+    let behind = &bytes[HEAD_LEN..];
+    let key_len = head.key_len as usize;
+    let len = key_len + head.text_len as usize;
+    if behind.len() < len {
+        return None;
+    }
+    Some((&behind[..key_len], HEAD_LEN + len))
 }

@@ -1,12 +1,11 @@
 -- Entries as bytes: how long they are, that none begins another, and that bytes are one list of entries at most.
-use Rattle.std.proofs.Common.{◌≡◌, Bool, true, false, Some, ℕ, suc, ◌*◌, ◌^◌, ◌<◌, ◌≤◌, List, [], ◌∷◌, ◌++◌, length, take, drop, refl, ap, sym, subst, ◌∙◌, append_assoc, length-append, arith}
+use Rattle.std.proofs.Common.{◌≡◌, true, false, ℕ, suc, ◌*◌, ◌^◌, ◌<◌, ◌≤◌, List, [], ◌∷◌, ◌++◌, length, take, drop, refl, ap, sym, subst, ◌∙◌, append_assoc, length-append, arith}
 use Rattle.std.specs.Int.{w16, to_be_bytes, from_be_bytes}
 use Rattle.std.specs.List.{AllByRecursion}
 use Rattle.std.specs.List.Sorted.{IsStrictlySortedBy}
-use Rattle.std.specs.Ordering.{nat_cmp, is_le, is_some_and, partial_le, ordering_reverse}
+use Rattle.std.specs.Ordering.{is_le, ordering_reverse}
 use Rattle.std.specs.declared.cmp.Ordering.{Ordering}
 use Rattle.std.specs.declared.cmp.Ordering.TheVariants.{Less, Equal, Greater}
-use Rattle.std.specs.Cmp.Lexicographic.{slice_partial_cmp, lists_agrees}
 use Rattle.std.proofs.lemmas.Bool.{true≢false}
 use Rattle.std.proofs.lemmas.Cmp.{nat_list_cmp_total}
 use Rattle.std.proofs.lemmas.List.{take_at, drop_at}
@@ -16,10 +15,8 @@ use Rattle.blsm_model.specs.declared.key.Key.{Key}
 use Rattle.blsm_model.specs.Keys.{key_cmp}
 use Rattle.blsm_model.specs.Format.{least_weight}
 use Rattle.record_delta.specs.declared.record.Rec.{Rec}
-use Rattle.record_delta.specs.Records.{text_of}
 use Rattle.record_delta.specs.Entries.{Entries}
-use Rattle.entry_codec.specs.Spelling.{head_of, spelling}
-use Rattle.entry_codec.proofs.SpellingLemmas.{length-head, length-spelling, entry_same as same_spelling}
+use Rattle.entry_codec.proofs.SpellingLemmas.{length-spelling, entry_same as same_spelling}
 use Rattle.page_file.specs.Entry.{IsPageEntry, entry_bytes, entries_bytes, AreEntries, keys_of, AreRising, HasFirstEntry, AreEntriesIn, AreInBytes}
 
 -- ---- lengths
@@ -54,33 +51,18 @@ entry_same e f x y re rf same =
     let one = same_spelling e.0 f.0 e.1 f.1 x y re rf same in
     (λ i. (one.0 i, one.1 i), one.2)
 
--- the key of an entry among its bytes
-pub key_in : (key : Key) (rec : Rec) → take (length key) (drop 13 (spelling key rec)) ≡ key
-unfolding spelling
-key_in key rec =
-    ap (λ (l : List ℕ). take (length key) (drop 13 l)) (append_assoc (head_of key rec) key (text_of rec))
-    ∙ ap (take (length key)) (drop_at (head_of key rec) (key ++ text_of rec) 13 (length-head _ _ _ _))
-    ∙ take_at key (text_of rec) (length key) refl
-
 -- ---- the order of keys
-
--- how the order of bytes tests two keys
-abbrev pub is_at_most : Key → Key → Bool
-is_at_most a b = partial_le (slice_partial_cmp (λ x y. Some (nat_cmp x y))) a b
-
-tested : (a b : Key) → is_at_most a b ≡ is_le (key_cmp a b)
-tested a b = ap (is_some_and is_le) (lists_agrees (λ x y. refl) a b)
 
 reversed : (o : Ordering) → is_le o ≡ false → ordering_reverse o ≡ Less
 reversed Less h = absurd (true≢false h)
 reversed Equal h = absurd (true≢false h)
 reversed Greater h = refl
 
-pub above : (last key : Key) → is_at_most key last ≡ false → key_cmp last key ≡ Less
-above last key test = nat_list_cmp_total.antisymm last key ∙ reversed (key_cmp key last) (sym (tested key last) ∙ test)
+pub above : (last key : Key) → is_le (key_cmp key last) ≡ false → key_cmp last key ≡ Less
+above last key test = nat_list_cmp_total.antisymm last key ∙ reversed (key_cmp key last) test
 
-pub not_above : (last key : Key) → is_at_most key last ≡ true → key_cmp last key ≡ Less → ⊥
-not_above last key test less = true≢false (sym test ∙ tested key last ∙ ap is_le (nat_list_cmp_total.antisymm key last ∙ ap ordering_reverse less))
+pub not_above : (last key : Key) → is_le (key_cmp key last) ≡ true → key_cmp last key ≡ Less → ⊥
+not_above last key test less = true≢false (sym test ∙ ap is_le (nat_list_cmp_total.antisymm key last ∙ ap ordering_reverse less))
 
 -- ---- a list of entries
 

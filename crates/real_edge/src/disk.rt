@@ -18,6 +18,8 @@ use std::os::unix::fs::FileExt;
 #[derive(Drop)]
 pub struct FileDisk<F: FileExt + OpenFile> {
     pub(crate) file: F,
+    // The file is at least so long. Nobody shortens it.
+    pub(crate) known: u64,
     pub(crate) calls: u64,
     pub(crate) faults: u64,
     pub(crate) sync_failed: bool,
@@ -33,6 +35,7 @@ impl<F: FileExt + OpenFile> FileDisk<F> {
     {
         FileDisk {
             file,
+            known: 0,
             calls: 0,
             faults: 0,
             sync_failed: false,
@@ -79,23 +82,36 @@ fn measure<F: OpenFile>(file: &F) -> io::Result<u64> {
     Ok(file.metadata()?.len())
 }
 
-// Fails where the offset lies past the end of the file.
-fn reach<F: OpenFile>(file: &F, at: u64) -> io::Result<()> {
-    if measure(file)? < at {
+// Fails where the offset lies past the end of the file. It is measured where it isn't known to be that long.
+fn reach<F: OpenFile>(file: &F, known: &mut u64, at: u64) -> io::Result<()> {
+    if *known < at {
+        *known = measure(file)?;
+    }
+    if *known < at {
         return Err(ErrorKind::UnexpectedEof.into());
     }
     Ok(())
 }
 
-fn read_part<F: FileExt + OpenFile>(file: &F, at: u64, into: &mut [u8]) -> io::Result<()> {
+fn read_part<F: FileExt + OpenFile>(
+    file: &F,
+    known: &mut u64,
+    at: u64,
+    into: &mut [u8],
+) -> io::Result<()> {
     if into.is_empty() {
-        return reach(file, at);
+        return reach(file, known, at);
     }
     file.read_exact_at(into, at)
 }
 
-fn write_part<F: FileExt + OpenFile>(file: &F, at: u64, from: &[u8]) -> io::Result<()> {
-    reach(file, at)?;
+fn write_part<F: FileExt + OpenFile>(
+    file: &F,
+    known: &mut u64,
+    at: u64,
+    from: &[u8],
+) -> io::Result<()> {
+    reach(file, known, at)?;
     file.write_all_at(from, at)
 }
 
@@ -116,12 +132,12 @@ impl<F: FileExt + OpenFile> Disk for FileDisk<F> {
     }
 
     fn read(&mut self, at: u64, into: &mut [u8]) -> Result<(), Failed> {
-        let outcome = read_part(&self.file, at, into);
+        let outcome = read_part(&self.file, &mut self.known, at, into);
         self.count(outcome)
     }
 
     fn write(&mut self, at: u64, from: &[u8]) -> Result<(), Failed> {
-        let outcome = write_part(&self.file, at, from);
+        let outcome = write_part(&self.file, &mut self.known, at, from);
         self.count(outcome)
     }
 

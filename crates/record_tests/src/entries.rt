@@ -1,7 +1,7 @@
 // Entries, byte by byte.
 use crate::samples::{base, key};
 use blsm_model::Key;
-use entry_codec::{decode, encode};
+use entry_codec::{decode, encode, peek_key};
 use record_delta::Rec;
 use std::process::Abort;
 use std::test::Fail;
@@ -21,6 +21,13 @@ fn check(rt: &impl Abort, key: &Key, rec: &Rec, spelling: &[u8]) {
             assert_eq!(rt; found_len, len);
         }
         None => assert!(rt; false, "the entry isn't found"),
+    }
+    match peek_key(&out) {
+        Some((found_key, found_len)) => {
+            assert_eq!(rt; found_key, key.as_bytes());
+            assert_eq!(rt; found_len, len);
+        }
+        None => assert!(rt; false, "the key isn't found"),
     }
     assert!(rt; len > 0);
     assert!(rt;

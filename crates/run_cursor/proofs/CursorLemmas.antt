@@ -34,7 +34,7 @@ use Rattle.page_file.proofs.EntryLemmas.{few_entries, entry_same}
 use Rattle.page_file.proofs.PageLemmas.{spelled, length-page_head, page_same, entry_at}
 use Rattle.page_file.proofs.ComponentLemmas.{weight_join, weight_is_length}
 use Rattle.entry_codec.proofs.SpellingLemmas.{length-spelling}
-use Rattle.run_cursor.specs.Cursor.{CursorState, seen, IsKept, started, from_head, IsFirstKey, IsCursor, AreInNumber, PageGoesOn, GoesOnAt, turned, IsStepped, Rises, HasAhead, AreAmong, IsAdvanced, IsDamageAt}
+use Rattle.run_cursor.specs.Cursor.{CursorState, seen, IsKept, started, from_head, IsCursor, AreInNumber, PageGoesOn, GoesOnAt, turned, IsStepped, Rises, HasAhead, AreAmong, IsAdvanced, IsDamageAt}
 
 pub weights-cons : (e : Key × Rec) (es : List (Key × Rec)) → entries_weight (e ∷ es) ≡ weight e.0 e.1 + entries_weight es
 weights-cons e es = sum_by-cons (λ (f : Key × Rec). weight f.0 f.1) e es
@@ -275,18 +275,21 @@ turned_cursor old pages next entries page more of goes =
 
 -- ---- the first key of a page
 
-less_is : (o : Ordering) → is_lt o ≡ true → o ≡ Less
+pub less_is : (o : Ordering) → is_lt o ≡ true → o ≡ Less
 less_is Less h = refl
 less_is Equal h = absurd (cc)
 less_is Greater h = absurd (cc)
 
-pub rises_to : (head : Option (Key × Rec)) (last : Key × Rec) (entries : Entries) (key : Option Key) (first : Key) (test : Bool) → head ≡ Some last → key ≡ Some first → IsFirstKey entries key → AreRising entries
-    → test ≡ is_lt (key_cmp last.0 first) → IsTrue test ↔ AreRising (from_head head entries)
-rises_to head last entries key first test head_is key_is (e, es, entries_are, has) rise tests =
-    let same : first ≡ e.0 = cc in
-    let over = rise_over last e es (subst AreRising entries_are rise) in
-    let whole : from_head (Some last) (e ∷ es) ≡ from_head head entries = λ i. from_head (sym head_is i) (sym entries_are i) in (
-      λ some. subst AreRising whole (over.0 (ap (key_cmp last.0) (sym same) ∙ less_is (key_cmp last.0 first) (sym tests ∙ some))),
+-- the key that is found at a page's front is its first entry's
+pub rises_to : (head : Option (Key × Rec)) (last first : Key × Rec) (pages : ℕ) (next : Option ℕ) (entries : Entries) (page : List ℕ) (test : Bool) → head ≡ Some last
+    → IsPageOf pages next entries page → BeginsWith (drop 8 page) first.0 first.1 → test ≡ is_lt (key_cmp last.0 first.0) → IsTrue test ↔ AreRising (from_head head entries)
+rises_to head last first pages next entries page test head_is of begins tests =
+    let at = page_first pages next entries page of in
+    let one = entry_same first at.first begins.rest at.begins.rest begins.entry at.begins.entry (sym begins.parts ∙ at.begins.parts) in
+    let same : first.0 ≡ at.first.0 = ap (λ (e : Key × Rec). e.0) one.0 in
+    let over = rise_over last at.first at.more (subst AreRising at.entries_are of.content.rise) in
+    let whole : from_head (Some last) (at.first ∷ at.more) ≡ from_head head entries = λ i. from_head (sym head_is i) (sym at.entries_are i) in (
+      λ some. subst AreRising whole (over.0 (ap (key_cmp last.0) (sym same) ∙ less_is (key_cmp last.0 first.0) (sym tests ∙ some))),
       λ rises. tests ∙ ap is_lt (ap (key_cmp last.0) same ∙ over.1 (subst AreRising (sym whole) rises)),
     )
 

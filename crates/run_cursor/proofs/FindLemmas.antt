@@ -15,8 +15,22 @@ use Rattle.blsm_model.specs.Keys.{key_cmp}
 use Rattle.blsm_model.specs.Sizes.{Sizes}
 use Rattle.record_delta.specs.declared.record.Rec.{Rec}
 use Rattle.page_file.specs.Entry.{keys_of, AreRising}
-use Rattle.run_cursor.specs.Cursor.{CursorState, from_head, HasAhead, IsAdvanced}
+use Rattle.run_cursor.specs.Cursor.{CursorState, from_head, compared, HasAhead, IsAdvanced}
 use Rattle.run_cursor.specs.Lookup.{IsAbove, IsReached}
+
+-- the head that a key was compared with
+pub record ComparedWith (key : Key) (head : Option (Key × Rec)) (order : Ordering) : Type 0 where
+  pub entry : Key × Rec
+  pub head_is : head ≡ Some entry
+  pub order_is : key_cmp key entry.0 ≡ order
+
+pub compared_with : (key : Key) (head : Option (Key × Rec)) (order : Ordering) → compared key head ≡ Some order → ComparedWith key head order
+compared_with key None order is = absurd (cc)
+compared_with key (Some e) order is = record { entry = e; head_is = refl; order_is = cc }
+
+pub not_compared : (key : Key) (head : Option (Key × Rec)) (order : Option Ordering) → order ≡ compared key head → ((o : Ordering) → order ≡ Some o → ⊥) → head ≡ None
+not_compared key None order is none = refl
+not_compared key (Some e) order is none = absurd (none (key_cmp key e.0) is)
 
 -- a key that is below all of a list's isn't among them
 none_below : (key : Key) (es : List (Key × Rec)) → AllByRecursion (λ (k : Key). key_cmp key k ≡ Less) (keys_of es) → find_in key_cmp key es ≡ None
@@ -63,7 +77,7 @@ none_ahead sizes new [] pages key file advanced is = refl
 none_ahead sizes new (e ∷ es) pages key file advanced is = absurd (let some = advanced.0 in cc)
 
 -- a key that is above some entries has the record that it has among those behind them
-past : (key : Key) (front back : List (Key × Rec)) → IsAbove key front → find_in key_cmp key (front ++ back) ≡ find_in key_cmp key back
+pub past : (key : Key) (front back : List (Key × Rec)) → IsAbove key front → find_in key_cmp key (front ++ back) ≡ find_in key_cmp key back
 past key [] back above = refl
 past key (e ∷ es) back above =
     ap (λ o. cond (is_eq o) (Some e.1) (find_in key_cmp key (es ++ back))) (All-head (λ (f : Key × Rec). key_cmp key f.0 ≡ Greater) e es above)

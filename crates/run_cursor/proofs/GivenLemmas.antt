@@ -26,15 +26,15 @@ use Rattle.run_cursor.proofs.CursorLemmas.{same_first, none_in_none, rise_over}
 
 -- ---- lists
 
-last_push : {X : Type 0} (o : Option X) (es : List X) (e : X) → last_or o (es ++ e ∷ []) ≡ Some e
+pub last_push : {X : Type 0} (o : Option X) (es : List X) (e : X) → last_or o (es ++ e ∷ []) ≡ Some e
 last_push o [] e = refl
 last_push o (f ∷ es) e = last_push (Some f) es e
 
-entries_push : (given : List (Key × Rec)) (e : Key × Rec) (rest : Entries) → given ++ (e ∷ rest) ≡ (given ++ e ∷ []) ++ rest
+pub entries_push : (given : List (Key × Rec)) (e : Key × Rec) (rest : Entries) → given ++ (e ∷ rest) ≡ (given ++ e ∷ []) ++ rest
 entries_push [] e rest = refl
 entries_push (g ∷ given) e rest = ap (λ (l : Entries). g ∷ l) (entries_push given e rest)
 
-weights_push : (given : List (Key × Rec)) (e : Key × Rec) → entries_weight (given ++ e ∷ []) ≡ entries_weight given + weight e.0 e.1
+pub weights_push : (given : List (Key × Rec)) (e : Key × Rec) → entries_weight (given ++ e ∷ []) ≡ entries_weight given + weight e.0 e.1
 weights_push given e = sum_by-append (λ (f : Key × Rec). weight f.0 f.1) given (e ∷ []) ∙ omega arith
 
 -- what rises up to its last one, and on from there, rises

@@ -4,3 +4,5 @@ pub mod FindLemmas
 pub mod GivenLemmas
 mod AheadLemmas
 mod FullLemmas
+pub mod BelowLemmas
+pub mod SkipLemmas

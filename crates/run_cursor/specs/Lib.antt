@@ -1,3 +1,4 @@
 pub mod Cursor
 pub mod Given
 pub mod Lookup
+pub mod Below

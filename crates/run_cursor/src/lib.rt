@@ -1,6 +1,7 @@
 //! Sorted runs that are read: a cursor gives a component's entries in order, and a key's record is found among them.
 #![tactic(auto)]
 
+mod below;
 mod cursor;
 mod laws;
 mod lookup;

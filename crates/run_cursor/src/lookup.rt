@@ -13,7 +13,7 @@ use crate::Cursor;
 use blsm_model::{Component, Geometry, Key};
 use disk_trait::Disk;
 use page_file::Broken;
-use record_delta::{Rec, Stream};
+use record_delta::Rec;
 use std::cmp::Ordering;
 
 /// The record of a key in a component, if it has one. It reads the component's pages from the first up to the one where the key
@@ -46,13 +46,13 @@ pub fn find<D: Disk>(
     let mut cursor = Cursor::start(run);
     loop {
         cursor.advance(disk, geo)?;
-        let Some((found, rec)) = cursor.head() else {
+        let Some(order) = cursor.compare(key) else {
             return Ok(None);
         };
-        match key.cmp(&found) {
+        match order {
             Ordering::Less => return Ok(None),
-            Ordering::Equal => return Ok(Some(rec)),
-            Ordering::Greater => {}
+            Ordering::Equal => return Ok(cursor.record()),
+            Ordering::Greater => cursor.skip_below(key),
         }
     }
 }

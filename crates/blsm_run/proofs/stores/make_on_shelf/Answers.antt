@@ -1,7 +1,7 @@
-use Rattle.std.proofs.Common.{Err, sym, subst}
+use Rattle.std.proofs.Common.{Err, rules, subst, sym, ◌∙◌}
 use Rattle.blsm_run.specs.declared.outcome.Refusal.{Refusal}
 use Rattle.blsm_run.specs.Stores.{LeavesMade, MakesOnShelf}
-use Rattle.blsm_run.proofs.ShelfLemmas.{CameBack, made, not_fetched, not_made_so}
+use Rattle.blsm_run.proofs.ShelfLemmas.{CameBack, made, never_quiet, not_fetched, not_made_so}
 use Rattle.blsm_run.proofs.stores.make_on_shelf.Goals as goal
 
 pub returns-in_default-clause-makes : goal.returns-in_default-clause-makes
@@ -39,3 +39,29 @@ returns-in-Err-clause-makes g c =
     let w : CameBack state name old mid new first last = record { count = fetched.count; taken = fetched.taken; stands = fetched.stands; told = fetched.told.disks; put = back.put; faults = back.faults } in
     subst (λ (why : Refusal). MakesOnShelf state name c.args.geometry.now old new (Err why)) (sym c.from.ensures)
     (not_made_so state name old mid new first last w c.args.geometry.now c.in-Err.why c.make_store-made.result c.in-Err.is m.not_empty (record { empty = m.leaves; unsynced = m.unsynced; looked = m.looked; effect = m.effect }) m.faults)
+
+-- ---- the fetch, as it is noted
+
+pub returns-in_default-clause-fetched : goal.returns-in_default-clause-fetched
+returns-in_default-clause-fetched g c = record {
+  fetches = search rules;
+  named = λ told room quiet. absurd (never_quiet c.fetch.result (g.H.Shelf.state c.args.shelf.now).faults (g.H.Shelf.state c.fetch.new.self).faults c.in_default.not-Ok c.fetch.ensures.failed quiet);
+  back = search rules;
+  others = search rules;
+}
+
+pub returns-in-Ok-made-clause-fetched : goal.returns-in-Ok-made-clause-fetched
+returns-in-Ok-made-clause-fetched g c = record {
+  fetches = search rules;
+  named = λ told room quiet. c.give_back.ensures.noted ∙ c.in-Ok.ensures.noted told room;
+  back = search rules;
+  others = search rules;
+}
+
+pub returns-in-Err-clause-fetched : goal.returns-in-Err-clause-fetched
+returns-in-Err-clause-fetched g c = record {
+  fetches = search rules;
+  named = λ told room quiet. c.give_back.ensures.noted ∙ c.in-Ok.ensures.noted told room;
+  back = search rules;
+  others = search rules;
+}

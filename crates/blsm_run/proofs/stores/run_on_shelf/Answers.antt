@@ -1,8 +1,8 @@
-use Rattle.std.proofs.Common.{Err, IsErr, refl, sym, subst}
+use Rattle.std.proofs.Common.{Err, IsErr, refl, rules, subst, sym, ◌∙◌}
 use Rattle.std.proofs.lemmas.Result.{IfErr-at_err, IfOk-at_ok}
 use Rattle.blsm_run.specs.declared.outcome.Refusal.{Refusal}
 use Rattle.blsm_run.specs.Stores.{LeavesClosed, RunsOnShelf}
-use Rattle.blsm_run.proofs.ShelfLemmas.{CameBack, not_fetched, not_run, ran}
+use Rattle.blsm_run.proofs.ShelfLemmas.{CameBack, never_quiet, not_fetched, not_run, ran}
 use Rattle.blsm_run.proofs.stores.run_on_shelf.Goals as goal
 
 pub returns-in_default-clause-runs : goal.returns-in_default-clause-runs
@@ -44,3 +44,29 @@ returns-in-Err-clause-runs g c =
     subst (λ (why : Refusal). RunsOnShelf state name c.args.lines.now old new (Err why)) (sym c.from.ensures)
     (not_run state name old mid new first last w c.args.lines.now c.in-Err.why c.run_over-disk.result.1 is (λ honest. IfErr-at_err _ is (m.refused honest))
     (record { keeps = λ sizes pairs honest reads. IfErr-at_err _ is (m.keeps sizes pairs honest reads); untouched = m.untouched; within = m.reaches }) (m.one_fault failed) (m.faults failed))
+
+-- ---- the fetch, as it is noted
+
+pub returns-in_default-clause-fetched : goal.returns-in_default-clause-fetched
+returns-in_default-clause-fetched g c = record {
+  fetches = search rules;
+  named = λ told room quiet. absurd (never_quiet c.fetch.result (g.H.Shelf.state c.args.shelf.now).faults (g.H.Shelf.state c.fetch.new.self).faults c.in_default.not-Ok c.fetch.ensures.failed quiet);
+  back = search rules;
+  others = search rules;
+}
+
+pub returns-in-Ok-outcome-clause-fetched : goal.returns-in-Ok-outcome-clause-fetched
+returns-in-Ok-outcome-clause-fetched g c = record {
+  fetches = search rules;
+  named = λ told room quiet. c.give_back.ensures.noted ∙ c.in-Ok.ensures.noted told room;
+  back = search rules;
+  others = search rules;
+}
+
+pub returns-in-Err-clause-fetched : goal.returns-in-Err-clause-fetched
+returns-in-Err-clause-fetched g c = record {
+  fetches = search rules;
+  named = λ told room quiet. c.give_back.ensures.noted ∙ c.in-Ok.ensures.noted told room;
+  back = search rules;
+  others = search rules;
+}

@@ -1,4 +1,5 @@
-use Rattle.std.proofs.Common.{◌≡◌, ◌∙◌, ◌-◌, ◌+◌, ◌<◌, suc, ℕ, sym, subst, arith}
+use Rattle.std.proofs.Common.{◌≡◌, ◌∙◌, ◌-◌, ◌+◌, ◌<◌, suc, ℕ, ap, sym, subst, arith}
+use Rattle.std.specs.Ordering.{is_le}
 use Rattle.std.proofs.lemmas.Bool.{false≢true, eqb-true, eq-eqb}
 use Rattle.page_file.specs.Entry.{AreInBytes}
 use Rattle.page_file.proofs.EntryLemmas.{above, not_above, none_first, rest_has, more_has, none_left, left_none}
@@ -16,11 +17,11 @@ returns-in_default c =
           (subst (λ (n : ℕ). AreInBytes c.loop.last.now n c.loop.rest.now) left (c.loop.invariant.0 has))),
     )
 
-pub returns-then-le : goal.returns-then-le
-returns-then-le c =
+pub returns-then-is_le : goal.returns-then-is_le
+returns-then-is_le c =
     let left = one_left c.args.count c.loop.counter c.loop-test.true in (
       λ wrong. absurd (false≢true wrong),
-      λ has. absurd (not_above c.loop.last.now c.in-Some.key.now (sym c.le.ensures ∙ c.if-le.true)
+      λ has. absurd (not_above c.loop.last.now c.in-Some.key.now (ap is_le (sym c.cmp.ensures) ∙ sym c.is_le.ensures ∙ c.if-is_le.true)
           (rest_has c.loop.last.now c.loop.rest.now c.in-Some.key.now c.in-Some.behind.now _ c.in-Some.ensures.found
           (subst (λ (n : ℕ). AreInBytes c.loop.last.now n c.loop.rest.now) left (c.loop.invariant.0 has))).0),
     )
@@ -34,7 +35,7 @@ loop-preserved c =
     let behind = c.in-Some.behind.now in (
       λ has. (rest_has last rest key behind _ c.in-Some.ensures.found (subst (λ (n : ℕ). AreInBytes last n rest) left (c.loop.invariant.0 has))).1,
       λ has. c.loop.invariant.1 (subst (λ (n : ℕ). AreInBytes last n rest) (sym left)
-          (more_has last rest key behind _ c.in-Some.ensures.found (above last key (sym c.le.ensures ∙ c.if-le.false)) has)),
+          (more_has last rest key behind _ c.in-Some.ensures.found (above last key (ap is_le (sym c.cmp.ensures) ∙ sym c.is_le.ensures ∙ c.if-is_le.false)) has)),
     )
 
 pub returns : goal.returns
