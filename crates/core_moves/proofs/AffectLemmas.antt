@@ -1,5 +1,5 @@
 -- What the moves hand on of the calls that they are made of.
-use Rattle.std.specs.Prelude.{◌≡◌, ℕ, ◌+◌, ◌*◌, ◌^◌, ◌<◌, ◌≤◌, IsTrue, length}
+use Rattle.std.specs.Prelude.{◌≡◌, ℕ, ◌+◌, ◌*◌, ◌^◌, ◌<◌, ◌≤◌, IsTrue, List, length}
 use Rattle.std.proofs.Common.{sym, subst, ◌∙◌, ap, arith}
 use Rattle.std.proofs.Math.Nat.{mul-le-mul_left}
 use Rattle.blsm_model.specs.Geometry.{capacity, file_length}
@@ -8,15 +8,12 @@ use Rattle.blsm_model.specs.Sizes.{Sizes, IsGeometry}
 use Rattle.blsm_model.proofs.GeometryLemmas.{by_half, by_ratio}
 use Rattle.disk_trait.specs.Disk.{DiskState}
 use Rattle.disk_trait.specs.Region.{Region, IsWithin, outside}
-use Rattle.disk_trait.specs.Effects.{Affects, affects_wider, affects_length}
+use Rattle.disk_trait.specs.Effects.{Affects, affects_length}
+use Rattle.page_space.specs.PageSet.{Members}
 use Rattle.page_space.specs.Space.{SpaceState}
 use Rattle.gated_log.specs.Lane.{lane_region}
-use Rattle.tree_runs.specs.Laws.{HeadIsBeside, used_region}
-use Rattle.core_moves.specs.Needs.{anywhere}
-
--- wherever it writes
-pub affects_anywhere : {region : Region} {end most : ℕ} {old new : DiskState} → Affects region end most old new → Affects anywhere end most old new
-affects_anywhere {region} {end} {most} {old} {new} effect = affects_wider (λ i here. tt) (omega arith) (omega arith) effect
+use Rattle.scan_view.specs.Pins.{beside_pins}
+use Rattle.tree_runs.specs.Laws.{HeadIsBeside, HeadIsUnpinned, used_region}
 
 -- a file of the right length keeps it
 pub stays_long : {region : Region} {most : ℕ} {old new : DiskState} (before after : Sizes) → after ≡ before → (IsTrue old.tells_bytes → length old.bytes ≡ file_length before)
@@ -39,3 +36,8 @@ pub lane_beside : (sizes : Sizes) (space : SpaceState) (lane : ℕ) → HeadIsBe
 lane_beside sizes space lane head below =
     let before : region_length sizes * lane ≤ region_length sizes * 2 = mul-le-mul_left (region_length sizes) (omega (arith, below)) in
     head sizes space (region_start sizes lane) (region_length sizes) (omega (arith, before))
+
+pub lane_unpinned : (sizes : Sizes) (pins : List Members) (lane : ℕ) → HeadIsUnpinned → lane < 3 → IsWithin (lane_region sizes lane) (beside_pins sizes pins)
+lane_unpinned sizes pins lane head below =
+    let before : region_length sizes * lane ≤ region_length sizes * 2 = mul-le-mul_left (region_length sizes) (omega (arith, below)) in
+    head sizes pins (region_start sizes lane) (region_length sizes) (omega (arith, before))

@@ -6,17 +6,18 @@ use Rattle.blsm_model.specs.Lanes.{AreRoles}
 use Rattle.blsm_model.specs.declared.key.Key.{Key}
 use Rattle.record_delta.specs.declared.record.Rec.{Rec}
 use Rattle.disk_trait.specs.Disk.{DiskState}
-use Rattle.disk_trait.specs.Region.{same_wider}
+use Rattle.disk_trait.specs.Region.{IsWithin, same_wider}
 use Rattle.disk_trait.specs.Effects.{Affects}
 use Rattle.gated_log.specs.Lane.{lane_region}
+use Rattle.scan_view.specs.Pins.{beside_pins}
 use Rattle.tree_file.specs.Tree.{Tree, HoldsTree}
 use Rattle.tree_log.specs.Log.{appended, lane_for, with_entry}
 use Rattle.tree_runs.specs.Runs.{AreRunning}
 use Rattle.tree_runs.specs.Holding.{AreOf}
-use Rattle.tree_runs.specs.Laws.{HeadIsBeside, IsBesideRuns, RunsStay, EntriesJoin, EntriesWait}
+use Rattle.tree_runs.specs.Laws.{HeadIsBeside, HeadIsUnpinned, IsBesideRuns, RunsStay, EntriesJoin, EntriesWait}
 use Rattle.core_moves.specs.declared.held.Held.{Held}
 use Rattle.core_moves.specs.Held.{IsOne, goes_ahead}
-use Rattle.core_moves.proofs.AffectLemmas.{lane_beside}
+use Rattle.core_moves.proofs.AffectLemmas.{lane_beside, lane_unpinned}
 
 lane_below : (ahead : Bool) (held : Held) → IsOne held → lane_for ahead held.log < 3
 lane_below true held one = subst (λ (roles : List ℕ). Rattle.blsm_model.specs.Lanes.a_of roles < 3) (sym one.roles) one.apart.a_below
@@ -28,6 +29,13 @@ pub beside : {end most : ℕ} {old new : DiskState} (ahead : Bool) (held : Held)
 beside {end} {most} {old} {new} ahead held head one effect honest =
     same_wider (subst (λ (s : Sizes). (i : ℕ) → lane_region s (lane_for ahead held.log) i → Rattle.disk_trait.specs.Region.outside (Rattle.tree_runs.specs.Laws.used_region held.runs.sizes held.runs.space) i) (sym one.lanes)
     (lane_beside held.runs.sizes held.runs.space (lane_for ahead held.log) head (lane_below ahead held one))) (effect.bytes honest)
+
+-- and beside those that seats pin
+pub lane_beside_pins : (ahead : Bool) (held : Held) → HeadIsUnpinned → IsOne held
+    → IsWithin (lane_region held.log.lanes.sizes (lane_for ahead held.log)) (beside_pins held.runs.sizes held.runs.space.pins)
+lane_beside_pins ahead held head one =
+    subst (λ (s : Sizes). IsWithin (lane_region s (lane_for ahead held.log)) (beside_pins held.runs.sizes held.runs.space.pins)) (sym one.lanes)
+    (lane_unpinned held.runs.sizes held.runs.space.pins (lane_for ahead held.log) head (lane_below ahead held one))
 
 -- the merges run on
 pub runs_on : {end most : ℕ} {old new : DiskState} (ahead : Bool) (held : Held) → HeadIsBeside → RunsStay → IsOne held

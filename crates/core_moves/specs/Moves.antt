@@ -113,7 +113,7 @@ with_book book held = record held { book = book }
 
 -- ---- what stays
 
--- A merge took a quantum, or failed to: nothing but the merges has changed, where it failed.
+-- A merge took a quantum, or failed to: nothing but the merges, and the pages that they take, has changed, where it failed.
 pub record KeepsAllButMerges (failed : Type 0) (old new : Held) : Type 0 where
   pub sizes : failed → new.runs.sizes ≡ old.runs.sizes
   pub catalogue : failed → new.runs.catalogue ≡ old.runs.catalogue
@@ -123,6 +123,7 @@ pub record KeepsAllButMerges (failed : Type 0) (old new : Held) : Type 0 where
   pub gears : failed → new.gears ≡ old.gears
   pub spring : failed → new.spring ≡ old.spring
   pub book : failed → new.book ≡ old.book
+  pub pins : failed → new.runs.space.pins ≡ old.runs.space.pins
 
 -- what a turn of the log says of its tree
 abbrev pub TurnsLog : LogState → LogState → Type 0

@@ -1,11 +1,10 @@
 -- What the moves require. Weights are in bytes.
-use Rattle.std.specs.Prelude.{◌≡◌, ⊤, ◌+◌, ◌*◌, ◌^◌, ◌<◌, ◌≤◌, None, IsTrue, is_some, length, sum}
+use Rattle.std.specs.Prelude.{◌≡◌, ◌+◌, ◌*◌, ◌^◌, ◌<◌, ◌≤◌, None, IsTrue, is_some, length, sum}
 use Rattle.blsm_model.specs.Format.{most_weight}
 use Rattle.blsm_model.specs.Geometry.{file_length}
 use Rattle.blsm_model.specs.Lanes.{AreRoles, region_length}
 use Rattle.blsm_model.specs.declared.key.Key.{Key}
 use Rattle.disk_trait.specs.Disk.{DiskState}
-use Rattle.disk_trait.specs.Region.{Region}
 use Rattle.record_delta.specs.declared.record.Rec.{Rec}
 use Rattle.record_delta.specs.Records.{weight}
 use Rattle.record_delta.specs.Entries.{entries_weight, with_record}
@@ -14,10 +13,6 @@ use Rattle.tree_log.specs.Log.{lane_for, table_for}
 use Rattle.tree_runs.specs.Runs.{AreRunning, Fits}
 use Rattle.core_moves.specs.declared.held.Held.{Held}
 use Rattle.core_moves.specs.Held.{goes_ahead}
-
--- a call may write anywhere, for all that is said of where
-abbrev pub anywhere : Region
-anywhere = λ i. ⊤
 
 -- the counts are small
 pub record AreSmall (held : Held) : Type 0 where

@@ -10,8 +10,9 @@ ghost use Rattle.page_file.specs.Component.{entries_of};
 ghost use Rattle.tree_machine.specs.Machine.{seats};
 ghost use Rattle.tree_file.specs.Tree.{Tree, HoldsTree};
 ghost use Rattle.tree_file.specs.Places.{StandsOn};
+ghost use Rattle.scan_view.specs.Pins.{beside_pins};
 ghost use Rattle.tree_runs.specs.Holding.{StandOver, PassTook, DeepTook};
-ghost use Rattle.core_moves.specs.Needs.{IsOn, IsReady, anywhere};
+ghost use Rattle.core_moves.specs.Needs.{IsOn, IsReady};
 ghost use Rattle.core_moves.specs.Moves.{TakesOfPass, TakesOfDeep, KeepsAllButMerges, with_debts_forgiven};
 
 use crate::Held;
@@ -37,7 +38,7 @@ impl Held {
         ensures takes { IfOk result (λ n. TakesOfPass seat n self.old self.new) }
         ensures on { OnOk result (IsOn self.new (D.state disk.new)) }
         ensures kept { KeepsAllButMerges (IsErr result) self.old self.new }
-        ensures effect { Affects anywhere (file_length self.old.runs.sizes) (self.old.runs.sizes.quantum / 7 + 2) (D.state disk.old) (D.state disk.new) }
+        ensures effect { Affects (beside_pins self.old.runs.sizes self.old.runs.space.pins) (file_length self.old.runs.sizes) (self.old.runs.sizes.quantum / 7 + 2) (D.state disk.old) (D.state disk.new) }
         ensures faults { TellsFaultsBy (Err Broken.Fault) result (D.state disk.old) (D.state disk.new) }
     {
         match self.runs.pass_quantum(disk, self.log.a()) {
@@ -64,7 +65,7 @@ impl Held {
         ensures takes { IfOk result (λ n. TakesOfDeep seat n self.old self.new) }
         ensures on { OnOk result (IsOn self.new (D.state disk.new)) }
         ensures kept { KeepsAllButMerges (IsErr result) self.old self.new }
-        ensures effect { Affects anywhere (file_length self.old.runs.sizes) (self.old.runs.sizes.quantum / 4 + 3) (D.state disk.old) (D.state disk.new) }
+        ensures effect { Affects (beside_pins self.old.runs.sizes self.old.runs.space.pins) (file_length self.old.runs.sizes) (self.old.runs.sizes.quantum / 4 + 3) (D.state disk.old) (D.state disk.new) }
         ensures faults { TellsFaultsBy (Err Broken.Fault) result (D.state disk.old) (D.state disk.new) }
     {
         match self.runs.deep_quantum(disk, self.log.a()) {

@@ -7,9 +7,10 @@ ghost use Rattle.record_delta.specs.Entries.{Entries};
 ghost use Rattle.gear_sched.specs.Gears.{pass_ended, rotated as gears_rotated};
 ghost use Rattle.tree_file.specs.Tree.{Tree};
 ghost use Rattle.tree_runs.specs.Runs.{AreRuns, AreRunning};
+ghost use Rattle.scan_view.specs.Pins.{beside_pins};
 ghost use Rattle.tree_runs.specs.Holding.{AreOf, StandOver, LeavesSwapped, IsDeepSwapped, IsPassSwapped, IsRotated};
 ghost use Rattle.core_moves.specs.Held.{IsPassDone, IsDeepDone, is_run_full};
-ghost use Rattle.core_moves.specs.Needs.{IsOn, IsReady, anywhere};
+ghost use Rattle.core_moves.specs.Needs.{IsOn, IsReady};
 ghost use Rattle.core_moves.specs.Moves.{SwapsDeepIn, SwapsPassIn, RotatesIn, TurnsLog, with_pass_begun, begun_in};
 
 use crate::Held;
@@ -43,7 +44,7 @@ impl Held {
         ensures swaps { OnOk result (SwapsDeepIn self.old self.new) }
         ensures on { OnOk result (IsOn self.new (D.state disk.new)) }
         ensures kept { OnErr result (self.new ≡ self.old) }
-        ensures effect { Affects anywhere (file_length self.old.runs.sizes) 9 (D.state disk.old) (D.state disk.new) }
+        ensures effect { Affects (beside_pins self.old.runs.sizes self.old.runs.space.pins) (file_length self.old.runs.sizes) 9 (D.state disk.old) (D.state disk.new) }
         ensures faults { TellsFaults result (D.state disk.old) (D.state disk.new) }
     {
         self.runs.swap_deep(disk)?;
@@ -65,7 +66,7 @@ impl Held {
         ensures turns { OnOk result (TurnsLog self.old.log self.new.log) }
         ensures on { OnOk result (IsOn self.new (D.state disk.new)) }
         ensures kept { OnErr result (self.new ≡ self.old) }
-        ensures effect { Affects anywhere (file_length self.old.runs.sizes) 9 (D.state disk.old) (D.state disk.new) }
+        ensures effect { Affects (beside_pins self.old.runs.sizes self.old.runs.space.pins) (file_length self.old.runs.sizes) 9 (D.state disk.old) (D.state disk.new) }
         ensures faults { TellsFaults result (D.state disk.old) (D.state disk.new) }
     {
         let rotated = self.runs.swap_pass(disk, self.log.a())?;
@@ -87,7 +88,7 @@ impl Held {
         ensures rotates { OnOk result (RotatesIn self.old self.new) }
         ensures on { OnOk result (IsOn self.new (D.state disk.new)) }
         ensures kept { OnErr result (self.new ≡ self.old) }
-        ensures effect { Affects anywhere (file_length self.old.runs.sizes) 8 (D.state disk.old) (D.state disk.new) }
+        ensures effect { Affects (beside_pins self.old.runs.sizes self.old.runs.space.pins) (file_length self.old.runs.sizes) 8 (D.state disk.old) (D.state disk.new) }
         ensures faults { TellsFaults result (D.state disk.old) (D.state disk.new) }
     {
         self.runs.rotate(disk)?;

@@ -10,9 +10,10 @@ ghost use Rattle.gear_sched.specs.Gears.{first_debt, second_debt};
 ghost use Rattle.tree_file.specs.Tree.{Tree};
 ghost use Rattle.tree_file.specs.Places.{Becomes};
 ghost use Rattle.tree_log.specs.Log.{IsLogOf, appended};
+ghost use Rattle.scan_view.specs.Pins.{beside_pins};
 ghost use Rattle.tree_runs.specs.Holding.{StandOver};
 ghost use Rattle.core_moves.specs.Held.{IsOne, goes_ahead, charge_in};
-ghost use Rattle.core_moves.specs.Needs.{IsOn, WriteFits, anywhere};
+ghost use Rattle.core_moves.specs.Needs.{IsOn, WriteFits};
 ghost use Rattle.core_moves.specs.Moves.{WritesIn};
 
 use crate::Held;
@@ -72,7 +73,7 @@ impl Held {
             × OnOk result (StandOver self.new.runs (appended (goes_ahead key.now self.old) (key.now, rec.now) tree) self.new.log.a.entries (D.state disk.new)) }
         ensures on { OnOk result (IsOn self.new (D.state disk.new)) }
         ensures kept { OnErr result (self.new ≡ self.old) }
-        ensures effect { Affects anywhere (file_length self.old.runs.sizes) 4 (D.state disk.old) (D.state disk.new) }
+        ensures effect { Affects (beside_pins self.old.runs.sizes self.old.runs.space.pins) (file_length self.old.runs.sizes) 4 (D.state disk.old) (D.state disk.new) }
         ensures faults { TellsFaults result (D.state disk.old) (D.state disk.new) }
     {
         others_may_write();

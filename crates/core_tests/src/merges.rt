@@ -10,8 +10,8 @@ use std::process::Abort;
 use tree_core::Core;
 use tree_machine::Kind;
 
-fn get(rt: &impl Abort, core: &mut Core<MemDisk>, name: &[u8]) {
-    make(core, 0, Kind::Get(key(rt, name)));
+fn get(rt: &impl Abort, alloc: Global, core: &mut Core<MemDisk>, name: &[u8]) {
+    make(alloc, core, 0, Kind::Get(key(rt, name)));
 }
 
 // Asserts that an entry has this value as its reply.
@@ -21,29 +21,29 @@ fn check_is(rt: &impl Abort, annals: &Annals, place: u32, count: u64, text: &[u8
 }
 
 // A long put of each of b to f.
-fn put_five(rt: &impl Abort, core: &mut Core<MemDisk>) {
+fn put_five(rt: &impl Abort, alloc: Global, core: &mut Core<MemDisk>) {
     for name in [b"b", b"c", b"d", b"e", b"f"] {
-        write(core, 0, put(rt, name, 0, &[b'x'; 435]));
+        write(alloc, core, 0, put(rt, name, 0, &[b'x'; 435]));
     }
 }
 
 // Looks c, g and b up.
-fn get_three(rt: &impl Abort, core: &mut Core<MemDisk>) {
-    get(rt, core, b"c");
-    get(rt, core, b"g");
-    get(rt, core, b"b");
+fn get_three(rt: &impl Abort, alloc: Global, core: &mut Core<MemDisk>) {
+    get(rt, alloc, core, b"c");
+    get(rt, alloc, core, b"g");
+    get(rt, alloc, core, b"b");
 }
 
 // A pass over b to f with writes behind its cursor and ahead of it, which are looked up before its swap and after it.
-fn run_pass(rt: &impl Abort, core: &mut Core<MemDisk>) {
-    put_five(rt, core);
-    work(core, 2);
-    write(core, 0, put(rt, b"c", 1, b""));
-    write(core, 0, put(rt, b"g", 2, b""));
-    get_three(rt, core);
-    work(core, 3);
-    get_three(rt, core);
-    get(rt, core, b"a");
+fn run_pass(rt: &impl Abort, alloc: Global, core: &mut Core<MemDisk>) {
+    put_five(rt, alloc, core);
+    work(alloc, core, 2);
+    write(alloc, core, 0, put(rt, b"c", 1, b""));
+    write(alloc, core, 0, put(rt, b"g", 2, b""));
+    get_three(rt, alloc, core);
+    work(alloc, core, 3);
+    get_three(rt, alloc, core);
+    get(rt, alloc, core, b"a");
 }
 
 // Asserts that c, g and b are found by the entries from this place on.
@@ -78,7 +78,7 @@ fn check_two_quanta(rt: &impl Abort, annals: &Annals) {
 #[test]
 fn writes_join_a_pass_or_wait(rt: HostRuntime) {
     let mut core = fresh(&rt, rt.alloc(), geometry(&rt, 32_768, 4, 16_384, 1_024));
-    run_pass(&rt, &mut core);
+    run_pass(&rt, rt.alloc(), &mut core);
     let (_, annals, totals) = core.end();
     check_told(&rt, &annals);
     check_two_quanta(&rt, &annals);
@@ -87,20 +87,20 @@ fn writes_join_a_pass_or_wait(rt: HostRuntime) {
 }
 
 // A C2 in which x has 100 and z has 1.
-fn merge_two(rt: &impl Abort, core: &mut Core<MemDisk>) {
-    write(core, 0, put(rt, b"x", 100, b"old"));
-    write(core, 0, put(rt, b"z", 1, b""));
-    work(core, 6);
+fn merge_two(rt: &impl Abort, alloc: Global, core: &mut Core<MemDisk>) {
+    write(alloc, core, 0, put(rt, b"x", 100, b"old"));
+    write(alloc, core, 0, put(rt, b"z", 1, b""));
+    work(alloc, core, 6);
 }
 
 // So many turns of a work with a tombstone of x and 4 more for y, and each key looked up.
-fn merge_over(rt: &impl Abort, core: &mut Core<MemDisk>, turns: u32) {
-    write(core, 0, del(rt, b"x"));
-    write(core, 0, add(rt, b"y", 4));
-    work(core, turns);
-    get(rt, core, b"x");
-    get(rt, core, b"y");
-    get(rt, core, b"z");
+fn merge_over(rt: &impl Abort, alloc: Global, core: &mut Core<MemDisk>, turns: u32) {
+    write(alloc, core, 0, del(rt, b"x"));
+    write(alloc, core, 0, add(rt, b"y", 4));
+    work(alloc, core, turns);
+    get(rt, alloc, core, b"x");
+    get(rt, alloc, core, b"y");
+    get(rt, alloc, core, b"z");
 }
 
 // Asserts what each command was told: that y has 4, z has 1 and x nothing.
@@ -119,8 +119,8 @@ fn check_merged(rt: &impl Abort, annals: &Annals, did: u32) {
 fn merged(rt: &impl Abort, alloc: Global, turns: u32) -> File {
     let geo = Geometry::default();
     let mut core = fresh(rt, alloc, geo);
-    merge_two(rt, &mut core);
-    merge_over(rt, &mut core, turns);
+    merge_two(rt, alloc, &mut core);
+    merge_over(rt, alloc, &mut core, turns);
     let (disk, annals, _) = core.end();
     assert_eq!(rt; annals.len(), 9);
     check_merged(rt, &annals, turns);

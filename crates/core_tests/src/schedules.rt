@@ -1,6 +1,5 @@
 // Random schedules of all seats, beside the plain tree and a plain map.
-ghost use Rattle.std.specs.Prelude.{◌≡◌, ◌<◌, false};
-ghost use Rattle.tree_core.specs.Steps.{is_held};
+ghost use Rattle.std.specs.Prelude.{◌≡◌, ◌<◌};
 
 use crate::maps::follow;
 use crate::samples::{Draws, draw_write, key_of};
@@ -44,34 +43,30 @@ fn play_plain(rt: &impl Abort, plain: &mut PlainTree, step: &Step) {
 }
 
 impl Pair {
-    fn play(&mut self, rt: &impl Abort, seat: u32, kind: Kind)
-        requires { is_held kind ≡ false }
-    {
+    fn play(&mut self, rt: &impl Abort, alloc: Global, seat: u32, kind: Kind) {
         let step = Step { seat, kind };
         play_plain(rt, &mut self.plain, &step);
-        self.core.play(&[step]);
+        self.core.play(alloc, &[step]);
     }
 
     // A drawn step of a drawn seat.
-    fn play_drawn(&mut self, rt: &impl Abort, draws: &mut Draws) {
+    fn play_drawn(&mut self, rt: &impl Abort, alloc: Global, draws: &mut Draws) {
         let seat = draws.below(24) as u32;
         let kind = draw_kind(rt, draws, seat);
-        self.play(rt, seat, kind);
+        self.play(rt, alloc, seat, kind);
     }
 
     // Each caller leaves, and a worker finds the store closed.
-    fn close(&mut self, rt: &impl Abort) {
+    fn close(&mut self, rt: &impl Abort, alloc: Global) {
         for seat in 0..CALLERS {
-            self.play(rt, seat, Kind::Leave);
+            self.play(rt, alloc, seat, Kind::Leave);
         }
-        self.play(rt, CALLERS, Kind::WorkerTurn);
+        self.play(rt, alloc, CALLERS, Kind::WorkerTurn);
     }
 }
 
 // A step of a caller, or of a worker.
-fn draw_kind(rt: &impl Abort, draws: &mut Draws, seat: u32) -> Kind
-    ensures { is_held result ≡ false }
-{
+fn draw_kind(rt: &impl Abort, draws: &mut Draws, seat: u32) -> Kind {
     if seat >= CALLERS {
         return Kind::WorkerTurn;
     }
@@ -161,9 +156,9 @@ fn schedule(rt: &impl Abort, alloc: Global, geo: Geometry, seed: u64, steps: u32
         plain: fresh_plain(rt, alloc, geo),
     };
     for _ in 0..steps {
-        pair.play_drawn(rt, &mut draws);
+        pair.play_drawn(rt, alloc, &mut draws);
     }
-    pair.close(rt);
+    pair.close(rt, alloc);
     pair
 }
 

@@ -37,40 +37,40 @@ fn put_at(rt: &impl Abort, number: usize, count: u64, text: &[u8]) -> Op {
     put(rt, key_of(rt, number).as_bytes(), count, text)
 }
 
-fn get_at(rt: &impl Abort, core: &mut Core<MemDisk>, seat: u32, number: usize) {
-    make(core, seat, Kind::Get(key_of(rt, number)));
+fn get_at(rt: &impl Abort, alloc: Global, core: &mut Core<MemDisk>, seat: u32, number: usize) {
+    make(alloc, core, seat, Kind::Get(key_of(rt, number)));
 }
 
 // Writes, a lookup, and the first turns of work.
-fn run_first(rt: &impl Abort, core: &mut Core<MemDisk>) {
-    write(core, 0, put_at(rt, 1, 7, &[b'x'; 435]));
-    write(core, 1, put_at(rt, 2, 1, b"two"));
-    get_at(rt, core, 2, 1);
-    work(core, 4);
+fn run_first(rt: &impl Abort, alloc: Global, core: &mut Core<MemDisk>) {
+    write(alloc, core, 0, put_at(rt, 1, 7, &[b'x'; 435]));
+    write(alloc, core, 1, put_at(rt, 2, 1, b"two"));
+    get_at(rt, alloc, core, 2, 1);
+    work(alloc, core, 4);
 }
 
 // Writes over what was merged, and further turns.
-fn run_second(rt: &impl Abort, core: &mut Core<MemDisk>) {
-    write(core, 0, del(rt, key_of(rt, 1).as_bytes()));
-    write(core, 1, add(rt, key_of(rt, 3).as_bytes(), 4));
-    make(core, CALLERS, Kind::WorkerTurn);
-    get_at(rt, core, 2, 2);
-    work(core, 4);
+fn run_second(rt: &impl Abort, alloc: Global, core: &mut Core<MemDisk>) {
+    write(alloc, core, 0, del(rt, key_of(rt, 1).as_bytes()));
+    write(alloc, core, 1, add(rt, key_of(rt, 3).as_bytes(), 4));
+    make(alloc, core, CALLERS, Kind::WorkerTurn);
+    get_at(rt, alloc, core, 2, 2);
+    work(alloc, core, 4);
 }
 
 // Two passes, a rotation and a deep merge, with writes before the first pass and while the deep merge runs.
-fn run(rt: &impl Abort, core: &mut Core<MemDisk>) {
-    run_first(rt, core);
-    run_second(rt, core);
+fn run(rt: &impl Abort, alloc: Global, core: &mut Core<MemDisk>) {
+    run_first(rt, alloc, core);
+    run_second(rt, alloc, core);
 }
 
 // Calls that come after the run.
-fn go_on(rt: &impl Abort, core: &mut Core<MemDisk>) {
-    write(core, 0, put(rt, b"more", 1, b""));
-    write(core, 2, put(rt, b"more", 1, b""));
-    get_at(rt, core, 3, 1);
-    work(core, 3);
-    make(core, CALLERS, Kind::WorkerTurn);
+fn go_on(rt: &impl Abort, alloc: Global, core: &mut Core<MemDisk>) {
+    write(alloc, core, 0, put(rt, b"more", 1, b""));
+    write(alloc, core, 2, put(rt, b"more", 1, b""));
+    get_at(rt, alloc, core, 3, 1);
+    work(alloc, core, 3);
+    make(alloc, core, CALLERS, Kind::WorkerTurn);
 }
 
 // What a run left.
@@ -100,9 +100,9 @@ fn run_until(rt: &impl Abort, alloc: Global, made: &File, calls: u64) -> Left {
     let mut file = remade(rt, made);
     file.disk.stop_after(calls.saturating_add(1));
     let mut core = file.start(rt, alloc);
-    run(rt, &mut core);
+    run(rt, alloc, &mut core);
     let charge = core.charge();
-    go_on(rt, &mut core);
+    go_on(rt, alloc, &mut core);
     let left = left_of(core);
     assert_eq!(rt; left.totals.charge, charge);
     left
@@ -286,7 +286,7 @@ fn calls_of(disk: MemDisk) -> u64 {
 // How many calls the run takes. It ends well, and its images hold the history's map.
 fn calls_of_run(rt: &impl Abort, alloc: Global, made: &File) -> u64 {
     let mut core = remade(rt, made).start(rt, alloc);
-    run(rt, &mut core);
+    run(rt, alloc, &mut core);
     let left = left_of(core);
     assert_eq!(rt; (left.totals.passes, left.totals.deeps), (2, 1));
     assert_eq!(rt; left.totals.stopped, None);

@@ -1,9 +1,8 @@
 // Stores over disks in memory, and cores that are opened over them.
-ghost use Rattle.std.specs.Prelude.{◌≡◌, length, replicate, false};
+ghost use Rattle.std.specs.Prelude.{◌≡◌, length, replicate};
 ghost use Rattle.blsm_model.specs.Geometry.{file_length};
 ghost use Rattle.catalog_swap.specs.Text.{first_catalog};
 ghost use Rattle.disk_mem.specs.Recorded.{told};
-ghost use Rattle.tree_core.specs.Steps.{is_held};
 
 use crate::samples::most_quanta;
 use blsm_model::{Annals, CALLERS, Geometry, Op, Room, ShortReply};
@@ -15,6 +14,7 @@ use mem_table::Table;
 use page_file::no_component;
 use page_space::Space;
 use refusal::NoMemory;
+use scan_view::Holds;
 use std::alloc::Global;
 use std::process::Abort;
 use store_file::make_store;
@@ -96,11 +96,13 @@ impl File {
             Lanes::resume(&geo, [0, 1, 2], [0, 0, 0]),
         );
         let annals = Annals::reserve(alloc, room())?;
+        let holds = Holds::reserve(alloc)?;
         Ok(Core::assemble(Parts {
             disk,
             runs,
             log,
             annals,
+            holds,
         }))
     }
 }
@@ -134,27 +136,25 @@ pub fn fresh(rt: &impl Abort, alloc: Global, geo: Geometry) -> Core<MemDisk> {
 }
 
 /// A seat makes a step.
-pub fn make(core: &mut Core<MemDisk>, seat: u32, kind: Kind)
-    requires { is_held kind ≡ false }
-{
-    core.play(&[Step { seat, kind }]);
+pub fn make(alloc: Global, core: &mut Core<MemDisk>, seat: u32, kind: Kind) {
+    core.play(alloc, &[Step { seat, kind }]);
 }
 
 /// A seat admits a write, and pays as often as its weight may ask for at most.
-pub fn write(core: &mut Core<MemDisk>, seat: u32, op: Op) {
+pub fn write(alloc: Global, core: &mut Core<MemDisk>, seat: u32, op: Op) {
     let most = most_quanta(&core.geometry(), &op);
-    make(core, seat, Kind::Admit(op));
+    make(alloc, core, seat, Kind::Admit(op));
     for _ in 0..most {
-        make(core, seat, Kind::Pay);
+        make(alloc, core, seat, Kind::Pay);
     }
 }
 
 /// Caller 0 does so many turns and ends its work.
-pub fn work(core: &mut Core<MemDisk>, turns: u32) {
+pub fn work(alloc: Global, core: &mut Core<MemDisk>, turns: u32) {
     for _ in 0..turns {
-        make(core, 0, Kind::WorkTurn);
+        make(alloc, core, 0, Kind::WorkTurn);
     }
-    make(core, 0, Kind::WorkEnd(turns));
+    make(alloc, core, 0, Kind::WorkEnd(turns));
 }
 
 // A core over a fresh store has no history, and its numbers are 0.

@@ -5,6 +5,7 @@ use crate::samples::{add, del, most_quanta, put, put_of};
 use crate::stores::{check_reply, fresh, geometry, has_reply, smallest, steepest, write};
 use blsm_model::{Annals, CALLERS, Geometry, ShortReply, Totals};
 use disk_mem::MemDisk;
+use std::alloc::Global;
 use std::process::Abort;
 use tree_core::Core;
 
@@ -31,10 +32,10 @@ fn check_bounds(rt: &impl Abort, geo: &Geometry, annals: &Annals, entries: usize
 }
 
 // A hundred equal writes.
-fn write_hundred(rt: &impl Abort, core: &mut Core<MemDisk>) {
+fn write_hundred(rt: &impl Abort, alloc: Global, core: &mut Core<MemDisk>) {
     let op = put(rt, &[b'k'; 64], 9, &[b'x'; 435]);
     for _ in 0..100 {
-        write(core, 0, op.copy());
+        write(alloc, core, 0, op.copy());
     }
 }
 
@@ -51,7 +52,7 @@ fn check_thirds(rt: &impl Abort, annals: &Annals) {
 #[test]
 fn each_thirty_third_write_pays(rt: HostRuntime) {
     let mut core = fresh(&rt, rt.alloc(), Geometry::default());
-    write_hundred(&rt, &mut core);
+    write_hundred(&rt, rt.alloc(), &mut core);
     let (_, annals, totals) = core.end();
     check_thirds(&rt, &annals);
     assert_eq!(rt; (totals.peak, totals.callers), (512, 3));
@@ -59,10 +60,10 @@ fn each_thirty_third_write_pays(rt: HostRuntime) {
 }
 
 // So many writes of 512 bytes, of as many keys, by so many callers in turn.
-fn write_many(rt: &impl Abort, core: &mut Core<MemDisk>, writes: u32, callers: u32) {
+fn write_many(rt: &impl Abort, alloc: Global, core: &mut Core<MemDisk>, writes: u32, callers: u32) {
     assert!(rt; 0 < callers);
     for number in 0..writes {
-        write(core, number % callers, put_of(rt, number as usize));
+        write(alloc, core, number % callers, put_of(rt, number as usize));
     }
 }
 
@@ -75,8 +76,8 @@ fn check_payers(rt: &impl Abort, annals: &Annals, totals: &Totals) {
 }
 
 // A hundred writes of as many keys, 512 bytes each, by all callers in turn.
-fn check_hundred(rt: &impl Abort, mut core: Core<MemDisk>, geo: &Geometry) {
-    write_many(rt, &mut core, 100, CALLERS);
+fn check_hundred(rt: &impl Abort, alloc: Global, mut core: Core<MemDisk>, geo: &Geometry) {
+    write_many(rt, alloc, &mut core, 100, CALLERS);
     let (_, annals, totals) = core.end();
     check_bounds(rt, geo, &annals, 100, 100);
     check_payers(rt, &annals, &totals);
@@ -86,19 +87,19 @@ fn check_hundred(rt: &impl Abort, mut core: Core<MemDisk>, geo: &Geometry) {
 fn writes_cost_no_more_than_their_bound(rt: HostRuntime) {
     let alloc = rt.alloc();
     let geo = Geometry::default();
-    check_hundred(&rt, fresh(&rt, alloc, geo), &geo);
+    check_hundred(&rt, alloc, fresh(&rt, alloc, geo), &geo);
     let geo = smallest(&rt);
-    check_hundred(&rt, fresh(&rt, alloc, geo), &geo);
+    check_hundred(&rt, alloc, fresh(&rt, alloc, geo), &geo);
     let geo = steepest(&rt);
-    check_hundred(&rt, fresh(&rt, alloc, geo), &geo);
+    check_hundred(&rt, alloc, fresh(&rt, alloc, geo), &geo);
 }
 
 // Two writes that find no room, a del that does, and one that finds none behind it.
-fn write_at_the_edge(rt: &impl Abort, core: &mut Core<MemDisk>) {
-    write(core, 0, put(rt, b"a", 1, b""));
-    write(core, 0, add(rt, b"a", 1));
-    write(core, 0, del(rt, b"a"));
-    write(core, 0, put(rt, b"a", 1, b""));
+fn write_at_the_edge(rt: &impl Abort, alloc: Global, core: &mut Core<MemDisk>) {
+    write(alloc, core, 0, put(rt, b"a", 1, b""));
+    write(alloc, core, 0, add(rt, b"a", 1));
+    write(alloc, core, 0, del(rt, b"a"));
+    write(alloc, core, 0, put(rt, b"a", 1, b""));
 }
 
 fn check_edge(rt: &impl Abort, annals: &Annals) {
@@ -113,8 +114,8 @@ fn check_edge(rt: &impl Abort, annals: &Annals) {
 fn a_small_store_is_full_at_its_edge(rt: HostRuntime) {
     let geo = geometry(&rt, 17_408, 2, 16_384, 4_096);
     let mut core = fresh(&rt, rt.alloc(), geo);
-    write_many(&rt, &mut core, 238, 1);
-    write_at_the_edge(&rt, &mut core);
+    write_many(&rt, rt.alloc(), &mut core, 238, 1);
+    write_at_the_edge(&rt, rt.alloc(), &mut core);
     let (_, annals, totals) = core.end();
     check_bounds(&rt, &geo, &annals, 242, 238);
     check_edge(&rt, &annals);

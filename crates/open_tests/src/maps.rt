@@ -64,16 +64,16 @@ fn told_at(rt: &impl Abort, annals: &Annals, place: u32) -> Option<Value> {
 }
 
 // Looks up the keys of the numbers below this.
-fn look_up(rt: &impl Abort, core: &mut Core<MemDisk>, keys: usize) {
+fn look_up(rt: &impl Abort, alloc: Global, core: &mut Core<MemDisk>, keys: usize) {
     for number in 0..keys {
-        make(core, 0, Kind::Get(key_of(rt, number)));
+        make(alloc, core, 0, Kind::Get(key_of(rt, number)));
     }
 }
 
 /// What a core that was just opened looks up, of so many keys, and its disk. Its history was empty before.
 pub fn map_of(rt: &impl Abort, alloc: Global, core: Core<MemDisk>, keys: usize) -> (Map, MemDisk) {
     let mut core = core;
-    look_up(rt, &mut core, keys);
+    look_up(rt, alloc, &mut core, keys);
     let (disk, annals, _) = core.end();
     assert_eq!(rt; annals.len(), keys);
     let mut map = Vec::new(alloc);

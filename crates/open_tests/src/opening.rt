@@ -1,7 +1,4 @@
 // What an opening leaves: of three geometries, after drawn steps, and a second time.
-ghost use Rattle.std.specs.Prelude.{◌≡◌, false};
-ghost use Rattle.tree_core.specs.Steps.{is_held};
-
 use crate::maps::{Map, follow, map_of};
 use crate::samples::{Draws, add, del, draw_write, key_of, put};
 use crate::stores::{copy, made, make, open, report, smallest, steepest, work, write};
@@ -20,9 +17,7 @@ const SCHEDULES: u64 = 12;
 const KEYS: u64 = 60;
 
 // A step of a caller, or of a worker.
-fn draw_kind(rt: &impl Abort, draws: &mut Draws, seat: u32) -> Kind
-    ensures { is_held result ≡ false }
-{
+fn draw_kind(rt: &impl Abort, draws: &mut Draws, seat: u32) -> Kind {
     if seat >= CALLERS {
         return Kind::WorkerTurn;
     }
@@ -36,10 +31,10 @@ fn draw_kind(rt: &impl Abort, draws: &mut Draws, seat: u32) -> Kind
 }
 
 // A drawn step of a drawn seat.
-fn play_drawn(rt: &impl Abort, core: &mut Core<MemDisk>, draws: &mut Draws) {
+fn play_drawn(rt: &impl Abort, alloc: Global, core: &mut Core<MemDisk>, draws: &mut Draws) {
     let seat = draws.below(24) as u32;
     let kind = draw_kind(rt, draws, seat);
-    make(core, seat, kind);
+    make(alloc, core, seat, kind);
 }
 
 // So many drawn steps over a disk.
@@ -47,7 +42,7 @@ fn schedule(rt: &impl Abort, alloc: Global, disk: MemDisk, seed: u64, steps: u32
     let mut draws = Draws(seed);
     let mut core = open(rt, alloc, disk);
     for _ in 0..steps {
-        play_drawn(rt, &mut core, &mut draws);
+        play_drawn(rt, alloc, &mut core, &mut draws);
     }
     core
 }
@@ -113,14 +108,14 @@ fn a_schedule_of_the_steepest_geometry_opens(rt: HostRuntime) {
 }
 
 // A C2 of keys 1 and 3, a deep merge with a tombstone of 1 and a delta of 2, a record of 4 in lane A and one of 5 in lane B.
-fn run_merges(rt: &impl Abort, core: &mut Core<MemDisk>) {
-    write(core, 0, put(rt, 1, 100, 3));
-    write(core, 0, put(rt, 3, 1, 0));
-    work(core, 6);
-    write(core, 0, del(rt, 1));
-    write(core, 0, add(rt, 2, 4));
-    work(core, 4);
-    write(core, 0, put(rt, 4, 9, 1));
+fn run_merges(rt: &impl Abort, alloc: Global, core: &mut Core<MemDisk>) {
+    write(alloc, core, 0, put(rt, 1, 100, 3));
+    write(alloc, core, 0, put(rt, 3, 1, 0));
+    work(alloc, core, 6);
+    write(alloc, core, 0, del(rt, 1));
+    write(alloc, core, 0, add(rt, 2, 4));
+    work(alloc, core, 4);
+    write(alloc, core, 0, put(rt, 4, 9, 1));
 }
 
 // What the reading of that store tells.
@@ -157,7 +152,7 @@ fn check_merged(rt: &impl Abort, alloc: Global, disk: &mut MemDisk) {
 fn an_opening_goes_on_with_the_merges(rt: HostRuntime) {
     let alloc = rt.alloc();
     let mut core = open(&rt, alloc, made(&rt, alloc, &Geometry::default()));
-    run_merges(&rt, &mut core);
+    run_merges(&rt, alloc, &mut core);
     let (mut disk, annals, _) = core.end();
     let map = follow(&rt, alloc, KEYS as usize, &annals);
     check_merges(&rt, alloc, &mut disk);

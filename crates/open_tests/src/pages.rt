@@ -111,11 +111,11 @@ fn a_page_of_two_components_is_damaged(rt: HostRuntime) {
 }
 
 // So many long puts, merged to C2.
-fn fill(rt: &impl Abort, core: &mut Core<MemDisk>, puts: usize) {
+fn fill(rt: &impl Abort, alloc: Global, core: &mut Core<MemDisk>, puts: usize) {
     for number in 0..puts {
-        write(core, 0, long(rt, number, 1));
+        write(alloc, core, 0, long(rt, number, 1));
     }
-    work(core, 40);
+    work(alloc, core, 40);
 }
 
 // A store with a C2 of three pages, and nothing else.
@@ -127,7 +127,7 @@ struct Chain {
 
 fn make_chain(rt: &impl Abort, alloc: Global) -> Chain {
     let mut core = open(rt, alloc, made(rt, alloc, &smallest(rt)));
-    fill(rt, &mut core, 25);
+    fill(rt, alloc, &mut core, 25);
     let (disk, _, _) = core.end();
     let mut disk = copy(rt, &disk);
     let found = report(rt, alloc, &mut disk);

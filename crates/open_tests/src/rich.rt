@@ -11,39 +11,39 @@ use tree_core::Core;
 pub const KEYS: usize = 16;
 
 // C2 gets 2, 6 and 8.
-fn fill_c2(rt: &impl Abort, core: &mut Core<MemDisk>) {
-    write(core, 0, put(rt, 2, 5, 0));
-    write(core, 0, long(rt, 6, 1));
-    write(core, 0, long(rt, 8, 2));
-    work(core, 16);
+fn fill_c2(rt: &impl Abort, alloc: Global, core: &mut Core<MemDisk>) {
+    write(alloc, core, 0, put(rt, 2, 5, 0));
+    write(alloc, core, 0, long(rt, 6, 1));
+    write(alloc, core, 0, long(rt, 8, 2));
+    work(alloc, core, 16);
 }
 
 // A pass over 1, 2, 5 and 6 is swapped in and rotated. One quantum of the deep merge takes all but 8.
-fn fill_c1x(rt: &impl Abort, core: &mut Core<MemDisk>) {
-    admit(core, 1, long(rt, 1, 10));
-    admit(core, 2, add(rt, 2, 7));
-    admit(core, 3, long(rt, 5, 3));
-    admit(core, 4, del(rt, 6));
-    work(core, 4);
+fn fill_c1x(rt: &impl Abort, alloc: Global, core: &mut Core<MemDisk>) {
+    admit(alloc, core, 1, long(rt, 1, 10));
+    admit(alloc, core, 2, add(rt, 2, 7));
+    admit(alloc, core, 3, long(rt, 5, 3));
+    admit(alloc, core, 4, del(rt, 6));
+    work(alloc, core, 4);
 }
 
 // A pass over 3 and 7 is swapped in while the deep merge runs.
-fn fill_c1(rt: &impl Abort, core: &mut Core<MemDisk>) {
-    admit(core, 5, long(rt, 3, 4));
-    admit(core, 6, put(rt, 7, 1, 10));
-    work(core, 2);
+fn fill_c1(rt: &impl Abort, alloc: Global, core: &mut Core<MemDisk>) {
+    admit(alloc, core, 5, long(rt, 3, 4));
+    admit(alloc, core, 6, put(rt, 7, 1, 10));
+    work(alloc, core, 2);
 }
 
 // A quantum of a pass takes all up to 9. Behind its cursor are a write of 3 and one of 9, ahead of it two of 11 and one of 13.
-fn fill_lanes(rt: &impl Abort, core: &mut Core<MemDisk>) {
-    admit(core, 7, long(rt, 0, 1));
-    admit(core, 8, long(rt, 9, 2));
-    admit(core, 9, long(rt, 11, 3));
-    work(core, 1);
-    admit(core, 10, add(rt, 3, 5));
-    admit(core, 11, del(rt, 9));
-    admit(core, 12, add(rt, 11, 6));
-    admit(core, 13, long(rt, 13, 7));
+fn fill_lanes(rt: &impl Abort, alloc: Global, core: &mut Core<MemDisk>) {
+    admit(alloc, core, 7, long(rt, 0, 1));
+    admit(alloc, core, 8, long(rt, 9, 2));
+    admit(alloc, core, 9, long(rt, 11, 3));
+    work(alloc, core, 1);
+    admit(alloc, core, 10, add(rt, 3, 5));
+    admit(alloc, core, 11, del(rt, 9));
+    admit(alloc, core, 12, add(rt, 11, 6));
+    admit(alloc, core, 13, long(rt, 13, 7));
 }
 
 /// Its disk, on which no call was answered, and its map.
@@ -66,10 +66,10 @@ fn check_rich(rt: &impl Abort, alloc: Global, disk: &mut MemDisk) {
 /// The store.
 pub fn make_rich(rt: &impl Abort, alloc: Global) -> Rich {
     let mut core = open(rt, alloc, made(rt, alloc, &quickest(rt)));
-    fill_c2(rt, &mut core);
-    fill_c1x(rt, &mut core);
-    fill_c1(rt, &mut core);
-    fill_lanes(rt, &mut core);
+    fill_c2(rt, alloc, &mut core);
+    fill_c1x(rt, alloc, &mut core);
+    fill_c1(rt, alloc, &mut core);
+    fill_lanes(rt, alloc, &mut core);
     let (disk, annals, totals) = core.end();
     assert!(rt; totals.stopped.is_none());
     let mut disk = copy(rt, &disk);

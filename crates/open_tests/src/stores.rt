@@ -1,7 +1,6 @@
 // Stores on disks in memory, cores over them, and what they are told to do.
 ghost use Rattle.std.specs.Prelude.{◌≡◌, ◌≤◌, false, sum};
 ghost use Rattle.blsm_model.specs.Format.{most_entries, most_rows_asked};
-ghost use Rattle.tree_core.specs.Steps.{is_held};
 
 use blsm_model::{CALLERS, Geometry, Op, Room};
 use disk_mem::MemDisk;
@@ -108,34 +107,32 @@ pub fn report(rt: &impl Abort, alloc: Global, disk: &mut MemDisk) -> Report {
 }
 
 /// A seat makes a step.
-pub fn make(core: &mut Core<MemDisk>, seat: u32, kind: Kind)
-    requires { is_held kind ≡ false }
-{
-    core.play(&[Step { seat, kind }]);
+pub fn make(alloc: Global, core: &mut Core<MemDisk>, seat: u32, kind: Kind) {
+    core.play(alloc, &[Step { seat, kind }]);
 }
 
 /// A seat admits a write that it doesn't pay for.
-pub fn admit(core: &mut Core<MemDisk>, seat: u32, op: Op) {
-    make(core, seat, Kind::Admit(op));
+pub fn admit(alloc: Global, core: &mut Core<MemDisk>, seat: u32, op: Op) {
+    make(alloc, core, seat, Kind::Admit(op));
 }
 
 /// A seat admits a write, and pays as often as its weight may ask for at most.
-pub fn write(core: &mut Core<MemDisk>, seat: u32, op: Op) {
+pub fn write(alloc: Global, core: &mut Core<MemDisk>, seat: u32, op: Op) {
     let most = if op.is_write() {
         core.geometry().bound(op.weight())
     } else {
         0
     };
-    admit(core, seat, op);
+    admit(alloc, core, seat, op);
     for _ in 0..most {
-        make(core, seat, Kind::Pay);
+        make(alloc, core, seat, Kind::Pay);
     }
 }
 
 /// Caller 0 does so many turns and ends its work.
-pub fn work(core: &mut Core<MemDisk>, turns: u32) {
+pub fn work(alloc: Global, core: &mut Core<MemDisk>, turns: u32) {
     for _ in 0..turns {
-        make(core, 0, Kind::WorkTurn);
+        make(alloc, core, 0, Kind::WorkTurn);
     }
-    make(core, 0, Kind::WorkEnd(turns));
+    make(alloc, core, 0, Kind::WorkEnd(turns));
 }

@@ -18,8 +18,9 @@ use Rattle.disk_trait.specs.Disk.{DiskState}
 use Rattle.disk_trait.specs.Moments.{IsTimed, leaves_only_start, once_synced_start}
 use Rattle.page_file.specs.Component.{entries_of}
 use Rattle.pacing.specs.Pace.{opened as pace_opened}
+use Rattle.tree_core.specs.Core.{CoreState}
+use Rattle.tree_core.specs.Holds.{StandsWhole}
 use Rattle.tree_core.specs.Parts.{AreSettled}
-use Rattle.tree_core.specs.Standing.{StandsFor}
 use Rattle.tree_file.specs.Tree.{Tree, HoldsTree, ReadsAsMap, map_of_tree}
 use Rattle.tree_log.specs.Log.{LogState, weight_of_tables}
 use Rattle.tree_machine.specs.Machine.{opened}
@@ -61,23 +62,24 @@ are_settled runs log annals room d sizes version few ready entries is =
     subst (λ (b : Book). AreSettled runs log b d) (sym is) (ready_settled runs log room d sizes version few ready entries)
 
 -- what the core of these parts tells of each tree
-abbrev pub AssemblesOver : RunsState → LogState → Book → Held → DiskState → DiskState → Type 0
-AssemblesOver runs log annals held d last = (tree : Tree) → IsTrue d.is_honest → StandOver runs tree log.a.entries d → tree.lane_a ≡ [] → tree.lane_b ≡ []
-    → StandsFor (map_of_tree tree) held
+abbrev pub AssemblesOver : {D : Type 0} → (D → DiskState) → RunsState → LogState → Book → CoreState D → DiskState → Type 0
+AssemblesOver state runs log annals core d = (tree : Tree) → IsTrue d.is_honest → StandOver runs tree log.a.entries d → tree.lane_a ≡ [] → tree.lane_b ≡ []
+    → StandsWhole state (map_of_tree tree) core
     (opened runs.sizes (entries_of tree.c1) (entries_of tree.c2) (catalogue_of runs.catalogue) d.faults annals.room)
-    (pace_opened runs.sizes runs.catalogue.c1.weight runs.catalogue.c2.weight) last
+    (pace_opened runs.sizes runs.catalogue.c1.weight runs.catalogue.c2.weight)
 
-pub opens_as : (room : Room) (runs : RunsState) (log : LogState) (annals : Book) (held : Held) (file : List ℕ) (d : DiskState) → IsTrue d.is_honest → HasOpenedOn runs log file d → annals ≡ no_entries room → held.runs ≡ runs
-    → charge_in held ≡ held.runs.catalogue.c1.weight + held.runs.catalogue.c2.weight → AssemblesOver runs log annals held d d → OpensAs room held file d
-opens_as room runs log annals held file d honest on is same charge assembles =
+pub opens_as : {D : Type 0} (state : D → DiskState) (room : Room) (runs : RunsState) (log : LogState) (annals : Book) (core : CoreState D) (file : List ℕ) (disk : D) → core.disk ≡ disk → IsTrue (state disk).is_honest
+    → HasOpenedOn runs log file (state disk) → annals ≡ no_entries room → core.held.runs ≡ runs
+    → charge_in core.held ≡ core.held.runs.catalogue.c1.weight + core.held.runs.catalogue.c2.weight → AssemblesOver state runs log annals core (state disk) → OpensAs state room core file
+opens_as {D} state room runs log annals core file disk of_disk honest on is same charge assembles =
     let s = on.stands in
     let pairs = map_of_tree on.image in
     let t = s.tree in
     let stands = assembles t honest s.over s.lane_a s.lane_b in
-    let stands' = subst (λ (b : Book). StandsFor (map_of_tree t) held (opened runs.sizes (entries_of t.c1) (entries_of t.c2) (catalogue_of runs.catalogue) d.faults b.room)
-    (pace_opened runs.sizes runs.catalogue.c1.weight runs.catalogue.c2.weight) d) is stands in
-    let stands'' = subst (λ (l : List (Key × Value)). StandsFor l held (opened runs.sizes (entries_of t.c1) (entries_of t.c2) (catalogue_of runs.catalogue) d.faults room)
-    (pace_opened runs.sizes runs.catalogue.c1.weight runs.catalogue.c2.weight) d) s.map_is stands' in
+    let stands' = subst (λ (b : Book). StandsWhole state (map_of_tree t) core (opened runs.sizes (entries_of t.c1) (entries_of t.c2) (catalogue_of runs.catalogue) (state disk).faults b.room)
+    (pace_opened runs.sizes runs.catalogue.c1.weight runs.catalogue.c2.weight)) is stands in
+    let stands'' = subst (λ (l : List (Key × Value)). StandsWhole state l core (opened runs.sizes (entries_of t.c1) (entries_of t.c2) (catalogue_of runs.catalogue) (state disk).faults room)
+    (pace_opened runs.sizes runs.catalogue.c1.weight runs.catalogue.c2.weight)) s.map_is stands' in
     record {
       pairs = pairs;
       reads = subst (λ (r : RunsState). ReadsAsMap r.sizes pairs file) (sym same) (record { tree = on.image; holds = on.holds; fits = on.fits; map_is = refl });
@@ -86,8 +88,10 @@ opens_as room runs log annals held file d honest on is same charge assembles =
       taken = on.taken;
       light = omega (arith, charge, s.light, ap (λ (r : RunsState). components_of r.catalogue) same);
       tree = t;
-      stands = subst (λ (r : RunsState). StandsFor pairs held (opened r.sizes (entries_of t.c1) (entries_of t.c2) (catalogue_of r.catalogue) d.faults room)
-          (pace_opened r.sizes r.catalogue.c1.weight r.catalogue.c2.weight) d) (sym same) stands'';
+      stands = subst (λ (r : RunsState). StandsWhole state pairs core (opened r.sizes (entries_of t.c1) (entries_of t.c2) (catalogue_of r.catalogue) (state core.disk).faults room)
+          (pace_opened r.sizes r.catalogue.c1.weight r.catalogue.c2.weight)) (sym same)
+          (subst (λ (d : D). StandsWhole state pairs core (opened runs.sizes (entries_of t.c1) (entries_of t.c2) (catalogue_of runs.catalogue) (state d).faults room)
+          (pace_opened runs.sizes runs.catalogue.c1.weight runs.catalogue.c2.weight)) (sym of_disk) stands'');
     }
 
 pub keeps_start : (d : DiskState) (sizes : Sizes) (pairs : List (Key × Value)) → IsTimed d → ReadsAsMap sizes pairs d.bytes → KeepsMapOf sizes pairs d d

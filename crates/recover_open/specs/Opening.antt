@@ -23,7 +23,7 @@ use Rattle.core_moves.specs.declared.held.Held.{Held}
 use Rattle.core_lists.specs.Shown.{lanes_weight}
 use Rattle.core_lists.specs.Standing.{catalogue_of}
 use Rattle.tree_core.specs.Core.{CoreState}
-use Rattle.tree_core.specs.Standing.{StandsFor}
+use Rattle.tree_core.specs.Holds.{StandsWhole}
 use Rattle.tree_reading.specs.Damage.{most_version}
 use Rattle.tree_reading.specs.declared.found.Unreadable.{Unreadable}
 use Rattle.recover_open.specs.declared.opening.NotOpened.{NotOpened}
@@ -112,15 +112,15 @@ abbrev pub no_entries : Room → Book
 no_entries room = record { entries = []; quanta = []; room = room }
 
 -- The file reads as a map, with a version that is taken, and the core stands for the machine's first state, whose history begins with that map.
-pub record OpensAs (room : Room) (held : Held) (file : List ℕ) (d : DiskState) : Type 0 where
+pub record OpensAs {D : Type 0} (state : D → DiskState) (room : Room) (core : CoreState D) (file : List ℕ) : Type 0 where
   pub pairs : List (Key × Value)
-  pub reads : ReadsAsMap held.runs.sizes pairs file
+  pub reads : ReadsAsMap core.held.runs.sizes pairs file
   pub image : Tree
-  pub holds : HoldsTree held.runs.sizes image file
+  pub holds : HoldsTree core.held.runs.sizes image file
   pub taken : image.catalogue.version ≤ most_version
   -- settling adds no weight to what was read
-  pub light : charge_in held ≤ weight_of_tree image
+  pub light : charge_in core.held ≤ weight_of_tree image
   pub tree : Tree
-  pub stands : StandsFor pairs held
-      (opened held.runs.sizes (entries_of tree.c1) (entries_of tree.c2) (catalogue_of held.runs.catalogue) d.faults room)
-      (pace_opened held.runs.sizes held.runs.catalogue.c1.weight held.runs.catalogue.c2.weight) d
+  pub stands : StandsWhole state pairs core
+      (opened core.held.runs.sizes (entries_of tree.c1) (entries_of tree.c2) (catalogue_of core.held.runs.catalogue) (state core.disk).faults room)
+      (pace_opened core.held.runs.sizes core.held.runs.catalogue.c1.weight core.held.runs.catalogue.c2.weight)

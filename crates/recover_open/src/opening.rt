@@ -1,8 +1,8 @@
 //! A store on a disk becomes a core.
-ghost use Rattle.std.specs.Prelude.{◌≡◌, ◌≤◌, ◌+◌, [], ℕ, Bool, List, length, sum, Some, Err, IsTrue, IfOk, IfErr, OnOk};
+ghost use Rattle.std.specs.Prelude.{◌≡◌, ◌≤◌, ◌+◌, [], ℕ, Bool, List, length, replicate, sum, None, Some, Err, IsTrue, IfOk, IfErr, OnOk};
 ghost use Rattle.disk_trait.specs.Disk.{TellsFaultsBy, Only};
 ghost use Rattle.disk_trait.specs.Moments.{LeavesOnly, LeavesOnlyOnceSynced};
-ghost use Rattle.blsm_model.specs.Format.{most_entries, most_rows_asked};
+ghost use Rattle.blsm_model.specs.Format.{callers, most_entries, most_rows_asked};
 ghost use Rattle.blsm_model.specs.Geometry.{file_length};
 ghost use Rattle.blsm_model.specs.Sizes.{Sizes};
 ghost use Rattle.blsm_model.specs.declared.key.Key.{Key};
@@ -18,6 +18,7 @@ use crate::beginning::{Begun, settle_found};
 use blsm_model::{Annals, Room};
 use disk_trait::Disk;
 use refusal::NoMemory;
+use scan_view::Holds;
 use std::alloc::Global;
 use tree_core::{Core, Parts};
 use tree_file::one_tree;
@@ -45,21 +46,24 @@ fn read_synced<D: Disk>(alloc: Global, disk: &mut D) -> Result<Found, Unreadable
     read_tree(alloc, disk)
 }
 
-// Memory for what reading doesn't fill: the merges, and the history.
+// Memory for what reading doesn't fill: the merges, the history, and the callers' holds.
 #[derive(Drop)]
 struct Memory {
     merges: MergeRoom,
     annals: Annals,
+    holds: Holds,
 }
 
 fn reserve(alloc: Global, room: Room) -> Result<Memory, NoMemory>
     requires entries { sum room.entries ≤ most_entries }
     requires rows { sum room.rows ≤ most_rows_asked }
-    ensures { IfOk result (λ memory. memory.annals ≡ record { entries = []; quanta = []; room = room }) }
+    ensures annals { IfOk result (λ memory. memory.annals ≡ record { entries = []; quanta = []; room = room }) }
+    ensures none { IfOk result (λ memory. memory.holds ≡ replicate callers None) }
 {
     Ok(Memory {
         merges: MergeRoom::reserve(alloc)?,
         annals: Annals::reserve(alloc, room)?,
+        holds: Holds::reserve(alloc)?,
     })
 }
 
@@ -106,7 +110,7 @@ pub fn open_store<D: Disk + Drop>(
     ensures charge { IfOk result (λ core. charge_in core.held ≡ core.held.runs.catalogue.c1.weight + core.held.runs.catalogue.c2.weight) }
 
     // On an honest disk: the disk read as a map, for which the core stands; or what it read as is why it isn't opened.
-    ensures stands { IsTrue (D.state disk).is_honest → IfOk result (λ core. OpensAs room core.held (D.state disk).bytes (D.state core.disk)) }
+    ensures stands { IsTrue (D.state disk).is_honest → IfOk result (λ core. OpensAs D.state room core (D.state disk).bytes) }
     ensures refused { IsTrue (D.state disk).is_honest → IfErr result (λ refused. IsWhy refused.why (D.state disk).bytes) }
 
     // Whatever is answered, each image of each moment is one from before or reads as the map, and since the first sync each reads so. Where the disk
@@ -125,7 +129,11 @@ pub fn open_store<D: Disk + Drop>(
             why: Unreadable::NoMemory,
         });
     };
-    let Memory { merges, annals } = memory;
+    let Memory {
+        merges,
+        annals,
+        holds,
+    } = memory;
     match open_tree(alloc, &mut disk, merges) {
         Ok(begun) => {
             let Begun { runs, log } = begun;
@@ -134,6 +142,7 @@ pub fn open_store<D: Disk + Drop>(
                 runs,
                 log,
                 annals,
+                holds,
             }))
         }
         Err(why) => Err(NotOpened { disk, why }),

@@ -22,6 +22,7 @@ use Rattle.core_moves.specs.declared.held.Held.{Held}
 use Rattle.core_lists.specs.Shown.{ShowsHistory, ShowsWhole}
 use Rattle.core_lists.proofs.ShowingLemmas.{prefix_self, showing_is_kept, standing_shows}
 use Rattle.tree_core.specs.Core.{CoreState}
+use Rattle.tree_core.specs.Holds.{StandsWhole}
 use Rattle.tree_core.specs.Standing.{HasStopped, StandsFor}
 use Rattle.tree_core.specs.Steps.{StandsSince}
 use Rattle.recover_open.specs.Opening.{KeepsMapOf}
@@ -148,16 +149,16 @@ module _ {D : Type 0} (state : D → DiskState) (timed : (d : D) → IsTimed (st
 
   -- the lines that are left, from a core that stands for a state of the machine
   shows_on : (lines : List Line) (old new : CoreState D) (m : Machine) (pace : Pace) → IsTrue (state old.disk).is_honest → old.held.runs.sizes ≡ sizes
-      → length old.held.book.book.quanta ≡ length old.held.book.book.entries → StandsFor opening old.held m pace (state old.disk) → StandsSince old.held old.held (state old.disk) (state old.disk)
+      → length old.held.book.book.quanta ≡ length old.held.book.book.entries → StandsWhole state opening old m pace → StandsSince state old old
       → AreDone state lines old new → ShowsOn sizes opening old.held new.held (state old.disk) (state new.disk)
-  shows_on [] old new m pace honest same places stands begins done =
+  shows_on [] old new m pace honest same places whole begins done =
       subst (λ (end : CoreState D). ShowsOn sizes opening old.held end.held (state old.disk) (state end.disk)) (sym done)
-      (shows_none sizes opening old.held (state old.disk) (timed old.disk) (shows_all sizes opening old.held m pace (state old.disk) same stands))
-  shows_on (line ∷ lines) old new m pace honest same places stands begins done =
+      (shows_none sizes opening old.held (state old.disk) (timed old.disk) (shows_all sizes opening old.held m pace (state old.disk) same whole.stands))
+  shows_on (line ∷ lines) old new m pace honest same places whole begins done =
       let mid = done.0 in
       let did = done.1 in
       let entry : Entry = record { seat = line.seat; op = line.op; reply = did.reply } in
-      let come = (did.proceeds.lasts old begins).come opening m pace honest stands in
+      let come = (did.proceeds.lasts old begins).come opening m pace honest whole in
       let noted : mid.held.book.book.entries ≡ old.held.book.book.entries ++ entry ∷ [] = ap (λ (b : Book). b.entries) did.annals in
       let counted : mid.held.book.book.quanta ≡ old.held.book.book.quanta ++ did.quanta ∷ [] =
       ap (λ (b : Book). b.quanta) did.annals ∙ end_counted old.held.book.book.quanta (length old.held.book.book.entries) did.quanta places in
@@ -167,7 +168,7 @@ module _ {D : Type 0} (state : D → DiskState) (timed : (d : D) → IsTimed (st
       ap (λ (ns : List ℕ). length ns) counted ∙ length-append old.held.book.book.quanta (did.quanta ∷ []) ∙ ap (λ (n : ℕ). n + 1) places
       ∙ sym (length-append old.held.book.book.entries (entry ∷ [])) ∙ sym (ap (λ (es : List Entry). length es) noted) in
       shows_then sizes opening old.held mid.held new.held (state old.disk) (state mid.disk) (state new.disk) (timed new.disk) entry did.quanta noted counted few
-      (leaves_one old mid m pace same stands _ _ come.1.stands come.1.images)
+      (leaves_one old mid m pace same whole.stands _ _ come.1.stands.stands come.1.images)
       (shows_on lines mid new _ _ (subst IsTrue (sym did.proceeds.effect.goes_on.is_honest) honest) (did.proceeds.sizes ∙ same) places_then come.1.stands did.begins done.2)
 
 -- ---- the whole
@@ -181,10 +182,10 @@ shows_opening sizes opening history n file c shows reads here =
 -- A script was run over a store that was opened on a disk: what a crash leaves of it at each moment since the first.
 pub leaves_history : {D : Type 0} (state : D → DiskState) (timed : (d : D) → IsTimed (state d)) (sizes : Sizes) (opening : List (Key × Value)) (lines : List Line) (first : DiskState) (old new : CoreState D)
     (m : Machine) (pace : Pace) → IsTrue first.is_honest → IsTimed first → old.held.runs.sizes ≡ sizes → old.held.book.book.entries ≡ [] → old.held.book.book.quanta ≡ []
-    → StandsFor opening old.held m pace (state old.disk) → KeepsMapOf sizes opening first (state old.disk) → GoesOn first (state old.disk)
-    → StandsSince old.held old.held (state old.disk) (state old.disk) → Runs state lines old new
+    → StandsWhole state opening old m pace → KeepsMapOf sizes opening first (state old.disk) → GoesOn first (state old.disk)
+    → StandsSince state old old → Runs state lines old new
     → (run : Run) → run.entries ≡ new.held.book.book.entries → run.quanta ≡ new.held.book.book.quanta → LeavesHistory sizes opening run first (state old.disk) (state new.disk)
-leaves_history {D} state timed sizes opening lines first old new m pace honest timed_first same none uncounted stands keeps goes begins runs run entries quanta = record {
+leaves_history {D} state timed sizes opening lines first old new m pace honest timed_first same none uncounted whole keeps goes begins runs run entries quanta = record {
   begins = keeps;
   each =
       leaves_only_run
@@ -209,7 +210,7 @@ leaves_history {D} state timed sizes opening lines first old new m pace honest t
     places = ap (λ (ns : List ℕ). length ns) uncounted ∙ sym (ap (λ (es : List Entry). length es) none)
 
     on : ShowsOn sizes opening old.held new.held (state old.disk) (state new.disk)
-    on = shows_on state timed sizes opening lines old new m pace (subst IsTrue (sym goes.is_honest) honest) same places stands begins runs.done
+    on = shows_on state timed sizes opening lines old new m pace (subst IsTrue (sym goes.is_honest) honest) same places whole begins runs.done
 
     all : run.entries ≡ on.added
     all = entries ∙ on.entries ∙ ap (λ (es : List Entry). es ++ on.added) none
@@ -229,7 +230,7 @@ leaves_history {D} state timed sizes opening lines first old new m pace honest t
     -- a file that reads as the map of the opening
     from_opening : (c : List ℕ) → ReadsAsMap sizes opening c → ShowsHistory sizes opening run.entries 0 c
     from_opening c reads =
-        let shows = shows_all sizes opening old.held m pace (state old.disk) same stands in
+        let shows = shows_all sizes opening old.held m pace (state old.disk) same whole.stands in
         let grows : IsPrefix old.held.book.book.entries run.entries = (run.entries, ap (λ (es : List Entry). es ++ run.entries) none) in
         shows_opening sizes opening run.entries 0 (state old.disk).bytes c
         (showing_is_kept sizes opening old.held.book.book.entries run.entries (length old.held.book.book.entries) 0 (state old.disk).bytes grows (omega arith) shows.reads) keeps.reads reads

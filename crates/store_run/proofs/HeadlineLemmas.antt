@@ -30,6 +30,7 @@ use Rattle.recover_open.specs.Opening.{KeepsMapOf, OpensAs}
 use Rattle.record_delta.specs.Entries.{Entries, entries_weight}
 use Rattle.seat_book.specs.State.{BookState, book_of, totals_in}
 use Rattle.tree_core.specs.Core.{CoreState, IsCore}
+use Rattle.tree_core.specs.Holds.{StandsWhole}
 use Rattle.tree_core.specs.Standing.{StandsFor}
 use Rattle.tree_core.specs.Steps.{IsPlayed, StandsSince}
 use Rattle.tree_file.specs.Tree.{Tree, HoldsTree, components_weight, lists_of}
@@ -131,28 +132,28 @@ opened_charge sizes c1 c2 catalogue faults room held is =
     let weigh : entries_weight c1 + entries_weight c2 ≡ charge (opened sizes c1 c2 catalogue faults room) = omega arith in
     weigh ∙ is
 
-ends_of : StepKeepsOpening → NoneDamaged → (opening : List (Key × Value)) (sizes : Sizes) (c1 c2 : Entries) (catalogue : Catalogue) (faults : ℕ) (room : Room) (pace : Pace) (steps : List Step) (held : Held) (before after : DiskState)
-    → (play : IsPlayed opening steps held before after (opened sizes c1 c2 catalogue faults room) pace)
-    → Ends opening held (opened sizes c1 c2 catalogue faults room) (played (opened sizes c1 c2 catalogue faults room) play.made) (paced_all (opened sizes c1 c2 catalogue faults room) pace play.made) after
-ends_of keeps damaged opening sizes c1 c2 catalogue faults room pace steps held before after play = record {
-  stands = play.stands;
+ends_of : StepKeepsOpening → NoneDamaged → {D : Type 0} (state : D → DiskState) (opening : List (Key × Value)) (sizes : Sizes) (c1 c2 : Entries) (catalogue : Catalogue) (faults : ℕ) (room : Room) (pace : Pace) (steps : List Step) (old new : CoreState D)
+    → (play : IsPlayed state opening steps old new (opened sizes c1 c2 catalogue faults room) pace)
+    → Ends opening new.held (opened sizes c1 c2 catalogue faults room) (played (opened sizes c1 c2 catalogue faults room) play.made) (paced_all (opened sizes c1 c2 catalogue faults room) pace play.made) (state new.disk)
+ends_of keeps damaged state opening sizes c1 c2 catalogue faults room pace steps old new play = record {
+  stands = play.stands.stands;
   kept = played_keeps keeps (opened sizes c1 c2 catalogue faults room) play.made;
   none = damaged (opened sizes c1 c2 catalogue faults room) play.made (opened_finds_none sizes c1 c2 catalogue faults room) play.whole;
 }
 
 -- What the opening says, and what the run keeps.
 pub record Session {D : Type 0} (state : D → DiskState) (room : Room) (lines : List Line) (first : DiskState) (old new : CoreState D) : Type 0 where
-  pub opens : OpensAs room old.held first.bytes (state old.disk)
+  pub opens : OpensAs state room old first.bytes
   pub goes_on : GoesOn first (state old.disk)
   pub calm : (state old.disk).faults ≡ first.faults
-  pub begins : StandsSince old.held old.held (state old.disk) (state old.disk)
+  pub begins : StandsSince state old old
   pub runs : Runs state lines old new
 
-reached_of : (sizes : Sizes) (opening : List (Key × Value)) (c1 c2 : Entries) (catalogue : Catalogue) (faults : ℕ) (room : Room) (pace : Pace) (steps : List Step) (old new : Held) (before after : DiskState)
-    → old.runs.sizes ≡ sizes → old.book.stopped ≡ None → StandsFor opening old (opened sizes c1 c2 catalogue faults room) pace before → faults ≡ before.faults
-    → (play : IsPlayed opening steps new before after (opened sizes c1 c2 catalogue faults room) pace)
-    → IsReached sizes opening (run_at (charge_in old) new) room before.bytes faults after.faults
-reached_of sizes opening c1 c2 catalogue faults room pace steps old new before after of_sizes ran stands same play =
+reached_of : {D : Type 0} (state : D → DiskState) (sizes : Sizes) (opening : List (Key × Value)) (c1 c2 : Entries) (catalogue : Catalogue) (faults : ℕ) (room : Room) (pace : Pace) (steps : List Step) (old new : CoreState D)
+    → old.held.runs.sizes ≡ sizes → old.held.book.stopped ≡ None → StandsFor opening old.held (opened sizes c1 c2 catalogue faults room) pace (state old.disk) → faults ≡ (state old.disk).faults
+    → (play : IsPlayed state opening steps old new (opened sizes c1 c2 catalogue faults room) pace)
+    → IsReached sizes opening (run_at (charge_in old.held) new.held) room (state old.disk).bytes faults (state new.disk).faults
+reached_of state sizes opening c1 c2 catalogue faults room pace steps old new of_sizes ran stands same play =
     let first = opened sizes c1 c2 catalogue faults room in
     let over = stands.runs ran in
     record {
@@ -160,17 +161,17 @@ reached_of sizes opening c1 c2 catalogue faults room pace steps old new before a
       c2 = c2;
       catalogue = catalogue;
       tree = over.tree;
-      holds = subst (λ (s : Sizes). HoldsTree s over.tree before.bytes) of_sizes over.over.stands.reads;
+      holds = subst (λ (s : Sizes). HoldsTree s over.tree (state old.disk).bytes) of_sizes over.over.stands.reads;
       begins = over.holds.lists;
       values = λ key. stands.paced.stands.values key ∙ ap (λ (ws : List Write). value_at ws key) (append-nil (puts_of opening));
-      weigh = opened_charge sizes c1 c2 catalogue faults room old stands.charge_is;
+      weigh = opened_charge sizes c1 c2 catalogue faults room old.held stands.charge_is;
       made = play.made;
-      told = subst (λ (n : ℕ). AreTold first n play.made after.faults) (sym same) play.told;
+      told = subst (λ (n : ℕ). AreTold first n play.made (state new.disk).faults) (sym same) play.told;
       end = played first play.made;
       leads = refl;
-      entries = ap (λ (b : BookState). b.book.entries) play.stands.book;
-      quanta = ap (λ (b : BookState). b.book.quanta) play.stands.book;
-      totals_are = totals_of new (played first play.made) play.stands.sizes play.stands.charge_is play.stands.book;
+      entries = ap (λ (b : BookState). b.book.entries) play.stands.stands.book;
+      quanta = ap (λ (b : BookState). b.book.quanta) play.stands.stands.book;
+      totals_are = totals_of new.held (played first play.made) play.stands.stands.sizes play.stands.stands.charge_is play.stands.stands.book;
     }
 
 -- what stands in the end, if the store runs
@@ -182,11 +183,11 @@ stands_of opening held first m pace d sizes same ends runs =
 
 headline_from : StepKeepsOpening → NoneDamaged → {D : Type 0} (state : D → DiskState) (room : Room) (lines : List Line) (first : DiskState) (old new : CoreState D)
     (c1 c2 : Entries) (catalogue : Catalogue) (pace : Pace) → IsTrue first.is_honest → (session : Session state room lines first old new) → old.held.book.stopped ≡ None
-    → StandsFor session.opens.pairs old.held (opened old.held.runs.sizes c1 c2 catalogue (state old.disk).faults room) pace (state old.disk)
+    → StandsWhole state session.opens.pairs old (opened old.held.runs.sizes c1 c2 catalogue (state old.disk).faults room) pace
     → LeavesHistory old.held.runs.sizes session.opens.pairs (run_at (charge_in old.held) new.held) first (state old.disk) (state new.disk)
     → Headline state old.held.runs.sizes (run_at (charge_in old.held) new.held) room first (state new.disk)
 unfolding reached_of
-headline_from keeps damaged {D} state room lines first old new c1 c2 catalogue pace honest session ran stands leaves =
+headline_from keeps damaged {D} state room lines first old new c1 c2 catalogue pace honest session ran whole leaves =
     let opens = session.opens in
     let sizes = old.held.runs.sizes in
     let before = state old.disk in
@@ -194,9 +195,9 @@ headline_from keeps damaged {D} state room lines first old new c1 c2 catalogue p
     let machine = opened sizes c1 c2 catalogue before.faults room in
     let since = session.runs.proceeds.lasts old session.begins in
     let honest_then = subst IsTrue (sym session.goes_on.is_honest) honest in
-    let come = since.come opens.pairs machine pace honest_then stands in
-    let ends = ends_of keeps damaged opens.pairs sizes c1 c2 catalogue before.faults room pace come.0 new.held before after come.1 in
-    let weigh = opened_charge sizes c1 c2 catalogue before.faults room old.held stands.charge_is in
+    let come = since.come opens.pairs machine pace honest_then whole in
+    let ends = ends_of keeps damaged state opens.pairs sizes c1 c2 catalogue before.faults room pace come.0 old new come.1 in
+    let weigh = opened_charge sizes c1 c2 catalogue before.faults room old.held whole.stands.charge_is in
     record {
       opening = opens.pairs;
       found = record { reads = opens.reads; image = opens.image; holds = opens.holds; taken = opens.taken };
@@ -206,7 +207,7 @@ headline_from keeps damaged {D} state room lines first old new c1 c2 catalogue p
       opened = old.disk;
       goes_on = since.goes_on;
       calm = session.calm;
-      reached = reached_of sizes opens.pairs c1 c2 catalogue before.faults room pace come.0 old.held new.held before after refl ran stands refl come.1;
+      reached = reached_of state sizes opens.pairs c1 c2 catalogue before.faults room pace come.0 old new refl ran whole.stands refl come.1;
       ended = ended_of opens.pairs new.held machine _ _ after sizes (charge_in old.held) session.runs.proceeds.sizes weigh ends;
       stands = λ runs. stands_of opens.pairs new.held machine _ _ after sizes session.runs.proceeds.sizes ends runs;
       crashes = leaves;

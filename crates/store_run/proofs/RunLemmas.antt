@@ -65,7 +65,7 @@ geometry_of : (held : Held) (d : DiskState) → IsCore held d → IsGeometry hel
 geometry_of held d core = subst IsGeometry core.holds.told.sizes core.holds.told.told.paced.within.sizes
 
 pub is_run_of : {D : Type 0} (state : D → DiskState) (lines : List Line) (annals : Book) (faults charge : ℕ) (old new : CoreState D) → IsOpened annals faults old.held → IsCore new.held (state new.disk)
-    → StandsSince old.held old.held (state old.disk) (state old.disk) → Runs state lines old new → IsRunOf old.held.runs.sizes lines (run_at charge new.held)
+    → StandsSince state old old → Runs state lines old new → IsRunOf old.held.runs.sizes lines (run_at charge new.held)
 is_run_of state lines annals faults charge old new opened core begins runs =
     let entries : new.held.book.book.entries ≡ runs.added = runs.entries ∙ ap (λ (es : List Entry). es ++ runs.added) (no_entries_yet annals faults old.held opened) in
     let quanta : new.held.book.book.quanta ≡ runs.counts = runs.quanta ∙ ap (λ (ns : List ℕ). ns ++ runs.counts) (no_quanta_yet annals faults old.held opened) in
@@ -84,6 +84,6 @@ is_run_of state lines annals faults charge old new opened core begins runs =
 
 -- so of what is printed
 pub printed_of : {D : Type 0} (state : D → DiskState) (lines : List Line) (annals : Book) (faults : ℕ) (old new : CoreState D) → IsOpened annals faults old.held → IsCore new.held (state new.disk)
-    → StandsSince old.held old.held (state old.disk) (state old.disk) → Runs state lines old new → (run : Run) → run ≡ run_at (charge_in old.held) new.held → (sizes : Sizes) × IsRunOf sizes lines run
+    → StandsSince state old old → Runs state lines old new → (run : Run) → run ≡ run_at (charge_in old.held) new.held → (sizes : Sizes) × IsRunOf sizes lines run
 printed_of state lines annals faults old new opened core begins runs run is =
     (old.held.runs.sizes, subst (λ (r : Run). IsRunOf old.held.runs.sizes lines r) (sym is) (is_run_of state lines annals faults (charge_in old.held) old new opened core begins runs))

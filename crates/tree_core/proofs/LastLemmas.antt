@@ -7,6 +7,8 @@ use Rattle.blsm_model.specs.Geometry.{high_mark}
 use Rattle.blsm_model.specs.Format.{callers}
 use Rattle.std.proofs.lemmas.Bool.{le-leb, lt-ltb}
 use Rattle.disk_trait.specs.Disk.{DiskState, GoesOn}
+use Rattle.disk_trait.specs.Effects.{Affects, affects_start}
+use Rattle.scan_view.specs.Pins.{beside_pins}
 use Rattle.disk_trait.specs.Moments.{IsTimed, goes_on_start, goes_on_run}
 use Rattle.pacing.specs.Pace.{Pace}
 use Rattle.blsm_model.specs.Legal.{is_write}
@@ -23,47 +25,51 @@ use Rattle.tree_machine.specs.Plays.{may}
 use Rattle.tree_machine.specs.Steps.{Answer}
 use Rattle.core_moves.specs.declared.held.Held.{Held}
 use Rattle.core_moves.specs.Moves.{with_book}
-use Rattle.tree_core.specs.Core.{IsTold, HoldsPace}
+use Rattle.tree_core.specs.Core.{CoreState, IsTold, HoldsPace}
+use Rattle.tree_core.specs.Holds.{KeepsHolds, StandsWhole}
 use Rattle.tree_core.specs.Standing.{StandsFor}
-use Rattle.tree_core.specs.Steps.{MovesPace, IsStep, IsPlayed, StandsSince, is_even_in, is_held, may_in}
-use Rattle.tree_core.proofs.PlayLemmas.{none_is_played, both_are_played, played_by}
-use Rattle.tree_core.proofs.SizeLemmas.{made_sizes}
+use Rattle.tree_core.specs.Steps.{MovesPace, IsStep, IsPlayed, StandsSince, is_even_in, may_in}
+use Rattle.tree_core.proofs.KeepLemmas.{is_held}
+use Rattle.tree_core.proofs.PlayLemmas.{none_is_played, both_are_played, quiet_is_played}
 
 -- at the start
-pub since_now : (held : Held) (pace : Pace) (d : DiskState) → IsTimed d → IsTold held pace → StandsSince held held d d
-since_now held pace d timed t = record {
+pub since_now : {D : Type 0} (state : D → DiskState) (core : CoreState D) (pace : Pace) → IsTimed (state core.disk) → IsTold core.held pace → StandsSince state core core
+since_now state core pace timed t = record {
   sizes = refl;
   peak = omega (arith, t.peak, t.told.paced.within.peak, ap high_mark t.sizes);
-  goes_on = goes_on_start d;
-  come = λ opening m pace honest stands. ([], none_is_played opening held d m pace timed stands);
+  goes_on = goes_on_start (state core.disk);
+  come = λ opening m pace honest whole. ([], none_is_played state opening core m pace timed whole);
 }
 
 -- some steps more
-pub since_played : (start old new : Held) (first between last : DiskState) → StandsSince start old first between → new.runs.sizes ≡ old.runs.sizes → new.book.counts.peak ≤ high_mark new.runs.sizes → GoesOn between last
-    → ((opening : List (Key × Value)) (m : Machine) (pace : Pace) → IsTrue between.is_honest → StandsFor opening old m pace between → (steps : List Step) × IsPlayed opening steps new between last m pace)
-    → StandsSince start new first last
-since_played start old new first between last since sizes peak goes played = record {
+pub since_played : {D : Type 0} (state : D → DiskState) (start old new : CoreState D) → StandsSince state start old → new.held.runs.sizes ≡ old.held.runs.sizes → new.held.book.counts.peak ≤ high_mark new.held.runs.sizes
+    → GoesOn (state old.disk) (state new.disk)
+    → ((opening : List (Key × Value)) (m : Machine) (pace : Pace) → IsTrue (state old.disk).is_honest → StandsWhole state opening old m pace → (steps : List Step) × IsPlayed state opening steps old new m pace)
+    → StandsSince state start new
+since_played state start old new since sizes peak goes played = record {
   sizes = sizes ∙ since.sizes;
   peak = omega (arith, peak, ap high_mark (sizes ∙ since.sizes));
   goes_on = goes_on_run since.goes_on goes;
-  come = λ opening m pace honest stands.
-      let one = since.come opening m pace honest stands in
+  come = λ opening m pace honest whole.
+      let one = since.come opening m pace honest whole in
       let two = played opening _ _ (subst IsTrue (sym since.goes_on.is_honest) honest) one.1.stands in
-      (one.0 ++ two.0, both_are_played opening one.0 two.0 old new first between last m pace one.1 two.1);
+      (one.0 ++ two.0, both_are_played state opening one.0 two.0 start old new m pace one.1 two.1);
 }
 
--- One call: it moves the pace, and is one step of the machine.
-pub lasts_by : (seat : ℕ) (k : Kind) (answer : Answer) (start old new : Held) (first between last : DiskState) (pace : Pace) → HoldsPace old pace between → MovesPace seat k answer new last pace → GoesOn between last
-    → is_held k ≡ false → may_in old seat k ≡ true
-    → ((opening : List (Key × Value)) (m : Machine) (pace : Pace) → IsTrue between.is_honest → StandsFor opening old m pace between → may m seat k ≡ true → IsStep opening seat k answer new between last m pace)
-    → StandsSince start old first between → StandsSince start new first last
-lasts_by seat k answer start old new first between last pace holds moves goes none can steps since =
+-- One call that has nothing to do with holds: it moves the pace, is one step of the machine, and writes beside the pages that are pinned.
+pub lasts_by : {D : Type 0} {end most : ℕ} (state : D → DiskState) (seat : ℕ) (k : Kind) (answer : Answer) (start old new : CoreState D) (pace : Pace) → HoldsPace old.held pace (state old.disk)
+    → MovesPace seat k answer new.held (state new.disk) pace → is_held k ≡ false → may_in old.held seat k ≡ true → KeepsHolds old new
+    → Affects (beside_pins old.held.runs.sizes old.held.runs.space.pins) end most (state old.disk) (state new.disk)
+    → ((opening : List (Key × Value)) (m : Machine) (pace : Pace) → IsTrue (state old.disk).is_honest → StandsFor opening old.held m pace (state old.disk) → may m seat k ≡ true
+    → IsStep opening seat k answer new.held (state old.disk) (state new.disk) m pace)
+    → StandsSince state start old → StandsSince state start new
+lasts_by state seat k answer start old new pace holds moves none can keeps effect steps since =
     let told = moves.holds.told in
-    let sizes : new.runs.sizes ≡ old.runs.sizes = sym told.sizes ∙ made_sizes seat k answer pace moves.next moves.made ∙ holds.told.sizes in
-    since_played start old new first between last since sizes (omega (arith, told.peak, told.told.paced.within.peak, ap high_mark told.sizes)) goes
-    (λ opening m q honest stands.
+    since_played state start old new since keeps.sizes
+    (omega (arith, told.peak, told.told.paced.within.peak, ap high_mark told.sizes)) effect.goes_on
+    (λ opening m q honest whole.
     let step : Step = record { seat = seat; kind = k } in
-    (step ∷ [], played_by opening step k answer old new between last m q refl none can goes stands (λ may. steps opening m q honest stands may)))
+    (step ∷ [], quiet_is_played state opening step k answer old new m q refl none can keeps effect honest whole (steps opening m q honest whole.stands)))
 
 -- a caller may leave
 pub may_leave : (seat : ℕ) → seat < callers → is_caller seat ≡ true
@@ -89,16 +95,19 @@ pub may_work : (seat : ℕ) (held : Held) → may_turn_in seat held.book ≡ tru
 may_work seat held turns nothing = both (may_turn_in seat held.book) (is_even_in seat held) turns (even_in seat held nothing)
 
 -- A call that changes the book alone, but no peak, and calls no disk.
-pub book_lasts : (seat : ℕ) (k : Kind) (answer : Answer) (start old : Held) (b : BookState) (first d : DiskState) (pace : Pace) → HoldsPace old pace d → b.counts.peak ≡ old.book.counts.peak → is_held k ≡ false
-    → may_in old seat k ≡ true
-    → ((opening : List (Key × Value)) (m : Machine) (pace : Pace) → IsTrue d.is_honest → StandsFor opening old m pace d → may m seat k ≡ true → IsStep opening seat k answer (with_book b old) d d m pace)
-    → StandsSince start old first d → StandsSince start (with_book b old) first d
-book_lasts seat k answer start old b first d pace holds peak none can steps since =
+pub book_lasts : {D : Type 0} (state : D → DiskState) (seat : ℕ) (k : Kind) (answer : Answer) (start old : CoreState D) (b : BookState) (pace : Pace) → IsTimed (state old.disk) → HoldsPace old.held pace (state old.disk)
+    → b.counts.peak ≡ old.held.book.counts.peak → is_held k ≡ false → may_in old.held seat k ≡ true
+    → ((opening : List (Key × Value)) (m : Machine) (pace : Pace) → IsTrue (state old.disk).is_honest → StandsFor opening old.held m pace (state old.disk) → may m seat k ≡ true
+    → IsStep opening seat k answer (with_book b old.held) (state old.disk) (state old.disk) m pace)
+    → StandsSince state start old → StandsSince state start (record old { held = with_book b old.held })
+book_lasts state seat k answer start old b pace timed holds peak none can steps since =
+    let d = state old.disk in
+    let new = record old { held = with_book b old.held } in
     let told = holds.told in
-    since_played start old (with_book b old) first d d since refl (omega (arith, peak, told.peak, told.told.paced.within.peak, ap high_mark told.sizes)) (goes_on_start d)
-    (λ opening m q honest stands.
+    since_played state start old new since refl (omega (arith, peak, told.peak, told.told.paced.within.peak, ap high_mark told.sizes)) (goes_on_start d)
+    (λ opening m q honest whole.
     let step : Step = record { seat = seat; kind = k } in
-    (step ∷ [], played_by opening step k answer old (with_book b old) d d m q refl none can (goes_on_start d) stands (λ may. steps opening m q honest stands may)))
+    (step ∷ [], quiet_is_played {end = 0} {most = 0} state opening step k answer old new m q refl none can (record { holds = refl; pins = refl; sizes = refl }) (affects_start d timed) honest whole (steps opening m q honest whole.stands)))
 
 -- a worker's turn may be made
 pub may_help : (seat : ℕ) → callers ≤ seat → seat < seats → is_worker seat ≡ true

@@ -5,6 +5,7 @@ mod BookSteps
 mod LookupSteps
 mod OpeningSteps
 mod SettlingLemmas
+mod KeepLemmas
 mod TakingLemmas
 mod TakingLists
 mod AdmissionLemmas
@@ -22,3 +23,6 @@ pub mod TurnLemmas
 pub mod TurnSteps
 mod BegunLemmas
 mod NotingLemmas
+mod HoldSteps
+mod HoldStepsByCall
+mod HoldStepsLast

@@ -1,7 +1,7 @@
 -- What a call leaves of the annals, of the callers' open works, and of its own seat's debts.
 use Rattle.std.specs.Prelude.{IfOk, IsErr, length, slice_index, slice_index_or, slice_set, nat_lt, ◌==◌}
 use Rattle.std.specs.declared.result.Result.{Result}
-use Rattle.std.proofs.Common.{◌≡◌, ◌≢◌, ◌∙◌, ⊎_elim, ℕ, ◌+◌, ◌-◌, ◌≤◌, ◌<◌, Bool, true, false, cond, List, Some, None, Ok, Err, replicate, refl, ap, sym, subst, arith}
+use Rattle.std.proofs.Common.{◌≡◌, ◌∙◌, ℕ, ◌+◌, ◌-◌, ◌≤◌, ◌<◌, Bool, true, false, cond, List, Some, Ok, Err, replicate, refl, ap, sym, subst, arith}
 use Rattle.std.proofs.lemmas.Bool.{eqb-true, ltb-true, ltb-false}
 use Rattle.std.proofs.lemmas.List.{get_or-set_same, get_or-set_other, set_past}
 use Rattle.blsm_model.specs.Book.{Book, noted, counted_up}
@@ -11,7 +11,7 @@ use Rattle.blsm_model.specs.declared.history.Entry.{Entry}
 use Rattle.blsm_model.specs.declared.history.Reply.{Reply}
 use Rattle.blsm_model.specs.declared.history.Why.{Why}
 use Rattle.disk_trait.specs.Disk.{DiskState}
-use Rattle.gear_sched.specs.Gears.{GearState, first_debt, second_debt, deep_ended, pass_ended, passing, plan_for, rotated, took_first, took_second}
+use Rattle.gear_sched.specs.Gears.{GearState, first_debt, second_debt, pass_ended, plan_for, rotated}
 use Rattle.gear_sched.specs.declared.Plan.{Plan}
 use Rattle.gear_sched.specs.declared.Plan.TheVariants.{Snow, Deep, Nothing}
 use Rattle.page_file.specs.declared.file.Broken.{Broken}
@@ -30,10 +30,9 @@ use Rattle.core_pace.specs.Calls.{KeepsBook}
 use Rattle.core_pace.specs.Turns.{TurnsBy, end_of_move, move_in}
 use Rattle.tree_core.specs.Notes.{NotesOne, NotesNone, CountsPayment, CountsTurn, OwesNothing, quanta_of_turn}
 use Rattle.tree_core.specs.Quanta.{ended_by, quanta_by, stopped_by}
-use Rattle.tree_core.specs.declared.answers.Payment.{Payment}
 use Rattle.tree_core.specs.declared.answers.Payment.TheVariants as payment
 use Rattle.tree_core.proofs.PaymentLemmas.{Took, FailedToTake, book_taken, book_stopped}
-use Rattle.tree_core.proofs.TurnLemmas.{Turns, Ends, KeepsOpen, moved_open}
+use Rattle.tree_core.proofs.TurnLemmas.{Ends, moved_open}
 
 -- ---- an entry
 

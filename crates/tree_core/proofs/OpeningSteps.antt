@@ -1,9 +1,10 @@
 -- The core of a store that was opened and settled.
-use Rattle.std.specs.Prelude.{◌≡◌, ◌+◌, [], None, Option, is_some}
+use Rattle.std.specs.Prelude.{◌≡◌, ◌+◌, List, [], None, Option, is_some, replicate}
 use Rattle.std.proofs.Common.{◌∙◌, refl, ap, sym, subst}
 use Rattle.std.proofs.lemmas.Bool.{false≢true}
 use Rattle.blsm_model.specs.Book.{Book}
 use Rattle.blsm_model.specs.Components.{empty_component}
+use Rattle.blsm_model.specs.Format.{callers}
 use Rattle.blsm_model.specs.declared.component.Component.{Component}
 use Rattle.deep_merge.specs.Merge.{DeepState}
 use Rattle.disk_trait.specs.Disk.{DiskState}
@@ -13,6 +14,7 @@ use Rattle.page_file.specs.Component.{entries_of}
 use Rattle.pacing.specs.Pace.{Pace, opened as pace_opened}
 use Rattle.pacing.specs.Fronts.{no_fronts}
 use Rattle.record_delta.specs.Entries.{AreSorted}
+use Rattle.scan_view.specs.Hold.{HoldState}
 use Rattle.seat_book.specs.State.{BookState, opened_in}
 use Rattle.tree_file.specs.Tree.{Tree, map_of_tree}
 use Rattle.tree_log.specs.Log.{LogState}
@@ -25,17 +27,24 @@ use Rattle.core_pace.specs.Opening.{IsOpened}
 use Rattle.core_pace.proofs.OpeningLemmas.{opening_is_paced}
 use Rattle.core_lists.specs.Standing.{catalogue_of}
 use Rattle.core_lists.proofs.OpeningLemmas.{opening_stands}
-use Rattle.tree_core.specs.Core.{IsCore}
+use Rattle.tree_core.specs.Core.{CoreState, IsCore}
+use Rattle.tree_core.specs.Holds.{StandsWhole}
 use Rattle.tree_core.specs.Parts.{AreSettled}
-use Rattle.tree_core.specs.Standing.{StandsFor}
 use Rattle.tree_core.specs.Steps.{StandsSince}
+use Rattle.tree_core.proofs.KeepLemmas.{none_held}
 use Rattle.tree_core.proofs.ToldLemmas.{told_of_paced}
 use Rattle.tree_core.proofs.LastLemmas.{since_now}
 
-module _ (runs : RunsState) (log : LogState) (annals : Book) (gears : GearState) (book : BookState) (d : DiskState) (settled : AreSettled runs log annals d) (at : gears ≡ at_rest runs.sizes)
-    (fresh : book ≡ opened_in annals (runs.catalogue.c1.weight + runs.catalogue.c2.weight) d.faults) where
+module _ {D : Type 0} (state : D → DiskState) (disk : D) (runs : RunsState) (log : LogState) (annals : Book) (holds : List (Option HoldState)) (gears : GearState) (book : BookState) (none : holds ≡ replicate callers None) (settled : AreSettled runs log annals (state disk)) (at : gears ≡ at_rest runs.sizes)
+    (fresh : book ≡ opened_in annals (runs.catalogue.c1.weight + runs.catalogue.c2.weight) (state disk).faults) where
+  abbrev d : DiskState
+  d = state disk
+
   abbrev held : Held
   held = record { runs = runs; log = log; gears = gears; spring = 0; book = book }
+
+  abbrev core : CoreState D
+  core = record { disk = disk; held = held; holds = holds }
 
   abbrev pace : Pace
   pace = pace_opened runs.sizes runs.catalogue.c1.weight runs.catalogue.c2.weight
@@ -80,24 +89,28 @@ module _ (runs : RunsState) (log : LogState) (annals : Book) (gears : GearState)
     holds = record { told = told_of_paced held pace paced; live = λ runs. record { paced = paced; on = record { running = settled.running; long = settled.long } } };
   }
 
-  pub opened_begins : IsTimed d → StandsSince held held d d
-  opened_begins timed = since_now held pace d timed (told_of_paced held pace paced)
+  pub opened_begins : IsTimed d → StandsSince state core core
+  opened_begins timed = since_now state core pace timed (told_of_paced held pace paced)
 
   not_stopped : book.stopped ≡ None
   not_stopped = ap (λ (b : BookState). b.stopped) fresh
 
   pub opened_stands : (tree : Tree) → StandOver runs tree log.a.entries d → tree.lane_a ≡ [] → tree.lane_b ≡ []
-      → StandsFor (map_of_tree tree) held (opened runs.sizes (entries_of tree.c1) (entries_of tree.c2) (catalogue_of runs.catalogue) d.faults annals.room) pace d
+      → StandsWhole state (map_of_tree tree) core (opened runs.sizes (entries_of tree.c1) (entries_of tree.c2) (catalogue_of runs.catalogue) d.faults annals.room) pace
   opened_stands tree over a b =
+      let m = opened runs.sizes (entries_of tree.c1) (entries_of tree.c2) (catalogue_of runs.catalogue) d.faults annals.room in
       let stands = opening_stands annals d.faults held pace tree d.bytes is_opened settled.lane_roles paced.numbers over.are_of a b settled.components in
-      let agrees = Rattle.core_lists.proofs.TestLemmas.tests_agree_with_lists held tree (opened runs.sizes (entries_of tree.c1) (entries_of tree.c2) (catalogue_of runs.catalogue) d.faults annals.room) d.bytes pace stands.at
+      let agrees = Rattle.core_lists.proofs.TestLemmas.tests_agree_with_lists held tree m d.bytes pace stands.at
       stands.paced.stands.sound paced.numbers in
       record {
-        paced = stands.paced;
-        sizes = refl;
-        gears = stands.at.holds.gears;
-        book = stands.at.holds.book;
-        charge_is = agrees.charge_is;
-        runs = λ none. record { fronts = no_fronts; tree = tree; over = over; holds = stands.at.holds; within = stands.within; lanes = stands.lanes };
-        stopped = λ some. absurd (false≢true (sym (ap is_some not_stopped) ∙ some));
+        stands = record {
+          paced = stands.paced;
+          sizes = refl;
+          gears = stands.at.holds.gears;
+          book = stands.at.holds.book;
+          charge_is = agrees.charge_is;
+          runs = λ none. record { fronts = no_fronts; tree = tree; over = over; holds = stands.at.holds; within = stands.within; lanes = stands.lanes };
+          stopped = λ some. absurd (false≢true (sym (ap is_some not_stopped) ∙ some));
+        };
+        rows = λ runs. none_held held holds m d none refl;
       }

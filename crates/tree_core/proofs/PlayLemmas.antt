@@ -1,10 +1,11 @@
 -- Lists of steps: each step is the machine's, or is passed over.
-use Rattle.std.specs.Prelude.{◌≡◌, ℕ, ◌+◌, ◌<◌, ◌≤◌, Bool, true, false, not, ◌&&◌, ◌||◌, nat_lt, List, [], ◌∷◌, ◌++◌, Option, None, Some, is_some, length, map}
+use Rattle.std.specs.Prelude.{◌≡◌, ℕ, ◌+◌, ◌<◌, ◌≤◌, Bool, true, false, not, ◌&&◌, ◌||◌, nat_le, nat_lt, List, [], ◌∷◌, ◌++◌, Option, None, Some, IsTrue, is_some, length, map}
 use Rattle.std.proofs.Common.{◌∙◌, ⊎_elim, cond, inl, inr, length-append, refl, ap, sym, subst, arith}
 use Rattle.std.proofs.lemmas.List.{map-append}
 use Rattle.std.proofs.lemmas.List.Sums.{fold-append}
 use Rattle.std.proofs.lemmas.Bool.{cases_lt, false≢true, lt-ltb}
 use mathlib.Core.List.{IsPrefix}
+use Rattle.blsm_model.specs.Format.{most_rows}
 use Rattle.blsm_model.specs.Legal.{is_write}
 use Rattle.blsm_model.specs.declared.key.Key.{Key}
 use Rattle.blsm_model.specs.declared.row.Value.{Value}
@@ -12,9 +13,11 @@ use Rattle.blsm_model.specs.declared.history.Entry.{Entry}
 use Rattle.blsm_model.specs.declared.history.Why.{Why}
 use Rattle.blsm_model.specs.Sizes.{Sizes}
 use Rattle.disk_trait.specs.Disk.{DiskState, GoesOn}
+use Rattle.disk_trait.specs.Effects.{Affects}
 use Rattle.disk_trait.specs.Moments.{IsTimed, LeavesOnly, leaves_only_run, leaves_only_weaken}
 use Rattle.gear_sched.specs.Gears.{GearState, first_debt, second_debt}
 use Rattle.pacing.specs.Pace.{Pace}
+use Rattle.scan_view.specs.Pins.{beside_pins}
 use Rattle.seat_book.specs.State.{BookState, book_of, may_note_in, may_turn_in, may_end_in}
 use Rattle.seat_book.proofs.WordLemmas.{reads_book}
 use Rattle.tree_machine.specs.declared.step.Kind.{Kind}
@@ -22,7 +25,7 @@ use Rattle.tree_machine.specs.declared.step.Kind.TheVariants as kind
 use Rattle.tree_machine.specs.declared.step.Step.{Step}
 use Rattle.tree_machine.specs.Machine.{Machine}
 use Rattle.tree_machine.specs.Outcomes.{AreTold, IsPossible, NoneBroken, Rose, last_count}
-use Rattle.tree_machine.specs.Plays.{is_even, may, played, played_one, stepped_as}
+use Rattle.tree_machine.specs.Plays.{is_even, may, may_note, played, played_one, stepped_as}
 use Rattle.tree_machine.specs.Steps.{Outcome, Answer, Well, FailedAfter, Broken, NoRoom}
 use Rattle.tree_machine.proofs.FrameLemmas.{step_fixed, step_follows}
 use Rattle.paced_tree.specs.After.{pace_after}
@@ -30,9 +33,11 @@ use Rattle.core_moves.specs.declared.held.Held.{Held}
 use Rattle.core_lists.specs.Shown.{ShowsHistory}
 use Rattle.core_lists.proofs.ShowingLemmas.{prefix_self, prefix_then, showing_is_kept}
 use Rattle.paced_tree.specs.Kept.{paced_all, paced_one}
-use Rattle.tree_core.specs.Standing.{StandsFor}
+use Rattle.tree_core.specs.Core.{CoreState}
+use Rattle.tree_core.specs.Holds.{KeepsHolds, StandsWhole}
 use Rattle.tree_core.proofs.QuietLemmas.{leaves_now}
-use Rattle.tree_core.specs.Steps.{IsStep, IsPlayed, is_even_in, is_held, may_in}
+use Rattle.tree_core.specs.Steps.{IsStep, IsWholeStep, IsPlayed, is_even_in, may_in}
+use Rattle.tree_core.proofs.KeepLemmas.{is_held, whole_step}
 
 -- ---- when a step may be made
 
@@ -41,21 +46,24 @@ even_agrees seat held m book gears =
     ap (λ (g : GearState). not (nat_lt 0 (first_debt g seat + second_debt g seat)) || is_some m.stopped) gears
     ∙ ap (λ (b : BookState). not (nat_lt 0 (first_debt held.gears seat + second_debt held.gears seat)) || is_some b.stopped) book
 
+note_agrees : (seat rows : ℕ) (held : Held) (m : Machine) → book_of m ≡ held.book → may_note seat rows m ≡ may_note_in seat rows held.book
+note_agrees seat rows held m book = (reads_book m).notes seat rows ∙ ap (λ (b : BookState). may_note_in seat rows b) book
+
 -- what the machine says of it is what the core has in memory
-pub may_agrees : (seat : ℕ) (k : Kind) (held : Held) (m : Machine) → is_held k ≡ false → book_of m ≡ held.book → m.gears ≡ held.gears → may m seat k ≡ may_in held seat k
-may_agrees seat (kind.Admit op) held m none book gears =
-    ap (λ (b : Bool). is_write op && b && is_even seat m) ((reads_book m).notes seat 0 ∙ ap (λ (b : BookState). may_note_in seat 0 b) book)
+pub may_agrees : (seat : ℕ) (k : Kind) (held : Held) (m : Machine) → book_of m ≡ held.book → m.gears ≡ held.gears → may m seat k ≡ may_in held seat k
+may_agrees seat (kind.Admit op) held m book gears =
+    ap (λ (b : Bool). is_write op && b && is_even seat m) (note_agrees seat 0 held m book)
     ∙ ap (λ (b : Bool). is_write op && may_note_in seat 0 held.book && b) (even_agrees seat held m book gears)
-may_agrees seat kind.Pay held m none book gears = refl
-may_agrees seat (kind.Get key) held m none book gears = (reads_book m).notes seat 0 ∙ ap (λ (b : BookState). may_note_in seat 0 b) book
-may_agrees seat (kind.Hold low high) held m some book gears = absurd (false≢true (sym some))
-may_agrees seat (kind.Next n) held m some book gears = absurd (false≢true (sym some))
-may_agrees seat kind.Release held m some book gears = absurd (false≢true (sym some))
-may_agrees seat kind.WorkTurn held m none book gears =
+may_agrees seat kind.Pay held m book gears = refl
+may_agrees seat (kind.Get key) held m book gears = note_agrees seat 0 held m book
+may_agrees seat (kind.Hold low high) held m book gears = note_agrees seat 0 held m book
+may_agrees seat (kind.Next n) held m book gears = ap (λ (b : Bool). b && nat_lt 0 n && nat_le n most_rows) (note_agrees seat n held m book)
+may_agrees seat kind.Release held m book gears = note_agrees seat 0 held m book
+may_agrees seat kind.WorkTurn held m book gears =
     (reads_book m).turns seat ∙ ap (λ (b : BookState). may_turn_in seat b && is_even seat m) book ∙ ap (λ (b : Bool). may_turn_in seat held.book && b) (even_agrees seat held m book gears)
-may_agrees seat (kind.WorkEnd n) held m none book gears = (reads_book m).ends seat n ∙ ap (λ (b : BookState). may_end_in seat n b) book
-may_agrees seat kind.WorkerTurn held m none book gears = refl
-may_agrees seat kind.Leave held m none book gears = refl
+may_agrees seat (kind.WorkEnd n) held m book gears = (reads_book m).ends seat n ∙ ap (λ (b : BookState). may_end_in seat n b) book
+may_agrees seat kind.WorkerTurn held m book gears = refl
+may_agrees seat kind.Leave held m book gears = refl
 
 -- a seat that is even owes nothing while the store runs
 pub even_owes : (seat : ℕ) (held : Held) → is_even_in seat held ≡ true → held.book.stopped ≡ None → first_debt held.gears seat + second_debt held.gears seat ≡ 0
@@ -68,15 +76,16 @@ even_owes seat held even runs = by (first_debt held.gears seat + second_debt hel
 -- ---- lists of steps
 
 -- what the machine does without any
-pub none_is_played : (opening : List (Key × Value)) (held : Held) (d : DiskState) (m : Machine) (pace : Pace) → IsTimed d → StandsFor opening held m pace d → IsPlayed opening [] held d d m pace
-none_is_played opening held d m pace timed s = record {
+pub none_is_played : {D : Type 0} (state : D → DiskState) (opening : List (Key × Value)) (core : CoreState D) (m : Machine) (pace : Pace) → IsTimed (state core.disk) → StandsWhole state opening core m pace
+    → IsPlayed state opening [] core core m pace
+none_is_played state opening core m pace timed whole = record {
   made = [];
   steps_are = refl;
   told = omega arith;
   whole = tt;
-  stands = s;
+  stands = whole;
   grows = prefix_self m.book.entries;
-  images = leaves_only_weaken (λ c shows. shows.0) (leaves_now opening held m pace d timed s);
+  images = leaves_only_weaken (λ c shows. shows.0) (leaves_now opening core.held m pace (state core.disk) timed whole.stands);
 }
 
 -- a step of one seat notes one entry at most
@@ -90,35 +99,46 @@ one_told : (m : Machine) (step : Step) (outcome : Outcome) (old new : ℕ) → o
 one_told m step outcome old new grows possible = (new, grows, possible, omega arith)
 
 -- a step that was made
-pub made_is_played : (opening : List (Key × Value)) (step : Step) (answer : Answer) (new : Held) (before after : DiskState) (m : Machine) (pace : Pace) → may m step.seat step.kind ≡ true → before.faults ≤ after.faults
-    → IsStep opening step.seat step.kind answer new before after m pace → IsPlayed opening (step ∷ []) new before after m pace
-made_is_played opening step answer new before after m pace can grows is =
-    let played_is : played_one m (step, is.outcome) ≡ (stepped_as m step.seat step.kind is.outcome).state = ap (λ (b : Bool). cond b (stepped_as m step.seat step.kind is.outcome).state m) can in
-    let paced_is : paced_one m pace (step, is.outcome) ≡ pace_after m pace step.seat step.kind is.outcome = ap (λ (b : Bool). cond b (pace_after m pace step.seat step.kind is.outcome) pace) can in
+pub made_is_played : {D : Type 0} (state : D → DiskState) (opening : List (Key × Value)) (step : Step) (answer : Answer) (old new : CoreState D) (m : Machine) (pace : Pace) → may m step.seat step.kind ≡ true
+    → (state old.disk).faults ≤ (state new.disk).faults → IsWholeStep state opening step.seat step.kind answer old new m pace → IsPlayed state opening (step ∷ []) old new m pace
+made_is_played state opening step answer old new m pace can grows is =
+    let outcome = is.step.outcome in
+    let played_is : played_one m (step, outcome) ≡ (stepped_as m step.seat step.kind outcome).state = ap (λ (b : Bool). cond b (stepped_as m step.seat step.kind outcome).state m) can in
+    let paced_is : paced_one m pace (step, outcome) ≡ pace_after m pace step.seat step.kind outcome = ap (λ (b : Bool). cond b (pace_after m pace step.seat step.kind outcome) pace) can in
     record {
-      made = (step, is.outcome) ∷ [];
+      made = (step, outcome) ∷ [];
       steps_are = refl;
-      told = one_told m step is.outcome before.faults after.faults grows (λ may. is.possible);
-      whole = (is.whole, tt);
-      stands = subst (λ (p : Pace). StandsFor opening new (played_one m (step, is.outcome)) p after) (sym paced_is) (subst (λ (x : Machine). StandsFor opening new x (pace_after m pace step.seat step.kind is.outcome) after) (sym played_is) is.stands);
-      grows = subst (λ (x : Machine). IsPrefix m.book.entries x.book.entries) (sym played_is) (history_grows m step.seat step.kind is.outcome can);
-      images = subst (λ (x : Machine). LeavesOnly before after (ShowsHistory m.gears.sizes opening x.book.entries (length m.book.entries))) (sym played_is) is.images;
+      told = one_told m step outcome (state old.disk).faults (state new.disk).faults grows (λ may. is.step.possible);
+      whole = (is.step.whole, tt);
+      stands = subst (λ (p : Pace). StandsWhole state opening new (played_one m (step, outcome)) p) (sym paced_is)
+          (subst (λ (x : Machine). StandsWhole state opening new x (pace_after m pace step.seat step.kind outcome)) (sym played_is) (record { stands = is.step.stands; rows = is.rows }));
+      grows = subst (λ (x : Machine). IsPrefix m.book.entries x.book.entries) (sym played_is) (history_grows m step.seat step.kind outcome can);
+      images = subst (λ (x : Machine). LeavesOnly (state old.disk) (state new.disk) (ShowsHistory m.gears.sizes opening x.book.entries (length m.book.entries))) (sym played_is) is.step.images;
     }
 
 -- a step of a kind, whose condition holds by what the core has in memory
-pub played_by : (opening : List (Key × Value)) (step : Step) (k : Kind) (answer : Answer) (old new : Held) (before after : DiskState) (m : Machine) (pace : Pace) → step.kind ≡ k → is_held k ≡ false
-    → may_in old step.seat step.kind ≡ true → GoesOn before after → StandsFor opening old m pace before → (may m step.seat k ≡ true → IsStep opening step.seat k answer new before after m pace)
-    → IsPlayed opening (step ∷ []) new before after m pace
-played_by opening step k answer old new before after m pace is none can goes stands by =
-    let may_k : may m step.seat k ≡ true = may_agrees step.seat k old m none stands.book stands.gears ∙ ap (λ (x : Kind). may_in old step.seat x) (sym is) ∙ can in
-    made_is_played opening step answer new before after m pace (ap (λ (x : Kind). may m step.seat x) is ∙ may_k) goes.faults
-    (subst (λ (x : Kind). IsStep opening step.seat x answer new before after m pace) (sym is) (by may_k))
+pub played_by : {D : Type 0} (state : D → DiskState) (opening : List (Key × Value)) (step : Step) (k : Kind) (answer : Answer) (old new : CoreState D) (m : Machine) (pace : Pace) → step.kind ≡ k
+    → may_in old.held step.seat step.kind ≡ true → GoesOn (state old.disk) (state new.disk) → StandsWhole state opening old m pace
+    → (may m step.seat k ≡ true → IsWholeStep state opening step.seat k answer old new m pace) → IsPlayed state opening (step ∷ []) old new m pace
+played_by state opening step k answer old new m pace is can goes whole by =
+    let may_k : may m step.seat k ≡ true = may_agrees step.seat k old.held m whole.stands.book whole.stands.gears ∙ ap (λ (x : Kind). may_in old.held step.seat x) (sym is) ∙ can in
+    made_is_played state opening step answer old new m pace (ap (λ (x : Kind). may m step.seat x) is ∙ may_k) goes.faults
+    (subst (λ (x : Kind). IsWholeStep state opening step.seat x answer old new m pace) (sym is) (by may_k))
+
+-- one that has nothing to do with holds, and writes beside the pages that are pinned
+pub quiet_is_played : {D : Type 0} {end most : ℕ} (state : D → DiskState) (opening : List (Key × Value)) (step : Step) (k : Kind) (answer : Answer) (old new : CoreState D) (m : Machine) (pace : Pace) → step.kind ≡ k
+    → is_held k ≡ false → may_in old.held step.seat step.kind ≡ true → KeepsHolds old new → Affects (beside_pins old.held.runs.sizes old.held.runs.space.pins) end most (state old.disk) (state new.disk)
+    → IsTrue (state old.disk).is_honest → StandsWhole state opening old m pace
+    → (may m step.seat k ≡ true → IsStep opening step.seat k answer new.held (state old.disk) (state new.disk) m pace) → IsPlayed state opening (step ∷ []) old new m pace
+quiet_is_played state opening step k answer old new m pace is none can keeps effect honest whole by =
+    played_by state opening step k answer old new m pace is can effect.goes_on whole (λ may. whole_step state opening step.seat k answer old new m pace none keeps (effect.bytes honest) whole (by may))
 
 -- one that is passed over
-pub passed_is_played : (opening : List (Key × Value)) (step : Step) (held : Held) (d : DiskState) (m : Machine) (pace : Pace) → IsTimed d → is_held step.kind ≡ false → may_in held step.seat step.kind ≡ false
-    → StandsFor opening held m pace d → IsPlayed opening (step ∷ []) held d d m pace
-passed_is_played opening step held d m pace timed none cannot s =
-    let not : may m step.seat step.kind ≡ false = may_agrees step.seat step.kind held m none s.book s.gears ∙ cannot in
+pub passed_is_played : {D : Type 0} (state : D → DiskState) (opening : List (Key × Value)) (step : Step) (core : CoreState D) (m : Machine) (pace : Pace) → IsTimed (state core.disk)
+    → may_in core.held step.seat step.kind ≡ false → StandsWhole state opening core m pace → IsPlayed state opening (step ∷ []) core core m pace
+passed_is_played state opening step core m pace timed cannot whole =
+    let d = state core.disk in
+    let not : may m step.seat step.kind ≡ false = may_agrees step.seat step.kind core.held m whole.stands.book whole.stands.gears ∙ cannot in
     let played_is : played_one m (step, Well) ≡ m = ap (λ (b : Bool). cond b (stepped_as m step.seat step.kind Well).state m) not in
     let paced_is : paced_one m pace (step, Well) ≡ pace = ap (λ (b : Bool). cond b (pace_after m pace step.seat step.kind Well) pace) not in
     record {
@@ -126,9 +146,9 @@ passed_is_played opening step held d m pace timed none cannot s =
       steps_are = refl;
       told = one_told m step Well d.faults d.faults (omega arith) (λ may. tt);
       whole = (refl, tt);
-      stands = subst (λ (p : Pace). StandsFor opening held (played_one m (step, Well)) p d) (sym paced_is) (subst (λ (x : Machine). StandsFor opening held x pace d) (sym played_is) s);
+      stands = subst (λ (p : Pace). StandsWhole state opening core (played_one m (step, Well)) p) (sym paced_is) (subst (λ (x : Machine). StandsWhole state opening core x pace) (sym played_is) whole);
       grows = subst (λ (x : Machine). IsPrefix m.book.entries x.book.entries) (sym played_is) (prefix_self m.book.entries);
-      images = subst (λ (x : Machine). LeavesOnly d d (ShowsHistory m.gears.sizes opening x.book.entries (length m.book.entries))) (sym played_is) (leaves_only_weaken (λ c shows. shows.0) (leaves_now opening held m pace d timed s));
+      images = subst (λ (x : Machine). LeavesOnly d d (ShowsHistory m.gears.sizes opening x.book.entries (length m.book.entries))) (sym played_is) (leaves_only_weaken (λ c shows. shows.0) (leaves_now opening core.held m pace d timed whole.stands));
     }
 
 -- ---- one after another
@@ -173,9 +193,12 @@ paced_then m pace [] second = refl
 paced_then m pace (made ∷ first) second = paced_then (played_one m made) (paced_one m pace made) first second
 
 -- these steps, and then those
-pub both_are_played : (opening : List (Key × Value)) (first second : List Step) (mid new : Held) (before between after : DiskState) (m : Machine) (pace : Pace) (one : IsPlayed opening first mid before between m pace)
-    → IsPlayed opening second new between after (played m one.made) (paced_all m pace one.made) → IsPlayed opening (first ++ second) new before after m pace
-both_are_played opening first second mid new before between after m pace one two =
+pub both_are_played : {D : Type 0} (state : D → DiskState) (opening : List (Key × Value)) (first second : List Step) (old mid new : CoreState D) (m : Machine) (pace : Pace) (one : IsPlayed state opening first old mid m pace)
+    → IsPlayed state opening second mid new (played m one.made) (paced_all m pace one.made) → IsPlayed state opening (first ++ second) old new m pace
+both_are_played state opening first second old mid new m pace one two =
+    let before = state old.disk in
+    let between = state mid.disk in
+    let after = state new.disk in
     let all : played m (one.made ++ two.made) ≡ played (played m one.made) two.made = fold-append played_one m one.made two.made in
     let grows : IsPrefix m.book.entries (played (played m one.made) two.made).book.entries = prefix_then m.book.entries (played m one.made).book.entries (played (played m one.made) two.made).book.entries one.grows two.grows in
     let longer = leaves_only_run
@@ -187,8 +210,8 @@ both_are_played opening first second mid new before between after m pace one two
       steps_are = map-append (λ (x : Step × Outcome). x.0) one.made two.made ∙ ap (λ (xs : List Step). xs ++ map (λ (x : Step × Outcome). x.0) two.made) one.steps_are ∙ ap (λ (xs : List Step). first ++ xs) two.steps_are;
       told = told_then m before.faults between.faults after.faults one.made two.made one.told two.told;
       whole = whole_then one.made two.made one.whole two.whole;
-      stands = subst (λ (p : Pace). StandsFor opening new (played m (one.made ++ two.made)) p after) (sym (paced_then m pace one.made two.made))
-          (subst (λ (x : Machine). StandsFor opening new x (paced_all (played m one.made) (paced_all m pace one.made) two.made) after) (sym all) two.stands);
+      stands = subst (λ (p : Pace). StandsWhole state opening new (played m (one.made ++ two.made)) p) (sym (paced_then m pace one.made two.made))
+          (subst (λ (x : Machine). StandsWhole state opening new x (paced_all (played m one.made) (paced_all m pace one.made) two.made)) (sym all) two.stands);
       grows = subst (λ (x : Machine). IsPrefix m.book.entries x.book.entries) (sym all) grows;
       images = subst (λ (x : Machine). LeavesOnly before after (ShowsHistory m.gears.sizes opening x.book.entries (length m.book.entries))) (sym all) longer;
     }

@@ -76,6 +76,7 @@ kept_once old new is kept = record {
   gears = λ any. kept.gears is;
   spring = λ any. kept.spring is;
   book = λ any. kept.book is;
+  pins = λ any. kept.pins is;
 }
 
 -- whatever the step answers, the core has a pace then

@@ -1,11 +1,14 @@
 -- What the moves of an admission require and leave, on every disk.
 use Rattle.std.specs.Prelude.{is_ok, is_err, OnOk, OnErr, Result, Ok, Err}
-use Rattle.std.proofs.Common.{◌≡◌, ◌∙◌, ℕ, ◌+◌, ◌≤◌, Bool, [], ◌∷◌, true, false, cond, ⊎_elim, refl, ap, sym, subst, arith}
+use Rattle.std.proofs.Common.{◌≡◌, ◌∙◌, ℕ, ◌+◌, ◌≤◌, Bool, List, [], ◌∷◌, true, false, cond, refl, ap, sym, subst, arith}
 use Rattle.std.proofs.lemmas.Bool.{false≢true}
 use Rattle.refusal.specs.Count.{HasRisen}
 use Rattle.disk_trait.specs.Disk.{DiskState, TellsFaults}
 use Rattle.disk_trait.specs.Effects.{Affects, affects_more}
 use Rattle.disk_trait.specs.Moments.{IsTimed}
+use Rattle.disk_trait.specs.Region.{IsWithin}
+use Rattle.page_space.specs.PageSet.{Members}
+use Rattle.scan_view.specs.Pins.{beside_pins}
 use Rattle.blsm_model.specs.Geometry.{file_length}
 use Rattle.blsm_model.specs.Sizes.{Sizes}
 use Rattle.blsm_model.specs.declared.key.Key.{Key}
@@ -20,8 +23,9 @@ use Rattle.tree_machine.proofs.WeightLemmas.{weight_of_record}
 use Rattle.record_delta.specs.declared.record.Rec.{Rec}
 use Rattle.tree_runs.specs.Runs.{AreRunning}
 use Rattle.core_moves.specs.declared.held.Held.{Held}
-use Rattle.core_moves.specs.Needs.{IsOn, WriteFits, anywhere}
-use Rattle.core_moves.specs.Moves.{SettlesDeep, SettlesPass, with_pass_begun, begun_in}
+use Rattle.core_moves.specs.Needs.{IsOn, WriteFits}
+use Rattle.core_moves.specs.Moves.{with_pass_begun, begun_in}
+use Rattle.tree_core.proofs.KeepLemmas.{KeepsPins}
 
 -- ---- what a result tells
 
@@ -45,13 +49,7 @@ pub risen_of : {T E : Type 0} (r : Result T E) (old new : DiskState) → is_err 
 risen_of (Ok value) old new is tells = absurd (false≢true is)
 risen_of (Err error) old new is tells = tells
 
--- ---- the sizes stay
-
-pub sizes_settled : (old new : Held) → SettlesDeep old new → new.runs.sizes ≡ old.runs.sizes
-sizes_settled old new settles = ⊎_elim (λ done. done.1.runs.sizes) (λ rests. ap (λ (h : Held). h.runs.sizes) rests.1) settles
-
-pub sizes_passed : (old new : Held) → SettlesPass old new → new.runs.sizes ≡ old.runs.sizes
-sizes_passed old new settles = ⊎_elim (λ done. done.1.runs.sizes) (λ rests. ap (λ (h : Held). h.runs.sizes) rests.1) settles
+-- ---- a begin
 
 -- a begin changes no size, not the log, and not the book
 pub record BegunKeeps (old new : Held) : Type 0 where
@@ -88,8 +86,13 @@ at_write P key key' rec rec' same_key same_rec holds = subst (λ (k : Key). P k 
 
 -- ---- the calls together
 
--- a run after a run that went well, by a core of the same sizes
-pub affects_then : (old settled : Sizes) {most more : ℕ} (total : ℕ) {before mid after : DiskState} → settled ≡ old → IsTimed mid → mid.faults ≡ before.faults
-    → Affects anywhere (file_length old) most before mid → Affects anywhere (file_length settled) more mid after → most + more ≤ total → Affects anywhere (file_length old) total before after
+-- a run after a run that went well, by a core of the same sizes and pins
+pub affects_then : (old settled : Held) {most more : ℕ} (total : ℕ) {before mid after : DiskState} → KeepsPins old settled → IsTimed mid → mid.faults ≡ before.faults
+    → Affects (beside_pins old.runs.sizes old.runs.space.pins) (file_length old.runs.sizes) most before mid
+    → Affects (beside_pins settled.runs.sizes settled.runs.space.pins) (file_length settled.runs.sizes) more mid after → most + more ≤ total
+    → Affects (beside_pins old.runs.sizes old.runs.space.pins) (file_length old.runs.sizes) total before after
 affects_then old settled total {before} {mid} {after} same timed calm first second calls =
-    affects_more timed calm first second (λ i here. here) (omega (arith, ap file_length same)) calls
+    affects_more timed calm first second
+    (subst (λ (s : Sizes). IsWithin (beside_pins s settled.runs.space.pins) (beside_pins old.runs.sizes old.runs.space.pins)) (sym same.sizes)
+    (subst (λ (pins : List Members). IsWithin (beside_pins old.runs.sizes pins) (beside_pins old.runs.sizes old.runs.space.pins)) (sym same.pins) (λ i here. here)))
+    (omega (arith, ap file_length same.sizes)) calls

@@ -55,7 +55,8 @@ use Rattle.core_lists.proofs.GoingLemmas.{admission_goes_on}
 use Rattle.core_lists.proofs.TestLemmas.{tests_agree_with_lists}
 use Rattle.tree_core.specs.Standing.{StandsFor}
 use Rattle.tree_core.specs.Taking.{PassMakesTree, TellsOf, TakenOver, HasLost}
-use Rattle.tree_core.proofs.TakingLemmas.{is_ok_of, ok_of, sizes_settled, sizes_passed, begun_keeps}
+use Rattle.tree_core.proofs.TakingLemmas.{is_ok_of, ok_of, begun_keeps}
+use Rattle.tree_core.proofs.KeepLemmas.{deep_keeps_pins, pass_keeps_pins}
 
 -- ---- what the calls leave, in a word
 
@@ -195,7 +196,7 @@ module _ (opening : List (Key × Value)) (old : Held) (m : Machine) (pace : Pace
       }
 
   sizes_here : m.gears.sizes ≡ settled.runs.sizes
-  sizes_here = is.stands.sizes ∙ sym (sizes_settled old settled has.deep)
+  sizes_here = is.stands.sizes ∙ sym ((deep_keeps_pins old settled has.deep).sizes)
 
   pass_shows : (next : Tree) (image : List ℕ) → IsPassDone settled ⊎ (IsPassDone settled → ⊥) → PassMakesTree settled middle next → HoldsEither settled.runs.sizes middle next image → ShowsWhole opening m image
   pass_shows next image cases makes either =
@@ -302,7 +303,7 @@ module _ (opening : List (Key × Value)) (old : Held) (m : Machine) (pace : Pace
   at_begun = subst (λ (h : Held). IsAt h next (ready_for w m) last.bytes) (sym then.is_begun) readied.begun
 
   sizes_begun : begun.runs.sizes ≡ m.gears.sizes
-  sizes_begun = ap (λ (h : Held). h.runs.sizes) then.is_begun ∙ (begun_keeps w ready).sizes ∙ sizes_passed settled ready then.pass ∙ sizes_settled old settled has.deep ∙ sym is.stands.sizes
+  sizes_begun = ap (λ (h : Held). h.runs.sizes) then.is_begun ∙ (begun_keeps w ready).sizes ∙ (pass_keeps_pins settled ready then.pass).sizes ∙ (deep_keeps_pins old settled has.deep).sizes ∙ sym is.stands.sizes
 
   over_begun : StandOver begun.runs next begun.log.a.entries last
   over_begun = record {

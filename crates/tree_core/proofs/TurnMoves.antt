@@ -61,9 +61,10 @@ kept_by (Ok done) old new same = record {
   gears = λ failed. absurd (false≢true failed);
   spring = λ failed. absurd (false≢true failed);
   book = λ failed. absurd (false≢true failed);
+  pins = λ failed. absurd (false≢true failed);
 }
 kept_by {T} {E} (Err e) old new same = subst (λ (h : Held). KeepsAllButMerges (IsErr (as_moved {T = T} {E = E} (Err e))) old h) (sym same)
-    (record { sizes = λ failed. refl; catalogue = λ failed. refl; pass = λ failed. refl; deep = λ failed. refl; log = λ failed. refl; gears = λ failed. refl; spring = λ failed. refl; book = λ failed. refl })
+    (record { sizes = λ failed. refl; catalogue = λ failed. refl; pass = λ failed. refl; deep = λ failed. refl; log = λ failed. refl; gears = λ failed. refl; spring = λ failed. refl; book = λ failed. refl; pins = λ failed. refl })
 
 pub swap_kept : {T E : Type 0} (r : Result T E) (made : Result ℕ Broken) (old new : Held) → made ≡ as_moved r → OnErr r (new ≡ old) → KeepsAllButMerges (IsErr made) old new
 swap_kept r made old new is same = subst (λ (x : Result ℕ Broken). KeepsAllButMerges (IsErr x) old new) (sym is) (kept_by r old new same)

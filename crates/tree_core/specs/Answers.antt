@@ -16,6 +16,12 @@ use Rattle.tree_core.specs.declared.answers.Admission.{Admission}
 use Rattle.tree_core.specs.declared.answers.Admission.TheVariants as admission
 use Rattle.tree_core.specs.declared.answers.Payment.{Payment}
 use Rattle.tree_core.specs.declared.answers.Payment.TheVariants as payment
+use Rattle.tree_core.specs.declared.answers.Holding.{Holding}
+use Rattle.tree_core.specs.declared.answers.Holding.TheVariants as holding
+use Rattle.tree_core.specs.declared.answers.Scan.{Scan}
+use Rattle.tree_core.specs.declared.answers.Scan.TheVariants as scan
+use Rattle.tree_core.specs.declared.answers.Release.{Release}
+use Rattle.tree_core.specs.declared.answers.Release.TheVariants as release
 use Rattle.tree_core.specs.declared.answers.Lookup.{Lookup}
 use Rattle.tree_core.specs.declared.answers.Lookup.TheVariants as lookup
 
@@ -38,6 +44,23 @@ reply_to_get lookup.Absent = reply.Absent
 reply_to_get lookup.Fault = reply.Fault
 reply_to_get (lookup.Damaged page) = reply.Damaged page
 reply_to_get (lookup.Stopped why) = reply.Stopped why
+
+abbrev pub reply_to_hold : Holding → Reply
+reply_to_hold holding.Held = reply.Held
+reply_to_hold holding.NoMemory = reply.NoMemory
+reply_to_hold (holding.Stopped why) = reply.Stopped why
+
+abbrev pub reply_to_next : Scan → Reply
+reply_to_next (scan.Rows rows) = reply.Rows rows
+reply_to_next scan.NoHold = reply.NoHold
+reply_to_next scan.Fault = reply.Fault
+reply_to_next (scan.Damaged page) = reply.Damaged page
+reply_to_next (scan.Stopped why) = reply.Stopped why
+
+abbrev pub reply_to_drop : Release → Reply
+reply_to_drop release.Done = reply.Done
+reply_to_drop release.NoHold = reply.NoHold
+reply_to_drop (release.Stopped why) = reply.Stopped why
 
 -- what the tables have of a key, over what the components of this tree have of it
 abbrev pub found_in : Key → Held → Tree → Option Value

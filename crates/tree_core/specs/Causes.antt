@@ -1,5 +1,5 @@
 -- Why a call answers what it does, on every disk.
-use Rattle.std.specs.Prelude.{◌≡◌, ⊤, ℕ, ◌+◌, ◌<◌, ◌≤◌, Bool, true, false, ◌&&◌, ◌==◌, is_some, None, Some}
+use Rattle.std.specs.Prelude.{◌≡◌, ⊤, ℕ, ◌+◌, ◌<◌, ◌≤◌, Bool, true, false, ◌&&◌, ◌==◌, IsTrue, is_some, None, Some}
 use Rattle.refusal.specs.Count.{HasRisen}
 use Rattle.blsm_model.specs.declared.op.Op.{Op}
 use Rattle.blsm_model.specs.declared.history.Why.TheVariants as why
@@ -7,7 +7,12 @@ use Rattle.blsm_model.specs.declared.history.Reply.TheVariants as reply
 use Rattle.blsm_model.specs.Geometry.{charge_limit}
 use Rattle.blsm_model.specs.Histories.{writes_of}
 use Rattle.blsm_model.specs.Legal.{total_weight}
+use Rattle.blsm_model.specs.declared.key.Key.{Key}
 use Rattle.disk_trait.specs.Disk.{DiskState}
+use Rattle.page_space.specs.PageSet.{none_of}
+use Rattle.page_space.specs.Space.{pins_of}
+use Rattle.scan_view.specs.Hold.{held_from}
+use Rattle.scan_view.specs.Holds.{hold_of, AreGivenBy, IsDamageBehind}
 use Rattle.gear_sched.specs.declared.Plan.TheVariants.{Nothing}
 use Rattle.pacing.specs.Steps.{Idle}
 use Rattle.tree_machine.specs.Steps.{is_del}
@@ -24,6 +29,13 @@ use Rattle.tree_core.specs.declared.answers.Admission.{Admission}
 use Rattle.tree_core.specs.declared.answers.Admission.TheVariants as admission
 use Rattle.tree_core.specs.declared.answers.Lookup.{Lookup}
 use Rattle.tree_core.specs.declared.answers.Lookup.TheVariants as lookup
+use Rattle.tree_core.specs.declared.answers.Holding.{Holding}
+use Rattle.tree_core.specs.declared.answers.Holding.TheVariants as holding
+use Rattle.tree_core.specs.declared.answers.Scan.{Scan}
+use Rattle.tree_core.specs.declared.answers.Scan.TheVariants as scan
+use Rattle.tree_core.specs.declared.answers.Release.{Release}
+use Rattle.tree_core.specs.declared.answers.Release.TheVariants as release
+use Rattle.tree_core.specs.Core.{CoreState}
 use Rattle.tree_core.specs.declared.answers.Payment.{Payment}
 use Rattle.tree_core.specs.declared.answers.Payment.TheVariants as payment
 
@@ -120,3 +132,38 @@ abbrev pub FindsBecause : Lookup → Held → DiskState → DiskState → Type 0
 FindsBecause lookup.Fault old before after = (old.book.stopped ≡ None) × HasRisen before.faults after.faults
 FindsBecause (lookup.Stopped why) old before after = (old.book.stopped ≡ Some why) × (after.faults ≡ before.faults)
 FindsBecause _ old before after = (old.book.stopped ≡ None) × (after.faults ≡ before.faults)
+
+-- ---- holds
+
+-- What holding a range is due to. A hold that was made is the one of this moment; one for which memory was refused leaves the earlier one, and its pins.
+abbrev pub HoldsBecause : {D : Type 0} → Holding → ℕ → Key → Key → CoreState D → CoreState D → Type 0
+HoldsBecause holding.Held seat low high old new =
+    (old.held.book.stopped ≡ None)
+    × (hold_of seat new.holds ≡ Some (held_from low high old.held.log.b.entries old.held.log.a.entries old.held.runs.catalogue.c1 old.held.runs.catalogue.c1x old.held.runs.catalogue.c2))
+HoldsBecause holding.NoMemory seat low high old new = (old.held.book.stopped ≡ None) × (new.holds ≡ old.holds) × (new.held.runs ≡ old.held.runs)
+HoldsBecause (holding.Stopped why) seat low high old new = (old.held.book.stopped ≡ Some why) × (new.holds ≡ old.holds) × (new.held.runs ≡ old.held.runs)
+
+-- the disk isn't called without a hold, or where the store is stopped
+abbrev pub ScansNone : Scan → Type 0
+ScansNone scan.NoHold = ⊤
+ScansNone (scan.Stopped why) = ⊤
+ScansNone _ = ⊥
+
+-- What reading on in a hold is due to, on every disk. Where no rows are given the hold stays as it is.
+abbrev pub ScansBecause : {D : Type 0} → Scan → ℕ → ℕ → CoreState D → CoreState D → DiskState → DiskState → Type 0
+ScansBecause (scan.Rows rows) seat n old new before after = (old.held.book.stopped ≡ None) × (after.faults ≡ before.faults) × AreGivenBy n (hold_of seat old.holds) (hold_of seat new.holds) rows
+ScansBecause scan.NoHold seat n old new before after = (old.held.book.stopped ≡ None) × (hold_of seat old.holds ≡ None) × (new.holds ≡ old.holds)
+ScansBecause scan.Fault seat n old new before after =
+    (old.held.book.stopped ≡ None) × IsTrue (is_some (hold_of seat old.holds)) × (new.holds ≡ old.holds) × HasRisen before.faults after.faults
+ScansBecause (scan.Damaged page) seat n old new before after =
+    (old.held.book.stopped ≡ None) × (new.holds ≡ old.holds) × (after.faults ≡ before.faults)
+    × (IsTrue before.is_honest → IsDamageBehind old.held.runs.sizes (hold_of seat old.holds) page before.bytes)
+ScansBecause (scan.Stopped why) seat n old new before after = (old.held.book.stopped ≡ Some why) × (new.holds ≡ old.holds) × (after.faults ≡ before.faults)
+
+-- What dropping a hold is due to. Once it is dropped the seat pins nothing.
+abbrev pub DropsBecause : {D : Type 0} → Release → ℕ → CoreState D → CoreState D → Type 0
+DropsBecause release.Done seat old new =
+    (old.held.book.stopped ≡ None) × IsTrue (is_some (hold_of seat old.holds)) × (hold_of seat new.holds ≡ None)
+    × (pins_of new.held.runs.space seat ≡ none_of old.held.runs.space.pages)
+DropsBecause release.NoHold seat old new = (old.held.book.stopped ≡ None) × (hold_of seat old.holds ≡ None) × (new.holds ≡ old.holds) × (new.held.runs ≡ old.held.runs)
+DropsBecause (release.Stopped why) seat old new = (old.held.book.stopped ≡ Some why) × (new.holds ≡ old.holds) × (new.held.runs ≡ old.held.runs)

@@ -1,18 +1,21 @@
 -- What contracts see of the core of a tree, and what its type keeps on every disk. Weights are in bytes.
-use Rattle.std.specs.Prelude.{◌≡◌, None}
+use Rattle.std.specs.Prelude.{◌≡◌, List, Option, None}
 use Rattle.disk_trait.specs.Disk.{DiskState}
 use Rattle.gear_sched.specs.Gears.{first_debt, second_debt}
 use Rattle.blsm_model.specs.Facts.{Facts}
 use Rattle.pacing.specs.Pace.{Pace, charge}
 use Rattle.seat_book.specs.Seats.{Beside, facts_in}
+use Rattle.scan_view.specs.Hold.{HoldState}
 use Rattle.core_moves.specs.declared.held.Held.{Held}
 use Rattle.core_moves.specs.Held.{charge_in}
 use Rattle.core_moves.specs.Needs.{IsOn}
 use Rattle.core_pace.specs.Pacing.{IsRunBook, IsPacedHeld}
 
+-- The disk, what the core has in memory of the tree and of its seats, and each caller's hold, if it has one.
 pub record CoreState (D : Type 0) : Type 0 where
   pub disk : D
   pub held : Held
+  pub holds : List (Option HoldState)
 
 -- What is told of the run, also once the tree has stopped: its book, its peak and its charge are a pace's.
 pub record IsTold (held : Held) (pace : Pace) : Type 0 where

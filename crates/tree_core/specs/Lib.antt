@@ -1,6 +1,8 @@
 pub mod Core
 pub mod Parts
 pub mod Standing
+pub mod Holds
+pub mod HoldMoves
 pub mod Answers
 pub mod Causes
 pub mod Notes

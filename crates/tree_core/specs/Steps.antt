@@ -1,11 +1,12 @@
 -- What a call of the core is: one step of the pacing on every disk, and one step of the machine on an honest one.
-use Rattle.std.specs.Prelude.{◌≡◌, ℕ, ◌+◌, ◌≤◌, IsTrue, Bool, true, false, not, ◌&&◌, ◌||◌, nat_lt, is_some, List, length, map}
+use Rattle.std.specs.Prelude.{◌≡◌, ℕ, ◌+◌, ◌≤◌, IsTrue, Bool, false, not, ◌&&◌, ◌||◌, nat_le, nat_lt, is_some, List, None, length, map}
 use mathlib.Core.List.{IsPrefix}
 use Rattle.blsm_model.specs.Legal.{is_write}
 use Rattle.gear_sched.specs.Gears.{first_debt, second_debt}
 use Rattle.seat_book.specs.State.{may_note_in, may_turn_in, may_end_in}
 use Rattle.blsm_model.specs.declared.key.Key.{Key}
 use Rattle.blsm_model.specs.declared.row.Value.{Value}
+use Rattle.blsm_model.specs.Format.{most_rows}
 use Rattle.blsm_model.specs.Geometry.{high_mark}
 use Rattle.disk_trait.specs.Disk.{DiskState, GoesOn}
 use Rattle.disk_trait.specs.Moments.{LeavesOnly}
@@ -22,7 +23,8 @@ use Rattle.paced_tree.specs.After.{pace_after}
 use Rattle.paced_tree.specs.Kept.{paced_all}
 use Rattle.core_moves.specs.declared.held.Held.{Held}
 use Rattle.core_lists.specs.Shown.{ShowsHistory}
-use Rattle.tree_core.specs.Core.{HoldsPace}
+use Rattle.tree_core.specs.Core.{CoreState, HoldsPace}
+use Rattle.tree_core.specs.Holds.{HoldRows, StandsWhole}
 use Rattle.tree_core.specs.Standing.{StandsFor}
 
 -- By numbers: what the step makes of the pace, by its answer.
@@ -42,50 +44,50 @@ pub record IsStep (opening : List (Key × Value)) (seat : ℕ) (kind : Kind) (an
   pub answers : answer ≡ (stepped_as m seat kind outcome).answer
   pub images : LeavesOnly before after (ShowsHistory m.gears.sizes opening (stepped_as m seat kind outcome).state.book.entries (length m.book.entries))
 
+-- And where it is a step of a hold, the callers' holds are the machine's next ones.
+pub record IsWholeStep {D : Type 0} (state : D → DiskState) (opening : List (Key × Value)) (seat : ℕ) (kind : Kind) (answer : Answer) (old new : CoreState D) (m : Machine) (pace : Pace) : Type 0 where
+  pub step : IsStep opening seat kind answer new.held (state old.disk) (state new.disk) m pace
+  pub rows : new.held.book.stopped ≡ None → HoldRows new.held new.holds (stepped_as m seat kind step.outcome).state (state new.disk)
+
 -- ---- when a step may be made
 
 -- the seat owes nothing, or the store is stopped
 abbrev pub is_even_in : ℕ → Held → Bool
 is_even_in seat held = not (nat_lt 0 (first_debt held.gears seat + second_debt held.gears seat)) || is_some held.book.stopped
 
--- by what the core has in memory; holds are none of its steps yet
+-- by what the core has in memory
 abbrev pub may_in : Held → ℕ → Kind → Bool
 may_in held seat (kind.Admit op) = is_write op && may_note_in seat 0 held.book && is_even_in seat held
 may_in held seat kind.Pay = is_caller seat
 may_in held seat (kind.Get key) = may_note_in seat 0 held.book
+may_in held seat (kind.Hold low high) = may_note_in seat 0 held.book
+may_in held seat (kind.Next n) = may_note_in seat n held.book && nat_lt 0 n && nat_le n most_rows
+may_in held seat kind.Release = may_note_in seat 0 held.book
 may_in held seat kind.WorkTurn = may_turn_in seat held.book && is_even_in seat held
 may_in held seat (kind.WorkEnd n) = may_end_in seat n held.book
 may_in held seat kind.WorkerTurn = is_worker seat
 may_in held seat kind.Leave = is_caller seat
-may_in held seat _ = false
 
 -- ---- lists of steps
 
--- a step of a hold
-abbrev pub is_held : Kind → Bool
-is_held (kind.Hold low high) = true
-is_held (kind.Next n) = true
-is_held kind.Release = true
-is_held _ = false
-
 -- These steps, each by an outcome that the disk's count of faults tells, lead to the state for which the core stands then. A step whose condition
 -- doesn't hold is passed over. Each image of each moment since the first shows the history then, with all entries of the one before.
-pub record IsPlayed (opening : List (Key × Value)) (steps : List Step) (new : Held) (before after : DiskState) (m : Machine) (pace : Pace) : Type 0 where
+pub record IsPlayed {D : Type 0} (state : D → DiskState) (opening : List (Key × Value)) (steps : List Step) (old new : CoreState D) (m : Machine) (pace : Pace) : Type 0 where
   pub made : List (Step × Outcome)
   pub steps_are : map (λ one. one.0) made ≡ steps
-  pub told : AreTold m before.faults made after.faults
+  pub told : AreTold m (state old.disk).faults made (state new.disk).faults
   pub whole : NoneBroken made
-  pub stands : StandsFor opening new (played m made) (paced_all m pace made) after
+  pub stands : StandsWhole state opening new (played m made) (paced_all m pace made)
   pub grows : IsPrefix m.book.entries (played m made).book.entries
-  pub images : LeavesOnly before after (ShowsHistory m.gears.sizes opening (played m made).book.entries (length m.book.entries))
+  pub images : LeavesOnly (state old.disk) (state new.disk) (ShowsHistory m.gears.sizes opening (played m made).book.entries (length m.book.entries))
 
 -- ---- what lasts
 
 -- From the start on, on every disk: the geometry is the same, the memory table has stayed within its high mark, and calls went on. On an honest disk,
 -- for each state of the machine for which the core stood at the start, some steps have led to the state for which it stands now.
-pub record StandsSince (start now : Held) (first last : DiskState) : Type 0 where
-  pub sizes : now.runs.sizes ≡ start.runs.sizes
-  pub peak : now.book.counts.peak ≤ high_mark start.runs.sizes
-  pub goes_on : GoesOn first last
-  pub come : (opening : List (Key × Value)) (m : Machine) (pace : Pace) → IsTrue first.is_honest → StandsFor opening start m pace first
-      → (steps : List Step) × IsPlayed opening steps now first last m pace
+pub record StandsSince {D : Type 0} (state : D → DiskState) (start now : CoreState D) : Type 0 where
+  pub sizes : now.held.runs.sizes ≡ start.held.runs.sizes
+  pub peak : now.held.book.counts.peak ≤ high_mark start.held.runs.sizes
+  pub goes_on : GoesOn (state start.disk) (state now.disk)
+  pub come : (opening : List (Key × Value)) (m : Machine) (pace : Pace) → IsTrue (state start.disk).is_honest → StandsWhole state opening start m pace
+      → (steps : List Step) × IsPlayed state opening steps start now m pace

@@ -14,16 +14,17 @@ ghost use Rattle.gear_sched.specs.Gears.{first_debt, second_debt};
 ghost use Rattle.pacing.specs.Pace.{Pace};
 ghost use Rattle.record_delta.specs.Records.{record_of};
 ghost use Rattle.seat_book.specs.State.{may_note_in};
+ghost use Rattle.scan_view.specs.Pins.{beside_pins};
 ghost use Rattle.tree_machine.specs.declared.step.Kind.TheVariants as kind;
 ghost use Rattle.tree_machine.specs.Machine.{Machine};
 ghost use Rattle.tree_machine.specs.Plays.{may};
 ghost use Rattle.tree_machine.specs.Stands.{WritesFit};
 ghost use Rattle.tree_machine.specs.Steps.{is_del, Replied};
-ghost use Rattle.core_moves.specs.Needs.{anywhere};
 ghost use Rattle.core_pace.specs.Events.{MayWrite};
 ghost use Rattle.tree_core.specs.Answers.{reply_to_write};
 ghost use Rattle.tree_core.specs.Causes.{AdmitsBecause, CallsNone, HasBegun};
 ghost use Rattle.tree_core.specs.Core.{CoreState, HoldsPace, facts_of_held};
+ghost use Rattle.tree_core.specs.Holds.{KeepsHolds};
 ghost use Rattle.tree_core.specs.Notes.{NotesOne};
 ghost use Rattle.tree_core.specs.Standing.{StandsFor};
 ghost use Rattle.tree_core.specs.Steps.{MovesPace, IsStep, StandsSince};
@@ -52,7 +53,7 @@ fn take<D: Disk>(held: &mut Held, disk: &mut D, seat: u32, op: &Op, write: &Writ
     ensures lists { (opening : List (Key × Value)) (m : Machine) (pace : Pace) → IsTrue (D.state disk.old).is_honest → StandsFor opening held.old m pace (D.state disk.old)
         → held.old.book.stopped ≡ None → IsTrue (may m seat (kind.Admit op.now)) → WritesFit (kind.Admit op.now)
         → TakesOver result opening seat op.now m pace held.new (D.state disk.old) (D.state disk.new) }
-    ensures effect { Affects anywhere (file_length held.old.runs.sizes) 22 (D.state disk.old) (D.state disk.new) }
+    ensures effect { Affects (beside_pins held.old.runs.sizes held.old.runs.space.pins) (file_length held.old.runs.sizes) 22 (D.state disk.old) (D.state disk.new) }
     ensures faults { TellsTaking result (D.state disk.old) (D.state disk.new) }
 {
     let rec = Rec::of_write(write);
@@ -127,10 +128,10 @@ impl<D: Disk + Drop> Core<D> {
         ensures cause { AdmitsBecause result seat op.now self.old.held self.new.held (D.state self.old.disk) (D.state self.new.disk) }
         ensures begun { HasBegun result self.old.held self.new.held }
         ensures notes { NotesOne seat op.now (reply_to_write result) self.old.held.book self.new.held.book }
-        ensures effect { Affects anywhere (file_length self.old.held.runs.sizes) 22 (D.state self.old.disk) (D.state self.new.disk) }
+        ensures effect { Affects (beside_pins self.old.held.runs.sizes self.old.held.runs.space.pins) (file_length self.old.held.runs.sizes) 22 (D.state self.old.disk) (D.state self.new.disk) }
+        ensures holds { KeepsHolds self.old self.new }
         ensures follows { Follows seat (facts_of_held self.old.held) (facts_of_held self.new.held) }
-        ensures lasts { (start : CoreState D) → StandsSince start.held self.old.held (D.state start.disk) (D.state self.old.disk)
-            → StandsSince start.held self.new.held (D.state start.disk) (D.state self.new.disk) }
+        ensures lasts { (start : CoreState D) → StandsSince D.state start self.old → StandsSince D.state start self.new }
         ensures untouched { CallsNone result → self.new.disk ≡ self.old.disk }
     {
         let write = write_of(op);

@@ -1,6 +1,6 @@
 //! What the calls answer.
 
-use blsm_model::{Value, Why};
+use blsm_model::{RowList, Value, Why};
 
 /// What an admission answers.
 #[derive(Clone, Copy, PartialEq, Eq, Debug)]
@@ -44,6 +44,43 @@ pub enum Lookup {
     Fault,
     /// This page was found damaged.
     Damaged(u32),
+    /// The tree was stopped before, for this cause.
+    Stopped(Why),
+}
+
+/// What holding a range answers.
+#[derive(Clone, Copy, PartialEq, Eq, Debug)]
+pub enum Holding {
+    /// The rows are held.
+    Held,
+    /// Memory was refused, and an earlier hold stays.
+    NoMemory,
+    /// The tree was stopped before, for this cause.
+    Stopped(Why),
+}
+
+/// What reading on in a hold answers.
+#[derive(PartialEq, Eq, Debug, Drop)]
+pub enum Scan {
+    /// The next rows.
+    Rows(RowList),
+    /// The caller has no hold.
+    NoHold,
+    /// A call of the disk failed.
+    Fault,
+    /// This page was found damaged.
+    Damaged(u32),
+    /// The tree was stopped before, for this cause.
+    Stopped(Why),
+}
+
+/// What dropping a hold answers.
+#[derive(Clone, Copy, PartialEq, Eq, Debug)]
+pub enum Release {
+    /// The hold is dropped.
+    Done,
+    /// The caller has no hold.
+    NoHold,
     /// The tree was stopped before, for this cause.
     Stopped(Why),
 }

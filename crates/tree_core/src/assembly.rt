@@ -1,7 +1,7 @@
 //! The core of a store that was opened.
-ghost use Rattle.std.specs.Prelude.{◌≡◌, ◌+◌, ◌≤◌, ℕ, [], IsTrue, length, sum};
+ghost use Rattle.std.specs.Prelude.{◌≡◌, ◌+◌, ◌≤◌, ℕ, [], None, IsTrue, length, replicate, sum};
 ghost use Rattle.blsm_model.specs.Components.{empty_component};
-ghost use Rattle.blsm_model.specs.Format.{most_entries};
+ghost use Rattle.blsm_model.specs.Format.{callers, most_entries};
 ghost use Rattle.blsm_model.specs.Geometry.{file_length, high_mark};
 ghost use Rattle.disk_trait.specs.Disk.{DiskState};
 ghost use Rattle.page_file.specs.Component.{entries_of};
@@ -13,7 +13,7 @@ ghost use Rattle.tree_log.specs.Log.{IsLogOf};
 ghost use Rattle.tree_runs.specs.Holding.{StandOver};
 ghost use Rattle.core_lists.specs.Standing.{catalogue_of};
 ghost use Rattle.core_pace.specs.Opening.{IsOpened};
-ghost use Rattle.tree_core.specs.Standing.{StandsFor};
+ghost use Rattle.tree_core.specs.Holds.{StandsWhole};
 ghost use Rattle.tree_core.specs.Parts.{AreSettled};
 ghost use Rattle.tree_core.specs.Steps.{StandsSince};
 
@@ -22,6 +22,7 @@ use blsm_model::Annals;
 use core_moves::Held;
 use disk_trait::Disk;
 use gear_sched::Gears;
+use scan_view::Holds;
 use seat_book::SeatBook;
 use tree_log::LoggedTables;
 use tree_runs::Runs;
@@ -37,24 +38,28 @@ pub struct Parts<D: Disk + Drop> {
     pub log: LoggedTables,
     /// The history, which is empty, and the room of each seat.
     pub annals: Annals,
+    /// The room for the callers' holds, of which there is none.
+    pub holds: Holds,
 }
 
 impl<D: Disk + Drop> Core<D> {
     /// The core of these parts. Its history is empty, its charge is what C1 and C2 weigh, and its peak and its counts are 0.
     pub fn assemble(parts: Parts<D>) -> Core<D>
+        requires none { parts.holds ≡ replicate callers None }
         requires settled { AreSettled parts.runs parts.log parts.annals (D.state parts.disk) }
         ensures disk { result.disk ≡ parts.disk }
         ensures runs { result.held.runs ≡ parts.runs }
         ensures log { result.held.log ≡ parts.log }
-        ensures begins { StandsSince result.held result.held (D.state result.disk) (D.state result.disk) }
+        ensures holds { result.holds ≡ parts.holds }
+        ensures begins { StandsSince D.state result result }
         ensures opened { IsOpened parts.annals (D.state parts.disk).faults result.held }
 
         // On an honest disk that stands on a tree with empty lanes it stands at the machine's first state, whose history begins with the tree's map.
         ensures stands { (tree : Tree) → IsTrue (D.state parts.disk).is_honest → StandOver parts.runs tree parts.log.a.entries (D.state parts.disk)
             → tree.lane_a ≡ [] → tree.lane_b ≡ []
-            → StandsFor (map_of_tree tree) result.held
+            → StandsWhole D.state (map_of_tree tree) result
             (opened parts.runs.sizes (entries_of tree.c1) (entries_of tree.c2) (catalogue_of parts.runs.catalogue) (D.state parts.disk).faults parts.annals.room)
-            (pace_opened parts.runs.sizes parts.runs.catalogue.c1.weight parts.runs.catalogue.c2.weight) (D.state parts.disk) }
+            (pace_opened parts.runs.sizes parts.runs.catalogue.c1.weight parts.runs.catalogue.c2.weight) }
     {
         let now = parts.runs.catalogue();
         let gears = Gears::new(&parts.runs.geometry());
@@ -72,6 +77,7 @@ impl<D: Disk + Drop> Core<D> {
                 spring: 0,
                 book,
             },
+            holds: parts.holds,
         }
     }
 }

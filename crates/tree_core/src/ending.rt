@@ -13,6 +13,7 @@ ghost use Rattle.tree_machine.specs.Plays.{may};
 ghost use Rattle.tree_machine.specs.Steps.{Replied, Left, work_reply};
 ghost use Rattle.core_moves.specs.Moves.{with_book};
 ghost use Rattle.tree_core.specs.Core.{CoreState, HoldsPace, facts_of_held};
+ghost use Rattle.tree_core.specs.Holds.{KeepsHolds};
 ghost use Rattle.tree_core.specs.Standing.{StandsFor};
 ghost use Rattle.tree_core.specs.Steps.{MovesPace, IsStep, StandsSince};
 
@@ -32,9 +33,9 @@ impl<D: Disk + Drop> Core<D> {
         ensures reply { as_reply result ≡ work_reply (work_in seat self.old.held.book) self.old.held.book.stopped }
         ensures disk { self.new.disk ≡ self.old.disk }
         ensures held { self.new.held ≡ with_book (ended_in seat n self.old.held.book) self.old.held }
+        ensures holds { KeepsHolds self.old self.new }
         ensures follows { Follows seat (facts_of_held self.old.held) (facts_of_held self.new.held) }
-        ensures lasts { (start : CoreState D) → StandsSince start.held self.old.held (D.state start.disk) (D.state self.old.disk)
-            → StandsSince start.held self.new.held (D.state start.disk) (D.state self.new.disk) }
+        ensures lasts { (start : CoreState D) → StandsSince D.state start self.old → StandsSince D.state start self.new }
     {
         // Each caller has its place.
         let _entries = self.held.book.entries();
@@ -51,9 +52,9 @@ impl<D: Disk + Drop> Core<D> {
             → IsStep opening seat kind.Leave Left self.new.held (D.state self.old.disk) (D.state self.new.disk) m pace }
         ensures disk { self.new.disk ≡ self.old.disk }
         ensures held { self.new.held ≡ with_book (left_in seat self.old.held.book) self.old.held }
+        ensures holds { KeepsHolds self.old self.new }
         ensures follows { Follows seat (facts_of_held self.old.held) (facts_of_held self.new.held) }
-        ensures lasts { (start : CoreState D) → StandsSince start.held self.old.held (D.state start.disk) (D.state self.old.disk)
-            → StandsSince start.held self.new.held (D.state start.disk) (D.state self.new.disk) }
+        ensures lasts { (start : CoreState D) → StandsSince D.state start self.old → StandsSince D.state start self.new }
     {
         self.held.book.leave(seat);
     }

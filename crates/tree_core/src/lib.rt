@@ -5,6 +5,7 @@ mod admission;
 mod answers;
 mod assembly;
 mod ending;
+mod holds;
 mod lock;
 mod lookup;
 mod payment;
@@ -13,6 +14,6 @@ mod settling;
 mod store;
 mod turns;
 
-pub use answers::{Admission, Lookup, Payment};
+pub use answers::{Admission, Holding, Lookup, Payment, Release, Scan};
 pub use assembly::Parts;
 pub use store::Core;

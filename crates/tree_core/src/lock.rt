@@ -11,7 +11,7 @@ impl<D: Disk + Drop> Stands for Core<D> {
 
     ghost facts = { λ c. facts_of_held c.held };
 
-    ghost stands = { λ start now. StandsSince start.held now.held (D.state start.disk) (D.state now.disk) };
+    ghost stands = { λ start now. StandsSince D.state start now };
 
     ghost most = { λ start. high_mark start.held.runs.sizes };
 

@@ -23,6 +23,7 @@ ghost use Rattle.tree_core.specs.Causes.{FindsBecause, IsFound, LooksNone};
 ghost use Rattle.tree_core.specs.declared.answers.Lookup.TheVariants as lookup;
 ghost use Rattle.tree_core.specs.Answers.{found_in};
 ghost use Rattle.tree_core.specs.Core.{CoreState, HoldsPace, facts_of_held};
+ghost use Rattle.tree_core.specs.Holds.{KeepsHolds};
 ghost use Rattle.tree_core.specs.Standing.{StandsFor};
 ghost use Rattle.tree_core.specs.Steps.{MovesPace, IsStep, StandsSince};
 
@@ -101,9 +102,9 @@ impl<D: Disk + Drop> Core<D> {
         ensures held { self.new.held ≡ with_book (noted_in seat (Get key.now) (reply_to_get result) self.old.held.book) self.old.held }
         ensures reads { OnlyReads (file_length self.old.held.runs.sizes)
             (self.old.held.runs.catalogue.c1.pages + self.old.held.runs.catalogue.c1x.pages + self.old.held.runs.catalogue.c2.pages) (D.state self.old.disk) (D.state self.new.disk) }
+        ensures holds { KeepsHolds self.old self.new }
         ensures follows { Follows seat (facts_of_held self.old.held) (facts_of_held self.new.held) }
-        ensures lasts { (start : CoreState D) → StandsSince start.held self.old.held (D.state start.disk) (D.state self.old.disk)
-            → StandsSince start.held self.new.held (D.state start.disk) (D.state self.new.disk) }
+        ensures lasts { (start : CoreState D) → StandsSince D.state start self.old → StandsSince D.state start self.new }
         ensures untouched { LooksNone result → self.new.disk ≡ self.old.disk }
     {
         others_may_write();

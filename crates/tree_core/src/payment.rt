@@ -8,17 +8,19 @@ ghost use Rattle.blsm_model.specs.Geometry.{file_length};
 ghost use Rattle.disk_trait.specs.Disk.{TellsFaultsBy};
 ghost use Rattle.disk_trait.specs.Effects.{Affects};
 ghost use Rattle.pacing.specs.Pace.{Pace};
+ghost use Rattle.scan_view.specs.Pins.{beside_pins};
 ghost use Rattle.tree_machine.specs.declared.step.Kind.TheVariants as kind;
 ghost use Rattle.tree_machine.specs.Machine.{Machine};
 ghost use Rattle.tree_machine.specs.Plays.{may};
 ghost use Rattle.tree_file.specs.Tree.{Tree};
 ghost use Rattle.tree_runs.specs.Holding.{StandOver};
-ghost use Rattle.core_moves.specs.Needs.{IsOn, IsReady, anywhere};
+ghost use Rattle.core_moves.specs.Needs.{IsOn, IsReady};
 ghost use Rattle.core_moves.specs.Moves.{KeepsAllButMerges};
 ghost use Rattle.core_pace.specs.Events.{TakesByPlan};
 ghost use Rattle.tree_core.specs.Answers.{answer_to_pay};
 ghost use Rattle.tree_core.specs.Causes.{PaysBecause, PaysNone};
 ghost use Rattle.tree_core.specs.Core.{CoreState, HoldsPace, facts_of_held};
+ghost use Rattle.tree_core.specs.Holds.{KeepsHolds};
 ghost use Rattle.tree_core.specs.Notes.{CountsPayment, Settles};
 ghost use Rattle.tree_core.specs.Quanta.{MayTake, LeavesTaken};
 ghost use Rattle.tree_core.specs.Standing.{StandsFor};
@@ -42,7 +44,7 @@ fn take<D: Disk>(held: &mut Held, disk: &mut D, seat: u32, plan: Plan) -> Result
     ensures takes { IfOk result (λ n. TakesByPlan plan seat n held.old held.new) }
     ensures on { OnOk result (IsOn held.new (D.state disk.new)) }
     ensures kept { KeepsAllButMerges (IsErr result) held.old held.new }
-    ensures effect { Affects anywhere (file_length held.old.runs.sizes) (held.old.runs.sizes.quantum / 4 + 3) (D.state disk.old) (D.state disk.new) }
+    ensures effect { Affects (beside_pins held.old.runs.sizes held.old.runs.space.pins) (file_length held.old.runs.sizes) (held.old.runs.sizes.quantum / 4 + 3) (D.state disk.old) (D.state disk.new) }
     ensures faults { TellsFaultsBy (Err Broken.Fault) result (D.state disk.old) (D.state disk.new) }
 {
     match plan {
@@ -65,10 +67,10 @@ impl<D: Disk + Drop> Core<D> {
         ensures cause { PaysBecause result seat self.old.held self.new.held (D.state self.old.disk) (D.state self.new.disk) }
         ensures counts { CountsPayment result seat self.old.held.book self.new.held.book }
         ensures settles { Settles result seat self.new.held }
-        ensures effect { Affects anywhere (file_length self.old.held.runs.sizes) (self.old.held.runs.sizes.quantum / 4 + 3) (D.state self.old.disk) (D.state self.new.disk) }
+        ensures effect { Affects (beside_pins self.old.held.runs.sizes self.old.held.runs.space.pins) (file_length self.old.held.runs.sizes) (self.old.held.runs.sizes.quantum / 4 + 3) (D.state self.old.disk) (D.state self.new.disk) }
+        ensures holds { KeepsHolds self.old self.new }
         ensures follows { Follows seat (facts_of_held self.old.held) (facts_of_held self.new.held) }
-        ensures lasts { (start : CoreState D) → StandsSince start.held self.old.held (D.state start.disk) (D.state self.old.disk)
-            → StandsSince start.held self.new.held (D.state start.disk) (D.state self.new.disk) }
+        ensures lasts { (start : CoreState D) → StandsSince D.state start self.old → StandsSince D.state start self.new }
         ensures untouched { PaysNone result → self.new.disk ≡ self.old.disk }
     {
         if let Some(why) = self.held.book.stopped() {

@@ -1,6 +1,5 @@
 //! Lists of steps.
-ghost use Rattle.std.specs.Prelude.{◌≡◌, ◌<◌, ◌∷◌, [], ℕ, List, false, IsTrue};
-ghost use Rattle.std.specs.List.{AllByRecursion};
+ghost use Rattle.std.specs.Prelude.{◌≡◌, ◌<◌, ◌∷◌, [], ℕ, List, IsTrue};
 ghost use Rattle.blsm_model.specs.declared.key.Key.{Key};
 ghost use Rattle.blsm_model.specs.declared.row.Value.{Value};
 ghost use Rattle.blsm_model.specs.Format.{callers};
@@ -8,12 +7,13 @@ ghost use Rattle.disk_trait.specs.Disk.{GoesOn};
 ghost use Rattle.pacing.specs.Pace.{Pace};
 ghost use Rattle.tree_machine.specs.Machine.{Machine};
 ghost use Rattle.tree_core.specs.Core.{CoreState};
-ghost use Rattle.tree_core.specs.Standing.{StandsFor};
-ghost use Rattle.tree_core.specs.Steps.{IsPlayed, StandsSince, is_even_in, is_held, may_in};
+ghost use Rattle.tree_core.specs.Holds.{StandsWhole};
+ghost use Rattle.tree_core.specs.Steps.{IsPlayed, StandsSince, is_even_in, may_in};
 
 use crate::Core;
-use blsm_model::CALLERS;
+use blsm_model::{CALLERS, RowList};
 use disk_trait::Disk;
+use std::alloc::Global;
 use tree_machine::{Kind, Step};
 
 // Callers, and eight workers.
@@ -38,23 +38,23 @@ impl<D: Disk + Drop> Core<D> {
                 op.is_write() && self.held.book.may_note(seat, 0) && self.is_even(seat)
             }
             Kind::Pay | Kind::Leave => seat < CALLERS,
-            Kind::Get(_) => self.held.book.may_note(seat, 0),
+            Kind::Get(_) | Kind::Hold(..) | Kind::Release => self.held.book.may_note(seat, 0),
+            Kind::Next(n) => self.held.book.may_note(seat, *n)
+                && 0 < *n
+                && *n as usize <= RowList::MAX_LEN,
             Kind::WorkTurn => self.held.book.may_turn(seat) && self.is_even(seat),
             Kind::WorkEnd(n) => self.held.book.may_end(seat, *n),
             Kind::WorkerTurn => CALLERS <= seat && seat < SEATS,
-            Kind::Hold(..) | Kind::Next(_) | Kind::Release => false,
         }
     }
 
     // Makes a step whose condition holds.
-    fn step(&mut self, step: &Step)
+    fn step(&mut self, alloc: Global, step: &Step)
         requires { IsTrue (may_in self.old.held step.now.seat step.now.kind) }
         ensures played { (opening : List (Key × Value)) (m : Machine) (pace : Pace) → IsTrue (D.state self.old.disk).is_honest
-            → StandsFor opening self.old.held m pace (D.state self.old.disk)
-            → IsPlayed opening (step.now ∷ []) self.new.held (D.state self.old.disk) (D.state self.new.disk) m pace }
+            → StandsWhole D.state opening self.old m pace → IsPlayed D.state opening (step.now ∷ []) self.old self.new m pace }
         ensures goes_on { GoesOn (D.state self.old.disk) (D.state self.new.disk) }
-        ensures lasts { (start : CoreState D) → StandsSince start.held self.old.held (D.state start.disk) (D.state self.old.disk)
-            → StandsSince start.held self.new.held (D.state start.disk) (D.state self.new.disk) }
+        ensures lasts { (start : CoreState D) → StandsSince D.state start self.old → StandsSince D.state start self.new }
     {
         let seat = step.seat;
         match &step.kind {
@@ -67,6 +67,15 @@ impl<D: Disk + Drop> Core<D> {
             Kind::Get(key) => {
                 let _ = self.get(seat, key);
             }
+            Kind::Hold(low, high) => {
+                let _ = self.hold(alloc, seat, low, high);
+            }
+            Kind::Next(n) => {
+                let _ = self.next_rows(seat, *n);
+            }
+            Kind::Release => {
+                let _ = self.drop_hold(seat);
+            }
             Kind::WorkTurn => {
                 let _ = self.work_turn(seat);
             }
@@ -77,39 +86,30 @@ impl<D: Disk + Drop> Core<D> {
                 let _ = self.worker_turn(seat);
             }
             Kind::Leave => self.leave(seat),
-            Kind::Hold(..) | Kind::Next(_) | Kind::Release => unreachable!(),
         }
     }
 
     // Makes a step where its condition holds.
-    fn try_step(&mut self, step: &Step)
-        requires { is_held step.now.kind ≡ false }
+    fn try_step(&mut self, alloc: Global, step: &Step)
         ensures played { (opening : List (Key × Value)) (m : Machine) (pace : Pace) → IsTrue (D.state self.old.disk).is_honest
-            → StandsFor opening self.old.held m pace (D.state self.old.disk)
-            → IsPlayed opening (step.now ∷ []) self.new.held (D.state self.old.disk) (D.state self.new.disk) m pace }
+            → StandsWhole D.state opening self.old m pace → IsPlayed D.state opening (step.now ∷ []) self.old self.new m pace }
         ensures goes_on { GoesOn (D.state self.old.disk) (D.state self.new.disk) }
-        ensures lasts { (start : CoreState D) → StandsSince start.held self.old.held (D.state start.disk) (D.state self.old.disk)
-            → StandsSince start.held self.new.held (D.state start.disk) (D.state self.new.disk) }
+        ensures lasts { (start : CoreState D) → StandsSince D.state start self.old → StandsSince D.state start self.new }
     {
         if self.may(step) {
-            self.step(step);
+            self.step(alloc, step);
         }
     }
 
-    /// Makes each of these steps whose condition holds, one after another, and passes over the others.
-    ///
-    /// None of them may be of a hold.
-    pub fn play(&mut self, steps: &[Step])
-        requires { AllByRecursion (λ step. is_held step.kind ≡ false) steps.now }
+    /// Makes each of these steps whose condition holds, one after another, and passes over the others. A hold takes its memory of `alloc`.
+    pub fn play(&mut self, alloc: Global, steps: &[Step])
         ensures played { (opening : List (Key × Value)) (m : Machine) (pace : Pace) → IsTrue (D.state self.old.disk).is_honest
-            → StandsFor opening self.old.held m pace (D.state self.old.disk)
-            → IsPlayed opening steps.now self.new.held (D.state self.old.disk) (D.state self.new.disk) m pace }
+            → StandsWhole D.state opening self.old m pace → IsPlayed D.state opening steps.now self.old self.new m pace }
         ensures goes_on { GoesOn (D.state self.old.disk) (D.state self.new.disk) }
-        ensures lasts { (start : CoreState D) → StandsSince start.held self.old.held (D.state start.disk) (D.state self.old.disk)
-            → StandsSince start.held self.new.held (D.state start.disk) (D.state self.new.disk) }
+        ensures lasts { (start : CoreState D) → StandsSince D.state start self.old → StandsSince D.state start self.new }
     {
         for step in steps {
-            self.try_step(step);
+            self.try_step(alloc, step);
         }
     }
 }

@@ -4,14 +4,16 @@ ghost use Rattle.blsm_model.specs.Geometry.{high_mark};
 ghost use Rattle.seat_book.specs.State.{totals_in};
 ghost use Rattle.core_moves.specs.Held.{charge_in};
 ghost use Rattle.tree_core.specs.Core.{IsCore};
+ghost use Rattle.tree_core.specs.Holds.{AreFew};
 ghost use Rattle.tree_core.specs.Steps.{StandsSince};
 
 use blsm_model::{Annals, Geometry, Totals};
 use core_moves::Held;
 use disk_trait::Disk;
+use scan_view::Holds;
 use std::marker::Model;
 
-/// The whole store: the disk, and what it has in memory. Seats are numbered from 0: callers below 16, and then eight workers.
+/// The whole store: the disk, what it has in memory, and the callers' holds. Seats are numbered from 0: callers below 16, and then eight workers.
 ///
 /// A step whose call of the disk fails, or that finds a damaged page, stops the store, but for a lookup; each later call answers the cause
 /// and changes nothing but the book.
@@ -19,16 +21,18 @@ use std::marker::Model;
 pub struct Core<D: Disk + Drop> {
     pub(crate) disk: D,
     pub(crate) held: Held,
+    pub(crate) holds: Holds,
 }
 
 impl<D: Disk + Drop> Model for Core<D> {
     ghost use Rattle.tree_core.specs.Core.{CoreState, IsCore};
+    ghost use Rattle.tree_core.specs.Holds.{AreFew};
 
     ghost Value = { CoreState D };
 
-    ghost view = { λ c. record { disk = c.disk; held = c.held } };
+    ghost view = { λ c. record { disk = c.disk; held = c.held; holds = c.holds } };
 
-    ghost invariant = { λ c. IsCore c.held (D.state c.disk) };
+    ghost invariant = { λ c. IsCore c.held (D.state c.disk) × AreFew c.held.runs.sizes c.holds };
 }
 
 impl<D: Disk + Drop> Core<D> {
@@ -44,7 +48,8 @@ impl<D: Disk + Drop> Core<D> {
         ensures charge { result ≡ charge_in self.now.held }
         // What its type keeps on every disk.
         ensures kept { IsCore self.now.held (D.state self.now.disk) }
-        ensures begins { StandsSince self.now.held self.now.held (D.state self.now.disk) (D.state self.now.disk) }
+        ensures few { AreFew self.now.held.runs.sizes self.now.holds }
+        ensures begins { StandsSince D.state self.now self.now }
     {
         self.held.charge()
     }

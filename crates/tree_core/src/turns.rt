@@ -12,6 +12,7 @@ ghost use Rattle.pacing.specs.Pace.{Pace};
 ghost use Rattle.seat_book.specs.Places.{HasPlaces};
 ghost use Rattle.seat_book.specs.State.{may_turn_in};
 ghost use Rattle.seat_book.specs.Turns.{turned_of};
+ghost use Rattle.scan_view.specs.Pins.{beside_pins};
 ghost use Rattle.tree_machine.specs.declared.step.Kind.TheVariants as kind;
 ghost use Rattle.tree_machine.specs.Machine.{Machine, seats};
 ghost use Rattle.tree_machine.specs.Outcomes.{calls_disk};
@@ -20,12 +21,13 @@ ghost use Rattle.tree_machine.specs.Steps.{Turn};
 ghost use Rattle.paced_tree.specs.Booking.{quanta_of_move};
 ghost use Rattle.tree_file.specs.Tree.{Tree};
 ghost use Rattle.tree_runs.specs.Holding.{StandOver};
-ghost use Rattle.core_moves.specs.Needs.{IsOn, IsReady, anywhere};
+ghost use Rattle.core_moves.specs.Needs.{IsOn, IsReady};
 ghost use Rattle.core_moves.specs.Moves.{KeepsAllButMerges};
 ghost use Rattle.core_pace.specs.Turns.{MayMove, TurnsBy, may_begin_in, move_at_rest, move_in, end_of_move};
 ghost use Rattle.core_lists.specs.Steps.{choice_of};
 ghost use Rattle.tree_core.specs.Causes.{TurnsBecause, TurnsNone};
 ghost use Rattle.tree_core.specs.Core.{CoreState, HoldsPace, facts_of_held};
+ghost use Rattle.tree_core.specs.Holds.{KeepsHolds};
 ghost use Rattle.tree_core.specs.Notes.{CountsTurn, NotesNone, OwesNothing};
 ghost use Rattle.tree_core.specs.Quanta.{LeavesMoved, as_moved, ended_by, quanta_by, stopped_by};
 ghost use Rattle.tree_core.specs.Standing.{StandsFor};
@@ -123,7 +125,7 @@ fn make<D: Disk>(held: &mut Held, disk: &mut D, seat: u32, choice: Choice) -> Re
     ensures on { OnOk result (IsOn held.new (D.state disk.new)) }
     ensures calls { IsErr result → IsTrue (calls_disk (choice_of (move_of choice))) }
     ensures kept { KeepsAllButMerges (IsErr result) held.old held.new }
-    ensures effect { Affects anywhere (file_length held.old.runs.sizes) (held.old.runs.sizes.quantum / 4 + 9) (D.state disk.old) (D.state disk.new) }
+    ensures effect { Affects (beside_pins held.old.runs.sizes held.old.runs.space.pins) (file_length held.old.runs.sizes) (held.old.runs.sizes.quantum / 4 + 9) (D.state disk.old) (D.state disk.new) }
     ensures faults { TellsFaultsBy (Err Broken.Fault) result (D.state disk.old) (D.state disk.new) }
 {
     match choice {
@@ -195,10 +197,10 @@ impl<D: Disk + Drop> Core<D> {
         ensures cause { TurnsBecause (turned_of result) false seat self.old.held self.new.held (D.state self.old.disk) (D.state self.new.disk) }
         ensures counts { CountsTurn seat (turned_of result) self.old.held self.new.held }
         ensures even_still { self.new.held.book.stopped ≡ None → OwesNothing seat self.new.held }
-        ensures effect { Affects anywhere (file_length self.old.held.runs.sizes) (self.old.held.runs.sizes.quantum / 4 + 9) (D.state self.old.disk) (D.state self.new.disk) }
+        ensures effect { Affects (beside_pins self.old.held.runs.sizes self.old.held.runs.space.pins) (file_length self.old.held.runs.sizes) (self.old.held.runs.sizes.quantum / 4 + 9) (D.state self.old.disk) (D.state self.new.disk) }
+        ensures holds { KeepsHolds self.old self.new }
         ensures follows { Follows seat (facts_of_held self.old.held) (facts_of_held self.new.held) }
-        ensures lasts { (start : CoreState D) → StandsSince start.held self.old.held (D.state start.disk) (D.state self.old.disk)
-            → StandsSince start.held self.new.held (D.state start.disk) (D.state self.new.disk) }
+        ensures lasts { (start : CoreState D) → StandsSince D.state start self.old → StandsSince D.state start self.new }
         ensures untouched { TurnsNone (turned_of result) → self.new.disk ≡ self.old.disk }
     {
         has_places(&self.held.book);
@@ -224,10 +226,10 @@ impl<D: Disk + Drop> Core<D> {
             → IsStep opening seat kind.WorkerTurn (Turn (turned_of result)) self.new.held (D.state self.old.disk) (D.state self.new.disk) m pace }
         ensures cause { TurnsBecause (turned_of result) true seat self.old.held self.new.held (D.state self.old.disk) (D.state self.new.disk) }
         ensures notes { NotesNone self.old.held.book self.new.held.book }
-        ensures effect { Affects anywhere (file_length self.old.held.runs.sizes) (self.old.held.runs.sizes.quantum / 4 + 9) (D.state self.old.disk) (D.state self.new.disk) }
+        ensures effect { Affects (beside_pins self.old.held.runs.sizes self.old.held.runs.space.pins) (file_length self.old.held.runs.sizes) (self.old.held.runs.sizes.quantum / 4 + 9) (D.state self.old.disk) (D.state self.new.disk) }
+        ensures holds { KeepsHolds self.old self.new }
         ensures follows { Follows seat (facts_of_held self.old.held) (facts_of_held self.new.held) }
-        ensures lasts { (start : CoreState D) → StandsSince start.held self.old.held (D.state start.disk) (D.state self.old.disk)
-            → StandsSince start.held self.new.held (D.state start.disk) (D.state self.new.disk) }
+        ensures lasts { (start : CoreState D) → StandsSince D.state start self.old → StandsSince D.state start self.new }
         ensures untouched { TurnsNone (turned_of result) → self.new.disk ≡ self.old.disk }
     {
         if let Some(why) = self.held.book.stopped() {

@@ -39,19 +39,19 @@ runs_stay pushed runs honest old new same running = record {
 }
 
 -- which tag a running merge's pages have
-abbrev tag_of_pass : Option SnowState → ℕ
+abbrev pub tag_of_pass : Option SnowState → ℕ
 tag_of_pass None = 0
 tag_of_pass (Some snow) = snow.writer.role
 
-pass_has_it : (snow : Option SnowState) → PassHasTag (tag_of_pass snow) snow
+pub pass_has_it : (snow : Option SnowState) → PassHasTag (tag_of_pass snow) snow
 pass_has_it None = tt
 pass_has_it (Some snow) = refl
 
-abbrev tag_of_deep : Option DeepState → ℕ
+abbrev pub tag_of_deep : Option DeepState → ℕ
 tag_of_deep None = 0
 tag_of_deep (Some merge) = merge.writer.role
 
-deep_has_it : (merge : Option DeepState) → DeepHasTag (tag_of_deep merge) merge
+pub deep_has_it : (merge : Option DeepState) → DeepHasTag (tag_of_deep merge) merge
 deep_has_it None = tt
 deep_has_it (Some merge) = refl
 

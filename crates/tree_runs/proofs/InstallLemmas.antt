@@ -9,6 +9,7 @@ use Rattle.deep_merge.specs.Merge.{DeepState, started as deep_started}
 use Rattle.tree_runs.specs.Runs.{RunsState, Tags, AreRuns, AreTags, HasOneTag, IsFilled, IsHeld, RestsEmpty, made_by_pass, made_by_deep}
 use Rattle.tree_runs.proofs.ReleasedTags.{Released, has_before, size_still, sizes_released}
 use Rattle.tree_runs.proofs.CountLemmas.{pins_same}
+use Rattle.tree_runs.proofs.PinLemmas.{unpinned_still, released_unpinned}
 
 -- the components of a catalogue
 pub record HasParts (next : Catalog) (c1 c1x c2 : Component) : Type 0 where
@@ -113,6 +114,8 @@ runs_for_deep old next mid after are parts first second = record {
   pass_tag = are.pass_tag;
   deep_tag = tt;
   rests = parts.c1x_is;
+  pass_unpinned = unpinned_still tags.pass second (unpinned_still tags.pass first are.pass_unpinned);
+  deep_unpinned = released_unpinned second;
   within = record {
     roles = omega (
       arith,
@@ -152,6 +155,8 @@ runs_for_pass old next after are parts gone = record {
   pass_tag = tt;
   deep_tag = are.deep_tag;
   rests = subst (λ (k : Component). RestsEmpty old.deep k) (sym parts.c1x_is) are.rests;
+  pass_unpinned = released_unpinned gone;
+  deep_unpinned = unpinned_still tags.deep gone are.deep_unpinned;
   within = record {
     roles = omega (
       arith,
@@ -198,6 +203,8 @@ runs_for_rotated_pass old next after are parts rests gone = record {
   pass_tag = tt;
   deep_tag = refl;
   rests = tt;
+  pass_unpinned = released_unpinned gone;
+  deep_unpinned = unpinned_still tags.deep gone are.deep_unpinned;
   within = record {
     roles = omega (
       arith,

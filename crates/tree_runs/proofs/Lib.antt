@@ -5,10 +5,12 @@ mod StayLemmas
 mod QuantumLemmas
 mod FindLemmas
 mod BesideLemmas
+mod HoldLemmas
 mod QuantaLemmas
 mod InstallLemmas
 mod CommitLemmas
 mod SwapRegions
+mod PinLemmas
 mod CatalogLemmas
 mod SwapLemmas
 mod NextTrees

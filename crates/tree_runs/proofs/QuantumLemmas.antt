@@ -18,6 +18,7 @@ use Rattle.deep_merge.specs.Merge.{DeepState, IsMerge}
 use Rattle.tree_file.specs.Tree.{Tree, HoldsTree}
 use Rattle.tree_file.specs.Places.{StandsOn}
 use Rattle.tree_file.proofs.StandLemmas.{stands_beside}
+use Rattle.scan_view.proofs.StayLemmas.{unpinned_on}
 use Rattle.tree_runs.specs.Runs.{RunsState, Tags, AreRuns, AreRunning, HasOneTag, IsFilled, PassRuns, DeepRuns, PassHasTag, DeepHasTag, made_by_pass, made_by_deep, pages_in_use, page_share}
 use Rattle.tree_runs.specs.Holding.{IsPassOver, IsDeepOver, StandOver, KeepsAllButPass, KeepsAllButDeep, PassTook, DeepTook}
 use Rattle.tree_runs.proofs.CountLemmas.{within_more, other_size}
@@ -102,6 +103,8 @@ pass_in_order runs after snow next is are shape takes size role filled =
       pass_tag = role;
       deep_tag = are.deep_tag;
       rests = are.rests;
+      pass_unpinned = unpinned_on runs.space after runs.tags.pass runs.tags.pass takes are.pass_unpinned;
+      deep_unpinned = unpinned_on runs.space after runs.tags.pass runs.tags.deep takes are.deep_unpinned;
       within = within_more snow.writer.component.pages next.writer.component.pages (pages_in_use runs) (pages_in_use (passed runs after next)) (page_share runs.sizes) takes are.tags.pass_below size (omega (arith, made)) are.within;
     }
 
@@ -204,6 +207,8 @@ deep_in_order runs after merge next is are shape takes size role filled =
       pass_tag = are.pass_tag;
       deep_tag = role;
       rests = tt;
+      pass_unpinned = unpinned_on runs.space after runs.tags.deep runs.tags.pass takes are.pass_unpinned;
+      deep_unpinned = unpinned_on runs.space after runs.tags.deep runs.tags.deep takes are.deep_unpinned;
       within = within_more merge.writer.component.pages next.writer.component.pages (pages_in_use runs) (pages_in_use (deepened runs after next)) (page_share runs.sizes) takes are.tags.deep_below size (omega (arith, made)) are.within;
     }
 

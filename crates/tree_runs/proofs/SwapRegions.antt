@@ -25,7 +25,7 @@ use Rattle.tree_runs.specs.Holding.{AreTagged, swap_region}
 
 -- ---- not in the pages of other tags
 
-lane_before : (sizes : Sizes) (lane : ℕ) → 1 ≤ sizes.half → lane < 3 → region_start sizes lane + 1 ≤ page_start sizes 0
+pub lane_before : (sizes : Sizes) (lane : ℕ) → 1 ≤ sizes.half → lane < 3 → region_start sizes lane + 1 ≤ page_start sizes 0
 lane_before sizes zero some below = omega (arith, some)
 lane_before sizes (suc zero) some below = omega (arith, some)
 lane_before sizes (suc (suc zero)) some below = omega (arith, some)

@@ -12,11 +12,12 @@ use Rattle.blsm_model.specs.declared.key.Key.{Key}
 use Rattle.blsm_model.specs.declared.component.Component.{Component}
 use Rattle.catalog_swap.specs.declared.catalog.Catalog.{Catalog}
 use Rattle.record_delta.specs.Entries.{Entries, folded_over, settled_entries}
-use Rattle.page_space.specs.Space.{SpaceState, HasRole, IsFree}
+use Rattle.page_space.specs.Space.{SpaceState, HasRole, IsFree, KeepsOtherPins}
 use Rattle.page_file.specs.Component.{RunPage, entries_of, numbers_of}
 use Rattle.run_writer.specs.Writer.{role_region}
 use Rattle.catalog_swap.specs.Slots.{slot_of, slot_length}
 use Rattle.catalog_swap.specs.Swap.{prepared}
+use Rattle.merge_ends.specs.Output.{TakesPages}
 use Rattle.merge_ends.specs.Quantum.{IsQuantum}
 use Rattle.snow_merge.specs.Pass.{SnowState, IsPass, Takes}
 use Rattle.deep_merge.specs.Merge as deep
@@ -125,14 +126,21 @@ pub record KeepsAllButPass (old new : RunsState) : Type 0 where
   pub catalogue : new.catalogue ≡ old.catalogue
   pub tags : new.tags ≡ old.tags
   pub deep : new.deep ≡ old.deep
-  pub pins : new.space.pins ≡ old.space.pins
+  pub takes : TakesPages old.tags.pass old.space new.space
 
 pub record KeepsAllButDeep (old new : RunsState) : Type 0 where
   pub sizes : new.sizes ≡ old.sizes
   pub catalogue : new.catalogue ≡ old.catalogue
   pub tags : new.tags ≡ old.tags
   pub pass : new.pass ≡ old.pass
-  pub pins : new.space.pins ≡ old.space.pins
+  pub takes : TakesPages old.tags.deep old.space new.space
+
+-- The seat pins other pages now. Nothing else has changed.
+pub record Repins (seat : ℕ) (old new : RunsState) : Type 0 where
+  pub rest : new ≡ record old { space = new.space }
+  pub others : KeepsOtherPins seat old.space new.space
+  pub roles : new.space.roles ≡ old.space.roles
+  pub pages : new.space.pages ≡ old.space.pages
 
 -- a quantum of the pass took so much, by the numbers, or as the lists have it
 abbrev pub PassTakes : Option SnowState → Option SnowState → Entries → ℕ → Type 0

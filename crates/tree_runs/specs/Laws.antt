@@ -8,10 +8,12 @@ use Rattle.blsm_model.specs.Geometry.{page_count}
 use Rattle.catalog_swap.specs.declared.catalog.Catalog.{Catalog}
 use Rattle.record_delta.specs.declared.record.Rec.{Rec}
 use Rattle.record_delta.specs.Entries.{Entries, AreSorted, entries_weight, is_above, with_record}
+use Rattle.page_space.specs.PageSet.{Members}
 use Rattle.page_space.specs.Space.{SpaceState, Claims, HasRole, IsFree, IsSpace, KeepsOtherRoles, role_size, unused}
 use Rattle.page_file.specs.File.{page_start}
 use Rattle.run_writer.specs.Writer.{role_region}
 use Rattle.merge_ends.specs.Quantum.{IsQuantum}
+use Rattle.scan_view.specs.Pins.{beside_pins}
 use Rattle.snow_merge.specs.Pass.{SnowState}
 use Rattle.tree_machine.specs.Merges.{Merge, cursor_after, quantum_of}
 use Rattle.tree_file.specs.Tree.{Tree, HoldsTree}
@@ -30,6 +32,10 @@ IsBesideRuns runs old new = IsSameOutside (outside (used_region runs.sizes runs.
 -- what stands before the pages, as the slots and the lanes do, is beside them
 abbrev pub HeadIsBeside : Type 0
 HeadIsBeside = (sizes : Sizes) (space : SpaceState) (at n : ℕ) → at + n ≤ page_start sizes 0 → IsWithin (span at n) (outside (used_region sizes space))
+
+-- and beside those that seats pin
+abbrev pub HeadIsUnpinned : Type 0
+HeadIsUnpinned = (sizes : Sizes) (pins : List Members) (at n : ℕ) → at + n ≤ page_start sizes 0 → IsWithin (span at n) (beside_pins sizes pins)
 
 -- the merges go on
 abbrev pub RunsStay : Type 0

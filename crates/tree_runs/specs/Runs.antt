@@ -8,6 +8,7 @@ use Rattle.blsm_model.specs.Geometry.{page_count, capacity}
 use Rattle.catalog_swap.specs.declared.catalog.Catalog.{Catalog}
 use Rattle.record_delta.specs.Entries.{Entries}
 use Rattle.page_space.specs.Space.{SpaceState, IsSpace, HasRole, IsWithin, role_count, role_size, pin_size, seat_count}
+use Rattle.scan_view.specs.Pins.{IsUnpinned}
 use Rattle.snow_merge.specs.Pass as pass
 use Rattle.snow_merge.specs.Pass.{SnowState}
 use Rattle.deep_merge.specs.Merge as deep
@@ -139,6 +140,9 @@ pub record AreRuns (runs : RunsState) : Type 0 where
   pub pass_tag : PassHasTag runs.tags.pass runs.pass
   pub deep_tag : DeepHasTag runs.tags.deep runs.deep
   pub rests : RestsEmpty runs.deep runs.catalogue.c1x
+  -- no seat pins a page of a run that is written
+  pub pass_unpinned : IsUnpinned runs.space runs.tags.pass
+  pub deep_unpinned : IsUnpinned runs.space runs.tags.deep
   -- the tags' pages are these, and no seat pins more than its share
   pub within : IsWithin (pages_in_use runs) (page_share runs.sizes) runs.space
 

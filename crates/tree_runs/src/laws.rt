@@ -1,14 +1,15 @@
 //! What the components and the runs keep while others write, and what of their map is known once they are read. The functions do nothing:
 //! they stand for the laws that their clauses name.
-ghost use Rattle.tree_runs.specs.Laws.{HeadIsBeside, RunsStay, ListsStay, EntriesJoin, EntriesWait, LeftGrows, QuantaAgree, ClaimsAdd, TakenAreRead};
+ghost use Rattle.tree_runs.specs.Laws.{HeadIsBeside, HeadIsUnpinned, RunsStay, ListsStay, EntriesJoin, EntriesWait, LeftGrows, QuantaAgree, ClaimsAdd, TakenAreRead};
 
 use run_cursor::what_is_ahead;
 use run_writer::where_a_run_writes;
 
-/// What others write, the log and the catalogue, is beside the pages of the components and the runs. So the merges go on over the same
+/// What others write, the log and the catalogue, is beside the pages of the components and the runs, and beside those of holds. So the merges go on over the same
 /// lists, and over table A with each entry that joins it ahead of the pass.
 pub fn others_may_write()
     ensures head { HeadIsBeside }
+    ensures pins { HeadIsUnpinned }
     ensures running { RunsStay }
     ensures lists { ListsStay }
     ensures joins { EntriesJoin }

@@ -2,6 +2,7 @@
 //! quantum, and is swapped in by one commit of the catalogue. Whoever owns the disk, the memory table and the log drives it.
 #![tactic(auto)]
 
+mod holds;
 mod laws;
 mod lookup;
 mod quanta;

@@ -6,7 +6,7 @@ ghost use Rattle.disk_trait.specs.Moments.{LeavesOnly};
 ghost use Rattle.blsm_model.specs.Format.{most_weight};
 ghost use Rattle.blsm_model.specs.Geometry.{file_length};
 ghost use Rattle.page_file.specs.Component.{entries_of};
-ghost use Rattle.run_writer.specs.Writer.{role_region};
+ghost use Rattle.scan_view.specs.Pins.{beside_pins};
 ghost use Rattle.tree_file.specs.Tree.{Tree, HoldsTree};
 ghost use Rattle.tree_file.specs.Places.{StandsOn};
 ghost use Rattle.tree_runs.specs.Runs.{AreRunning, Fits, left_for_pass, left_for_deep};
@@ -47,8 +47,8 @@ impl Runs {
         ensures runs { IsSome self.new.pass }
         ensures others { KeepsAllButPass self.old self.new }
 
-        // It writes pages of its run alone.
-        ensures effect { Affects (role_region self.old.sizes self.new.space self.old.tags.pass) (file_length self.old.sizes) (self.old.sizes.quantum / 7 + 2) (D.state disk.old) (D.state disk.new) }
+        // It writes no page that a seat pins.
+        ensures effect { Affects (beside_pins self.old.sizes self.old.space.pins) (file_length self.old.sizes) (self.old.sizes.quantum / 7 + 2) (D.state disk.old) (D.state disk.new) }
         ensures faults { TellsFaultsBy (Err Broken.Fault) result (D.state disk.old) (D.state disk.new) }
     {
         what_is_ahead();
@@ -87,7 +87,7 @@ impl Runs {
         ensures runs { IsSome self.new.deep }
         ensures others { KeepsAllButDeep self.old self.new }
 
-        ensures effect { Affects (role_region self.old.sizes self.new.space self.old.tags.deep) (file_length self.old.sizes) (self.old.sizes.quantum / 4 + 3) (D.state disk.old) (D.state disk.new) }
+        ensures effect { Affects (beside_pins self.old.sizes self.old.space.pins) (file_length self.old.sizes) (self.old.sizes.quantum / 4 + 3) (D.state disk.old) (D.state disk.new) }
         ensures faults { TellsFaultsBy (Err Broken.Fault) result (D.state disk.old) (D.state disk.new) }
     {
         what_is_ahead();

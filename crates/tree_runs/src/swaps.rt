@@ -8,10 +8,11 @@ ghost use Rattle.record_delta.specs.Entries.{Entries, folded_over, settled_entri
 ghost use Rattle.page_file.specs.Component.{RunPage, HasList, entries_of};
 ghost use Rattle.page_file.specs.File.{Writes};
 ghost use Rattle.run_writer.specs.Writer.{role_region};
+ghost use Rattle.scan_view.specs.Pins.{beside_pins};
 ghost use Rattle.tree_file.specs.Tree.{Tree, HoldsTree};
 ghost use Rattle.tree_file.specs.Places.{StandsOn, Becomes, ReadsNext, with_components, with_pass};
 ghost use Rattle.tree_runs.specs.Runs.{AreRuns, AreRunning, PassRuns, DeepRuns, Fits, left_for_pass, left_for_deep, made_by_pass, made_by_deep};
-ghost use Rattle.tree_runs.specs.Holding.{AreOf, AreTagged, IsPassOver, IsDeepOver, StandOver, LeavesSwapped, SwapsDeep, SwapsPass, Rotates, IsDeepSwapped, IsPassSwapped, IsRotated, is_full, commit_region, swap_region, with_deep_run, with_pass_run, with_rotation};
+ghost use Rattle.tree_runs.specs.Holding.{AreOf, AreTagged, IsPassOver, IsDeepOver, StandOver, LeavesSwapped, SwapsDeep, SwapsPass, Rotates, IsDeepSwapped, IsPassSwapped, IsRotated, is_full, commit_region, with_deep_run, with_pass_run, with_rotation};
 ghost use Rattle.tree_runs.specs.Swaps.{MayFollow};
 
 use crate::runs::Runs;
@@ -62,7 +63,7 @@ impl Runs {
         ensures swaps { OnOk result (SwapsDeep self.old self.new) }
         ensures running { OnOk result (AreRunning (D.state disk.new).is_honest (D.state disk.new).bytes self.new) }
         ensures kept { OnErr result (self.new ≡ self.old) }
-        ensures effect { Affects (swap_region self.old.sizes self.old.space self.old.tags.deep self.old.catalogue) (file_length self.old.sizes) 9 (D.state disk.old) (D.state disk.new) }
+        ensures effect { Affects (beside_pins self.old.sizes self.old.space.pins) (file_length self.old.sizes) 9 (D.state disk.old) (D.state disk.new) }
         ensures faults { TellsFaults result (D.state disk.old) (D.state disk.new) }
     {
         what_is_ahead();
@@ -93,7 +94,7 @@ impl Runs {
         ensures swaps { OnOk result (SwapsPass self.old self.new) }
         ensures running { OnOk result (AreRunning (D.state disk.new).is_honest (D.state disk.new).bytes self.new) }
         ensures kept { OnErr result (self.new ≡ self.old) }
-        ensures effect { Affects (swap_region self.old.sizes self.old.space self.old.tags.pass self.old.catalogue) (file_length self.old.sizes) 9 (D.state disk.old) (D.state disk.new) }
+        ensures effect { Affects (beside_pins self.old.sizes self.old.space.pins) (file_length self.old.sizes) 9 (D.state disk.old) (D.state disk.new) }
         ensures faults { TellsFaults result (D.state disk.old) (D.state disk.new) }
     {
         what_is_ahead();
@@ -165,7 +166,7 @@ impl Runs {
         ensures rotates { OnOk result (Rotates self.old self.new) }
         ensures running { OnOk result (AreRunning (D.state disk.new).is_honest (D.state disk.new).bytes self.new) }
         ensures kept { OnErr result (self.new ≡ self.old) }
-        ensures effect { Affects (commit_region self.old.sizes self.old.catalogue) (file_length self.old.sizes) 8 (D.state disk.old) (D.state disk.new) }
+        ensures effect { Affects (beside_pins self.old.sizes self.old.space.pins) (file_length self.old.sizes) 8 (D.state disk.old) (D.state disk.new) }
         ensures faults { TellsFaults result (D.state disk.old) (D.state disk.new) }
     {
         let next = self.after_rotation();

@@ -244,8 +244,8 @@ proceeds_none state calls old = record {
 }
 
 -- one call, of a core that stands since some start
-pub proceeds_by : {D : Type 0} (state : D → DiskState) (told calls : ℕ) (start old new : CoreState D) → StandsSince start.held old.held (state start.disk) (state old.disk)
-    → ((from : CoreState D) → StandsSince from.held old.held (state from.disk) (state old.disk) → StandsSince from.held new.held (state from.disk) (state new.disk))
+pub proceeds_by : {D : Type 0} (state : D → DiskState) (told calls : ℕ) (start old new : CoreState D) → StandsSince state start old
+    → ((from : CoreState D) → StandsSince state from old → StandsSince state from new)
     → Reaches (file_length old.held.runs.sizes) calls (state old.disk) (state new.disk) → TellsFaults told old.held new.held (state old.disk) (state new.disk) → sum (drop callers new.held.book.seats.quanta) ≡ sum (drop callers old.held.book.seats.quanta)
     → Proceeds state told calls old new
 proceeds_by state told calls start old new since lasts effect tells alone = record { sizes = (lasts start since).sizes ∙ sym since.sizes; effect = effect; tells = tells; alone = alone; lasts = lasts }

@@ -157,9 +157,9 @@ turned_all state seat n t old new all so_far = record {
 
 -- ---- the end
 
-pub work_ended : {D : Type 0} (state : D → DiskState) (seat n : ℕ) (old mid new : CoreState D) → StandsSince mid.held mid.held (state mid.disk) (state mid.disk) → StandsSince new.held new.held (state new.disk) (state new.disk) → Rests old.held → (old.held.book.stopped ≡ None → mid.held.book.stopped ≡ None → (any : ℕ) → OwesNothing any mid.held)
+pub work_ended : {D : Type 0} (state : D → DiskState) (seat n : ℕ) (old mid new : CoreState D) → StandsSince state mid mid → StandsSince state new new → Rests old.held → (old.held.book.stopped ≡ None → mid.held.book.stopped ≡ None → (any : ℕ) → OwesNothing any mid.held)
     → Turns state seat n old mid → new.disk ≡ mid.disk → new.held ≡ with_book (ended_in seat n mid.held.book) mid.held
-    → ((from : CoreState D) → StandsSince from.held mid.held (state from.disk) (state mid.disk) → StandsSince from.held new.held (state from.disk) (state new.disk)) → Performs state seat (Work n) old new
+    → ((from : CoreState D) → StandsSince state from mid → StandsSince state from new) → Performs state seat (Work n) old new
 work_ended {D} state seat n old mid new since begins rests even turns disk held lasts = record {
   reply = reply;
   quanta = (work_in seat mid.held.book).quanta;

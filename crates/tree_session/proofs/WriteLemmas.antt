@@ -38,7 +38,7 @@ idle_still : (old new : BookState) → new.seats.work ≡ old.seats.work → ((a
 idle_still old new same idle any = ap (λ (l : List WorkSoFar). slice_index_or l any no_work) same ∙ idle any
 
 pub write_refused : {D : Type 0} (state : D → DiskState) (seat : ℕ) (op : Op) (answer : Admission) (old new : CoreState D) → is_write op ≡ true → (answer ≡ admission.Admitted → ⊥) → AdmitsBecause answer seat op old.held new.held (state old.disk) (state new.disk)
-    → NotesOne seat op (reply_to_write answer) old.held.book new.held.book → Rests old.held → Proceeds state (faults_of (reply_to_write answer)) 22 old new → StandsSince new.held new.held (state new.disk) (state new.disk) → Performs state seat op old new
+    → NotesOne seat op (reply_to_write answer) old.held.book new.held.book → Rests old.held → Proceeds state (faults_of (reply_to_write answer)) 22 old new → StandsSince state new new → Performs state seat op old new
 write_refused state seat op answer old new write not because notes rests proceeds begins =
     let entry : Entry = record { seat = seat; op = op; reply = reply_to_write answer } in
     record {
@@ -57,7 +57,7 @@ write_refused state seat op answer old new write not because notes rests proceed
     }
 
 pub write_taken : {D : Type 0} (state : D → DiskState) (seat : ℕ) (op : Op) (old mid new : CoreState D) → is_write op ≡ true → IsCore old.held (state old.disk) → old.held.book.stopped ≡ None
-    → NotesOne seat op Done old.held.book mid.held.book → EasesOthers seat old.held mid.held → Rests old.held → Proceeds state 0 22 old mid → PaysOff state seat mid new → StandsSince new.held new.held (state new.disk) (state new.disk) → Performs state seat op old new
+    → NotesOne seat op Done old.held.book mid.held.book → EasesOthers seat old.held mid.held → Rests old.held → Proceeds state 0 22 old mid → PaysOff state seat mid new → StandsSince state new new → Performs state seat op old new
 write_taken state seat op old mid new write keeps ran notes eases rests admits pays begins =
     let entry : Entry = record { seat = seat; op = op; reply = Done } in
     let last = last_is seat op old.held.book mid.held.book write notes.annals in

@@ -78,4 +78,4 @@ pub record Proceeds {D : Type 0} (state : D → DiskState) (told calls : ℕ) (o
   pub effect : Reaches (file_length old.held.runs.sizes) calls (state old.disk) (state new.disk)
   pub tells : TellsFaults told old.held new.held (state old.disk) (state new.disk)
   pub alone : sum (drop callers new.held.book.seats.quanta) ≡ sum (drop callers old.held.book.seats.quanta)
-  pub lasts : (start : CoreState D) → StandsSince start.held old.held (state start.disk) (state old.disk) → StandsSince start.held new.held (state start.disk) (state new.disk)
+  pub lasts : (start : CoreState D) → StandsSince state start old → StandsSince state start new

@@ -52,7 +52,7 @@ pub record Performs {D : Type 0} (state : D → DiskState) (seat : ℕ) (op : Op
   pub names : NamesStop reply new.held.book.stopped
   pub rests : Rests new.held
   -- and what lasts begins there anew
-  pub begins : StandsSince new.held new.held (state new.disk) (state new.disk)
+  pub begins : StandsSince state new new
   pub proceeds : Proceeds state (faults_of reply) (most_calls old.held.runs.sizes op quanta) old new
 
 -- ---- a script

@@ -16,14 +16,14 @@ use tree_core::{Admission, Core, Payment};
 // What the core keeps on every disk.
 pub(crate) fn keeps<D: Disk + Drop>(core: &Core<D>)
     ensures core { IsCore core.now.held (D.state core.now.disk) }
-    ensures begins { StandsSince core.now.held core.now.held (D.state core.now.disk) (D.state core.now.disk) }
+    ensures begins { StandsSince D.state core.now core.now }
 {
     let _charge = core.charge();
 }
 
 // What lasts begins anew at each state of the core.
 pub(crate) fn begins<D: Disk + Drop>(core: &Core<D>)
-    ensures { StandsSince core.now.held core.now.held (D.state core.now.disk) (D.state core.now.disk) }
+    ensures { StandsSince D.state core.now core.now }
 {
     let _charge = core.charge();
 }

@@ -1,27 +1,25 @@
 use Rattle.std.proofs.Common.{sym, subst, IsTrue, Some, None}
 use Rattle.disk_trait.specs.Disk.{TellsFaultsBy}
 use Rattle.tree_reading.specs.declared.found.Unreadable.{Unreadable}
-use Rattle.recover_open.specs.Opening.{OpensAs, KeepsMapOf}
+use Rattle.recover_open.specs.Opening.{KeepsMapOf}
 use Rattle.recover_open.proofs.CoreLemmas.{are_settled, charge_opened, keeps_start, opens_as}
 use Rattle.recover_open.proofs.opening.open_store.Goals as goal
 
 pub returns-in_default-clause-keeps : goal.returns-in_default-clause-keeps
 returns-in_default-clause-keeps g c = λ sizes pairs honest reads. keeps_start (g.D.Disk.state c.args.disk) sizes pairs (g.met.D.Disk.timed c.args.disk) reads
 
-pub assemble-requires : goal.assemble-requires
-assemble-requires g c =
+pub assemble-requires-clause-settled : goal.assemble-requires-clause-settled
+assemble-requires-clause-settled g c =
     let b = c.in-Ok-open_tree.begun in
     let r = c.in-Ok-open_tree.ensures.ready in
-    record { settled = are_settled b.runs b.log c.in-Ok.memory.annals c.args.room (g.D.Disk.state c.open_tree.new.disk) b.runs.sizes r.0 r.1 r.2 c.requires.entries c.in-Ok.ensures }
+    are_settled b.runs b.log c.in-Ok.memory.annals c.args.room (g.D.Disk.state c.open_tree.new.disk) b.runs.sizes r.0 r.1 r.2 c.requires.entries c.in-Ok.ensures.annals
 
 pub returns-in-Ok-open_tree-clause-stands : goal.returns-in-Ok-open_tree-clause-stands
 returns-in-Ok-open_tree-clause-stands g c = λ honest.
     let b = c.in-Ok-open_tree.begun in
-    let file = (g.D.Disk.state c.args.disk).bytes in
     let honest' = subst IsTrue (sym c.open_tree.ensures.effect.effect.goes_on.is_honest) honest in
-    let opens = opens_as c.args.room b.runs b.log c.in-Ok.memory.annals c.assemble.result.held file (g.D.Disk.state c.open_tree.new.disk) honest' (c.in-Ok-open_tree.ensures.stands honest) c.in-Ok.ensures
-    c.assemble.ensures.runs (charge_opened _ _ c.assemble.result.held c.assemble.ensures.opened) c.assemble.ensures.stands in
-    subst (λ d. OpensAs c.args.room c.assemble.result.held file (g.D.Disk.state d)) (sym c.assemble.ensures.disk) opens
+    opens_as g.D.Disk.state c.args.room b.runs b.log c.in-Ok.memory.annals c.assemble.result (g.D.Disk.state c.args.disk).bytes c.open_tree.new.disk c.assemble.ensures.disk honest' (c.in-Ok-open_tree.ensures.stands honest)
+    c.in-Ok.ensures.annals c.assemble.ensures.runs (charge_opened _ _ c.assemble.result.held c.assemble.ensures.opened) c.assemble.ensures.stands
 
 pub returns-in-Ok-open_tree-clause-keeps : goal.returns-in-Ok-open_tree-clause-keeps
 returns-in-Ok-open_tree-clause-keeps g c = λ sizes pairs honest reads.

@@ -19,7 +19,8 @@ use Rattle.core_pace.specs.Events.{MayWrite}
 use Rattle.core_pace.proofs.NeedLemmas.{way_is_free}
 use Rattle.core_pace.proofs.EventLemmas.{settled_between, moves_are_told}
 use Rattle.core_pace.proofs.CallLemmas.{paced_is_between, between_is_ready, settled_is_not_done, admission_fits}
-use Rattle.tree_core.proofs.TakingLemmas.{ok_of, err_of, calm_of, risen_of, sizes_settled, sizes_passed, begun_keeps, begun_on, fits_as, at_write, affects_then, weighs}
+use Rattle.tree_core.proofs.KeepLemmas.{begin_keeps_pins, deep_keeps_pins, pass_keeps_pins, same_pins, then_pins}
+use Rattle.tree_core.proofs.TakingLemmas.{ok_of, err_of, calm_of, risen_of, begun_on, fits_as, at_write, affects_then, weighs}
 use Rattle.tree_core.proofs.TakingLists.{Begins, MayTake, settled_by, begun_by, Appends, deep_whole, lost_deep, pass_whole, lost_pass, done_leaves, doubt_leaves, writes_over}
 use Rattle.tree_core.proofs.admission.take.Goals as goal
 
@@ -86,8 +87,8 @@ returns-then-is_err-2-clause-lists g c = λ opening m pace honest stands runs ma
 pub returns-then-is_err-2-clause-effect : goal.returns-then-is_err-2-clause-effect
 returns-then-is_err-2-clause-effect g c =
     let ok = sym c.is_err.ensures.value ∙ c.if-is_err.false in
-    affects_then c.args.held.now.runs.sizes c.settle_deep.new.held.runs.sizes 22
-    (sizes_settled c.args.held.now c.settle_deep.new.held (ok_of c.settle_deep.result ok c.settle_deep.ensures.settles)) (g.met.D.Disk.timed c.settle_deep.new.disk)
+    affects_then c.args.held.now c.settle_deep.new.held 22
+    (deep_keeps_pins c.args.held.now c.settle_deep.new.held (ok_of c.settle_deep.result ok c.settle_deep.ensures.settles)) (g.met.D.Disk.timed c.settle_deep.new.disk)
     (calm_of c.settle_deep.result (g.D.Disk.state c.args.disk.now) (g.D.Disk.state c.settle_deep.new.disk) ok c.settle_deep.ensures.faults)
     c.settle_deep.ensures.effect c.settle_pass.ensures.effect (omega arith)
 
@@ -195,13 +196,15 @@ returns-in-Ok-clause-effect g c =
     let before = g.D.Disk.state c.args.disk.now in
     let mid = g.D.Disk.state c.settle_deep.new.disk in
     let last = g.D.Disk.state c.settle_pass.new.disk in
-    let same = sizes_settled c.args.held.now c.settle_deep.new.held (ok_of c.settle_deep.result ok c.settle_deep.ensures.settles) in
-    let same_then = sizes_passed c.settle_deep.new.held c.settle_pass.new.held (ok_of c.settle_pass.result ok_then c.settle_pass.ensures.settles) in
+    let same = deep_keeps_pins c.args.held.now c.settle_deep.new.held (ok_of c.settle_deep.result ok c.settle_deep.ensures.settles) in
+    let same_then = pass_keeps_pins c.settle_deep.new.held c.settle_pass.new.held (ok_of c.settle_pass.result ok_then c.settle_pass.ensures.settles) in
     let calm = calm_of c.settle_deep.result before mid ok c.settle_deep.ensures.faults in
-    affects_then c.args.held.now.runs.sizes c.begin_for.new.self.runs.sizes 22
-    (ap (λ (h : Held). h.runs.sizes) c.begin_for.ensures.begun ∙ (begun_keeps c.weight.result c.settle_pass.new.held).sizes ∙ same_then ∙ same) (g.met.D.Disk.timed c.settle_pass.new.disk)
+    affects_then c.args.held.now c.begin_for.new.self 22
+    (then_pins c.args.held.now c.settle_pass.new.held c.begin_for.new.self (then_pins c.args.held.now c.settle_deep.new.held c.settle_pass.new.held same same_then)
+    (then_pins c.settle_pass.new.held (begun_in c.weight.result c.settle_pass.new.held) c.begin_for.new.self (begin_keeps_pins c.weight.result c.settle_pass.new.held)
+    (same_pins (begun_in c.weight.result c.settle_pass.new.held) c.begin_for.new.self c.begin_for.ensures.begun))) (g.met.D.Disk.timed c.settle_pass.new.disk)
     (calm_of c.settle_pass.result mid last ok_then c.settle_pass.ensures.faults ∙ calm)
-    (affects_then c.args.held.now.runs.sizes c.settle_deep.new.held.runs.sizes 18 same (g.met.D.Disk.timed c.settle_deep.new.disk) calm c.settle_deep.ensures.effect c.settle_pass.ensures.effect (omega arith))
+    (affects_then c.args.held.now c.settle_deep.new.held 18 same (g.met.D.Disk.timed c.settle_deep.new.disk) calm c.settle_deep.ensures.effect c.settle_pass.ensures.effect (omega arith))
     c.write.ensures.effect (omega arith)
 
 pub returns-in-Ok-clause-faults : goal.returns-in-Ok-clause-faults
@@ -256,11 +259,13 @@ returns-in-Err-clause-effect g c =
     let before = g.D.Disk.state c.args.disk.now in
     let mid = g.D.Disk.state c.settle_deep.new.disk in
     let last = g.D.Disk.state c.settle_pass.new.disk in
-    let same = sizes_settled c.args.held.now c.settle_deep.new.held (ok_of c.settle_deep.result ok c.settle_deep.ensures.settles) in
-    let same_then = sizes_passed c.settle_deep.new.held c.settle_pass.new.held (ok_of c.settle_pass.result ok_then c.settle_pass.ensures.settles) in
+    let same = deep_keeps_pins c.args.held.now c.settle_deep.new.held (ok_of c.settle_deep.result ok c.settle_deep.ensures.settles) in
+    let same_then = pass_keeps_pins c.settle_deep.new.held c.settle_pass.new.held (ok_of c.settle_pass.result ok_then c.settle_pass.ensures.settles) in
     let calm = calm_of c.settle_deep.result before mid ok c.settle_deep.ensures.faults in
-    affects_then c.args.held.now.runs.sizes c.begin_for.new.self.runs.sizes 22
-    (ap (λ (h : Held). h.runs.sizes) c.begin_for.ensures.begun ∙ (begun_keeps c.weight.result c.settle_pass.new.held).sizes ∙ same_then ∙ same) (g.met.D.Disk.timed c.settle_pass.new.disk)
+    affects_then c.args.held.now c.begin_for.new.self 22
+    (then_pins c.args.held.now c.settle_pass.new.held c.begin_for.new.self (then_pins c.args.held.now c.settle_deep.new.held c.settle_pass.new.held same same_then)
+    (then_pins c.settle_pass.new.held (begun_in c.weight.result c.settle_pass.new.held) c.begin_for.new.self (begin_keeps_pins c.weight.result c.settle_pass.new.held)
+    (same_pins (begun_in c.weight.result c.settle_pass.new.held) c.begin_for.new.self c.begin_for.ensures.begun))) (g.met.D.Disk.timed c.settle_pass.new.disk)
     (calm_of c.settle_pass.result mid last ok_then c.settle_pass.ensures.faults ∙ calm)
-    (affects_then c.args.held.now.runs.sizes c.settle_deep.new.held.runs.sizes 18 same (g.met.D.Disk.timed c.settle_deep.new.disk) calm c.settle_deep.ensures.effect c.settle_pass.ensures.effect (omega arith))
+    (affects_then c.args.held.now c.settle_deep.new.held 18 same (g.met.D.Disk.timed c.settle_deep.new.disk) calm c.settle_deep.ensures.effect c.settle_pass.ensures.effect (omega arith))
     c.write.ensures.effect (omega arith)

@@ -9,7 +9,7 @@ use Rattle.disk_trait.specs.Moments.{LeavesOnly}
 use Rattle.tree_file.specs.Tree.{HoldsTree}
 use Rattle.tree_file.specs.Places.{StandsOn}
 use Rattle.tree_runs.specs.Holding.{StandOver, DeepTook}
-use Rattle.core_moves.proofs.AffectLemmas.{affects_anywhere, stays_long}
+use Rattle.core_moves.proofs.AffectLemmas.{stays_long}
 use Rattle.core_moves.proofs.held.Held.deep_quantum.Goals as goal
 
 -- where it took one
@@ -50,7 +50,7 @@ returns-in-Ok-clause-on g c = record {
 }
 
 pub returns-in-Ok-clause-effect : goal.returns-in-Ok-clause-effect
-returns-in-Ok-clause-effect g c = affects_anywhere c.deep_quantum.ensures.effect
+returns-in-Ok-clause-effect g c = c.deep_quantum.ensures.effect
 
 -- and where it failed
 
@@ -81,7 +81,8 @@ returns-in-Err-clause-kept g c = record {
   gears = λ failed. refl;
   spring = λ failed. refl;
   book = λ failed. refl;
+  pins = λ failed. c.deep_quantum.ensures.others.takes.pins;
 }
 
 pub returns-in-Err-clause-effect : goal.returns-in-Err-clause-effect
-returns-in-Err-clause-effect g c = affects_anywhere c.deep_quantum.ensures.effect
+returns-in-Err-clause-effect g c = c.deep_quantum.ensures.effect

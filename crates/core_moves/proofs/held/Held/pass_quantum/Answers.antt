@@ -10,7 +10,7 @@ use Rattle.tree_file.specs.Tree.{HoldsTree}
 use Rattle.tree_file.specs.Places.{StandsOn}
 use Rattle.tree_runs.specs.Runs.{left_for_pass}
 use Rattle.tree_runs.specs.Holding.{StandOver, PassTakes, PassTook}
-use Rattle.core_moves.proofs.AffectLemmas.{affects_anywhere, stays_long}
+use Rattle.core_moves.proofs.AffectLemmas.{stays_long}
 use Rattle.core_moves.proofs.held.Held.pass_quantum.Goals as goal
 
 -- where it took one
@@ -51,7 +51,7 @@ returns-in-Ok-clause-on g c = record {
 }
 
 pub returns-in-Ok-clause-effect : goal.returns-in-Ok-clause-effect
-returns-in-Ok-clause-effect g c = affects_anywhere c.pass_quantum.ensures.effect
+returns-in-Ok-clause-effect g c = c.pass_quantum.ensures.effect
 
 -- and where it failed
 
@@ -82,7 +82,8 @@ returns-in-Err-clause-kept g c = record {
   gears = λ failed. refl;
   spring = λ failed. refl;
   book = λ failed. refl;
+  pins = λ failed. c.pass_quantum.ensures.others.takes.pins;
 }
 
 pub returns-in-Err-clause-effect : goal.returns-in-Err-clause-effect
-returns-in-Err-clause-effect g c = affects_anywhere c.pass_quantum.ensures.effect
+returns-in-Err-clause-effect g c = c.pass_quantum.ensures.effect

@@ -3,7 +3,7 @@ use Rattle.std.proofs.Common.{◌∙◌, ap, sym, subst, arith}
 use Rattle.catalog_swap.specs.declared.catalog.Catalog.{Catalog}
 use Rattle.std.proofs.lemmas.Result.{err_from_is_err_and}
 use Rattle.tree_runs.specs.Holding.{LeavesSwapped}
-use Rattle.core_moves.proofs.AffectLemmas.{affects_anywhere, stays_long, sum_fits}
+use Rattle.core_moves.proofs.AffectLemmas.{stays_long, sum_fits}
 use Rattle.core_moves.proofs.held.Held.rotate.Goals as goal
 
 pub returns-in_err-rotate-clause-lists : goal.returns-in_err-rotate-clause-lists
@@ -17,7 +17,7 @@ returns-in_err-rotate-clause-lists g c = λ tree honest over.
     )
 
 pub returns-in_err-rotate-clause-effect : goal.returns-in_err-rotate-clause-effect
-returns-in_err-rotate-clause-effect g c = affects_anywhere c.rotate.ensures.effect
+returns-in_err-rotate-clause-effect g c = c.rotate.ensures.effect
 
 pub returns-clause-lists : goal.returns-clause-lists
 returns-clause-lists g c = λ tree honest over. c.in_ok-rotate.ensures.lists tree c.args.self.now.log.a.entries honest over
@@ -29,7 +29,7 @@ returns-clause-on g c = record {
 }
 
 pub returns-clause-effect : goal.returns-clause-effect
-returns-clause-effect g c = affects_anywhere c.rotate.ensures.effect
+returns-clause-effect g c = c.rotate.ensures.effect
 
 pub overflow_add-now : goal.overflow_add-now
 overflow_add-now g c =

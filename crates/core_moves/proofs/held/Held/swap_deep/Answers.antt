@@ -2,7 +2,7 @@ use Rattle.std.specs.Prelude.{Bool, is_ok}
 use Rattle.std.proofs.Common.{ap, sym, subst}
 use Rattle.std.proofs.lemmas.Result.{err_from_is_err_and}
 use Rattle.tree_runs.specs.Holding.{LeavesSwapped}
-use Rattle.core_moves.proofs.AffectLemmas.{affects_anywhere, stays_long}
+use Rattle.core_moves.proofs.AffectLemmas.{stays_long}
 use Rattle.core_moves.proofs.held.Held.swap_deep.Goals as goal
 
 pub returns-in_err-swap_deep-clause-lists : goal.returns-in_err-swap_deep-clause-lists
@@ -16,7 +16,7 @@ returns-in_err-swap_deep-clause-lists g c = λ tree honest over.
     )
 
 pub returns-in_err-swap_deep-clause-effect : goal.returns-in_err-swap_deep-clause-effect
-returns-in_err-swap_deep-clause-effect g c = affects_anywhere c.swap_deep.ensures.effect
+returns-in_err-swap_deep-clause-effect g c = c.swap_deep.ensures.effect
 
 pub returns-clause-lists : goal.returns-clause-lists
 returns-clause-lists g c = λ tree honest over. c.in_ok-swap_deep.ensures.lists tree c.args.self.now.log.a.entries honest over
@@ -28,4 +28,4 @@ returns-clause-on g c = record {
 }
 
 pub returns-clause-effect : goal.returns-clause-effect
-returns-clause-effect g c = affects_anywhere c.swap_deep.ensures.effect
+returns-clause-effect g c = c.swap_deep.ensures.effect

@@ -9,7 +9,7 @@ use Rattle.tree_file.specs.Tree.{Tree}
 use Rattle.tree_runs.specs.Runs.{made_by_pass}
 use Rattle.tree_runs.specs.Holding.{LeavesSwapped, StandOver, IsPassSwapped, with_pass_run}
 use Rattle.core_moves.specs.Held.{is_run_full}
-use Rattle.core_moves.proofs.AffectLemmas.{affects_anywhere, stays_long, sum_fits}
+use Rattle.core_moves.proofs.AffectLemmas.{stays_long, sum_fits}
 use Rattle.core_moves.proofs.held.Held.swap_pass.Goals as goal
 
 pub returns-in_err-rotated-clause-lists : goal.returns-in_err-rotated-clause-lists
@@ -24,7 +24,7 @@ returns-in_err-rotated-clause-lists g c = λ tree honest.
     (left.0, left.1, subst (λ (b : Bool). LeavesSwapped held.runs c.swap_pass.new.self tree left.0 held.log.a.entries b old new) (sym (ap is_ok p.1)) (left.2 held.log.a.entries)))
 
 pub returns-in_err-rotated-clause-effect : goal.returns-in_err-rotated-clause-effect
-returns-in_err-rotated-clause-effect g c = affects_anywhere c.swap_pass.ensures.effect
+returns-in_err-rotated-clause-effect g c = c.swap_pass.ensures.effect
 
 pub end_pass-requires : goal.end_pass-requires
 end_pass-requires g c = λ rotated.
@@ -77,4 +77,4 @@ returns-clause-on g c = record {
 }
 
 pub returns-clause-effect : goal.returns-clause-effect
-returns-clause-effect g c = affects_anywhere c.swap_pass.ensures.effect
+returns-clause-effect g c = c.swap_pass.ensures.effect

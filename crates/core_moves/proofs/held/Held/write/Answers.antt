@@ -8,15 +8,15 @@ use Rattle.blsm_model.specs.Sizes.{Sizes}
 use Rattle.blsm_model.specs.Geometry.{file_length}
 use Rattle.blsm_model.specs.declared.key.Key.{Key}
 use Rattle.record_delta.specs.declared.record.Rec.{Rec}
-use Rattle.disk_trait.specs.Effects.{Affects}
+use Rattle.disk_trait.specs.Effects.{Affects, affects_wider}
 use Rattle.gated_log.specs.Lane.{lane_region}
 use Rattle.snow_merge.specs.Pass.{SnowState}
 use Rattle.tree_file.specs.Places.{StandsOn, Becomes}
 use Rattle.tree_log.specs.Log.{LogState, IsLogOf, appended, lane_for}
 use Rattle.tree_runs.specs.Holding.{AreOf, StandOver}
 use Rattle.core_moves.specs.Held.{goes_ahead}
-use Rattle.core_moves.proofs.AffectLemmas.{affects_anywhere, stays_long}
-use Rattle.core_moves.proofs.WriteLemmas.{runs_on, joined}
+use Rattle.core_moves.proofs.AffectLemmas.{stays_long}
+use Rattle.core_moves.proofs.WriteLemmas.{lane_beside_pins, runs_on, joined}
 use Rattle.core_moves.proofs.held.Held.write.Goals as goal
 
 none_runs : (pass : Option SnowState) → is_some pass ≡ false → pass ≡ None
@@ -37,7 +37,7 @@ returns-in_err-append-clause-becomes g c = λ tree honest is_of over.
     (subst (λ (b : Bool). Becomes held.runs.sizes tree (appended b (c.args.key.now, c.args.rec.now) tree) false old new) c.goes_ahead-ahead.ensures becomes, tt)
 
 pub returns-in_err-append-clause-effect : goal.returns-in_err-append-clause-effect
-returns-in_err-append-clause-effect g c = affects_anywhere (subst (λ (s : Sizes). Affects (lane_region c.args.self.now.log.lanes.sizes (lane_for c.goes_ahead-ahead.result c.args.self.now.log)) (file_length s) 4 (g.D.Disk.state c.args.disk.now) (g.D.Disk.state c.append.new.disk)) c.requires.one.lanes c.append.ensures.effect)
+returns-in_err-append-clause-effect g c = affects_wider (lane_beside_pins c.goes_ahead-ahead.result c.args.self.now c.others_may_write.ensures.pins c.requires.one) (omega arith) (omega arith) (subst (λ (s : Sizes). Affects (lane_region c.args.self.now.log.lanes.sizes (lane_for c.goes_ahead-ahead.result c.args.self.now.log)) (file_length s) 4 (g.D.Disk.state c.args.disk.now) (g.D.Disk.state c.append.new.disk)) c.requires.one.lanes c.append.ensures.effect)
 
 pub spring_after-self-requires : goal.spring_after-self-requires
 spring_after-self-requires g c = λ no.
@@ -74,4 +74,4 @@ returns-clause-on g c = record {
 }
 
 pub returns-clause-effect : goal.returns-clause-effect
-returns-clause-effect g c = affects_anywhere (subst (λ (s : Sizes). Affects (lane_region c.args.self.now.log.lanes.sizes (lane_for c.goes_ahead-ahead.result c.args.self.now.log)) (file_length s) 4 (g.D.Disk.state c.args.disk.now) (g.D.Disk.state c.append.new.disk)) c.requires.one.lanes c.append.ensures.effect)
+returns-clause-effect g c = affects_wider (lane_beside_pins c.goes_ahead-ahead.result c.args.self.now c.others_may_write.ensures.pins c.requires.one) (omega arith) (omega arith) (subst (λ (s : Sizes). Affects (lane_region c.args.self.now.log.lanes.sizes (lane_for c.goes_ahead-ahead.result c.args.self.now.log)) (file_length s) 4 (g.D.Disk.state c.args.disk.now) (g.D.Disk.state c.append.new.disk)) c.requires.one.lanes c.append.ensures.effect)

@@ -6,9 +6,9 @@ use Rattle.tree_core.proofs.LastLemmas.{since_now}
 use Rattle.tree_core.proofs.store.Core.charge.Goals as goal
 
 pub charge-requires : goal.charge-requires
-charge-requires g c = charge_fits c.self.inside.held c.self.invariant.pace c.self.invariant.holds.told
+charge-requires g c = charge_fits c.self.inside.held c.self.invariant.0.pace c.self.invariant.0.holds.told
 
 pub returns-clause-begins : goal.returns-clause-begins
 returns-clause-begins g c =
-    subst (λ (s : CoreState g.row.D.Denot). StandsSince s.held s.held (g.D.Disk.state s.disk) (g.D.Disk.state s.disk)) c.self.view_is
-    (since_now c.self.inside.held c.self.invariant.pace (g.D.Disk.state c.self.inside.disk) (g.met.D.Disk.timed c.self.inside.disk) c.self.invariant.holds.told)
+    subst (λ (s : CoreState g.row.D.Denot). StandsSince g.D.Disk.state s s) c.self.view_is
+    (since_now g.D.Disk.state (record { disk = c.self.inside.disk; held = c.self.inside.held; holds = c.self.inside.holds }) c.self.invariant.0.pace (g.met.D.Disk.timed c.self.inside.disk) c.self.invariant.0.holds.told)

@@ -5,7 +5,6 @@ use Rattle.blsm_model.specs.declared.op.Op.TheVariants.{Get}
 use Rattle.blsm_model.specs.declared.history.Reply.{Reply}
 use Rattle.blsm_model.specs.Stored.{as_reply}
 use Rattle.blsm_model.specs.Facts.{Follows}
-use Rattle.disk_trait.specs.Disk.{GoesOn}
 use Rattle.seat_book.specs.State.{BookState, may_note_in, noted_in}
 use Rattle.core_moves.specs.Moves.{with_book}
 use Rattle.tree_machine.specs.Steps.{Replied}
@@ -15,21 +14,12 @@ use Rattle.tree_core.specs.Core.{CoreState, IsCore, HoldsPace, facts_of_held}
 use Rattle.tree_core.specs.Steps.{MovesPace, IsStep}
 use Rattle.tree_core.specs.Standing.{StandsFor}
 use Rattle.tree_core.proofs.LookupSteps.{get_holds, get_moves, get_steps, get_follows}
+use Rattle.tree_core.proofs.KeepLemmas.{affects_now, few_on, reads_affect, rebooked_keeps}
 use Rattle.tree_core.proofs.LastLemmas.{lasts_by}
 use Rattle.tree_core.proofs.store.Core.get.Goals as goal
 
 noted : (seat : ℕ) (b c : BookState) (one other : Key) (given kept : Reply) → c ≡ noted_in seat (Get one) given b → one ≡ other → given ≡ kept → c ≡ noted_in seat (Get other) kept b
 noted seat b c one other given kept is key same = is ∙ ap (λ (k : Key). noted_in seat (Get k) given b) key ∙ ap (λ (r : Reply). noted_in seat (Get other) r b) same
-
-pub invariant_of-self : goal.invariant_of-self
-invariant_of-self g c =
-    let held = c.self.inside.held in
-    let d2 = g.D.Disk.state c.look_up-found.new.disk in
-    let found = c.look_up-found.result in
-    let can = subst (λ (s : CoreState g.row.D.Denot). may_note_in c.args.seat 0 s.held.book ≡ true) (sym c.self.view_is) c.requires in
-    let book = noted c.args.seat held.book c.note.new.self c.copy.result c.args.key.now (as_reply c.reply_of.result) (reply_to_get found) c.note.ensures c.copy.ensures c.reply_of.ensures in
-    subst (λ (b : BookState). IsCore (with_book b held) d2) (sym book)
-    (record { pace = c.self.invariant.pace; holds = get_holds c.args.seat c.args.key.now found held c.self.invariant.pace c.others_may_write.ensures.running c.look_up-found.ensures.reads can c.self.invariant.holds })
 
 pub returns-clause-numbers : goal.returns-clause-numbers
 returns-clause-numbers g c = λ pace.
@@ -64,11 +54,26 @@ returns-clause-follows g c =
     subst (λ (s : CoreState g.row.D.Denot). Follows c.args.seat (facts_of_held s.held) (facts_of_held (with_book c.note.new.self held))) c.self.view_is
     (subst (λ (b : BookState). Follows c.args.seat (facts_of_held held) (facts_of_held (with_book b held))) (sym book) (get_follows c.args.seat c.args.key.now (reply_to_get found) held))
 
+pub returns-clause-holds : goal.returns-clause-holds
+returns-clause-holds g c = rebooked_keeps _ c.args.self.now c.look_up-found.new.disk c.note.new.self c.self.view_is
+
 pub returns-clause-lasts : goal.returns-clause-lasts
 returns-clause-lasts g c = λ start since.
     let d = g.D.Disk.state c.self.inside.disk in
-    let pace = c.self.invariant.pace in
-    let holds = subst (λ (s : CoreState g.row.D.Denot). HoldsPace s.held pace (g.D.Disk.state s.disk)) c.self.view_is c.self.invariant.holds in
-    let goes = subst (λ (s : CoreState g.row.D.Denot). GoesOn (g.D.Disk.state s.disk) (g.D.Disk.state c.look_up-found.new.disk)) c.self.view_is c.look_up-found.ensures.reads.effect.goes_on in
-    lasts_by c.args.seat (kind.Get c.args.key.now) (Replied (reply_to_get c.look_up-found.result)) start.held c.args.self.now.held (with_book c.note.new.self c.self.inside.held) (g.D.Disk.state start.disk) (g.D.Disk.state c.args.self.now.disk) (g.D.Disk.state c.look_up-found.new.disk)
-    pace holds (returns-clause-numbers g c pace holds) goes refl c.requires (returns-clause-steps g c) since
+    let pace = c.self.invariant.0.pace in
+    let holds = subst (λ (s : CoreState g.row.D.Denot). HoldsPace s.held pace (g.D.Disk.state s.disk)) c.self.view_is c.self.invariant.0.holds in
+    let effect = affects_now g.D.Disk.state _ c.args.self.now (g.D.Disk.state c.look_up-found.new.disk) c.self.view_is (reads_affect c.look_up-found.ensures.reads) in
+    lasts_by g.D.Disk.state c.args.seat (kind.Get c.args.key.now) (Replied (reply_to_get c.look_up-found.result)) start c.args.self.now _ pace holds (returns-clause-numbers g c pace holds) refl c.requires
+    (returns-clause-holds g c) effect (returns-clause-steps g c) since
+
+pub invariant_of-self : goal.invariant_of-self
+invariant_of-self g c =
+    let held = c.self.inside.held in
+    let d2 = g.D.Disk.state c.look_up-found.new.disk in
+    let found = c.look_up-found.result in
+    let can = subst (λ (s : CoreState g.row.D.Denot). may_note_in c.args.seat 0 s.held.book ≡ true) (sym c.self.view_is) c.requires in
+    let book = noted c.args.seat held.book c.note.new.self c.copy.result c.args.key.now (as_reply c.reply_of.result) (reply_to_get found) c.note.ensures c.copy.ensures c.reply_of.ensures in (
+      subst (λ (b : BookState). IsCore (with_book b held) d2) (sym book)
+          (record { pace = c.self.invariant.0.pace; holds = get_holds c.args.seat c.args.key.now found held c.self.invariant.0.pace c.others_may_write.ensures.running c.look_up-found.ensures.reads can c.self.invariant.0.holds }),
+      few_on c.self.inside.held.runs.sizes c.args.self.now.held.runs.sizes _ c.self.inside.holds (ap (λ (s : CoreState g.row.D.Denot). s.held.runs.sizes) c.self.view_is) (returns-clause-holds g c).sizes c.self.invariant.1,
+    )

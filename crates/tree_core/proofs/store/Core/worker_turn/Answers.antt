@@ -1,10 +1,8 @@
-use Rattle.std.proofs.Common.{◌≡◌, ◌+◌, ◌/◌, true, List, Err, refl, ap, sym, subst, ◌∙◌, arith}
+use Rattle.std.proofs.Common.{◌≡◌, true, List, Err, refl, ap, sym, subst, ◌∙◌, arith}
 use Rattle.std.specs.Prelude.{IsTrue}
 use Rattle.blsm_model.specs.declared.key.Key.{Key}
 use Rattle.blsm_model.specs.declared.row.Value.{Value}
 use Rattle.blsm_model.specs.Facts.{Follows}
-use Rattle.blsm_model.specs.Geometry.{file_length}
-use Rattle.disk_trait.specs.Effects.{Affects, affects_start}
 use Rattle.page_file.specs.declared.file.Broken.TheVariants.{Fault}
 use Rattle.pacing.specs.Pace.{Pace}
 use Rattle.tree_machine.specs.Machine as machine
@@ -14,7 +12,6 @@ use Rattle.tree_machine.specs.Steps.{Turn}
 use Rattle.tree_machine.specs.declared.step.Kind.TheVariants as kind
 use Rattle.seat_book.specs.State.{BookState, helped_in, is_closed_in}
 use Rattle.seat_book.specs.Turns.{turned_of}
-use Rattle.core_moves.specs.Needs.{anywhere}
 use Rattle.core_moves.specs.Moves.{with_book}
 use Rattle.tree_core.specs.Causes.{TurnsBecause}
 use Rattle.tree_core.specs.Core.{CoreState, HoldsPace, facts_of_held}
@@ -26,10 +23,9 @@ use Rattle.tree_core.proofs.QuantumLemmas.{core_by}
 use Rattle.tree_core.proofs.QuantumSteps.{running_at}
 use Rattle.tree_core.proofs.TurnLemmas.{Turns, Ends, closed_moves, halted_follows, turn_may, turn_ready, turn_moves, turn_because, turn_follows}
 use Rattle.tree_core.proofs.TurnSteps.{halted_turn, closed_turn, turn_step}
-use Rattle.disk_trait.specs.Disk.{GoesOn}
-use Rattle.disk_trait.specs.Moments.{goes_on_start}
 use Rattle.tree_core.specs.Notes.{NotesNone}
 use Rattle.tree_core.proofs.NotingLemmas.{help_notes, helped_notes}
+use Rattle.tree_core.proofs.KeepLemmas.{affects_now, few_on, keeps_by, move_keeps_pins, rebooked_keeps, rests_affects}
 use Rattle.tree_core.proofs.LastLemmas.{lasts_by, book_lasts, may_help}
 use Rattle.tree_core.specs.Steps.{StandsSince, may_in}
 use Rattle.tree_core.proofs.store.Core.worker_turn.Goals as goal
@@ -49,14 +45,6 @@ returns-in-Some-clause-steps g c =
 
 -- ---- it is closed
 
-pub invariant_of-self-then-is_closed : goal.invariant_of-self-then-is_closed
-invariant_of-self-then-is_closed g c =
-    let old = c.self.inside in
-    let d = g.D.Disk.state old.disk in
-    let b = c.worker_turn-then-is_closed.new.self in
-    let kept = c.self.invariant in
-    core_by (with_book b old.held) d (closed_moves c.args.seat old.held b kept.pace d (sym c.in_default.ensures) kept.holds c.worker_turn-then-is_closed.ensures)
-
 pub returns-then-is_closed-clause-numbers : goal.returns-then-is_closed-clause-numbers
 returns-then-is_closed-clause-numbers g c =
     let old = c.self.inside in
@@ -66,9 +54,7 @@ returns-then-is_closed-clause-numbers g c =
     (λ pace holds. closed_moves c.args.seat old.held b pace d (sym c.in_default.ensures) holds c.worker_turn-then-is_closed.ensures)
 
 pub returns-then-is_closed-clause-effect : goal.returns-then-is_closed-clause-effect
-returns-then-is_closed-clause-effect g c =
-    let d = g.D.Disk.state c.self.inside.disk in
-    subst (λ (s : CoreState g.row.D.Denot). Affects anywhere (file_length s.held.runs.sizes) (s.held.runs.sizes.quantum / 4 + 9) (g.D.Disk.state s.disk) d) c.self.view_is (affects_start d (g.met.D.Disk.timed c.self.inside.disk))
+returns-then-is_closed-clause-effect g c = rests_affects g.D.Disk.state _ c.args.self.now c.self.view_is (g.met.D.Disk.timed c.self.inside.disk)
 
 pub returns-then-is_closed-clause-follows : goal.returns-then-is_closed-clause-follows
 returns-then-is_closed-clause-follows g c =
@@ -83,7 +69,7 @@ returns-then-is_closed-clause-steps g c =
     let old = c.self.inside in
     let d = g.D.Disk.state old.disk in
     let b = c.worker_turn-then-is_closed.new.self in
-    let kept = c.self.invariant in
+    let kept = c.self.invariant.0 in
     let ran = sym c.in_default.ensures in
     subst
     (λ (s : CoreState g.row.D.Denot). (opening : List (Key × Value)) (m : Machine) (pace : Pace) → IsTrue (g.D.Disk.state s.disk).is_honest → StandsFor opening s.held m pace (g.D.Disk.state s.disk) → IsTrue (may m c.args.seat kind.WorkerTurn)
@@ -101,7 +87,7 @@ make-made-requires-clause-may g c =
     let old = c.self.inside in
     let mv = move_of c.choose-choice.result in
     let t : Turns true c.args.seat mv old.held = record { ran = sym c.in_default.ensures; is_seat = c.requires; even = tt; is = c.choose-choice.ensures } in
-    let kept = c.self.invariant in
+    let kept = c.self.invariant.0 in
     turn_may true c.args.seat mv old.held kept.pace (g.D.Disk.state old.disk) t kept.holds
 
 pub make-made-requires-clause-ready : goal.make-made-requires-clause-ready
@@ -109,32 +95,8 @@ make-made-requires-clause-ready g c =
     let old = c.self.inside in
     let mv = move_of c.choose-choice.result in
     let t : Turns true c.args.seat mv old.held = record { ran = sym c.in_default.ensures; is_seat = c.requires; even = tt; is = c.choose-choice.ensures } in
-    let kept = c.self.invariant in
+    let kept = c.self.invariant.0 in
     turn_ready true c.args.seat mv old.held kept.pace (g.D.Disk.state old.disk) t kept.holds
-
-pub invariant_of-self-2 : goal.invariant_of-self-2
-invariant_of-self-2 g c =
-    let old = c.self.inside in
-    let mv = move_of c.choose-choice.result in
-    let t : Turns true c.args.seat mv old.held = record { ran = sym c.in_default.ensures; is_seat = c.requires; even = tt; is = c.choose-choice.ensures } in
-    let before = g.D.Disk.state old.disk in
-    let after = g.D.Disk.state c.make-made.new.disk in
-    let moved = c.make-made.new.held in
-    let made = c.make-made.result in
-    let faults = c.faults.result in
-    let ended = turned_of c.end-ended.result.0 in
-    let b = c.worker_turn-2.new.self in
-    let e : Ends true c.args.seat mv made faults old.held moved ended b before after = record {
-      turns = t;
-      moves = c.make-made.ensures.moves;
-      on = c.make-made.ensures.on;
-      kept = c.make-made.ensures.kept;
-      told = c.make-made.ensures.faults;
-      ended_is = c.end-ended.ensures.ended;
-      counts = c.worker_turn-2.ensures ∙ ap (λ (x : BookState). helped_in c.args.seat x) c.end-ended.ensures.book;
-    } in
-    let kept = c.self.invariant in
-    core_by (with_book b moved) after (turn_moves true c.args.seat mv made faults old.held moved ended b kept.pace before after e kept.holds)
 
 pub returns-clause-numbers : goal.returns-clause-numbers
 returns-clause-numbers g c =
@@ -229,7 +191,7 @@ returns-clause-steps g c =
       ended_is = c.end-ended.ensures.ended;
       counts = c.worker_turn-2.ensures ∙ ap (λ (x : BookState). helped_in c.args.seat x) c.end-ended.ensures.book;
     } in
-    let kept = c.self.invariant in
+    let kept = c.self.invariant.0 in
     let rose = λ (is : made ≡ Err Fault). has_risen before.faults after.faults c.make-made.ensures.effect.goes_on.faults (omega (arith, c.faults.ensures, c.faults.type_inv)) (c.make-made.ensures.faults.failed is) in
     subst
     (λ (s : CoreState g.row.D.Denot). (opening : List (Key × Value)) (m : Machine) (pace : Pace) → IsTrue (g.D.Disk.state s.disk).is_honest → StandsFor opening s.held m pace (g.D.Disk.state s.disk) → IsTrue (may m c.args.seat kind.WorkerTurn)
@@ -250,31 +212,42 @@ returns-clause-steps g c =
       leaves = x.1;
     }))
 
+pub returns-clause-holds : goal.returns-clause-holds
+returns-clause-holds g c =
+    keeps_by _ c.args.self.now c.make-made.new.disk c.make-made.new.held c.worker_turn-2.new.self c.self.view_is
+    (move_keeps_pins (move_of c.choose-choice.result) c.make-made.result c.args.seat c.self.inside.held c.make-made.new.held c.make-made.ensures.moves c.make-made.ensures.kept)
+
 pub returns-clause-lasts : goal.returns-clause-lasts
 returns-clause-lasts g c = λ start since.
-    let pace = c.self.invariant.pace in
-    let holds = subst (λ (s : CoreState g.row.D.Denot). HoldsPace s.held pace (g.D.Disk.state s.disk)) c.self.view_is c.self.invariant.holds in
-    let goes = subst (λ (s : CoreState g.row.D.Denot). GoesOn (g.D.Disk.state s.disk) (g.D.Disk.state c.make-made.new.disk)) c.self.view_is c.make-made.ensures.effect.goes_on in
-    lasts_by c.args.seat kind.WorkerTurn (Turn (turned_of c.end-ended.result.0)) start.held c.args.self.now.held _ (g.D.Disk.state start.disk) (g.D.Disk.state c.args.self.now.disk) (g.D.Disk.state c.make-made.new.disk)
-    pace holds (returns-clause-numbers g c pace holds) goes refl (may_help c.args.seat c.requires.0 c.requires.1) (returns-clause-steps g c) since
+    let pace = c.self.invariant.0.pace in
+    let holds = subst (λ (s : CoreState g.row.D.Denot). HoldsPace s.held pace (g.D.Disk.state s.disk)) c.self.view_is c.self.invariant.0.holds in
+    let effect = affects_now g.D.Disk.state _ c.args.self.now (g.D.Disk.state c.make-made.new.disk) c.self.view_is c.make-made.ensures.effect in
+    lasts_by g.D.Disk.state c.args.seat kind.WorkerTurn (Turn (turned_of c.end-ended.result.0)) start c.args.self.now _ pace holds (returns-clause-numbers g c pace holds) refl (may_help c.args.seat c.requires.0 c.requires.1)
+    (returns-clause-holds g c) effect (returns-clause-steps g c) since
+
+pub returns-then-is_closed-clause-holds : goal.returns-then-is_closed-clause-holds
+returns-then-is_closed-clause-holds g c = rebooked_keeps _ c.args.self.now c.self.inside.disk c.worker_turn-then-is_closed.new.self c.self.view_is
 
 pub returns-then-is_closed-clause-lasts : goal.returns-then-is_closed-clause-lasts
 returns-then-is_closed-clause-lasts g c = λ start since.
-    let pace = c.self.invariant.pace in
-    let holds = subst (λ (s : CoreState g.row.D.Denot). HoldsPace s.held pace (g.D.Disk.state s.disk)) c.self.view_is c.self.invariant.holds in
-    let goes = subst (λ (s : CoreState g.row.D.Denot). GoesOn (g.D.Disk.state s.disk) (g.D.Disk.state c.self.inside.disk)) c.self.view_is (goes_on_start (g.D.Disk.state c.self.inside.disk)) in
-    lasts_by c.args.seat kind.WorkerTurn (Turn machine.Closed) start.held c.args.self.now.held _ (g.D.Disk.state start.disk) (g.D.Disk.state c.args.self.now.disk) (g.D.Disk.state c.self.inside.disk)
-    pace holds (returns-then-is_closed-clause-numbers g c pace holds) goes refl (may_help c.args.seat c.requires.0 c.requires.1) (returns-then-is_closed-clause-steps g c) since
+    let pace = c.self.invariant.0.pace in
+    let holds = subst (λ (s : CoreState g.row.D.Denot). HoldsPace s.held pace (g.D.Disk.state s.disk)) c.self.view_is c.self.invariant.0.holds in
+    let effect = rests_affects {end = 0} {most = 0} g.D.Disk.state _ c.args.self.now c.self.view_is (g.met.D.Disk.timed c.self.inside.disk) in
+    lasts_by g.D.Disk.state c.args.seat kind.WorkerTurn (Turn machine.Closed) start c.args.self.now _ pace holds (returns-then-is_closed-clause-numbers g c pace holds) refl (may_help c.args.seat c.requires.0 c.requires.1)
+    (returns-then-is_closed-clause-holds g c) effect (returns-then-is_closed-clause-steps g c) since
+
+pub returns-in-Some-clause-holds : goal.returns-in-Some-clause-holds
+returns-in-Some-clause-holds g c = rebooked_keeps _ c.args.self.now c.self.inside.disk c.worker_turn.new.self c.self.view_is
 
 pub returns-in-Some-clause-lasts : goal.returns-in-Some-clause-lasts
 returns-in-Some-clause-lasts g c = λ start since.
     let old = c.self.inside in
     let d = g.D.Disk.state old.disk in
-    let stood = subst (λ (s : CoreState g.row.D.Denot). StandsSince start.held s.held (g.D.Disk.state start.disk) (g.D.Disk.state s.disk)) (sym c.self.view_is) since in
+    let stood = subst (λ (s : CoreState g.row.D.Denot). StandsSince g.D.Disk.state start s) (sym c.self.view_is) since in
     let can = subst (λ (s : CoreState g.row.D.Denot). may_in s.held c.args.seat kind.WorkerTurn ≡ true) (sym c.self.view_is) (may_help c.args.seat c.requires.0 c.requires.1) in
     let steps = subst (λ (s : CoreState g.row.D.Denot). (opening : List (Key × Value)) (m : Machine) (pace : Pace) → IsTrue (g.D.Disk.state s.disk).is_honest → StandsFor opening s.held m pace (g.D.Disk.state s.disk) → IsTrue (may m c.args.seat kind.WorkerTurn)
     → IsStep opening c.args.seat kind.WorkerTurn (Turn (machine.Halted c.in-Some.why)) (with_book c.worker_turn.new.self old.held) (g.D.Disk.state s.disk) d m pace) (sym c.self.view_is) (returns-in-Some-clause-steps g c) in
-    book_lasts c.args.seat kind.WorkerTurn (Turn (machine.Halted c.in-Some.why)) start.held old.held c.worker_turn.new.self (g.D.Disk.state start.disk) d c.self.invariant.pace c.self.invariant.holds (ap (λ (x : BookState). x.counts.peak) c.worker_turn.ensures) refl can steps stood
+    book_lasts g.D.Disk.state c.args.seat kind.WorkerTurn (Turn (machine.Halted c.in-Some.why)) start (record { disk = old.disk; held = old.held; holds = old.holds }) c.worker_turn.new.self c.self.invariant.0.pace (g.met.D.Disk.timed old.disk) c.self.invariant.0.holds (ap (λ (x : BookState). x.counts.peak) c.worker_turn.ensures) refl can steps stood
 
 -- ---- what is noted
 
@@ -309,3 +282,39 @@ returns-clause-notes g c =
       counts = c.worker_turn-2.ensures ∙ ap (λ (x : BookState). helped_in c.args.seat x) c.end-ended.ensures.book;
     } in
     subst (λ (s : CoreState g.row.D.Denot). NotesNone s.held.book b) c.self.view_is (help_notes c.args.seat mv made faults old.held moved ended b before after e)
+
+pub invariant_of-self-then-is_closed : goal.invariant_of-self-then-is_closed
+invariant_of-self-then-is_closed g c =
+    let old = c.self.inside in
+    let d = g.D.Disk.state old.disk in
+    let b = c.worker_turn-then-is_closed.new.self in
+    let kept = c.self.invariant.0 in (
+      core_by (with_book b old.held) d (closed_moves c.args.seat old.held b kept.pace d (sym c.in_default.ensures) kept.holds c.worker_turn-then-is_closed.ensures),
+      few_on c.self.inside.held.runs.sizes c.args.self.now.held.runs.sizes _ c.self.inside.holds (ap (λ (s : CoreState g.row.D.Denot). s.held.runs.sizes) c.self.view_is) (returns-then-is_closed-clause-holds g c).sizes c.self.invariant.1,
+    )
+
+pub invariant_of-self-2 : goal.invariant_of-self-2
+invariant_of-self-2 g c =
+    let old = c.self.inside in
+    let mv = move_of c.choose-choice.result in
+    let t : Turns true c.args.seat mv old.held = record { ran = sym c.in_default.ensures; is_seat = c.requires; even = tt; is = c.choose-choice.ensures } in
+    let before = g.D.Disk.state old.disk in
+    let after = g.D.Disk.state c.make-made.new.disk in
+    let moved = c.make-made.new.held in
+    let made = c.make-made.result in
+    let faults = c.faults.result in
+    let ended = turned_of c.end-ended.result.0 in
+    let b = c.worker_turn-2.new.self in
+    let e : Ends true c.args.seat mv made faults old.held moved ended b before after = record {
+      turns = t;
+      moves = c.make-made.ensures.moves;
+      on = c.make-made.ensures.on;
+      kept = c.make-made.ensures.kept;
+      told = c.make-made.ensures.faults;
+      ended_is = c.end-ended.ensures.ended;
+      counts = c.worker_turn-2.ensures ∙ ap (λ (x : BookState). helped_in c.args.seat x) c.end-ended.ensures.book;
+    } in
+    let kept = c.self.invariant.0 in (
+      core_by (with_book b moved) after (turn_moves true c.args.seat mv made faults old.held moved ended b kept.pace before after e kept.holds),
+      few_on c.self.inside.held.runs.sizes c.args.self.now.held.runs.sizes _ c.self.inside.holds (ap (λ (s : CoreState g.row.D.Denot). s.held.runs.sizes) c.self.view_is) (returns-clause-holds g c).sizes c.self.invariant.1,
+    )

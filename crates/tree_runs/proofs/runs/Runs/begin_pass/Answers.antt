@@ -27,6 +27,8 @@ runs_begun runs rests are = record {
   pass_tag = refl;
   deep_tag = are.deep_tag;
   rests = are.rests;
+  pass_unpinned = are.pass_unpinned;
+  deep_unpinned = are.deep_unpinned;
   within = subst (λ (p : Option SnowState). IsWithin (pages_in_use (record runs { pass = p })) (page_share runs.sizes) runs.space) rests are.within;
 }
 

@@ -1,13 +1,13 @@
-use Rattle.std.proofs.Common.{rules, ◌≡◌, ◌/◌, ◌+◌, Some, OnOk, sym, subst, refl}
+use Rattle.std.proofs.Common.{rules, ◌≡◌, ◌/◌, ◌+◌, Some, OnOk, sym, subst, refl, arith}
+use Rattle.disk_trait.specs.Effects.{affects_wider}
 use Rattle.blsm_model.specs.Sizes.{Sizes}
 use Rattle.page_space.specs.Space.{SpaceState}
+use Rattle.merge_ends.specs.Quantum.{Works}
+use Rattle.scan_view.proofs.StayLemmas.{writes_beside}
 use Rattle.tree_runs.specs.Runs.{RunsState, AreRunning}
 use Rattle.tree_runs.specs.Holding.{StandOver}
 use Rattle.tree_runs.proofs.QuantumLemmas.{DeepQuantum, deepened_is, deep_ran, deep_stands, deep_works, tree_stays, deep_is_run}
 use Rattle.tree_runs.proofs.runs.Runs.deep_quantum.Goals as goal
-
-pub returns-clause-others : goal.returns-clause-others
-returns-clause-others g c = search rules
 
 quantum_is : (g : _) (c : goal.After-pages-pages g) → DeepQuantum c.args.self.now.sizes c.args.self.now.space c.quantum-taken.new.space c.in-Some.deep c.quantum-taken.new.self
     c.quantum-taken.result (g.D.Disk.state c.args.disk.now) (g.D.Disk.state c.quantum-taken.new.disk)
@@ -29,13 +29,28 @@ quantum_is g c =
 deep_is : (g : _) (c : goal.After-pages-pages g) → c.args.self.now.deep ≡ Some c.in-Some.deep
 deep_is g c = search rules
 
+works_are : (g : _) (c : goal.After-pages-pages g) → Works c.args.self.now.sizes c.args.self.now.tags.deep (c.args.self.now.sizes.quantum / 4 + 3) c.args.self.now.space c.quantum-taken.new.space
+    (g.D.Disk.state c.args.disk.now) (g.D.Disk.state c.quantum-taken.new.disk)
+works_are g c =
+    deep_works c.args.self.now c.quantum-taken.new.space c.in-Some.deep c.quantum-taken.new.self c.quantum-taken.result (g.D.Disk.state c.args.disk.now) (g.D.Disk.state c.quantum-taken.new.disk)
+    (deep_is g c) c.requires.running.in_order (quantum_is g c)
+
+pub returns-clause-others : goal.returns-clause-others
+returns-clause-others g c = record { sizes = search rules; catalogue = search rules; tags = search rules; pass = search rules; takes = (works_are g c).takes }
+
+pub returns-clause-effect : goal.returns-clause-effect
+returns-clause-effect g c =
+    let runs = c.args.self.now in
+    let works = works_are g c in
+    affects_wider (writes_beside runs.sizes runs.space c.quantum-taken.new.space runs.tags.deep works.takes c.requires.running.in_order.deep_unpinned) (omega arith) (omega arith) works.effect
+
 pub returns-clause-stands : goal.returns-clause-stands
 returns-clause-stands g c = λ tree honest stand.
     let runs = c.args.self.now in
     let are = c.requires.running.in_order in
     let old = g.D.Disk.state c.args.disk.now in
     let new = g.D.Disk.state c.quantum-taken.new.disk in
-    let works = deep_works runs c.quantum-taken.new.space c.in-Some.deep c.quantum-taken.new.self c.quantum-taken.result old new (deep_is g c) are (quantum_is g c) in
+    let works = works_are g c in
     tree_stays runs tree c.args.a.now.entries runs.tags.deep (runs.sizes.quantum / 4 + 3) c.quantum-taken.new.space old new are (deep_is_run runs are) c.pages-pages.ensures.shape works
     honest (g.met.D.Disk.timed c.quantum-taken.new.disk) stand
 

@@ -12,6 +12,7 @@ use Rattle.tree_runs.specs.Runs.{RunsState, AreRead, AreRuns, AreRunning, AreTag
 use Rattle.tree_runs.specs.Holding.{AreOf, IsDeepOver}
 use Rattle.tree_runs.proofs.InstallLemmas.{nothing_held}
 use Rattle.tree_runs.proofs.KeptMerges.{elsewhere}
+use Rattle.tree_runs.proofs.PinLemmas.{none_pinned}
 use Rattle.tree_runs.proofs.runs.Runs.open.Goals as goal
 
 are_tags : AreTags first_tags
@@ -67,6 +68,8 @@ runs_opened sizes catalogue space read = record {
   pass_tag = tt;
   deep_tag = begun_tag rests 4 catalogue;
   rests = begun_empty rests 4 catalogue (λ is. read.c1x.filled.none (eqb-true catalogue.c1x.pages 0 is));
+  pass_unpinned = none_pinned space 3 read.shape read.no_pins;
+  deep_unpinned = none_pinned space 4 read.shape read.no_pins;
   within = record {
     roles = omega (arith, read.c1.size, read.c1x.size, read.c2.size, read.pass, read.deep);
     seats = λ seat below. omega (arith, read.no_pins seat below);

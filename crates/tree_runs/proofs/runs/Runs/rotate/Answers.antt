@@ -1,8 +1,8 @@
-use Rattle.std.proofs.Common.{◌∙◌, [], Option, ap, sym, subst, refl}
+use Rattle.std.proofs.Common.{◌∙◌, [], Option, ap, sym, subst, refl, arith}
 use Rattle.std.specs.Prelude.{is_ok}
 use Rattle.std.proofs.lemmas.Result.{err_from_is_err_and}
 use Rattle.std.proofs.lemmas.Bool.{false≢true}
-use Rattle.disk_trait.specs.Effects.{Affects}
+use Rattle.disk_trait.specs.Effects.{Affects, affects_wider}
 use Rattle.disk_trait.specs.Moments.{leaves_only_start}
 use Rattle.blsm_model.specs.Sizes.{Sizes}
 use Rattle.blsm_model.specs.Geometry.{file_length}
@@ -11,6 +11,7 @@ use Rattle.tree_file.specs.Tree.{HoldsTree}
 use Rattle.tree_file.specs.Places.{with_components, StandsOn}
 use Rattle.tree_runs.specs.Runs.{RunsState, PassRuns, DeepRuns}
 use Rattle.tree_runs.specs.Holding.{commit_region}
+use Rattle.tree_runs.proofs.PinLemmas.{commit_beside}
 use Rattle.tree_runs.proofs.SwapLemmas.{leaves_swapped}
 use Rattle.tree_runs.proofs.Swapped.{Switches, rotation_becomes}
 use Rattle.tree_runs.proofs.runs.Runs.rotate.Goals as goal
@@ -35,14 +36,16 @@ returns-in_err-commit_next-clause-effect g c =
     let now = c.args.self.now in
     let old = g.D.Disk.state c.args.disk.now in
     let new = g.D.Disk.state c.commit_next.new.disk in
-    subst (λ (s : RunsState). Affects (commit_region s.sizes s.catalogue) (file_length s.sizes) 8 old new) c.self.view_is c.commit_next.ensures.effect
+    affects_wider (commit_beside now.sizes now.space.pins now.catalogue c.requires.running.in_order.geometry c.requires.roles) (omega arith) (omega arith)
+    (subst (λ (s : RunsState). Affects (commit_region s.sizes s.catalogue) (file_length s.sizes) 8 old new) c.self.view_is c.commit_next.ensures.effect)
 
 pub returns-clause-effect : goal.returns-clause-effect
 returns-clause-effect g c =
     let now = c.args.self.now in
     let old = g.D.Disk.state c.args.disk.now in
     let new = g.D.Disk.state c.commit_next.new.disk in
-    subst (λ (s : RunsState). Affects (commit_region s.sizes s.catalogue) (file_length s.sizes) 8 old new) c.self.view_is c.commit_next.ensures.effect
+    affects_wider (commit_beside now.sizes now.space.pins now.catalogue c.requires.running.in_order.geometry c.requires.roles) (omega arith) (omega arith)
+    (subst (λ (s : RunsState). Affects (commit_region s.sizes s.catalogue) (file_length s.sizes) 8 old new) c.self.view_is c.commit_next.ensures.effect)
 
 pub returns-clause-running : goal.returns-clause-running
 returns-clause-running g c =

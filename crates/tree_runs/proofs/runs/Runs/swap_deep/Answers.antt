@@ -1,4 +1,4 @@
-use Rattle.std.proofs.Common.{◌≡◌, ◌∙◌, Bool, true, IsTrue, [], Option, ap, sym, subst, inl, arith}
+use Rattle.std.proofs.Common.{◌≡◌, ◌∙◌, Bool, true, IsTrue, [], Option, ap, sym, subst, arith}
 use Rattle.std.specs.Prelude.{is_ok}
 use Rattle.std.proofs.lemmas.Result.{err_from_is_err_and}
 use Rattle.std.proofs.lemmas.Bool.{false≢true}
@@ -11,6 +11,7 @@ use Rattle.tree_file.specs.Places.{with_components, StandsOn}
 use Rattle.tree_runs.specs.Runs.{RunsState, PassRuns, DeepRuns}
 use Rattle.tree_runs.specs.Holding.{AreTagged, IsPassOver, with_deep_run}
 use Rattle.tree_runs.specs.Holding.{commit_region}
+use Rattle.tree_runs.proofs.PinLemmas.{run_beside, swap_beside}
 use Rattle.tree_runs.proofs.KeptMerges.{pass_runs_still, pass_over_still}
 use Rattle.tree_runs.proofs.SwapLemmas.{deep_tag, stands_finished, leaves_swapped, leaves_unswapped, swap_effect, swap_keeps, swap_pages}
 use Rattle.tree_runs.proofs.Swapped.{Switches, IsFinished, deep_becomes, deep_swapped, deep_unswapped}
@@ -27,7 +28,9 @@ returns-in_err-made-clause-lists g c = λ tree a honest over.
     (_, deep_unswapped tree, leaves_unswapped now c.finish_deep.new.self tree _ stands.0 stands.1 (λ well. false≢true (sym (ap is_ok p.1) ∙ well)))
 
 pub returns-in_err-made-clause-effect : goal.returns-in_err-made-clause-effect
-returns-in_err-made-clause-effect g c = affects_wider (λ i here. inl here) (omega arith) (omega arith) c.finish_deep.ensures.writes.effect
+returns-in_err-made-clause-effect g c =
+    let now = c.args.self.now in
+    affects_wider (run_beside now.sizes now.space now.tags.deep c.requires.running.in_order.deep_unpinned) (omega arith) (omega arith) c.finish_deep.ensures.writes.effect
 
 -- ---- the commit failed
 
@@ -53,8 +56,9 @@ returns-in_err-commit_next-clause-effect g c =
     let mid = g.D.Disk.state c.finish_deep.new.disk in
     let new = g.D.Disk.state c.commit_next.new.disk in
     let same = c.self.view_is ∙ c.finish_deep.ensures.same in
-    swap_effect now now.tags.deep (g.met.D.Disk.timed c.finish_deep.new.disk) c.in_ok-made.ensures.writes.stands c.finish_deep.ensures.writes.effect
-    (subst (λ (s : RunsState). Affects (commit_region s.sizes s.catalogue) (file_length s.sizes) 8 mid new) same c.commit_next.ensures.effect)
+    affects_wider (swap_beside now.sizes now.space now.tags.deep now.catalogue c.requires.running.in_order.geometry c.requires.roles c.requires.running.in_order.deep_unpinned) (omega arith) (omega arith)
+    (swap_effect now now.tags.deep (g.met.D.Disk.timed c.finish_deep.new.disk) c.in_ok-made.ensures.writes.stands c.finish_deep.ensures.writes.effect
+    (subst (λ (s : RunsState). Affects (commit_region s.sizes s.catalogue) (file_length s.sizes) 8 mid new) same c.commit_next.ensures.effect))
 
 -- ---- it was done
 
@@ -64,8 +68,9 @@ returns-clause-effect g c =
     let mid = g.D.Disk.state c.finish_deep.new.disk in
     let new = g.D.Disk.state c.commit_next.new.disk in
     let same = c.self.view_is ∙ c.finish_deep.ensures.same in
-    swap_effect now now.tags.deep (g.met.D.Disk.timed c.finish_deep.new.disk) c.in_ok-made.ensures.writes.stands c.finish_deep.ensures.writes.effect
-    (subst (λ (s : RunsState). Affects (commit_region s.sizes s.catalogue) (file_length s.sizes) 8 mid new) same c.commit_next.ensures.effect)
+    affects_wider (swap_beside now.sizes now.space now.tags.deep now.catalogue c.requires.running.in_order.geometry c.requires.roles c.requires.running.in_order.deep_unpinned) (omega arith) (omega arith)
+    (swap_effect now now.tags.deep (g.met.D.Disk.timed c.finish_deep.new.disk) c.in_ok-made.ensures.writes.stands c.finish_deep.ensures.writes.effect
+    (subst (λ (s : RunsState). Affects (commit_region s.sizes s.catalogue) (file_length s.sizes) 8 mid new) same c.commit_next.ensures.effect))
 
 pub returns-clause-running : goal.returns-clause-running
 returns-clause-running g c =

@@ -1,4 +1,4 @@
-use Rattle.std.proofs.Common.{◌≡◌, ◌∙◌, ℕ, Bool, true, false, [], IsTrue, Option, nat_le, ap, sym, subst, refl, inl, arith}
+use Rattle.std.proofs.Common.{◌≡◌, ◌∙◌, ℕ, Bool, true, false, [], IsTrue, Option, nat_le, ap, sym, subst, refl, arith}
 use Rattle.std.specs.Prelude.{is_ok}
 use Rattle.std.proofs.lemmas.Result.{err_from_is_err_and}
 use Rattle.std.proofs.lemmas.Bool.{false≢true, le-leb, lt-leb}
@@ -15,6 +15,7 @@ use Rattle.tree_file.specs.Places.{with_pass, StandsOn}
 use Rattle.tree_runs.specs.Runs.{RunsState, PassRuns, DeepRuns, made_by_pass}
 use Rattle.tree_runs.specs.Holding.{AreTagged, IsDeepOver, IsPassSwapped, with_pass_run, is_full}
 use Rattle.tree_runs.specs.Holding.{commit_region}
+use Rattle.tree_runs.proofs.PinLemmas.{run_beside, swap_beside}
 use Rattle.tree_runs.proofs.KeptMerges.{deep_runs_still, deep_over_still}
 use Rattle.tree_runs.proofs.SwapLemmas.{pass_tag, stands_finished, leaves_swapped, leaves_unswapped, swap_effect, swap_keeps, swap_pages, one_page, one_page_entries}
 use Rattle.tree_runs.proofs.Swapped.{Switches, IsFinished, pass_becomes, pass_swapped, pass_tree}
@@ -37,7 +38,9 @@ returns-in_err-made-clause-lists g c = λ tree honest over.
     )
 
 pub returns-in_err-made-clause-effect : goal.returns-in_err-made-clause-effect
-returns-in_err-made-clause-effect g c = affects_wider (λ i here. inl here) (omega arith) (omega arith) c.finish_pass.ensures.writes.effect
+returns-in_err-made-clause-effect g c =
+    let now = c.args.self.now in
+    affects_wider (run_beside now.sizes now.space now.tags.pass c.requires.running.in_order.pass_unpinned) (omega arith) (omega arith) c.finish_pass.ensures.writes.effect
 
 pub returns-in_err-made-clause-faults : goal.returns-in_err-made-clause-faults
 returns-in_err-made-clause-faults g c =
@@ -73,8 +76,9 @@ returns-in_err-commit_next-clause-effect g c =
     let now = c.args.self.now in
     let mid = g.D.Disk.state c.finish_pass.new.disk in
     let new = g.D.Disk.state c.commit_next.new.disk in
-    swap_effect now now.tags.pass (g.met.D.Disk.timed c.finish_pass.new.disk) c.in_ok-made.ensures.writes.stands c.finish_pass.ensures.writes.effect
-    (subst (λ (s : RunsState). Affects (commit_region s.sizes s.catalogue) (file_length s.sizes) 8 mid new) (c.self.view_is ∙ c.finish_pass.ensures.same) c.commit_next.ensures.effect)
+    affects_wider (swap_beside now.sizes now.space now.tags.pass now.catalogue c.requires.running.in_order.geometry c.requires.roles c.requires.running.in_order.pass_unpinned) (omega arith) (omega arith)
+    (swap_effect now now.tags.pass (g.met.D.Disk.timed c.finish_pass.new.disk) c.in_ok-made.ensures.writes.stands c.finish_pass.ensures.writes.effect
+    (subst (λ (s : RunsState). Affects (commit_region s.sizes s.catalogue) (file_length s.sizes) 8 mid new) (c.self.view_is ∙ c.finish_pass.ensures.same) c.commit_next.ensures.effect))
 
 -- ---- C1 rotates
 
@@ -83,8 +87,9 @@ returns-then-rotates-clause-effect g c =
     let now = c.args.self.now in
     let mid = g.D.Disk.state c.finish_pass.new.disk in
     let new = g.D.Disk.state c.commit_next.new.disk in
-    swap_effect now now.tags.pass (g.met.D.Disk.timed c.finish_pass.new.disk) c.in_ok-made.ensures.writes.stands c.finish_pass.ensures.writes.effect
-    (subst (λ (s : RunsState). Affects (commit_region s.sizes s.catalogue) (file_length s.sizes) 8 mid new) (c.self.view_is ∙ c.finish_pass.ensures.same) c.commit_next.ensures.effect)
+    affects_wider (swap_beside now.sizes now.space now.tags.pass now.catalogue c.requires.running.in_order.geometry c.requires.roles c.requires.running.in_order.pass_unpinned) (omega arith) (omega arith)
+    (swap_effect now now.tags.pass (g.met.D.Disk.timed c.finish_pass.new.disk) c.in_ok-made.ensures.writes.stands c.finish_pass.ensures.writes.effect
+    (subst (λ (s : RunsState). Affects (commit_region s.sizes s.catalogue) (file_length s.sizes) 8 mid new) (c.self.view_is ∙ c.finish_pass.ensures.same) c.commit_next.ensures.effect))
 
 pub returns-then-rotates-clause-running : goal.returns-then-rotates-clause-running
 returns-then-rotates-clause-running g c =
@@ -135,8 +140,9 @@ returns-else-rotates-clause-effect g c =
     let now = c.args.self.now in
     let mid = g.D.Disk.state c.finish_pass.new.disk in
     let new = g.D.Disk.state c.commit_next.new.disk in
-    swap_effect now now.tags.pass (g.met.D.Disk.timed c.finish_pass.new.disk) c.in_ok-made.ensures.writes.stands c.finish_pass.ensures.writes.effect
-    (subst (λ (s : RunsState). Affects (commit_region s.sizes s.catalogue) (file_length s.sizes) 8 mid new) (c.self.view_is ∙ c.finish_pass.ensures.same) c.commit_next.ensures.effect)
+    affects_wider (swap_beside now.sizes now.space now.tags.pass now.catalogue c.requires.running.in_order.geometry c.requires.roles c.requires.running.in_order.pass_unpinned) (omega arith) (omega arith)
+    (swap_effect now now.tags.pass (g.met.D.Disk.timed c.finish_pass.new.disk) c.in_ok-made.ensures.writes.stands c.finish_pass.ensures.writes.effect
+    (subst (λ (s : RunsState). Affects (commit_region s.sizes s.catalogue) (file_length s.sizes) 8 mid new) (c.self.view_is ∙ c.finish_pass.ensures.same) c.commit_next.ensures.effect))
 
 pub returns-else-rotates-clause-running : goal.returns-else-rotates-clause-running
 returns-else-rotates-clause-running g c =

@@ -1,0 +1,7 @@
+//! Tests of holds over components on disks in memory.
+#![tactic(auto)]
+
+#[cfg(test)]
+mod holds;
+#[cfg(test)]
+mod store;

@@ -1,0 +1,152 @@
+-- The first entry of two sorted lists that are folded.
+use Rattle.std.proofs.Common.{◌≡◌, inl, inr, Bool, true, false, cond, T, [], ◌∷◌, Option, Some, None, refl, ap, sym, ◌∙◌}
+use Rattle.std.specs.Ordering.{is_eq}
+use Rattle.std.specs.declared.cmp.Ordering.{Ordering}
+use Rattle.std.specs.declared.cmp.Ordering.TheVariants.{Less, Equal, Greater}
+use Rattle.std.specs.Cmp.{tied_itself}
+use Rattle.std.specs.FinMap.{find, is_sorted, slice_cmp-IsAntisymmetric, nat_cmp-IsAntisymmetric}
+use Rattle.std.specs.FinMap.Entries.{below_all, where_key, find-where_key, is_sorted-where_key, same_entries}
+use Rattle.std.proofs.lemmas.Cmp.{nat_list_cmp_total}
+use Rattle.blsm_model.specs.declared.key.Key.{Key}
+use Rattle.blsm_model.specs.Keys.{key_cmp}
+use Rattle.record_delta.specs.declared.record.Rec.{Rec}
+use Rattle.record_delta.specs.Folding.{fold}
+use Rattle.record_delta.specs.Entries.{Entries, AreSorted, folded_over, over_any, is_above, above, first_of}
+use Rattle.merge_step.specs.Group.{least_of, group_of}
+use Rattle.merge_step.proofs.MergedLemmas.{left, right, less, test, is_true, turned, same, find_folded, sorted_folded}
+use Rattle.scan_view.specs.Left.{entry_of, IsAheadOf, IsFromOne}
+
+-- ---- what stands first
+
+-- a key below the first of a sorted list's isn't in it
+below_first : (q : Key) (e : Key × Rec) (es : Entries) → T (is_sorted key_cmp (e ∷ es)) → key_cmp q e.0 ≡ Less → find key_cmp q (e ∷ es) ≡ None
+below_first q e es sorted is =
+    ap (λ r. cond (is_eq r) (Some e.1) (find key_cmp q es)) is ∙ rest es (left _ _ sorted)
+  where
+    rest : (fs : Entries) → T (below_all key_cmp e.0 fs) → find key_cmp q fs ≡ None
+    rest [] below = refl
+    rest (f ∷ fs) below =
+        ap (λ r. cond (is_eq r) (Some f.1) (find key_cmp q fs)) (nat_list_cmp_total.trans q e.0 f.0 is (less _ (left _ _ below))) ∙ rest fs (right _ _ below)
+
+found_first : (e : Key × Rec) (es : Entries) → find key_cmp e.0 (e ∷ es) ≡ Some e.1
+found_first e es = ap (λ r. cond (is_eq r) (Some e.1) (find key_cmp e.0 es)) (tied_itself nat_list_cmp_total e.0)
+
+pair_is : (a b : Key × Rec) → a.0 ≡ b.0 → Some a.1 ≡ Some b.1 → a ≡ b
+pair_is a b keys recs = let same_recs : a.1 ≡ b.1 = cc in λ i. (keys i, same_recs i)
+
+-- the entry whose key is in a sorted list, and below which no key is
+first_is : (es : Entries) (e : Key × Rec) → T (is_sorted key_cmp es) → find key_cmp e.0 es ≡ Some e.1 → ((q : Key) → key_cmp q e.0 ≡ Less → find key_cmp q es ≡ None)
+    → first_of es ≡ Some e
+first_is [] e sorted here none = absurd (cc)
+first_is (x ∷ es) e sorted here none = by_order (key_cmp e.0 x.0) refl
+  where
+    by_order : (r : Ordering) → key_cmp e.0 x.0 ≡ r → Some x ≡ Some e
+    by_order Less is = absurd (let absent = below_first e.0 x es sorted is in cc)
+    by_order Equal is =
+        let keys : e.0 ≡ x.0 = same e.0 x.0 is in
+        let recs : Some x.1 ≡ Some e.1 = sym (found_first x es) ∙ ap (λ k. find key_cmp k (x ∷ es)) (sym keys) ∙ here in
+        ap Some (pair_is x e (sym keys) recs)
+    by_order Greater is = absurd (let absent = none x.0 (turned e.0 x.0 Greater is) in let there = found_first x es in cc)
+
+-- ---- what is above a key in a folded list
+
+tied : (p : Key → Bool) (q k : Key) → key_cmp q k ≡ Equal → p k ≡ p q
+tied p q k is = ap p (sym (same q k is))
+
+pub find_where : (p : Key → Bool) (q : Key) (es : Entries) → find key_cmp q (where_key key_cmp p es) ≡ cond (p q) (find key_cmp q es) None
+find_where p q es = find-where_key key_cmp p q (tied p q) es
+
+pub sorted_where : (p : Key → Bool) (es : Entries) → AreSorted es → AreSorted (where_key key_cmp p es)
+sorted_where p es sorted = is_true _ (is_sorted-where_key key_cmp p es (test _ sorted))
+
+pub same_lists : (es fs : Entries) → AreSorted es → AreSorted fs → ((q : Key) → find key_cmp q es ≡ find key_cmp q fs) → es ≡ fs
+same_lists es fs sorted_es sorted_fs alike =
+    same_entries key_cmp nat_list_cmp_total (slice_cmp-IsAntisymmetric nat_cmp-IsAntisymmetric) es fs (test _ sorted_es) (test _ sorted_fs) alike
+
+-- of a folded list those that pass a test are those of the lists, folded
+pub where_folded : (p : Key → Bool) (xs ys : Entries) → AreSorted xs → AreSorted ys
+    → where_key key_cmp p (folded_over xs ys) ≡ folded_over (where_key key_cmp p xs) (where_key key_cmp p ys)
+where_folded p xs ys sorted_xs sorted_ys =
+    same_lists _ _ (sorted_where p (folded_over xs ys) (sorted_folded xs ys sorted_ys)) (sorted_folded (where_key key_cmp p xs) (where_key key_cmp p ys) (sorted_where p ys sorted_ys))
+    (λ q. find_where p q (folded_over xs ys) ∙ ap (λ o. cond (p q) o None) (find_folded q xs ys sorted_xs)
+    ∙ by (p q) (find key_cmp q xs) (find key_cmp q ys)
+    ∙ sym (find_folded q (where_key key_cmp p xs) (where_key key_cmp p ys) (sorted_where p xs sorted_xs)
+    ∙ ap (λ o. over_any o (find key_cmp q (where_key key_cmp p ys))) (find_where p q xs) ∙ ap (over_any (cond (p q) (find key_cmp q xs) None)) (find_where p q ys)))
+  where
+    by : (b : Bool) (x y : Option Rec) → cond b (over_any x y) None ≡ over_any (cond b x None) (cond b y None)
+    by true x y = refl
+    by false x y = refl
+
+pub sorted_above : (at : Option Key) (es : Entries) → AreSorted es → AreSorted (above at es)
+sorted_above at es sorted = sorted_where (λ k. is_above at k) es sorted
+
+-- ---- the first of two lists, folded
+
+first_folded : (xs ys : Entries) → AreSorted xs → AreSorted ys → entry_of (group_of (first_of xs) (first_of ys)) ≡ first_of (folded_over xs ys)
+first_folded [] [] sorted_xs sorted_ys = refl
+first_folded [] (y ∷ ys) sorted_xs sorted_ys = refl
+first_folded (x ∷ xs) [] sorted_xs sorted_ys =
+    sym (first_is (folded_over (x ∷ xs) []) x (test _ (sorted_folded (x ∷ xs) [] refl))
+    (find_folded x.0 (x ∷ xs) [] sorted_xs ∙ ap (λ o. over_any o None) (found_first x xs))
+    (λ q below. find_folded q (x ∷ xs) [] sorted_xs ∙ ap (λ o. over_any o None) (below_first q x xs (test _ sorted_xs) below)))
+first_folded (x ∷ xs) (y ∷ ys) sorted_xs sorted_ys = by_order (key_cmp x.0 y.0) refl
+  where
+    folded : Entries
+    folded = folded_over (x ∷ xs) (y ∷ ys)
+
+    found : (q : Key) → find key_cmp q folded ≡ over_any (find key_cmp q (x ∷ xs)) (find key_cmp q (y ∷ ys))
+    found q = find_folded q (x ∷ xs) (y ∷ ys) sorted_xs
+
+    neither : (q : Key) → key_cmp q x.0 ≡ Less → key_cmp q y.0 ≡ Less → find key_cmp q folded ≡ None
+    neither q below_x below_y =
+        found q ∙ ap (λ o. over_any o (find key_cmp q (y ∷ ys))) (below_first q x xs (test _ sorted_xs) below_x) ∙ below_first q y ys (test _ sorted_ys) below_y
+
+    sorted : T (is_sorted key_cmp folded)
+    sorted = test _ (sorted_folded (x ∷ xs) (y ∷ ys) sorted_ys)
+
+    by_order : (r : Ordering) → key_cmp x.0 y.0 ≡ r → entry_of (Some (least_of r x y)) ≡ first_of folded
+    by_order Less is =
+        sym (first_is folded x sorted
+        (found x.0 ∙ ap (λ o. over_any o (find key_cmp x.0 (y ∷ ys))) (found_first x xs) ∙ ap (over_any (Some x.1)) (below_first x.0 y ys (test _ sorted_ys) is))
+        (λ q below. neither q below (nat_list_cmp_total.trans q x.0 y.0 below is)))
+    by_order Equal is =
+        let keys : x.0 ≡ y.0 = same x.0 y.0 is in
+        sym (first_is folded (x.0, fold x.1 y.1) sorted
+        (found x.0 ∙ ap (λ o. over_any o (find key_cmp x.0 (y ∷ ys))) (found_first x xs)
+        ∙ ap (over_any (Some x.1)) (ap (λ k. find key_cmp k (y ∷ ys)) keys ∙ found_first y ys))
+        (λ q below. neither q below (ap (key_cmp q) (sym keys) ∙ below)))
+    by_order Greater is =
+        let lower : key_cmp y.0 x.0 ≡ Less = turned x.0 y.0 Greater is in
+        sym (first_is folded y sorted
+        (found y.0 ∙ ap (λ o. over_any o (find key_cmp y.0 (y ∷ ys))) (below_first y.0 x xs (test _ sorted_xs) lower) ∙ found_first y ys)
+        (λ q below. neither q (nat_list_cmp_total.trans q y.0 x.0 below lower) below))
+
+pub first_above_folded : (at : Option Key) (xs ys : Entries) → AreSorted xs → AreSorted ys
+    → entry_of (group_of (first_of (above at xs)) (first_of (above at ys))) ≡ first_of (above at (folded_over xs ys))
+first_above_folded at xs ys sorted_xs sorted_ys =
+    first_folded (above at xs) (above at ys) (sorted_above at xs sorted_xs) (sorted_above at ys sorted_ys)
+    ∙ ap first_of (sym (where_folded (λ k. is_above at k) xs ys sorted_xs sorted_ys))
+
+-- ---- where it comes from
+
+pub from_one : (newer older : Option (Key × Rec)) → IsFromOne newer older (entry_of (group_of newer older))
+from_one None None = tt
+from_one None (Some f) = inr refl
+from_one (Some e) None = inl refl
+from_one (Some e) (Some f) = by_order (key_cmp e.0 f.0)
+  where
+    by_order : (r : Ordering) → IsFromOne (Some e) (Some f) (entry_of (Some (least_of r e f)))
+    by_order Less = inl refl
+    by_order Equal = inl refl
+    by_order Greater = inr refl
+
+pub stays_ahead : (at : Option Key) (newer older : Option (Key × Rec)) → IsAheadOf at newer → IsAheadOf at older → IsAheadOf at (entry_of (group_of newer older))
+stays_ahead at None None ahead_newer ahead_older = tt
+stays_ahead at None (Some f) ahead_newer ahead_older = ahead_older
+stays_ahead at (Some e) None ahead_newer ahead_older = ahead_newer
+stays_ahead at (Some e) (Some f) ahead_newer ahead_older = by_order (key_cmp e.0 f.0)
+  where
+    by_order : (r : Ordering) → IsAheadOf at (entry_of (Some (least_of r e f)))
+    by_order Less = ahead_newer
+    by_order Equal = ahead_newer
+    by_order Greater = ahead_older

@@ -1,0 +1,254 @@
+-- What a cursor has left above a key, while it goes on.
+use Rattle.std.proofs.Common.{◌≡◌, ◌≢◌, ◌∙◌, ◌⊎◌, inl, inr, ℕ, suc, ◌+◌, ◌<◌, ◌≤◌, Bool, true, false, cond, List, [], ◌∷◌, length, Option, Some, None, IfSome, IfNone, Result, Ok, Err, OnOk, refl, ap, sym, subst, arith}
+use Rattle.std.specs.Ordering.{is_lt}
+use Rattle.std.specs.Cmp.{tied_itself}
+use Rattle.std.proofs.lemmas.Bool.{false≢true}
+use Rattle.std.proofs.lemmas.Cmp.{nat_list_cmp_total}
+use Rattle.blsm_model.specs.declared.component.Component.{Component}
+use Rattle.blsm_model.specs.declared.key.Key.{Key}
+use Rattle.blsm_model.specs.Sizes.{Sizes}
+use Rattle.disk_trait.specs.Disk.{DiskState}
+use Rattle.disk_trait.specs.Moments.{IsTimed}
+use Rattle.disk_trait.specs.Reads.{OnlyReads, only_reads_same, only_reads_run_within}
+use Rattle.refusal.specs.Count.{HasRisen}
+use Rattle.page_file.specs.File.{Reads}
+use Rattle.record_delta.specs.declared.record.Rec.{Rec}
+use Rattle.record_delta.specs.Records.{weight}
+use Rattle.record_delta.specs.Entries.{Entries, AreSorted, above, is_above, first_of}
+use Rattle.page_file.specs.declared.file.Broken.{Broken}
+use Rattle.page_file.specs.declared.file.Broken.TheVariants.{Fault}
+use Rattle.page_file.specs.Component.{numbers_of}
+use Rattle.run_cursor.specs.Cursor.{CursorState, from_head, HasAhead, IsAdvanced}
+use Rattle.run_cursor.specs.Given.{HasGiven, HasGivenMore}
+use Rattle.merge_ends.specs.Input.{head_above, key_of}
+use Rattle.merge_ends.proofs.InputLemmas.{stale_left}
+use Rattle.merge_ends.proofs.GroupLemmas.{above_further, further}
+use Rattle.merge_step.proofs.TakenLemmas.{first_above, taken}
+use Rattle.scan_view.specs.Left.{IsFile, IsAheadOf, IsFromOne, HasLeft, HasBegun, count_left}
+
+-- ---- answers of calls
+
+pub fault_is : {A : Type 0} (a : Result A Broken) (broken : Broken) → a ≡ Err broken → a ≡ Err Fault → broken ≡ Fault
+fault_is a broken was is = cc
+
+pub not_both : {A : Type 0} (a : Result A Broken) (value : A) (broken : Broken) → a ≡ Err broken → a ≡ Ok value → ⊥
+not_both a value broken was is = cc
+
+pub calm_of : {A : Type 0} (a : Result A Broken) (value : A) → a ≡ Ok value → a ≡ Err Fault → ⊥
+calm_of a value is fault = not_both a value Fault fault is
+
+pub same_error : {A : Type 0} (a b : Broken) → ◌≡◌ {A = Result A Broken} (Err a) (Err b) → a ≡ b
+same_error a b same = cc
+
+pub one_value : {A : Type 0} (result : Result A Broken) (a b : A) → result ≡ Ok a → result ≡ Ok b → a ≡ b
+one_value result a b is is_too = cc
+
+-- ---- a file that is only read
+
+pub file_on : {end most : ℕ} {file : List ℕ} {old new : DiskState} → OnlyReads end most old new → IsFile file old → IsFile file new
+file_on run is = record { honest = run.effect.goes_on.is_honest ∙ is.honest; bytes_are = only_reads_same run is.honest ∙ is.bytes_are }
+
+-- ---- a cursor that goes on
+
+pub left_on : (sizes : Sizes) (file : List ℕ) (at : Option Key) (old new : CursorState) (entries : Entries) → head_above at old.head ≡ false
+    → (has : HasLeft sizes at old entries file) → IsAdvanced sizes new (numbers_of has.ahead.coming) has.rest file → HasLeft sizes at new entries file
+left_on sizes file at old new entries stale has advanced = by_rest has.rest refl advanced
+  where
+    by_rest : (rest : Entries) → has.rest ≡ rest → IsAdvanced sizes new (numbers_of has.ahead.coming) rest file → HasLeft sizes at new entries file
+    by_rest [] is then = record {
+      rest = [];
+      ahead = then.1;
+      left_is = ap (λ h. above at (from_head h [])) then.0 ∙ sym (ap (above at) is) ∙ sym (stale_left at old.head has.rest stale) ∙ has.left_is;
+    }
+    by_rest (e ∷ es) is then = record {
+      rest = es;
+      ahead = then.1;
+      left_is = ap (λ h. above at (from_head h es)) then.0 ∙ sym (ap (above at) is) ∙ sym (stale_left at old.head has.rest stale) ∙ has.left_is;
+    }
+
+begun_on : (sizes : Sizes) (run : Component) (new : CursorState) (given : Entries) (file : List ℕ) → (head : Option (Key × Rec)) → HasGivenMore sizes run new head given file
+    → HasBegun sizes run new file
+begun_on sizes run new given file None more = (given, more.1)
+begun_on sizes run new given file (Some e) more = (_, more)
+
+-- by what a call of `advance` says of lists
+pub advance_left : (result : Result (Unit {0}) Broken) (sizes : Sizes) (file bytes : List ℕ) (at : Option Key) (old new : CursorState) (entries : Entries) → bytes ≡ file
+    → head_above at old.head ≡ false → HasLeft sizes at old entries file
+    → ((rest : Entries) (before : HasAhead sizes old rest bytes) → result ≢ Err Fault → (result ≡ Ok tt) × IsAdvanced sizes new (numbers_of before.coming) rest bytes)
+    → result ≢ Err Fault → (result ≡ Ok tt) × HasLeft sizes at new entries file
+advance_left result sizes file bytes at old new entries same stale has list other =
+    let here = subst (λ (b : List ℕ). HasLeft sizes at old entries b) (sym same) has in
+    let advanced = list here.rest here.ahead other in
+    (advanced.0, subst (λ (b : List ℕ). HasLeft sizes at new entries b) same (left_on sizes bytes at old new entries stale here advanced.1))
+
+pub advance_begun : (sizes : Sizes) (file bytes : List ℕ) (run : Component) (old new : CursorState) → bytes ≡ file → HasBegun sizes run old file
+    → ((given : Entries) → HasGiven sizes run old given bytes → HasGivenMore sizes run new new.head given bytes) → HasBegun sizes run new file
+advance_begun sizes file bytes run old new same begun more =
+    subst (λ (b : List ℕ). HasBegun sizes run new b) same
+    (begun_on sizes run new begun.0 bytes new.head (more begun.0 (subst (λ (b : List ℕ). HasGiven sizes run old begun.0 b) (sym same) begun.1)))
+
+none_of : (es : Entries) → length es ≡ 0 → es ≡ []
+none_of [] is = refl
+none_of (e ∷ es) is = absurd (omega (arith, is))
+
+-- a cursor that is at an entry above the key, or at the end, is at the first of what it has left
+pub head_first : (sizes : Sizes) (file : List ℕ) (at : Option Key) (cursor : CursorState) (entries : Entries) → HasLeft sizes at cursor entries file
+    → (head_above at cursor.head ≡ true) ⊎ ((cursor.head ≡ None) × (cursor.entries ≡ 0)) → cursor.head ≡ first_of (above at entries)
+head_first sizes file at cursor entries has (inl is) = by_head cursor.head is ∙ ap first_of has.left_is
+  where
+    by_head : (head : Option (Key × Rec)) → head_above at head ≡ true → head ≡ first_of (above at (from_head head has.rest))
+    by_head None is = absurd (false≢true is)
+    by_head (Some e) is = sym (ap (λ b. first_of (cond b (e ∷ above at has.rest) (above at has.rest))) is)
+head_first sizes file at cursor entries has (inr end) =
+    end.0 ∙ sym (ap (λ l. first_of (above at l)) (none_of has.rest (has.ahead.entries_is ∙ end.1)))
+    ∙ sym (ap (λ h. first_of (above at (from_head h has.rest))) end.0) ∙ ap first_of has.left_is
+
+-- ---- above another key
+
+pub left_further : (sizes : Sizes) (file : List ℕ) (at : Option Key) (key : Key) (cursor : CursorState) (entries : Entries) → is_above at key ≡ true
+    → HasLeft sizes at cursor entries file → HasLeft sizes (Some key) cursor entries file
+left_further sizes file at key cursor entries key_above has = record {
+  rest = has.rest;
+  ahead = has.ahead;
+  left_is = above_further at key (from_head cursor.head has.rest) key_above ∙ ap (above (Some key)) has.left_is ∙ sym (above_further at key entries key_above);
+}
+
+-- ---- counts
+
+at_most_one : (b : Bool) → cond b 1 0 ≤ 1
+at_most_one true = omega arith
+at_most_one false = omega arith
+
+-- what a call of `advance` says of counts
+abbrev pub Falls : CursorState → CursorState → Option (Key × Rec) → Type 0
+Falls old new head = IfSome head (λ e. (old.entries ≡ new.entries + 1) × (old.weight ≡ weight e.0 e.1 + new.weight))
+
+abbrev pub Ends : CursorState → CursorState → Option (Key × Rec) → Type 0
+Ends old new head = IfNone head ((old.weight ≡ 0) × (new.entries ≡ 0) × (new.weight ≡ 0) × (new.pages ≡ 0))
+
+pub count_falls : (at : Option Key) (old new : CursorState) → head_above at old.head ≡ false → Falls old new new.head → Ends old new new.head → count_left at new ≤ count_left at old
+count_falls at old new stale falls ended = by_head new.head refl falls ended
+  where
+    by_head : (head : Option (Key × Rec)) → new.head ≡ head → Falls old new head → Ends old new head → count_left at new ≤ count_left at old
+    by_head None is some none = omega (arith, ap {B = ℕ} (λ h. cond (head_above at h) 1 0) is, none.1)
+    by_head (Some e) is some none = omega (arith, ap {B = ℕ} (λ b. cond b 1 0) stale, some.0, at_most_one (head_above at new.head))
+
+pub at_end : (old new : CursorState) → new.head ≡ None → Ends old new new.head → (new.head ≡ None) × (new.entries ≡ 0)
+at_end old new none ended = (none, (subst (λ (h : Option (Key × Rec)). Ends old new h) none ended).1)
+
+-- ---- calls, one after the other
+
+pub reads_after : {A : Type 0} {end most more : ℕ} {result : Result A Broken} {old mid new : DiskState} (total : ℕ) → IsTimed mid → mid.faults ≡ old.faults
+    → OnlyReads end most old mid → Reads end more result mid new → new.clock ≤ old.clock + total → Reads end total result old new
+reads_after {new = new} total timed calm first reads calls = record {
+  effect = only_reads_run_within total timed calm first reads.effect calls;
+  stands = λ other. reads.stands other ∙ calm;
+  failed = λ is. subst (λ n. HasRisen n new.faults) calm (reads.failed is);
+}
+
+-- a call that hands another one's failure on
+pub reads_err : {A B : Type 0} {end most : ℕ} {old new : DiskState} (result : Result A Broken) (other : Result B Broken) (broken : Broken) → result ≡ Err broken → other ≡ Err broken
+    → Reads end most result old new → Reads end most other old new
+reads_err result other broken is other_is reads = record {
+  effect = reads.effect;
+  stands = λ calm. reads.stands (λ fault. calm (other_is ∙ ap Err (fault_is result broken is fault)));
+  failed = λ fault. reads.failed (is ∙ ap Err (fault_is other broken other_is fault));
+}
+
+-- a call that goes on after another one, and answers Ok
+pub reads_ok : {A B : Type 0} {end most : ℕ} {old new : DiskState} (result : Result A Broken) (value : A) (other : B) → result ≡ Ok value
+    → Reads end most result old new → Reads end most (Ok other) old new
+reads_ok result value other is reads = record {
+  effect = reads.effect;
+  stands = λ calm. reads.stands (calm_of result value is);
+  failed = λ fault. absurd (cc);
+}
+
+pub map_ok : {A : Type 0} {P Q : Type 0} (result : Result A Broken) → (P → Q) → OnOk result P → OnOk result Q
+map_ok (Ok value) f holds = f holds
+map_ok (Err broken) f holds = tt
+
+pub some_of : {P : Key × Rec → Type 0} (entry : Option (Key × Rec)) → ((e : Key × Rec) → entry ≡ Some e → P e) → IfSome entry P
+some_of None each = tt
+some_of (Some e) each = each e refl
+
+-- ---- a key that is passed
+
+pub first_ahead : (at : Option Key) (es : Entries) → IsAheadOf at (first_of (above at es))
+first_ahead at es = some_of (first_of (above at es)) (λ e is. by_list (above at es) refl e is)
+  where
+    by_list : (rest : Entries) → above at es ≡ rest → (e : Key × Rec) → first_of rest ≡ Some e → is_above at e.0 ≡ true
+    by_list [] left_is e is = absurd (cc)
+    by_list (x ∷ more) left_is e is = let same : x ≡ e = cc in subst (λ (f : Key × Rec). is_above at f.0 ≡ true) same (first_above at es more x left_is)
+
+pub from_key : (newer older entry : Option (Key × Rec)) (key : Key) → IsFromOne newer older entry → key_of entry ≡ Some key → (key_of newer ≡ Some key) ⊎ (key_of older ≡ Some key)
+from_key newer older None key from is = absurd (cc)
+from_key newer older (Some e) key (inl from) is = inl (from ∙ is)
+from_key newer older (Some e) key (inr from) is = inr (from ∙ is)
+
+count_by : (at : Option Key) (key : Key) (head : Option (Key × Rec)) → is_above at key ≡ true → cond (head_above (Some key) head) 1 0 ≤ cond (head_above at head) 1 0
+count_by at key None key_above = omega arith
+count_by at key (Some e) key_above = by (is_above (Some key) e.0) refl
+  where
+    by : (b : Bool) → is_above (Some key) e.0 ≡ b → cond b 1 0 ≤ cond (is_above at e.0) 1 0
+    by true is = omega (arith, ap {B = ℕ} (λ b. cond b 1 0) (further at key e.0 key_above is))
+    by false is = omega arith
+
+-- no more is left above a greater key
+pub count_further : (at : Option Key) (key : Key) (cursor : CursorState) → is_above at key ≡ true → count_left (Some key) cursor ≤ count_left at cursor
+count_further at key cursor key_above = omega (arith, count_by at key cursor.head key_above)
+
+-- and less, where the cursor is at it
+pub count_less : (at : Option Key) (key : Key) (cursor : CursorState) → is_above at key ≡ true → key_of cursor.head ≡ Some key → count_left (Some key) cursor < count_left at cursor
+count_less at key cursor key_above is = by_head cursor.head refl
+  where
+    by_head : (head : Option (Key × Rec)) → cursor.head ≡ head → count_left (Some key) cursor < count_left at cursor
+    by_head None head_is = absurd (let wrong : None ≡ Some key = ap key_of (sym head_is) ∙ is in cc)
+    by_head (Some e) head_is =
+        let keys : Some e.0 ≡ Some key = ap key_of (sym head_is) ∙ is in
+        let same_key : e.0 ≡ key = cc in
+        let now : head_above (Some key) cursor.head ≡ false = ap (head_above (Some key)) head_is ∙ ap (is_above (Some key)) same_key ∙ ap is_lt (tied_itself nat_list_cmp_total key) in
+        let was : head_above at cursor.head ≡ true = ap (head_above at) head_is ∙ ap (is_above at) same_key ∙ key_above in
+        omega (arith, ap {B = ℕ} (λ b. cond b 1 0) now, ap {B = ℕ} (λ b. cond b 1 0) was)
+
+fewer : (at : Option Key) (es : Entries) → length (above at es) ≤ length es
+fewer at [] = omega arith
+fewer at (e ∷ es) = by (is_above at e.0) (fewer at es)
+  where
+    by : (b : Bool) → length (above at es) ≤ length es → length (cond b (e ∷ above at es) (above at es)) ≤ suc (length es)
+    by true few = omega (arith, few)
+    by false few = omega (arith, few)
+
+pub memory_further : (at : Option Key) (key : Key) (es : Entries) → is_above at key ≡ true → length (above (Some key) es) ≤ length (above at es)
+memory_further at key es key_above = omega (arith, ap {B = ℕ} (λ (l : Entries). length l) (above_further at key es key_above), fewer (Some key) (above at es))
+
+pub memory_less : (at : Option Key) (key : Key) (es : Entries) → AreSorted es → key_of (first_of (above at es)) ≡ Some key → length (above (Some key) es) < length (above at es)
+memory_less at key es sorted is = by_list (above at es) refl is
+  where
+    by_list : (rest : Entries) → above at es ≡ rest → key_of (first_of rest) ≡ Some key → length (above (Some key) es) < length (above at es)
+    by_list [] left_is none = absurd (cc)
+    by_list (e ∷ more) left_is some =
+        let same_key : e.0 ≡ key = cc in
+        let rest : above (Some key) es ≡ more = subst (λ (k : Key). above (Some k) es ≡ more) same_key (taken at es more e sorted left_is).0 in
+        omega (arith, ap {B = ℕ} (λ (l : Entries). length l) rest, ap {B = ℕ} (λ (l : Entries). length l) left_is)
+
+-- an entry that was folded from four heads has one of their keys
+pub from_four : (memory h1 h2 h3 deep older found m g1 g2 g3 : Option (Key × Rec)) (key : Key) → m ≡ memory → g1 ≡ h1 → g2 ≡ h2 → g3 ≡ h3
+    → IsFromOne g2 g3 deep → IsFromOne g1 deep older → IsFromOne m older found → key_of found ≡ Some key
+    → (key_of memory ≡ Some key) ⊎ ((key_of h1 ≡ Some key) ⊎ ((key_of h2 ≡ Some key) ⊎ (key_of h3 ≡ Some key)))
+from_four memory h1 h2 h3 deep older found m g1 g2 g3 key m_is is1 is2 is3 from_deep from_older from_found is =
+    elim (from_key m older found key from_found is) [
+      | inl at_m ↦ inl (ap key_of (sym m_is) ∙ at_m)
+      | inr at_older ↦
+          elim (from_key g1 deep older key from_older at_older) [
+            | inl at1 ↦ inr (inl (ap key_of (sym is1) ∙ at1))
+            | inr at_deep ↦
+                elim (from_key g2 g3 deep key from_deep at_deep) [
+                  | inl at2 ↦ inr (inr (inl (ap key_of (sym is2) ∙ at2)))
+                  | inr at3 ↦ inr (inr (inr (ap key_of (sym is3) ∙ at3)))
+                ]
+          ]
+    ]
+
+pub key_is_ahead : (at : Option Key) (entry : Option (Key × Rec)) (e : Key × Rec) → entry ≡ Some e → IsAheadOf at entry → is_above at e.0 ≡ true
+key_is_ahead at entry e is ahead = subst (λ (x : Option (Key × Rec)). IsAheadOf at x) is ahead

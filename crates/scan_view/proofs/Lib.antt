@@ -1,0 +1,6 @@
+pub mod FoldLemmas
+pub mod LeftLemmas
+pub mod ScanLemmas
+pub mod RowLemmas
+pub mod RangeLemmas
+pub mod StayLemmas

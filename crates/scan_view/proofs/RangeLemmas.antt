@@ -1,0 +1,116 @@
+-- The entries of a range, and the rows of a hold that has copies of them.
+use Rattle.std.proofs.Common.{◌≡◌, ◌∙◌, Bool, true, false, cond, List, [], ◌∷◌, ◌++◌, Option, Some, None, refl, ap, sym, subst}
+use Rattle.std.specs.Ordering.{is_lt}
+use Rattle.std.specs.FinMap.{find}
+use Rattle.blsm_model.specs.declared.key.Key.{Key}
+use Rattle.blsm_model.specs.declared.row.Row.{Row}
+use Rattle.blsm_model.specs.Keys.{key_cmp, in_range}
+use Rattle.record_delta.specs.declared.record.Rec.{Rec}
+use Rattle.record_delta.specs.Entries.{Entries, AreSorted, folded_over, over_any, above, first_of}
+use Rattle.merge_step.proofs.MergedLemmas.{left, right, less, test, is_true, find_folded, sorted_folded}
+use Rattle.merge_step.proofs.TakenLemmas.{taken}
+use Rattle.tree_machine.proofs.FoldLemmas.{over_any_assoc}
+use Rattle.scan_view.specs.Hold.{within, rows_of}
+use Rattle.scan_view.proofs.FoldLemmas.{find_where, sorted_where, same_lists, sorted_above}
+use Rattle.scan_view.proofs.RowLemmas.{rows_cons, rows_outside, outside, still_past}
+
+-- ---- the entries
+
+within_cons : (low high : Key) (e : Key × Rec) (es : Entries) → within low high (e ∷ es) ≡ within low high (e ∷ []) ++ within low high es
+within_cons low high e es = by (in_range low high e.0)
+  where
+    by : (b : Bool) → cond b (e ∷ within low high es) (within low high es) ≡ cond b (e ∷ []) [] ++ within low high es
+    by true = refl
+    by false = refl
+
+within_past : (low high : Key) (e : Key × Rec) (es : Entries) → AreSorted (e ∷ es) → is_lt (key_cmp e.0 high) ≡ false → within low high (e ∷ es) ≡ []
+within_past low high e [] sorted past = ap (λ b. cond b (e ∷ []) []) (outside low high e.0 past)
+within_past low high e (f ∷ es) sorted past =
+    ap (λ b. cond b (e ∷ within low high (f ∷ es)) (within low high (f ∷ es))) (outside low high e.0 past)
+    ∙ within_past low high f es (is_true _ (right _ _ (test _ sorted))) (still_past high e.0 f.0 past (less _ (left _ _ (left _ _ (test _ sorted)))))
+
+pub within_step : (low high : Key) (at : Option Key) (es : Entries) (e : Key × Rec) → AreSorted es → first_of (above at es) ≡ Some e
+    → within low high (above at es) ≡ within low high (e ∷ []) ++ within low high (above (Some e.0) es)
+within_step low high at es e sorted is = by_list (above at es) refl is
+  where
+    by_list : (rest : Entries) → above at es ≡ rest → first_of rest ≡ Some e → within low high (above at es) ≡ within low high (e ∷ []) ++ within low high (above (Some e.0) es)
+    by_list [] left_is none = absurd (cc)
+    by_list (x ∷ more) left_is some =
+        let same : x ≡ e = cc in
+        let here : above at es ≡ e ∷ more = left_is ∙ ap (λ (y : Key × Rec). y ∷ more) same in
+        ap (within low high) here ∙ within_cons low high e more ∙ ap (λ (l : Entries). within low high (e ∷ []) ++ within low high l) (sym (taken at es more e sorted here).0)
+
+pub within_ended : (low high : Key) (at : Option Key) (es : Entries) (e : Key × Rec) → AreSorted es → first_of (above at es) ≡ Some e → is_lt (key_cmp e.0 high) ≡ false
+    → within low high (above at es) ≡ []
+within_ended low high at es e sorted is past = by_list (above at es) refl is
+  where
+    by_list : (rest : Entries) → above at es ≡ rest → first_of rest ≡ Some e → within low high (above at es) ≡ []
+    by_list [] left_is none = absurd (cc)
+    by_list (x ∷ more) left_is some =
+        let same : x ≡ e = cc in
+        let here : above at es ≡ e ∷ more = left_is ∙ ap (λ (y : Key × Rec). y ∷ more) same in
+        ap (within low high) here ∙ within_past low high e more (subst AreSorted here (sorted_above at es sorted)) past
+
+pub above_none : (es : Entries) → above None es ≡ es
+above_none [] = refl
+above_none (e ∷ es) = ap (λ (l : Entries). e ∷ l) (above_none es)
+
+pub within_sorted : (low high : Key) (es : Entries) → AreSorted es → AreSorted (within low high es)
+within_sorted low high es sorted = sorted_where (in_range low high) es sorted
+
+-- ---- the rows
+
+rows_within : (low high : Key) (es : Entries) → AreSorted es → rows_of low high es ≡ rows_of low high (within low high es)
+rows_within low high [] sorted = refl
+rows_within low high (e ∷ es) sorted =
+    rows_cons low high e es sorted ∙ by (in_range low high e.0) refl (rows_within low high es (is_true _ (right _ _ (test _ sorted))))
+  where
+    by : (b : Bool) → in_range low high e.0 ≡ b → rows_of low high es ≡ rows_of low high (within low high es)
+        → rows_of low high (e ∷ []) ++ rows_of low high es ≡ rows_of low high (cond b (e ∷ within low high es) (within low high es))
+    by true is rest =
+        ap (λ (l : List Row). rows_of low high (e ∷ []) ++ l) rest
+        ∙ sym (rows_cons low high e (within low high es) (subst AreSorted (ap (λ b. cond b (e ∷ within low high es) (within low high es)) is) (within_sorted low high (e ∷ es) sorted)))
+    by false is rest = ap (λ (l : List Row). l ++ rows_of low high es) (rows_outside low high e is) ∙ rest
+
+-- the records of the range alone, folded over what is older, have the same rows
+pub held_rows : (low high : Key) (b a older : Entries) → AreSorted b → AreSorted a → AreSorted older
+    → rows_of low high (folded_over b (folded_over a older)) ≡ rows_of low high (folded_over (within low high (folded_over b a)) older)
+held_rows low high b a older sorted_b sorted_a sorted_older =
+    rows_within low high all sorted_all ∙ ap (rows_of low high) (same_lists _ _ (within_sorted low high all sorted_all) (within_sorted low high held sorted_held) alike) ∙ sym (rows_within low high held sorted_held)
+  where
+    memory : Entries
+    memory = folded_over b a
+
+    all : Entries
+    all = folded_over b (folded_over a older)
+
+    held : Entries
+    held = folded_over (within low high memory) older
+
+    sorted_all : AreSorted all
+    sorted_all = sorted_folded b (folded_over a older) (sorted_folded a older sorted_older)
+
+    sorted_held : AreSorted held
+    sorted_held = sorted_folded (within low high memory) older sorted_older
+
+    by : (p : Bool) (x y z : Option Rec) → cond p (over_any x (over_any y z)) None ≡ cond p (over_any (cond p (over_any x y) None) z) None
+    by true x y z = sym (over_any_assoc x y z)
+    by false x y z = refl
+
+    alike : (q : Key) → find key_cmp q (within low high all) ≡ find key_cmp q (within low high held)
+    alike q =
+        find_where (in_range low high) q all
+        ∙ ap (λ o. cond (in_range low high q) o None) (find_folded q b (folded_over a older) sorted_b ∙ ap (over_any (find key_cmp q b)) (find_folded q a older sorted_a))
+        ∙ by (in_range low high q) (find key_cmp q b) (find key_cmp q a) (find key_cmp q older)
+        ∙ sym (find_where (in_range low high) q held
+        ∙ ap (λ o. cond (in_range low high q) o None) (find_folded q (within low high memory) older (within_sorted low high memory (sorted_folded b a sorted_a))
+        ∙ ap (λ o. over_any o (find key_cmp q older)) (find_where (in_range low high) q memory ∙ ap (λ o. cond (in_range low high q) o None) (find_folded q b a sorted_b))))
+
+pub rows_from : (low high copied_low copied_high : Key) (memory b a older : Entries) → copied_low ≡ low → copied_high ≡ high → memory ≡ within low high (folded_over b a)
+    → AreSorted b → AreSorted a → AreSorted older
+    → rows_of low high (folded_over b (folded_over a older)) ≡ rows_of copied_low copied_high (above None (folded_over memory older))
+rows_from low high copied_low copied_high memory b a older low_is high_is memory_is sorted_b sorted_a sorted_older =
+    held_rows low high b a older sorted_b sorted_a sorted_older ∙ ap (λ (m : Entries). rows_of low high (folded_over m older)) (sym memory_is)
+    ∙ ap (rows_of low high) (sym (above_none (folded_over memory older)))
+    ∙ ap (λ (k : Key). rows_of k high (above None (folded_over memory older))) (sym low_is)
+    ∙ ap (λ (k : Key). rows_of copied_low k (above None (folded_over memory older))) (sym high_is)

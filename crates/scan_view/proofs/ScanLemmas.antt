@@ -1,0 +1,50 @@
+-- A scan that starts, and one that passes a key.
+use Rattle.std.proofs.Common.{◌≡◌, ◌⊎◌, inl, inr, ℕ, ◌<◌, true, Option, Some, List, ap, subst, arith}
+use Rattle.blsm_model.specs.declared.component.Component.{Component}
+use Rattle.blsm_model.specs.declared.key.Key.{Key}
+use Rattle.blsm_model.specs.Sizes.{Sizes}
+use Rattle.record_delta.specs.Entries.{Entries, AreSorted, folded_over, above, is_above, first_of}
+use Rattle.page_file.specs.Component.{HasList}
+use Rattle.page_file.proofs.OrderLemmas.{orders}
+use Rattle.run_cursor.specs.Cursor.{CursorState, started, from_head, HasAhead}
+use Rattle.merge_step.proofs.MergedLemmas.{sorted_folded}
+use Rattle.merge_ends.specs.Input.{key_of}
+use Rattle.scan_view.specs.declared.scan.Scan.{Scan}
+use Rattle.scan_view.specs.Hold.{view_of}
+use Rattle.scan_view.specs.Left.{HasLeft}
+use Rattle.scan_view.specs.Scan.{IsScan, all_left}
+use Rattle.scan_view.proofs.LeftLemmas.{left_further, count_further, count_less, memory_further, memory_less}
+
+pub started_left : (sizes : Sizes) (run : Component) (at : Option Key) (cursor : CursorState) (entries : Entries) (file : List ℕ) → cursor ≡ started run → HasAhead sizes cursor entries file
+    → HasLeft sizes at cursor entries file
+started_left sizes run at cursor entries file is ahead =
+    record { rest = entries; ahead = ahead; left_is = ap (λ (c : CursorState). above at (from_head c.head entries)) is }
+
+pub list_sorted : (sizes : Sizes) (run : Component) (entries : Entries) (file : List ℕ) → HasList sizes run entries file → AreSorted entries
+list_sorted sizes run entries file list = subst AreSorted list.entries_are ((orders _).0 list.reads.rise)
+
+pub scan_further : (sizes : Sizes) (scan : Scan) (key : Key) (xs ys zs : Entries) (file : List ℕ) → is_above scan.at key ≡ true → IsScan sizes scan xs ys zs file
+    → IsScan sizes (record scan { at = Some key }) xs ys zs file
+scan_further sizes scan key xs ys zs file key_above is = record {
+  c1 = left_further sizes file scan.at key scan.c1 xs key_above is.c1;
+  c1x = left_further sizes file scan.at key scan.c1x ys key_above is.c1x;
+  c2 = left_further sizes file scan.at key scan.c2 zs key_above is.c2;
+  sorted_c1 = is.sorted_c1;
+  sorted_c1x = is.sorted_c1x;
+  sorted_c2 = is.sorted_c2;
+}
+
+pub passes_one : (memory : Entries) (scan : Scan) (key : Key) → AreSorted memory → is_above scan.at key ≡ true
+    → (key_of (first_of (above scan.at memory)) ≡ Some key) ⊎ ((key_of scan.c1.head ≡ Some key) ⊎ ((key_of scan.c1x.head ≡ Some key) ⊎ (key_of scan.c2.head ≡ Some key)))
+    → all_left memory (record scan { at = Some key }) < all_left memory scan
+passes_one memory scan key sorted key_above (inl is) =
+    omega (arith, memory_less scan.at key memory sorted is, count_further scan.at key scan.c1 key_above, count_further scan.at key scan.c1x key_above, count_further scan.at key scan.c2 key_above)
+passes_one memory scan key sorted key_above (inr (inl is)) =
+    omega (arith, memory_further scan.at key memory key_above, count_less scan.at key scan.c1 key_above is, count_further scan.at key scan.c1x key_above, count_further scan.at key scan.c2 key_above)
+passes_one memory scan key sorted key_above (inr (inr (inl is))) =
+    omega (arith, memory_further scan.at key memory key_above, count_further scan.at key scan.c1 key_above, count_less scan.at key scan.c1x key_above is, count_further scan.at key scan.c2 key_above)
+passes_one memory scan key sorted key_above (inr (inr (inr is))) =
+    omega (arith, memory_further scan.at key memory key_above, count_further scan.at key scan.c1 key_above, count_further scan.at key scan.c1x key_above, count_less scan.at key scan.c2 key_above is)
+
+pub view_sorted : (memory xs ys zs : Entries) → AreSorted zs → AreSorted (view_of memory xs ys zs)
+view_sorted memory xs ys zs sorted = sorted_folded memory (folded_over xs (folded_over ys zs)) (sorted_folded xs (folded_over ys zs) (sorted_folded ys zs sorted))

@@ -1,0 +1,103 @@
+-- Holds while runs are written.
+use Rattle.std.specs.Prelude.{◌≢◌, Option, Some, None, Result, Ok, slice_index_or, [], take, drop}
+use Rattle.std.specs.List.{Contains}
+use Rattle.std.proofs.Common.{◌≡◌, ◌∙◌, ◌+◌, ◌≤◌, ◌++◌, ℕ, List, ap, sym, subst, inl, inr, ⊎_elim, arith}
+use Rattle.std.proofs.lemmas.Bool.{cases_eq}
+use Rattle.std.proofs.lemmas.List.Elements.{Contains-append_left, Contains-append_right}
+use Rattle.disk_trait.specs.Region.{IsWithin as IsInside, IsSameOutside, outside, same_wider, span}
+use Rattle.blsm_model.specs.declared.row.Row.{Row}
+use Rattle.blsm_model.specs.declared.row.RowList.{RowList}
+use Rattle.blsm_model.specs.Sizes.{Sizes}
+use Rattle.page_space.specs.PageSet.{Members, IsIn, size}
+use Rattle.page_space.specs.Space.{SpaceState, HasRole, IsPinnedBy, IsWithin, KeepsOtherPins, role_size, pin_size}
+use Rattle.page_file.specs.declared.file.Broken.{Broken}
+use Rattle.page_file.specs.Component.{RunPage, numbers_of}
+use Rattle.page_file.specs.File.{AreSamePages, page_start, pages_region}
+use Rattle.page_file.proofs.ComponentLemmas.{list_kept}
+use Rattle.page_file.proofs.PageLemmas.{before_apart, others_apart, same_pages}
+use Rattle.run_writer.specs.Writer.{role_region}
+use Rattle.merge_ends.specs.Output.{TakesPages}
+use Rattle.scan_view.specs.Hold.{HoldState, HasRows, pages_held}
+use Rattle.scan_view.specs.Pins.{Pins, IsUnpinned, HasHeld, HasPinned, beside_pins}
+
+pub rows_kept : (sizes : Sizes) (hold : HoldState) (rows : List Row) (old new : List ℕ) → (before : HasRows sizes hold rows old)
+    → AreSamePages sizes (pages_held before) old new → (now : HasRows sizes hold rows new) × (pages_held now ≡ pages_held before)
+rows_kept sizes hold rows old new before same =
+    let ns = numbers_of before.c1.pages in
+    let ms = numbers_of before.c1x.pages in
+    let ks = numbers_of before.c2.pages in
+    let one = list_kept sizes hold.c1 before.of_c1 old new before.c1 (λ n has. same n (Contains-append_left (ns ++ ms) ks n (Contains-append_left ns ms n has))) in
+    let two = list_kept sizes hold.c1x before.of_c1x old new before.c1x (λ n has. same n (Contains-append_left (ns ++ ms) ks n (Contains-append_right ns ms n has))) in
+    let three = list_kept sizes hold.c2 before.of_c2 old new before.c2 (λ n has. same n (Contains-append_right (ns ++ ms) ks n has)) in (
+      record { of_c1 = before.of_c1; of_c1x = before.of_c1x; of_c2 = before.of_c2; c1 = one.0; c1x = two.0; c2 = three.0; rows_are = before.rows_are },
+      ap (λ (ps : List RunPage). numbers_of ps ++ numbers_of two.0.pages ++ numbers_of three.0.pages) one.1
+          ∙ ap (λ (ps : List RunPage). ns ++ numbers_of ps ++ numbers_of three.0.pages) two.1
+          ∙ ap (λ (ps : List RunPage). ns ++ ms ++ numbers_of ps) three.1,
+    )
+
+-- a hold's rows are read from pages that are pinned, so they stay where nothing else is written
+pub held_beside : (sizes : Sizes) (pins : List Members) (seat : ℕ) (hold : Option HoldState) (rows : Option (List Row)) (old new : List ℕ)
+    → IsSameOutside (beside_pins sizes pins) old new → HasHeld sizes pins seat hold rows old → HasHeld sizes pins seat hold rows new
+held_beside sizes pins seat None None old new same held = tt
+held_beside sizes pins seat None (Some rows) old new same held = absurd held
+held_beside sizes pins seat (Some hold) None old new same held = absurd held
+held_beside sizes pins seat (Some hold) (Some rows) old new same held =
+    let kept = rows_kept sizes hold rows old new held.has (same_pages sizes (pages_held held.has) old new (same_wider elsewhere same)) in
+    record { has = kept.0; pinned = λ page among. held.pinned page (subst (λ (ns : List ℕ). Contains ns page) kept.1 among) }
+  where
+    elsewhere : IsInside (beside_pins sizes pins) (outside (pages_region sizes (pages_held held.has)))
+    elsewhere i out page = out (seat, page.0, held.pinned page.0 page.1, page.2)
+
+pub held_by_others : (sizes : Sizes) (old new : SpaceState) (seat other : ℕ) (hold : Option HoldState) (rows : Option (List Row)) (file : List ℕ)
+    → KeepsOtherPins seat old new → other ≢ seat → HasHeld sizes old.pins other hold rows file → HasHeld sizes new.pins other hold rows file
+held_by_others sizes old new seat other None None file keeps differs held = tt
+held_by_others sizes old new seat other None (Some rows) file keeps differs held = absurd held
+held_by_others sizes old new seat other (Some hold) None file keeps differs held = absurd held
+held_by_others sizes old new seat other (Some hold) (Some rows) file keeps differs held =
+    record { has = held.has; pinned = λ page among. subst (λ (set : Members). IsIn set page) (sym (keeps other differs)) (held.pinned page among) }
+
+-- and what is left of them once the first are given
+pub next_pinned : (sizes : Sizes) (pins : List Members) (seat : ℕ) (rows : List Row) (n : ℕ) (old new : HoldState) (file later : List ℕ) (result : Result RowList Broken)
+    → ((before : HasRows sizes old rows file) → (result ≡ Ok (take n rows)) × (now : HasRows sizes new (drop n rows) later) × (pages_held now ≡ pages_held before))
+    → HasPinned sizes pins seat old rows file → (result ≡ Ok (take n rows)) × HasPinned sizes pins seat new (drop n rows) later
+next_pinned sizes pins seat rows n old new file later result gives held =
+    let came = gives held.has in (
+      came.0,
+      record { has = came.1; pinned = λ page among. held.pinned page (subst (λ (ns : List ℕ). Contains ns page) came.2 among) },
+    )
+
+-- ---- runs that are written
+
+-- with the same pins, a page that is pinned then was pinned before
+pinned_before : (old new : SpaceState) → new.pins ≡ old.pins → (seat page : ℕ) → IsPinnedBy new seat page → IsPinnedBy old seat page
+pinned_before old new same seat page pinned = subst (λ (pins : List Members). IsIn (slice_index_or pins seat []) page) same pinned
+
+pub unpinned_on : (old new : SpaceState) (role tag : ℕ) → TakesPages role old new → IsUnpinned old tag → IsUnpinned new tag
+unpinned_on old new role tag takes free seat page pinned has =
+    let before = pinned_before old new takes.pins seat page pinned in
+    elim (cases_eq tag role) [
+      | inl same ↦ ⊎_elim (λ (had : HasRole old role page). free seat page before (subst (λ (r : ℕ). HasRole old r page) (sym same) had)) (λ was_free. was_free.no_pin seat before)
+          (takes.only_free page (subst (λ (r : ℕ). HasRole new r page) same has))
+      | inr differs ↦ free seat page before (subst (λ (set : Members). IsIn set page) (takes.others tag differs) has)
+    ]
+
+pub writes_beside : (sizes : Sizes) (old new : SpaceState) (role : ℕ) → TakesPages role old new → IsUnpinned old role → IsInside (role_region sizes new role) (beside_pins sizes old.pins)
+writes_beside sizes old new role takes free i run pinned =
+    others_apart sizes run.0 pinned.1
+    (λ same. ⊎_elim (λ had. free pinned.0 pinned.1 pinned.2 (subst (λ (n : ℕ). HasRole old role n) same had)) (λ was_free. was_free.no_pin pinned.0 (subst (λ (n : ℕ). IsPinnedBy old pinned.0 n) (sym same) pinned.2))
+    (takes.only_free run.0 run.1)) i run.2 pinned.3
+
+pub head_beside : (sizes : Sizes) (pins : List Members) (at n : ℕ) → at + n ≤ page_start sizes 0 → IsInside (span at n) (beside_pins sizes pins)
+head_beside sizes pins at n ends i inside pinned = before_apart sizes pinned.1 at n ends i pinned.3 inside
+
+pub within_on : (old new : SpaceState) (seat c1 c1x c2 live share : ℕ) → Pins seat c1 c1x c2 old new → role_size old c1 + role_size old c1x + role_size old c2 ≤ share
+    → IsWithin live share old → IsWithin live share new
+within_on old new seat c1 c1x c2 live share pins few within = record {
+  roles = subst (λ (roles : List Members). role_size (record old { roles = roles }) 0 + role_size (record old { roles = roles }) 1 + role_size (record old { roles = roles }) 2
+      + role_size (record old { roles = roles }) 3 + role_size (record old { roles = roles }) 4 ≤ live) (sym pins.roles) within.roles;
+  seats = λ other in_range.
+      elim (cases_eq other seat) [
+        | inl same ↦ omega (arith, ap {B = ℕ} (λ (s : ℕ). pin_size new s) same, pins.size, few)
+        | inr apart ↦ omega (arith, ap {B = ℕ} (λ (set : Members). size set) (pins.others other apart), within.seats other in_range)
+      ];
+}

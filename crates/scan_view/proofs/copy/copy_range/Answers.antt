@@ -1,0 +1,61 @@
+use Rattle.std.proofs.Common.{◌≡◌, ◌∙◌, ◌++◌, [], ◌∷◌, Option, Some, None, false, ap, sym}
+use Rattle.std.proofs.lemmas.List.{append-nil, append_assoc}
+use Rattle.std.specs.Ordering.{is_lt}
+use Rattle.blsm_model.specs.declared.key.Key.{Key}
+use Rattle.blsm_model.specs.Keys.{key_cmp}
+use Rattle.record_delta.specs.declared.record.Rec.{Rec}
+use Rattle.record_delta.specs.Entries.{Entries, folded_over, above, first_of}
+use Rattle.merge_step.proofs.MergedLemmas.{sorted_folded}
+use Rattle.merge_ends.specs.Input.{key_of}
+use Rattle.scan_view.specs.Hold.{within}
+use Rattle.scan_view.proofs.LeftLemmas.{memory_less}
+use Rattle.scan_view.proofs.RangeLemmas.{within_step, within_ended, above_none}
+use Rattle.scan_view.proofs.copy.copy_range.Goals as goal
+
+pub loop-key-init : goal.loop-key-init
+loop-key-init c =
+    let memory = folded_over c.args.b.now.entries c.args.a.now.entries in
+    ap (λ (l : Entries). l ++ within c.args.low.now c.args.high.now (above None memory)) c.new-copies.ensures.items
+    ∙ ap (within c.args.low.now c.args.high.now) (above_none memory)
+
+pub returns-then-not-lt : goal.returns-then-not-lt
+returns-then-not-lt c =
+    let b = c.args.b.now.entries in
+    let a = c.args.a.now.entries in
+    let memory = folded_over b a in
+    let low = c.args.low.now in
+    let high = c.args.high.now in
+    let at = c.loop-key.at in
+    let newer = c.least_above.ensures ∙ ap (λ (k : Option Key). first_of (above k b)) c.copy_of.ensures in
+    let older = c.least_above-in-loop-key.ensures ∙ ap (λ (k : Option Key). first_of (above k a)) c.copy_of-in-loop-key.ensures in
+    let first = sym (c.in-Some.ensures.first at b a c.weight-2.ensures.sorted c.weight.ensures.sorted newer older) in
+    let past : is_lt (key_cmp c.in-Some.key high) ≡ false = sym c.lt.ensures ∙ c.if-not-lt.true in
+    let ended = within_ended low high at memory (c.in-Some.key, c.in-Some.rec) (sorted_folded b a c.weight.ensures.sorted) first past in
+    sym (append-nil c.loop-key.copies.items) ∙ ap (λ (l : Entries). c.loop-key.copies.items ++ l) (sym ended) ∙ c.loop-key.invariant
+
+pub loop-key-smaller : goal.loop-key-smaller
+loop-key-smaller c =
+    let b = c.args.b.now.entries in
+    let a = c.args.a.now.entries in
+    let at = c.loop-key.at in
+    let newer = c.least_above.ensures ∙ ap (λ (k : Option Key). first_of (above k b)) c.copy_of.ensures in
+    let older = c.least_above-in-loop-key.ensures ∙ ap (λ (k : Option Key). first_of (above k a)) c.copy_of-in-loop-key.ensures in
+    let first = sym (c.in-Some.ensures.first at b a c.weight-2.ensures.sorted c.weight.ensures.sorted newer older) in
+    memory_less at c.in-Some.key (folded_over b a) (sorted_folded b a c.weight.ensures.sorted) (ap key_of first)
+
+pub loop-key-preserved : goal.loop-key-preserved
+loop-key-preserved c =
+    let b = c.args.b.now.entries in
+    let a = c.args.a.now.entries in
+    let memory = folded_over b a in
+    let low = c.args.low.now in
+    let high = c.args.high.now in
+    let at = c.loop-key.at in
+    let copies = c.loop-key.copies.items in
+    let newer = c.least_above.ensures ∙ ap (λ (k : Option Key). first_of (above k b)) c.copy_of.ensures in
+    let older = c.least_above-in-loop-key.ensures ∙ ap (λ (k : Option Key). first_of (above k a)) c.copy_of-in-loop-key.ensures in
+    let first = sym (c.in-Some.ensures.first at b a c.weight-2.ensures.sorted c.weight.ensures.sorted newer older) in
+    let e : Key × Rec = (c.in-Some.key, c.in-Some.rec) in
+    let left = within low high (above (Some e.0) memory) in
+    ap (λ (l : Entries). l ++ left) c.in_ok-push_within.ensures ∙ append_assoc copies (within low high (e ∷ [])) left
+    ∙ ap (λ (l : Entries). copies ++ l) (sym (within_step low high at memory e (sorted_folded b a c.weight.ensures.sorted) first)) ∙ c.loop-key.invariant

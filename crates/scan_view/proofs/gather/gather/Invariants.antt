@@ -1,0 +1,25 @@
+use Rattle.std.proofs.Common.{◌≡◌, ◌+◌, ◌≤◌, ◌++◌, ℕ, List}
+use Rattle.blsm_model.specs.declared.component.Component.{Component}
+use Rattle.blsm_model.specs.Geometry.{file_length}
+use Rattle.disk_trait.specs.Reads.{OnlyReads}
+use Rattle.record_delta.specs.Entries.{Entries, above}
+use Rattle.scan_view.specs.Hold.{AreGiven, rows_of, view_of}
+use Rattle.scan_view.specs.Left.{IsFile}
+use Rattle.scan_view.specs.Scan.{IsScan, HaveBegun, pages_left, all_left}
+use Rattle.scan_view.proofs.gather.gather.Given as goal
+
+-- the rows so far, and those of what is left
+abbrev pub invariant-loop-scan : goal.invariant-loop-scan
+invariant-loop-scan g l = record {
+  given : AreGiven l.n l.low l.high l.fn.scan.at l.scan.at l.rows;
+  effect : OnlyReads (file_length l.geo) (pages_left l.fn.scan) (g.D.Disk.state l.fn.disk) (g.D.Disk.state l.disk);
+  one_a_page : (g.D.Disk.state l.disk).clock + pages_left l.scan ≤ (g.D.Disk.state l.fn.disk).clock + pages_left l.fn.scan;
+  stands : (g.D.Disk.state l.disk).faults ≡ (g.D.Disk.state l.fn.disk).faults;
+  list : (file : List ℕ) (xs ys zs : Entries) → IsFile file (g.D.Disk.state l.fn.disk) → IsScan l.geo l.fn.scan xs ys zs file
+      → IsScan l.geo l.scan xs ys zs file
+      × (rows_of l.low l.high (above l.fn.scan.at (view_of l.memory xs ys zs)) ≡ l.rows ++ rows_of l.low l.high (above l.scan.at (view_of l.memory xs ys zs)));
+  begun : (file : List ℕ) (c1 c1x c2 : Component) → IsFile file (g.D.Disk.state l.fn.disk) → HaveBegun l.geo c1 c1x c2 l.fn.scan file → HaveBegun l.geo c1 c1x c2 l.scan file;
+}
+
+abbrev pub decreases-loop-scan : goal.decreases-loop-scan
+decreases-loop-scan g l = all_left l.memory l.scan

@@ -1,0 +1,38 @@
+use Rattle.std.proofs.Common.{◌∙◌, Option, Some, Ok, Err, ap, sym, subst}
+use Rattle.std.proofs.lemmas.Result.{err_from_is_err_and}
+use Rattle.blsm_model.specs.declared.key.Key.{Key}
+use Rattle.record_delta.specs.Entries.{above, first_of}
+use Rattle.scan_view.specs.Hold.{view_of}
+use Rattle.scan_view.specs.Scan.{IsScan}
+use Rattle.scan_view.proofs.LeftLemmas.{fault_is, not_both, calm_of}
+use Rattle.scan_view.proofs.ScanLemmas.{scan_further}
+use Rattle.scan_view.proofs.scan.Scan.next.Goals as goal
+
+pub returns-in_err-seek_all-clause-list : goal.returns-in_err-seek_all-clause-list
+returns-in_err-seek_all-clause-list g c = λ file xs ys zs is scan other.
+    let p = err_from_is_err_and c.from_residual.result c.from_residual.ensures.1 in
+    let came = c.seek_all.ensures.list file xs ys zs is scan (λ fault. other (p.1 ∙ ap Err (p.2 ∙ fault_is c.seek_all.result c.in_err-seek_all.field-0.0 c.in_err-seek_all.was fault))) in
+    absurd (not_both c.seek_all.result tt c.in_err-seek_all.field-0.0 c.in_err-seek_all.was came.0)
+
+pub returns-in_default-clause-list : goal.returns-in_default-clause-list
+returns-in_default-clause-list g c = λ file xs ys zs is scan other.
+    let came = c.seek_all.ensures.list file xs ys zs is scan (calm_of c.seek_all.result tt c.in_ok-seek_all.was) in
+    let now = came.1 in
+    let none = c.in_default.ensures.first xs ys zs now.sorted_c1 now.sorted_c1x now.sorted_c2 came.2 in
+    (ap Ok (none ∙ ap (λ (at : Option Key). first_of (above at (view_of c.args.memory.now xs ys zs))) c.seek_all.ensures.at), now)
+
+pub returns-clause-list : goal.returns-clause-list
+returns-clause-list g c = λ file xs ys zs is scan other.
+    let came = c.seek_all.ensures.list file xs ys zs is scan (calm_of c.seek_all.result tt c.in_ok-seek_all.was) in
+    let now = came.1 in
+    let mid = c.seek_all.new.self in
+    let some = c.in-Some.ensures.first xs ys zs now.sorted_c1 now.sorted_c1x now.sorted_c2 came.2 in (
+      ap Ok (some ∙ ap (λ (at : Option Key). first_of (above at (view_of c.args.memory.now xs ys zs))) c.seek_all.ensures.at),
+      subst (λ (key : Key). IsScan c.args.geo.now (record { c1 = mid.c1; c1x = mid.c1x; c2 = mid.c2; at = Some key }) xs ys zs file) (sym c.copy.ensures)
+          (scan_further c.args.geo.now mid c.in-Some.key xs ys zs file c.in-Some.ensures.ahead now),
+    )
+
+pub returns-clause-begun : goal.returns-clause-begun
+returns-clause-begun g c = λ file run run_x run_2 is begun.
+    let came = c.in_ok-seek_all.ensures.begun file run run_x run_2 is begun in
+    record { c1 = came.c1; c1x = came.c1x; c2 = came.c2 }

@@ -1,0 +1,53 @@
+use Rattle.std.proofs.Common.{◌∙◌, ◌+◌, Err, ap, arith}
+use Rattle.std.proofs.lemmas.Result.{err_from_is_err_and}
+use Rattle.scan_view.proofs.LeftLemmas.{fault_is, not_both, calm_of, file_on, reads_after, reads_err, map_ok}
+use Rattle.scan_view.proofs.scan.Scan.seek_all.Goals as goal
+
+pub returns-in_err-seek-clause-list : goal.returns-in_err-seek-clause-list
+returns-in_err-seek-clause-list g c = λ file xs ys zs is scan other.
+    let p = err_from_is_err_and c.from_residual.result c.from_residual.ensures.1 in
+    let came = c.seek.ensures.list file xs is scan.c1 (λ fault. other (p.1 ∙ ap Err (p.2 ∙ fault_is c.seek.result c.in_err-seek.field-0.0 c.in_err-seek.was fault))) in
+    absurd (not_both c.seek.result tt c.in_err-seek.field-0.0 c.in_err-seek.was came.0)
+
+pub returns-in_err-seek-2-clause-list : goal.returns-in_err-seek-2-clause-list
+returns-in_err-seek-2-clause-list g c = λ file xs ys zs is scan other.
+    let p = err_from_is_err_and c.from_residual-in_err-seek-2.result c.from_residual-in_err-seek-2.ensures.1 in
+    let came = c.seek-2.ensures.list file ys (file_on c.seek.ensures.reads.effect is) scan.c1x
+    (λ fault. other (p.1 ∙ ap Err (p.2 ∙ fault_is c.seek-2.result c.in_err-seek-2.field-0.0 c.in_err-seek-2.was fault))) in
+    absurd (not_both c.seek-2.result tt c.in_err-seek-2.field-0.0 c.in_err-seek-2.was came.0)
+
+pub returns-in_err-seek-2-clause-reads : goal.returns-in_err-seek-2-clause-reads
+returns-in_err-seek-2-clause-reads g c =
+    let total = c.args.self.now.c1.pages + c.args.self.now.c1x.pages + c.args.self.now.c2.pages in
+    let p = err_from_is_err_and c.from_residual-in_err-seek-2.result c.from_residual-in_err-seek-2.ensures.1 in
+    reads_err c.seek-2.result c.from_residual-in_err-seek-2.result c.in_err-seek-2.field-0.0 c.in_err-seek-2.was (p.1 ∙ ap Err p.2)
+    (reads_after total (g.met.D.Disk.timed c.seek.new.disk) (c.seek.ensures.reads.stands (calm_of c.seek.result tt c.in_ok-seek.was)) c.seek.ensures.reads.effect c.seek-2.ensures.reads
+    (omega (arith, c.in_ok-seek.ensures.one_a_page, c.seek-2.ensures.reads.effect.effect.calls)))
+
+pub returns-clause-list : goal.returns-clause-list
+returns-clause-list g c = λ file xs ys zs is scan other.
+    let first = c.seek.ensures.list file xs is scan.c1 (calm_of c.seek.result tt c.in_ok-seek.was) in
+    let is_mid = file_on c.seek.ensures.reads.effect is in
+    let second = c.seek-2.ensures.list file ys is_mid scan.c1x (calm_of c.seek-2.result tt c.in_ok-seek-2.was) in
+    let third = c.seek-3.ensures.list file zs (file_on c.seek-2.ensures.reads.effect is_mid) scan.c2 other in (
+      third.0,
+      record { c1 = first.1; c1x = second.1; c2 = third.1; sorted_c1 = scan.sorted_c1; sorted_c1x = scan.sorted_c1x; sorted_c2 = scan.sorted_c2 },
+      record { c1 = first.2; c1x = second.2; c2 = third.2 },
+    )
+
+pub returns-clause-begun : goal.returns-clause-begun
+returns-clause-begun g c = λ file run run_x run_2 is begun.
+    let is_mid = file_on c.seek.ensures.reads.effect is in
+    let first = c.in_ok-seek.ensures.begun file run is begun.c1 in
+    let second = c.in_ok-seek-2.ensures.begun file run_x is_mid begun.c1x in
+    map_ok c.seek-3.result (λ third. record { c1 = first; c1x = second; c2 = third }) (c.seek-3.ensures.begun file run_2 (file_on c.seek-2.ensures.reads.effect is_mid) begun.c2)
+
+pub returns-clause-reads : goal.returns-clause-reads
+returns-clause-reads g c =
+    let calm = c.seek.ensures.reads.stands (calm_of c.seek.result tt c.in_ok-seek.was) in
+    let calm_mid = c.seek-2.ensures.reads.stands (calm_of c.seek-2.result tt c.in_ok-seek-2.was) ∙ calm in
+    let total = c.args.self.now.c1.pages + c.args.self.now.c1x.pages + c.args.self.now.c2.pages in
+    let first = reads_after total (g.met.D.Disk.timed c.seek.new.disk) calm c.seek.ensures.reads.effect c.seek-2.ensures.reads
+    (omega (arith, c.in_ok-seek.ensures.one_a_page, c.in_ok-seek-2.ensures.one_a_page)) in
+    reads_after total (g.met.D.Disk.timed c.seek-2.new.disk) calm_mid first.effect c.seek-3.ensures.reads
+    (omega (arith, c.in_ok-seek.ensures.one_a_page, c.in_ok-seek-2.ensures.one_a_page, c.seek-3.ensures.reads.effect.effect.calls))

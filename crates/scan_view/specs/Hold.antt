@@ -1,0 +1,98 @@
+-- What contracts see of a hold, which is a snapshot of a range, and the rows that it has still to give.
+use Rattle.std.specs.Prelude.{◌≡◌, ◌⊎◌, ◌++◌, ℕ, ◌≤◌, true, false, List, Option, None, length, map, filter}
+use Rattle.std.specs.List.{AllByRecursion}
+use Rattle.std.specs.List.Sorted.{IsStrictlySortedBy}
+use Rattle.blsm_model.specs.declared.component.Component.{Component}
+use Rattle.blsm_model.specs.declared.key.Key.{Key}
+use Rattle.blsm_model.specs.declared.row.Row.{Row}
+use Rattle.blsm_model.specs.Components.{empty_component}
+use Rattle.blsm_model.specs.Keys.{key_cmp, in_range}
+use Rattle.blsm_model.specs.Sizes.{Sizes}
+use Rattle.record_delta.specs.Entries.{Entries, AreSorted, folded_over, is_above, above}
+use Rattle.page_file.specs.Component.{numbers_of, HasList}
+use Rattle.run_cursor.specs.Cursor.{CursorState, IsDamageAt}
+use Rattle.run_cursor.specs.Given.{HasGiven}
+use Rattle.tree_machine.specs.Lists.{settled_pairs}
+
+-- The range, which has low and hasn't high; the records that the memory table had of it; the components of that moment; and the place:
+-- rows up to this key were given.
+pub record HoldState : Type 0 where
+  pub low : Key
+  pub high : Key
+  pub memory : Entries
+  pub c1 : Component
+  pub c1x : Component
+  pub c2 : Component
+  pub place : Option Key
+
+-- the entries whose keys are in the range
+abbrev pub within : Key → Key → Entries → Entries
+within low high entries = filter (λ e. in_range low high e.0) entries
+
+-- the hold of this moment, from which nothing was given
+abbrev pub held_from : Key → Key → (b a : Entries) → (c1 c1x c2 : Component) → HoldState
+held_from low high b a c1 c1x c2 =
+    record { low = low; high = high; memory = within low high (folded_over b a); c1 = c1; c1x = c1x; c2 = c2; place = None }
+
+-- a component without pages is the empty one
+abbrev pub IsEmptyOrPaged : Component → Type 0
+IsEmptyOrPaged run = run.pages ≡ 0 → run ≡ empty_component
+
+-- what each hold keeps
+pub record IsHold (hold : HoldState) : Type 0 where
+  pub sorted : AreSorted hold.memory
+  pub c1 : IsEmptyOrPaged hold.c1
+  pub c1x : IsEmptyOrPaged hold.c1x
+  pub c2 : IsEmptyOrPaged hold.c2
+
+-- ---- the rows
+
+-- the rows that entries settle to, from low on, without high
+abbrev pub rows_of : Key → Key → Entries → List Row
+rows_of low high entries = map (λ p. record { key = p.0; value = p.1 }) (filter (λ p. in_range low high p.0) (settled_pairs entries))
+
+-- the memory table's entries folded over those of the components
+abbrev pub view_of : (memory c1 c1x c2 : Entries) → Entries
+view_of memory c1 c1x c2 = folded_over memory (folded_over c1 (folded_over c1x c2))
+
+-- the rows that a hold has above a key
+abbrev pub rows_above : Option Key → HoldState → (c1 c1x c2 : Entries) → List Row
+rows_above at hold c1 c1x c2 = rows_of hold.low hold.high (above at (view_of hold.memory c1 c1x c2))
+
+-- In this file the hold's components read as lists, and these are the rows that it has still to give.
+pub record HasRows (sizes : Sizes) (hold : HoldState) (rows : List Row) (file : List ℕ) : Type 0 where
+  pub of_c1 : Entries
+  pub of_c1x : Entries
+  pub of_c2 : Entries
+  pub c1 : HasList sizes hold.c1 of_c1 file
+  pub c1x : HasList sizes hold.c1x of_c1x file
+  pub c2 : HasList sizes hold.c2 of_c2 file
+  pub rows_are : rows ≡ rows_above hold.place hold of_c1 of_c1x of_c2
+
+-- the numbers of the pages that the rows are read from
+abbrev pub pages_held : {sizes : Sizes} {hold : HoldState} {rows : List Row} {file : List ℕ} → HasRows sizes hold rows file → List ℕ
+pages_held has = numbers_of has.c1.pages ++ numbers_of has.c1x.pages ++ numbers_of has.c2.pages
+
+-- On any disk: at most so many rows, of keys in the range, which rise from above the old place on, up to the new one at most.
+pub record AreGiven (n : ℕ) (low high : Key) (old new : Option Key) (rows : List Row) : Type 0 where
+  pub few : length rows ≤ n
+  pub inside : AllByRecursion (λ r. in_range low high r.key ≡ true) rows
+  pub rise : IsStrictlySortedBy key_cmp (map (λ r. r.key) rows)
+  pub above_old : AllByRecursion (λ r. is_above old r.key ≡ true) rows
+  pub up_to_new : AllByRecursion (λ r. is_above new r.key ≡ false) rows
+  -- what is above the new place was above the old one
+  pub onward : (key : Key) → is_above new key ≡ true → is_above old key ≡ true
+
+-- ---- what is damaged
+
+-- In this file the component begins with some entries, and the page of this number, which is to come behind them, isn't a valid one or
+-- doesn't go on.
+pub record IsDamageIn (sizes : Sizes) (run : Component) (n : ℕ) (file : List ℕ) : Type 0 where
+  pub cursor : CursorState
+  pub given : Entries
+  pub begins : HasGiven sizes run cursor given file
+  pub damage : IsDamageAt sizes cursor n file
+
+-- one of the three components is damaged at this page
+abbrev pub IsDamageOf : Sizes → (c1 c1x c2 : Component) → ℕ → List ℕ → Type 0
+IsDamageOf sizes c1 c1x c2 n file = IsDamageIn sizes c1 n file ⊎ (IsDamageIn sizes c1x n file ⊎ IsDamageIn sizes c2 n file)

@@ -1,0 +1,23 @@
+-- The holds of all callers: for each seat its hold, if it has one.
+use Rattle.std.specs.Prelude.{ℕ, ◌+◌, List, Option, Some, None, slice_index_or}
+use Rattle.blsm_model.specs.declared.row.Row.{Row}
+use Rattle.blsm_model.specs.Sizes.{Sizes}
+use Rattle.scan_view.specs.Hold.{HoldState, AreGiven, IsDamageOf}
+
+abbrev pub hold_of : ℕ → List (Option HoldState) → Option HoldState
+hold_of seat holds = slice_index_or holds seat None
+
+-- how many pages a hold reads at most
+abbrev pub pages_behind : Option HoldState → ℕ
+pages_behind None = 0
+pages_behind (Some hold) = hold.c1.pages + hold.c1x.pages + hold.c2.pages
+
+-- on any disk: so many rows at most, of keys in the hold's range, which rise from above its old place on, up to its new one at most
+abbrev pub AreGivenBy : ℕ → Option HoldState → Option HoldState → List Row → Type 0
+AreGivenBy n (Some old) (Some new) rows = AreGiven n old.low old.high old.place new.place rows
+AreGivenBy n old new rows = ⊥
+
+-- one of its components is damaged at this page
+abbrev pub IsDamageBehind : Sizes → Option HoldState → ℕ → List ℕ → Type 0
+IsDamageBehind sizes None k file = ⊥
+IsDamageBehind sizes (Some hold) k file = IsDamageOf sizes hold.c1 hold.c1x hold.c2 k file

@@ -1,0 +1,48 @@
+-- What a cursor has left of a list above a key.
+use Rattle.std.specs.Prelude.{◌≡◌, ◌⊎◌, ℕ, ◌+◌, true, List, Option, Some, None, IfSome, IsTrue, if◌then◌else◌}
+use Rattle.blsm_model.specs.declared.component.Component.{Component}
+use Rattle.blsm_model.specs.declared.key.Key.{Key}
+use Rattle.blsm_model.specs.Sizes.{Sizes}
+use Rattle.disk_trait.specs.Disk.{DiskState}
+use Rattle.record_delta.specs.declared.record.Rec.{Rec}
+use Rattle.record_delta.specs.Entries.{Entries, is_above, above}
+use Rattle.run_cursor.specs.Cursor.{CursorState, from_head, HasAhead}
+use Rattle.run_cursor.specs.Given.{HasGiven}
+use Rattle.merge_ends.specs.Input.{key_of, head_above}
+
+-- an honest disk that reads as this file
+pub record IsFile (file : List ℕ) (d : DiskState) : Type 0 where
+  pub honest : IsTrue d.is_honest
+  pub bytes_are : d.bytes ≡ file
+
+-- the entry's key, where there is an entry, is above this one
+abbrev pub IsAheadOf : Option Key → Option (Key × Rec) → Type 0
+IsAheadOf at entry = IfSome entry (λ e. is_above at e.0 ≡ true)
+
+-- an entry without the weight of what it was folded from
+abbrev pub entry_of : Option (Key × Rec × ℕ) → Option (Key × Rec)
+entry_of None = None
+entry_of (Some group) = Some (group.0, group.1)
+
+-- In this file a cursor has, of what it is at and what comes after, just what the entries have above a key.
+pub record HasLeft (sizes : Sizes) (at : Option Key) (cursor : CursorState) (entries : Entries) (file : List ℕ) : Type 0 where
+  pub rest : Entries
+  pub ahead : HasAhead sizes cursor rest file
+  pub left_is : above at (from_head cursor.head rest) ≡ above at entries
+
+-- in this file a cursor has given the entries that its component begins with
+abbrev pub HasBegun : Sizes → Component → CursorState → List ℕ → Type 0
+HasBegun sizes run cursor file = (given : Entries) × HasGiven sizes run cursor given file
+
+-- how many entries a cursor has left above a key, by its component's number
+abbrev pub count_left : Option Key → CursorState → ℕ
+count_left at cursor = (if head_above at cursor.head then 1 else 0) + cursor.entries
+
+-- the key of what was found, or where there is none the one before it
+abbrev pub key_or : Option (Key × Rec) → Option Key → Option Key
+key_or None before = before
+key_or (Some e) before = Some e.0
+
+-- where there is an entry, it has the key of one of two others
+abbrev pub IsFromOne : Option (Key × Rec) → Option (Key × Rec) → Option (Key × Rec) → Type 0
+IsFromOne newer older entry = IfSome entry (λ e. (key_of newer ≡ Some e.0) ⊎ (key_of older ≡ Some e.0))

@@ -1,0 +1,5 @@
+pub mod Hold
+pub mod Holds
+pub mod Left
+pub mod Pins
+pub mod Scan

@@ -1,0 +1,124 @@
+//! A snapshot of a range of keys.
+ghost use Rattle.std.specs.Prelude.{◌≡◌, ◌≢◌, ◌+◌, ◌++◌, ◌<◌, ◌≤◌, ℕ, List, Ok, Err, length, take, drop, IsTrue, IsErr, IfOk, OnOk, OnErr};
+ghost use Rattle.blsm_model.specs.declared.row.Row.{Row};
+ghost use Rattle.blsm_model.specs.Format.{most_rows};
+ghost use Rattle.blsm_model.specs.Geometry.{file_length};
+ghost use Rattle.blsm_model.specs.Sizes.{Sizes};
+ghost use Rattle.record_delta.specs.Entries.{Entries};
+ghost use Rattle.page_file.specs.Component.{HasList, numbers_of};
+ghost use Rattle.page_file.specs.File.{Reads};
+ghost use Rattle.tree_machine.specs.Lists.{rows_in};
+ghost use Rattle.scan_view.specs.Hold.{held_from, IsEmptyOrPaged, HasRows, AreGiven, IsDamageOf, pages_held};
+ghost use Rattle.scan_view.specs.Pins.{Pins};
+
+use crate::copy::{copy_of, copy_range};
+use crate::gather::gather;
+use crate::scan::Scan;
+use blsm_model::{CALLERS, Component, Geometry, Key, RowList};
+use disk_trait::Disk;
+use mem_table::Table;
+use page_file::Broken;
+use page_space::{Role, Space};
+use record_delta::Rec;
+use refusal::NoMemory;
+use std::alloc::Global;
+use std::marker::Model;
+
+/// A snapshot of the rows of a range, and how far they were given. Contracts see the range, the memory table's records of it, the
+/// three components, and the place: rows up to this key were given.
+#[derive(Debug, Drop)]
+pub struct Hold {
+    low: Key,
+    high: Key,
+    memory: Vec<(Key, Rec)>,
+    c1: Component,
+    c1x: Component,
+    c2: Component,
+    place: Option<Key>,
+}
+
+impl Model for Hold {
+    ghost use Rattle.scan_view.specs.Hold.{HoldState, IsHold};
+
+    ghost Value = { HoldState };
+
+    ghost view = { λ h. record { low = h.low; high = h.high; memory = h.memory.items; c1 = h.c1; c1x = h.c1x; c2 = h.c2; place = h.place } };
+
+    ghost invariant = { λ h. IsHold (record { low = h.low; high = h.high; memory = h.memory.items; c1 = h.c1; c1x = h.c1x; c2 = h.c2; place = h.place }) };
+}
+
+impl Hold {
+    /// A hold of the rows from low on, without high, of table B over table A over the three components. It copies the tables' records
+    /// of the range, and pins for the seat just the pages that have the components' roles. Where memory is refused there is no hold,
+    /// and the seat's pins stay as they were, so that its earlier hold still gives its rows.
+    pub fn build(
+        alloc: Global,
+        seat: u32,
+        low: &Key,
+        high: &Key,
+        a: &Table,
+        b: &Table,
+        c1: &Component,
+        c1x: &Component,
+        c2: &Component,
+        space: &mut Space,
+        r1: Role,
+        r1x: Role,
+        r2: Role,
+    ) -> Result<Hold, NoMemory>
+        requires seat { seat < CALLERS }
+        requires c1 { IsEmptyOrPaged c1.now }
+        requires c1x { IsEmptyOrPaged c1x.now }
+        requires c2 { IsEmptyOrPaged c2.now }
+        ensures hold { IfOk result (λ hold. hold ≡ held_from low.now high.now b.now.entries a.now.entries c1.now c1x.now c2.now) }
+        // In a file in which the components read as lists, it has all rows of the tree's lists to give, from their pages.
+        ensures rows { (sizes : Sizes) (xs ys zs : Entries) (file : List ℕ) → (one : HasList sizes c1.now xs file) → (two : HasList sizes c1x.now ys file) → (three : HasList sizes c2.now zs file)
+            → IfOk result (λ hold. (has : HasRows sizes hold (rows_in (record { b = b.now.entries; a = a.now.entries; c1 = xs; c1x = ys; c2 = zs }) low.now high.now) file)
+            × (pages_held has ≡ numbers_of one.pages ++ numbers_of two.pages ++ numbers_of three.pages)) }
+        ensures pins { OnOk result (Pins seat r1 r1x r2 space.old space.new) }
+        ensures kept { OnErr result (space.new ≡ space.old) }
+    {
+        let _weights = (a.weight(), b.weight());
+        let memory = copy_range(alloc, low, high, a, b)?;
+        space.pin(seat, r1, r1x, r2);
+        Ok(Hold {
+            low: low.copy(),
+            high: high.copy(),
+            memory,
+            c1: *c1,
+            c1x: *c1x,
+            c2: *c2,
+            place: None,
+        })
+    }
+
+    /// The next n rows, or as many as are left, from where the last call ended. It goes through the components from their first pages
+    /// on, with one call of the disk for each page at most, which reads, and takes no memory. After an `Err` the place stays.
+    ///
+    /// `Damaged` names a page of a component that isn't valid or doesn't go on; it never comes where the components read as lists.
+    /// `Fault` comes only where the disk's count of faults rose.
+    pub fn next_rows<D: Disk>(
+        &mut self,
+        disk: &mut D,
+        geo: &Geometry,
+        n: u32,
+    ) -> Result<RowList, Broken>
+        requires few { n ≤ most_rows }
+        requires length { IsTrue (D.state disk.old).tells_bytes → length (D.state disk.old).bytes ≡ file_length geo.now }
+        // Of the rows that it has to give it gives the first n, and has the others left.
+        ensures rows { (rows : List Row) → IsTrue (D.state disk.old).is_honest → (before : HasRows geo.now self.old rows (D.state disk.old).bytes)
+            → result ≢ Err Broken.Fault
+            → (result ≡ Ok (take n rows)) × (now : HasRows geo.now self.new (drop n rows) (D.state disk.new).bytes) × (pages_held now ≡ pages_held before) }
+        ensures given { IfOk result (AreGiven n self.old.low self.old.high self.old.place self.new.place) }
+        ensures damaged { (k : ℕ) → result ≡ Err (Broken.Damaged k) → IsTrue (D.state disk.old).is_honest
+            → IsDamageOf geo.now self.old.c1 self.old.c1x self.old.c2 k (D.state disk.old).bytes }
+        ensures moves { self.new ≡ record self.old { place = self.new.place } }
+        ensures kept { IsErr result → self.new ≡ self.old }
+        ensures reads { Reads (file_length geo.now) (self.old.c1.pages + self.old.c1x.pages + self.old.c2.pages) result (D.state disk.old) (D.state disk.new) }
+    {
+        let mut scan = Scan::start(&self.c1, &self.c1x, &self.c2, copy_of(&self.place));
+        let rows = gather(&mut scan, &self.memory, &self.low, &self.high, disk, geo, n)?;
+        self.place = scan.at;
+        Ok(rows)
+    }
+}

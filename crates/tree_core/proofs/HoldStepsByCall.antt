@@ -1,0 +1,285 @@
+-- Each of the three calls of a hold, by its answer.
+use Rattle.std.specs.Prelude.{◌≡◌, ◌≢◌, ℕ, ◌<◌, ◌≤◌, ◌^◌, ◌==◌, true, false, not, ◌&&◌, List, Option, Some, None, IsTrue, is_some, slice_set, length, take, drop}
+use Rattle.std.proofs.Common.{◌∙◌, refl, ap, sym, subst, arith}
+use Rattle.std.proofs.lemmas.Bool.{ltb-true}
+use Rattle.blsm_model.specs.Book.{HasRoom, rows_given}
+use Rattle.blsm_model.specs.Format.{callers}
+use Rattle.blsm_model.specs.Histories.{answer_to_release}
+use Rattle.blsm_model.specs.Sizes.{Sizes}
+use Rattle.blsm_model.specs.declared.key.Key.{Key}
+use Rattle.blsm_model.specs.declared.row.Row.{Row}
+use Rattle.blsm_model.specs.declared.row.RowList.{RowList}
+use Rattle.blsm_model.specs.declared.row.Value.{Value}
+use Rattle.blsm_model.specs.declared.op.Op.{Op}
+use Rattle.blsm_model.specs.declared.op.Op.TheVariants as op
+use Rattle.blsm_model.specs.declared.history.Why.{Why}
+use Rattle.blsm_model.specs.declared.history.Reply.{Reply}
+use Rattle.blsm_model.specs.declared.history.Reply.TheVariants as reply
+use Rattle.disk_trait.specs.Disk.{DiskState}
+use Rattle.disk_trait.specs.Moments.{IsTimed}
+use Rattle.disk_trait.specs.Reads.{OnlyReads, only_reads_start}
+use Rattle.pacing.specs.Pace.{Pace}
+use Rattle.page_file.specs.Component.{entries_of}
+use Rattle.record_delta.specs.Entries.{Entries, replayed}
+use Rattle.scan_view.specs.Hold.{HoldState}
+use Rattle.scan_view.specs.Holds.{hold_of, AreGivenBy, IsDamageBehind}
+use Rattle.scan_view.specs.Pins.{HasHeld}
+use Rattle.seat_book.specs.State.{BookState, noted_in, may_note_in, work_in}
+use Rattle.seat_book.proofs.WordLemmas.{note_has_room}
+use Rattle.tree_machine.proofs.FoldLemmas.{both_hold}
+use Rattle.tree_machine.specs.Lists.{Lists, rows_in}
+use Rattle.tree_machine.specs.Machine.{Machine, held_by, is_caller}
+use Rattle.tree_machine.specs.Outcomes.{IsPossible, is_broken}
+use Rattle.tree_machine.specs.Plays.{has_room, may}
+use Rattle.tree_machine.specs.Steps.{Outcome, Well, FailedAfter, NoRoom, Replied, replied, hold, next_rows, drop_hold, holding, do_hold, do_next, unless_stopped}
+use Rattle.tree_machine.specs.declared.step.Kind.TheVariants as kind
+use Rattle.tree_file.specs.Tree.{Tree}
+use Rattle.tree_runs.specs.Holding.{AreOf}
+use Rattle.core_moves.specs.declared.held.Held.{Held}
+use Rattle.tree_core.specs.declared.answers.Holding.{Holding}
+use Rattle.tree_core.specs.declared.answers.Holding.TheVariants as holds
+use Rattle.tree_core.specs.declared.answers.Scan.{Scan}
+use Rattle.tree_core.specs.declared.answers.Scan.TheVariants as scan
+use Rattle.tree_core.specs.declared.answers.Release.{Release}
+use Rattle.tree_core.specs.declared.answers.Release.TheVariants as release
+use Rattle.tree_core.specs.Answers.{reply_to_hold, reply_to_next, reply_to_drop}
+use Rattle.tree_core.specs.Causes.{HoldsBecause, ScansBecause, DropsBecause}
+use Rattle.tree_core.specs.Core.{CoreState}
+use Rattle.tree_core.specs.HoldMoves.{MovesHold, undisked}
+use Rattle.tree_core.specs.Holds.{StandsWhole}
+use Rattle.tree_core.specs.Steps.{IsWholeStep}
+use Rattle.tree_core.proofs.BoundLemmas.{rose}
+use Rattle.tree_core.proofs.HoldSteps.{after_it, hold_kind, next_kind, release_kind, hold_step, seat_rows, same_rows, none_held, some_held}
+
+-- ---- the room of the entry
+
+-- a seat that may note is a caller's
+pub notes_below : (seat rows : ℕ) (b : BookState) → may_note_in seat rows b ≡ true → seat < callers
+notes_below seat rows b can = ltb-true seat callers (both_hold (is_caller seat) (has_room b.book.room seat rows) (both_hold (is_caller seat && has_room b.book.room seat rows) ((work_in seat b).turns == 0) can).0).0
+
+none_by_hold : (answer : Holding) → length (rows_given (reply_to_hold answer)) ≤ 0
+none_by_hold holds.Held = omega arith
+none_by_hold holds.NoMemory = omega arith
+none_by_hold (holds.Stopped why) = omega arith
+
+none_by_drop : (answer : Release) → length (rows_given (reply_to_drop answer)) ≤ 0
+none_by_drop release.Done = omega arith
+none_by_drop release.NoHold = omega arith
+none_by_drop (release.Stopped why) = omega arith
+
+few_given : (n : ℕ) (old new : Option HoldState) (rows : List Row) → AreGivenBy n old new rows → length rows ≤ n
+few_given n (Some old) (Some new) rows given = given.few
+few_given n None new rows given = absurd given
+few_given n (Some old) None rows given = absurd given
+
+few_by_next : {D : Type 0} (answer : Scan) (seat n : ℕ) (old new : CoreState D) (d d2 : DiskState) → ScansBecause answer seat n old new d d2 → length (rows_given (reply_to_next answer)) ≤ n
+few_by_next (scan.Rows rows) seat n old new d d2 because = few_given n (hold_of seat old.holds) (hold_of seat new.holds) rows because.2
+few_by_next scan.NoHold seat n old new d d2 because = omega arith
+few_by_next scan.Fault seat n old new d d2 because = omega arith
+few_by_next (scan.Damaged page) seat n old new d d2 because = omega arith
+few_by_next (scan.Stopped why) seat n old new d d2 because = omega arith
+
+pub hold_room : (seat : ℕ) (low high : Key) (answer : Holding) (b : BookState) → may_note_in seat 0 b ≡ true → HasRoom b.book.room (record { seat = seat; op = op.Hold low high; reply = reply_to_hold answer })
+hold_room seat low high answer b can = note_has_room b seat 0 (op.Hold low high) (reply_to_hold answer) can (none_by_hold answer)
+
+pub drop_room : (seat : ℕ) (answer : Release) (b : BookState) → may_note_in seat 0 b ≡ true → HasRoom b.book.room (record { seat = seat; op = op.Release; reply = reply_to_drop answer })
+drop_room seat answer b can = note_has_room b seat 0 op.Release (reply_to_drop answer) can (none_by_drop answer)
+
+pub next_room : {D : Type 0} (answer : Scan) (seat n : ℕ) (old new : CoreState D) (d d2 : DiskState) (b : BookState) → ScansBecause answer seat n old new d d2 → may_note_in seat n b ≡ true
+    → HasRoom b.book.room (record { seat = seat; op = op.Next n; reply = reply_to_next answer })
+next_room answer seat n old new d d2 b because can = note_has_room b seat n (op.Next n) (reply_to_next answer) can (few_by_next answer seat n old new d d2 because)
+
+-- ---- the book
+
+-- what was noted, of the book from before
+pub noted_before : {seat : ℕ} {old mid : Held} {before after : List (Option HoldState)} (b : BookState) (command : Op) (given kept : Reply) → MovesHold seat old mid before after → b ≡ noted_in seat command given mid.book → given ≡ kept
+    → b ≡ noted_in seat command kept old.book
+noted_before {seat} {old} {mid} b command given kept moves is same =
+    is ∙ ap (λ (held : Held). noted_in seat command given held.book) moves.rest ∙ ap (λ (r : Reply). noted_in seat command r old.book) same
+
+pub noted_hold : {seat : ℕ} {old mid : Held} {before after : List (Option HoldState)} (b : BookState) (low low2 high high2 : Key) (given kept : Reply) → MovesHold seat old mid before after → b ≡ noted_in seat (op.Hold low high) given mid.book
+    → low ≡ low2 → high ≡ high2 → given ≡ kept → b ≡ noted_in seat (op.Hold low2 high2) kept old.book
+noted_hold {seat} b low low2 high high2 given kept moves is one two same =
+    noted_before b (op.Hold low high) given kept moves is same ∙ cc (one, two)
+
+running_still : {why : Why} (o : Option Why) → o ≡ Some why → o ≡ None → ⊥
+running_still o some none = absurd (cc (some, none))
+
+-- ---- the drop
+
+pub drop_steps : {D : Type 0} (state : D → DiskState) (opening : List (Key × Value)) (seat : ℕ) (answer : Release) (old : CoreState D) (mid : Held) (after : List (Option HoldState)) (m : Machine) (pace : Pace) → IsTimed (state old.disk)
+    → IsTrue (state old.disk).is_honest → seat < callers → MovesHold seat old.held mid old.holds after → DropsBecause answer seat (undisked old.held old.holds) (undisked mid after) → StandsWhole state opening old m pace
+    → may m seat kind.Release ≡ true → IsWholeStep state opening seat kind.Release (Replied (reply_to_drop answer)) old (after_it old.disk mid after seat op.Release (reply_to_drop answer) old.held) m pace
+drop_steps state opening seat answer old mid after m pace timed honest below moves because stands can = by answer because
+  where
+    reads : OnlyReads 0 0 (state old.disk) (state old.disk)
+    reads = only_reads_start (state old.disk) timed
+
+    stopped_is : m.stopped ≡ old.held.book.stopped
+    stopped_is = ap (λ (b : BookState). b.stopped) stands.stands.book
+
+    running : old.held.book.stopped ≡ None → drop_hold m seat ≡ replied seat op.Release (answer_to_release (held_by seat m)) (holding seat None m)
+    running none = ap (λ (o : Option Why). unless_stopped o seat op.Release m (replied seat op.Release (answer_to_release (held_by seat m)) (holding seat None m))) (stopped_is ∙ none)
+
+    -- the seat has no hold then
+    let_go : (r : Reply) → old.held.book.stopped ≡ None → answer_to_release (held_by seat m) ≡ r → hold_of seat after ≡ None
+        → IsWholeStep state opening seat kind.Release (Replied r) old (after_it old.disk mid after seat op.Release r old.held) m pace
+    let_go r none is gone =
+        hold_step state opening seat kind.Release op.Release r Well old mid after old.disk (slice_set m.holds seat None) m pace (release_kind seat) moves reads honest stands can
+        (running none ∙ ap (λ (x : Reply). replied seat op.Release x (holding seat None m)) is) tt refl
+        (λ runs. seat_rows seat old.held mid old.holds after m None (state old.disk) (state old.disk) moves below stands.stands.paced.stands.places refl
+        (subst (λ (h : Option HoldState). HasHeld old.held.runs.sizes mid.runs.space.pins seat h None (state old.disk).bytes) (sym gone) tt) (stands.rows runs))
+
+    by : (a : Release) → DropsBecause a seat (undisked old.held old.holds) (undisked mid after)
+        → IsWholeStep state opening seat kind.Release (Replied (reply_to_drop a)) old (after_it old.disk mid after seat op.Release (reply_to_drop a) old.held) m pace
+    by release.Done because =
+        let given = some_held old.held.runs.sizes old.held.runs.space.pins seat (state old.disk).bytes (hold_of seat old.holds) (held_by seat m) because.1 (stands.rows because.0 seat below) in
+        let_go reply.Done because.0 (ap answer_to_release given.1) because.2
+    by release.NoHold because =
+        let_go reply.NoHold because.0 (ap answer_to_release (none_held old.held.runs.sizes old.held.runs.space.pins seat (state old.disk).bytes (hold_of seat old.holds) (held_by seat m) because.1 (stands.rows because.0 seat below))) (ap (λ (hs : List (Option HoldState)). hold_of seat hs) because.2 ∙ because.1)
+    by (release.Stopped why) because =
+        hold_step state opening seat kind.Release op.Release (reply.Stopped why) Well old mid after old.disk m.holds m pace (release_kind seat) moves reads honest stands can
+        (ap (λ (o : Option Why). unless_stopped o seat op.Release m (replied seat op.Release (answer_to_release (held_by seat m)) (holding seat None m))) (stopped_is ∙ because.0)) tt refl
+        (λ runs. absurd (running_still old.held.book.stopped because.0 runs))
+
+-- ---- the hold
+
+pub hold_steps : {D : Type 0} (state : D → DiskState) (opening : List (Key × Value)) (seat : ℕ) (low high : Key) (answer : Holding) (old : CoreState D) (mid : Held) (after : List (Option HoldState)) (m : Machine) (pace : Pace) → IsTimed (state old.disk)
+    → IsTrue (state old.disk).is_honest → seat < callers → MovesHold seat old.held mid old.holds after → HoldsBecause answer seat low high (undisked old.held old.holds) (undisked mid after)
+    → ((tree : Tree) (table : Entries) (file : List ℕ) → answer ≡ holds.Held → AreOf old.held.runs tree table file
+    → HasHeld old.held.runs.sizes mid.runs.space.pins seat (hold_of seat after) (Some (rows_in (record { b = old.held.log.b.entries; a = old.held.log.a.entries; c1 = entries_of tree.c1; c1x = entries_of tree.c1x; c2 = entries_of tree.c2 }) low high)) file)
+    → StandsWhole state opening old m pace → may m seat (kind.Hold low high) ≡ true
+    → IsWholeStep state opening seat (kind.Hold low high) (Replied (reply_to_hold answer)) old (after_it old.disk mid after seat (op.Hold low high) (reply_to_hold answer) old.held) m pace
+hold_steps state opening seat low high answer old mid after m pace timed honest below moves because has stands can = by answer because has
+  where
+    reads : OnlyReads 0 0 (state old.disk) (state old.disk)
+    reads = only_reads_start (state old.disk) timed
+
+    stopped_is : m.stopped ≡ old.held.book.stopped
+    stopped_is = ap (λ (b : BookState). b.stopped) stands.stands.book
+
+    by_stop : (outcome : Outcome) (o : Option Why) → old.held.book.stopped ≡ o → hold m seat low high outcome ≡ unless_stopped o seat (op.Hold low high) m (do_hold m seat low high outcome)
+    by_stop outcome o is = ap (λ (o : Option Why). unless_stopped o seat (op.Hold low high) m (do_hold m seat low high outcome)) (stopped_is ∙ is)
+
+    by : (a : Holding) → HoldsBecause a seat low high (undisked old.held old.holds) (undisked mid after)
+        → ((tree : Tree) (table : Entries) (file : List ℕ) → a ≡ holds.Held → AreOf old.held.runs tree table file
+        → HasHeld old.held.runs.sizes mid.runs.space.pins seat (hold_of seat after) (Some (rows_in (record { b = old.held.log.b.entries; a = old.held.log.a.entries; c1 = entries_of tree.c1; c1x = entries_of tree.c1x; c2 = entries_of tree.c2 }) low high)) file)
+        → IsWholeStep state opening seat (kind.Hold low high) (Replied (reply_to_hold a)) old (after_it old.disk mid after seat (op.Hold low high) (reply_to_hold a) old.held) m pace
+    by holds.Held because has =
+        let rows = Some (rows_in m.lists low high) in
+        hold_step state opening seat (kind.Hold low high) (op.Hold low high) reply.Held Well old mid after old.disk (slice_set m.holds seat rows) m pace (hold_kind seat low high) moves reads honest stands can (by_stop Well None because.0) tt refl
+        (λ runs. seat_rows seat old.held mid old.holds after m rows (state old.disk) (state old.disk) moves below stands.stands.paced.stands.places refl (now runs) (stands.rows runs))
+      where
+        -- the tables are what the lanes replay to
+        now : old.held.book.stopped ≡ None → HasHeld old.held.runs.sizes mid.runs.space.pins seat (hold_of seat after) (Some (rows_in m.lists low high)) (state old.disk).bytes
+        now runs =
+            let over = stands.stands.runs runs in
+            let log = over.holds.of_log in
+            let tree = over.tree in
+            let lists : m.lists ≡ record { b = old.held.log.b.entries; a = old.held.log.a.entries; c1 = entries_of tree.c1; c1x = entries_of tree.c1x; c2 = entries_of tree.c2 } = over.holds.lists
+            ∙ ap (λ (b : Entries). record { b = b; a = replayed tree.lane_a; c1 = entries_of tree.c1; c1x = entries_of tree.c1x; c2 = entries_of tree.c2 }) (sym log.b)
+            ∙ ap (λ (a : Entries). record { b = old.held.log.b.entries; a = a; c1 = entries_of tree.c1; c1x = entries_of tree.c1x; c2 = entries_of tree.c2 }) (sym log.a) in
+            subst (λ (l : Lists). HasHeld old.held.runs.sizes mid.runs.space.pins seat (hold_of seat after) (Some (rows_in l low high)) (state old.disk).bytes) (sym lists)
+            (has tree old.held.log.a.entries (state old.disk).bytes refl over.over.are_of)
+    by holds.NoMemory because has =
+        hold_step state opening seat (kind.Hold low high) (op.Hold low high) reply.NoMemory NoRoom old mid after old.disk m.holds m pace (hold_kind seat low high) moves reads honest stands can (by_stop NoRoom None because.0)
+        (ap (λ (o : Option Why). not (is_some o) && true) (stopped_is ∙ because.0)) refl
+        (λ runs. same_rows old.held mid old.holds after m (state old.disk) (state old.disk) because.2 because.1 refl (stands.rows runs))
+    by (holds.Stopped why) because has =
+        hold_step state opening seat (kind.Hold low high) (op.Hold low high) (reply.Stopped why) Well old mid after old.disk m.holds m pace (hold_kind seat low high) moves reads honest stands can (by_stop Well (Some why) because.0) tt refl
+        (λ runs. absurd (running_still old.held.book.stopped because.0 runs))
+
+-- ---- the reading on
+
+pub next_moves : (seat : ℕ) (held : Held) (before after : List (Option HoldState)) → ((other : ℕ) → other ≢ seat → hold_of other after ≡ hold_of other before) → MovesHold seat held held before after
+next_moves seat held before after others = record { rest = refl; pins = λ other differs. refl; roles = refl; holds = others; running = λ honest file is. is; lists = λ tree table file is. is }
+
+was_held : (n : ℕ) (old new : Option HoldState) (rows : List Row) → AreGivenBy n old new rows → IsTrue (is_some old)
+was_held n (Some old) new rows given = refl
+was_held n None new rows given = absurd given
+
+was_damaged : (sizes : Sizes) (old : Option HoldState) (page : ℕ) (file : List ℕ) → IsDamageBehind sizes old page file → IsTrue (is_some old)
+was_damaged sizes (Some old) page file damage = refl
+was_damaged sizes None page file damage = absurd damage
+
+given_is_none_other : (rows : RowList) → scan.Rows rows ≢ scan.Fault
+given_is_none_other rows same = cc same
+
+damage_is_none_other : (page : ℕ) → scan.Damaged page ≢ scan.Fault
+damage_is_none_other page same = cc same
+
+damage_gives_none : (page : ℕ) (rows : RowList) → scan.Damaged page ≢ scan.Rows rows
+damage_gives_none page rows same = cc same
+
+-- a reading on gives the first n of the rows to come, and keeps the others
+abbrev pub GivesRows : {D : Type 0} → ℕ → ℕ → Scan → CoreState D → List (Option HoldState) → DiskState → DiskState → Type 0
+GivesRows seat n answer old after before now =
+    (rows : List Row) → IsTrue before.is_honest → old.held.book.stopped ≡ None → HasHeld old.held.runs.sizes old.held.runs.space.pins seat (hold_of seat old.holds) (Some rows) before.bytes → answer ≢ scan.Fault
+    → (answer ≡ scan.Rows (take n rows)) × HasHeld old.held.runs.sizes old.held.runs.space.pins seat (hold_of seat after) (Some (drop n rows)) now.bytes
+
+pub next_steps : {D : Type 0} {end most : ℕ} (state : D → DiskState) (opening : List (Key × Value)) (seat n : ℕ) (answer : Scan) (old : CoreState D) (after : List (Option HoldState)) (disk : D) (m : Machine) (pace : Pace)
+    → OnlyReads end most (state old.disk) (state disk) → IsTrue (state old.disk).is_honest → seat < callers → MovesHold seat old.held old.held old.holds after
+    → ScansBecause answer seat n (undisked old.held old.holds) (undisked old.held after) (state old.disk) (state disk) → (answer ≡ scan.Fault → (state disk).faults < 2 ^ 64) → GivesRows seat n answer old after (state old.disk) (state disk)
+    → StandsWhole state opening old m pace → may m seat (kind.Next n) ≡ true
+    → IsWholeStep state opening seat (kind.Next n) (Replied (reply_to_next answer)) old (after_it disk old.held after seat (op.Next n) (reply_to_next answer) old.held) m pace
+next_steps state opening seat n answer old after disk m pace reads honest below moves because counted gives stands can = by answer because counted gives
+  where
+    d : DiskState
+    d = state old.disk
+
+    bytes : (state disk).bytes ≡ d.bytes
+    bytes = reads.same.same.bytes honest
+
+    stopped_is : m.stopped ≡ old.held.book.stopped
+    stopped_is = ap (λ (b : BookState). b.stopped) stands.stands.book
+
+    by_stop : (outcome : Outcome) (o : Option Why) → old.held.book.stopped ≡ o → next_rows m seat n outcome ≡ unless_stopped o seat (op.Next n) m (do_next m seat n outcome (held_by seat m))
+    by_stop outcome o is = ap (λ (o : Option Why). unless_stopped o seat (op.Next n) m (do_next m seat n outcome (held_by seat m))) (stopped_is ∙ is)
+
+    running : (outcome : Outcome) (rows : Option (List Row)) → old.held.book.stopped ≡ None → held_by seat m ≡ rows → next_rows m seat n outcome ≡ do_next m seat n outcome rows
+    running outcome rows none is = by_stop outcome None none ∙ ap (λ (rows : Option (List Row)). do_next m seat n outcome rows) is
+
+    -- its rows to come, and what is said of them
+    to_come : IsTrue (is_some (hold_of seat old.holds)) → old.held.book.stopped ≡ None → (rows : List Row) × (held_by seat m ≡ Some rows)
+    to_come some none = some_held old.held.runs.sizes old.held.runs.space.pins seat d.bytes (hold_of seat old.holds) (held_by seat m) some (stands.rows none seat below)
+
+    has : (rows : List Row) → held_by seat m ≡ Some rows → old.held.book.stopped ≡ None → HasHeld old.held.runs.sizes old.held.runs.space.pins seat (hold_of seat old.holds) (Some rows) d.bytes
+    has rows is none = subst (λ (o : Option (List Row)). HasHeld old.held.runs.sizes old.held.runs.space.pins seat (hold_of seat old.holds) o d.bytes) is (stands.rows none seat below)
+
+    -- the holds stay
+    kept : (r : Reply) (outcome : Outcome) → after ≡ old.holds → next_rows m seat n outcome ≡ replied seat (op.Next n) r m → IsPossible m seat (kind.Next n) outcome d.faults (state disk).faults → is_broken outcome ≡ false
+        → IsWholeStep state opening seat (kind.Next n) (Replied r) old (after_it disk old.held after seat (op.Next n) r old.held) m pace
+    kept r outcome same does possible whole = hold_step state opening seat (kind.Next n) (op.Next n) r outcome old old.held after disk m.holds m pace (next_kind seat n) moves reads honest stands can does possible whole
+        (λ runs. same_rows old.held old.held old.holds after m d (state disk) refl same bytes (stands.rows runs))
+
+    by : (a : Scan) → ScansBecause a seat n (undisked old.held old.holds) (undisked old.held after) d (state disk) → (a ≡ scan.Fault → (state disk).faults < 2 ^ 64) → GivesRows seat n a old after d (state disk)
+        → IsWholeStep state opening seat (kind.Next n) (Replied (reply_to_next a)) old (after_it disk old.held after seat (op.Next n) (reply_to_next a) old.held) m pace
+    by (scan.Rows rows) because counted gives =
+        let come = to_come (was_held n (hold_of seat old.holds) (hold_of seat after) rows because.2) because.0 in
+        let given = gives come.0 honest because.0 (has come.0 come.1 because.0) (given_is_none_other rows) in
+        let left = Some (drop n come.0) in
+        hold_step state opening seat (kind.Next n) (op.Next n) (reply.Rows rows) Well old old.held after disk (slice_set m.holds seat left) m pace (next_kind seat n) moves reads honest stands can
+        (running Well (Some come.0) because.0 come.1 ∙ ap (λ (a : Scan). replied seat (op.Next n) (reply_to_next a) (holding seat left m)) (sym given.0)) tt refl
+        (λ runs. seat_rows seat old.held old.held old.holds after m left d (state disk) moves below stands.stands.paced.stands.places bytes given.1 (stands.rows runs))
+    by scan.NoHold because counted gives =
+        kept reply.NoHold Well because.2 (running Well None because.0 (none_held old.held.runs.sizes old.held.runs.space.pins seat d.bytes (hold_of seat old.holds) (held_by seat m) because.1 (stands.rows because.0 seat below))) tt refl
+    by scan.Fault because counted gives =
+        let come = to_come because.1 because.0 in
+        kept reply.Fault (FailedAfter 0 (state disk).faults) because.2 (running (FailedAfter 0 (state disk).faults) (Some come.0) because.0 come.1) (
+          ap (λ (o : Option Why). not (is_some o) && is_some (held_by seat m)) (stopped_is ∙ because.0) ∙ ap (λ (o : Option (List Row)). true && is_some o) come.1,
+          omega arith,
+          rose d.faults (state disk).faults reads.effect.goes_on.faults (counted refl) because.3,
+          refl,
+        ) refl
+    by (scan.Damaged page) because counted gives =
+        let come = to_come (was_damaged old.held.runs.sizes (hold_of seat old.holds) page d.bytes (because.3 honest)) because.0 in
+        absurd (damage_gives_none page (take n come.0) (gives come.0 honest because.0 (has come.0 come.1 because.0) (damage_is_none_other page)).0)
+    by (scan.Stopped why) because counted gives = kept (reply.Stopped why) Well because.1 (by_stop Well (Some why) because.0) tt refl
+
+-- what a reading on is due to doesn't speak of the entry
+pub next_cause : {D : Type 0} (answer : Scan) (seat n : ℕ) (old new : CoreState D) (d d2 : DiskState) → ScansBecause answer seat n (undisked old.held old.holds) (undisked old.held new.holds) d d2 → ScansBecause answer seat n old new d d2
+next_cause (scan.Rows rows) seat n old new d d2 because = because
+next_cause scan.NoHold seat n old new d d2 because = because
+next_cause scan.Fault seat n old new d d2 because = because
+next_cause (scan.Damaged page) seat n old new d d2 because = because
+next_cause (scan.Stopped why) seat n old new d d2 because = because

@@ -1,0 +1,355 @@
+-- Steps that are none of a hold leave the callers' holds as they are, those of the machine and those of the core.
+use Rattle.std.specs.Prelude.{◌≢◌, ◌≤◌, nat_le, nat_lt, not, ◌&&◌, ◌==◌, replicate, slice_index_or, IsErr, IfOk, Ok, Err}
+use Rattle.std.specs.declared.result.Result.{Result}
+use Rattle.std.proofs.Common.{◌≡◌, ◌∙◌, ⊎_elim, inl, inr, ℕ, ◌+◌, Bool, true, false, cond, List, [], ◌∷◌, Option, None, Some, refl, ap, sym, subst, arith}
+use Rattle.std.proofs.lemmas.Bool.{cases_eq, false≢true}
+use Rattle.std.proofs.lemmas.Option.{none-some}
+use Rattle.blsm_model.specs.Format.{callers}
+use Rattle.blsm_model.specs.Geometry.{c1_mark, charge_limit}
+use Rattle.blsm_model.specs.Histories.{writes_of}
+use Rattle.blsm_model.specs.Legal.{total_weight}
+use Rattle.blsm_model.specs.Sizes.{Sizes}
+use Rattle.blsm_model.specs.declared.key.Key.{Key}
+use Rattle.blsm_model.specs.declared.row.Row.{Row}
+use Rattle.blsm_model.specs.declared.row.Value.{Value}
+use Rattle.blsm_model.specs.declared.op.Op.{Op}
+use Rattle.blsm_model.specs.declared.op.Write.{Write}
+use Rattle.blsm_model.specs.declared.history.Why.{Why}
+use Rattle.disk_trait.specs.Disk.{DiskState}
+use Rattle.disk_trait.specs.Effects.{Affects, affects_start, affects_wider}
+use Rattle.disk_trait.specs.Moments.{IsTimed}
+use Rattle.disk_trait.specs.Reads.{OnlyReads}
+use Rattle.disk_trait.specs.Region.{Region, IsSameOutside}
+use Rattle.gear_sched.specs.Gears.{first_debt, second_debt, plan_for}
+use Rattle.gear_sched.specs.declared.Plan.{Plan}
+use Rattle.gear_sched.specs.declared.Plan.TheVariants.{Snow, Deep, Nothing}
+use Rattle.pacing.specs.Pace.{Pace}
+use Rattle.pacing.specs.Steps as pacing
+use Rattle.pacing.specs.Steps.{Move}
+use Rattle.page_file.specs.declared.file.Broken.{Broken}
+use Rattle.page_space.specs.PageSet.{Members}
+use Rattle.record_delta.specs.Entries.{entries_weight}
+use Rattle.record_delta.specs.declared.record.Rec.{Rec}
+use Rattle.scan_view.specs.Hold.{HoldState}
+use Rattle.scan_view.specs.Holds.{hold_of, pages_behind}
+use Rattle.scan_view.specs.Pins.{HasHeld, beside_pins}
+use Rattle.scan_view.proofs.StayLemmas.{held_beside}
+use Rattle.seat_book.specs.State.{BookState}
+use Rattle.tree_machine.specs.declared.step.Kind.{Kind}
+use Rattle.tree_machine.specs.declared.step.Kind.TheVariants as kind
+use Rattle.tree_machine.specs.Lists.{memory_weight}
+use Rattle.tree_machine.specs.Machine.{Machine, charge, deep_done, held_by, in_pass, is_closed, pass_done}
+use Rattle.tree_machine.specs.Merges.{Merge}
+use Rattle.tree_machine.specs.Moves.{begin_pass, deep_quantum, deep_quantum_of, end_pass, output_of, pass_quantum, pass_quantum_of, rotate, swap_deep, swap_pass}
+use Rattle.tree_machine.specs.Plays.{stepped_as}
+use Rattle.tree_machine.specs.Steps.{Answer, Broken as AtPage, Choice, SwapDeep, SwapPass, DeepQuantum, PassQuantum, Begin, Rotate, Rest, FailedAfter, NoRoom, Outcome, Well, Stepped, admit, admit_fitting, choice, chosen, deep_swapped, do_pay, do_turn, forgive, is_del, pass_swapped, pay, pay_planned, pay_running, ready_for, swaps_due, taken_once, unless_stopped, work_turning, worker_turning}
+use Rattle.tree_machine.proofs.FrameLemmas.{step_stays}
+use Rattle.tree_machine.proofs.PlayLemmas.{of_replicate}
+use Rattle.tree_runs.specs.Runs.{page_share}
+use Rattle.core_moves.specs.declared.held.Held.{Held}
+use Rattle.core_moves.specs.Moves.{KeepsAllButMerges, SettlesDeep, SettlesPass, begun_in, with_book, with_debts_forgiven, with_pass_begun}
+use Rattle.core_pace.specs.Events.{TakesByPlan}
+use Rattle.core_pace.specs.Turns.{TurnsBy}
+use Rattle.tree_core.specs.declared.admission.Taking.{Taking}
+use Rattle.tree_core.specs.declared.admission.Taking.TheVariants.{Taken, Failed}
+use Rattle.tree_core.specs.Core.{CoreState}
+use Rattle.tree_core.specs.Holds.{AreFew, HoldRows, KeepsHolds, StandsWhole}
+use Rattle.tree_core.specs.Standing.{StandsFor}
+use Rattle.tree_core.specs.Steps.{IsStep, IsWholeStep}
+use Rattle.tree_core.specs.Taking.{IsReadied, Takes}
+
+-- ---- the machine
+
+-- a step of a hold
+abbrev pub is_held : Kind → Bool
+is_held (kind.Hold low high) = true
+is_held (kind.Next n) = true
+is_held kind.Release = true
+is_held _ = false
+
+record Keeps (old new : Machine) : Type 0 where
+  holds : new.holds ≡ old.holds
+
+either : (b : Bool) (m one other : Machine) → Keeps m one → Keeps m other → Keeps m (cond b one other)
+either true m one other p q = p
+either false m one other p q = q
+
+both : (a b c : Machine) → Keeps a b → Keeps b c → Keeps a c
+both a b c p q = record { holds = q.holds ∙ p.holds }
+
+itself : (m : Machine) → Keeps m m
+itself m = record { holds = refl }
+
+either_stepped : (b : Bool) (m : Machine) (one other : Stepped) → Keeps m one.state → Keeps m other.state → Keeps m (cond b one other).state
+either_stepped true m one other p q = p
+either_stepped false m one other p q = q
+
+unless : (o : Option Why) (seat : ℕ) (op : Op) (m : Machine) (otherwise : Stepped) → Keeps m otherwise.state → Keeps m (unless_stopped o seat op m otherwise).state
+unless (Some why) seat op m otherwise keeps = record { holds = refl }
+unless None seat op m otherwise keeps = keeps
+
+deep_swap_keeps : (m : Machine) → Keeps m (deep_swapped m)
+deep_swap_keeps m = either (deep_done m) m (swap_deep m) m (record { holds = refl }) (itself m)
+
+pass_keeps : (m : Machine) → Keeps m (swap_pass m)
+pass_keeps m = either (nat_le (c1_mark m.gears.sizes) (entries_weight (output_of m.merges.pass))) m (rotate (end_pass m)) (end_pass m) (record { holds = refl }) (record { holds = refl })
+
+ready_keeps : (w : ℕ) (m : Machine) → Keeps m (ready_for w m)
+ready_keeps w m =
+    let deep = deep_swapped m in
+    let done = pass_swapped deep in
+    both m deep (ready_for w m) (deep_swap_keeps m)
+    (both deep done (ready_for w m) (either (pass_done deep) deep (swap_pass deep) deep (pass_keeps deep) (itself deep))
+    (either (not (in_pass done) && nat_lt done.gears.sizes.low (done.spring + w)) done (begin_pass done) done (record { holds = refl }) (itself done)))
+
+taking_keeps : (seat : ℕ) (ws : List Write) (m : Machine) → Keeps m (taken_once seat ws m)
+taking_keeps seat [] m = itself m
+taking_keeps seat (w ∷ ws) m = record { holds = refl }
+
+admission_keeps : (m : Machine) (seat : ℕ) (op : Op) (outcome : Outcome) → Keeps m (admit m seat op outcome).state
+admission_keeps m seat op outcome =
+    unless m.stopped seat op m _
+    (either_stepped (nat_lt (charge_limit m.gears.sizes (is_del op)) (charge m + w)) m _ _ (record { holds = refl }) (by outcome))
+  where
+    w : ℕ
+    w = total_weight (writes_of op)
+
+    done : Keeps m (taken_once seat (writes_of op) (ready_for (total_weight (writes_of op)) m))
+    done = both m (ready_for (total_weight (writes_of op)) m) _ (ready_keeps (total_weight (writes_of op)) m) (taking_keeps seat (writes_of op) (ready_for (total_weight (writes_of op)) m))
+
+    by : (o : Outcome) → Keeps m (admit_fitting m seat op (total_weight (writes_of op)) o).state
+    by (FailedAfter commits faults) =
+        either_stepped (nat_lt commits (swaps_due m)) m _ _
+        (record { holds = (either (commits == 0) m m (deep_swapped m) (itself m) (deep_swap_keeps m)).holds })
+        (record { holds = (ready_keeps (total_weight (writes_of op)) m).holds })
+    by Well = record { holds = done.holds }
+    by (AtPage page) = record { holds = done.holds }
+    by NoRoom = record { holds = done.holds }
+
+pass_quantum_keeps : (p : Option Merge) (seat : ℕ) (m : Machine) → Keeps m (pass_quantum_of p seat m)
+pass_quantum_keeps None seat m = itself m
+pass_quantum_keeps (Some merge) seat m = record { holds = refl }
+
+deep_quantum_keeps : (p : Option Merge) (seat : ℕ) (m : Machine) → Keeps m (deep_quantum_of p seat m)
+deep_quantum_keeps None seat m = itself m
+deep_quantum_keeps (Some merge) seat m = record { holds = refl }
+
+payment_keeps : (m : Machine) (seat : ℕ) (outcome : Outcome) → Keeps m (pay m seat outcome).state
+payment_keeps m seat outcome = by m.stopped
+  where
+    quantum : (make : Machine → Machine) (o : Outcome) → Keeps m (make (forgive seat m)) → Keeps m (do_pay (forgive seat m) make seat o).state
+    quantum make (FailedAfter commits faults) keeps = record { holds = refl }
+    quantum make (AtPage page) keeps = record { holds = refl }
+    quantum make Well keeps = record { holds = keeps.holds }
+    quantum make NoRoom keeps = record { holds = keeps.holds }
+
+    planned : (p : Plan) → Keeps m (pay_planned p (forgive seat m) seat outcome).state
+    planned Snow = quantum (pass_quantum seat) outcome (record { holds = (pass_quantum_keeps (forgive seat m).merges.pass seat (forgive seat m)).holds })
+    planned Deep = quantum (deep_quantum seat) outcome (record { holds = (deep_quantum_keeps (forgive seat m).merges.deep seat (forgive seat m)).holds })
+    planned Nothing = record { holds = refl }
+
+    by : (o : Option Why) → Keeps m (pay_running o m seat outcome).state
+    by (Some why) = itself m
+    by None = planned (plan_for (first_debt (forgive seat m).gears seat) (second_debt (forgive seat m).gears seat))
+
+chosen_keeps : (c : Choice) (seat : ℕ) (m : Machine) → Keeps m (chosen c seat m)
+chosen_keeps SwapDeep seat m = record { holds = refl }
+chosen_keeps SwapPass seat m = pass_keeps m
+chosen_keeps DeepQuantum seat m = deep_quantum_keeps m.merges.deep seat m
+chosen_keeps PassQuantum seat m = pass_quantum_keeps m.merges.pass seat m
+chosen_keeps Begin seat m = record { holds = refl }
+chosen_keeps Rotate seat m = record { holds = refl }
+chosen_keeps Rest seat m = itself m
+
+turn_keeps : (c : Choice) (o : Outcome) (seat : ℕ) (m : Machine) → Keeps m (do_turn c o seat m).state
+turn_keeps c (FailedAfter commits faults) seat m = record { holds = refl }
+turn_keeps c (AtPage page) seat m = record { holds = refl }
+turn_keeps c Well seat m = chosen_keeps c seat m
+turn_keeps c NoRoom seat m = chosen_keeps c seat m
+
+work_keeps : (o : Option Why) (m : Machine) (seat : ℕ) (outcome : Outcome) → Keeps m (work_turning o m seat outcome).state
+work_keeps (Some why) m seat outcome = itself m
+work_keeps None m seat outcome = turn_keeps (choice (not (memory_weight m.lists == 0)) (not (entries_weight m.lists.c1 == 0)) m) outcome seat m
+
+worker_keeps : (o : Option Why) (closed : Bool) (m : Machine) (seat : ℕ) (outcome : Outcome) → Keeps m (worker_turning o closed m seat outcome).state
+worker_keeps (Some why) closed m seat outcome = itself m
+worker_keeps None true m seat outcome = itself m
+worker_keeps None false m seat outcome = turn_keeps (choice (nat_lt m.gears.sizes.low m.spring) false m) outcome seat m
+
+pub step_keeps_holds : (m : Machine) (seat : ℕ) (k : Kind) (outcome : Outcome) → is_held k ≡ false → (stepped_as m seat k outcome).state.holds ≡ m.holds
+step_keeps_holds m seat (kind.Admit op) outcome none = (admission_keeps m seat op outcome).holds
+step_keeps_holds m seat kind.Pay outcome none = (payment_keeps m seat outcome).holds
+step_keeps_holds m seat (kind.Get key) outcome none = (unless m.stopped seat _ m _ (record { holds = refl })).holds
+step_keeps_holds m seat (kind.Hold low high) outcome some = absurd (false≢true (sym some))
+step_keeps_holds m seat (kind.Next n) outcome some = absurd (false≢true (sym some))
+step_keeps_holds m seat kind.Release outcome some = absurd (false≢true (sym some))
+step_keeps_holds m seat kind.WorkTurn outcome none = (work_keeps m.stopped m seat outcome).holds
+step_keeps_holds m seat (kind.WorkEnd n) outcome none = refl
+step_keeps_holds m seat kind.WorkerTurn outcome none = (worker_keeps m.stopped (is_closed m) m seat outcome).holds
+step_keeps_holds m seat kind.Leave outcome none = refl
+
+-- ---- the core
+
+-- the rows to come stay where nothing that is pinned is written
+pub rows_stay : (old new : Held) (holds holds' : List (Option HoldState)) (m after : Machine) (d d2 : DiskState) → holds' ≡ holds → new.runs.space.pins ≡ old.runs.space.pins → new.runs.sizes ≡ old.runs.sizes
+    → after.holds ≡ m.holds → IsSameOutside (beside_pins old.runs.sizes old.runs.space.pins) d.bytes d2.bytes → HoldRows old holds m d → HoldRows new holds' after d2
+rows_stay old new holds holds' m after d d2 same pins sizes same_rows beside rows = λ seat below.
+    subst (λ (s : Sizes). HasHeld s new.runs.space.pins seat (hold_of seat holds') (held_by seat after) d2.bytes) (sym sizes)
+    (subst (λ (ps : List Members). HasHeld old.runs.sizes ps seat (hold_of seat holds') (held_by seat after) d2.bytes) (sym pins)
+    (subst (λ (hs : List (Option HoldState)). HasHeld old.runs.sizes old.runs.space.pins seat (hold_of seat hs) (held_by seat after) d2.bytes) (sym same)
+    (subst (λ (rs : List (Option (List Row))). HasHeld old.runs.sizes old.runs.space.pins seat (hold_of seat holds) (slice_index_or rs seat None) d2.bytes) (sym same_rows)
+    (held_beside old.runs.sizes old.runs.space.pins seat (hold_of seat holds) (held_by seat m) d.bytes d2.bytes beside (rows seat below)))))
+
+-- at the opening there are none
+pub none_held : (held : Held) (holds : List (Option HoldState)) (m : Machine) (d : DiskState) → holds ≡ replicate callers None → m.holds ≡ replicate callers None → HoldRows held holds m d
+none_held held holds m d none none_too = λ seat below.
+    subst (λ (hs : List (Option HoldState)). HasHeld held.runs.sizes held.runs.space.pins seat (hold_of seat hs) (held_by seat m) d.bytes) (sym none)
+    (subst (λ (h : Option HoldState). HasHeld held.runs.sizes held.runs.space.pins seat h (held_by seat m) d.bytes) (sym (of_replicate callers seat None))
+    (subst (λ (rs : List (Option (List Row))). HasHeld held.runs.sizes held.runs.space.pins seat None (slice_index_or rs seat None) d.bytes) (sym none_too)
+    (subst (λ (h : Option (List Row)). HasHeld held.runs.sizes held.runs.space.pins seat None h d.bytes) (sym (of_replicate callers seat None)) tt)))
+
+pub few_at_first : (sizes : Sizes) (holds : List (Option HoldState)) → holds ≡ replicate callers None → AreFew sizes holds
+few_at_first sizes holds none = λ seat.
+    subst (λ (hs : List (Option HoldState)). pages_behind (hold_of seat hs) ≤ page_share sizes) (sym none)
+    (subst (λ (h : Option HoldState). pages_behind h ≤ page_share sizes) (sym (of_replicate callers seat None)) (omega arith))
+
+-- where one seat's hold alone is another, and has no more pages than it may
+pub few_by : (sizes : Sizes) (seat : ℕ) (old new : List (Option HoldState)) → ((other : ℕ) → other ≢ seat → hold_of other new ≡ hold_of other old) → pages_behind (hold_of seat new) ≤ page_share sizes
+    → AreFew sizes old → AreFew sizes new
+few_by sizes seat old new others bound few = λ other.
+    elim (cases_eq other seat) [
+      | inl same ↦ subst (λ (s : ℕ). pages_behind (hold_of s new) ≤ page_share sizes) (sym same) bound
+      | inr differs ↦ subst (λ (h : Option HoldState). pages_behind h ≤ page_share sizes) (sym (others other differs)) (few other)
+    ]
+
+-- a store that runs after a step ran before it
+pub ran_before : (opening : List (Key × Value)) (seat : ℕ) (k : Kind) (answer : Answer) (old new : Held) (before after : DiskState) (m : Machine) (pace : Pace) → StandsFor opening old m pace before
+    → IsStep opening seat k answer new before after m pace → new.book.stopped ≡ None → old.book.stopped ≡ None
+ran_before opening seat k answer old new before after m pace stands is runs = by old.book.stopped refl
+  where
+    by : (o : Option Why) → old.book.stopped ≡ o → old.book.stopped ≡ None
+    by None same = same
+    by (Some why) same =
+        let was : m.stopped ≡ Some why = ap (λ (b : BookState). b.stopped) stands.book ∙ same in
+        absurd (none-some why (sym runs ∙ sym (ap (λ (b : BookState). b.stopped) is.stands.book) ∙ step_stays m seat k is.outcome why was))
+
+-- so a step that keeps the holds is one of the whole core
+pub whole_step : {D : Type 0} (state : D → DiskState) (opening : List (Key × Value)) (seat : ℕ) (k : Kind) (answer : Answer) (old new : CoreState D) (m : Machine) (pace : Pace) → is_held k ≡ false → KeepsHolds old new
+    → IsSameOutside (beside_pins old.held.runs.sizes old.held.runs.space.pins) (state old.disk).bytes (state new.disk).bytes → StandsWhole state opening old m pace
+    → IsStep opening seat k answer new.held (state old.disk) (state new.disk) m pace → IsWholeStep state opening seat k answer old new m pace
+whole_step state opening seat k answer old new m pace none keeps beside whole is = record {
+  step = is;
+  rows = λ runs.
+      rows_stay old.held new.held old.holds new.holds m (stepped_as m seat k is.outcome).state (state old.disk) (state new.disk) keeps.holds keeps.pins keeps.sizes (step_keeps_holds m seat k is.outcome none) beside
+      (whole.rows (ran_before opening seat k answer old.held new.held (state old.disk) (state new.disk) m pace whole.stands is runs));
+}
+
+-- ---- what each call keeps
+
+pub record KeepsPins (old new : Held) : Type 0 where
+  pub pins : new.runs.space.pins ≡ old.runs.space.pins
+  pub sizes : new.runs.sizes ≡ old.runs.sizes
+
+pins_themselves : (held : Held) → KeepsPins held held
+pins_themselves held = record { pins = refl; sizes = refl }
+
+pub same_pins : (old new : Held) → new ≡ old → KeepsPins old new
+same_pins old new is = subst (λ (h : Held). KeepsPins old h) (sym is) (pins_themselves old)
+
+pub then_pins : (old mid new : Held) → KeepsPins old mid → KeepsPins mid new → KeepsPins old new
+then_pins old mid new one two = record { pins = two.pins ∙ one.pins; sizes = two.sizes ∙ one.sizes }
+
+pub deep_keeps_pins : (old new : Held) → SettlesDeep old new → KeepsPins old new
+deep_keeps_pins old new settles = ⊎_elim (λ done. record { pins = done.1.runs.pins; sizes = done.1.runs.sizes }) (λ rests. same_pins old new rests.1) settles
+
+pub pass_keeps_pins : (old new : Held) → SettlesPass old new → KeepsPins old new
+pass_keeps_pins old new settles = ⊎_elim (λ done. record { pins = done.1.runs.pins; sizes = done.1.runs.sizes }) (λ rests. same_pins old new rests.1) settles
+
+pub begin_keeps_pins : (w : ℕ) (held : Held) → KeepsPins held (begun_in w held)
+begin_keeps_pins w held = by _
+  where
+    by : (b : Bool) → KeepsPins held (cond b (with_pass_begun held) held)
+    by true = record { pins = refl; sizes = refl }
+    by false = pins_themselves held
+
+readied_keeps_pins : (w : ℕ) (old new : Held) → IsReadied w old new → KeepsPins old new
+readied_keeps_pins w old new is =
+    subst (λ (h : Held). KeepsPins old h) (sym is.begun)
+    (then_pins old is.ready (begun_in w is.ready) (then_pins old is.settled is.ready (deep_keeps_pins old is.settled is.deep) (pass_keeps_pins is.settled is.ready is.pass)) (begin_keeps_pins w is.ready))
+
+-- an admission, however its write was taken
+pub taking_keeps_pins : (t : Taking) (seat : ℕ) (key : Key) (rec : Rec) (old new : Held) (after : DiskState) → Takes t seat key rec old new after → KeepsPins old new
+taking_keeps_pins Taken seat key rec old new after is = then_pins old is.0 new (readied_keeps_pins _ old is.0 is.1) (record { pins = ap (λ (r : Rattle.tree_runs.specs.Runs.RunsState). r.space.pins) is.2.runs; sizes = ap (λ (r : Rattle.tree_runs.specs.Runs.RunsState). r.sizes) is.2.runs })
+taking_keeps_pins (Failed true) seat key rec old new after is = readied_keeps_pins _ old new is
+taking_keeps_pins (Failed false) seat key rec old new after is = ⊎_elim (λ still. same_pins old new still.0) (λ settled. deep_keeps_pins old new settled.0) is
+
+-- a payment's quantum
+planned_keeps_pins : (p : Plan) (seat n : ℕ) (old new : Held) → TakesByPlan p seat n old new → KeepsPins old new
+planned_keeps_pins Snow seat n old new takes = record { pins = takes.others.takes.pins; sizes = takes.others.sizes }
+planned_keeps_pins Deep seat n old new takes = record { pins = takes.others.takes.pins; sizes = takes.others.sizes }
+planned_keeps_pins Nothing seat n old new takes = absurd takes
+
+pub quantum_keeps_pins : (p : Plan) (result : Result ℕ Broken) (seat : ℕ) (old new : Held) → IfOk result (λ n. TakesByPlan p seat n old new) → KeepsAllButMerges (IsErr result) old new → KeepsPins old new
+quantum_keeps_pins p (Ok n) seat old new takes kept = planned_keeps_pins p seat n old new takes
+quantum_keeps_pins p (Err broken) seat old new takes kept = record { pins = kept.pins refl; sizes = kept.sizes refl }
+
+-- a turn's move
+moved_keeps_pins : (mv : Move) (seat n : ℕ) (old new : Held) → TurnsBy mv seat n old new → KeepsPins old new
+moved_keeps_pins pacing.SwapDeep seat n old new moves = record { pins = moves.runs.pins; sizes = moves.runs.sizes }
+moved_keeps_pins pacing.SwapPass seat n old new moves = record { pins = moves.runs.pins; sizes = moves.runs.sizes }
+moved_keeps_pins pacing.TakeDeep seat n old new moves = record { pins = moves.others.takes.pins; sizes = moves.others.sizes }
+moved_keeps_pins pacing.TakeSnow seat n old new moves = record { pins = moves.others.takes.pins; sizes = moves.others.sizes }
+moved_keeps_pins pacing.Begin seat n old new moves = subst (λ (h : Held). KeepsPins old h) (sym moves) (record { pins = refl; sizes = refl })
+moved_keeps_pins pacing.Rotate seat n old new moves = record { pins = moves.runs.pins; sizes = moves.runs.sizes }
+moved_keeps_pins pacing.Idle seat n old new moves = same_pins old new moves
+
+pub move_keeps_pins : (mv : Move) (result : Result ℕ Broken) (seat : ℕ) (old new : Held) → IfOk result (λ n. TurnsBy mv seat n old new) → KeepsAllButMerges (IsErr result) old new → KeepsPins old new
+move_keeps_pins mv (Ok n) seat old new moves kept = moved_keeps_pins mv seat n old new moves
+move_keeps_pins mv (Err broken) seat old new moves kept = record { pins = kept.pins refl; sizes = kept.sizes refl }
+
+-- with the debts that may be forgiven
+pub forgiven_keeps_pins : (seat : ℕ) (old new : Held) → new ≡ with_debts_forgiven seat old → KeepsPins old new
+forgiven_keeps_pins seat old new is = subst (λ (h : Held). KeepsPins old h) (sym is) (record { pins = refl; sizes = refl })
+
+-- ---- the core as it is told of
+
+-- its holds were left alone
+pub keeps_by : {D : Type 0} (inside now : CoreState D) (disk : D) (held : Held) (b : BookState) → inside ≡ now → KeepsPins inside.held held
+    → KeepsHolds now (record { disk = disk; held = with_book b held; holds = inside.holds })
+keeps_by {D} inside now disk held b is keeps =
+    subst (λ (s : CoreState D). KeepsHolds s (record { disk = disk; held = with_book b held; holds = inside.holds })) is (record { holds = refl; pins = keeps.pins; sizes = keeps.sizes })
+
+-- it has another book
+pub rebooked_keeps : {D : Type 0} (inside now : CoreState D) (disk : D) (b : BookState) → inside ≡ now → KeepsHolds now (record { disk = disk; held = with_book b inside.held; holds = inside.holds })
+rebooked_keeps inside now disk b is = keeps_by inside now disk inside.held b is (pins_themselves inside.held)
+
+-- as few pages are behind each hold
+pub few_on : (inside now new : Sizes) (holds : List (Option HoldState)) → inside ≡ now → new ≡ now → AreFew inside holds → AreFew new holds
+few_on inside now new holds is same few = subst (λ (s : Sizes). AreFew s holds) (is ∙ sym same) few
+
+-- ---- where each call writes
+
+-- with the same pages pinned
+pub affects_kept : {end most : ℕ} {before after : DiskState} (old mid : Held) → KeepsPins old mid → Affects (beside_pins mid.runs.sizes mid.runs.space.pins) end most before after
+    → Affects (beside_pins old.runs.sizes old.runs.space.pins) end most before after
+affects_kept {end} {most} {before} {after} old mid keeps effect =
+    subst (λ (s : Sizes). Affects (beside_pins s old.runs.space.pins) end most before after) keeps.sizes
+    (subst (λ (pins : List Members). Affects (beside_pins mid.runs.sizes pins) end most before after) keeps.pins effect)
+
+-- as it is told of
+pub affects_now : {D : Type 0} {end most : ℕ} (state : D → DiskState) (inside now : CoreState D) (after : DiskState) → inside ≡ now
+    → Affects (beside_pins inside.held.runs.sizes inside.held.runs.space.pins) end most (state inside.disk) after → Affects (beside_pins now.held.runs.sizes now.held.runs.space.pins) end most (state now.disk) after
+affects_now {D} {end} {most} state inside now after is effect =
+    subst (λ (s : CoreState D). Affects (beside_pins s.held.runs.sizes s.held.runs.space.pins) end most (state s.disk) after) is effect
+
+-- a disk that wasn't called
+pub rests_affects : {D : Type 0} {end most : ℕ} (state : D → DiskState) (inside now : CoreState D) → inside ≡ now → IsTimed (state inside.disk)
+    → Affects (beside_pins now.held.runs.sizes now.held.runs.space.pins) end most (state now.disk) (state inside.disk)
+rests_affects state inside now is timed = affects_now state inside now (state inside.disk) is (affects_start (state inside.disk) timed)
+
+-- one that was only read
+pub reads_affect : {region : Region} {end most : ℕ} {old new : DiskState} → OnlyReads end most old new → Affects region end most old new
+reads_affect reads = affects_wider (λ i here. absurd here) (omega arith) (omega arith) reads.effect
+
+pub same_affects : {D : Type 0} {region : Region} {end most : ℕ} (state : D → DiskState) (old new : D) → new ≡ old → IsTimed (state old) → Affects region end most (state old) (state new)
+same_affects {D} {region} {end} {most} state old new same timed = subst (λ (d : D). Affects region end most (state old) (state d)) (sym same) (affects_start (state old) timed)

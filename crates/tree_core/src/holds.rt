@@ -1,0 +1,245 @@
+//! Callers hold ranges, and read them.
+ghost use Rattle.std.specs.Prelude.{◌≡◌, ◌≢◌, ◌+◌, ◌<◌, ◌≤◌, ◌^◌, ℕ, List, None, Some, IsTrue, take, drop};
+ghost use Rattle.blsm_model.specs.declared.key.Key.{Key};
+ghost use Rattle.blsm_model.specs.declared.row.Row.{Row};
+ghost use Rattle.blsm_model.specs.declared.row.Value.{Value};
+ghost use Rattle.blsm_model.specs.declared.op.Op.TheVariants as op;
+ghost use Rattle.blsm_model.specs.Book.{HasRoom};
+ghost use Rattle.blsm_model.specs.Facts.{Follows};
+ghost use Rattle.blsm_model.specs.Format.{callers, most_rows};
+ghost use Rattle.blsm_model.specs.Geometry.{capacity, file_length};
+ghost use Rattle.blsm_model.specs.Stored.{as_reply};
+ghost use Rattle.disk_trait.specs.Reads.{OnlyReads};
+ghost use Rattle.pacing.specs.Pace.{Pace};
+ghost use Rattle.record_delta.specs.Entries.{Entries};
+ghost use Rattle.page_file.specs.Component.{entries_of};
+ghost use Rattle.scan_view.specs.Holds.{hold_of, pages_behind};
+ghost use Rattle.scan_view.specs.Pins.{HasHeld};
+ghost use Rattle.seat_book.specs.State.{may_note_in, noted_in};
+ghost use Rattle.tree_machine.specs.declared.step.Kind.TheVariants as kind;
+ghost use Rattle.tree_machine.specs.Lists.{rows_in};
+ghost use Rattle.tree_machine.specs.Machine.{Machine};
+ghost use Rattle.tree_machine.specs.Plays.{may};
+ghost use Rattle.tree_machine.specs.Steps.{Replied};
+ghost use Rattle.tree_file.specs.Tree.{Tree};
+ghost use Rattle.tree_runs.specs.Runs.{AreRuns};
+ghost use Rattle.tree_runs.specs.Holding.{AreOf};
+ghost use Rattle.core_moves.specs.Needs.{IsOn};
+ghost use Rattle.tree_core.specs.declared.answers.Holding.TheVariants as holding;
+ghost use Rattle.tree_core.specs.declared.answers.Scan.TheVariants as scan;
+ghost use Rattle.tree_core.specs.Answers.{reply_to_hold, reply_to_next, reply_to_drop};
+ghost use Rattle.tree_core.specs.Causes.{HoldsBecause, ScansBecause, DropsBecause, ScansNone};
+ghost use Rattle.tree_core.specs.Core.{CoreState, HoldsPace, facts_of_held};
+ghost use Rattle.tree_core.specs.Holds.{AreFew, LeavesOthers, StandsWhole};
+ghost use Rattle.tree_core.specs.HoldMoves.{MovesHold, undisked};
+ghost use Rattle.tree_core.specs.Steps.{MovesPace, IsWholeStep, StandsSince};
+
+use crate::{Core, Holding, Release, Scan};
+use blsm_model::{Key, Op, ShortReply};
+use core_moves::Held;
+use disk_trait::Disk;
+use page_file::Broken;
+use refusal::NoMemory;
+use scan_view::Holds;
+use seat_book::SeatBook;
+use std::alloc::Global;
+use tree_runs::others_may_write;
+
+// The hold is made, in place of an earlier one, or all stays.
+fn take_hold(
+    held: &mut Held,
+    holds: &mut Holds,
+    alloc: Global,
+    seat: u32,
+    low: &Key,
+    high: &Key,
+) -> Holding
+    requires seat { seat < callers }
+    requires runs { held.old.book.stopped ≡ None → AreRuns held.old.runs }
+    requires live { held.old.book.stopped ≡ None
+        → held.old.runs.catalogue.c1.weight + held.old.runs.catalogue.c1x.weight + held.old.runs.catalogue.c2.weight ≤ capacity held.old.runs.sizes }
+    ensures moves { MovesHold seat held.old held.new holds.old holds.new }
+    ensures cause { HoldsBecause result seat low.now high.now (undisked held.old holds.old) (undisked held.new holds.new) }
+    ensures few { AreFew held.old.runs.sizes holds.old → AreFew held.new.runs.sizes holds.new }
+    ensures rows { (tree : Tree) (table : Entries) (file : List ℕ) → result ≡ holding.Held → AreOf held.old.runs tree table file
+        → HasHeld held.old.runs.sizes held.new.runs.space.pins seat (hold_of seat holds.new)
+        (Some (rows_in (record { b = held.old.log.b.entries; a = held.old.log.a.entries; c1 = entries_of tree.c1; c1x = entries_of tree.c1x; c2 = entries_of tree.c2 }) low.now high.now)) file }
+{
+    if let Some(why) = held.book.stopped() {
+        return Holding::Stopped(why);
+    }
+    match held
+        .runs
+        .hold(alloc, seat, low, high, held.log.a(), held.log.b())
+    {
+        Ok(hold) => {
+            // Each caller has its place.
+            let _had = holds.has(seat);
+            holds.set(seat, hold);
+            Holding::Held
+        }
+        Err(NoMemory) => Holding::NoMemory,
+    }
+}
+
+// The next rows of the seat's hold, if it has one.
+fn read_on<D: Disk>(held: &Held, holds: &mut Holds, disk: &mut D, seat: u32, n: u32) -> Scan
+    requires seat { seat < callers }
+    requires few { n ≤ most_rows }
+    requires on { held.now.book.stopped ≡ None → IsOn held.now (D.state disk.old) }
+    ensures cause { ScansBecause result seat n (undisked held.now holds.old) (undisked held.now holds.new) (D.state disk.old) (D.state disk.new) }
+    ensures rows { (rows : List Row) → IsTrue (D.state disk.old).is_honest → held.now.book.stopped ≡ None
+        → HasHeld held.now.runs.sizes held.now.runs.space.pins seat (hold_of seat holds.old) (Some rows) (D.state disk.old).bytes → result ≢ scan.Fault
+        → (result ≡ scan.Rows (take n rows)) × HasHeld held.now.runs.sizes held.now.runs.space.pins seat (hold_of seat holds.new) (Some (drop n rows)) (D.state disk.new).bytes }
+    ensures others { (other : ℕ) → other ≢ seat → hold_of other holds.new ≡ hold_of other holds.old }
+    ensures few { AreFew held.now.runs.sizes holds.old → AreFew held.now.runs.sizes holds.new }
+    ensures counted { result ≡ scan.Fault → (D.state disk.new).faults < 2 ^ 64 }
+    ensures reads { OnlyReads (file_length held.now.runs.sizes) (pages_behind (hold_of seat holds.old)) (D.state disk.old) (D.state disk.new) }
+    ensures untouched { ScansNone result → disk.new ≡ disk.old }
+{
+    if let Some(why) = held.book.stopped() {
+        return Scan::Stopped(why);
+    }
+    if !holds.has(seat) {
+        return Scan::NoHold;
+    }
+    match holds.next_rows(seat, disk, &held.runs.geometry(), n) {
+        Ok(rows) => Scan::Rows(rows),
+        Err(Broken::Fault) => {
+            // The disk's count is a number of 64 bits.
+            let _faults = disk.faults();
+            Scan::Fault
+        }
+        Err(Broken::Damaged(page)) => Scan::Damaged(page),
+    }
+}
+
+// The seat's hold is dropped with its pins, if it has one.
+fn let_go(held: &mut Held, holds: &mut Holds, seat: u32) -> Release
+    requires seat { seat < callers }
+    requires runs { held.old.book.stopped ≡ None → AreRuns held.old.runs }
+    ensures moves { MovesHold seat held.old held.new holds.old holds.new }
+    ensures cause { DropsBecause result seat (undisked held.old holds.old) (undisked held.new holds.new) }
+    ensures few { AreFew held.old.runs.sizes holds.old → AreFew held.new.runs.sizes holds.new }
+{
+    if let Some(why) = held.book.stopped() {
+        return Release::Stopped(why);
+    }
+    if !holds.has(seat) {
+        return Release::NoHold;
+    }
+    held.runs.unpin(seat);
+    holds.clear(seat);
+    Release::Done
+}
+
+// The replies that the history keeps.
+fn held_reply(holding: &Holding) -> ShortReply
+    ensures { as_reply result ≡ reply_to_hold holding.now }
+{
+    match holding {
+        Holding::Held => ShortReply::Held,
+        Holding::NoMemory => ShortReply::NoMemory,
+        Holding::Stopped(why) => ShortReply::Stopped(*why),
+    }
+}
+
+fn release_reply(release: &Release) -> ShortReply
+    ensures { as_reply result ≡ reply_to_drop release.now }
+{
+    match release {
+        Release::Done => ShortReply::Done,
+        Release::NoHold => ShortReply::NoHold,
+        Release::Stopped(why) => ShortReply::Stopped(*why),
+    }
+}
+
+fn note_scan(book: &mut SeatBook, seat: u32, n: u32, scan: &Scan)
+    requires { HasRoom book.old.book.room (record { seat = seat; op = op.Next n; reply = reply_to_next scan.now }) }
+    ensures { book.new ≡ noted_in seat (op.Next n) (reply_to_next scan.now) book.old }
+{
+    match scan {
+        Scan::Rows(rows) => book.note_rows(seat, Op::Next(n), rows.copy()),
+        Scan::NoHold => book.note(seat, Op::Next(n), ShortReply::NoHold),
+        Scan::Fault => book.note(seat, Op::Next(n), ShortReply::Fault),
+        Scan::Damaged(page) => book.note(seat, Op::Next(n), ShortReply::Damaged(*page)),
+        Scan::Stopped(why) => book.note(seat, Op::Next(n), ShortReply::Stopped(*why)),
+    }
+}
+
+impl<D: Disk + Drop> Core<D> {
+    /// Holds the rows of a range as they are now, from `low` on, without `high`, for the caller. An earlier hold of the caller is replaced. It
+    /// notes one entry, and calls no disk.
+    ///
+    /// Where memory is refused the earlier hold stays.
+    pub fn hold(&mut self, alloc: Global, seat: u32, low: &Key, high: &Key) -> Holding
+        requires { IsTrue (may_note_in seat 0 self.old.held.book) }
+        ensures numbers { (pace : Pace) → HoldsPace self.old.held pace (D.state self.old.disk)
+            → MovesPace seat (kind.Hold low.now high.now) (Replied (reply_to_hold result)) self.new.held (D.state self.new.disk) pace }
+        ensures steps { (opening : List (Key × Value)) (m : Machine) (pace : Pace) → IsTrue (D.state self.old.disk).is_honest
+            → StandsWhole D.state opening self.old m pace → IsTrue (may m seat (kind.Hold low.now high.now))
+            → IsWholeStep D.state opening seat (kind.Hold low.now high.now) (Replied (reply_to_hold result)) self.old self.new m pace }
+        ensures cause { HoldsBecause result seat low.now high.now self.old self.new }
+        ensures book { self.new.held.book ≡ noted_in seat (op.Hold low.now high.now) (reply_to_hold result) self.old.held.book }
+        ensures others { LeavesOthers seat self.old self.new }
+        ensures untouched { self.new.disk ≡ self.old.disk }
+        ensures follows { Follows seat (facts_of_held self.old.held) (facts_of_held self.new.held) }
+        ensures lasts { (start : CoreState D) → StandsSince D.state start self.old → StandsSince D.state start self.new }
+    {
+        let holding = take_hold(&mut self.held, &mut self.holds, alloc, seat, low, high);
+        self.held.book.note(
+            seat,
+            Op::Hold(low.copy(), high.copy()),
+            held_reply(&holding),
+        );
+        holding
+    }
+
+    /// Gives the next `n` rows of the caller's hold, 1 to 32, or as many as are left. It notes one entry. It only reads, and a failure leaves the
+    /// place and doesn't stop the store.
+    pub fn next_rows(&mut self, seat: u32, n: u32) -> Scan
+        requires note { IsTrue (may_note_in seat n self.old.held.book) }
+        requires some { 0 < n }
+        requires few { n ≤ most_rows }
+        ensures numbers { (pace : Pace) → HoldsPace self.old.held pace (D.state self.old.disk)
+            → MovesPace seat (kind.Next n) (Replied (reply_to_next result)) self.new.held (D.state self.new.disk) pace }
+        ensures steps { (opening : List (Key × Value)) (m : Machine) (pace : Pace) → IsTrue (D.state self.old.disk).is_honest
+            → StandsWhole D.state opening self.old m pace → IsTrue (may m seat (kind.Next n))
+            → IsWholeStep D.state opening seat (kind.Next n) (Replied (reply_to_next result)) self.old self.new m pace }
+        ensures cause { ScansBecause result seat n self.old self.new (D.state self.old.disk) (D.state self.new.disk) }
+        ensures book { self.new.held.book ≡ noted_in seat (op.Next n) (reply_to_next result) self.old.held.book }
+        ensures others { LeavesOthers seat self.old self.new }
+        ensures runs { self.new.held.runs ≡ self.old.held.runs }
+        ensures reads { OnlyReads (file_length self.old.held.runs.sizes) (pages_behind (hold_of seat self.old.holds)) (D.state self.old.disk) (D.state self.new.disk) }
+        ensures untouched { ScansNone result → self.new.disk ≡ self.old.disk }
+        ensures follows { Follows seat (facts_of_held self.old.held) (facts_of_held self.new.held) }
+        ensures lasts { (start : CoreState D) → StandsSince D.state start self.old → StandsSince D.state start self.new }
+    {
+        others_may_write();
+        let scan = read_on(&self.held, &mut self.holds, &mut self.disk, seat, n);
+        note_scan(&mut self.held.book, seat, n, &scan);
+        scan
+    }
+
+    /// Drops the caller's hold, and what it pinned. It notes one entry, and calls no disk.
+    pub fn drop_hold(&mut self, seat: u32) -> Release
+        requires { IsTrue (may_note_in seat 0 self.old.held.book) }
+        ensures numbers { (pace : Pace) → HoldsPace self.old.held pace (D.state self.old.disk)
+            → MovesPace seat kind.Release (Replied (reply_to_drop result)) self.new.held (D.state self.new.disk) pace }
+        ensures steps { (opening : List (Key × Value)) (m : Machine) (pace : Pace) → IsTrue (D.state self.old.disk).is_honest
+            → StandsWhole D.state opening self.old m pace → IsTrue (may m seat kind.Release)
+            → IsWholeStep D.state opening seat kind.Release (Replied (reply_to_drop result)) self.old self.new m pace }
+        ensures cause { DropsBecause result seat self.old self.new }
+        ensures book { self.new.held.book ≡ noted_in seat op.Release (reply_to_drop result) self.old.held.book }
+        ensures others { LeavesOthers seat self.old self.new }
+        ensures untouched { self.new.disk ≡ self.old.disk }
+        ensures follows { Follows seat (facts_of_held self.old.held) (facts_of_held self.new.held) }
+        ensures lasts { (start : CoreState D) → StandsSince D.state start self.old → StandsSince D.state start self.new }
+    {
+        let release = let_go(&mut self.held, &mut self.holds, seat);
+        self.held
+            .book
+            .note(seat, Op::Release, release_reply(&release));
+        release
+    }
+}

@@ -1,0 +1,92 @@
+//! Holds: snapshots of a range, whose pages stay.
+ghost use Rattle.std.specs.Prelude.{◌≡◌, ◌+◌, ◌<◌, ◌≤◌, ℕ, Bool, List, Some, IfOk, OnOk, OnErr};
+ghost use Rattle.blsm_model.specs.Format.{callers};
+ghost use Rattle.blsm_model.specs.Geometry.{capacity};
+ghost use Rattle.record_delta.specs.Entries.{Entries};
+ghost use Rattle.page_file.specs.Component.{entries_of};
+ghost use Rattle.page_space.specs.PageSet.{none_of};
+ghost use Rattle.page_space.specs.Space.{pins_of};
+ghost use Rattle.scan_view.specs.Hold.{held_from};
+ghost use Rattle.scan_view.specs.Holds.{pages_behind};
+ghost use Rattle.scan_view.specs.Pins.{HasHeld};
+ghost use Rattle.tree_file.specs.Tree.{Tree};
+ghost use Rattle.tree_machine.specs.Lists.{rows_in};
+ghost use Rattle.tree_runs.specs.Runs.{AreRuns, AreRunning, page_share};
+ghost use Rattle.tree_runs.specs.Holding.{AreOf, Repins};
+
+use crate::runs::Runs;
+use blsm_model::Key;
+use mem_table::Table;
+use refusal::NoMemory;
+use run_cursor::what_is_ahead;
+use run_writer::where_a_run_writes;
+use scan_view::{Hold, pins_stay};
+use std::alloc::Global;
+
+impl Runs {
+    /// A hold for a caller's seat: the rows of the range from `low` on, without `high`, of table B over table A over the components, as they are
+    /// now. Their pages are pinned for the seat, and none that it pinned before. It calls no device.
+    ///
+    /// Where memory is refused there is no hold, and the seat's pins stay as they were.
+    pub fn hold(
+        &mut self,
+        alloc: Global,
+        seat: u32,
+        low: &Key,
+        high: &Key,
+        a: &Table,
+        b: &Table,
+    ) -> Result<Hold, NoMemory>
+        requires seat { seat < callers }
+        requires runs { AreRuns self.old }
+        requires live { self.old.catalogue.c1.weight + self.old.catalogue.c1x.weight + self.old.catalogue.c2.weight ≤ capacity self.old.sizes }
+        ensures hold { IfOk result (λ hold. hold ≡ held_from low.now high.now b.now.entries a.now.entries self.old.catalogue.c1 self.old.catalogue.c1x self.old.catalogue.c2) }
+        // In a file that holds a tree it has the rows of its lists to give, from pages that the seat pins.
+        ensures rows { (tree : Tree) (table : Entries) (file : List ℕ) → AreOf self.old tree table file
+            → IfOk result (λ hold. HasHeld self.old.sizes self.new.space.pins seat (Some hold)
+            (Some (rows_in (record { b = b.now.entries; a = a.now.entries; c1 = entries_of tree.c1; c1x = entries_of tree.c1x; c2 = entries_of tree.c2 }) low.now high.now)) file) }
+        // It has no more pages than a hold may pin.
+        ensures few { IfOk result (λ hold. pages_behind (Some hold) ≤ page_share self.old.sizes) }
+        ensures pins { OnOk result (Repins seat self.old self.new) }
+        ensures kept { OnErr result (self.new ≡ self.old) }
+        ensures running { (honest : Bool) (file : List ℕ) → AreRunning honest file self.old → AreRunning honest file self.new }
+        ensures lists { (tree : Tree) (table : Entries) (file : List ℕ) → AreOf self.old tree table file → AreOf self.new tree table file }
+    {
+        what_is_ahead();
+        where_a_run_writes();
+        pins_stay();
+        let now = self.catalogue;
+        let hold = Hold::build(
+            alloc,
+            seat,
+            low,
+            high,
+            a,
+            b,
+            &now.c1,
+            &now.c1x,
+            &now.c2,
+            &mut self.space,
+            self.c1,
+            self.c1x,
+            self.c2,
+        );
+        // A map keeps its shape.
+        let _pages = self.space.pages();
+        hold
+    }
+
+    /// Drops the pins of a caller's seat. Its pages that are no component's and no run's, and that no other seat pins, are free then.
+    pub fn unpin(&mut self, seat: u32)
+        requires seat { seat < callers }
+        requires runs { AreRuns self.old }
+        ensures pins { Repins seat self.old self.new }
+        ensures none { pins_of self.new.space seat ≡ none_of self.old.space.pages }
+        ensures running { (honest : Bool) (file : List ℕ) → AreRunning honest file self.old → AreRunning honest file self.new }
+        ensures lists { (tree : Tree) (table : Entries) (file : List ℕ) → AreOf self.old tree table file → AreOf self.new tree table file }
+    {
+        what_is_ahead();
+        where_a_run_writes();
+        self.space.unpin(seat);
+    }
+}
