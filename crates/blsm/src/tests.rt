@@ -1,7 +1,9 @@
 //! The program's call, run over a source, a sink and a shelf of disks in memory.
 
 mod damage;
+mod drawn;
 mod faults;
+mod holds;
 mod order;
 mod rows;
 mod statuses;

@@ -3,7 +3,7 @@ ghost use Rattle.std.specs.Prelude.{◌≡◌};
 
 use crate::samples::number_of;
 use crate::stores::File;
-use blsm_model::{Annals, Component, Geometry, Key, Op, ShortReply, Text, Value};
+use blsm_model::{Annals, CALLERS, Component, Geometry, Key, Op, Row, ShortReply, Text, Value};
 use catalog_swap::{Catalog, newest};
 use gated_log::Replay;
 use page_file::no_component;
@@ -71,20 +71,131 @@ fn check_get(rt: &impl Abort, map: &[Option<Value>], key: &Key, reply: &ShortRep
     }
 }
 
-/// Goes over a history of so many keys, and asserts that each get tells what the map has then.
-pub fn follow(rt: &impl Abort, alloc: Global, keys: usize, annals: &Annals) -> History {
-    let mut map: Map = nothing(rt, alloc, keys);
-    let mut unsure = None;
-    for place in 0..annals.len() as u32 {
-        let op = annals.op(place);
-        match (op, annals.short_reply(place).expect(rt, "no rows")) {
-            (Op::Get(key), reply) => check_get(rt, &map, key, reply, place),
-            (_, ShortReply::Done) => apply(&mut map, op),
-            (_, ShortReply::FaultUnsure) => unsure = Some(op.copy()),
-            _ => {}
+// A caller's hold: the map of its moment, and the numbers of the keys that are still to come.
+#[derive(Drop)]
+struct Snapshot {
+    map: Map,
+    next: usize,
+    end: usize,
+}
+
+// The hold of each caller.
+type Snapshots = Vec<Option<Snapshot>>;
+
+fn copy_of(rt: &impl Abort, alloc: Global, map: &[Option<Value>]) -> Map {
+    let mut copies = Vec::new(alloc);
+    for value in map {
+        let copy = match value {
+            Some(value) => Some(value.copy()),
+            None => None,
+        };
+        copies.push(copy).expect(rt, "memory");
+    }
+    copies
+}
+
+// A caller's hold is this one, or none.
+fn set_hold(held: &mut [Option<Snapshot>], seat: u32, hold: Option<Snapshot>) {
+    if let Some(place) = held.get_mut(seat as usize) {
+        *place = hold;
+    }
+}
+
+// The rows are the next ones of the hold, so many or as many as there are.
+fn check_rows(rt: &impl Abort, hold: &mut Snapshot, rows: &[Row], n: u32, place: u32) {
+    let mut given = 0;
+    for number in hold.next..hold.end {
+        if given < n as usize {
+            if let Some(Some(value)) = hold.map.get(number) {
+                let row = rows.get(given).expect(rt, "a row");
+                assert_eq!(rt; number_of(&row.key), number, "at {place}");
+                assert!(rt; row.value == *value, "at {place}");
+                given = given.saturating_add(1);
+            }
+            hold.next = number.saturating_add(1);
         }
     }
-    History { map, unsure }
+    assert_eq!(rt; given, rows.len(), "at {place}");
+}
+
+// A next tells the next rows of the caller's hold.
+fn check_next(
+    rt: &impl Abort,
+    held: &mut [Option<Snapshot>],
+    seat: u32,
+    rows: &[Row],
+    n: u32,
+    place: u32,
+) {
+    match held.get_mut(seat as usize) {
+        Some(Some(hold)) => check_rows(rt, hold, rows, n, place),
+        _ => rt.abort(),
+    }
+}
+
+// What an entry whose reply has no rows makes of the map and the holds.
+fn follow_short(
+    rt: &impl Abort,
+    alloc: Global,
+    history: &mut History,
+    held: &mut Snapshots,
+    annals: &Annals,
+    reply: &ShortReply,
+    place: u32,
+) {
+    if annals.len() <= place as usize {
+        return;
+    }
+    let seat = annals.seat(place);
+    match (annals.op(place), reply) {
+        (Op::Get(key), reply) => check_get(rt, &history.map, key, reply, place),
+        (Op::Hold(low, high), ShortReply::Held) => {
+            let hold = Snapshot {
+                map: copy_of(rt, alloc, &history.map),
+                next: number_of(low),
+                end: number_of(high),
+            };
+            set_hold(held, seat, Some(hold));
+        }
+        (Op::Release, ShortReply::Done) => set_hold(held, seat, None),
+        (op, ShortReply::Done) => apply(&mut history.map, op),
+        (op, ShortReply::FaultUnsure) => history.unsure = Some(op.copy()),
+        _ => {}
+    }
+}
+
+/// Goes over a history of so many keys, and asserts that each get tells what the map has then, and each next what it had at the hold's moment.
+pub fn follow(rt: &impl Abort, alloc: Global, keys: usize, annals: &Annals) -> History {
+    let mut history = History {
+        map: nothing(rt, alloc, keys),
+        unsure: None,
+    };
+    let mut held: Snapshots = nothing(rt, alloc, CALLERS as usize);
+    for place in 0..annals.len() as u32 {
+        match (annals.op(place), annals.short_reply(place)) {
+            (_, Some(reply)) => follow_short(
+                rt,
+                alloc,
+                &mut history,
+                &mut held,
+                annals,
+                reply,
+                place,
+            ),
+            (Op::Next(n), None) => {
+                check_next(
+                    rt,
+                    &mut held,
+                    annals.seat(place),
+                    annals.rows(place),
+                    *n,
+                    place,
+                );
+            }
+            _ => rt.abort(),
+        }
+    }
+    history
 }
 
 /// A lane of a store that is read.

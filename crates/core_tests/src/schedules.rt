@@ -65,17 +65,24 @@ impl Pair {
     }
 }
 
+fn draw_key(rt: &impl Abort, draws: &mut Draws) -> Key {
+    key_of(rt, draws.below(KEYS) as usize)
+}
+
 // A step of a caller, or of a worker.
 fn draw_kind(rt: &impl Abort, draws: &mut Draws, seat: u32) -> Kind {
     if seat >= CALLERS {
         return Kind::WorkerTurn;
     }
-    match draws.below(20) {
+    match draws.below(24) {
         0..=6 => Kind::Admit(draw_write(rt, draws, KEYS)),
         7..=13 => Kind::Pay,
-        14..=15 => Kind::Get(key_of(rt, draws.below(KEYS) as usize)),
+        14..=15 => Kind::Get(draw_key(rt, draws)),
         16..=17 => Kind::WorkTurn,
-        _ => Kind::WorkEnd(draws.below(4) as u32),
+        18..=19 => Kind::WorkEnd(draws.below(4) as u32),
+        20 => Kind::Hold(draw_key(rt, draws), draw_key(rt, draws)),
+        21..=22 => Kind::Next(draws.below(34) as u32),
+        _ => Kind::Release,
     }
 }
 
@@ -139,7 +146,7 @@ fn check_totals(rt: &impl Abort, totals: &Totals, plain: &PlainTree) {
     assert!(rt; totals.peak <= totals.high);
 }
 
-// What the disk holds in the end is what the plain tree has, and each get told what a plain map of the history had.
+// What the disk holds in the end is what the plain tree has, and each get and each next told what a plain map of the history had.
 fn check_disk(rt: &impl Abort, alloc: Global, mut file: File, annals: &Annals, plain: &PlainTree) {
     check_catalogue(rt, &mut file, plain);
     check_components(rt, alloc, &mut file, plain);
@@ -162,7 +169,7 @@ fn schedule(rt: &impl Abort, alloc: Global, geo: Geometry, seed: u64, steps: u32
     pair
 }
 
-// A schedule leaves the same as the plain tree, and each get tells what a plain map of the history has.
+// A schedule leaves the same as the plain tree, and each get and each next tells what a plain map of the history has, or had at the hold.
 fn check(rt: &impl Abort, alloc: Global, geo: Geometry, seed: u64, steps: u32) {
     let Pair { core, plain } = schedule(rt, alloc, geo, seed, steps);
     let (disk, annals, totals) = core.end();
@@ -180,15 +187,15 @@ fn check_all(rt: &impl Abort, alloc: Global, geo: Geometry, steps: u32) {
 
 #[test]
 fn a_schedule_of_the_default_geometry(rt: HostRuntime) {
-    check_all(&rt, rt.alloc(), Geometry::default(), 1_500);
+    check_all(&rt, rt.alloc(), Geometry::default(), 1_800);
 }
 
 #[test]
 fn a_schedule_of_the_smallest_geometry(rt: HostRuntime) {
-    check_all(&rt, rt.alloc(), smallest(&rt), 2_000);
+    check_all(&rt, rt.alloc(), smallest(&rt), 2_400);
 }
 
 #[test]
 fn a_schedule_of_the_steepest_geometry(rt: HostRuntime) {
-    check_all(&rt, rt.alloc(), steepest(&rt), 1_500);
+    check_all(&rt, rt.alloc(), steepest(&rt), 1_800);
 }

@@ -26,6 +26,9 @@ use tree_runs::{MergeRoom, Runs};
 /// How many entries each caller may note.
 pub const ENTRIES: u32 = 1_000;
 
+/// How many rows each caller's nexts may give.
+pub const ROWS: u32 = 1_000;
+
 /// How many bytes of record a disk has beside those of its making.
 const RECORD: u64 = 16_000_000;
 
@@ -109,11 +112,11 @@ impl File {
 
 /// The room of each seat.
 pub fn room() -> Room
-    ensures { result ≡ record { entries = replicate 16 ENTRIES; rows = replicate 16 0 } }
+    ensures { result ≡ record { entries = replicate 16 ENTRIES; rows = replicate 16 ROWS } }
 {
     Room {
         entries: [ENTRIES; CALLERS as usize],
-        rows: [0; CALLERS as usize],
+        rows: [ROWS; CALLERS as usize],
     }
 }
 

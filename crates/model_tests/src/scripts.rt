@@ -5,7 +5,7 @@ ghost use Rattle.blsm_model.specs.Book.{noted, rows_given};
 use crate::samples::{key, value};
 use blsm_model::{Annals, Entry, Line, Op, Reply, Room, Row, RowList, Totals, Why};
 use refusal::Failed;
-use script_text::{MOST_LINES, ScriptFault, print_history, read_script};
+use script_text::{MOST_LINES, MOST_ROWS_ASKED, ScriptFault, print_history, read_script};
 use std::alloc::Global;
 use std::process::Abort;
 use std::test::Fail;
@@ -13,8 +13,17 @@ use text_io::MemSink;
 
 #[test]
 fn a_script_is_its_lines(rt: HostRuntime) -> Result<(), Fail> {
-    let text =
-        b"1 put a 5 hi\n16 add n 18446744073709551615\n1 del a\n2 put - 0 -\n1 get a\n3 work 1000";
+    let text = b"1 put a 5 hi
+16 add n 18446744073709551615
+1 del a
+2 put - 0 -
+1 get a
+3 work 1000
+3 hold b a
+3 next 32
+1 next 5
+3 next 1
+16 drop";
     let script = read_script(rt.alloc(), text)?;
     let wanted = [
         Line {
@@ -41,14 +50,37 @@ fn a_script_is_its_lines(rt: HostRuntime) -> Result<(), Fail> {
             seat: 2,
             op: Op::Work(1000),
         },
+        Line {
+            seat: 2,
+            op: Op::Hold(key(b"b")?, key(b"a")?),
+        },
+        Line {
+            seat: 2,
+            op: Op::Next(32),
+        },
+        Line {
+            seat: 0,
+            op: Op::Next(5),
+        },
+        Line {
+            seat: 2,
+            op: Op::Next(1),
+        },
+        Line {
+            seat: 15,
+            op: Op::Release,
+        },
     ];
     assert_eq!(rt; script.lines(), wanted.as_slice());
     let room = script.room();
     assert_eq!(rt;
         room.entries,
-        [3, 1, 1, 0, 0, 0, 0, 0, 0, 0, 0, 0, 0, 0, 0, 1]
+        [4, 1, 4, 0, 0, 0, 0, 0, 0, 0, 0, 0, 0, 0, 0, 2]
     );
-    assert_eq!(rt; room.rows, [0; 16]);
+    assert_eq!(rt;
+        room.rows,
+        [5, 0, 33, 0, 0, 0, 0, 0, 0, 0, 0, 0, 0, 0, 0, 0]
+    );
     Ok(())
 }
 
@@ -59,7 +91,7 @@ fn count_lines(rt: &HostRuntime, text: &[u8]) -> Result<usize, ScriptFault> {
 
 #[test]
 fn the_first_bad_line_is_named(rt: HostRuntime) -> Result<(), Fail> {
-    let cases: [(&[u8], Result<usize, ScriptFault>); 47] = [
+    let cases: [(&[u8], Result<usize, ScriptFault>); 44] = [
         (b"", Ok(0)),
         (b"1 get a", Ok(1)),
         (b"1 get a\n", Ok(1)),
@@ -104,12 +136,67 @@ fn the_first_bad_line_is_named(rt: HostRuntime) -> Result<(), Fail> {
         (b"1 work +1", Err(ScriptFault::Bad(1))),
         (b"1 work", Err(ScriptFault::Bad(1))),
         (b"1 work 1 1", Err(ScriptFault::Bad(1))),
-        (b"1 hold a b", Err(ScriptFault::Bad(1))),
-        (b"1 next 1", Err(ScriptFault::Bad(1))),
-        (b"1 drop", Err(ScriptFault::Bad(1))),
     ];
     for (text, wanted) in cases {
         assert_eq!(rt; count_lines(&rt, text), wanted);
+    }
+    Ok(())
+}
+
+#[test]
+fn a_line_of_a_hold_has_its_words(rt: HostRuntime) -> Result<(), Fail> {
+    let cases: [(&[u8], Result<usize, ScriptFault>); 27] = [
+        (b"1 hold a b", Ok(1)),
+        (b"16 hold b a\n", Ok(1)),
+        (b"1 hold - -\n1 hold a a", Ok(2)),
+        (b"1 next 1", Ok(1)),
+        (b"16 next 32\n", Ok(1)),
+        (b"1 drop", Ok(1)),
+        (b"1 drop\n16 drop\n", Ok(2)),
+        (b"1 hold a", Err(ScriptFault::Bad(1))),
+        (b"1 hold a ", Err(ScriptFault::Bad(1))),
+        (b"1 hold  b", Err(ScriptFault::Bad(1))),
+        (b"1 hold a b ", Err(ScriptFault::Bad(1))),
+        (b"1 hold a b c", Err(ScriptFault::Bad(1))),
+        (b"1 hold", Err(ScriptFault::Bad(1))),
+        (b"1 next 0", Err(ScriptFault::Bad(1))),
+        (b"1 next 33", Err(ScriptFault::Bad(1))),
+        (b"1 next 01", Err(ScriptFault::Bad(1))),
+        (b"1 next +1", Err(ScriptFault::Bad(1))),
+        (b"1 next 1 1", Err(ScriptFault::Bad(1))),
+        (b"1 next a", Err(ScriptFault::Bad(1))),
+        (b"1 next", Err(ScriptFault::Bad(1))),
+        (b"1 drop a", Err(ScriptFault::Bad(1))),
+        (b"1 drop ", Err(ScriptFault::Bad(1))),
+        (b"1  drop", Err(ScriptFault::Bad(1))),
+        (b"1 drops", Err(ScriptFault::Bad(1))),
+        (b"1 release", Err(ScriptFault::Bad(1))),
+        (b"drop", Err(ScriptFault::Bad(1))),
+        (b"1 drop\n1 drop a\n1 next 0", Err(ScriptFault::Bad(2))),
+    ];
+    for (text, wanted) in cases {
+        assert_eq!(rt; count_lines(&rt, text), wanted);
+    }
+    Ok(())
+}
+
+// Lines that ask for as many rows as a script may, and behind them the lines of each case.
+#[test]
+fn a_script_asks_for_so_many_rows(rt: HostRuntime) -> Result<(), Fail> {
+    let cases: [(&[u8], Result<usize, ScriptFault>); 5] = [
+        (b"", Ok(4096)),
+        (b"2 hold a b\n2 drop", Ok(4098)),
+        (b"1 next 1", Err(ScriptFault::Bad(4097))),
+        (b"2 next 1\n", Err(ScriptFault::Bad(4097))),
+        (b"1 get a\n1 next 32\n1 frob", Err(ScriptFault::Bad(4098))),
+    ];
+    for (more, wanted) in cases {
+        let mut text = Vec::new(rt.alloc());
+        for _ in 0..MOST_ROWS_ASKED / 32 {
+            text.extend_from_slice(b"1 next 32\n")?;
+        }
+        text.extend_from_slice(more)?;
+        assert_eq!(rt; count_lines(&rt, &text), wanted);
     }
     Ok(())
 }

@@ -2,6 +2,7 @@
 use Rattle.std.proofs.Common.{◌≡◌, ℕ, zero, suc, ◌+◌, ◌/◌, ◌%◌, ◌^◌, ◌<◌, ◌≤◌, Bool, true, false, cond, T, eqb, nat_lt, List, [], ◌∷◌, ◌++◌, length, map, filter, refl, ap, sym, subst, ◌∙◌, add-one, append_assoc, append-nil, arith}
 use Rattle.std.specs.List.{All}
 use Rattle.std.proofs.lemmas.List.Elements.{All-cons, All-filter, All-from_recursion, All-head, All-map, All-replicate, All-tail}
+use Rattle.std.proofs.lemmas.List.Sums.{sum_by-cons}
 use Rattle.std.proofs.Math.Dec.{eqb_refl}
 use Rattle.std.proofs.Math.ListN.{length-replicate}
 use Rattle.blsm_model.specs.declared.op.Op.{Op}
@@ -9,7 +10,7 @@ use Rattle.blsm_model.specs.declared.op.Op.TheVariants.{Put, Add, Del, Get}
 use Rattle.blsm_model.specs.declared.history.Entry.{Entry}
 use Rattle.blsm_model.specs.declared.history.Line.{Line}
 use Rattle.blsm_model.specs.Scripts.{IsOfScript, lines_of, ops_of}
-use Rattle.script_text.specs.Grammar.{IsAllowed, IsCommand, IsKey, IsText, IsVisible}
+use Rattle.script_text.specs.Grammar.{IsAllowed, IsCommand, IsKey, IsText, IsVisible, all_rows_asked, rows_of}
 use Rattle.script_text.specs.Script.{AreLines}
 use Rattle.script_text.specs.Generated.{HasMadeKeys, IsMade, after_command, drawn, generated, key_at, key_count, next_state, op_from, op_of, text_at}
 
@@ -104,9 +105,26 @@ all_allowed x zero = All-from_recursion IsAllowed [] tt
 all_allowed x (suc n) =
     All-cons IsAllowed (record { seat = 0; op = op_from x }) (generated (after_command x) n) (record { seat = omega arith; command = from_allowed x }) (all_allowed (after_command x) n)
 
+op_asks_none : (kind place count size : ℕ) → rows_of (op_of kind place count size) ≡ 0
+op_asks_none kind place count size = op_cases (λ op. rows_of op ≡ 0) kind place count size refl refl refl refl
+
+from_asks_none : (x : ℕ) → rows_of (op_from x) ≡ 0
+from_asks_none x =
+    let first = next_state x in
+    let second = next_state first in
+    let third = next_state second in
+    let fourth = next_state third in
+    op_asks_none (drawn first % 100) (drawn second % 1500) (drawn third % 1000) (160 + drawn fourth % 40)
+
+none_asked : (x n : ℕ) → all_rows_asked (generated x n) ≡ 0
+unfolding generated
+none_asked x zero = refl
+none_asked x (suc n) =
+    omega (arith, sum_by-cons (λ (l : Line). rows_of l.op) (record { seat = 0; op = op_from x }) (generated (after_command x) n), from_asks_none x, none_asked (after_command x) n)
+
 -- what is made is a script
 pub made_lines : (x n : ℕ) → n ≤ 65536 → AreLines (generated x n)
-made_lines x n few = record { allowed = all_allowed x n; few = omega (arith, length-generated x n) }
+made_lines x n few = record { allowed = all_allowed x n; few = omega (arith, length-generated x n); asked = omega (arith, none_asked x n) }
 
 -- its keys are the generator's
 pub made_keys : (x n : ℕ) → All (λ (l : Line). HasMadeKeys l.op) (generated x n)

@@ -3,7 +3,7 @@ use Rattle.std.proofs.Common.{◌≡◌, ◌≢◌, ℕ, ◌+◌, ◌^◌, ◌<�
 use Rattle.std.specs.List.{All, prefix_len, position_or_len}
 use Rattle.std.proofs.lemmas.List.Elements.{All-head, All-tail, All-cons, All-append, All-drop, All-from_recursion}
 use Rattle.std.proofs.lemmas.List.Concat.{flat_map-cons}
-use Rattle.std.proofs.lemmas.List.Sums.{prefix_len-le-length}
+use Rattle.std.proofs.lemmas.List.Sums.{prefix_len-le-length, sum_by-append, sum_by-cons}
 use Rattle.std.proofs.lemmas.List.{take-append-le}
 use Rattle.std.proofs.lemmas.Fmt.{decimal_injective, decimal_nonempty}
 use Rattle.std.proofs.Math.Seq.{drop-append_seam}
@@ -12,7 +12,7 @@ use Rattle.blsm_model.specs.declared.op.Op.{Op}
 use Rattle.blsm_model.specs.declared.op.Op.TheVariants.{Put, Add, Del, Get, Hold, Next, Release, Work}
 use Rattle.blsm_model.specs.declared.history.Line.{Line}
 use Rattle.blsm_model.specs.Printed.{and_number, and_value, and_word, command_text, spelled}
-use Rattle.script_text.specs.Grammar.{IsAllowed, IsBadLine, IsCommand, IsKey, IsLine, IsOnlyBadLine, IsOnlyReading, IsScript, IsText, first_line, line_text, lines_text}
+use Rattle.script_text.specs.Grammar.{IsAllowed, IsBadLine, IsCommand, IsKey, IsLine, IsOnlyBadLine, IsOnlyReading, IsScript, IsText, all_rows_asked, first_line, line_text, lines_text, rows_of}
 use Rattle.script_text.specs.declared.script.ScriptFault.{ScriptFault}
 use Rattle.script_text.specs.declared.script.ScriptFault.TheVariants.{Bad, NoMemory}
 use Rattle.script_text.specs.Script.{IfBad}
@@ -40,66 +40,54 @@ one_put key value (Put k v) (is_key, small, is_text) (is_k, small_v, is_text_v) 
     let same_key : key ≡ k = both.0 in
     let same_value : value ≡ v = one_value value v small small_v is_text is_text_v both.1 in
     λ i. Put (same_key i) (same_value i)
-one_put key value (Add k n) x y is = absurd (omega (arith, heads is))
-one_put key value (Del k) x y is = absurd (omega (arith, heads is))
-one_put key value (Get k) x y is = absurd (omega (arith, heads is))
-one_put key value (Hold low high) x y is = absurd y
-one_put key value (Next n) x y is = absurd y
-one_put key value Release x y is = absurd y
-one_put key value (Work n) x y is = absurd (omega (arith, heads is))
+one_put key value _ x y is = absurd (omega (arith, heads is))
 
 one_add : (key : List ℕ) (count : ℕ) (y : Op) → IsCommand (Add key count) → IsCommand y → command_text (Add key count) ≡ command_text y → Add key count ≡ y
-one_add key count (Put k v) x y is = absurd (omega (arith, heads is))
 one_add key count (Add k n) (is_key, small) (is_k, small_n) is =
     let both = one_cut 32 key k (decimal count) (decimal n) (visible_lacks 32 key (omega arith) is_key.visible) (visible_lacks 32 k (omega arith) is_k.visible) (ap (λ (l : List ℕ). drop 4 l) is) in
     let same_key : key ≡ k = both.0 in
     let same_count : count ≡ n = decimal_injective count n small small_n both.1 in
     λ i. Add (same_key i) (same_count i)
-one_add key count (Del k) x y is = absurd (omega (arith, heads is))
-one_add key count (Get k) x y is = absurd (omega (arith, heads is))
-one_add key count (Hold low high) x y is = absurd y
-one_add key count (Next n) x y is = absurd y
-one_add key count Release x y is = absurd y
-one_add key count (Work n) x y is = absurd (omega (arith, heads is))
+one_add key count _ x y is = absurd (omega (arith, heads is))
 
-one_del : (key : List ℕ) (y : Op) → IsCommand y → command_text (Del key) ≡ command_text y → Del key ≡ y
-one_del key (Put k v) y is = absurd (omega (arith, heads is))
-one_del key (Add k n) y is = absurd (omega (arith, heads is))
-one_del key (Del k) y is = ap (λ (l : List ℕ). Del l) (ap (λ (l : List ℕ). drop 4 l) is)
-one_del key (Get k) y is = absurd (omega (arith, heads is))
-one_del key (Hold low high) y is = absurd y
-one_del key (Next n) y is = absurd y
-one_del key Release y is = absurd y
-one_del key (Work n) y is = absurd (omega (arith, heads is))
+one_del : (key : List ℕ) (y : Op) → command_text (Del key) ≡ command_text y → Del key ≡ y
+one_del key (Del k) is = ap (λ (l : List ℕ). Del l) (ap (λ (l : List ℕ). drop 4 l) is)
+one_del key Release is = absurd (omega (arith, heads (ap (λ (l : List ℕ). drop 1 l) is)))
+one_del key _ is = absurd (omega (arith, heads is))
 
-one_get : (key : List ℕ) (y : Op) → IsCommand y → command_text (Get key) ≡ command_text y → Get key ≡ y
-one_get key (Put k v) y is = absurd (omega (arith, heads is))
-one_get key (Add k n) y is = absurd (omega (arith, heads is))
-one_get key (Del k) y is = absurd (omega (arith, heads is))
-one_get key (Get k) y is = ap (λ (l : List ℕ). Get l) (ap (λ (l : List ℕ). drop 4 l) is)
-one_get key (Hold low high) y is = absurd y
-one_get key (Next n) y is = absurd y
-one_get key Release y is = absurd y
-one_get key (Work n) y is = absurd (omega (arith, heads is))
+one_get : (key : List ℕ) (y : Op) → command_text (Get key) ≡ command_text y → Get key ≡ y
+one_get key (Get k) is = ap (λ (l : List ℕ). Get l) (ap (λ (l : List ℕ). drop 4 l) is)
+one_get key _ is = absurd (omega (arith, heads is))
+
+one_hold : (low high : List ℕ) (y : Op) → IsCommand (Hold low high) → IsCommand y → command_text (Hold low high) ≡ command_text y → Hold low high ≡ y
+one_hold low high (Hold k l) (is_low, is_high) (is_k, is_l) is =
+    let both = one_cut 32 low k high l (visible_lacks 32 low (omega arith) is_low.visible) (visible_lacks 32 k (omega arith) is_k.visible) (ap (λ (l : List ℕ). drop 5 l) is) in
+    let same_low : low ≡ k = both.0 in
+    let same_high : high ≡ l = both.1 in
+    λ i. Hold (same_low i) (same_high i)
+one_hold low high _ x y is = absurd (omega (arith, heads is))
+
+one_next : (n : ℕ) (y : Op) → IsCommand (Next n) → IsCommand y → command_text (Next n) ≡ command_text y → Next n ≡ y
+one_next n (Next m) x y is = ap Next (decimal_injective n m (omega (arith, x.1)) (omega (arith, y.1)) (ap (λ (l : List ℕ). drop 5 l) is))
+one_next n _ x y is = absurd (omega (arith, heads is))
+
+one_release : (y : Op) → command_text Release ≡ command_text y → Release ≡ y
+one_release Release is = refl
+one_release (Del k) is = absurd (omega (arith, heads (ap (λ (l : List ℕ). drop 1 l) is)))
+one_release _ is = absurd (omega (arith, heads is))
 
 one_work : (n : ℕ) (y : Op) → IsCommand (Work n) → IsCommand y → command_text (Work n) ≡ command_text y → Work n ≡ y
-one_work n (Put k v) x y is = absurd (omega (arith, heads is))
-one_work n (Add k m) x y is = absurd (omega (arith, heads is))
-one_work n (Del k) x y is = absurd (omega (arith, heads is))
-one_work n (Get k) x y is = absurd (omega (arith, heads is))
-one_work n (Hold low high) x y is = absurd y
-one_work n (Next m) x y is = absurd y
-one_work n Release x y is = absurd y
 one_work n (Work m) x y is = ap Work (decimal_injective n m (omega (arith, x.1)) (omega (arith, y.1)) (ap (λ (l : List ℕ). drop 5 l) is))
+one_work n _ x y is = absurd (omega (arith, heads is))
 
 one_command : (x y : Op) → IsCommand x → IsCommand y → command_text x ≡ command_text y → x ≡ y
 one_command (Put key value) y allowed_x allowed_y is = one_put key value y allowed_x allowed_y is
 one_command (Add key count) y allowed_x allowed_y is = one_add key count y allowed_x allowed_y is
-one_command (Del key) y allowed_x allowed_y is = one_del key y allowed_y is
-one_command (Get key) y allowed_x allowed_y is = one_get key y allowed_y is
-one_command (Hold low high) y allowed_x allowed_y is = absurd allowed_x
-one_command (Next n) y allowed_x allowed_y is = absurd allowed_x
-one_command Release y allowed_x allowed_y is = absurd allowed_x
+one_command (Del key) y allowed_x allowed_y is = one_del key y is
+one_command (Get key) y allowed_x allowed_y is = one_get key y is
+one_command (Hold low high) y allowed_x allowed_y is = one_hold low high y allowed_x allowed_y is
+one_command (Next n) y allowed_x allowed_y is = one_next n y allowed_x allowed_y is
+one_command Release y allowed_x allowed_y is = one_release y is
 one_command (Work n) y allowed_x allowed_y is = one_work n y allowed_x allowed_y is
 
 seat_small : (line : Line) → IsAllowed line → line.seat + 1 < 2 ^ 64
@@ -128,6 +116,9 @@ text_lacks (b ∷ bytes) is_text = All-cons (λ byte. byte ≢ 10) 32 (b ∷ byt
 three_lack : (a b c : ℕ) → a ≢ 10 → b ≢ 10 → c ≢ 10 → Lacks 10 (a ∷ b ∷ c ∷ [])
 three_lack a b c no_a no_b no_c = All-from_recursion (λ byte. byte ≢ 10) (a ∷ b ∷ c ∷ []) (no_a, (no_b, (no_c, tt)))
 
+four_lack : (a b c d : ℕ) → a ≢ 10 → b ≢ 10 → c ≢ 10 → d ≢ 10 → Lacks 10 (a ∷ b ∷ c ∷ d ∷ [])
+four_lack a b c d no_a no_b no_c no_d = All-from_recursion (λ byte. byte ≢ 10) (a ∷ b ∷ c ∷ d ∷ []) (no_a, (no_b, (no_c, (no_d, tt))))
+
 command_lacks : (op : Op) → IsCommand op → Lacks 10 (command_text op)
 command_lacks (Put key value) (is_key, small, is_text) =
     All-append (λ byte. byte ≢ 10) (codes "put" ++ and_word key) (and_value value)
@@ -141,13 +132,15 @@ command_lacks (Del key) is_key =
     All-append (λ byte. byte ≢ 10) (codes "del") (and_word key) (three_lack 100 101 108 (λ same. absurd (omega arith)) (λ same. absurd (omega arith)) (λ same. absurd (omega arith))) (key_lacks key is_key)
 command_lacks (Get key) is_key =
     All-append (λ byte. byte ≢ 10) (codes "get") (and_word key) (three_lack 103 101 116 (λ same. absurd (omega arith)) (λ same. absurd (omega arith)) (λ same. absurd (omega arith))) (key_lacks key is_key)
-command_lacks (Hold low high) allowed = absurd allowed
-command_lacks (Next n) allowed = absurd allowed
-command_lacks Release allowed = absurd allowed
+command_lacks (Hold low high) (is_low, is_high) =
+    All-append (λ byte. byte ≢ 10) (codes "hold" ++ and_word low) (and_word high)
+    (All-append (λ byte. byte ≢ 10) (codes "hold") (and_word low) (four_lack 104 111 108 100 (λ same. absurd (omega arith)) (λ same. absurd (omega arith)) (λ same. absurd (omega arith)) (λ same. absurd (omega arith))) (key_lacks low is_low))
+    (key_lacks high is_high)
+command_lacks (Next n) allowed =
+    All-append (λ byte. byte ≢ 10) (codes "next") (and_number n) (four_lack 110 101 120 116 (λ same. absurd (omega arith)) (λ same. absurd (omega arith)) (λ same. absurd (omega arith)) (λ same. absurd (omega arith))) (number_lacks n (omega (arith, allowed.1)))
+command_lacks Release allowed = four_lack 100 114 111 112 (λ same. absurd (omega arith)) (λ same. absurd (omega arith)) (λ same. absurd (omega arith)) (λ same. absurd (omega arith))
 command_lacks (Work n) allowed =
-    All-append (λ byte. byte ≢ 10) (codes "work") (and_number n)
-    (All-from_recursion (λ byte. byte ≢ 10) (codes "work") (λ same. absurd (omega arith), (λ same. absurd (omega arith), (λ same. absurd (omega arith), (λ same. absurd (omega arith), tt)))))
-    (number_lacks n (omega (arith, allowed.1)))
+    All-append (λ byte. byte ≢ 10) (codes "work") (and_number n) (four_lack 119 111 114 107 (λ same. absurd (omega arith)) (λ same. absurd (omega arith)) (λ same. absurd (omega arith)) (λ same. absurd (omega arith))) (number_lacks n (omega (arith, allowed.1)))
 
 line_lacks : (line : Line) → IsAllowed line → Lacks 10 (line_text line)
 line_lacks line allowed =
@@ -231,19 +224,30 @@ first_line_end : (bytes : List ℕ) → first_line (bytes ++ 10 ∷ []) ≡ firs
 first_line_end bytes =
     ap (λ n. take n (bytes ++ 10 ∷ [])) (prefix_end bytes) ∙ take-append-le (position_or_len (λ byte. eqb byte 10) bytes) bytes (10 ∷ []) (prefix_len-le-length (λ byte. not (eqb byte 10)) bytes)
 
--- a bad line is no line of a script that has few enough
-refused : (bytes : List ℕ) (n : ℕ) (bad : IsBadLine bytes n) (z : Line) (more : ℕ) → IsAllowed z → first_line bad.rest ≡ line_text z → length bad.before + more + 1 ≤ 65536 → ⊥
-refused bytes n bad z more allowed first few = elim bad.bad [ inl none ↦ none z (record { allowed = allowed; spelled = first }) | inr full ↦ omega arith ]
+all_rows-seam : (xs : List Line) (z : Line) (zs : List Line) → all_rows_asked (xs ++ z ∷ zs) ≡ all_rows_asked xs + (rows_of z.op + all_rows_asked zs)
+all_rows-seam xs z zs = sum_by-append (λ (l : Line). rows_of l.op) xs (z ∷ zs) ∙ ap (λ n. all_rows_asked xs + n) (sum_by-cons (λ (l : Line). rows_of l.op) z zs)
+
+-- a bad line is no line of lines that are few enough and ask for few enough rows
+refused : (bytes : List ℕ) (n : ℕ) (bad : IsBadLine bytes n) (z : Line) (zs ws : List Line) → IsAllowed z → first_line bad.rest ≡ line_text z → ws ≡ bad.before ++ z ∷ zs → length ws ≤ 65536 → all_rows_asked ws ≤ 131072 → ⊥
+refused bytes n bad z zs ws allowed first whole few asked =
+    elim bad.bad [
+      | inl none ↦ none z (record { allowed = allowed; spelled = first })
+      | inr (inl full) ↦ omega (arith, ap length whole, length-append bad.before (z ∷ zs))
+      | inr (inr much) ↦
+          let same : much.line ≡ z = one_line (first_line bad.rest) much.line z much.is (record { allowed = allowed; spelled = first }) in
+          omega (arith, much.past, ap (λ (l : Line). rows_of l.op) same, ap all_rows_asked whole, all_rows-seam bad.before z zs)
+    ]
 
 opened_first : (z : Line) (zs : List Line) (s : List ℕ) → IsAllowed z → first_line (lines_text (z ∷ zs) ++ s) ≡ line_text z
 opened_first z zs s allowed = ap first_line (opened z zs s) ∙ first_line_is (line_text z ++ 10 ∷ (lines_text zs ++ s)) (line_text z) (Some (lines_text zs ++ s)) (line_lacks z allowed) refl
 
 -- the rest of a bad line is no lines
-no_lines : (bytes : List ℕ) (n : ℕ) (bad : IsBadLine bytes n) (zs : List Line) (r s : List ℕ) → All IsAllowed zs → 0 < length r → first_line r ≡ first_line bad.rest → r ≡ lines_text zs ++ s → length bad.before + length zs ≤ 65536 → (zs ≡ [])
-no_lines bytes n bad [] r s allowed some first is few = refl
-no_lines bytes n bad (z ∷ zs) r s allowed some first is few =
+no_lines : (bytes : List ℕ) (n : ℕ) (bad : IsBadLine bytes n) (zs ws : List Line) (r s : List ℕ) → All IsAllowed zs → first_line r ≡ first_line bad.rest → r ≡ lines_text zs ++ s → ws ≡ bad.before ++ zs → length ws ≤ 65536 → all_rows_asked ws ≤ 131072
+    → (zs ≡ [])
+no_lines bytes n bad [] ws r s allowed first is whole few asked = refl
+no_lines bytes n bad (z ∷ zs) ws r s allowed first is whole few asked =
     let ok = All-head IsAllowed z zs allowed in
-    absurd (refused bytes n bad z (length zs) ok (sym first ∙ ap first_line is ∙ opened_first z zs s ok) (omega arith))
+    absurd (refused bytes n bad z zs ws ok (sym first ∙ ap first_line is ∙ opened_first z zs s ok) whole few asked)
 
 -- a script has no bad line
 pub script_not_bad : (bytes : List ℕ) (x : List Line) (n : ℕ) → IsScript bytes x → IsBadLine bytes n → ⊥
@@ -252,14 +256,14 @@ script_not_bad bytes x n is_x bad =
       | inl a ↦ elim (compared x bad.before [] bad.rest is_x.allowed bad.allowed (append-nil (lines_text x) ∙ sym a ∙ bad.split)) [
         | ahead zs more left ↦ omega (arith, bad.there, ap length (nothing_left zs bad.rest left).1)
         | behind zs more left ↦
-            let none = no_lines bytes n bad zs bad.rest [] (allowed_rest bad.before x zs more is_x.allowed) bad.there refl left (omega (arith, is_x.few, ap length more, length-append bad.before zs)) in
+            let none = no_lines bytes n bad zs x bad.rest [] (allowed_rest bad.before x zs more is_x.allowed) refl left more is_x.few is_x.asked in
             omega (arith, bad.there, ap length (left ∙ ap (λ (l : List Line). lines_text l ++ []) none))
       ]
       | inr a ↦ elim (compared x bad.before [] (bad.rest ++ 10 ∷ []) is_x.allowed bad.allowed
           (append-nil (lines_text x) ∙ sym a ∙ ap (λ (l : List ℕ). l ++ 10 ∷ []) bad.split ∙ append_assoc (lines_text bad.before) bad.rest (10 ∷ []))) [
             | ahead zs more left ↦ omega (arith, length-append bad.rest (10 ∷ []), ap length (nothing_left zs (bad.rest ++ 10 ∷ []) left).1)
             | behind zs more left ↦
-                let none = no_lines bytes n bad zs (bad.rest ++ 10 ∷ []) [] (allowed_rest bad.before x zs more is_x.allowed) (omega (arith, length-append bad.rest (10 ∷ []))) (first_line_end bad.rest) left (omega (arith, is_x.few, ap length more, length-append bad.before zs)) in
+                let none = no_lines bytes n bad zs x (bad.rest ++ 10 ∷ []) [] (allowed_rest bad.before x zs more is_x.allowed) (first_line_end bad.rest) left more is_x.few is_x.asked in
                 omega (arith, length-append bad.rest (10 ∷ []), ap length (left ∙ ap (λ (l : List Line). lines_text l ++ []) none))
           ]
     ]
@@ -269,10 +273,10 @@ pub one_bad : (bytes : List ℕ) (m n : ℕ) → IsBadLine bytes m → IsBadLine
 one_bad bytes m n bad_m bad_n =
     elim (compared bad_m.before bad_n.before bad_m.rest bad_n.rest bad_m.allowed bad_n.allowed (sym bad_m.split ∙ bad_n.split)) [
       | ahead zs more left ↦
-          let none = no_lines bytes m bad_m zs bad_m.rest bad_n.rest (allowed_rest bad_m.before bad_n.before zs more bad_n.allowed) bad_m.there refl left (omega (arith, bad_n.few, ap length more, length-append bad_m.before zs)) in
+          let none = no_lines bytes m bad_m zs bad_n.before bad_m.rest bad_n.rest (allowed_rest bad_m.before bad_n.before zs more bad_n.allowed) refl left more bad_n.few bad_n.asked in
           omega (arith, bad_m.place, bad_n.place, ap length more, length-append bad_m.before zs, ap length none)
       | behind zs more left ↦
-          let none = no_lines bytes n bad_n zs bad_n.rest bad_m.rest (allowed_rest bad_n.before bad_m.before zs more bad_m.allowed) bad_n.there refl left (omega (arith, bad_m.few, ap length more, length-append bad_n.before zs)) in
+          let none = no_lines bytes n bad_n zs bad_m.before bad_n.rest bad_m.rest (allowed_rest bad_n.before bad_m.before zs more bad_m.allowed) refl left more bad_m.few bad_m.asked in
           omega (arith, bad_m.place, bad_n.place, ap length more, length-append bad_n.before zs, ap length none)
     ]
 

@@ -1,5 +1,5 @@
 -- A text is cut in one way, and its parts are spelled in one way.
-use Rattle.std.proofs.Common.{◌≡◌, ◌≢◌, ℕ, ◌+◌, ◌^◌, ◌<◌, zero, suc, List, [], ◌∷◌, ◌++◌, length, drop, get_or, Option, Some, None, Result, Ok, Err, decimal, sym, ◌∙◌, ap, subst, refl, arith}
+use Rattle.std.proofs.Common.{◌≡◌, ◌≢◌, ℕ, ◌+◌, ◌^◌, ◌<◌, zero, suc, List, [], ◌∷◌, ◌++◌, length, drop, get_or, Option, Some, None, Result, Ok, Err, codes, decimal, sym, ◌∙◌, ap, subst, refl, arith}
 use Rattle.std.specs.List.{All}
 use Rattle.std.specs.Option.{option_copied}
 use Rattle.std.specs.Result.{result_ok}
@@ -14,11 +14,11 @@ use Rattle.std.specs.Borrow.{Bor}
 use Rattle.blsm_model.specs.declared.row.Value.{Value}
 use Rattle.blsm_model.specs.declared.op.Op.{Op}
 use Rattle.blsm_model.specs.declared.op.Op.TheVariants.{Put, Add, Del, Get, Hold, Next, Release, Work}
-use Rattle.blsm_model.specs.Printed.{command_text, and_value, and_number}
+use Rattle.blsm_model.specs.Printed.{command_text, and_value, and_number, and_word}
 use Rattle.script_text.specs.declared.read_line.Verb.{Verb}
 use Rattle.script_text.specs.declared.read_line.Verb.TheVariants as verb
 use Rattle.script_text.specs.Grammar.{IsVisible, IsCommand}
-use Rattle.script_text.specs.Reading.{Reads, Lacks, IsJoined, BeginsAsNumber, SpellsNumber, SpellsSeat, SpellsKeyAndValue, SpellsKeyAndNumber, SpellsArguments, SpellsTurns, verb_text}
+use Rattle.script_text.specs.Reading.{Reads, Lacks, IsJoined, BeginsAsNumber, SpellsNumber, SpellsSeat, SpellsKeyAndValue, SpellsKeyAndNumber, SpellsArguments, SpellsBare, SpellsCommand, SpellsCount, SpellsTwoKeys, verb_text}
 
 -- an answer of none
 pub reads_nothing : {X : Type 0} (Spells : List ℕ → X → Type 0) (bytes : List ℕ) (result : Option X) → result ≡ None → ((x : X) → Spells bytes x → ⊥) → Reads Spells bytes result
@@ -98,9 +98,9 @@ number_is_text n bytes (spelled, small) = subst (λ (b : List ℕ). IsUtf8 b) (s
 pub seat_is : (n seat : ℕ) (bytes : List ℕ) → SpellsNumber bytes n → SpellsSeat bytes seat → n ≡ seat + 1
 seat_is n seat bytes (spelled, small) (of_seat, within) = decimal_injective n (seat + 1) small (omega arith) (sym spelled ∙ of_seat)
 
--- no number but this one is read as turns
-pub turns_are : (m n : ℕ) (bytes : List ℕ) → SpellsNumber bytes m → SpellsTurns bytes n → m ≡ n
-turns_are m n bytes (spelled, small) (of_turns, some, few) = decimal_injective m n small (omega arith) (sym spelled ∙ of_turns)
+-- no number but this one is read as a count
+pub count_is : (most m n : ℕ) (bytes : List ℕ) → most < 2 ^ 64 → SpellsNumber bytes m → SpellsCount most bytes n → m ≡ n
+count_is most m n bytes little (spelled, small) (of_count, some, few) = decimal_injective m n small (omega arith) (sym spelled ∙ of_count)
 
 pub heads : {x y : ℕ} {xs ys : List ℕ} → x ∷ xs ≡ y ∷ ys → x ≡ y
 heads same = cc
@@ -108,46 +108,42 @@ heads same = cc
 -- what isn't a key and a value is no put's arguments
 pub no_put : (bytes : List ℕ) → ((x : List ℕ × Value) → SpellsKeyAndValue bytes x → ⊥) → (op : Op) → SpellsArguments verb.Put bytes op → ⊥
 no_put bytes none (Put key value) (is, (is_key, small, is_text)) = none (key, value) (sym (ap (λ (l : List ℕ). drop 4 l) is), is_key, small, is_text)
-no_put bytes none (Add key count) (is, allowed) = absurd (omega (arith, heads is))
-no_put bytes none (Del key) (is, allowed) = absurd (omega (arith, heads is))
-no_put bytes none (Get key) (is, allowed) = absurd (omega (arith, heads is))
-no_put bytes none (Hold low high) (is, allowed) = allowed
-no_put bytes none (Next n) (is, allowed) = allowed
-no_put bytes none Release (is, allowed) = allowed
-no_put bytes none (Work n) (is, allowed) = absurd (omega (arith, heads is))
+no_put bytes none _ (is, allowed) = absurd (omega (arith, heads is))
 
 -- what isn't a key and a number is no add's arguments
 pub no_add : (bytes : List ℕ) → ((x : List ℕ × ℕ) → SpellsKeyAndNumber bytes x → ⊥) → (op : Op) → SpellsArguments verb.Add bytes op → ⊥
-no_add bytes none (Put key value) (is, allowed) = absurd (omega (arith, heads is))
 no_add bytes none (Add key count) (is, (is_key, small)) = none (key, count) (sym (ap (λ (l : List ℕ). drop 4 l) is), is_key, small)
-no_add bytes none (Del key) (is, allowed) = absurd (omega (arith, heads is))
-no_add bytes none (Get key) (is, allowed) = absurd (omega (arith, heads is))
-no_add bytes none (Hold low high) (is, allowed) = allowed
-no_add bytes none (Next n) (is, allowed) = allowed
-no_add bytes none Release (is, allowed) = allowed
-no_add bytes none (Work n) (is, allowed) = absurd (omega (arith, heads is))
+no_add bytes none _ (is, allowed) = absurd (omega (arith, heads is))
+
+-- what isn't two keys is no hold's arguments
+pub no_hold : (bytes : List ℕ) → ((x : List ℕ × List ℕ) → SpellsTwoKeys bytes x → ⊥) → (op : Op) → SpellsArguments verb.Hold bytes op → ⊥
+no_hold bytes none (Hold low high) (is, (is_low, is_high)) = none (low, high) (sym (ap (λ (l : List ℕ). drop 5 l) is), is_low, is_high)
+no_hold bytes none _ (is, allowed) = absurd (omega (arith, heads is))
+
+-- what isn't a number of rows is no next's argument
+pub no_next : (bytes : List ℕ) → ((n : ℕ) → SpellsCount 32 bytes n → ⊥) → (op : Op) → SpellsArguments verb.Next bytes op → ⊥
+no_next bytes none (Next n) (is, (some, few)) = none n (sym (ap (λ (l : List ℕ). drop 5 l) is), some, few)
+no_next bytes none _ (is, allowed) = absurd (omega (arith, heads is))
 
 -- what isn't a number of turns is no work's argument
-pub no_work : (bytes : List ℕ) → ((n : ℕ) → SpellsTurns bytes n → ⊥) → (op : Op) → SpellsArguments verb.Work bytes op → ⊥
-no_work bytes none (Put key value) (is, allowed) = absurd (omega (arith, heads is))
-no_work bytes none (Add key count) (is, allowed) = absurd (omega (arith, heads is))
-no_work bytes none (Del key) (is, allowed) = absurd (omega (arith, heads is))
-no_work bytes none (Get key) (is, allowed) = absurd (omega (arith, heads is))
-no_work bytes none (Hold low high) (is, allowed) = allowed
-no_work bytes none (Next n) (is, allowed) = allowed
-no_work bytes none Release (is, allowed) = allowed
+pub no_work : (bytes : List ℕ) → ((n : ℕ) → SpellsCount 100000 bytes n → ⊥) → (op : Op) → SpellsArguments verb.Work bytes op → ⊥
 no_work bytes none (Work n) (is, (some, few)) = none n (sym (ap (λ (l : List ℕ). drop 5 l) is), some, few)
+no_work bytes none _ (is, allowed) = absurd (omega (arith, heads is))
 
--- a command is a first word and something behind a space
-pub verb_of : (op : Op) → IsCommand op → (v : Verb) × (rest : List ℕ) × (command_text op ≡ verb_text v ++ 32 ∷ rest)
-verb_of (Put key value) allowed = (verb.Put, key ++ and_value value, refl)
-verb_of (Add key count) allowed = (verb.Add, key ++ and_number count, refl)
-verb_of (Del key) allowed = (verb.Del, key, refl)
-verb_of (Get key) allowed = (verb.Get, key, refl)
-verb_of (Hold low high) allowed = absurd allowed
-verb_of (Next n) allowed = absurd allowed
-verb_of Release allowed = absurd allowed
-verb_of (Work n) allowed = (verb.Work, decimal n, refl)
+-- a command has a first word and something behind a space, or is a word alone
+pub data Form (op : Op) : Type 0 where
+  worded : (v : Verb) (rest : List ℕ) → command_text op ≡ verb_text v ++ 32 ∷ rest → Form op
+  bare : op ≡ Release → Form op
+
+pub form_of : (op : Op) → Form op
+form_of (Put key value) = worded verb.Put (key ++ and_value value) refl
+form_of (Add key count) = worded verb.Add (key ++ and_number count) refl
+form_of (Del key) = worded verb.Del key refl
+form_of (Get key) = worded verb.Get key refl
+form_of (Hold low high) = worded verb.Hold (low ++ and_word high) refl
+form_of (Next n) = worded verb.Next (decimal n) refl
+form_of Release = bare refl
+form_of (Work n) = worded verb.Work (decimal n) refl
 
 -- and that word has no space
 pub verb_lacks : (v : Verb) → Lacks 32 (verb_text v)
@@ -155,4 +151,31 @@ verb_lacks verb.Put = All-from_recursion (λ byte. byte ≢ 32) (verb_text verb.
 verb_lacks verb.Add = All-from_recursion (λ byte. byte ≢ 32) (verb_text verb.Add) (λ same. absurd (omega arith), (λ same. absurd (omega arith), (λ same. absurd (omega arith), tt)))
 verb_lacks verb.Del = All-from_recursion (λ byte. byte ≢ 32) (verb_text verb.Del) (λ same. absurd (omega arith), (λ same. absurd (omega arith), (λ same. absurd (omega arith), tt)))
 verb_lacks verb.Get = All-from_recursion (λ byte. byte ≢ 32) (verb_text verb.Get) (λ same. absurd (omega arith), (λ same. absurd (omega arith), (λ same. absurd (omega arith), tt)))
+verb_lacks verb.Hold = All-from_recursion (λ byte. byte ≢ 32) (verb_text verb.Hold) (λ same. absurd (omega arith), (λ same. absurd (omega arith), (λ same. absurd (omega arith), (λ same. absurd (omega arith), tt))))
+verb_lacks verb.Next = All-from_recursion (λ byte. byte ≢ 32) (verb_text verb.Next) (λ same. absurd (omega arith), (λ same. absurd (omega arith), (λ same. absurd (omega arith), (λ same. absurd (omega arith), tt))))
 verb_lacks verb.Work = All-from_recursion (λ byte. byte ≢ 32) (verb_text verb.Work) (λ same. absurd (omega arith), (λ same. absurd (omega arith), (λ same. absurd (omega arith), (λ same. absurd (omega arith), tt))))
+
+-- where nothing but a word was found, the command is the one that is a word alone
+bare_is : (bytes front : List ℕ) → Lacks 32 front → bytes ≡ front → (op : Op) → SpellsCommand bytes op → SpellsBare front op
+bare_is bytes front lacks joined op spells =
+    elim (form_of op) [
+      | worded v rest is ↦ absurd (no_cut 32 (verb_text v) front rest lacks (sym is ∙ sym spells.0 ∙ joined))
+      | bare same ↦ (sym joined ∙ spells.0 ∙ ap command_text same, same)
+    ]
+
+pub reads_bare : (bytes front : List ℕ) (result : Option Op) → Lacks 32 front → bytes ≡ front → Reads SpellsBare front result → Reads SpellsCommand bytes result
+reads_bare bytes front None lacks joined none = λ op spells. none op (bare_is bytes front lacks joined op spells)
+reads_bare bytes front (Some op) lacks joined (is, same) = (joined ∙ is ∙ ap command_text (sym same), subst IsCommand (sym same) tt)
+
+drop_lacks : Lacks 32 (codes "drop")
+drop_lacks = All-from_recursion (λ byte. byte ≢ 32) (codes "drop") (λ same. absurd (omega arith), (λ same. absurd (omega arith), (λ same. absurd (omega arith), (λ same. absurd (omega arith), tt))))
+
+-- and where a word was found with something behind it, that is the command's first word and its arguments
+pub worded_is : (bytes front rest : List ℕ) → Lacks 32 front → bytes ≡ front ++ 32 ∷ rest → (op : Op) → SpellsCommand bytes op → (v : Verb) × (front ≡ verb_text v) × SpellsArguments v rest op
+worded_is bytes front rest lacks joined op spells =
+    elim (form_of op) [
+      | worded v r is ↦
+          let both = one_cut 32 front (verb_text v) rest r lacks (verb_lacks v) (sym joined ∙ spells.0 ∙ is) in
+          (v, both.0, (is ∙ ap (λ (l : List ℕ). verb_text v ++ 32 ∷ l) (sym both.1), spells.1))
+      | bare same ↦ absurd (no_cut 32 front (codes "drop") rest drop_lacks (sym joined ∙ spells.0 ∙ ap command_text same))
+    ]

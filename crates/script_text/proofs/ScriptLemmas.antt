@@ -1,5 +1,5 @@
 -- A text is read line by line.
-use Rattle.std.proofs.Common.{◌≡◌, ◌≢◌, ℕ, zero, suc, ◌-◌, ◌<◌, ◌≤◌, inl, inr, false, eqb, List, [], ◌∷◌, ◌++◌, length, take, get_or, Option, Some, None, sym, ◌∙◌, ap, refl, append_assoc, append-nil, arith, length-append}
+use Rattle.std.proofs.Common.{◌≡◌, ◌≢◌, ℕ, zero, suc, ◌+◌, ◌-◌, ◌<◌, ◌≤◌, ◌⊎◌, inl, inr, false, eqb, List, [], ◌∷◌, ◌++◌, length, take, get_or, Option, Some, None, sym, ◌∙◌, ap, subst, refl, append_assoc, append-nil, arith, length-append}
 use Rattle.std.specs.List.{All, before_first, position_or_len}
 use Rattle.std.specs.Option.{unwrap_or}
 use Rattle.std.proofs.lemmas.Grind.{flat_map-append}
@@ -8,7 +8,7 @@ use Rattle.std.proofs.lemmas.List.Sums.{position_or_len_is}
 use Rattle.std.proofs.lemmas.Bool.Decides.{eqb_tells}
 use Rattle.std.proofs.Math.Seq.{take-append_seam, take-length}
 use Rattle.blsm_model.specs.declared.history.Line.{Line}
-use Rattle.script_text.specs.Grammar.{IsAllowed, IsScript, first_line, line_text, lines_text}
+use Rattle.script_text.specs.Grammar.{AsksTooMuch, IsAllowed, IsBadLine, IsLine, IsScript, all_rows_asked, first_line, line_text, lines_text}
 use Rattle.script_text.specs.Reading.{IsJoined, Lacks}
 
 -- the lines are what was read, and the rest is still to be read; a last line without an end leaves nothing
@@ -36,9 +36,9 @@ so_far_more text lines rest front None line is joined spelled =
     unended refl (ap (λ (l : List ℕ). l ++ 10 ∷ []) (is ∙ ap (λ (l : List ℕ). lines_text lines ++ l) (joined ∙ spelled)) ∙ append_assoc (lines_text lines) (line_text line) (10 ∷ []) ∙ sym (lines_text-push lines line))
 
 -- where nothing is left, the text is a script
-pub so_far_all : (text : List ℕ) (lines : List Line) (rest : List ℕ) → SoFar text lines rest → rest ≡ [] → All IsAllowed lines → length lines ≤ 65536 → IsScript text lines
-so_far_all text lines rest (ended is) nothing allowed few = record { allowed = allowed; few = few; spelled = inl (is ∙ ap (λ (l : List ℕ). lines_text lines ++ l) nothing ∙ append-nil (lines_text lines)) }
-so_far_all text lines rest (unended _ is) nothing allowed few = record { allowed = allowed; few = few; spelled = inr is }
+pub so_far_all : (text : List ℕ) (lines : List Line) (rest : List ℕ) → SoFar text lines rest → rest ≡ [] → All IsAllowed lines → length lines ≤ 65536 → all_rows_asked lines ≤ 131072 → IsScript text lines
+so_far_all text lines rest (ended is) nothing allowed few asked = record { allowed = allowed; few = few; asked = asked; spelled = inl (is ∙ ap (λ (l : List ℕ). lines_text lines ++ l) nothing ∙ append-nil (lines_text lines)) }
+so_far_all text lines rest (unended _ is) nothing allowed few asked = record { allowed = allowed; few = few; asked = asked; spelled = inr is }
 
 eqb_is_false : (a b : ℕ) → a ≢ b → eqb a b ≡ false
 eqb_is_false a b other = elim (eqb_tells a b) [ inl both ↦ absurd (other both.1) | inr both ↦ both.0 ]
@@ -62,6 +62,22 @@ whole_is front lacks =
 pub first_line_is : (bytes front : List ℕ) (behind : Option (List ℕ)) → Lacks 10 front → IsJoined 10 bytes front behind → first_line bytes ≡ front
 first_line_is bytes front None lacks joined = ap first_line joined ∙ whole_is front lacks
 first_line_is bytes front (Some rest) lacks joined = ap first_line joined ∙ front_is front rest lacks
+
+-- the next line is the first that is bad, where what was cut off is none or asks for too much
+pub bad_line : (text : List ℕ) (lines : List Line) (rest front : List ℕ) (behind : Option (List ℕ)) (n : ℕ) → SoFar text lines rest → 0 < length rest → Lacks 10 front → IsJoined 10 rest front behind → All IsAllowed lines → length lines ≤ 65536
+    → all_rows_asked lines ≤ 131072 → n ≡ length lines + 1 → ((line : Line) → IsLine front line → ⊥) ⊎ (length lines ≡ 65536) ⊎ AsksTooMuch lines front → IsBadLine text n
+bad_line text lines rest front behind n so_far some lacks joined allowed few asked place bad =
+    record {
+      before = lines;
+      rest = rest;
+      split = so_far_whole text lines rest so_far some;
+      allowed = allowed;
+      few = few;
+      asked = asked;
+      place = place;
+      there = some;
+      bad = subst (λ (bytes : List ℕ). ((line : Line) → IsLine bytes line → ⊥) ⊎ (length lines ≡ 65536) ⊎ AsksTooMuch lines bytes) (sym (first_line_is rest front behind lacks joined)) bad;
+    }
 
 -- a list that isn't empty has an element
 pub not_empty : (n : ℕ) → eqb n 0 ≡ false → 0 < n

@@ -1,7 +1,7 @@
 -- The grammar of scripts: which lines there are, how each is spelled, and which line of a text is the first that is wrong.
-use Rattle.std.specs.Prelude.{◌≡◌, ◌≢◌, ℕ, ◌+◌, ◌^◌, ◌<◌, ◌≤◌, ◌⊎◌, ◌==◌, List, [], ◌∷◌, ◌++◌, length, decimal, flat_map}
+use Rattle.std.specs.Prelude.{◌≡◌, ◌≢◌, ⊤, ℕ, ◌+◌, ◌^◌, ◌<◌, ◌≤◌, ◌⊎◌, ◌==◌, List, [], ◌∷◌, ◌++◌, length, decimal, flat_map, sum_by}
 use Rattle.std.specs.List.{All, before_first}
-use Rattle.blsm_model.specs.Format.{callers, most_key, most_lines, most_text}
+use Rattle.blsm_model.specs.Format.{callers, most_key, most_lines, most_rows, most_rows_asked, most_text}
 use Rattle.blsm_model.specs.declared.op.Op.{Op}
 use Rattle.blsm_model.specs.declared.op.Op.TheVariants.{Put, Add, Del, Get, Hold, Next, Release, Work}
 use Rattle.blsm_model.specs.declared.history.Line.{Line}
@@ -32,9 +32,9 @@ IsCommand (Put key value) = IsKey key × (value.count < 2 ^ 64) × IsText value.
 IsCommand (Add key count) = IsKey key × (count < 2 ^ 64)
 IsCommand (Del key) = IsKey key
 IsCommand (Get key) = IsKey key
-IsCommand (Hold low high) = ⊥
-IsCommand (Next n) = ⊥
-IsCommand Release = ⊥
+IsCommand (Hold low high) = IsKey low × IsKey high
+IsCommand (Next n) = (1 ≤ n) × (n ≤ most_rows)
+IsCommand Release = ⊤
 IsCommand (Work n) = (1 ≤ n) × (n ≤ most_turns)
 
 -- a line that a script may have
@@ -51,6 +51,15 @@ pub record IsLine (bytes : List ℕ) (line : Line) : Type 0 where
   pub allowed : IsAllowed line
   pub spelled : bytes ≡ line_text line
 
+-- how many rows a command asks for
+abbrev pub rows_of : Op → ℕ
+rows_of (Next n) = n
+rows_of _ = 0
+
+-- how many rows these lines ask for together
+abbrev pub all_rows_asked : List Line → ℕ
+all_rows_asked lines = sum_by (λ line. rows_of line.op) lines
+
 -- lines, each with its end
 abbrev pub lines_text : List Line → List ℕ
 lines_text lines = flat_map (λ line. line_text line ++ 10 ∷ []) lines
@@ -59,22 +68,31 @@ lines_text lines = flat_map (λ line. line_text line ++ 10 ∷ []) lines
 pub record IsScript (bytes : List ℕ) (lines : List Line) : Type 0 where
   pub allowed : All IsAllowed lines
   pub few : length lines ≤ most_lines
+  pub asked : all_rows_asked lines ≤ most_rows_asked
   pub spelled : (bytes ≡ lines_text lines) ⊎ (bytes ++ 10 ∷ [] ≡ lines_text lines)
 
 -- what stands before the first end of a line
 abbrev pub first_line : List ℕ → List ℕ
 first_line bytes = before_first (λ byte. byte == 10) bytes
 
--- line n, counted from 1, is there, those before it are lines of a script, and it is none, or is one too many
+-- the bytes spell a line that asks for more rows than the lines before it leave
+pub record AsksTooMuch (before : List Line) (bytes : List ℕ) : Type 0 where
+  pub line : Line
+  pub is : IsLine bytes line
+  pub past : most_rows_asked < all_rows_asked before + rows_of line.op
+
+-- line n, counted from 1, is there, those before it are lines of a script, and it is none, or is one too many, or asks for
+-- too much
 pub record IsBadLine (bytes : List ℕ) (n : ℕ) : Type 0 where
   pub before : List Line
   pub rest : List ℕ
   pub split : bytes ≡ lines_text before ++ rest
   pub allowed : All IsAllowed before
   pub few : length before ≤ most_lines
+  pub asked : all_rows_asked before ≤ most_rows_asked
   pub place : n ≡ length before + 1
   pub there : 0 < length rest
-  pub bad : ((line : Line) → IsLine (first_line rest) line → ⊥) ⊎ (length before ≡ most_lines)
+  pub bad : ((line : Line) → IsLine (first_line rest) line → ⊥) ⊎ (length before ≡ most_lines) ⊎ AsksTooMuch before (first_line rest)
 
 -- no other lines are the bytes' script, and no line of theirs is bad
 pub record IsOnlyReading (bytes : List ℕ) (lines : List Line) : Type 0 where

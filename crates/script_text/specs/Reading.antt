@@ -4,10 +4,11 @@ use Rattle.std.specs.List.{All}
 use Rattle.blsm_model.specs.Format.{callers}
 use Rattle.blsm_model.specs.declared.row.Value.{Value}
 use Rattle.blsm_model.specs.declared.op.Op.{Op}
+use Rattle.blsm_model.specs.declared.op.Op.TheVariants.{Release}
 use Rattle.script_text.specs.declared.read_line.Verb.{Verb}
 use Rattle.script_text.specs.declared.read_line.Verb.TheVariants as verb
 use Rattle.blsm_model.specs.Printed.{and_number, and_value, and_word, command_text, spelled}
-use Rattle.script_text.specs.Grammar.{IsCommand, IsKey, IsText, most_turns}
+use Rattle.script_text.specs.Grammar.{IsCommand, IsKey, IsText}
 
 -- the answer is what the bytes spell, and there is none only where they spell nothing
 abbrev pub Reads : {X : Type 0} → (List ℕ → X → Type 0) → List ℕ → Option X → Type 0
@@ -34,8 +35,8 @@ SpellsNumber bytes n = (bytes ≡ decimal n) × (n < 2 ^ 64)
 abbrev pub SpellsSeat : List ℕ → ℕ → Type 0
 SpellsSeat bytes seat = (bytes ≡ decimal (seat + 1)) × (seat < callers)
 
-abbrev pub SpellsTurns : List ℕ → ℕ → Type 0
-SpellsTurns bytes n = (bytes ≡ decimal n) × (1 ≤ n) × (n ≤ most_turns)
+abbrev pub SpellsCount : ℕ → List ℕ → ℕ → Type 0
+SpellsCount most bytes n = (bytes ≡ decimal n) × (1 ≤ n) × (n ≤ most)
 
 abbrev pub SpellsKey : List ℕ → List ℕ → Type 0
 SpellsKey bytes key = (bytes ≡ key) × IsKey key
@@ -52,15 +53,24 @@ SpellsKeyAndValue bytes both = (bytes ≡ both.0 ++ and_value both.1) × IsKey b
 abbrev pub SpellsKeyAndNumber : List ℕ → (List ℕ × ℕ) → Type 0
 SpellsKeyAndNumber bytes both = (bytes ≡ both.0 ++ and_number both.1) × IsKey both.0 × (both.1 < 2 ^ 64)
 
+abbrev pub SpellsTwoKeys : List ℕ → (List ℕ × List ℕ) → Type 0
+SpellsTwoKeys bytes both = (bytes ≡ both.0 ++ and_word both.1) × IsKey both.0 × IsKey both.1
+
 abbrev pub verb_text : Verb → List ℕ
 verb_text verb.Put = codes "put"
 verb_text verb.Add = codes "add"
 verb_text verb.Del = codes "del"
 verb_text verb.Get = codes "get"
+verb_text verb.Hold = codes "hold"
+verb_text verb.Next = codes "next"
 verb_text verb.Work = codes "work"
 
 abbrev pub SpellsVerb : List ℕ → Verb → Type 0
 SpellsVerb bytes v = bytes ≡ verb_text v
+
+-- the one command that is a word alone
+abbrev pub SpellsBare : List ℕ → Op → Type 0
+SpellsBare bytes op = (bytes ≡ codes "drop") × (op ≡ Release)
 
 -- the command has this first word and behind it these bytes
 abbrev pub SpellsArguments : Verb → List ℕ → Op → Type 0

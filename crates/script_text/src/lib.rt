@@ -14,5 +14,5 @@ mod summary;
 
 pub use generator::{MADE_KEYS, generate, made_histories};
 pub use print::print_history;
-pub use script::{MOST_LINES, Script, ScriptFault, read_script};
+pub use script::{MOST_LINES, MOST_ROWS_ASKED, Script, ScriptFault, read_script};
 pub use summary::print_summary;

@@ -1,10 +1,16 @@
 // One line of a script.
 ghost use Rattle.std.specs.Option.{option_copied};
 ghost use Rattle.script_text.specs.Grammar.{IsLine};
-ghost use Rattle.script_text.specs.Reading.{IsJoined, Lacks, Reads, SpellsArguments, SpellsCommand, SpellsKeyAndNumber, SpellsKeyAndValue, SpellsValue, SpellsVerb};
+ghost use Rattle.script_text.specs.Reading.{IsJoined, Lacks, Reads, SpellsArguments, SpellsBare, SpellsCommand, SpellsKeyAndNumber, SpellsKeyAndValue, SpellsTwoKeys, SpellsValue, SpellsVerb};
 
-use crate::read_word::{read_key, read_number, read_seat, read_text, read_turns};
-use blsm_model::{Key, Line, Op, Value};
+use crate::read_word::{read_count, read_key, read_number, read_seat, read_text};
+use blsm_model::{Key, Line, Op, RowList, Value};
+
+// How many turns of merging a line may ask for.
+const MOST_TURNS: u32 = 100_000;
+
+// How many rows a line may ask for.
+const MOST_ROWS: u32 = RowList::MAX_LEN as u32;
 
 // The front before the first such byte, and the rest behind it, if there is such a byte.
 pub fn cut(bytes: &[u8], mark: u8) -> (&[u8], Option<&[u8]>)
@@ -47,12 +53,24 @@ fn read_key_and_number(bytes: &[u8]) -> Option<(Key, u64)>
     Some((key, count))
 }
 
-// What a command does, by its first word.
+fn read_two_keys(bytes: &[u8]) -> Option<(Key, Key)>
+    ensures { Reads SpellsTwoKeys bytes.now result }
+{
+    let (word, rest) = cut(bytes, b' ');
+    let rest = rest?;
+    let low = read_key(word)?;
+    let high = read_key(rest)?;
+    Some((low, high))
+}
+
+// What a command of several words does, by the first of them.
 enum Verb {
     Put,
     Add,
     Del,
     Get,
+    Hold,
+    Next,
     Work,
 }
 
@@ -64,7 +82,19 @@ fn read_verb(word: &[u8]) -> Option<Verb>
         b"add" => Some(Verb::Add),
         b"del" => Some(Verb::Del),
         b"get" => Some(Verb::Get),
+        b"hold" => Some(Verb::Hold),
+        b"next" => Some(Verb::Next),
         b"work" => Some(Verb::Work),
+        _ => None,
+    }
+}
+
+// The command that is a word alone.
+fn read_bare(word: &[u8]) -> Option<Op>
+    ensures { Reads SpellsBare word.now result }
+{
+    match word {
+        b"drop" => Some(Op::Release),
         _ => None,
     }
 }
@@ -84,7 +114,12 @@ fn read_arguments(verb: Verb, bytes: &[u8]) -> Option<Op>
         }
         Verb::Del => Some(Op::Del(read_key(bytes)?)),
         Verb::Get => Some(Op::Get(read_key(bytes)?)),
-        Verb::Work => Some(Op::Work(read_turns(bytes)?)),
+        Verb::Hold => {
+            let (low, high) = read_two_keys(bytes)?;
+            Some(Op::Hold(low, high))
+        }
+        Verb::Next => Some(Op::Next(read_count(bytes, MOST_ROWS)?)),
+        Verb::Work => Some(Op::Work(read_count(bytes, MOST_TURNS)?)),
     }
 }
 
@@ -92,9 +127,10 @@ fn read_command(bytes: &[u8]) -> Option<Op>
     ensures { Reads SpellsCommand bytes.now result }
 {
     let (word, rest) = cut(bytes, b' ');
-    let rest = rest?;
-    let verb = read_verb(word)?;
-    read_arguments(verb, rest)
+    match rest {
+        Some(rest) => read_arguments(read_verb(word)?, rest),
+        None => read_bare(word),
+    }
 }
 
 /// The line that the bytes spell, without its end.

@@ -2,13 +2,10 @@
 ghost use Rattle.std.specs.Prelude.{◌↔◌, IsTrue};
 ghost use Rattle.std.specs.List.{All};
 ghost use Rattle.script_text.specs.Grammar.{IsVisible};
-ghost use Rattle.script_text.specs.Reading.{BeginsAsNumber, Reads, SpellsKey, SpellsNumber, SpellsSeat, SpellsText, SpellsTurns};
+ghost use Rattle.script_text.specs.Reading.{BeginsAsNumber, Reads, SpellsCount, SpellsKey, SpellsNumber, SpellsSeat, SpellsText};
 
 use blsm_model::{CALLERS, Key, Text};
 use std::str;
-
-// How many turns of merging a line of a script may ask for.
-const MOST_TURNS: u32 = 100_000;
 
 // Whether each byte may stand in a word.
 fn is_visible(word: &[u8]) -> bool
@@ -51,15 +48,15 @@ pub fn read_seat(word: &[u8]) -> Option<u32>
     Some((caller - 1) as u32)
 }
 
-// None is no number of turns.
-pub fn read_turns(word: &[u8]) -> Option<u32>
-    ensures { Reads SpellsTurns word.now result }
+// How many a command asks for: one at least, and so many at most.
+pub fn read_count(word: &[u8], most: u32) -> Option<u32>
+    ensures { Reads (SpellsCount most) word.now result }
 {
-    let turns = read_number(word)?;
-    if turns == 0 || u64::from(MOST_TURNS) < turns {
+    let count = read_number(word)?;
+    if count == 0 || u64::from(most) < count {
         return None;
     }
-    Some(turns as u32)
+    Some(count as u32)
 }
 
 pub fn read_key(word: &[u8]) -> Option<Key>

@@ -4,12 +4,12 @@ ghost use Rattle.std.specs.Option.{option_copied, unwrap_or};
 ghost use Rattle.std.specs.List.{All};
 ghost use Rattle.blsm_model.specs.Format.{callers, most_lines, most_rows_asked};
 ghost use Rattle.blsm_model.specs.Scripts.{lines_of};
-ghost use Rattle.script_text.specs.Grammar.{IsAllowed, IsBadLine, IsOnlyBadLine, IsOnlyReading, IsScript};
+ghost use Rattle.script_text.specs.Grammar.{IsAllowed, IsBadLine, IsOnlyBadLine, IsOnlyReading, IsScript, all_rows_asked, rows_of};
 ghost use Rattle.script_text.specs.Script.{AreLines, IfBad, rows_asked};
 ghost use Rattle.script_text.specs.declared.script.ScriptFault.TheVariants.{NoMemory};
 
 use crate::read_line::{cut, read_line};
-use blsm_model::{CALLERS, Line, Room};
+use blsm_model::{CALLERS, Line, Op, Room};
 use std::alloc::{AllocFailed, Global};
 use std::marker::Model;
 use thiserror::Error;
@@ -17,12 +17,16 @@ use thiserror::Error;
 /// How many lines a script may have.
 pub const MOST_LINES: u32 = 65_536;
 
+/// How many rows the lines of a script may ask for together.
+pub const MOST_ROWS_ASKED: u32 = 131_072;
+
 const SEATS: usize = CALLERS as usize;
 
 /// Why a text is no script, or wasn't read.
 #[derive(Clone, Copy, PartialEq, Eq, Debug, Error)]
 pub enum ScriptFault {
-    /// The line with this number, counted from 1, is the first that is none of a script's, or is one too many.
+    /// The line with this number, counted from 1, is the first that is none of a script's, is one too many, or asks for more
+    /// rows than those before it leave.
     #[error("bad line {0}")]
     Bad(u32),
     /// Memory was refused.
@@ -38,7 +42,8 @@ impl<T: Drop> From<AllocFailed<T>> for ScriptFault {
     }
 }
 
-/// A script. Contracts see it as the list of its lines, of which each is allowed and which are at most 65,536.
+/// A script. Contracts see it as the list of its lines, of which each is allowed, which are at most 65,536, and which ask for
+/// at most 131,072 rows together.
 #[derive(Debug, Drop)]
 pub struct Script {
     lines: Vec<Line>,
@@ -56,6 +61,16 @@ impl Model for Script {
     ghost invariant = { λ s. AreLines s.lines.items };
 }
 
+// How many rows a command asks for.
+fn count_rows(op: &Op) -> u32
+    ensures { result ≡ rows_of op.now }
+{
+    match op {
+        Op::Next(n) => *n,
+        _ => 0,
+    }
+}
+
 impl Script {
     // The script of these lines.
     pub(crate) fn from_lines(lines: Vec<Line>) -> Script
@@ -70,6 +85,7 @@ impl Script {
         ensures lines { result.now ≡ self.now }
         ensures allowed { All IsAllowed result.now }
         ensures few { length result.now ≤ most_lines }
+        ensures asked { all_rows_asked result.now ≤ most_rows_asked }
     {
         &self.lines
     }
@@ -84,13 +100,14 @@ impl Script {
     {
         let lines = self.lines();
         let mut entries = [0u32; SEATS];
+        let mut rows = [0u32; SEATS];
         for line in lines {
-            entries[line.seat as usize] += 1;
+            let asked = count_rows(&line.op);
+            let seat = line.seat as usize;
+            entries[seat] += 1;
+            rows[seat] += asked;
         }
-        Room {
-            entries,
-            rows: [0; SEATS],
-        }
+        Room { entries, rows }
     }
 }
 
@@ -111,16 +128,22 @@ fn read_lines(alloc: Global, text: &[u8]) -> Result<Vec<Line>, ScriptFault>
 {
     let mut lines = Vec::new(alloc);
     let mut rest = text;
+    let mut asked = 0u32;
     while !rest.is_empty() {
         let number = lines.len() as u32 + 1;
         let (bytes, behind) = cut(rest, b'\n');
         if number > MOST_LINES {
             return Err(ScriptFault::Bad(number));
         }
-        match read_line(bytes) {
-            Some(line) => lines.push(line)?,
+        let line = match read_line(bytes) {
+            Some(line) => line,
             None => return Err(ScriptFault::Bad(number)),
+        };
+        asked += count_rows(&line.op);
+        if asked > MOST_ROWS_ASKED {
+            return Err(ScriptFault::Bad(number));
         }
+        lines.push(line)?;
         rest = remainder(behind);
     }
     Ok(lines)

@@ -26,7 +26,7 @@ pub record Run : Type 0 where
 abbrev pub run_of : Finished → Run
 run_of f = record { charge = f.charge; entries = f.annals.entries; quanta = f.annals.quanta; totals = f.totals }
 
--- a page was found damaged, by a lookup or by a merge
+-- a page was found damaged, by a lookup, by a next or by a merge
 abbrev pub finds_damage : Run → Bool
 finds_damage run = list_any (λ e. is_damaged e.reply) run.entries || is_by_page run.totals.stopped
 
@@ -36,7 +36,7 @@ pub record IsRunOf (sizes : Sizes) (lines : List Line) (run : Run) : Type 0 wher
   -- each caller's commands, once, in order; and, as there is one thread, in the order of the lines
   pub of_script : IsOfScript lines run.entries
   pub in_order : asked_in run.entries ≡ asked lines
-  -- a write took no more quanta than its work bound, a get none, a work of n turns no more than n; their sum is printed, and nobody else works
+  -- a write took no more quanta than its work bound, a work of n turns no more than n, and the others none; their sum is printed, and nobody else works
   pub few : TookFew sizes run.entries run.quanta
   pub callers : run.totals.callers ≡ sum run.quanta
   pub workers : run.totals.workers ≡ 0

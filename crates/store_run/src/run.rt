@@ -30,7 +30,7 @@ pub enum Ending {
     Well,
     /// A call of the disk failed.
     Faulted,
-    /// No call of the disk failed, and a lookup or a merge found a page damaged.
+    /// No call of the disk failed, and a lookup, a next or a merge found a page damaged.
     Damaged,
 }
 
@@ -46,7 +46,8 @@ pub struct Finished {
 
 /// Opens the store on a disk and does the commands of these lines on it, one after another. The disk comes back whatever happens.
 ///
-/// The refusals are those of `open_store`; then no command was done. The lines are puts, adds, dels, gets and works, of callers who have room for them.
+/// The refusals are those of `open_store`; then no command was done. The lines are puts, adds, dels, gets, holds, nexts, drops of holds and works, of
+/// callers who have room for them and for the rows that they may give. A hold for which memory is refused is answered so in its entry.
 pub fn run_over<D: Disk + Drop>(
     alloc: Global,
     disk: D,
@@ -87,7 +88,7 @@ pub fn run_over<D: Disk + Drop>(
         Err(refused) => return (refused.disk, Err(refused.why)),
     };
     let charge = core.charge();
-    run_lines(&mut core, lines);
+    run_lines(alloc, &mut core, lines);
     // Asked once more for what its type keeps to the end.
     let _charge_now = core.charge();
     let (disk, annals, totals) = core.end();

@@ -1,3 +1,3 @@
-mod RunnableLemmas
+pub mod RunnableLemmas
 mod FreshLemmas
 mod TrialLemmas

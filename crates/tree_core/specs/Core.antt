@@ -41,7 +41,7 @@ pub record IsCore (held : Held) (d : DiskState) : Type 0 where
 
 -- ---- the facts for a lock
 
--- what each seat owes; nobody holds rows
+-- what each seat owes; of the rows that callers hold a lock is told nothing
 abbrev pub beside_in : Held → Beside
 beside_in held = record { first = λ seat. first_debt held.gears seat; second = λ seat. second_debt held.gears seat; held = λ seat. None }
 

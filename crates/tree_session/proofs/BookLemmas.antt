@@ -3,7 +3,7 @@ use Rattle.std.specs.Prelude.{◌/◌, IsTrue, nat_lt, ◌==◌, ◌||◌, ◌&&
 use Rattle.std.proofs.Common.{◌≡◌, ◌≢◌, ◌∙◌, ⊎_elim, ℕ, ◌+◌, ◌-◌, ◌*◌, ◌≤◌, ◌<◌, Bool, true, false, List, [], ◌∷◌, ◌++◌, Some, None, length, refl, ap, sym, subst, eq-eqb, arith}
 use Rattle.std.proofs.lemmas.Bool.{false≢true, ltb-true, ltb-false, lt-ltb, eqb-false, cases_eq}
 use Rattle.std.proofs.lemmas.List.{get_or-set_same, get_or-append_right, length-set, set-set, set-get_or, set_past, set-append_right, get_or_past}
-use Rattle.blsm_model.specs.Book.{Book, entry_at, no_entry, noted, counted_up}
+use Rattle.blsm_model.specs.Book.{Book, entry_at, no_entry, noted, counted_up, rows_given}
 use Rattle.blsm_model.specs.Geometry.{work_bound}
 use Rattle.blsm_model.specs.Histories.{is_done, writes_of}
 use Rattle.blsm_model.specs.Legal.{is_write, total_weight}
@@ -224,6 +224,22 @@ reply_names work stopped = by work.last stopped
     by machine.Closed (Some why) = refl
     by (machine.Halted cause) None = tt
     by (machine.Halted cause) (Some why) = refl
+
+-- nor does it give rows
+pub reply_gives_none : (work : WorkSoFar) (stopped : Option Why) → length (rows_given (work_reply work stopped)) ≤ 0
+reply_gives_none work stopped = by work.last stopped
+  where
+    by : (last : Turned) (o : Option Why) → length (rows_given (work_reply (record work { last = last }) o)) ≤ 0
+    by machine.Failed o = omega arith
+    by (machine.BadPage page) o = omega arith
+    by machine.Worked None = omega arith
+    by machine.Worked (Some why) = omega arith
+    by machine.Idle None = omega arith
+    by machine.Idle (Some why) = omega arith
+    by machine.Closed None = omega arith
+    by machine.Closed (Some why) = omega arith
+    by (machine.Halted cause) None = omega arith
+    by (machine.Halted cause) (Some why) = omega arith
 
 -- a work that ended is empty
 pub ended_empty : (works : List WorkSoFar) (seat : ℕ) → slice_index_or (slice_set works seat no_work) seat no_work ≡ no_work

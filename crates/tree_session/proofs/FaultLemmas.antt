@@ -68,8 +68,8 @@ tells_quiet old new before after same faults = record {
   halted = λ why is. (same ∙ is, faults);
 }
 
--- a lookup failed
-tells_lookup : (old new : Held) (before after : DiskState) → old.book.stopped ≡ None → new.book.stopped ≡ old.book.stopped → HasRisen before.faults after.faults → TellsFaults 1 old new before after
+-- a lookup, or a next, failed
+pub tells_lookup : (old new : Held) (before after : DiskState) → old.book.stopped ≡ None → new.book.stopped ≡ old.book.stopped → HasRisen before.faults after.faults → TellsFaults 1 old new before after
 tells_lookup old new before after ran same rose = record {
   risen = omega (arith, rose);
   quiet = λ told calm. absurd (omega (arith, told));
@@ -116,7 +116,7 @@ none_told (Add key count) reply none = none
 none_told (Del key) reply none = none
 none_told (Get key) reply none = tt
 none_told (Hold low high) reply none = none
-none_told (Next n) reply none = none
+none_told (Next n) reply none = tt
 none_told Release reply none = none
 none_told (Work n) reply none = none
 

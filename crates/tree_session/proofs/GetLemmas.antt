@@ -1,6 +1,7 @@
 -- Gets: how many pages there are to look into.
 use Rattle.std.specs.Prelude.{◌/◌}
-use Rattle.std.proofs.Common.{◌≡◌, ℕ, ◌+◌, ◌-◌, ◌*◌, ◌≤◌, None, subst, arith}
+use Rattle.std.proofs.Common.{◌≡◌, ℕ, ◌+◌, ◌-◌, ◌*◌, ◌≤◌, None, length, subst, arith}
+use Rattle.blsm_model.specs.Book.{rows_given}
 use Rattle.blsm_model.specs.Format.{least_full}
 use Rattle.blsm_model.specs.Geometry.{capacity}
 use Rattle.blsm_model.specs.Sizes.{Sizes}
@@ -8,6 +9,7 @@ use Rattle.disk_trait.specs.Disk.{DiskState}
 use Rattle.pacing.specs.Pace.{charge, held as memory_in}
 use Rattle.tree_runs.specs.Runs.{page_share}
 use Rattle.core_moves.specs.declared.held.Held.{Held}
+use Rattle.tree_core.specs.Answers.{reply_to_get}
 use Rattle.tree_core.specs.Causes.{FindsBecause, LooksNone}
 use Rattle.tree_core.specs.Core.{IsCore}
 use Rattle.tree_core.specs.declared.answers.Lookup.{Lookup}
@@ -44,3 +46,11 @@ get_calls lookup.Absent old before after because core calls stopped = omega (ari
 get_calls lookup.Fault old before after because core calls stopped = omega (arith, calls, pages_within old before core because.0)
 get_calls (lookup.Damaged page) old before after because core calls stopped = omega (arith, calls, pages_within old before core because.0)
 get_calls (lookup.Stopped why) old before after because core calls stopped = omega (arith, stopped tt)
+
+-- nor does it give rows
+pub get_rows : (result : Lookup) → length (rows_given (reply_to_get result)) ≤ 0
+get_rows (lookup.Is value) = omega arith
+get_rows lookup.Absent = omega arith
+get_rows lookup.Fault = omega arith
+get_rows (lookup.Damaged page) = omega arith
+get_rows (lookup.Stopped why) = omega arith

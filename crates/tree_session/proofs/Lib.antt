@@ -1,5 +1,6 @@
 mod FaultLemmas
 mod GetLemmas
+mod HoldLemmas
 mod AloneLemmas
 mod BookLemmas
 mod PayLemmas

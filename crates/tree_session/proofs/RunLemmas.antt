@@ -1,14 +1,14 @@
 -- Lines, one after another.
-use Rattle.std.specs.Prelude.{◌==◌, nat_lt, slice_index, slice_set, filter, sum_by}
-use Rattle.std.proofs.Common.{◌≡◌, ◌∙◌, ℕ, ◌+◌, ◌-◌, ◌≤◌, ◌<◌, Bool, true, false, cond, List, [], ◌∷◌, ◌++◌, length, refl, ap, sym, subst, arith, append-nil, append_assoc, length-append}
+use Rattle.std.specs.Prelude.{◌==◌, nat_lt, slice_index, slice_set, filter, map, sum_by}
+use Rattle.std.proofs.Common.{◌≡◌, ◌∙◌, ℕ, ◌+◌, ◌-◌, ◌≤◌, ◌<◌, Bool, true, false, cond, List, [], ◌∷◌, ◌++◌, length, refl, ap, sym, subst, arith, append-nil, append_assoc, length-append, eq-eqb, zero-add}
 use Rattle.std.specs.List.{AllByRecursion}
 use Rattle.std.proofs.lemmas.Bool.{eqb-true, eqb-false, ltb-true, ltb-false}
 use Rattle.std.proofs.lemmas.Bool.Decides.{nat_tests}
 use Rattle.std.proofs.lemmas.Grind.{common_steps}
-use Rattle.std.proofs.lemmas.List.{map-append, length-map, get_or-set_same, get_or-set_other, get_or_past}
+use Rattle.std.proofs.lemmas.List.{map-append, length-map, get_or-set_same, get_or-set_other, get_or_past, set_past}
 use Rattle.std.proofs.lemmas.List.Elements.{filter-append}
-use Rattle.std.proofs.lemmas.List.Sums.{sum_by-append}
-use Rattle.blsm_model.specs.Book.{Book, room_after}
+use Rattle.std.proofs.lemmas.List.Sums.{sum_by-append, sum_by-cons}
+use Rattle.blsm_model.specs.Book.{Book, room_after, rows_given}
 use Rattle.blsm_model.specs.Format.{callers}
 use Rattle.blsm_model.specs.Scripts.{lines_of}
 use Rattle.blsm_model.specs.Sizes.{Sizes}
@@ -20,7 +20,7 @@ use Rattle.disk_trait.specs.Disk.{DiskState}
 use Rattle.core_moves.specs.declared.held.Held.{Held}
 use Rattle.tree_core.specs.Core.{CoreState}
 use Rattle.tree_session.specs.Faults.{NamesStop, Proceeds, TellsFaults, TellsNone, faults_of, faults_told}
-use Rattle.tree_session.specs.Lines.{HasRoomFor, Rests}
+use Rattle.tree_session.specs.Lines.{HasRoomFor, Rests, rows_asked, rows_of}
 use Rattle.tree_session.specs.Session.{AreDone, Performs, Runs, TookFew, calls_for, most_calls, most_quanta}
 use Rattle.tree_session.proofs.BookLemmas.{end_counted}
 use Rattle.tree_session.proofs.FaultLemmas.{calm_before, names_still, proceeds_none, proceeds_then}
@@ -96,14 +96,55 @@ room_less entries seat any some = by (seat == any) refl
         let there = get_or-set_other entries seat any (slice_index entries seat - 1) 0 (λ same. eqb-false seat any is (sym same)) in
         omega (arith, there)
 
+-- so many less there, or nothing where there is less
+rows_less : (rows : List ℕ) (seat any given : ℕ) → slice_index rows any ≤ slice_index (slice_set rows seat (slice_index rows seat - given)) any + cond (seat == any) given 0
+rows_less rows seat any given = by (seat == any) (nat_lt seat (length rows)) refl refl
+  where
+    by : (b within : Bool) → (seat == any) ≡ b → nat_lt seat (length rows) ≡ within → slice_index rows any ≤ slice_index (slice_set rows seat (slice_index rows seat - given)) any + cond b given 0
+    by true true is inside =
+        let here = get_or-set_same rows seat (slice_index rows seat - given) 0 (ltb-true seat (length rows) inside) in
+        subst (λ (s : ℕ). slice_index rows s ≤ slice_index (slice_set rows seat (slice_index rows seat - given)) s + given) (eqb-true seat any is) (omega (arith, here))
+    by true false is outside =
+        let same = ap (λ (l : List ℕ). slice_index l any) (set_past rows seat (slice_index rows seat - given) (ltb-false seat (length rows) outside)) in
+        omega (arith, same)
+    by false within is inside =
+        let there = get_or-set_other rows seat any (slice_index rows seat - given) 0 (λ same. eqb-false seat any is (sym same)) in
+        omega (arith, there)
+
+-- the rows of the first line come on top of those of the others
+asked_first : (seat : ℕ) (line : Line) (lines : List Line) → rows_asked seat (line ∷ lines) ≡ cond (line.seat == seat) (rows_of line.op) 0 + rows_asked seat lines
+asked_first seat line lines = by (line.seat == seat)
+  where
+    by : (b : Bool) → sum_by rows_of (map (λ (l : Line). l.op) (cond b (line ∷ filter (λ (l : Line). l.seat == seat) lines) (filter (λ (l : Line). l.seat == seat) lines))) ≡ cond b (rows_of line.op) 0 + rows_asked seat lines
+    by true = sum_by-cons rows_of line.op (lines_of seat lines)
+    by false = sym (zero-add (rows_asked seat lines))
+
 -- a caller whose line is next has room for it, and after it for the rest
 pub room_next : (room : Room) (line : Line) (lines : List Line) → line.seat < callers → HasRoomFor room (line ∷ lines) → 0 < slice_index room.entries line.seat
 room_next room line lines below has =
-    grind (arith, common_steps, nat_tests, has line.seat below)
+    grind (arith, common_steps, nat_tests, has.entries line.seat below)
 
-pub room_then : (room : Room) (line : Line) (lines : List Line) (entry : Entry) → entry.seat ≡ line.seat → HasRoomFor room (line ∷ lines) → HasRoomFor (room_after room entry) lines
-room_then room line lines entry same has seat below =
-    grind (arith, common_steps, nat_tests, has seat below)
+pub rows_next : (room : Room) (line : Line) (lines : List Line) → line.seat < callers → HasRoomFor room (line ∷ lines) → rows_of line.op ≤ slice_index room.rows line.seat
+rows_next room line lines below has =
+    let first : rows_asked line.seat (line ∷ lines) ≡ rows_of line.op + rows_asked line.seat lines = asked_first line.seat line lines ∙ ap (λ (b : Bool). cond b (rows_of line.op) 0 + rows_asked line.seat lines) (eq-eqb line.seat line.seat refl) in
+    omega (arith, first, has.rows line.seat below)
+
+pub room_then : (room : Room) (line : Line) (lines : List Line) (entry : Entry) → entry.seat ≡ line.seat → length (rows_given entry.reply) ≤ rows_of line.op → HasRoomFor room (line ∷ lines) → HasRoomFor (room_after room entry) lines
+room_then room line lines entry same given has = record {
+  entries = λ seat below. grind (arith, common_steps, nat_tests, has.entries seat below);
+  rows = λ seat below.
+      left (line.seat == seat) (rows_asked seat lines) (slice_index room.rows seat) (slice_index (slice_set room.rows entry.seat (slice_index room.rows entry.seat - length (rows_given entry.reply))) seat)
+      (asked_within (asked_first seat line lines) (has.rows seat below))
+      (subst (λ (s : ℕ). slice_index room.rows seat ≤ slice_index (slice_set room.rows entry.seat (slice_index room.rows entry.seat - length (rows_given entry.reply))) seat + cond (s == seat) (length (rows_given entry.reply)) 0) same
+      (rows_less room.rows entry.seat seat (length (rows_given entry.reply))));
+}
+  where
+    asked_within : {all sum most : ℕ} → all ≡ sum → all ≤ most → sum ≤ most
+    asked_within {all} {sum} {most} is within = subst (λ (n : ℕ). n ≤ most) is within
+
+    left : (b : Bool) (rest had has : ℕ) → cond b (rows_of line.op) 0 + rest ≤ had → had ≤ has + cond b (length (rows_given entry.reply)) 0 → rest ≤ has
+    left true rest had has asks less = omega (arith, asks, less, given)
+    left false rest had has asks less = omega (arith, asks, less)
 
 -- ---- a script
 

@@ -30,7 +30,7 @@ use Rattle.tree_core.specs.Steps.{StandsSince}
 use Rattle.tree_session.specs.Faults.{NamesStop, Proceeds, Reaches, faults_of, faults_of_turn, is_by_fault}
 use Rattle.tree_session.specs.Lines.{Rests}
 use Rattle.tree_session.specs.Session.{EasesOthers, Performs, Turns}
-use Rattle.tree_session.proofs.BookLemmas.{ended_empty, finished_early, finished_full, reply_names, reply_tells}
+use Rattle.tree_session.proofs.BookLemmas.{ended_empty, finished_early, finished_full, reply_gives_none, reply_names, reply_tells}
 use Rattle.tree_session.proofs.FaultLemmas.{eases_none, eases_then, proceeds_by, proceeds_more, proceeds_none, proceeds_then, proceeds_wider, reaches_none, tells_quiet, turn_calm}
 
 -- ---- turns that worked
@@ -165,6 +165,7 @@ work_ended {D} state seat n old mid new since begins rests even turns disk held 
   quanta = (work_in seat mid.held.book).quanta;
   annals = ap (λ (h : Held). h.book.book) held ∙ ap (λ (b : Book). counted_up (noted b entry) (length b.entries) (work_in seat mid.held.book).quanta) turns.annals;
   few = turns.few;
+  rows = reply_gives_none (work_in seat mid.held.book) mid.held.book.stopped;
   calm = λ calm. sym (reply_tells (work_in seat mid.held.book) mid.held.book.stopped) ∙ turns.calm (ap is_by_fault (sym (ap (λ (h : Held). h.book.stopped) held)) ∙ calm);
   names = subst (λ (o : Option Why). NamesStop reply o) (sym (ap (λ (h : Held). h.book.stopped) held)) (reply_names (work_in seat mid.held.book) mid.held.book.stopped);
   rests = record {

@@ -1,7 +1,7 @@
 -- A write, refused or admitted and paid for.
 use Rattle.std.specs.Prelude.{◌/◌, slice_index_or}
-use Rattle.std.proofs.Common.{◌≡◌, ◌∙◌, ℕ, ◌+◌, ◌*◌, true, List, Some, None, length, refl, ap, sym, subst, arith}
-use Rattle.blsm_model.specs.Book.{Book, noted, counted_up}
+use Rattle.std.proofs.Common.{◌≡◌, ◌∙◌, ℕ, ◌+◌, ◌*◌, ◌≤◌, true, false, List, Some, None, length, refl, ap, sym, subst, arith}
+use Rattle.blsm_model.specs.Book.{Book, noted, counted_up, rows_given}
 use Rattle.blsm_model.specs.Legal.{is_write}
 use Rattle.blsm_model.specs.Sizes.{Sizes}
 use Rattle.blsm_model.specs.declared.history.Entry.{Entry}
@@ -19,7 +19,7 @@ use Rattle.tree_core.specs.Steps.{StandsSince}
 use Rattle.tree_core.specs.declared.answers.Admission.{Admission}
 use Rattle.tree_core.specs.declared.answers.Admission.TheVariants as admission
 use Rattle.tree_session.specs.Faults.{Proceeds, faults_of}
-use Rattle.tree_session.specs.Lines.{Rests}
+use Rattle.tree_session.specs.Lines.{Rests, rows_of}
 use Rattle.tree_session.specs.Session.{EasesOthers, PaysOff, Performs, most_calls}
 use Rattle.tree_session.proofs.BookLemmas.{all_even, calls_of_write, count_none, last_is, paid_few}
 use Rattle.tree_session.proofs.FaultLemmas.{admit_calm, admit_names, eases_then, none_told, proceeds_then, proceeds_wider}
@@ -34,6 +34,14 @@ refused_even (admission.Stopped why) seat op old new before after not because ev
     let still : new.book.stopped ≡ Some why = ap (λ (h : Held). h.book.stopped) because.1 ∙ because.0 in
     absurd (cc (still, runs))
 
+-- nor does it give rows
+refused_rows : (answer : Admission) (op : Op) → length (rows_given (reply_to_write answer)) ≤ rows_of op
+refused_rows admission.Admitted op = omega arith
+refused_rows (admission.Full charge) op = omega arith
+refused_rows (admission.Fault true) op = omega arith
+refused_rows (admission.Fault false) op = omega arith
+refused_rows (admission.Stopped why) op = omega arith
+
 idle_still : (old new : BookState) → new.seats.work ≡ old.seats.work → ((any : ℕ) → work_in any old ≡ no_work) → (any : ℕ) → work_in any new ≡ no_work
 idle_still old new same idle any = ap (λ (l : List WorkSoFar). slice_index_or l any no_work) same ∙ idle any
 
@@ -46,6 +54,7 @@ write_refused state seat op answer old new write not because notes rests proceed
       quanta = 0;
       annals = notes.annals ∙ sym (count_none (noted old.held.book.book entry) (length old.held.book.book.entries));
       few = omega arith;
+      rows = refused_rows answer op;
       calm = λ calm. none_told op (reply_to_write answer) (admit_calm answer seat op old.held new.held (state old.disk) (state new.disk) because calm);
       names = admit_names answer seat op old.held new.held (state old.disk) (state new.disk) because;
       rests = record {
@@ -71,6 +80,7 @@ write_taken state seat op old mid new write keeps ran notes eases rests admits p
       quanta = pays.quanta;
       annals = annals;
       few = paid_few seat pays.quanta op old.held new.held (state old.disk) (state new.disk) write keeps pays.keeps proceeds.sizes annals;
+      rows = omega arith;
       calm = λ calm. none_told op Done refl;
       names = tt;
       rests = record {

@@ -1,10 +1,10 @@
 -- Which lines a session does, the room that they need, and when it may do one.
-use Rattle.std.specs.Prelude.{◌≡◌, ⊤, ℕ, ◌<◌, ◌≤◌, None, List, All, length, slice_index}
-use Rattle.blsm_model.specs.Format.{callers}
+use Rattle.std.specs.Prelude.{◌≡◌, ⊤, ℕ, ◌<◌, ◌≤◌, None, List, All, length, slice_index, sum_by}
+use Rattle.blsm_model.specs.Format.{callers, most_rows}
 use Rattle.blsm_model.specs.Scripts.{lines_of}
 use Rattle.blsm_model.specs.declared.history.Line.{Line}
 use Rattle.blsm_model.specs.declared.op.Op.{Op}
-use Rattle.blsm_model.specs.declared.op.Op.TheVariants.{Hold, Next, Release, Work}
+use Rattle.blsm_model.specs.declared.op.Op.TheVariants.{Next, Work}
 use Rattle.blsm_model.specs.declared.room.Room.{Room}
 use Rattle.seat_book.specs.State.{work_in}
 use Rattle.tree_machine.specs.Machine.{no_work}
@@ -12,11 +12,9 @@ use Rattle.tree_machine.specs.Plays.{most_turns}
 use Rattle.core_moves.specs.declared.held.Held.{Held}
 use Rattle.tree_core.specs.Notes.{OwesNothing}
 
--- a write, a get, or a work of one turn to a hundred thousand
+-- a write, a get, a hold of any range, a next of 1 to 32 rows, a drop of a hold, or a work of one turn to a hundred thousand
 abbrev pub IsCommand : Op → Type 0
-IsCommand (Hold low high) = ⊥
-IsCommand (Next n) = ⊥
-IsCommand Release = ⊥
+IsCommand (Next n) = (0 < n) × (n ≤ most_rows)
 IsCommand (Work n) = (0 < n) × (n ≤ most_turns)
 IsCommand op = ⊤
 
@@ -28,9 +26,18 @@ pub record IsRunnable (line : Line) : Type 0 where
 abbrev pub AreRunnable : List Line → Type 0
 AreRunnable lines = All IsRunnable lines
 
--- each caller has room for its lines
-abbrev pub HasRoomFor : Room → List Line → Type 0
-HasRoomFor room lines = (seat : ℕ) → seat < callers → length (lines_of seat lines) ≤ slice_index room.entries seat
+-- how many rows a command may give, and the lines of one caller
+abbrev pub rows_of : Op → ℕ
+rows_of (Next n) = n
+rows_of op = 0
+
+abbrev pub rows_asked : ℕ → List Line → ℕ
+rows_asked seat lines = sum_by rows_of (lines_of seat lines)
+
+-- each caller has room for its lines, and for the rows that they may give
+pub record HasRoomFor (room : Room) (lines : List Line) : Type 0 where
+  pub entries : (seat : ℕ) → seat < callers → length (lines_of seat lines) ≤ slice_index room.entries seat
+  pub rows : (seat : ℕ) → seat < callers → rows_asked seat lines ≤ slice_index room.rows seat
 
 -- Between two commands no work is open, and nobody owes, unless the store is stopped.
 pub record Rests (held : Held) : Type 0 where

@@ -1,7 +1,7 @@
 -- What one command, and a script, make of the core of a tree, on every disk.
 use Rattle.std.specs.Prelude.{◌≡◌, ◌≢◌, ⊤, ℕ, ◌+◌, ◌*◌, ◌/◌, ◌≤◌, ◌<◌, false, None, IsTrue, List, [], ◌∷◌, ◌++◌, drop, length, slice_index, sum}
 use Rattle.std.specs.List.{AllByRecursion}
-use Rattle.blsm_model.specs.Book.{noted, counted_up}
+use Rattle.blsm_model.specs.Book.{noted, counted_up, rows_given}
 use Rattle.blsm_model.specs.Format.{callers}
 use Rattle.blsm_model.specs.Geometry.{work_bound}
 use Rattle.blsm_model.specs.Histories.{writes_of}
@@ -12,7 +12,7 @@ use Rattle.blsm_model.specs.declared.history.Entry.{Entry}
 use Rattle.blsm_model.specs.declared.history.Line.{Line}
 use Rattle.blsm_model.specs.declared.history.Reply.{Reply}
 use Rattle.blsm_model.specs.declared.op.Op.{Op}
-use Rattle.blsm_model.specs.declared.op.Op.TheVariants.{Get, Work}
+use Rattle.blsm_model.specs.declared.op.Op.TheVariants.{Get, Hold, Next, Release, Work}
 use Rattle.disk_trait.specs.Disk.{DiskState}
 use Rattle.gear_sched.specs.Gears.{first_debt, second_debt}
 use Rattle.seat_book.specs.State.{work_in}
@@ -24,20 +24,27 @@ use Rattle.tree_core.specs.Core.{CoreState, IsCore}
 use Rattle.tree_core.specs.Notes.{OwesNothing}
 use Rattle.tree_core.specs.Steps.{StandsSince}
 use Rattle.tree_session.specs.Faults.{NamesStop, Proceeds, TellsNone, faults_of, faults_of_turn, faults_told, is_by_fault}
-use Rattle.tree_session.specs.Lines.{Rests}
+use Rattle.tree_session.specs.Lines.{Rests, rows_of}
 
 -- ---- one command
 
 -- how many quanta its caller takes for it at most
 abbrev pub most_quanta : Sizes → Op → ℕ
 most_quanta sizes (Get key) = 0
+most_quanta sizes (Hold low high) = 0
+most_quanta sizes (Next n) = 0
+most_quanta sizes Release = 0
 most_quanta sizes (Work n) = n
 most_quanta sizes op = work_bound sizes (total_weight (writes_of op))
 
--- How many calls of the disk it takes at most, where its caller takes so many quanta for it: a get looks into each page at most, a turn of a work
--- moves once, and a write is admitted and then paid for, in vain once at most.
+-- How many calls of the disk it takes at most, where its caller takes so many quanta for it: a get looks into each page at most, a next reads each
+-- page of its hold at most, a turn of a work moves once, and a write is admitted and then paid for, in vain once at most. A hold is made, and
+-- dropped, in memory alone.
 abbrev pub most_calls : Sizes → Op → ℕ → ℕ
 most_calls sizes (Get key) quanta = page_share sizes
+most_calls sizes (Hold low high) quanta = 0
+most_calls sizes (Next n) quanta = page_share sizes
+most_calls sizes Release quanta = 0
 most_calls sizes (Work n) quanta = n * (sizes.quantum / 4 + 9)
 most_calls sizes op quanta = 22 + (quanta + 1) * (sizes.quantum / 4 + 3)
 
@@ -47,6 +54,8 @@ pub record Performs {D : Type 0} (state : D → DiskState) (seat : ℕ) (op : Op
   pub quanta : ℕ
   pub annals : new.held.book.book ≡ counted_up (noted old.held.book.book (record { seat = seat; op = op; reply = reply })) (length old.held.book.book.entries) quanta
   pub few : quanta ≤ most_quanta old.held.runs.sizes op
+  -- no more rows than it may give
+  pub rows : length (rows_given reply) ≤ rows_of op
   pub calm : is_by_fault new.held.book.stopped ≡ false → TellsNone op reply
   -- it tells of a stop with its cause
   pub names : NamesStop reply new.held.book.stopped

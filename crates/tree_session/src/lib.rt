@@ -1,6 +1,7 @@
 //! A script, run over the core of a tree on one thread: each line's command is done to its end before the next begins.
 #![tactic(auto)]
 
+mod holds;
 mod laws;
 mod session;
 mod works;

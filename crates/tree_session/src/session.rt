@@ -1,14 +1,16 @@
 //! Commands, and scripts of them.
-ghost use Rattle.std.specs.Prelude.{◌<◌, IsTrue, slice_index};
+ghost use Rattle.std.specs.Prelude.{◌<◌, ◌≤◌, IsTrue, slice_index};
 ghost use Rattle.blsm_model.specs.declared.op.Op.TheVariants.{Get};
 ghost use Rattle.seat_book.specs.State.{may_note_in};
-ghost use Rattle.tree_session.specs.Lines.{AreRunnable, HasRoomFor, IsRunnable, Rests};
+ghost use Rattle.tree_session.specs.Lines.{AreRunnable, HasRoomFor, IsRunnable, Rests, rows_of};
 ghost use Rattle.tree_session.specs.Session.{Performs, Runs};
 
+use crate::holds::{hold, let_go, read_on};
 use crate::works::work;
 use crate::writes::{begins, keeps, write};
 use blsm_model::{Key, Line, Op};
 use disk_trait::Disk;
+use std::alloc::Global;
 use tree_core::Core;
 
 // Looks a key up.
@@ -24,24 +26,29 @@ fn look_up<D: Disk + Drop>(core: &mut Core<D>, seat: u32, key: &Key)
 
 /// Does the command of a line to its end. A write is admitted and paid for, a work ends at its first turn that finds nothing to do.
 ///
-/// The line is a put, an add, a del, a get, or a work of one turn to a hundred thousand. Its caller must have room for the entry, no work
-/// may be open, and nobody may owe, unless the store is stopped.
-pub fn perform<D: Disk + Drop>(core: &mut Core<D>, line: &Line)
+/// The line is a put, an add, a del, a get, a hold, a next of 1 to 32 rows, a drop of a hold, or a work of one turn to a hundred thousand. Its
+/// caller must have room for the entry and for the rows, no work may be open, and nobody may owe, unless the store is stopped. A hold for which
+/// `alloc` has no memory is answered so in its entry.
+pub fn perform<D: Disk + Drop>(alloc: Global, core: &mut Core<D>, line: &Line)
     requires runnable { IsRunnable line.now }
     requires room { 0 < slice_index core.old.held.book.book.room.entries line.now.seat }
+    requires rows { rows_of line.now.op ≤ slice_index core.old.held.book.book.room.rows line.now.seat }
     requires rests { Rests core.old.held }
     ensures { Performs D.state line.now.seat line.now.op core.old core.new }
 {
     match &line.op {
         Op::Put(..) | Op::Add(..) | Op::Del(_) => write(core, line.seat, &line.op),
         Op::Get(key) => look_up(core, line.seat, key),
+        Op::Hold(low, high) => hold(alloc, core, line.seat, low, high),
+        Op::Next(n) => read_on(core, line.seat, *n),
+        Op::Release => let_go(core, line.seat),
         Op::Work(n) => work(core, line.seat, *n),
-        Op::Hold(..) | Op::Next(_) | Op::Release => unreachable!(),
     }
 }
 
-/// Does the commands of these lines, one after another. Each caller must have room for its lines; the rest is as for `perform`.
-pub fn run_lines<D: Disk + Drop>(core: &mut Core<D>, lines: &[Line])
+/// Does the commands of these lines, one after another. Each caller must have room for its lines, and for the rows that they may give; the rest
+/// is as for `perform`.
+pub fn run_lines<D: Disk + Drop>(alloc: Global, core: &mut Core<D>, lines: &[Line])
     requires runnable { AreRunnable lines.now }
     requires room { HasRoomFor core.old.held.book.book.room lines.now }
     requires rests { Rests core.old.held }
@@ -49,6 +56,6 @@ pub fn run_lines<D: Disk + Drop>(core: &mut Core<D>, lines: &[Line])
 {
     keeps(core);
     for line in lines {
-        perform(core, line);
+        perform(alloc, core, line);
     }
 }

@@ -5,6 +5,7 @@ ghost use Rattle.blsm_model.specs.Legal.{is_write};
 ghost use Rattle.seat_book.specs.Places.{HasWrite};
 ghost use Rattle.seat_book.specs.State.{may_note_in};
 ghost use Rattle.tree_core.specs.Core.{IsCore};
+ghost use Rattle.tree_core.specs.Holds.{AreFew};
 ghost use Rattle.tree_core.specs.Steps.{StandsSince};
 ghost use Rattle.tree_session.specs.Lines.{Rests};
 ghost use Rattle.tree_session.specs.Session.{PaysOff, Performs};
@@ -16,6 +17,7 @@ use tree_core::{Admission, Core, Payment};
 // What the core keeps on every disk.
 pub(crate) fn keeps<D: Disk + Drop>(core: &Core<D>)
     ensures core { IsCore core.now.held (D.state core.now.disk) }
+    ensures few { AreFew core.now.held.runs.sizes core.now.holds }
     ensures begins { StandsSince D.state core.now core.now }
 {
     let _charge = core.charge();

@@ -185,3 +185,33 @@ fn a_page_that_is_damaged_later(rt: HostRuntime) {
     let mut both = shelf_of(&rt, alloc, disk);
     check(&rt, alloc, &mut both, &RUN, GETS, (7, text));
 }
+
+const NEXTS: &[u8] = b"1 hold a z\n1 next 1\n1 next 1\n1 next 1\n";
+
+// The call of the disk at which the first next reads its page: where it fails the next one gives the row, and the one behind it the end.
+fn call_of_next<R: Abort + Threads + Wait + Sync>(
+    rt: &R,
+    alloc: Global,
+    shelf: &mut MemShelf,
+) -> u64 {
+    let failed =
+        "open charge 14\n1 1 hold a z => held q0\n2 1 next 1 => fault q0\n3 1 next 1 => rows 1 x 1 - q0\n4 1 next 1 => rows 0 q0\nend c0 0 of 34816 callers 0 workers 0 swaps 0 0\n";
+    first_fault(rt, alloc, shelf, NEXTS, failed, false).0
+}
+
+// A next whose page can't be read, or isn't valid for once: its rows come afterwards.
+#[test]
+fn a_next_that_fails(rt: HostRuntime) {
+    let alloc = rt.alloc();
+    let mut shelf = shelf_with_c2(&rt, alloc);
+    let call = call_of_next(&rt, alloc, &mut shelf);
+    let mut disk = damaged_at(&rt, alloc, &mut shelf, call);
+    let used = 4_096 + 12 * 17_408 + 4_096 + 2;
+    if disk.poke(call.saturating_add(1), used, &[0, 14]).is_err() {
+        rt.abort()
+    }
+    let mut mended = shelf_of(&rt, alloc, disk);
+    let text =
+        "open charge 14\n1 1 hold a z => held q0\n2 1 next 1 => damaged page 1 q0\n3 1 next 1 => rows 1 x 1 - q0\n4 1 next 1 => rows 0 q0\nend c0 0 of 34816 callers 0 workers 0 swaps 0 0\n";
+    check(&rt, alloc, &mut mended, &RUN, NEXTS, (6, text));
+}

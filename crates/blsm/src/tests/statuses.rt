@@ -34,8 +34,8 @@ fn a_bad_line(rt: HostRuntime) {
     let mut shelf = shelf_with_smallest(&rt, alloc);
     let bad = b"1 get a\n1 frob a\n";
     check(&rt, alloc, &mut shelf, &RUN, bad, (2, "bad line 2\n"));
-    let hold = b"1 hold a c\n";
-    check(&rt, alloc, &mut shelf, &RUN, hold, (2, "bad line 1\n"));
+    let next = b"1 hold a c\n1 next 33\n";
+    check(&rt, alloc, &mut shelf, &RUN, next, (2, "bad line 2\n"));
 }
 
 #[test]

@@ -1,9 +1,7 @@
-use Rattle.std.proofs.Common.{◌∙◌, List, length, ap, arith, refl}
-use Rattle.blsm_model.specs.Scripts.{lines_of}
-use Rattle.blsm_model.specs.declared.history.Line.{Line}
+use Rattle.std.proofs.Common.{◌∙◌, arith, refl}
 use Rattle.disk_mem.specs.Faultless.{faultless_state}
 use Rattle.store_trial.proofs.FreshLemmas.{stays_calm}
-use Rattle.store_trial.proofs.RunnableLemmas.{all_runnable}
+use Rattle.store_trial.proofs.RunnableLemmas.{all_runnable, room_for}
 use Rattle.store_trial.proofs.TrialLemmas.{refused_for_memory, tried}
 use Rattle.store_trial.proofs.try_seed.Goals as goal
 
@@ -11,8 +9,7 @@ pub run_over-disk-requires-clause-runnable : goal.run_over-disk-requires-clause-
 run_over-disk-requires-clause-runnable c = all_runnable c.lines.result.now c.lines.ensures.allowed
 
 pub run_over-disk-requires-clause-room : goal.run_over-disk-requires-clause-room
-run_over-disk-requires-clause-room c = λ seat below.
-    omega (arith, c.room.ensures.entries seat below, ap (λ (ls : List Line). length (lines_of seat ls)) c.lines.ensures.lines)
+run_over-disk-requires-clause-room c = room_for c.room.result c.in_ok-script.script c.lines.result.now c.lines.ensures.lines c.room.ensures.entries c.room.ensures.rows
 
 pub returns-in-Ok : goal.returns-in-Ok
 returns-in-Ok c =

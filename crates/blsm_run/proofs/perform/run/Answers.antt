@@ -2,18 +2,18 @@ use Rattle.std.proofs.Common.{List, Err, IfSome, ap, sym, subst, ◌∙◌}
 use Rattle.std.proofs.lemmas.Result.{err_from_is_err_and}
 use Rattle.blsm_model.specs.declared.history.Line.{Line}
 use Rattle.script_text.specs.Grammar.{IsScript}
+use Rattle.store_trial.proofs.RunnableLemmas.{all_runnable, room_for}
 use Rattle.blsm_run.specs.Cause.{Cause}
 use Rattle.blsm_run.specs.Outcome.{outcome_of}
 use Rattle.blsm_run.specs.Outside.{Outside}
 use Rattle.blsm_run.proofs.CauseLemmas.{none_made, not_run, unfetched, unread}
-use Rattle.blsm_run.proofs.RunLemmas.{all_runnable, room_for}
 use Rattle.blsm_run.proofs.perform.run.Goals as goal
 
 pub run_on_shelf-requires-clause-runnable : goal.run_on_shelf-requires-clause-runnable
 run_on_shelf-requires-clause-runnable g c = λ κs lives. all_runnable _ c.lines.ensures.allowed
 
 pub run_on_shelf-requires-clause-room : goal.run_on_shelf-requires-clause-room
-run_on_shelf-requires-clause-room g c = λ κs lives. room_for c.room.result c.in_ok-script.script c.lines.result.now c.lines.ensures.lines c.room.ensures.entries
+run_on_shelf-requires-clause-room g c = λ κs lives. room_for c.room.result c.in_ok-script.script c.lines.result.now c.lines.ensures.lines c.room.ensures.entries c.room.ensures.rows
 
 pub returns-in_err-script-clause-cause : goal.returns-in_err-script-clause-cause
 returns-in_err-script-clause-cause g c = λ words accepted asked.

@@ -1,5 +1,5 @@
 use Rattle.script_text.specs.declared.read_line.Verb.TheVariants as verb
-use Rattle.script_text.proofs.ReadLemmas.{reads_nothing, no_put, no_add, no_work}
+use Rattle.script_text.proofs.ReadLemmas.{reads_nothing, no_put, no_add, no_hold, no_next, no_work}
 use Rattle.script_text.specs.Reading.{SpellsArguments}
 use Rattle.script_text.proofs.read_line.read_arguments.Goals as goal
 
@@ -11,6 +11,14 @@ pub returns-in_err-key-in-Add : goal.returns-in_err-key-in-Add
 returns-in_err-key-in-Add c =
     rw c.in-Add.is (reads_nothing (SpellsArguments verb.Add) _ _ c.from_residual-in_err-key-in-Add.ensures (no_add c.args.bytes.now c.in_err-key-in-Add.ensures))
 
-pub returns-in_err-read_turns-in-Work : goal.returns-in_err-read_turns-in-Work
-returns-in_err-read_turns-in-Work c =
-    rw c.in-Work.is (reads_nothing (SpellsArguments verb.Work) _ _ c.from_residual-in_err-read_turns-in-Work.ensures (no_work c.args.bytes.now c.in_err-read_turns-in-Work.ensures))
+pub returns-in_err-low-in-Hold : goal.returns-in_err-low-in-Hold
+returns-in_err-low-in-Hold c =
+    rw c.in-Hold.is (reads_nothing (SpellsArguments verb.Hold) _ _ c.from_residual-in_err-low-in-Hold.ensures (no_hold c.args.bytes.now c.in_err-low-in-Hold.ensures))
+
+pub returns-in_err-read_count-in-Next : goal.returns-in_err-read_count-in-Next
+returns-in_err-read_count-in-Next c =
+    rw c.in-Next.is (reads_nothing (SpellsArguments verb.Next) _ _ c.from_residual-in_err-read_count-in-Next.ensures (no_next c.args.bytes.now c.in_err-read_count-in-Next.ensures))
+
+pub returns-in_err-read_count-in-Work : goal.returns-in_err-read_count-in-Work
+returns-in_err-read_count-in-Work c =
+    rw c.in-Work.is (reads_nothing (SpellsArguments verb.Work) _ _ c.from_residual-in_err-read_count-in-Work.ensures (no_work c.args.bytes.now c.in_err-read_count-in-Work.ensures))

@@ -1,6 +1,6 @@
-use Rattle.std.proofs.Common.{◌≤◌, length}
+use Rattle.std.proofs.Common.{◌≡◌, ◌≤◌, length}
 use Rattle.std.specs.List.{All}
-use Rattle.script_text.specs.Grammar.{IsAllowed}
+use Rattle.script_text.specs.Grammar.{IsAllowed, all_rows_asked}
 use Rattle.script_text.proofs.ScriptLemmas.{SoFar}
 use Rattle.script_text.proofs.script.read_lines.Given as goal
 
@@ -8,6 +8,8 @@ abbrev pub invariant-loop-rest : goal.invariant-loop-rest
 invariant-loop-rest l = record {
   allowed : All IsAllowed l.lines.items;
   few : length l.lines.items ≤ 65536;
+  few_asked : l.asked ≤ 131072;
+  asked : l.asked ≡ all_rows_asked l.lines.items;
   so_far : SoFar l.text l.lines.items l.rest;
 }
 

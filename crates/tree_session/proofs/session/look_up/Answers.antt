@@ -11,7 +11,7 @@ use Rattle.tree_session.specs.Faults.{faults_of}
 use Rattle.tree_session.specs.Lines.{Rests}
 use Rattle.tree_session.proofs.BookLemmas.{count_none}
 use Rattle.tree_session.proofs.FaultLemmas.{get_names, get_tells, proceeds_by, reaches_by, reaches_counted}
-use Rattle.tree_session.proofs.GetLemmas.{get_calls}
+use Rattle.tree_session.proofs.GetLemmas.{get_calls, get_rows}
 use Rattle.tree_session.proofs.session.look_up.Goals as goal
 
 pub returns : goal.returns
@@ -27,6 +27,7 @@ returns g c =
       quanta = 0;
       annals = ap (λ (h : Held). h.book.book) held ∙ sym (count_none (noted old.held.book.book entry) (length old.held.book.book.entries));
       few = omega arith;
+      rows = get_rows c.get-found.result;
       calm = λ calm. tt;
       names = get_names c.get-found.result old.held new.held (state old.disk) (state new.disk) c.get-found.ensures.cause (ap (λ (h : Held). h.book.stopped) held);
       begins = c.begins.ensures;

@@ -7,7 +7,7 @@ use Rattle.blsm_model.specs.declared.history.Line.{Line}
 use Rattle.tree_session.specs.Lines.{HasRoomFor}
 use Rattle.tree_session.specs.Session.{Runs}
 use Rattle.tree_session.proofs.BookLemmas.{core_places}
-use Rattle.tree_session.proofs.RunLemmas.{places_then, room_next, room_then, runs_more, runs_none}
+use Rattle.tree_session.proofs.RunLemmas.{places_then, room_next, room_then, rows_next, runs_more, runs_none}
 use Rattle.tree_session.proofs.session.run_lines.Goals as goal
 
 pub loop-line-init : goal.loop-line-init
@@ -28,6 +28,13 @@ perform-requires-clause-room g c =
     let line = c.line-item.result in
     room_next c.loop-line.core.held.book.book.room line (drop (i + 1) lines) (search rules) (subst (λ (ls : List Line). HasRoomFor c.loop-line.core.held.book.book.room ls) (rest_is lines i line (omega arith) c.line-item.is) c.loop-line.invariant.left)
 
+pub perform-requires-clause-rows : goal.perform-requires-clause-rows
+perform-requires-clause-rows g c =
+    let lines = c.args.lines.now in
+    let i = c.loop-line.line-index in
+    let line = c.line-item.result in
+    rows_next c.loop-line.core.held.book.book.room line (drop (i + 1) lines) (search rules) (subst (λ (ls : List Line). HasRoomFor c.loop-line.core.held.book.book.room ls) (rest_is lines i line (omega arith) c.line-item.is) c.loop-line.invariant.left)
+
 pub loop-line-preserved : goal.loop-line-preserved
 loop-line-preserved g c =
     let state = g.D.Disk.state in
@@ -46,5 +53,5 @@ loop-line-preserved g c =
       runs = subst (λ (ls : List Line). Runs state ls old new) more
           (runs_more state (take i lines) line old mid new c.loop-line.invariant.places (room_next mid.held.book.book.room line (drop (i + 1) lines) (search rules) before) c.loop-line.invariant.runs did);
       places = places_then state line mid new c.loop-line.invariant.places did;
-      left = subst (λ (b : Book). HasRoomFor b.room (drop (i + 1) lines)) (sym did.annals) (room_then mid.held.book.book.room line (drop (i + 1) lines) entry refl before);
+      left = subst (λ (b : Book). HasRoomFor b.room (drop (i + 1) lines)) (sym did.annals) (room_then mid.held.book.book.room line (drop (i + 1) lines) entry refl did.rows before);
     }

@@ -1,0 +1,121 @@
+// Holds of ranges, which give the rows of their moment.
+use super::{RUN, add, check, letters, run_text, shelf_with_default, shelf_with_smallest};
+use std::alloc::Global;
+use std::process::Abort;
+use std::sync::Wait;
+use std::thread::Threads;
+
+// A script over a store that was just made.
+fn check_fresh<R: Abort + Threads + Wait + Sync>(rt: &R, alloc: Global, script: &[u8], text: &str) {
+    let mut shelf = shelf_with_default(rt, alloc);
+    check(rt, alloc, &mut shelf, &RUN, script, (0, text));
+}
+
+#[test]
+fn a_hold_over_merges(rt: HostRuntime) {
+    check_fresh(
+        &rt,
+        rt.alloc(),
+        b"1 put a 1 -\n1 put b 2 -\n1 work 1000\n1 hold a c\n1 put a 9 -\n1 del b\n1 work 1000\n1 next 32\n1 next 32\n1 get b\n1 drop\n1 next 1\n",
+        "open charge 0\n1 1 put a 1 - => ok q0\n2 1 put b 2 - => ok q0\n3 1 work 1000 => did 6 q2\n4 1 hold a c => held q0\n5 1 put a 9 - => ok q0\n6 1 del b => ok q0\n7 1 work 1000 => did 6 q2\n8 1 next 32 => rows 2 a 1 - b 2 - q0\n9 1 next 32 => rows 0 q0\n10 1 get b => none q0\n11 1 drop => ok q0\n12 1 next 1 => nohold q0\nend c0 28 of 65536 callers 4 workers 0 swaps 2 2\n",
+    );
+}
+
+#[test]
+fn a_second_hold_replaces_the_first(rt: HostRuntime) {
+    check_fresh(
+        &rt,
+        rt.alloc(),
+        b"1 put a 1 -\n1 put b 2 -\n1 hold a c\n1 hold b c\n1 next 32\n",
+        "open charge 0\n1 1 put a 1 - => ok q0\n2 1 put b 2 - => ok q0\n3 1 hold a c => held q0\n4 1 hold b c => held q0\n5 1 next 32 => rows 1 b 2 - q0\nend c0 28 of 65536 callers 0 workers 0 swaps 0 0\n",
+    );
+}
+
+#[test]
+fn a_hold_of_no_range_and_none(rt: HostRuntime) {
+    check_fresh(
+        &rt,
+        rt.alloc(),
+        b"1 hold c a\n1 next 1\n2 drop\n2 next 32\n1 drop\n1 drop\n",
+        "open charge 0\n1 1 hold c a => held q0\n2 1 next 1 => rows 0 q0\n3 2 drop => nohold q0\n4 2 next 32 => nohold q0\n5 1 drop => ok q0\n6 1 drop => nohold q0\nend c0 0 of 65536 callers 0 workers 0 swaps 0 0\n",
+    );
+}
+
+// Writes of thirty keys, and what merges them into C2.
+fn add_round(rt: &impl Abort, alloc: Global, script: &mut String, count: u32, letters: &str) {
+    for number in 10..40 {
+        match format!(in alloc; "1 put k{number} {count} {letters}") {
+            Ok(line) => add(rt, script, &line),
+            Err(_) => rt.abort(),
+        }
+    }
+    add(rt, script, "1 work 1000");
+}
+
+// A line of each caller.
+fn add_lines(rt: &impl Abort, alloc: Global, script: &mut String, command: &str) {
+    for caller in 1..17 {
+        match format!(in alloc; "{caller} {command}") {
+            Ok(line) => add(rt, script, &line),
+            Err(_) => rt.abort(),
+        }
+    }
+}
+
+// The reply with all rows of the first round.
+fn first_rows(rt: &impl Abort, alloc: Global, letters: &str) -> String {
+    let Ok(mut reply) = String::from_str(alloc, " => rows 30") else {
+        rt.abort()
+    };
+    for number in 10..40 {
+        match format!(in alloc; " k{number} 1 {letters}") {
+            Ok(row) => {
+                if reply.push_str(&row).is_err() {
+                    rt.abort()
+                }
+            }
+            Err(_) => rt.abort(),
+        }
+    }
+    if reply.push_str(" q0").is_err() {
+        rt.abort()
+    }
+    reply
+}
+
+// How many lines end so.
+fn count_ends(text: &str, end: &str) -> u32 {
+    let mut count: u32 = 0;
+    for line in text.lines() {
+        if line.ends_with(end) {
+            count = count.saturating_add(1);
+        }
+    }
+    count
+}
+
+// Each caller holds the first round while two more take its place in C2.
+#[test]
+fn sixteen_holds_while_c2_is_written_twice(rt: HostRuntime) {
+    let alloc = rt.alloc();
+    let letters = letters(&rt, alloc, b't', 435);
+    let mut script = String::new(alloc);
+    add_round(&rt, alloc, &mut script, 1, &letters);
+    add_lines(&rt, alloc, &mut script, "hold k1 k4");
+    add_round(&rt, alloc, &mut script, 2, &letters);
+    add_round(&rt, alloc, &mut script, 3, &letters);
+    add_lines(&rt, alloc, &mut script, "next 32");
+    add_lines(&rt, alloc, &mut script, "next 32");
+    add_lines(&rt, alloc, &mut script, "drop");
+    add_lines(&rt, alloc, &mut script, "get k10");
+    let mut shelf = shelf_with_smallest(&rt, alloc);
+    let text = run_text(&rt, alloc, &mut shelf, &RUN, script.as_bytes());
+    let rows = first_rows(&rt, alloc, &letters);
+    assert_eq!(&rt; count_ends(&text, &rows), 16);
+    assert_eq!(&rt; count_ends(&text, "next 32 => rows 0 q0"), 16);
+    assert_eq!(&rt; count_ends(&text, "drop => ok q0"), 16);
+    match format!(in alloc; "get k10 => is 3 {letters} q0") {
+        Ok(now) => assert_eq!(&rt; count_ends(&text, &now), 16),
+        Err(_) => rt.abort(),
+    }
+}
