@@ -96,7 +96,7 @@ opening sizes geometry = record {
 }
 
 abbrev empty_table : ℕ → Contents
-empty_table room = record { entries = []; reserved = room }
+empty_table room = record { entries = []; reserved = room; arrived = [] }
 
 abbrev empty_lanes : Sizes → LanesState
 empty_lanes sizes = record { sizes = sizes; roles = 0 ∷ 1 ∷ 2 ∷ []; ends = 0 ∷ 0 ∷ 0 ∷ [] }

@@ -2,3 +2,9 @@ pub mod SortedLemmas
 pub mod PlaceLemmas
 pub mod EditLemmas
 pub mod OrderLemmas
+pub mod NodeLemmas
+pub mod TurnLemmas
+pub mod WayLemmas
+pub mod AddLemmas
+pub mod TableLemmas
+pub mod StepLemmas

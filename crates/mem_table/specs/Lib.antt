@@ -1,3 +1,5 @@
 pub mod Entries
 pub mod Tables
 pub mod Places
+pub mod Shapes
+pub mod Ways

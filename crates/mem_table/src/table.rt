@@ -1,5 +1,6 @@
-//! A sorted vector of keys and records.
-ghost use Rattle.std.specs.Prelude.{◌≡◌, ◌≢◌, ◌+◌, ◌≤◌, ◌<◌, [], ◌∷◌, ◌++◌, List, Some, IfOk, IfErr};
+//! A balanced tree of keys and records.
+ghost use Rattle.std.specs.Prelude.{◌≡◌, ◌≢◌, ◌+◌, ◌-◌, ◌*◌, ◌^◌, ◌≤◌, ◌<◌, ◌↔◌, [], ◌∷◌, ◌++◌, List, Some, None, IfOk, IfSome, IsNone, IsSome, length};
+ghost use Rattle.std.specs.List.{HoldsAt};
 ghost use Rattle.blsm_model.specs.declared.key.Key.{Key};
 ghost use Rattle.blsm_model.specs.declared.op.Write.{Write};
 ghost use Rattle.record_delta.specs.declared.record.Rec.{Rec};
@@ -7,46 +8,57 @@ ghost use Rattle.record_delta.specs.Records.{write_of, IsRecord, weight as weigh
 ghost use Rattle.record_delta.specs.Folding.{over};
 ghost use Rattle.record_delta.specs.Entries.{AreSorted, entries_weight, record_of_key, with_record, above, first_of};
 ghost use Rattle.mem_table.specs.Entries.{StandFor};
-ghost use Rattle.mem_table.specs.Tables.{IsFoldedIn};
-ghost use Rattle.mem_table.specs.Places.{IsAt, IsGapFor, IsSplit};
+ghost use Rattle.mem_table.specs.Tables.{IsFoldedIn, place_in, arrived_with};
 
+use crate::nodes::{NONE, Node};
+use crate::steps::Steps;
+use crate::ways::{add_under, find, find_above, find_in};
 use blsm_model::{Key, Op};
 use record_delta::{Rec, fold, weight};
 use refusal::NoMemory;
 use std::alloc::Global;
 use std::marker::Model;
+use std::sync::ledger::Ledger;
 
 // No entry weighs less: a key of one byte, and no text.
 const LEAST_WEIGHT: u64 = Op::OVERHEAD + 1;
 
-/// The memory table. Contracts see its entries, sorted by key, and how much they may weigh.
+/// The memory table. Contracts see its entries, sorted by key, how much they may weigh, and the keys in the order in which they came.
 #[derive(Debug, Drop)]
 pub struct Table {
-    entries: Vec<(Key, Rec)>,
+    slots: Vec<(Key, Rec)>,
+    nodes: Vec<Node>,
+    root: u32,
     weight: u64,
     reserved: u64,
 }
 
 impl Model for Table {
     ghost use Rattle.std.specs.Vec.{vec_capacity};
-    ghost use Rattle.mem_table.specs.Tables.{Contents, IsTable};
+    ghost use Rattle.mem_table.specs.Tables.{Contents, IsArena, keys_of};
+    ghost use Rattle.mem_table.specs.Ways.{tree_entries};
 
     ghost Value = { Contents };
 
-    ghost view = { λ t. record { entries = t.entries.items; reserved = t.reserved } };
+    ghost view = { λ t. record { entries = tree_entries t.nodes.items t.slots.items t.root; reserved = t.reserved; arrived = keys_of t.slots.items } };
 
-    ghost invariant = { λ t. IsTable t.entries.items t.weight t.reserved (vec_capacity t.entries) };
+    ghost invariant = { λ t. IsArena t.nodes.items t.slots.items t.root t.weight t.reserved (vec_capacity t.nodes) (vec_capacity t.slots) };
 }
 
 impl Table {
     /// An empty table with room for entries of this weight in all, in bytes. It takes memory for as many of the lightest
     /// entries at once; where that is refused there is no table.
     pub fn reserve(alloc: Global, weight: u64) -> Result<Table, NoMemory>
-        ensures { IfOk result (λ table. table ≡ record { entries = []; reserved = weight }) }
+        ensures { IfOk result (λ table. table ≡ record { entries = []; reserved = weight; arrived = [] }) }
     {
         let places = weight / LEAST_WEIGHT;
+        if places >= NONE as u64 {
+            return Err(NoMemory);
+        }
         Ok(Table {
-            entries: Vec::with_capacity(alloc, places as usize)?,
+            slots: Vec::with_capacity(alloc, places as usize)?,
+            nodes: Vec::with_capacity(alloc, places as usize)?,
+            root: NONE,
             weight: 0,
             reserved: weight,
         })
@@ -54,9 +66,11 @@ impl Table {
 
     /// Removes all entries. The room stays reserved.
     pub fn clear(&mut self)
-        ensures { self.new ≡ record { entries = []; reserved = self.old.reserved } }
+        ensures { self.new ≡ record { entries = []; reserved = self.old.reserved; arrived = [] } }
     {
-        self.entries.clear();
+        self.slots.clear();
+        self.nodes.clear();
+        self.root = NONE;
         self.weight = 0;
     }
 
@@ -75,10 +89,33 @@ impl Table {
     pub fn get(&self, key: &Key) -> Option<Rec>
         ensures { result ≡ record_of_key key.now self.now.entries }
     {
-        match self.search(key) {
-            Ok(at) => Some(self.entries[at].1.copy()),
-            Err(_) => None,
+        match self.place_of(key) {
+            Some(place) => Some(self.slots[place as usize].1.copy()),
+            None => None,
         }
+    }
+
+    /// The record of a key, if it has one, as `get` answers it. Each comparison of two keys is a step.
+    pub fn get_in<L: Ledger>(&self, key: &Key, steps: &mut Steps<L>) -> Option<Rec>
+        ensures record { result ≡ record_of_key key.now self.now.entries }
+        ensures more { steps.old ≤ steps.new }
+        ensures few { 1 ≤ length self.now.entries → 2 ^ (steps.new - steps.old) ≤ 4 * length self.now.entries * length self.now.entries }
+        ensures none { length self.now.entries ≡ 0 → steps.new ≡ steps.old }
+    {
+        match find_in(&self.nodes, &self.slots, self.root, key, steps) {
+            Some(place) => Some(self.slots[place as usize].1.copy()),
+            None => None,
+        }
+    }
+
+    /// The place of a key: `None` exactly where it has no record. A place is one key's until the table is cleared, whatever is
+    /// folded in.
+    pub fn place_of(&self, key: &Key) -> Option<u32>
+        ensures place { result ≡ place_in key.now self.now.arrived }
+        ensures holder { IfSome result (HoldsAt (λ k. k ≡ key.now) self.now.arrived) }
+        ensures none { IsNone result ↔ (record_of_key key.now self.now.entries ≡ None) }
+    {
+        find(&self.nodes, &self.slots, self.root, key)
     }
 
     /// Folds a record over the one of its key, or adds it where the key is new. All other keys keep their records. The
@@ -92,70 +129,63 @@ impl Table {
         ensures weight { entries_weight self.new.entries ≤ entries_weight self.old.entries + weight_with key.now rec.now }
         // Where the entries stood for writes, they stand for those and this record's.
         ensures stands { (writes : List Write) → StandFor self.old.entries writes → StandFor self.new.entries (writes ++ write_of key.now rec.now ∷ []) }
+        // A key that was there keeps its place, and a new one comes last.
+        ensures arrived { self.new.arrived ≡ arrived_with key.now self.old.arrived }
+        ensures places { (other : Key) → IsSome (place_in other self.old.arrived) → place_in other self.new.arrived ≡ place_in other self.old.arrived }
     {
-        match self.search(key) {
-            Ok(at) => self.fold_at(at, key, rec),
-            Err(at) => self.add_at(at, key, rec),
+        match self.place_of(key) {
+            Some(place) => self.fold_at(place, key, rec),
+            None => self.add(key, rec),
         }
     }
 
     // Folds a record over the one at a place.
-    fn fold_at(&mut self, at: usize, key: &Key, rec: &Rec)
-        requires at { IsAt self.old.entries key.now at }
+    fn fold_at(&mut self, place: u32, key: &Key, rec: &Rec)
+        requires place { place_in key.now self.old.arrived ≡ Some place }
         requires fits { entries_weight (with_record key.now rec.now self.old.entries) ≤ self.old.reserved }
         ensures folded { IsFoldedIn key.now rec.now self.old self.new }
         ensures in_range { IsRecord rec.now }
+        ensures sorted { AreSorted self.old.entries }
     {
-        let older = self.entries[at].1.copy();
+        let older = self.slots[place as usize].1.copy();
         let before = weight(key, &older);
         let folded = fold(rec.copy(), older);
         self.weight = self.weight - before + weight(key, &folded);
-        self.entries[at].1 = folded;
+        self.slots[place as usize].1 = folded;
     }
 
-    // Adds an entry at a place.
-    fn add_at(&mut self, at: usize, key: &Key, rec: &Rec)
-        requires at { IsGapFor self.old.entries key.now at }
+    // Adds an entry for a new key.
+    fn add(&mut self, key: &Key, rec: &Rec)
+        requires absent { record_of_key key.now self.old.entries ≡ None }
+        requires place { place_in key.now self.old.arrived ≡ None }
         requires fits { entries_weight (with_record key.now rec.now self.old.entries) ≤ self.old.reserved }
         ensures folded { IsFoldedIn key.now rec.now self.old self.new }
         ensures in_range { IsRecord rec.now }
+        ensures sorted { AreSorted self.old.entries }
     {
         self.weight += weight(key, rec);
-        match self.entries.insert(at, (key.copy(), rec.copy())) {
+        let place = self.slots.len() as u32;
+        match self.slots.push((key.copy(), rec.copy())) {
             Ok(()) => {}
             Err(_) => unreachable!(),
         }
+        match self.nodes.push(Node::alone()) {
+            Ok(()) => {}
+            Err(_) => unreachable!(),
+        }
+        self.root = add_under(&mut self.nodes, &self.slots, self.root, place);
     }
 
     /// The entry of the least key above this one, or of the least key where this is `None`.
     pub fn least_above(&self, key: Option<Key>) -> Option<(Key, Rec)>
         ensures { result ≡ first_of (above key self.now.entries) }
     {
-        let at = self.first_above(&key);
-        let (key, rec) = self.entries.get(at)?;
-        Some((key.copy(), rec.copy()))
-    }
-
-    // How many entries have no key above this one.
-    fn first_above(&self, key: &Option<Key>) -> usize
-        ensures { IsSplit self.now.entries key.now result }
-    {
-        match key {
-            None => 0,
-            Some(key) => match self.search(key) {
-                Ok(at) => at + 1,
-                Err(at) => at,
-            },
+        match find_above(&self.nodes, &self.slots, self.root, &key, None) {
+            Some(place) => {
+                let entry = &self.slots[place as usize];
+                Some((entry.0.copy(), entry.1.copy()))
+            }
+            None => None,
         }
-    }
-
-    // Where the key is, or where it would go.
-    fn search(&self, key: &Key) -> Result<usize, usize>
-        ensures sorted { AreSorted self.now.entries }
-        ensures in_range { IfOk result (λ at. at < usize.MAX) }
-        ensures found { IfOk result (IsAt self.now.entries key.now) }
-        ensures absent { IfErr result (IsGapFor self.now.entries key.now) }
-    {
-        self.entries.binary_search_by(|entry| entry.0.cmp(key))
     }
 }

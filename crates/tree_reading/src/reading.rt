@@ -39,8 +39,8 @@ pub struct Room {
 fn reserve(alloc: Global, geometry: &Geometry) -> Result<Room, NoMemory>
     ensures space { IfOk result (λ room. room.space ≡ unused (page_count geometry.now)) }
     ensures shape { IfOk result (λ room. IsSpace room.space) }
-    ensures a { IfOk result (λ room. room.a ≡ record { entries = []; reserved = high_mark geometry.now + most_weight }) }
-    ensures b { IfOk result (λ room. room.b ≡ record { entries = []; reserved = high_mark geometry.now + most_weight }) }
+    ensures a { IfOk result (λ room. room.a ≡ record { entries = []; reserved = high_mark geometry.now + most_weight; arrived = [] }) }
+    ensures b { IfOk result (λ room. room.b ≡ record { entries = []; reserved = high_mark geometry.now + most_weight; arrived = [] }) }
 {
     let most = geometry.high_mark() + Op::MAX_WEIGHT;
     Ok(Room {
@@ -55,8 +55,8 @@ fn read_parts<D: Disk>(disk: &mut D, head: &Head, room: &mut Room) -> Result<End
     requires right { IsHead head.now.geometry head.now.catalogue }
     requires unused { room.old.space ≡ unused (page_count head.now.geometry) }
     requires shape { IsSpace room.old.space }
-    requires empty_a { room.old.a ≡ record { entries = []; reserved = high_mark head.now.geometry + most_weight } }
-    requires empty_b { room.old.b ≡ record { entries = []; reserved = high_mark head.now.geometry + most_weight } }
+    requires empty_a { room.old.a ≡ record { entries = []; reserved = high_mark head.now.geometry + most_weight; arrived = [] } }
+    requires empty_b { room.old.b ≡ record { entries = []; reserved = high_mark head.now.geometry + most_weight; arrived = [] } }
     requires length { IsTrue (D.state disk.old).tells_bytes → length (D.state disk.old).bytes ≡ file_length head.now.geometry }
     ensures tags { IfOk result (λ ends. AreRead head.now.geometry head.now.catalogue room.new.space) }
     ensures tagged { IsTrue (D.state disk.old).is_honest

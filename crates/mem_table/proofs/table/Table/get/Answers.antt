@@ -1,12 +1,11 @@
-use Rattle.std.proofs.Common.{refl, sym}
-use Rattle.mem_table.proofs.PlaceLemmas.{present_at, absent_at}
+use Rattle.std.proofs.Common.{◌≡◌, Some, refl, sym, subst, ◌∙◌}
+use Rattle.mem_table.specs.Tables.{Contents, place_in, keys_of}
+use Rattle.mem_table.proofs.TableLemmas.{recorded}
 use Rattle.mem_table.proofs.table.Table.get.Goals as goal
 
-pub returns-in-Ok : goal.returns-in-Ok
-returns-in-Ok c =
-    let at = rw (← c.self.view_is) at c.in-Ok.ensures.found in
-    let there = present_at c.self.inside.entries.items c.args.key.now c.in-Ok.at c.index.result.now c.self.invariant.sorted at in
+pub returns-in-Some : goal.returns-in-Some
+returns-in-Some c =
+    let came : place_in c.args.key.now (keys_of c.self.inside.slots.items) ≡ Some c.in-Some.place =
+    subst (λ (v : Contents). place_in c.args.key.now v.arrived ≡ Some c.in-Some.place) (sym c.self.view_is) (sym c.place_of.ensures.place ∙ c.in-Some.is) in
+    let there = recorded c.self.inside.nodes.items c.self.inside.slots.items c.self.inside.root _ _ _ _ c.self.invariant c.args.key.now c.in-Some.place c.index.result.now came in
     rw (c.copy.ensures.same, ← c.self.view_is, there, ← c.index.ensures) refl
-
-pub returns-in-Err : goal.returns-in-Err
-returns-in-Err c = sym (absent_at _ _ _ c.in-Err.ensures.absent)

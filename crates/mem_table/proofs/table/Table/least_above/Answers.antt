@@ -1,33 +1,35 @@
-use Rattle.std.proofs.Common.{◌≡◌, Option, Some, ap, subst, sym, ◌∙◌}
+use Rattle.std.proofs.Common.{◌≡◌, Some, None, ap, sym, subst, ◌∙◌, arith}
 use Rattle.blsm_model.specs.declared.key.Key.{Key}
 use Rattle.record_delta.specs.declared.record.Rec.{Rec}
-use Rattle.record_delta.specs.Entries.{Entries, above, first_of}
+use Rattle.record_delta.specs.Entries.{first_of, above}
 use Rattle.mem_table.specs.Tables.{Contents}
-use Rattle.mem_table.specs.Places.{IsSplit}
-use Rattle.mem_table.proofs.OrderLemmas.{above_is, first_at, first_behind}
+use Rattle.mem_table.specs.Ways.{entry_at}
+use Rattle.mem_table.proofs.WayLemmas.{seen}
+use Rattle.mem_table.proofs.TableLemmas.{tree_there, least_some, least_none}
 use Rattle.mem_table.proofs.table.Table.least_above.Goals as goal
-use Rattle.mem_table.proofs.table.Table.least_above.Goals.{After-deref}
 
-split_inside : (c : After-deref) → IsSplit c.deref.result.now c.args.key c.first_above-at.result
-split_inside c = rw c.deref.ensures.value (subst (λ (v : Contents). IsSplit v.entries c.args.key c.first_above-at.result) (sym c.self.view_is) c.first_above-at.ensures)
+pub find_above-requires : goal.find_above-requires
+find_above-requires c = rw (c.deref.ensures.value, c.deref-2.ensures.value) (tree_there c.self.inside.nodes.items c.self.inside.slots.items c.self.inside.root _ _ _ _ c.self.invariant)
 
-entries_are : (c : After-deref) → c.deref.result.now ≡ c.args.self.now.entries
-entries_are c = c.deref.ensures.value ∙ ap (λ (v : Contents). v.entries) c.self.view_is
+pub index-entry-requires : goal.index-entry-requires
+index-entry-requires c =
+    let tree = tree_there c.self.inside.nodes.items c.self.inside.slots.items c.self.inside.root _ _ _ _ c.self.invariant in
+    let some = least_some c.self.inside.nodes.items c.self.inside.slots.items c.self.inside.root tree c.args.key c.find_above.result
+    (rw (c.deref.ensures.value, c.deref-2.ensures.value) at c.find_above.ensures) c.in-Some.place c.in-Some.is in
+    omega (arith, some.1, c.self.inside.slots.ok.0)
 
-pub returns-in_err-key : goal.returns-in_err-key
-returns-in_err-key c =
-    let b = (goal.at.returns-in_err-key c).After-deref in
-    let es = c.deref.result.now in
-    c.from_residual.ensures
-    ∙ sym (ap first_of (above_is es c.args.key c.first_above-at.result (split_inside b)) ∙ first_behind es c.first_above-at.result c.in_err-key.ensures.lookup.3)
-    ∙ ap (λ (l : Entries). first_of (above c.args.key l)) (entries_are b)
+pub returns-in-Some : goal.returns-in-Some
+returns-in-Some c =
+    let tree = tree_there c.self.inside.nodes.items c.self.inside.slots.items c.self.inside.root _ _ _ _ c.self.invariant in
+    let some = least_some c.self.inside.nodes.items c.self.inside.slots.items c.self.inside.root tree c.args.key c.find_above.result
+    (rw (c.deref.ensures.value, c.deref-2.ensures.value) at c.find_above.ensures) c.in-Some.place c.in-Some.is in
+    let copied : (c.copy.result, c.copy-in-Some.result) ≡ c.index-entry.result.now = rw (c.copy.ensures, c.copy-in-Some.ensures.same) in
+    ap (λ (e : Key × Rec). Some e) (copied ∙ c.index-entry.ensures ∙ sym (seen c.self.inside.slots.items c.in-Some.place c.index-entry.result.now some.1))
+    ∙ sym (subst (λ (v : Contents). first_of (above c.args.key v.entries) ≡ Some (entry_at c.self.inside.slots.items c.in-Some.place)) c.self.view_is some.0)
 
-pub returns : goal.returns
-returns c =
-    let b = (goal.at.returns c).After-deref in
-    let es = c.deref.result.now in
-    let e = c.in_ok-key.field-0.now in
-    let copied : (c.copy.result, c.copy-2.result) ≡ e = rw (c.copy.ensures, c.copy-2.ensures.same) in
-    ap (λ (x : Key × Rec). Some x) (copied ∙ c.in_ok-key.ensures.lookup.1)
-    ∙ sym (ap first_of (above_is es c.args.key c.first_above-at.result (split_inside b)) ∙ first_at es c.first_above-at.result e c.in_ok-key.ensures.lookup.3.0)
-    ∙ ap (λ (l : Entries). first_of (above c.args.key l)) (entries_are b)
+pub returns-in-None : goal.returns-in-None
+returns-in-None c =
+    let tree = tree_there c.self.inside.nodes.items c.self.inside.slots.items c.self.inside.root _ _ _ _ c.self.invariant in
+    let none = least_none c.self.inside.nodes.items c.self.inside.slots.items c.self.inside.root tree c.args.key c.find_above.result
+    (rw (c.deref.ensures.value, c.deref-2.ensures.value) at c.find_above.ensures) c.in-None.is in
+    sym (subst (λ (v : Contents). first_of (above c.args.key v.entries) ≡ None) c.self.view_is none)

@@ -1,5 +1,7 @@
+use Rattle.mem_table.specs.Ways.{tree_entries}
 use Rattle.mem_table.proofs.EditLemmas.{weight_more}
 use Rattle.mem_table.proofs.table.Table.weight.Goals as goal
 
 pub returns-clause-more : goal.returns-clause-more
-returns-clause-more c = λ key rec. rw (← c.self.view_is, c.self.invariant.weight_is) (weight_more c.self.inside.entries.items key rec c.self.invariant.sorted)
+returns-clause-more c = λ key rec.
+    rw (← c.self.view_is, c.self.invariant.table.weight_is) (weight_more (tree_entries c.self.inside.nodes.items c.self.inside.slots.items c.self.inside.root) key rec c.self.invariant.table.sorted)

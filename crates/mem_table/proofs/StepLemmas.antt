@@ -1,0 +1,65 @@
+-- How high a balanced tree is.
+use Rattle.std.proofs.Common.{◌≡◌, ℕ, suc, ◌+◌, ◌-◌, ◌*◌, ◌^◌, ◌≤◌, max, inl, inr, ◌∷◌, ◌++◌, length, refl, ap, ◌∙◌, arith}
+use Rattle.std.proofs.Math.Nat.{pow-le-pow_right, mul_assoc, mul_comm}
+use Rattle.std.proofs.lemmas.Nat.{mul-le, pow-add}
+use Rattle.std.proofs.lemmas.Bool.{cases_lt}
+use Rattle.std.proofs.lemmas.List.{length-append}
+use Rattle.mem_table.specs.Shapes.{Tree, Leaf, Fork, height, places, IsBalanced}
+
+square_le : (a b : ℕ) → a ≤ b → a * a ≤ b * b
+square_le a b le = mul-le a a b b le le
+
+twice_squared : (a : ℕ) → (2 * a) * (2 * a) ≡ 4 * (a * a)
+twice_squared a =
+    let inner : a * (2 * a) ≡ 2 * (a * a) = mul_comm a (2 * a) ∙ mul_assoc 2 a a in
+    omega (arith, mul_assoc 2 a (2 * a), inner)
+
+power_le : (i j : ℕ) → i ≤ j → 2 ^ i ≤ 2 ^ j
+power_le i j le = pow-le-pow_right (omega arith) le
+
+-- 2 to the height is at most four times the square of the number of nodes
+pub height_squared : (t : Tree) → IsBalanced t → 1 ≤ height t → 2 ^ height t ≤ 4 * (length (places t) * length (places t))
+height_squared Leaf balanced high = absurd (omega arith)
+height_squared (Fork l p r) balanced high =
+    let len : length (places l ++ p ∷ places r) ≡ length (places l) + suc (length (places r)) = length-append (places l) (p ∷ places r) in
+    let close_1 : height l ≤ height r + 1 = balanced.0.0 in
+    let close_2 : height r ≤ height l + 1 = balanced.0.1 in
+    elim (cases_lt (max (height l) (height r)) 2) [
+      | inl low ↦
+          let power : 2 ^ (max (height l) (height r) + 1) ≤ 2 ^ 2 = power_le (max (height l) (height r) + 1) 2 (omega arith) in
+          let one : 1 * 1 ≤ length (places l ++ p ∷ places r) * length (places l ++ p ∷ places r) = square_le 1 (length (places l ++ p ∷ places r)) (omega arith) in
+          omega arith
+      | inr tall ↦
+          let m : ℕ = max (height l) (height r) - 1 in
+          let of_left : 2 ^ height l ≤ 4 * (length (places l) * length (places l)) = height_squared l balanced.1 (omega arith) in
+          let of_right : 2 ^ height r ≤ 4 * (length (places r) * length (places r)) = height_squared r balanced.2 (omega arith) in
+          let lower_left : 2 ^ m ≤ 2 ^ height l = power_le m (height l) (omega arith) in
+          let lower_right : 2 ^ m ≤ 2 ^ height r = power_le m (height r) (omega arith) in
+          let all_is : max (height l) (height r) + 1 ≡ m + 2 = omega arith in
+          let power : 2 ^ (max (height l) (height r) + 1) ≡ 2 ^ m * 4 = ap (λ k. 2 ^ k) all_is ∙ pow-add 2 m 2 in
+          elim (cases_lt (length (places l)) (length (places r))) [
+            | inl fewer ↦
+                let square = square_le (2 * length (places l)) (length (places l ++ p ∷ places r)) (omega arith) in
+                omega (arith, square, twice_squared (length (places l)))
+            | inr more ↦
+                let square = square_le (2 * length (places r)) (length (places l ++ p ∷ places r)) (omega arith) in
+                omega (arith, square, twice_squared (length (places r)))
+          ]
+    ]
+
+no_leaf : (t : Tree) → 1 ≤ length (places t) → 1 ≤ height t
+no_leaf Leaf some = absurd (omega arith)
+no_leaf (Fork l p r) some = omega arith
+
+bare_leaf : (t : Tree) → length (places t) ≡ 0 → height t ≡ 0
+bare_leaf Leaf none = refl
+bare_leaf (Fork l p r) none = absurd (omega (arith, length-append (places l) (p ∷ places r)))
+
+pub few : (t : Tree) (s n : ℕ) → IsBalanced t → length (places t) ≡ n → s ≤ height t → 1 ≤ n → 2 ^ s ≤ 4 * n * n
+few t s n balanced is low some =
+    let most : 2 ^ height t ≤ 4 * (length (places t) * length (places t)) = height_squared t balanced (no_leaf t (omega arith)) in
+    let square : length (places t) * length (places t) ≡ n * n = ap (λ k. k * k) is in
+    omega (arith, power_le s (height t) low, mul_assoc 4 n n)
+
+pub none_taken : (t : Tree) (s n : ℕ) → length (places t) ≡ n → s ≤ height t → n ≡ 0 → s ≡ 0
+none_taken t s n is low none = omega (arith, bare_leaf t (omega arith))

@@ -1,0 +1,15 @@
+use Rattle.std.proofs.Common.{[], ap, arith}
+use Rattle.record_delta.specs.Entries.{Entries}
+use Rattle.mem_table.proofs.TableLemmas.{arena_empty, entries_empty}
+use Rattle.mem_table.proofs.table.Table.clear.Goals as goal
+
+pub invariant_of-self : goal.invariant_of-self
+invariant_of-self c =
+    let rooms = c.self.invariant.node_room in
+    let places = c.self.invariant.table.room in
+    rw (c.clear-2.ensures.items, c.clear.ensures.items)
+    (arena_empty c.self.inside.reserved _ _ (omega (arith, c.clear-2.ensures.capacity)) (omega (arith, c.clear.ensures.capacity)) c.self.invariant.numbered)
+
+pub returns : goal.returns
+returns c =
+    rw (c.clear-2.ensures.items, c.clear.ensures.items, ← c.self.view_is) (ap (λ (es : Entries). record { entries = es; reserved = c.self.inside.reserved; arrived = [] }) entries_empty)
