@@ -23,6 +23,8 @@ pub struct FileDisk<F: FileExt + OpenFile> {
     pub(crate) calls: u64,
     pub(crate) faults: u64,
     pub(crate) sync_failed: bool,
+    // Its fetch made the file: no other was there.
+    pub(crate) made: bool,
 }
 
 impl<F: FileExt + OpenFile> FileDisk<F> {
@@ -32,6 +34,7 @@ impl<F: FileExt + OpenFile> FileDisk<F> {
         ensures calls { result.calls ≡ 0 }
         ensures faults { result.faults ≡ 0 }
         ensures sync_failed { result.sync_failed ≡ false }
+        ensures made { result.made ≡ false }
     {
         FileDisk {
             file,
@@ -39,6 +42,7 @@ impl<F: FileExt + OpenFile> FileDisk<F> {
             calls: 0,
             faults: 0,
             sync_failed: false,
+            made: false,
         }
     }
 
@@ -112,7 +116,9 @@ fn write_part<F: FileExt + OpenFile>(
     from: &[u8],
 ) -> io::Result<()> {
     reach(file, known, at)?;
-    file.write_all_at(from, at)
+    file.write_all_at(from, at)?;
+    *known = (*known).max(at.saturating_add(from.len() as u64));
+    Ok(())
 }
 
 impl<F: FileExt + OpenFile> Disk for FileDisk<F> {

@@ -1,11 +1,12 @@
 //! A writer as a sink.
-ghost use Rattle.std.specs.Prelude.{◌≡◌, None, IfOk, OnOk, OnErr};
+ghost use Rattle.std.specs.Prelude.{◌≡◌, ◌≤◌, None, length, IfOk, OnOk, OnErr};
 ghost use Rattle.std.specs.Io.KnownBytes.{WriteAppends};
 ghost use Rattle.refusal.specs.Count.{CountsFault};
 ghost use Rattle.text_io.specs.Text.{Takes};
 
 use refusal::Failed;
-use std::io::Write;
+use std::io;
+use std::io::{ErrorKind, Write};
 use text_io::Sink;
 
 /// Bytes to a writer, as standard output. A call that the writer refuses is a fault, and so is one of which it takes nothing.
@@ -25,6 +26,20 @@ impl<W: Write> StdSink<W> {
     }
 }
 
+// Writes, and once more where a signal interrupted the call before a byte was taken, as the system asks.
+fn write_through<W: Write>(writer: &mut W, from: &[u8]) -> io::Result<usize>
+    ensures bytes { WriteAppends (W.contents writer.old) (W.contents writer.new) result from.now }
+    ensures few { IfOk result (λ n. n ≤ length from.now) }
+{
+    for _ in 0..u64::MAX {
+        match writer.write(from) {
+            Err(error) if error.kind() == ErrorKind::Interrupted => {}
+            outcome => return outcome,
+        }
+    }
+    writer.write(from)
+}
+
 impl<W: Write> Sink for StdSink<W> {
     ghost held = { λ _. None };
 
@@ -41,7 +56,7 @@ impl<W: Write> Sink for StdSink<W> {
         if from.is_empty() {
             return Ok(0);
         }
-        match self.writer.write(from) {
+        match write_through(&mut self.writer, from) {
             Ok(count) if count > 0 => Ok(count),
             _ => {
                 self.faults = self.faults.saturating_add(1);

@@ -1,11 +1,12 @@
 //! A reader as a source.
-ghost use Rattle.std.specs.Prelude.{◌≡◌, None, length, IfOk, OnOk, OnErr};
+ghost use Rattle.std.specs.Prelude.{◌≡◌, ◌≤◌, None, length, IfOk, OnOk, OnErr};
 ghost use Rattle.std.specs.Io.KnownBytes.{ReadConsumes};
 ghost use Rattle.refusal.specs.Count.{CountsFault};
 ghost use Rattle.text_io.specs.Text.{Gives};
 
 use refusal::Failed;
-use std::io::Read;
+use std::io;
+use std::io::{ErrorKind, Read};
 use text_io::Source;
 
 /// Bytes from a reader, as standard input. A call that the reader refuses is a fault.
@@ -25,6 +26,21 @@ impl<R: Read> StdSource<R> {
     }
 }
 
+// Reads, and once more where a signal interrupted the call before a byte was given, as the system asks.
+fn read_through<R: Read>(reader: &mut R, into: &mut [u8]) -> io::Result<usize>
+    ensures bytes { ReadConsumes (R.remaining reader.old) (R.remaining reader.new) result into.new }
+    ensures few { IfOk result (λ n. n ≤ length into.old) }
+    ensures room { length into.new ≡ length into.old }
+{
+    for _ in 0..u64::MAX {
+        match reader.read(into) {
+            Err(error) if error.kind() == ErrorKind::Interrupted => {}
+            outcome => return outcome,
+        }
+    }
+    reader.read(into)
+}
+
 impl<R: Read> Source for StdSource<R> {
     ghost left = { λ _. None };
 
@@ -38,7 +54,7 @@ impl<R: Read> Source for StdSource<R> {
         // A reader that tells its bytes loses those that were given, and no others.
         ensures bytes { ReadConsumes (R.remaining self.old.reader) (R.remaining self.new.reader) result into.new }
     {
-        match self.reader.read(into) {
+        match read_through(&mut self.reader, into) {
             Ok(count) => Ok(count),
             Err(_) => {
                 self.faults = self.faults.saturating_add(1);

@@ -1,38 +1,51 @@
 use super::*;
 use disk_trait::{Disk, Shelf};
 use refusal::Failed;
+use std::alloc::{Alloc, Global};
 use std::cell::Cell;
 use std::fs::{File, Metadata, OpenFile};
-use std::io::{Read, Write};
+use std::io::{PipeReader, Read, Write};
+use std::os::fd::AsRawFd;
 use std::os::unix::fs::{FileExt, symlink};
-use std::test::Fail;
+use std::process::Abort;
+use std::rt::Files;
 use std::{fs, io};
 use text_io::{Sink, Source};
 
-// A stream whose first call fails, and each later one moves one byte.
+// A stream whose first calls fail so, and each later one moves one byte.
 #[derive(Drop)]
-struct FailsOnce {
+struct FailsFirst {
     calls: u32,
+    failing: u32,
+    kind: io::ErrorKind,
 }
 
-impl FailsOnce {
+impl FailsFirst {
     fn call(&mut self) -> io::Result<()> {
         self.calls = self.calls.saturating_add(1);
-        if self.calls == 1 {
-            return Err(io::Error::from(io::ErrorKind::Other));
+        if self.calls <= self.failing {
+            return Err(io::Error::from(self.kind));
         }
         Ok(())
     }
 }
 
-impl Read for FailsOnce {
+fn fails_first(failing: u32, kind: io::ErrorKind) -> FailsFirst {
+    FailsFirst {
+        calls: 0,
+        failing,
+        kind,
+    }
+}
+
+impl Read for FailsFirst {
     fn read(&mut self, into: &mut [u8]) -> io::Result<usize> {
         self.call()?;
         Ok(into.len().min(1))
     }
 }
 
-impl Write for FailsOnce {
+impl Write for FailsFirst {
     fn write(&mut self, from: &[u8]) -> io::Result<usize> {
         self.call()?;
         Ok(from.len().min(1))
@@ -46,7 +59,7 @@ impl Write for FailsOnce {
 // A call that is refused is told, counted once and not tried again, though a second call would have worked.
 #[test]
 fn a_refused_read_is_not_tried_again(rt: HostRuntime) {
-    let mut source = StdSource::new(FailsOnce { calls: 0 });
+    let mut source = StdSource::new(fails_first(1, io::ErrorKind::Other));
     let mut two = [0; 2];
     assert!(rt; source.read(&mut two).is_err());
     assert_eq!(rt; (source.reader.calls, source.faults), (1, 1));
@@ -56,26 +69,41 @@ fn a_refused_read_is_not_tried_again(rt: HostRuntime) {
 
 #[test]
 fn a_refused_write_is_not_tried_again(rt: HostRuntime) {
-    let mut sink = StdSink::new(FailsOnce { calls: 0 });
+    let mut sink = StdSink::new(fails_first(1, io::ErrorKind::Other));
     assert!(rt; sink.write(b"ab").is_err());
     assert_eq!(rt; (sink.writer.calls, sink.faults), (1, 1));
     assert_eq!(rt; sink.write(b"ab"), Ok(1));
     assert_eq!(rt; (sink.writer.calls, sink.faults), (2, 1));
 }
 
+// A call that a signal interrupted is made again, and no fault.
 #[test]
-fn a_reader_is_a_source(rt: HostRuntime) -> Result<(), Fail> {
+fn an_interrupted_read_is_made_again(rt: HostRuntime) {
+    let mut source = StdSource::new(fails_first(3, io::ErrorKind::Interrupted));
+    let mut two = [0; 2];
+    assert_eq!(rt; source.read(&mut two), Ok(1));
+    assert_eq!(rt; (source.reader.calls, source.faults), (4, 0));
+}
+
+#[test]
+fn an_interrupted_write_is_made_again(rt: HostRuntime) {
+    let mut sink = StdSink::new(fails_first(3, io::ErrorKind::Interrupted));
+    assert_eq!(rt; sink.write(b"ab"), Ok(1));
+    assert_eq!(rt; (sink.writer.calls, sink.faults), (4, 0));
+}
+
+#[test]
+fn a_reader_is_a_source(rt: HostRuntime) {
     let mut source = StdSource::new(b"abc".as_slice());
     let mut two = [0; 2];
     assert_eq!(rt; source.read(&mut two).is_ok(), true);
     assert_eq!(rt; two, *b"ab");
     assert_eq!(rt; source.read(&mut two), Ok(1));
     assert_eq!(rt; source.read(&mut two), Ok(0));
-    Ok(())
 }
 
 #[test]
-fn a_writer_is_a_sink(rt: HostRuntime) -> Result<(), Fail> {
+fn a_writer_is_a_sink(rt: HostRuntime) {
     let mut bytes = Vec::new(rt.alloc());
     {
         let mut sink = StdSink::new(&mut bytes);
@@ -94,7 +122,6 @@ fn a_writer_is_a_sink(rt: HostRuntime) -> Result<(), Fail> {
         assert_eq!(rt; sink.write(b""), Ok(0));
     }
     assert_eq!(rt; two, *b"ab");
-    Ok(())
 }
 
 // A file of four bytes. One call fails, by its number, and each read and write moves one byte.
@@ -158,7 +185,7 @@ fn five_calls(disk: &mut FileDisk<Faulty>) -> [bool; 5] {
 
 // A call that the system refuses is a fault, and isn't tried again. A sync after one that failed isn't even tried.
 #[test]
-fn a_refused_call_of_a_file_is_one_fault(rt: HostRuntime) -> Result<(), Fail> {
+fn a_refused_call_of_a_file_is_one_fault(rt: HostRuntime) {
     let rows = [
         (0, [true, true, true, true, true], 8, 0),
         (1, [false, true, true, true, true], 8, 1),
@@ -179,7 +206,19 @@ fn a_refused_call_of_a_file_is_one_fault(rt: HostRuntime) -> Result<(), Fail> {
         assert_eq!(rt; disk.file.calls.get(), calls, "call {failing}");
         assert_eq!(rt; disk.faults(), faults, "call {failing}");
     }
-    Ok(())
+}
+
+// A file is measured where it isn't known to be so long, and what was written makes it known.
+#[test]
+fn a_write_makes_a_length_known(rt: HostRuntime) {
+    let mut disk = FileDisk::new(Faulty {
+        calls: Cell::new(0),
+        failing: 0,
+    });
+    assert_eq!(rt; disk.write(4, b"ab"), Ok(()));
+    assert_eq!(rt; disk.file.calls.get(), 3);
+    assert_eq!(rt; disk.write(6, b"c"), Ok(()));
+    assert_eq!(rt; disk.file.calls.get(), 4);
 }
 
 fn write_six(disk: &mut FileDisk<File>) -> Result<(), Failed> {
@@ -194,28 +233,93 @@ fn read_four(disk: &mut FileDisk<File>) -> Result<[u8; 4], Failed> {
     Ok(four)
 }
 
+// The files of these tests lie in the folder in which they run.
+fn shelf<R: Files<File = File>>(files: &R) -> FileShelf<&R> {
+    FileShelf::new(files)
+}
+
+fn fetch<R: Abort + Files<File = File> + Alloc>(
+    rt: &R,
+    shelf: &mut FileShelf<&R>,
+    name: &str,
+    fresh: bool,
+) -> FileDisk<File> {
+    match shelf.fetch(name, fresh) {
+        Ok(disk) => disk,
+        Err(Failed) => panic!(rt; "{name} isn't fetched"),
+    }
+}
+
+fn put<R: Abort + Files<File = File>>(rt: &R, name: &str, bytes: &[u8]) {
+    assert!(rt; fs::write(rt, name, bytes).is_ok(), "{name}");
+}
+
+fn exists<R: Abort + Files>(rt: &R, name: &str) -> bool {
+    match fs::exists(rt, name) {
+        Ok(exists) => exists,
+        Err(_) => panic!(rt; "{name} isn't looked at"),
+    }
+}
+
+fn remove<R: Abort + Files>(rt: &R, name: &str) {
+    assert!(rt; rt.remove_file(name).is_ok(), "{name}");
+}
+
+fn has<R: Abort + Files + Alloc>(rt: &R, name: &str, bytes: &[u8]) {
+    match fs::read(rt, name) {
+        Ok(found) => assert_eq!(rt; found.as_slice(), bytes),
+        Err(_) => assert!(rt; false, "{name}"),
+    }
+}
+
+// It is made, written, and read at the next fetch, fresh or not.
+fn keeps_six<R: Abort + Files<File = File> + Alloc>(rt: &R, name: &str) {
+    let mut shelf = shelf(rt);
+    let mut disk = fetch(rt, &mut shelf, name, true);
+    assert_eq!(rt; disk.len(), Ok(0));
+    assert_eq!(rt; write_six(&mut disk), Ok(()));
+    assert_eq!(rt; disk.len(), Ok(6));
+    shelf.give_back(name, disk);
+    has(rt, name, b"abCDEF");
+    reads_four(rt, &mut shelf, name, false);
+    reads_four(rt, &mut shelf, name, true);
+    assert_eq!(rt; shelf.faults, 0);
+}
+
+fn reads_four<R: Abort + Files<File = File> + Alloc>(
+    rt: &R,
+    shelf: &mut FileShelf<&R>,
+    name: &str,
+    fresh: bool,
+) {
+    let mut disk = fetch(rt, shelf, name, fresh);
+    assert_eq!(rt; read_four(&mut disk), Ok(*b"bCDE"));
+    shelf.give_back(name, disk);
+}
+
 // What is written stands in the file of that name, and is there at the next fetch, fresh or not.
 #[test]
-fn a_file_keeps_what_is_written(rt: HostRuntime) -> Result<(), Fail> {
-    fs::create_dir(&rt, "real_edge_files")?;
+fn a_file_keeps_what_is_written(rt: HostRuntime) {
+    assert!(rt; fs::create_dir(&rt, "real_edge_files").is_ok());
     for name in ["real_edge_file", "real_edge_files/one"] {
-        let mut shelf = FileShelf::new(&rt);
-        let mut disk = shelf.fetch(name, true)?;
-        assert_eq!(rt; disk.len(), Ok(0));
-        write_six(&mut disk)?;
-        assert_eq!(rt; disk.len(), Ok(6));
-        shelf.give_back(name, disk);
-        assert_eq!(rt; fs::read(&rt, name)?.as_slice(), b"abCDEF".as_slice());
-        for fresh in [false, true] {
-            let mut disk = shelf.fetch(name, fresh)?;
-            assert_eq!(rt; read_four(&mut disk)?, *b"bCDE");
-            shelf.give_back(name, disk);
-        }
-        assert_eq!(rt; shelf.faults, 0);
-        fs::remove_file(&rt, name)?;
+        keeps_six(&rt, name);
+        remove(&rt, name);
     }
-    fs::remove_dir(&rt, "real_edge_files")?;
-    Ok(())
+    assert!(rt; fs::remove_dir(&rt, "real_edge_files").is_ok());
+}
+
+// A link leads to its file, also where it is fetched fresh, and to the folder of that file.
+#[test]
+fn a_link_leads_to_its_file(rt: HostRuntime) {
+    assert!(rt; fs::create_dir(&rt, "real_edge_far").is_ok());
+    put(&rt, "real_edge_far/one", b"abCDEF");
+    assert!(rt; symlink(&rt, "real_edge_far/one", "real_edge_near").is_ok());
+    let mut shelf = shelf(&rt);
+    reads_four(&rt, &mut shelf, "real_edge_near", true);
+    reads_four(&rt, &mut shelf, "real_edge_near", false);
+    remove(&rt, "real_edge_near");
+    remove(&rt, "real_edge_far/one");
+    assert!(rt; fs::remove_dir(&rt, "real_edge_far").is_ok());
 }
 
 // How many of these calls on a file of three bytes end well.
@@ -232,27 +336,80 @@ fn past_end(disk: &mut FileDisk<File>) -> usize {
     calls.iter().filter(|call| **call).count()
 }
 
-// A range that begins or is read past the end is a fault and changes nothing, and the shelf gets the faults of the file.
+// A range that begins or is read past the end is a fault and changes nothing, and the shelf gets the faults of the file, which it
+// leaves, since no fetch made it.
 #[test]
-fn a_file_refuses_what_lies_past_its_end(rt: HostRuntime) -> Result<(), Fail> {
-    fs::write(&rt, "real_edge_end", b"abc".as_slice())?;
-    let mut shelf = FileShelf::new(&rt);
-    let mut disk = shelf.fetch("real_edge_end", false)?;
+fn a_file_refuses_what_lies_past_its_end(rt: HostRuntime) {
+    put(&rt, "real_edge_end", b"abc");
+    let mut shelf = shelf(&rt);
+    let mut disk = fetch(&rt, &mut shelf, "real_edge_end", true);
     assert_eq!(rt; past_end(&mut disk), 0);
     assert_eq!(rt; disk.faults(), 6);
     assert_eq!(rt; disk.read(3, &mut []), Ok(()));
     assert_eq!(rt; disk.write(3, b"de"), Ok(()));
-    assert_eq!(rt; read_four(&mut disk)?, *b"bcde");
+    assert_eq!(rt; read_four(&mut disk), Ok(*b"bcde"));
     shelf.give_back("real_edge_end", disk);
     assert_eq!(rt; shelf.faults, 6);
-    fs::remove_file(&rt, "real_edge_end")?;
-    Ok(())
+    has(&rt, "real_edge_end", b"abcde");
+    remove(&rt, "real_edge_end");
+}
+
+// A file that a fetch made is gone once it comes back with a fault, and stays without one.
+#[test]
+fn a_file_made_in_vain_is_removed(rt: HostRuntime) {
+    let mut shelf = shelf(&rt);
+    let mut disk = fetch(&rt, &mut shelf, "real_edge_vain", true);
+    assert_eq!(rt; write_six(&mut disk), Ok(()));
+    assert!(rt; disk.read(7, &mut []).is_err());
+    shelf.give_back("real_edge_vain", disk);
+    assert!(rt; !exists(&rt, "real_edge_vain"));
+    let disk = fetch(&rt, &mut shelf, "real_edge_vain", true);
+    shelf.give_back("real_edge_vain", disk);
+    assert!(rt; exists(&rt, "real_edge_vain"));
+    remove(&rt, "real_edge_vain");
+}
+
+// Refused by a fetch, fresh or not, with a fault for each.
+fn refuses<R: Abort + Files<File = File> + Alloc>(rt: &R, name: &str) {
+    let mut shelf = shelf(rt);
+    assert!(rt; shelf.fetch(name, false).is_err(), "{name}");
+    assert!(rt; shelf.fetch(name, true).is_err(), "{name}");
+    assert_eq!(rt; shelf.faults, 2);
+}
+
+// A folder, a pipe and a device are no files, and nothing is written to them.
+#[test]
+fn a_file_alone_is_fetched(rt: HostRuntime) {
+    assert!(rt; fs::create_dir(&rt, "real_edge_folder").is_ok());
+    refuses(&rt, "real_edge_folder");
+    assert!(rt; fs::remove_dir(&rt, "real_edge_folder").is_ok());
+    refuses(&rt, "/dev/null");
+    refuses_pipe(&rt);
+}
+
+// A pipe, under the name that the system gives it.
+fn refuses_pipe<R: Abort + Files<File = File> + Alloc<A = Global>>(rt: &R) {
+    let Ok((reader, writer)) = io::pipe(rt) else {
+        panic!(rt; "no pipe");
+    };
+    match format!(in rt.alloc(); "/proc/self/fd/{}", reader.as_raw_fd()) {
+        Ok(name) => refuses(rt, name.as_str()),
+        Err(_) => assert!(rt; false, "no memory"),
+    }
+    drop(writer);
+    assert_eq!(rt; left_in(reader), Ok(0));
+}
+
+// How many bytes of the first eight a pipe without writers has.
+fn left_in(mut reader: PipeReader) -> Result<usize, Failed> {
+    let mut eight = [0; 8];
+    reader.read(&mut eight).map_err(|_| Failed)
 }
 
 // Each fetch that fails is one fault, and makes no file. A link that leads nowhere is not followed.
 #[test]
-fn a_fetch_that_fails_is_one_fault(rt: HostRuntime) -> Result<(), Fail> {
-    symlink(&rt, "real_edge_missing", "real_edge_link")?;
+fn a_fetch_that_fails_is_one_fault(rt: HostRuntime) {
+    assert!(rt; symlink(&rt, "real_edge_missing", "real_edge_link").is_ok());
     let rows = [
         ("real_edge_missing", false),
         ("real_edge_link", true),
@@ -260,26 +417,25 @@ fn a_fetch_that_fails_is_one_fault(rt: HostRuntime) -> Result<(), Fail> {
         (".", true),
         ("", true),
     ];
-    let mut shelf = FileShelf::new(&rt);
+    let mut shelf = shelf(&rt);
     for (name, fresh) in rows {
         assert!(rt; shelf.fetch(name, fresh).is_err(), "{name}");
     }
     assert_eq!(rt; shelf.faults, 5);
-    assert_eq!(rt; fs::exists(&rt, "real_edge_missing")?, false);
-    fs::remove_file(&rt, "real_edge_link")?;
-    Ok(())
+    assert!(rt; !exists(&rt, "real_edge_missing"));
+    remove(&rt, "real_edge_link");
 }
 
 // A file is out once, whichever shelf it is fetched from, until it is given back.
 #[test]
-fn a_file_that_is_out_is_not_fetched(rt: HostRuntime) -> Result<(), Fail> {
-    let mut shelf = FileShelf::new(&rt);
-    let mut other = FileShelf::new(&rt);
-    let disk = shelf.fetch("real_edge_out", true)?;
-    assert!(rt; shelf.fetch("real_edge_out", true).is_err());
+fn a_file_that_is_out_is_not_fetched(rt: HostRuntime) {
+    let mut one = shelf(&rt);
+    let mut other = shelf(&rt);
+    let disk = fetch(&rt, &mut one, "real_edge_out", true);
+    assert!(rt; one.fetch("real_edge_out", true).is_err());
     assert!(rt; other.fetch("real_edge_out", false).is_err());
-    shelf.give_back("real_edge_out", disk);
-    assert!(rt; other.fetch("real_edge_out", false).is_ok());
-    fs::remove_file(&rt, "real_edge_out")?;
-    Ok(())
+    one.give_back("real_edge_out", disk);
+    let disk = fetch(&rt, &mut other, "real_edge_out", false);
+    other.give_back("real_edge_out", disk);
+    remove(&rt, "real_edge_out");
 }
