@@ -307,7 +307,6 @@ holds_follow seat b c old new kept beside = record {
   others = λ other apart. record {
     debt1 = beside.first other apart;
     debt2 = beside.second other apart;
-    held = beside.held other apart;
     turns = (kept.others other apart).turns;
     worked = (kept.others other apart).worked;
     room = λ i. ((kept.others other apart).entries_room i, (kept.others other apart).rows_room i);

@@ -67,7 +67,7 @@ abbrev pub LessKeeps : Type 0
 LessKeeps = (seat entries more_entries quanta more_quanta : ℕ) (b c : BookState) → entries ≤ more_entries → quanta ≤ more_quanta → KeepsSeats seat entries quanta b c
     → KeepsSeats seat more_entries more_quanta b c
 
--- What is done in one hold of a lock, with one entry and one quantum at most, is what a lock allows, where the rest of the tree leaves
--- the others what they hold and doesn't raise what they owe.
+-- What is done in one hold of a lock, with one entry and one quantum at most, is what a lock allows, where the rest of the tree doesn't raise
+-- what the others owe.
 abbrev pub HoldsFollow : Type 0
 HoldsFollow = (seat : ℕ) (b c : BookState) (old new : Beside) → KeepsSeats seat 1 1 b c → LeavesBeside seat old new → Follows seat (facts_in old b) (facts_in new c)

@@ -1,9 +1,8 @@
 -- What calls for one seat leave in the book to the others, and to a lock that guards it.
-use Rattle.std.specs.Prelude.{◌≡◌, ◌≢◌, ℕ, ◌+◌, ◌-◌, ◌≤◌, true, false, List, ◌++◌, length, sum, Option, is_some, slice_index, slice_index_or, if◌then◌else◌}
+use Rattle.std.specs.Prelude.{◌≡◌, ◌≢◌, ℕ, ◌+◌, ◌-◌, ◌≤◌, true, false, List, ◌++◌, length, sum, is_some, slice_index, slice_index_or, if◌then◌else◌}
 use Rattle.std.specs.List.{AllByRecursion}
 use Rattle.blsm_model.specs.Format.{callers}
 use Rattle.blsm_model.specs.Facts.{Facts, Part}
-use Rattle.blsm_model.specs.declared.row.Row.{Row}
 use Rattle.blsm_model.specs.declared.history.Entry.{Entry}
 use Rattle.tree_machine.specs.Machine.{is_worked, is_caller}
 use Rattle.seat_book.specs.Places.{HasWrite}
@@ -42,17 +41,15 @@ pub record KeepsSeats (seat entries quanta : ℕ) (b c : BookState) : Type 0 whe
 
 -- ---- the facts of a lock's value
 
--- what each seat owes to the two merges, and the rows that it holds, which are no part of the book
+-- what each seat owes to the two merges, which is no part of the book
 pub record Beside : Type 0 where
   pub first : ℕ → ℕ
   pub second : ℕ → ℕ
-  pub held : ℕ → Option (List Row)
 
 abbrev pub part_in : Beside → BookState → ℕ → Part
 part_in beside b seat = record {
   debt1 = beside.first seat;
   debt2 = beside.second seat;
-  held = beside.held seat;
   turns = turns_in seat b;
   worked = is_worked (work_in seat b).last;
   room = (slice_index b.book.room.entries seat, slice_index b.book.room.rows seat);
@@ -69,8 +66,7 @@ facts_in beside b = record {
   stopped = is_some b.stopped;
 }
 
--- the debts of the other seats didn't rise, and they hold the same rows
+-- the debts of the other seats didn't rise
 pub record LeavesBeside (seat : ℕ) (old new : Beside) : Type 0 where
   pub first : (other : ℕ) → other ≢ seat → new.first other ≤ old.first other
   pub second : (other : ℕ) → other ≢ seat → new.second other ≤ old.second other
-  pub held : (other : ℕ) → other ≢ seat → new.held other ≡ old.held other

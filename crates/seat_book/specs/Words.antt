@@ -11,7 +11,7 @@ use Rattle.blsm_model.specs.Sizes.{Sizes}
 use Rattle.record_delta.specs.Entries.{Entries, entries_weight}
 use Rattle.tree_machine.specs.declared.step.Kind.TheVariants as kind
 use Rattle.tree_machine.specs.Lists.{memory_weight}
-use Rattle.tree_machine.specs.Machine.{Machine, Catalogue, opened, pass_done, deep_done, is_closed, charge, held_by, work_of, totals}
+use Rattle.tree_machine.specs.Machine.{Machine, Catalogue, opened, pass_done, deep_done, is_closed, charge, work_of, totals}
 use Rattle.tree_machine.specs.Moves.{take_write, with_peak, note, stop}
 use Rattle.tree_machine.specs.Steps.{Outcome, Choice, SwapDeep, SwapPass, DeepQuantum, PassQuantum, chosen, count_for_write, deep_swapped, forgive, holding, leave, ready_for, work_end, work_turn, work_turning, worker_turn, worker_turning}
 use Rattle.tree_machine.specs.Plays.{may, may_note, is_even}
@@ -25,7 +25,6 @@ abbrev pub beside_of : Machine → Beside
 beside_of m = record {
   first = λ seat. slice_index m.gears.first_debts seat;
   second = λ seat. slice_index m.gears.second_debts seat;
-  held = λ seat. held_by seat m;
 }
 
 -- What is read off a machine is read off its book: a work, whether all left, what a seat may do, the numbers of the run, and the

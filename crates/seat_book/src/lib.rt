@@ -13,6 +13,3 @@ mod work;
 pub use book::SeatBook;
 pub use laws::{entries_have_places, machines_have_books, other_seats_stay};
 pub use turned::Turned;
-
-#[cfg(test)]
-mod tests;

@@ -121,7 +121,7 @@ follows_by : (seat : ℕ) (old left : Held) (b : BookState) → LeavesOthers sea
 follows_by seat old left b leaves keeps =
     holds_follow seat old.book b (beside_in old) (beside_in (with_book b left))
     (keeps_less seat 1 1 0 1 old.book b (omega arith) (omega arith) (keeps_both seat 0 1 0 0 old.book left.book b leaves.book keeps))
-    (record { first = leaves.first; second = leaves.second; held = λ other apart. refl })
+    (record { first = leaves.first; second = leaves.second })
 
 -- an entry
 pub quiet_follows : (seat : ℕ) (op : Op) (reply : Reply) (held : Held) → Follows seat (facts_of_held held) (facts_of_held (with_book (noted_in seat op reply held.book) held))

@@ -39,7 +39,7 @@ use Rattle.tree_core.proofs.QuietLemmas.{rebooked_holds, quiet_stands, shows_now
 pub book_follows : (seat entries : ℕ) (held : Held) (b : BookState) → entries ≤ 1 → KeepsSeats seat entries 0 held.book b → Follows seat (facts_of_held held) (facts_of_held (with_book b held))
 book_follows seat entries held b few keeps =
     holds_follow seat held.book b (beside_in held) (beside_in held) (keeps_less seat entries 1 0 1 held.book b few (omega arith) keeps)
-    (record { first = λ other not. omega arith; second = λ other not. omega arith; held = λ other not. refl })
+    (record { first = λ other not. omega arith; second = λ other not. omega arith })
 
 -- ---- a leave
 

@@ -11,8 +11,8 @@ mod TakingLists
 mod AdmissionLemmas
 mod AdmissionFollows
 mod AdmissionSteps
-mod SizeLemmas
-mod PlayLemmas
+pub mod SizeLemmas
+pub mod PlayLemmas
 mod LastLemmas
 pub mod QuantumLemmas
 pub mod QuantumSteps
@@ -26,3 +26,4 @@ mod NotingLemmas
 mod HoldSteps
 mod HoldStepsByCall
 mod HoldStepsLast
+pub mod CallLemmas

@@ -1,5 +1,5 @@
 -- What a call leaves of the annals, of the callers' open works, and of its own seat's debts.
-use Rattle.std.specs.Prelude.{IfOk, IsErr, length, slice_index, slice_index_or, slice_set, nat_lt, ◌==◌}
+use Rattle.std.specs.Prelude.{IfOk, IsErr, length, slice_index, slice_index_or, slice_set, nat_lt, ◌==◌, ◌%◌, ◌^◌}
 use Rattle.std.specs.declared.result.Result.{Result}
 use Rattle.std.proofs.Common.{◌≡◌, ◌∙◌, ℕ, ◌+◌, ◌-◌, ◌≤◌, ◌<◌, Bool, true, false, cond, List, Some, Ok, Err, replicate, refl, ap, sym, subst, arith}
 use Rattle.std.proofs.lemmas.Bool.{eqb-true, ltb-true, ltb-false}
@@ -19,16 +19,17 @@ use Rattle.page_file.specs.declared.file.Broken.TheVariants.{Fault, Damaged}
 use Rattle.pacing.specs.Steps as pacing
 use Rattle.pacing.specs.Steps.{Move}
 use Rattle.paced_tree.specs.Booking.{quanta_of_move}
-use Rattle.tree_machine.specs.Machine.{Seats, Turned, WorkSoFar, no_work}
+use Rattle.tree_machine.specs.Machine.{Seats, Turned, WorkSoFar, is_caller, no_work, seats}
 use Rattle.tree_machine.specs.Steps.{last_write}
 use Rattle.tree_machine.proofs.PlayLemmas.{of_replicate}
+use Rattle.seat_book.specs.Seats.{turns_in}
 use Rattle.seat_book.specs.State.{BookState, helped_in, noted_in, paid_in, stopped_in, turned_in, with_ended, work_in}
 use Rattle.core_moves.specs.declared.held.Held.{Held}
 use Rattle.core_moves.specs.Held.{is_run_full}
 use Rattle.core_moves.specs.Moves.{KeepsAllButMerges, with_book, with_debts_forgiven}
 use Rattle.core_pace.specs.Calls.{KeepsBook}
 use Rattle.core_pace.specs.Turns.{TurnsBy, end_of_move, move_in}
-use Rattle.tree_core.specs.Notes.{NotesOne, NotesNone, CountsPayment, CountsTurn, OwesNothing, quanta_of_turn}
+use Rattle.tree_core.specs.Notes.{NotesOne, NotesNone, CountsPayment, CountsTurn, HelpsOnce, OwesNothing, quanta_of_turn}
 use Rattle.tree_core.specs.Quanta.{ended_by, quanta_by, stopped_by}
 use Rattle.tree_core.specs.declared.answers.Payment.TheVariants as payment
 use Rattle.tree_core.proofs.PaymentLemmas.{Took, FailedToTake, book_taken, book_stopped}
@@ -193,3 +194,36 @@ turn_owes seat mv made faults old moved ended b before after e =
     let first : first_debt moved.gears seat ≤ first_debt old.gears seat = less.first in
     let second : second_debt moved.gears seat ≤ second_debt old.gears seat = less.second in
     omega (arith, even, first, second)
+
+-- ---- a worker's turn counts
+
+stopped_turns : (made : Result ℕ Broken) (faults : ℕ) (b : BookState) → (stopped_by made faults b).seats.turns ≡ b.seats.turns
+stopped_turns (Ok n) faults b = refl
+stopped_turns (Err Fault) faults b = refl
+stopped_turns (Err (Damaged page)) faults b = refl
+
+moved_turns : (mv : Move) (seat : ℕ) (made : Result ℕ Broken) (old moved : Held) → IfOk made (λ n. TurnsBy mv seat n old moved) → KeepsAllButMerges (IsErr made) old moved → moved.book.seats.turns ≡ old.book.seats.turns
+moved_turns mv seat (Ok n) old moved moves kept = (moved_open mv seat n old moved moves).turns
+moved_turns mv seat (Err broken) old moved moves kept = ap (λ (b : BookState). b.seats.turns) (kept.book refl)
+
+no_caller : (seat : ℕ) → callers ≤ seat → is_caller seat ≡ false
+no_caller seat above = by (nat_lt seat callers) refl
+  where
+    by : (b : Bool) → nat_lt seat callers ≡ b → b ≡ false
+    by false is = refl
+    by true is = let below = ltb-true seat callers is in absurd (omega (arith, above, below))
+
+pub helps_once : (seat : ℕ) (old between b : BookState) → callers ≤ seat → seat < seats → length old.seats.turns ≡ seats - callers → between.seats.turns ≡ old.seats.turns → b ≡ helped_in seat between → HelpsOnce seat old b
+helps_once seat old between b above below places same is =
+    let none = no_caller seat above in
+    let of : (x : BookState) → turns_in seat x ≡ slice_index x.seats.turns (seat - callers) = λ x. ap (λ (c : Bool). cond c (work_in seat x).turns (slice_index x.seats.turns (seat - callers))) none in
+    let more = (slice_index between.seats.turns (seat - callers) + 1) % 2 ^ 64 in
+    let there : seat - callers < length between.seats.turns = omega (arith, above, below, places, ap (λ (l : List ℕ). length l) same) in
+    of b ∙ (ap (λ (x : BookState). slice_index x.seats.turns (seat - callers)) is
+    ∙ (get_or-set_same between.seats.turns (seat - callers) more 0 there
+    ∙ (ap (λ (l : List ℕ). (slice_index l (seat - callers) + 1) % 2 ^ 64) same ∙ ap (λ (n : ℕ). (n + 1) % 2 ^ 64) (sym (of old)))))
+
+pub turn_helps : (seat : ℕ) (mv : Move) (made : Result ℕ Broken) (faults : ℕ) (old moved : Held) (ended : Turned) (b : BookState) (before after : DiskState) → callers ≤ seat → seat < seats
+    → length old.book.seats.turns ≡ seats - callers → Ends true seat mv made faults old moved ended b before after → HelpsOnce seat old.book b
+turn_helps seat mv made faults old moved ended b before after above below places e =
+    helps_once seat old.book (stopped_by made faults moved.book) b above below places (stopped_turns made faults moved.book ∙ moved_turns mv seat made old moved e.moves e.kept) e.counts

@@ -1,14 +1,20 @@
 -- A payment: what was planned, what its quantum requires, and the numbers that it leaves.
-use Rattle.std.proofs.Common.{◌≡◌, ◌∙◌, ℕ, ◌+◌, ◌^◌, ◌<◌, None, refl, ap, sym, subst, arith}
-use Rattle.std.specs.Prelude.{⊤, sum}
+use Rattle.std.proofs.Common.{◌≡◌, ◌∙◌, ⊎_elim, ℕ, ◌+◌, ◌-◌, ◌^◌, ◌<◌, ◌≤◌, List, None, refl, ap, sym, subst, arith}
+use Rattle.std.specs.Prelude.{⊤, length, slice_index, slice_set, sum}
+use Rattle.std.proofs.lemmas.List.{get_or-set_same}
 use Rattle.blsm_model.specs.Format.{callers}
+use Rattle.blsm_model.specs.Sizes.{Sizes}
 use Rattle.blsm_model.specs.declared.history.Why.{Why}
 use Rattle.blsm_model.specs.Facts.{Follows}
 use Rattle.disk_trait.specs.Disk.{DiskState}
-use Rattle.gear_sched.specs.Gears.{GearState, first_debt, second_debt, plan_for}
+use Rattle.gear_sched.specs.Gears.{GearState, first_debt, second_debt, forgives_first, forgives_second, plan_for}
 use Rattle.gear_sched.specs.declared.Plan.{Plan}
 use Rattle.gear_sched.specs.declared.Plan.TheVariants.{Snow, Deep, Nothing}
-use Rattle.pacing.specs.Pace.{Pace, with_forgiven}
+use Rattle.pacing.proofs.Forgiven.{falls_at}
+use Rattle.pacing.proofs.Payments.{snow_owed, deep_owed}
+use Rattle.pacing.specs.Kept.{IsPaced}
+use Rattle.pacing.specs.Pace.{Pace, Quantum, deep_over, pass_over, with_forgiven}
+use Rattle.pacing.specs.Steps.{FitsPlan, IsDeep, IsQuantum, IsSnow, paid_by, plan_of}
 use Rattle.paced_tree.specs.Made.{IsPaidBy}
 use Rattle.tree_machine.specs.declared.step.Kind.TheVariants as kind
 use Rattle.tree_machine.specs.Steps.{Answer, Paid, Settled}
@@ -20,7 +26,8 @@ use Rattle.core_moves.specs.declared.held.Held.{Held}
 use Rattle.core_moves.specs.Held.{is_pass_over, is_deep_over}
 use Rattle.core_moves.specs.Needs.{IsOn, IsReady}
 use Rattle.core_moves.specs.Moves.{KeepsAllButMerges, with_book, with_debts_forgiven}
-use Rattle.core_pace.specs.Pacing.{IsRunBook, IsPacedHeld}
+use Rattle.tree_runs.specs.Runs.{left_for_deep, left_for_pass}
+use Rattle.core_pace.specs.Pacing.{HasPace, IsRunBook, IsPacedHeld}
 use Rattle.core_pace.specs.Events.{TakesByPlan, plan_in}
 use Rattle.core_pace.proofs.EventLemmas.{forgiving_is_paced}
 use Rattle.core_pace.proofs.CallLemmas.{between_is_ready, between_fits, paced_is_between, plan_agrees, payers_owe, settling_is_paced}
@@ -129,6 +136,57 @@ payment_follows seat n plan old forgiven taken b took counted = follows_by seat 
     debts : LeavesDebts seat old.gears taken.gears
     debts = debts_both seat old.gears (with_debts_forgiven seat old).gears taken.gears (debts_forgiven seat old.gears (is_pass_over old) (is_deep_over old))
         (taken_debts (plan_in seat old) seat n (with_debts_forgiven seat old) taken (takes_in seat n plan old forgiven taken took))
+
+-- ---- what is owed less
+
+-- a quantum takes something of a merge that has something left
+takes_some : (sizes : Sizes) (taken all left : ℕ) (quantum : Quantum) → 0 < sizes.quantum → taken + left ≡ all → 0 < left → IsQuantum sizes taken all quantum → 0 < quantum.took
+takes_some sizes taken all left quantum size sum some is =
+    ⊎_elim (λ (whole : sizes.quantum ≤ quantum.took). omega (arith, size, whole)) (λ (rest : taken + quantum.took ≡ all). omega (arith, rest, sum, some)) is.enough
+
+-- so a debt falls by it
+falls_by : (debts : List ℕ) (seat n : ℕ) → seat < length debts → 0 < n → 0 < slice_index debts seat → slice_index (slice_set debts seat (slice_index debts seat - n)) seat < slice_index debts seat
+falls_by debts seat n there some owed = let now = get_or-set_same debts seat (slice_index debts seat - n) 0 there in omega (arith, now, some, owed)
+
+pub payment_lessens : (seat : ℕ) (old new : Held) (pace : Pace) (before after : DiskState) → seat < callers → old.book.stopped ≡ None → new.book.stopped ≡ None → (plan_in seat old ≡ Nothing → ⊥) → HoldsPace old pace before
+    → MovesPace seat kind.Pay Paid new after pace → first_debt new.gears seat + second_debt new.gears seat < first_debt old.gears seat + second_debt old.gears seat
+payment_lessens seat old new pace before after caller ran runs owes holds moves =
+    subst (λ (g : GearState). first_debt new.gears seat + second_debt new.gears seat < first_debt g seat + second_debt g seat) numbers.gears
+    (subst (λ (g : GearState). first_debt g seat + second_debt g seat < first_debt pace.gears seat + second_debt pace.gears seat) (ap (λ (p : Pace). p.gears) (sym moves.made.2) ∙ (moves.holds.live runs).paced.numbers.gears)
+    (by (plan_of (with_forgiven pace seat) seat) refl))
+  where
+    numbers : HasPace old pace
+    numbers = (holds.live ran).paced.numbers
+
+    kept : IsPaced (with_forgiven pace seat)
+    kept = (forgiving_is_paced seat old pace caller (holds.live ran).paced).1
+
+    size : 0 < pace.gears.sizes.quantum
+    size = let fits = holds.told.told.paced.within.sizes.quantum in omega (arith, fits)
+
+    first : first_debt (with_forgiven pace seat).gears seat ≤ first_debt pace.gears seat
+    first = falls_at pace.gears.first_debts seat seat (forgives_first pace.gears (pass_over pace) (first_debt pace.gears seat))
+
+    second : second_debt (with_forgiven pace seat).gears seat ≤ second_debt pace.gears seat
+    second = falls_at pace.gears.second_debts seat seat (forgives_second pace.gears (deep_over pace) (second_debt pace.gears seat))
+
+    by : (plan : Plan) → plan_of (with_forgiven pace seat) seat ≡ plan
+        → first_debt (paid_by plan (with_forgiven pace seat) seat moves.made.0).gears seat + second_debt (paid_by plan (with_forgiven pace seat) seat moves.made.0).gears seat < first_debt pace.gears seat + second_debt pace.gears seat
+    by Nothing is = absurd (owes (plan_agrees seat old pace numbers ∙ is))
+    by Snow is =
+        let goes = (each_plan_runs old pace seat numbers holds.told.told.paced caller).pass is in
+        let fits : IsSnow (with_forgiven pace seat) moves.made.0 = subst (λ (plan : Plan). FitsPlan plan (with_forgiven pace seat) moves.made.0) is moves.made.1.fits in
+        let some = takes_some pace.gears.sizes pace.gears.pass_taken (pace.a + pace.c1) (left_for_pass old.runs.pass old.log.a.entries) moves.made.0 size (numbers.pass_left goes.0) goes.1 fits.0 in
+        let owed = snow_owed (first_debt (with_forgiven pace seat).gears seat) (second_debt (with_forgiven pace seat).gears seat) is in
+        let less = falls_by (with_forgiven pace seat).gears.first_debts seat moves.made.0.took (omega (arith, kept.debts.first_seats, caller)) some owed in
+        omega (arith, less, first, second)
+    by Deep is =
+        let goes = (each_plan_runs old pace seat numbers holds.told.told.paced caller).deep is in
+        let fits : IsDeep (with_forgiven pace seat) moves.made.0 = subst (λ (plan : Plan). FitsPlan plan (with_forgiven pace seat) moves.made.0) is moves.made.1.fits in
+        let some = takes_some pace.gears.sizes pace.gears.deep_taken (pace.c1x + pace.c2) (left_for_deep old.runs.deep) moves.made.0 size (numbers.deep_left goes.0) goes.1 fits in
+        let owed = deep_owed (first_debt (with_forgiven pace seat).gears seat) (second_debt (with_forgiven pace seat).gears seat) is in
+        let less = falls_by (with_forgiven pace seat).gears.second_debts seat moves.made.0.took (omega (arith, kept.debts.second_seats, caller)) some owed in
+        omega (arith, less, first, second)
 
 -- ---- nothing is owed
 

@@ -89,7 +89,7 @@ none_is_played state opening core m pace timed whole = record {
 }
 
 -- a step of one seat notes one entry at most
-history_grows : (m : Machine) (seat : ℕ) (k : Kind) (outcome : Outcome) → may m seat k ≡ true → IsPrefix m.book.entries (stepped_as m seat k outcome).state.book.entries
+pub history_grows : (m : Machine) (seat : ℕ) (k : Kind) (outcome : Outcome) → may m seat k ≡ true → IsPrefix m.book.entries (stepped_as m seat k outcome).state.book.entries
 history_grows m seat k outcome can = ⊎_elim
     (λ (same : (stepped_as m seat k outcome).state.book.entries ≡ m.book.entries). subst (λ (es : List Entry). IsPrefix m.book.entries es) (sym same) (prefix_self m.book.entries))
     (λ one. subst (λ (es : List Entry). IsPrefix m.book.entries es) (sym one.2) (one.0 ∷ [], refl))
@@ -164,7 +164,7 @@ sooner m seat k (FailedAfter commits faults) old mid new le is = (is.0, is.1, ro
 sooner m seat k (Broken page) old mid new le is = is
 sooner m seat k NoRoom old mid new le is = is
 
-prefix_length : (a b : List Entry) → IsPrefix a b → length a ≤ length b
+pub prefix_length : (a b : List Entry) → IsPrefix a b → length a ≤ length b
 prefix_length a b begins = omega (arith, ap (λ (es : List Entry). length es) begins.1, length-append a begins.0)
 
 -- the sizes are those of the opening

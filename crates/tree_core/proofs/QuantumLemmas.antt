@@ -117,4 +117,4 @@ debts_second seat n gears = record { first = λ other apart. omega arith; second
 pub follows_by : (seat entries quanta : ℕ) (old new : Held) → entries ≤ 1 → quanta ≤ 1 → KeepsSeats seat entries quanta old.book new.book → LeavesDebts seat old.gears new.gears → Follows seat (facts_of_held old) (facts_of_held new)
 follows_by seat entries quanta old new few less keeps debts =
     holds_follow seat old.book new.book (beside_in old) (beside_in new) (keeps_less seat entries 1 quanta 1 old.book new.book few less keeps)
-    (record { first = debts.first; second = debts.second; held = λ other apart. refl })
+    (record { first = debts.first; second = debts.second })

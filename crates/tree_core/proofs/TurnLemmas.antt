@@ -90,15 +90,16 @@ pub record KeepsOpen (old new : BookState) : Type 0 where
   pub stopped : new.stopped ≡ old.stopped
   pub work : new.seats.work ≡ old.seats.work
   pub entries : new.book ≡ old.book
+  pub turns : new.seats.turns ≡ old.seats.turns
 
 pub moved_open : (mv : Move) (seat n : ℕ) (old moved : Held) → TurnsBy mv seat n old moved → KeepsOpen old.book moved.book
-moved_open pacing.SwapDeep seat n old moved moves = subst (λ (b : BookState). KeepsOpen old.book b) (sym moves.book) (record { stopped = refl; work = refl; entries = refl })
-moved_open pacing.SwapPass seat n old moved moves = subst (λ (b : BookState). KeepsOpen old.book b) (sym moves.book) (record { stopped = refl; work = refl; entries = refl })
-moved_open pacing.TakeDeep seat n old moved moves = subst (λ (b : BookState). KeepsOpen old.book b) (sym moves.book) (record { stopped = refl; work = refl; entries = refl })
-moved_open pacing.TakeSnow seat n old moved moves = subst (λ (b : BookState). KeepsOpen old.book b) (sym moves.book) (record { stopped = refl; work = refl; entries = refl })
-moved_open pacing.Begin seat n old moved moves = subst (λ (h : Held). KeepsOpen old.book h.book) (sym moves) (record { stopped = refl; work = refl; entries = refl })
-moved_open pacing.Rotate seat n old moved moves = subst (λ (b : BookState). KeepsOpen old.book b) (sym moves.book) (record { stopped = refl; work = refl; entries = refl })
-moved_open pacing.Idle seat n old moved moves = subst (λ (h : Held). KeepsOpen old.book h.book) (sym moves) (record { stopped = refl; work = refl; entries = refl })
+moved_open pacing.SwapDeep seat n old moved moves = subst (λ (b : BookState). KeepsOpen old.book b) (sym moves.book) (record { stopped = refl; work = refl; entries = refl; turns = refl })
+moved_open pacing.SwapPass seat n old moved moves = subst (λ (b : BookState). KeepsOpen old.book b) (sym moves.book) (record { stopped = refl; work = refl; entries = refl; turns = refl })
+moved_open pacing.TakeDeep seat n old moved moves = subst (λ (b : BookState). KeepsOpen old.book b) (sym moves.book) (record { stopped = refl; work = refl; entries = refl; turns = refl })
+moved_open pacing.TakeSnow seat n old moved moves = subst (λ (b : BookState). KeepsOpen old.book b) (sym moves.book) (record { stopped = refl; work = refl; entries = refl; turns = refl })
+moved_open pacing.Begin seat n old moved moves = subst (λ (h : Held). KeepsOpen old.book h.book) (sym moves) (record { stopped = refl; work = refl; entries = refl; turns = refl })
+moved_open pacing.Rotate seat n old moved moves = subst (λ (b : BookState). KeepsOpen old.book b) (sym moves.book) (record { stopped = refl; work = refl; entries = refl; turns = refl })
+moved_open pacing.Idle seat n old moved moves = subst (λ (h : Held). KeepsOpen old.book h.book) (sym moves) (record { stopped = refl; work = refl; entries = refl; turns = refl })
 
 -- ---- its debts
 

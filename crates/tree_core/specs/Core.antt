@@ -41,9 +41,9 @@ pub record IsCore (held : Held) (d : DiskState) : Type 0 where
 
 -- ---- the facts for a lock
 
--- what each seat owes; of the rows that callers hold a lock is told nothing
+-- what each seat owes
 abbrev pub beside_in : Held → Beside
-beside_in held = record { first = λ seat. first_debt held.gears seat; second = λ seat. second_debt held.gears seat; held = λ seat. None }
+beside_in held = record { first = λ seat. first_debt held.gears seat; second = λ seat. second_debt held.gears seat }
 
 abbrev pub facts_of_held : Held → Facts
 facts_of_held held = facts_in (beside_in held) held.book

@@ -7,6 +7,7 @@ pub mod Answers
 pub mod Causes
 pub mod Notes
 pub mod Steps
+pub mod Calls
 pub mod Taking
 pub mod Quanta
 pub mod Turning

@@ -1,5 +1,5 @@
 -- What a call leaves of the book, on every disk: the annals, and the callers' open works.
-use Rattle.std.specs.Prelude.{◌≡◌, ◌≢◌, ⊤, ℕ, ◌+◌, false, Some}
+use Rattle.std.specs.Prelude.{◌≡◌, ◌≢◌, ⊤, ℕ, ◌+◌, ◌%◌, ◌^◌, ◌<◌, true, false, Some, slice_index_or}
 use Rattle.blsm_model.specs.Book.{Book, noted, counted_up}
 use Rattle.blsm_model.specs.declared.op.Op.{Op}
 use Rattle.blsm_model.specs.declared.history.Reply.{Reply}
@@ -10,6 +10,7 @@ use Rattle.paced_tree.specs.Booking.{quanta_of_move}
 use Rattle.tree_machine.specs.Machine.{Turned, Worked}
 use Rattle.tree_machine.specs.Steps.{last_write}
 use Rattle.seat_book.specs.State.{BookState, work_in, with_ended}
+use Rattle.seat_book.specs.Seats.{turns_in}
 use Rattle.core_moves.specs.declared.held.Held.{Held}
 use Rattle.core_pace.specs.Turns.{move_in}
 use Rattle.tree_core.specs.declared.answers.Payment.{Payment}
@@ -44,6 +45,11 @@ abbrev pub Settles : Payment → ℕ → Held → Type 0
 Settles payment.Settled seat held = OwesNothing seat held
 Settles _ seat held = ⊤
 
+-- after one that was made, it owes less
+abbrev pub Lessens : Payment → ℕ → Held → Held → Type 0
+Lessens payment.Paid seat old new = first_debt new.gears seat + second_debt new.gears seat < first_debt old.gears seat + second_debt old.gears seat
+Lessens _ seat old new = ⊤
+
 -- ---- turns of a caller's work
 
 -- one that worked took a quantum where its move is one
@@ -57,3 +63,14 @@ pub record CountsTurn (seat : ℕ) (ended : Turned) (old new : Held) : Type 0 wh
   pub work : work_in seat new.book ≡ with_ended (work_in seat old.book) ended (quanta_of_turn ended (move_in false old))
   pub others : (other : ℕ) → other ≢ seat → work_in other new.book ≡ work_in other old.book
   pub halted : (why : Why) → old.book.stopped ≡ Some why → new.book.stopped ≡ Some why
+
+-- ---- turns of a worker
+
+-- one turn more, modulo 2 ^ 64
+abbrev pub HelpsOnce : ℕ → BookState → BookState → Type 0
+HelpsOnce seat old new = turns_in seat new ≡ (turns_in seat old + 1) % 2 ^ 64
+
+-- ---- callers who leave
+
+abbrev pub HasLeft : ℕ → BookState → Type 0
+HasLeft seat b = slice_index_or b.seats.left seat false ≡ true

@@ -14,6 +14,7 @@ ghost use Rattle.tree_machine.specs.Steps.{Replied, Left, work_reply};
 ghost use Rattle.core_moves.specs.Moves.{with_book};
 ghost use Rattle.tree_core.specs.Core.{CoreState, HoldsPace, facts_of_held};
 ghost use Rattle.tree_core.specs.Holds.{KeepsHolds};
+ghost use Rattle.tree_core.specs.Notes.{HasLeft};
 ghost use Rattle.tree_core.specs.Standing.{StandsFor};
 ghost use Rattle.tree_core.specs.Steps.{MovesPace, IsStep, StandsSince};
 
@@ -52,10 +53,13 @@ impl<D: Disk + Drop> Core<D> {
             → IsStep opening seat kind.Leave Left self.new.held (D.state self.old.disk) (D.state self.new.disk) m pace }
         ensures disk { self.new.disk ≡ self.old.disk }
         ensures held { self.new.held ≡ with_book (left_in seat self.old.held.book) self.old.held }
+        ensures left { HasLeft seat self.new.held.book }
         ensures holds { KeepsHolds self.old self.new }
         ensures follows { Follows seat (facts_of_held self.old.held) (facts_of_held self.new.held) }
         ensures lasts { (start : CoreState D) → StandsSince D.state start self.old → StandsSince D.state start self.new }
     {
+        // Each caller has its place.
+        let _entries = self.held.book.entries();
         self.held.book.leave(seat);
     }
 }

@@ -22,7 +22,7 @@ ghost use Rattle.tree_machine.specs.Machine.{Machine};
 ghost use Rattle.tree_machine.specs.Plays.{may};
 ghost use Rattle.tree_machine.specs.Steps.{Replied};
 ghost use Rattle.tree_file.specs.Tree.{Tree};
-ghost use Rattle.tree_runs.specs.Runs.{AreRuns};
+ghost use Rattle.tree_runs.specs.Runs.{AreRuns, page_share};
 ghost use Rattle.tree_runs.specs.Holding.{AreOf};
 ghost use Rattle.core_moves.specs.Needs.{IsOn};
 ghost use Rattle.tree_core.specs.declared.answers.Holding.TheVariants as holding;
@@ -210,6 +210,7 @@ impl<D: Disk + Drop> Core<D> {
         ensures book { self.new.held.book ≡ noted_in seat (op.Next n) (reply_to_next result) self.old.held.book }
         ensures others { LeavesOthers seat self.old self.new }
         ensures runs { self.new.held.runs ≡ self.old.held.runs }
+        ensures few { pages_behind (hold_of seat self.old.holds) ≤ page_share self.old.held.runs.sizes }
         ensures reads { OnlyReads (file_length self.old.held.runs.sizes) (pages_behind (hold_of seat self.old.holds)) (D.state self.old.disk) (D.state self.new.disk) }
         ensures untouched { ScansNone result → self.new.disk ≡ self.old.disk }
         ensures follows { Follows seat (facts_of_held self.old.held) (facts_of_held self.new.held) }

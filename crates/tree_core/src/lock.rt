@@ -7,11 +7,11 @@ use disk_trait::Disk;
 impl<D: Disk + Drop> Stands for Core<D> {
     ghost use Rattle.blsm_model.specs.Geometry.{high_mark};
     ghost use Rattle.tree_core.specs.Core.{facts_of_held};
-    ghost use Rattle.tree_core.specs.Steps.{StandsSince};
+    ghost use Rattle.tree_core.specs.Calls.{CameSince};
 
     ghost facts = { λ c. facts_of_held c.held };
 
-    ghost stands = { λ start now. StandsSince D.state start now };
+    ghost stands = { λ start now. CameSince D.state start now };
 
     ghost most = { λ start. high_mark start.held.runs.sizes };
 
@@ -23,5 +23,5 @@ impl<D: Disk + Drop> Stands for Core<D> {
         self.held.book.peak()
     }
 
-    ghost within = { λ start now since. since.peak };
+    ghost within = { λ start now came. came.since.peak };
 }

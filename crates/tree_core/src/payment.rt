@@ -21,7 +21,7 @@ ghost use Rattle.tree_core.specs.Answers.{answer_to_pay};
 ghost use Rattle.tree_core.specs.Causes.{PaysBecause, PaysNone};
 ghost use Rattle.tree_core.specs.Core.{CoreState, HoldsPace, facts_of_held};
 ghost use Rattle.tree_core.specs.Holds.{KeepsHolds};
-ghost use Rattle.tree_core.specs.Notes.{CountsPayment, Settles};
+ghost use Rattle.tree_core.specs.Notes.{CountsPayment, Lessens, Settles};
 ghost use Rattle.tree_core.specs.Quanta.{MayTake, LeavesTaken};
 ghost use Rattle.tree_core.specs.Standing.{StandsFor};
 ghost use Rattle.tree_core.specs.Steps.{MovesPace, IsStep, StandsSince};
@@ -67,6 +67,7 @@ impl<D: Disk + Drop> Core<D> {
         ensures cause { PaysBecause result seat self.old.held self.new.held (D.state self.old.disk) (D.state self.new.disk) }
         ensures counts { CountsPayment result seat self.old.held.book self.new.held.book }
         ensures settles { Settles result seat self.new.held }
+        ensures lessens { Lessens result seat self.old.held self.new.held }
         ensures effect { Affects (beside_pins self.old.held.runs.sizes self.old.held.runs.space.pins) (file_length self.old.held.runs.sizes) (self.old.held.runs.sizes.quantum / 4 + 3) (D.state self.old.disk) (D.state self.new.disk) }
         ensures holds { KeepsHolds self.old self.new }
         ensures follows { Follows seat (facts_of_held self.old.held) (facts_of_held self.new.held) }

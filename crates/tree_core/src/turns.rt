@@ -28,7 +28,7 @@ ghost use Rattle.core_lists.specs.Steps.{choice_of};
 ghost use Rattle.tree_core.specs.Causes.{TurnsBecause, TurnsNone};
 ghost use Rattle.tree_core.specs.Core.{CoreState, HoldsPace, facts_of_held};
 ghost use Rattle.tree_core.specs.Holds.{KeepsHolds};
-ghost use Rattle.tree_core.specs.Notes.{CountsTurn, NotesNone, OwesNothing};
+ghost use Rattle.tree_core.specs.Notes.{CountsTurn, HelpsOnce, NotesNone, OwesNothing};
 ghost use Rattle.tree_core.specs.Quanta.{LeavesMoved, as_moved, ended_by, quanta_by, stopped_by};
 ghost use Rattle.tree_core.specs.Standing.{StandsFor};
 ghost use Rattle.tree_core.specs.Steps.{MovesPace, IsStep, StandsSince};
@@ -226,12 +226,15 @@ impl<D: Disk + Drop> Core<D> {
             → IsStep opening seat kind.WorkerTurn (Turn (turned_of result)) self.new.held (D.state self.old.disk) (D.state self.new.disk) m pace }
         ensures cause { TurnsBecause (turned_of result) true seat self.old.held self.new.held (D.state self.old.disk) (D.state self.new.disk) }
         ensures notes { NotesNone self.old.held.book self.new.held.book }
+        ensures helps { HelpsOnce seat self.old.held.book self.new.held.book }
+        ensures still { TurnsNone (turned_of result) → self.new.held.book.stopped ≡ self.old.held.book.stopped }
         ensures effect { Affects (beside_pins self.old.held.runs.sizes self.old.held.runs.space.pins) (file_length self.old.held.runs.sizes) (self.old.held.runs.sizes.quantum / 4 + 9) (D.state self.old.disk) (D.state self.new.disk) }
         ensures holds { KeepsHolds self.old self.new }
         ensures follows { Follows seat (facts_of_held self.old.held) (facts_of_held self.new.held) }
         ensures lasts { (start : CoreState D) → StandsSince D.state start self.old → StandsSince D.state start self.new }
         ensures untouched { TurnsNone (turned_of result) → self.new.disk ≡ self.old.disk }
     {
+        has_places(&self.held.book);
         if let Some(why) = self.held.book.stopped() {
             self.held.book.worker_turn(seat);
             return Turned::Halted(why);

@@ -728,13 +728,16 @@ step_follows m seat k outcome ok =
       others = λ other apart. record {
         debt1 = p.first other apart;
         debt2 = p.second other apart;
-        held = p.held other apart;
         turns = turns_stay seat other m new p apart;
         worked = ap (λ w. is_worked w.last) (p.work other apart);
         room = ap (λ n. (n, slice_index new.book.room.rows other)) (p.entries_room other apart) ∙ ap (λ n. (slice_index m.book.room.entries other, n)) (p.rows_room other apart);
         left = p.left other apart;
       };
     }
+
+-- the other callers hold the rows that they held
+pub step_leaves_holds : (m : Machine) (seat : ℕ) (k : Kind) (outcome : Outcome) → may m seat k ≡ true → (other : ℕ) → other ≢ seat → held_by other (stepped_as m seat k outcome).state ≡ held_by other m
+step_leaves_holds m seat k outcome ok = (step_apart m seat k outcome (worker_turns m seat k ok)).held
 
 -- what was fixed at the opening stays
 pub step_fixed : (m : Machine) (seat : ℕ) (k : Kind) (outcome : Outcome) → may m seat k ≡ true

@@ -4,7 +4,7 @@ use Rattle.std.specs.Prelude.{ℕ, ◌-◌, false, sum, is_some, slice_index, sl
 use Rattle.blsm_model.specs.Format.{callers}
 use Rattle.blsm_model.specs.Facts.{Facts, Part}
 use Rattle.gear_sched.specs.Gears.{first_debt, second_debt}
-use Rattle.tree_machine.specs.Machine.{Machine, is_worked, is_caller, held_by, work_of, is_closed}
+use Rattle.tree_machine.specs.Machine.{Machine, is_worked, is_caller, work_of, is_closed}
 
 -- a caller's turns are those of its work since its last entry, a worker's all of its turns
 abbrev pub turns_of : ℕ → Machine → ℕ
@@ -14,7 +14,6 @@ abbrev pub part_of : Machine → ℕ → Part
 part_of m seat = record {
   debt1 = first_debt m.gears seat;
   debt2 = second_debt m.gears seat;
-  held = held_by seat m;
   turns = turns_of seat m;
   worked = is_worked (work_of seat m).last;
   room = (slice_index m.book.room.entries seat, slice_index m.book.room.rows seat);

@@ -1,5 +1,5 @@
 -- What the machine keeps.
-use Rattle.std.specs.Prelude.{length, sum, ◌≡◌, ◌↔◌, ◌⊎◌, ℕ, ◌+◌, ◌-◌, ◌*◌, ◌<◌, ◌≤◌, ◌^◌, Bool, true, false, List, [], ◌∷◌, ◌++◌, Option, Some, IsTrue}
+use Rattle.std.specs.Prelude.{length, sum, ◌≡◌, ◌≢◌, ◌↔◌, ◌⊎◌, ℕ, ◌+◌, ◌-◌, ◌*◌, ◌<◌, ◌≤◌, ◌^◌, Bool, true, false, List, [], ◌∷◌, ◌++◌, Option, Some, IsTrue}
 use Rattle.blsm_model.specs.declared.key.Key.{Key}
 use Rattle.blsm_model.specs.declared.row.Value.{Value}
 use Rattle.blsm_model.specs.declared.room.Room.{Room}
@@ -17,7 +17,7 @@ use Rattle.tree_machine.specs.declared.step.Step.{Step}
 use Rattle.record_delta.specs.Entries.{AreSorted, Entries, above, entries_weight, folded_over, is_above, over_any, record_of_key, settled_entries, up_to}
 use Rattle.tree_machine.specs.Lists.{Lists, value_in, map_in, rows_in}
 use Rattle.tree_machine.specs.Merges.{Merge, is_done, cursor_after, quantum_of, moved_on}
-use Rattle.tree_machine.specs.Machine.{Machine, Merges, Catalogue, in_pass, in_deep, pass_done, deep_done, opened}
+use Rattle.tree_machine.specs.Machine.{Machine, Merges, Catalogue, in_pass, in_deep, pass_done, deep_done, held_by, opened}
 use Rattle.tree_machine.specs.Moves.{with_write, end_pass, swap_deep, output_of}
 use Rattle.tree_machine.specs.Layers.{AreLight, IsMergeOf, IsPassOver, AreLayered, IsSound, AreSettled, Carries, HasWay, as_it_is, as_base}
 use Rattle.tree_machine.specs.Steps.{Outcome, choice, chosen, ready_for, one_if}
@@ -162,6 +162,10 @@ DeepIsLight = (merge : Merge) (newer older : Entries) → AreSorted newer → Ar
 -- of another seat changes, but that its debts may fall.
 abbrev pub StepFollows : Type 0
 StepFollows = (m : Machine) (step : Step) (outcome : Outcome) → IsTrue (may_step m step) → Follows step.seat (facts_of m) (facts_of (stepped m step outcome).state)
+
+-- and the other callers hold the rows that they held
+abbrev pub StepLeavesHolds : Type 0
+StepLeavesHolds = (m : Machine) (step : Step) (outcome : Outcome) → IsTrue (may_step m step) → (other : ℕ) → other ≢ step.seat → held_by other (stepped m step outcome).state ≡ held_by other m
 
 -- the sizes, and the charge and the faults at the opening, never change
 abbrev pub StepKeepsOpening : Type 0

@@ -1,5 +1,5 @@
 //! What the machine keeps. The functions do nothing: each stands for the laws that its clauses name.
-ghost use Rattle.tree_machine.specs.Laws.{PassQuantumFolds, DeepQuantumFolds, OutputThenRest, PassWrites, DeepWrites, TurnsCarry, SwapsCarry, WritesCount, MapIs, RowsAre, GoesAhead, GoesBehind, WritesLayer, NoneLost, NoneLostDeep, OpeningStands, StepStands, StepsStand, StepSettles, QuantumWeighs, QuantumIsEnough, QuantumIsFew, PassIsDone, DeepIsDone, PassIsLight, DeepIsLight, StepFollows, StopStays, StepKeepsOpening, RoomLasts, RefusalsLeaveAll, StepWorks, StepCommits, WayByNumbers};
+ghost use Rattle.tree_machine.specs.Laws.{PassQuantumFolds, DeepQuantumFolds, OutputThenRest, PassWrites, DeepWrites, TurnsCarry, SwapsCarry, WritesCount, MapIs, RowsAre, GoesAhead, GoesBehind, WritesLayer, NoneLost, NoneLostDeep, OpeningStands, StepStands, StepsStand, StepSettles, QuantumWeighs, QuantumIsEnough, QuantumIsFew, PassIsDone, DeepIsDone, PassIsLight, DeepIsLight, StepFollows, StepLeavesHolds, StopStays, StepKeepsOpening, RoomLasts, RefusalsLeaveAll, StepWorks, StepCommits, WayByNumbers};
 ghost use Rattle.tree_machine.specs.Outcomes.{FaultsAreCounted, StopsNameMore, NoneDamaged, ReachesOnBy};
 
 /// What a merge wrote is the fold of its inputs up to its cursor, after each quantum, and in the end of its whole inputs.
@@ -55,6 +55,7 @@ pub fn numbers_are_weights()
 /// that its debts may fall.
 pub fn seats_apart()
     ensures follows { StepFollows }
+    ensures holds { StepLeavesHolds }
     ensures stop { StopStays }
     ensures opening { StepKeepsOpening }
     ensures room { RoomLasts }

@@ -114,7 +114,7 @@ paid Deep pace seat quantum some = refl
 paid Nothing pace seat quantum some = absurd (some refl)
 
 -- one that wasn't made
-unpaid_alone : (old new : Held) (before after : DiskState) (pace next : Pace) → HoldsPace old pace before → HoldsPace new next after → next.work ≡ pace.work → new.book.book ≡ old.book.book → new.book.seats.work ≡ old.book.seats.work → by_workers new ≡ by_workers old
+pub unpaid_alone : (old new : Held) (before after : DiskState) (pace next : Pace) → HoldsPace old pace before → HoldsPace new next after → next.work ≡ pace.work → new.book.book ≡ old.book.book → new.book.seats.work ≡ old.book.seats.work → by_workers new ≡ by_workers old
 unpaid_alone old new before after pace next holds goes work annals works =
     let noted = ap (λ (b : Book). sum b.quanta) annals in
     let open_works = ap (λ (l : List WorkSoFar). in_works l) works in

@@ -1,10 +1,10 @@
-mod FaultLemmas
-mod GetLemmas
-mod HoldLemmas
-mod AloneLemmas
-mod BookLemmas
-mod PayLemmas
-mod WriteLemmas
-mod WorkLemmas
-mod RunLemmas
-mod RestLemmas
+pub mod FaultLemmas
+pub mod GetLemmas
+pub mod HoldLemmas
+pub mod AloneLemmas
+pub mod BookLemmas
+pub mod PayLemmas
+pub mod WriteLemmas
+pub mod WorkLemmas
+pub mod RunLemmas
+pub mod RestLemmas

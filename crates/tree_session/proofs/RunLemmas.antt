@@ -27,7 +27,7 @@ use Rattle.tree_session.proofs.FaultLemmas.{calm_before, names_still, proceeds_n
 
 -- ---- lists
 
-took_more : (sizes : Sizes) (es : List Entry) (ns : List ℕ) (e : Entry) (n : ℕ) → TookFew sizes es ns → n ≤ most_quanta sizes e.op → TookFew sizes (es ++ e ∷ []) (ns ++ n ∷ [])
+pub took_more : (sizes : Sizes) (es : List Entry) (ns : List ℕ) (e : Entry) (n : ℕ) → TookFew sizes es ns → n ≤ most_quanta sizes e.op → TookFew sizes (es ++ e ∷ []) (ns ++ n ∷ [])
 took_more sizes [] [] e n few one = (one, tt)
 took_more sizes [] (m ∷ ns) e n few one = absurd few
 took_more sizes (x ∷ es) [] e n few one = absurd few

@@ -62,7 +62,7 @@ turning_none state seat old rests keeps =
       proceeds = proceeds_none state (0 * (old.held.runs.sizes.quantum / 4 + 9)) old;
     }
 
-one_at_most : (ended : Turned) (mv : Move) → quanta_of_turn ended mv ≤ 1
+pub one_at_most : (ended : Turned) (mv : Move) → quanta_of_turn ended mv ≤ 1
 one_at_most machine.Worked pacing.SwapDeep = omega arith
 one_at_most machine.Worked pacing.SwapPass = omega arith
 one_at_most machine.Worked pacing.TakeDeep = omega arith

@@ -221,7 +221,7 @@ module _ {V : Type 0} where
               o.lasts,
           λ i ei.
               let one : j ≡ i = waits_is j i v.stage stage ei in (
-                (λ _. (o.value, ap (λ (x : ℕ). (taking f v x o.value, (0, Some o.value) ∷ [])) one, record { seen = know.seen; own = know.own; lasts = λ a ea. subst (λ (z : V). st z o.value) (ticket_is (sym begun ∙ ea)) o.lasts })),
+                (λ _. (o.value, ap (λ (x : ℕ). (taking f v x o.value, (0, Some o.value) ∷ [])) one, record { seen = know.seen; own = know.own; lasts = λ a ea. subst (λ (z : V). st z o.value) (ticket_is (sym begun ∙ ea)) o.lasts; over = know.over; halted = know.halted; front = le_trans know.front_read o.front_fits; bytes = le_trans know.bytes_read o.bytes_fits })),
                 (λ miss. absurd (miss (ap (λ (x : ℕ). x % 2 ^ 64) (sym one) ∙ (same ∙ sym read)))),
               ),
         ))

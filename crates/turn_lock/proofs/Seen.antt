@@ -11,13 +11,12 @@ pub prefix_self : {A : Type 0} (xs : List A) → IsPrefix xs xs
 prefix_self xs = ([], append-nil xs)
 
 pub eases_self : (p : Part) → Eases p p
-eases_self p = record { debt1 = omega arith; debt2 = omega arith; held = refl; turns = refl; worked = refl; room = refl; left = refl }
+eases_self p = record { debt1 = omega arith; debt2 = omega arith; turns = refl; worked = refl; room = refl; left = refl }
 
 pub eases_trans : (p q r : Part) → Eases p q → Eases q r → Eases p r
 eases_trans p q r a b = record {
   debt1 = le_trans b.debt1 a.debt1;
   debt2 = le_trans b.debt2 a.debt2;
-  held = b.held ∙ a.held;
   turns = b.turns ∙ a.turns;
   worked = b.worked ∙ a.worked;
   room = b.room ∙ a.room;

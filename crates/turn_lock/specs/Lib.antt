@@ -3,4 +3,5 @@ pub mod Rule
 pub mod Plays
 pub mod Callers
 pub mod Tallies
+pub mod Turns
 pub mod Rests

@@ -1,5 +1,5 @@
 -- What each step tells its caller.
-use Rattle.std.specs.Prelude.{◌≡◌, ◌≢◌, ℕ, ◌%◌, ◌^◌, ◌≤◌, ◌||◌, List, [], ◌∷◌, Option, Some}
+use Rattle.std.specs.Prelude.{◌≡◌, ◌≢◌, ◌⊎◌, ℕ, ◌%◌, ◌^◌, ◌≤◌, ◌||◌, true, List, [], ◌∷◌, Option, Some, length}
 use mathlib.Core.List.{IsPrefix}
 use Rattle.atomic_table.specs.Table.{Me, Step}
 use Rattle.blsm_model.specs.Facts.{Facts}
@@ -38,6 +38,11 @@ module _ {V : Type 0} where
         pub seen : IsPrefix v.seen (facts b).history
         pub own : Each (Fits facts v.seen b) v.own
         pub lasts : (a : V) → v.start ≡ Some a → stands a b
+        pub over : v.over ≡ true → ((facts b).closed ≡ true) ⊎ ((facts b).stopped ≡ true)
+        pub halted : v.halted ≡ true → (facts b).stopped ≡ true
+        -- what it read or stored last of the published words is no more than the value's
+        pub front : v.front ≤ length (facts b).history
+        pub bytes : v.bytes ≤ (facts b).peak
 
       abbrev pub Took : Sat V → ℕ → Sat V → Type 0
       Took m j n = (b : V) × (n ≡ (taking m.0 j b, (0, Some b) ∷ m.1)) × Finds m.0 b

@@ -1,5 +1,5 @@
 -- A small value that stands for its entries, and what a caller does with it.
-use Rattle.std.specs.Prelude.{◌≡◌, ◌⊎◌, ℕ, zero, suc, ◌-◌, ◌<◌, ◌≤◌, false, List, [], ◌∷◌, ◌++◌, Some, None, slice_index}
+use Rattle.std.specs.Prelude.{◌≡◌, ◌⊎◌, ℕ, zero, suc, ◌-◌, ◌<◌, ◌≤◌, false, List, [], ◌∷◌, ◌++◌, Some, slice_index}
 use mathlib.Core.List.{IsPrefix}
 use Rattle.blsm_model.specs.declared.history.Entry.{Entry}
 use Rattle.blsm_model.specs.declared.history.Reply.TheVariants.{Did}
@@ -13,7 +13,7 @@ use Rattle.turn_lock.specs.Callers.{Held, Lock, Idles}
 abbrev pub tally_facts : Book → Facts
 tally_facts b = record {
   history = b.entries;
-  part = λ i. record { debt1 = 0; debt2 = 0; held = None; turns = 0; worked = false; room = (slice_index b.room.entries i, slice_index b.room.rows i); left = false };
+  part = λ i. record { debt1 = 0; debt2 = 0; turns = 0; worked = false; room = (slice_index b.room.entries i, slice_index b.room.rows i); left = false };
   quanta = 0;
   peak = 0;
   closed = false;

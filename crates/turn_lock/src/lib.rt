@@ -6,6 +6,7 @@
 //! interleave. It knows the value by its trait alone. The layer of callers over the tree uses it.
 #![tactic(auto)]
 
+mod bells;
 mod lock;
 mod rule;
 mod shared;

@@ -7,6 +7,7 @@ ghost use Rattle.turn_lock.specs.Plays.{taking, giving, Finds, with_front, with_
 ghost use Rattle.turn_lock.specs.Callers.{IsOpened, GaveAway, IsSplitOff, Idles, HasTicket, HasTurn, Drew, IsTurn, HasTaken, IsBack, HasGiven, GaveBack, with_me};
 ghost use Rattle.turn_lock.specs.declared.view.Stage.TheVariants.{Idle, Gave};
 
+use crate::bells::Bells;
 use crate::rule::{
     Cuts, Draws, Ends, Gives, Looks, Publishes, ReadsBytes, ReadsFront, Takes, Turns,
 };
@@ -19,10 +20,14 @@ use std::snapshot::Snapshot;
 use std::sync::Wait;
 use std::thread::yield_now;
 
+// How often a caller looks for its turn, yielding its processor, before it sleeps.
+const LOOKS: u32 = 4;
+
 /// A lock round one value. Its callers take turns in the order of their tickets.
 #[derive(Drop)]
 pub struct TurnLock<V: Stands> {
     table: Table<Option<V>, View<V>, Snapshot<V>, Turns<V>, Global>,
+    bells: Bells,
 }
 
 impl<V: Stands> Model for TurnLock<V> {
@@ -81,7 +86,10 @@ impl<V: Stands + Drop> TurnLock<V> {
         slots.push_reserved(Some(value));
         match Table::new(alloc, &[0, 0, 0, 0], slots, &start) {
             Ok((table, seat)) => Ok((
-                TurnLock { table },
+                TurnLock {
+                    table,
+                    bells: Bells::new(),
+                },
                 Caller {
                     seat,
                     number: 0,
@@ -145,6 +153,22 @@ impl<V: Stands + Drop> TurnLock<V> {
         self.table.shared.load::<Looks>(&mut caller.seat, 1) == caller.ticket
     }
 
+    // Looks a few times, before the caller sleeps.
+    fn look_often(&self, caller: &mut Caller<V>) -> bool
+        requires lock { caller.old.table ≡ self.now.table }
+        requires ticket { HasTicket caller.old.me caller.old.ticket }
+        ensures turn { result ≡ true → IsTurn V.facts V.stands caller.old caller.new }
+        ensures none { result ≡ false → caller.new ≡ caller.old }
+    {
+        for _ in 0..LOOKS {
+            if self.look(caller) {
+                return true;
+            }
+            yield_now();
+        }
+        false
+    }
+
     /// Waits for the caller's turn, and takes the value out.
     pub fn take<R: Wait>(&self, rt: &R, caller: &mut Caller<V>) -> V
         requires lock { caller.old.table ≡ self.now.table }
@@ -161,11 +185,14 @@ impl<V: Stands + Drop> TurnLock<V> {
         requires ticket { HasTicket caller.old.me caller.old.ticket }
         ensures { IsTurn V.facts V.stands caller.old caller.new }
     {
+        if self.look_often(caller) {
+            return;
+        }
         for _ in rt.forever() {
             if self.look(caller) {
                 return;
             }
-            yield_now();
+            self.bells.sleep(rt, caller.ticket);
         }
         unreachable!()
     }
@@ -217,6 +244,7 @@ impl<V: Stands + Drop> TurnLock<V> {
     {
         let next = caller.ticket.wrapping_add(1);
         self.table.shared.store::<Ends>(&mut caller.seat, 1, next);
+        self.bells.ring(next);
     }
 
     /// Gives a value back in the place of the one that was taken, publishes its length and peak, and ends the turn.
@@ -280,7 +308,7 @@ impl<V: Stands + Drop> TurnLock<V> {
             next: _,
             ticket: _,
         } = caller;
-        let TurnLock { table } = self;
+        let TurnLock { table, bells: _ } = self;
         let mut closed = table.close_with(seat);
         let value = closed.take(0);
         closed.free();

@@ -1,6 +1,8 @@
-use Rattle.std.proofs.Common.{ap, refl, subst, sym}
+use Rattle.std.specs.Prelude.{◌<◌, ◌≡◌, length, slice_index_or, slice_set}
+use Rattle.std.proofs.Common.{ap, refl, subst, sym, ◌∙◌, arith, false, true, Bool}
+use Rattle.std.proofs.lemmas.List.{get_or-set_same}
 use Rattle.blsm_model.specs.Facts.{Follows}
-use Rattle.seat_book.specs.State.{BookState}
+use Rattle.seat_book.specs.State.{BookState, left_in}
 use Rattle.core_moves.specs.Moves.{with_book}
 use Rattle.tree_machine.specs.Steps.{Left}
 use Rattle.tree_machine.specs.declared.step.Kind.TheVariants as kind
@@ -55,3 +57,8 @@ invariant_of-self g c =
           (record { pace = c.self.invariant.0.pace; holds = leave_holds c.args.seat held c.self.invariant.0.pace d c.self.invariant.0.holds }),
       few_on c.self.inside.held.runs.sizes c.args.self.now.held.runs.sizes _ c.self.inside.holds (ap (λ (s : CoreState g.row.D.Denot). s.held.runs.sizes) c.self.view_is) (returns-clause-holds g c).sizes c.self.invariant.1,
     )
+
+pub returns-clause-left : goal.returns-clause-left
+returns-clause-left g c =
+    let b = c.self.inside.held.book in
+    ap (λ (x : BookState). slice_index_or x.seats.left c.args.seat false) c.leave.ensures ∙ get_or-set_same b.seats.left c.args.seat true false (omega (arith, c.requires, c.entries-entries.ensures.places.left))

@@ -1,10 +1,12 @@
-use Rattle.std.specs.Prelude.{◌≡◌, true, IsTrue}
+use Rattle.std.specs.Prelude.{◌≡◌, ◌≤◌, true, IsTrue}
 use Rattle.std.proofs.Common.{ap, subst, sym, ◌∙◌}
 use Rattle.blsm_model.specs.Facts.{Follows}
 use Rattle.blsm_model.specs.declared.op.Op.TheVariants as op
 use Rattle.disk_trait.specs.Disk.{GoesOn}
 use Rattle.pacing.specs.Pace.{Pace}
+use Rattle.scan_view.specs.Holds.{hold_of, pages_behind}
 use Rattle.seat_book.specs.State.{BookState, may_note_in, noted_in}
+use Rattle.tree_runs.specs.Runs.{page_share}
 use Rattle.core_moves.specs.Moves.{with_book}
 use Rattle.tree_machine.specs.Plays.{may}
 use Rattle.tree_machine.specs.Steps.{Replied}
@@ -102,3 +104,6 @@ returns-clause-lasts g c = λ start.
 
 pub returns-clause-book : goal.returns-clause-book
 returns-clause-book g c = c.note_scan.ensures ∙ ap (λ (s : CoreState g.row.D.Denot). noted_in c.args.seat (op.Next c.args.n) (reply_to_next c.read_on-scan.result) s.held.book) c.self.view_is
+
+pub returns-clause-few : goal.returns-clause-few
+returns-clause-few g c = subst (λ (s : CoreState g.row.D.Denot). pages_behind (hold_of c.args.seat s.holds) ≤ page_share s.held.runs.sizes) c.self.view_is (c.self.invariant.1 c.args.seat)

@@ -24,10 +24,10 @@ use Rattle.tree_core.specs.Standing.{StandsFor}
 use Rattle.tree_core.specs.Steps.{MovesPace, IsStep}
 use Rattle.tree_core.proofs.BoundLemmas.{rose as has_risen}
 use Rattle.tree_core.proofs.QuantumLemmas.{kept_once, core_by}
-use Rattle.tree_core.proofs.PaymentLemmas.{Took, FailedToTake, nothing_planned, plans_by, quantum_may, quantum_ready, payer_wrote, quanta_fit, payment_moves, payment_runs, payment_follows, settling_moves, settling_follows, failed_payment_moves, failed_payment_follows}
+use Rattle.tree_core.proofs.PaymentLemmas.{Took, FailedToTake, nothing_planned, plans_by, quantum_may, quantum_ready, payer_wrote, quanta_fit, payment_lessens, payment_moves, payment_runs, payment_follows, settling_moves, settling_follows, failed_payment_moves, failed_payment_follows}
 use Rattle.tree_core.proofs.QuantumSteps.{running_at}
 use Rattle.tree_core.proofs.PaymentSteps.{halted_payment, settled_payment, stands_forgiven, paid_step, failed_payment_step, never_damaged}
-use Rattle.tree_core.specs.Notes.{CountsPayment}
+use Rattle.tree_core.specs.Notes.{CountsPayment, Lessens}
 use Rattle.tree_core.specs.declared.answers.Payment.TheVariants as payment
 use Rattle.tree_core.proofs.NotingLemmas.{payment_counts, settling_counts, failed_payment_counts, plans_nothing}
 use Rattle.tree_core.proofs.KeepLemmas.{affects_kept, affects_now, few_on, forgiven_keeps_pins, keeps_by, quantum_keeps_pins, rests_affects, then_pins}
@@ -108,6 +108,20 @@ returns-in-Ok-clause-cause g c =
       },
       λ none. p.owes (p.plan_is ∙ none),
     )
+
+pub returns-in-Ok-clause-lessens : goal.returns-in-Ok-clause-lessens
+returns-in-Ok-clause-lessens g c =
+    let old = c.self.inside in
+    let new = with_book c.count_for_write.new.self c.take.new.held in
+    let kept = c.self.invariant.0 in
+    let before = g.D.Disk.state old.disk in
+    let after = g.D.Disk.state c.take.new.disk in
+    let p = plans_by c.args.seat c.plan-plan.result old.held c.plan-plan.new.self c.requires c.in_default.ensures c.plan-plan.ensures.forgiven c.plan-plan.ensures.plan c.in_default-plan.not-Nothing in
+    let t : Took c.args.seat c.in-Ok.field-0 c.plan-plan.result old.held c.plan-plan.new.self c.take.new.held = record { plans = p; takes = c.in-Ok.ensures.takes } in
+    subst (λ (s : CoreState g.row.D.Denot). Lessens payment.Paid c.args.seat s.held new) c.self.view_is
+    (payment_lessens c.args.seat old.held new kept.pace before after c.requires p.ran (payment_runs c.args.seat c.in-Ok.field-0 c.plan-plan.result old.held c.plan-plan.new.self c.take.new.held c.count_for_write.new.self t c.count_for_write.ensures)
+    (λ none. p.owes (p.plan_is ∙ none)) kept.holds
+    (payment_moves c.args.seat c.in-Ok.field-0 c.plan-plan.result old.held c.plan-plan.new.self c.take.new.held c.count_for_write.new.self kept.pace before after t kept.holds c.in-Ok.ensures.on c.count_for_write.ensures))
 
 pub returns-in-Ok-clause-follows : goal.returns-in-Ok-clause-follows
 returns-in-Ok-clause-follows g c =

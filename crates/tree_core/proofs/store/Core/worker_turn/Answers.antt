@@ -23,8 +23,8 @@ use Rattle.tree_core.proofs.QuantumLemmas.{core_by}
 use Rattle.tree_core.proofs.QuantumSteps.{running_at}
 use Rattle.tree_core.proofs.TurnLemmas.{Turns, Ends, closed_moves, halted_follows, turn_may, turn_ready, turn_moves, turn_because, turn_follows}
 use Rattle.tree_core.proofs.TurnSteps.{halted_turn, closed_turn, turn_step}
-use Rattle.tree_core.specs.Notes.{NotesNone}
-use Rattle.tree_core.proofs.NotingLemmas.{help_notes, helped_notes}
+use Rattle.tree_core.specs.Notes.{HelpsOnce, NotesNone}
+use Rattle.tree_core.proofs.NotingLemmas.{help_notes, helped_notes, helps_once, turn_helps}
 use Rattle.tree_core.proofs.KeepLemmas.{affects_now, few_on, keeps_by, move_keeps_pins, rebooked_keeps, rests_affects}
 use Rattle.tree_core.proofs.LastLemmas.{lasts_by, book_lasts, may_help}
 use Rattle.tree_core.specs.Steps.{StandsSince, may_in}
@@ -318,3 +318,41 @@ invariant_of-self-2 g c =
       core_by (with_book b moved) after (turn_moves true c.args.seat mv made faults old.held moved ended b kept.pace before after e kept.holds),
       few_on c.self.inside.held.runs.sizes c.args.self.now.held.runs.sizes _ c.self.inside.holds (ap (λ (s : CoreState g.row.D.Denot). s.held.runs.sizes) c.self.view_is) (returns-clause-holds g c).sizes c.self.invariant.1,
     )
+
+-- ---- it counts
+
+pub returns-in-Some-clause-helps : goal.returns-in-Some-clause-helps
+returns-in-Some-clause-helps g c =
+    let book = c.self.inside.held.book in
+    subst (λ (s : CoreState g.row.D.Denot). HelpsOnce c.args.seat s.held.book c.worker_turn.new.self) c.self.view_is
+    (helps_once c.args.seat book book c.worker_turn.new.self c.requires.0 c.requires.1 c.has_places.ensures.turns refl c.worker_turn.ensures)
+
+pub returns-then-is_closed-clause-helps : goal.returns-then-is_closed-clause-helps
+returns-then-is_closed-clause-helps g c =
+    let book = c.self.inside.held.book in
+    subst (λ (s : CoreState g.row.D.Denot). HelpsOnce c.args.seat s.held.book c.worker_turn-then-is_closed.new.self) c.self.view_is
+    (helps_once c.args.seat book book c.worker_turn-then-is_closed.new.self c.requires.0 c.requires.1 c.has_places.ensures.turns refl c.worker_turn-then-is_closed.ensures)
+
+pub returns-clause-helps : goal.returns-clause-helps
+returns-clause-helps g c =
+    let old = c.self.inside in
+    let mv = move_of c.choose-choice.result in
+    let t : Turns true c.args.seat mv old.held = record { ran = sym c.in_default.ensures; is_seat = c.requires; even = tt; is = c.choose-choice.ensures } in
+    let before = g.D.Disk.state old.disk in
+    let after = g.D.Disk.state c.make-made.new.disk in
+    let moved = c.make-made.new.held in
+    let made = c.make-made.result in
+    let faults = c.faults.result in
+    let ended = turned_of c.end-ended.result.0 in
+    let b = c.worker_turn-2.new.self in
+    let e : Ends true c.args.seat mv made faults old.held moved ended b before after = record {
+      turns = t;
+      moves = c.make-made.ensures.moves;
+      on = c.make-made.ensures.on;
+      kept = c.make-made.ensures.kept;
+      told = c.make-made.ensures.faults;
+      ended_is = c.end-ended.ensures.ended;
+      counts = c.worker_turn-2.ensures ∙ ap (λ (x : BookState). helped_in c.args.seat x) c.end-ended.ensures.book;
+    } in
+    subst (λ (s : CoreState g.row.D.Denot). HelpsOnce c.args.seat s.held.book b) c.self.view_is
+    (turn_helps c.args.seat mv made faults old.held moved ended b before after c.requires.0 c.requires.1 c.has_places.ensures.turns e)

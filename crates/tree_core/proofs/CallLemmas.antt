@@ -1,0 +1,223 @@
+-- What a call's clauses say together, for one link of a chain; and calls since a start, one after another.
+use Rattle.std.proofs.Common.{◌≡◌, List, [], ◌∷◌, ◌++◌, false, ap, refl, subst, sym, ◌∙◌}
+use Rattle.std.specs.Prelude.{◌+◌, ◌/◌, ◌≤◌, None, true, ℕ, IsTrue}
+use Rattle.blsm_model.specs.Facts.{Follows}
+use Rattle.blsm_model.specs.Geometry.{file_length}
+use Rattle.blsm_model.specs.declared.history.Reply.{Reply}
+use Rattle.blsm_model.specs.declared.key.Key.{Key}
+use Rattle.blsm_model.specs.declared.op.Op.{Op}
+use Rattle.blsm_model.specs.declared.op.Op.TheVariants as op
+use Rattle.blsm_model.specs.declared.row.Value.{Value}
+use Rattle.disk_trait.specs.Disk.{DiskState}
+use Rattle.disk_trait.specs.Effects.{Affects}
+use Rattle.disk_trait.specs.Reads.{OnlyReads, only_reads_same}
+use Rattle.disk_trait.specs.Region.{IsSameOutside, same_file}
+use Rattle.pacing.specs.Pace.{Pace}
+use Rattle.scan_view.specs.Holds.{hold_of, pages_behind}
+use Rattle.scan_view.specs.Pins.{beside_pins}
+use Rattle.seat_book.specs.State.{ended_in, left_in, noted_in, work_in}
+use Rattle.tree_machine.specs.Machine.{Machine, Turned}
+use Rattle.tree_machine.specs.Plays.{may}
+use Rattle.tree_machine.specs.Steps.{Answer, Left, Replied, Turn, work_reply}
+use Rattle.tree_machine.specs.declared.step.Kind.{Kind}
+use Rattle.tree_machine.specs.declared.step.Kind.TheVariants as kind
+use Rattle.tree_machine.specs.declared.step.Step.{Step}
+use Rattle.tree_runs.specs.Runs.{page_share}
+use Rattle.core_moves.specs.Moves.{with_book}
+use Rattle.tree_core.specs.Answers.{answer_to_pay, reply_to_drop, reply_to_get, reply_to_hold, reply_to_next, reply_to_write}
+use Rattle.tree_core.specs.Calls.{Admits, AreCalls, CameSince, EndsWork, Gets, GoesOnAs, Helps, HoldsRange, IsCall, Leaves, LetsGo, Pays, ReadsOn, TurnsOnce}
+use Rattle.tree_core.specs.Causes.{AdmitsBecause, CallsNone, DropsBecause, FindsBecause, HasBegun, HoldsBecause, LooksNone, PaysBecause, PaysNone, ScansBecause, ScansNone, TurnsBecause, TurnsNone}
+use Rattle.tree_core.specs.Core.{CoreState, HoldsPace, facts_of_held}
+use Rattle.tree_core.specs.Holds.{KeepsHolds, LeavesOthers, StandsWhole}
+use Rattle.tree_core.specs.Notes.{CountsPayment, CountsTurn, HasLeft, HelpsOnce, Lessens, NotesNone, NotesOne, OwesNothing, Settles}
+use Rattle.tree_core.specs.Standing.{StandsFor}
+use Rattle.tree_core.specs.Steps.{IsStep, IsWholeStep, MovesPace, StandsSince, may_in}
+use Rattle.tree_core.specs.declared.answers.Admission.{Admission}
+use Rattle.tree_core.specs.declared.answers.Holding.{Holding}
+use Rattle.tree_core.specs.declared.answers.Lookup.{Lookup}
+use Rattle.tree_core.specs.declared.answers.Payment.{Payment}
+use Rattle.tree_core.specs.declared.answers.Release.{Release}
+use Rattle.tree_core.specs.declared.answers.Scan.{Scan}
+use Rattle.tree_core.proofs.KeepLemmas.{is_held, whole_step}
+use Rattle.tree_core.proofs.PlayLemmas.{may_agrees}
+
+-- ---- one call, from its clauses
+
+module _ {D : Type 0} (state : D → DiskState) (seat : ℕ) (k : Kind) (answer : Answer) (old new : CoreState D) (can : may_in old.held seat k ≡ true)
+    (numbers : (pace : Pace) → HoldsPace old.held pace (state old.disk) → MovesPace seat k answer new.held (state new.disk) pace) (follows : Follows seat (facts_of_held old.held) (facts_of_held new.held))
+    (lasts : (start : CoreState D) → StandsSince state start old → StandsSince state start new) (begins : StandsSince state new new) where
+  -- one of a hold says of the whole core which step it is
+  pub goes_holding : ((opening : List (Key × Value)) (m : Machine) (pace : Pace) → IsTrue (state old.disk).is_honest → StandsWhole state opening old m pace → IsTrue (may m seat k) → IsWholeStep state opening seat k answer old new m pace)
+      → GoesOnAs state seat k answer old new
+  goes_holding steps = record {
+    may = can;
+    numbers = numbers;
+    steps = λ opening m pace honest whole. steps opening m pace honest whole (may_agrees seat k old.held m whole.stands.book whole.stands.gears ∙ can);
+    follows = follows;
+    lasts = lasts;
+    begins = begins;
+  }
+
+  -- any other writes beside the pages that are pinned
+  pub goes_beside : is_held k ≡ false → KeepsHolds old new → (IsTrue (state old.disk).is_honest → IsSameOutside (beside_pins old.held.runs.sizes old.held.runs.space.pins) (state old.disk).bytes (state new.disk).bytes)
+      → ((opening : List (Key × Value)) (m : Machine) (pace : Pace) → IsTrue (state old.disk).is_honest → StandsFor opening old.held m pace (state old.disk) → IsTrue (may m seat k)
+      → IsStep opening seat k answer new.held (state old.disk) (state new.disk) m pace)
+      → GoesOnAs state seat k answer old new
+  goes_beside none keeps beside steps =
+      goes_holding (λ opening m pace honest whole ok. whole_step state opening seat k answer old new m pace none keeps (beside honest) whole (steps opening m pace honest whole.stands ok))
+
+-- an admission
+pub admits : {D : Type 0} (state : D → DiskState) (seat : ℕ) (op : Op) (answer : Admission) (old new : CoreState D)
+    (can : may_in old.held seat (kind.Admit op) ≡ true)
+    (numbers : (pace : Pace) → HoldsPace old.held pace (state old.disk) → MovesPace seat (kind.Admit op) (Replied (reply_to_write answer)) new.held (state new.disk) pace)
+    (steps : (opening : List (Key × Value)) (m : Machine) (pace : Pace) → IsTrue (state old.disk).is_honest → StandsFor opening old.held m pace (state old.disk) → IsTrue (may m seat (kind.Admit op)) → IsStep opening seat (kind.Admit op) (Replied (reply_to_write answer)) new.held (state old.disk) (state new.disk) m pace)
+    (cause : AdmitsBecause answer seat op old.held new.held (state old.disk) (state new.disk)) (begun : HasBegun answer old.held new.held)
+    (notes : NotesOne seat op (reply_to_write answer) old.held.book new.held.book)
+    (effect : Affects (beside_pins old.held.runs.sizes old.held.runs.space.pins) (file_length old.held.runs.sizes) 22 (state old.disk) (state new.disk))
+    (untouched : CallsNone answer → new.disk ≡ old.disk) (holds : KeepsHolds old new) (follows : Follows seat (facts_of_held old.held) (facts_of_held new.held))
+    (lasts : (start : CoreState D) → StandsSince state start old → StandsSince state start new) (begins : StandsSince state new new)
+    → Admits state seat op answer old new
+admits state seat op answer old new can numbers steps cause begun notes effect untouched holds follows lasts begins =
+    record { goes = goes_beside state seat (kind.Admit op) (Replied (reply_to_write answer)) old new can numbers follows lasts begins refl holds (λ honest. effect.bytes honest) steps; cause = cause; begun = begun; notes = notes; effect = effect; untouched = untouched }
+
+-- a payment
+pub pays : {D : Type 0} (state : D → DiskState) (seat : ℕ) (answer : Payment) (old new : CoreState D)
+    (can : may_in old.held seat kind.Pay ≡ true) (numbers : (pace : Pace) → HoldsPace old.held pace (state old.disk) → MovesPace seat kind.Pay (answer_to_pay answer) new.held (state new.disk) pace)
+    (steps : (opening : List (Key × Value)) (m : Machine) (pace : Pace) → IsTrue (state old.disk).is_honest → StandsFor opening old.held m pace (state old.disk) → IsTrue (may m seat kind.Pay) → IsStep opening seat kind.Pay (answer_to_pay answer) new.held (state old.disk) (state new.disk) m pace)
+    (cause : PaysBecause answer seat old.held new.held (state old.disk) (state new.disk)) (counts : CountsPayment answer seat old.held.book new.held.book) (settles : Settles answer seat new.held)
+    (lessens : Lessens answer seat old.held new.held)
+    (effect : Affects (beside_pins old.held.runs.sizes old.held.runs.space.pins) (file_length old.held.runs.sizes) (old.held.runs.sizes.quantum / 4 + 3) (state old.disk) (state new.disk))
+    (untouched : PaysNone answer → new.disk ≡ old.disk) (holds : KeepsHolds old new) (follows : Follows seat (facts_of_held old.held) (facts_of_held new.held))
+    (lasts : (start : CoreState D) → StandsSince state start old → StandsSince state start new) (begins : StandsSince state new new)
+    → Pays state seat answer old new
+pays state seat answer old new can numbers steps cause counts settles lessens effect untouched holds follows lasts begins =
+    record { goes = goes_beside state seat kind.Pay (answer_to_pay answer) old new can numbers follows lasts begins refl holds (λ honest. effect.bytes honest) steps; cause = cause; counts = counts; settles = settles; lessens = lessens; effect = effect; untouched = untouched }
+
+-- a lookup
+pub gets : {D : Type 0} (state : D → DiskState) (seat : ℕ) (key : Key) (answer : Lookup) (old new : CoreState D)
+    (can : may_in old.held seat (kind.Get key) ≡ true)
+    (numbers : (pace : Pace) → HoldsPace old.held pace (state old.disk) → MovesPace seat (kind.Get key) (Replied (reply_to_get answer)) new.held (state new.disk) pace)
+    (steps : (opening : List (Key × Value)) (m : Machine) (pace : Pace) → IsTrue (state old.disk).is_honest → StandsFor opening old.held m pace (state old.disk) → IsTrue (may m seat (kind.Get key)) → IsStep opening seat (kind.Get key) (Replied (reply_to_get answer)) new.held (state old.disk) (state new.disk) m pace)
+    (cause : FindsBecause answer old.held (state old.disk) (state new.disk)) (held : new.held ≡ with_book (noted_in seat (op.Get key) (reply_to_get answer) old.held.book) old.held)
+    (reads : OnlyReads (file_length old.held.runs.sizes) (old.held.runs.catalogue.c1.pages + old.held.runs.catalogue.c1x.pages + old.held.runs.catalogue.c2.pages) (state old.disk) (state new.disk))
+    (untouched : LooksNone answer → new.disk ≡ old.disk) (holds : KeepsHolds old new) (follows : Follows seat (facts_of_held old.held) (facts_of_held new.held))
+    (lasts : (start : CoreState D) → StandsSince state start old → StandsSince state start new) (begins : StandsSince state new new)
+    → Gets state seat key answer old new
+gets {D} state seat key answer old new can numbers steps cause held reads untouched holds follows lasts begins =
+    record { goes = goes_beside state seat (kind.Get key) (Replied (reply_to_get answer)) old new can numbers follows lasts begins refl holds (λ honest. stays (only_reads_same reads honest)) steps; cause = cause; held = held; reads = reads; untouched = untouched }
+  where
+    stays : (state new.disk).bytes ≡ (state old.disk).bytes → IsSameOutside (beside_pins old.held.runs.sizes old.held.runs.space.pins) (state old.disk).bytes (state new.disk).bytes
+    stays same = subst (λ (file : List ℕ). IsSameOutside (beside_pins old.held.runs.sizes old.held.runs.space.pins) (state old.disk).bytes file) (sym same) (same_file (beside_pins old.held.runs.sizes old.held.runs.space.pins) (state old.disk).bytes)
+
+-- a range is held
+pub holds_range : {D : Type 0} (state : D → DiskState) (seat : ℕ) (low high : Key) (answer : Holding) (old new : CoreState D)
+    (can : may_in old.held seat (kind.Hold low high) ≡ true)
+    (numbers : (pace : Pace) → HoldsPace old.held pace (state old.disk) → MovesPace seat (kind.Hold low high) (Replied (reply_to_hold answer)) new.held (state new.disk) pace)
+    (steps : (opening : List (Key × Value)) (m : Machine) (pace : Pace) → IsTrue (state old.disk).is_honest → StandsWhole state opening old m pace → IsTrue (may m seat (kind.Hold low high)) → IsWholeStep state opening seat (kind.Hold low high) (Replied (reply_to_hold answer)) old new m pace)
+    (cause : HoldsBecause answer seat low high old new) (others : LeavesOthers seat old new) (book : new.held.book ≡ noted_in seat (op.Hold low high) (reply_to_hold answer) old.held.book)
+    (untouched : new.disk ≡ old.disk) (follows : Follows seat (facts_of_held old.held) (facts_of_held new.held)) (lasts : (start : CoreState D) → StandsSince state start old → StandsSince state start new)
+    (begins : StandsSince state new new)
+    → HoldsRange state seat low high answer old new
+holds_range state seat low high answer old new can numbers steps cause others book untouched follows lasts begins =
+    record { goes = goes_holding state seat (kind.Hold low high) (Replied (reply_to_hold answer)) old new can numbers follows lasts begins steps; cause = cause; others = others; book = book; untouched = untouched }
+
+-- the next rows of a hold
+pub reads_on : {D : Type 0} (state : D → DiskState) (seat n : ℕ) (answer : Scan) (old new : CoreState D)
+    (can : may_in old.held seat (kind.Next n) ≡ true)
+    (numbers : (pace : Pace) → HoldsPace old.held pace (state old.disk) → MovesPace seat (kind.Next n) (Replied (reply_to_next answer)) new.held (state new.disk) pace)
+    (steps : (opening : List (Key × Value)) (m : Machine) (pace : Pace) → IsTrue (state old.disk).is_honest → StandsWhole state opening old m pace → IsTrue (may m seat (kind.Next n)) → IsWholeStep state opening seat (kind.Next n) (Replied (reply_to_next answer)) old new m pace)
+    (cause : ScansBecause answer seat n old new (state old.disk) (state new.disk)) (book : new.held.book ≡ noted_in seat (op.Next n) (reply_to_next answer) old.held.book)
+    (others : LeavesOthers seat old new) (few : pages_behind (hold_of seat old.holds) ≤ page_share old.held.runs.sizes)
+    (reads : OnlyReads (file_length old.held.runs.sizes) (pages_behind (hold_of seat old.holds)) (state old.disk) (state new.disk)) (untouched : ScansNone answer → new.disk ≡ old.disk)
+    (follows : Follows seat (facts_of_held old.held) (facts_of_held new.held)) (lasts : (start : CoreState D) → StandsSince state start old → StandsSince state start new)
+    (begins : StandsSince state new new)
+    → ReadsOn state seat n answer old new
+reads_on state seat n answer old new can numbers steps cause book others few reads untouched follows lasts begins =
+    record { goes = goes_holding state seat (kind.Next n) (Replied (reply_to_next answer)) old new can numbers follows lasts begins steps; cause = cause; book = book; others = others; few = few; reads = reads; untouched = untouched }
+
+-- a hold is dropped
+pub lets_go : {D : Type 0} (state : D → DiskState) (seat : ℕ) (answer : Release) (old new : CoreState D)
+    (can : may_in old.held seat kind.Release ≡ true)
+    (numbers : (pace : Pace) → HoldsPace old.held pace (state old.disk) → MovesPace seat kind.Release (Replied (reply_to_drop answer)) new.held (state new.disk) pace)
+    (steps : (opening : List (Key × Value)) (m : Machine) (pace : Pace) → IsTrue (state old.disk).is_honest → StandsWhole state opening old m pace → IsTrue (may m seat kind.Release) → IsWholeStep state opening seat kind.Release (Replied (reply_to_drop answer)) old new m pace)
+    (cause : DropsBecause answer seat old new) (others : LeavesOthers seat old new) (book : new.held.book ≡ noted_in seat op.Release (reply_to_drop answer) old.held.book) (untouched : new.disk ≡ old.disk)
+    (follows : Follows seat (facts_of_held old.held) (facts_of_held new.held)) (lasts : (start : CoreState D) → StandsSince state start old → StandsSince state start new)
+    (begins : StandsSince state new new)
+    → LetsGo state seat answer old new
+lets_go state seat answer old new can numbers steps cause others book untouched follows lasts begins =
+    record { goes = goes_holding state seat kind.Release (Replied (reply_to_drop answer)) old new can numbers follows lasts begins steps; cause = cause; others = others; book = book; untouched = untouched }
+
+-- a turn of a caller's work
+pub turns_once : {D : Type 0} (state : D → DiskState) (seat : ℕ) (answer : Turned) (old new : CoreState D)
+    (can : may_in old.held seat kind.WorkTurn ≡ true) (numbers : (pace : Pace) → HoldsPace old.held pace (state old.disk) → MovesPace seat kind.WorkTurn (Turn answer) new.held (state new.disk) pace)
+    (steps : (opening : List (Key × Value)) (m : Machine) (pace : Pace) → IsTrue (state old.disk).is_honest → StandsFor opening old.held m pace (state old.disk) → IsTrue (may m seat kind.WorkTurn) → IsStep opening seat kind.WorkTurn (Turn answer) new.held (state old.disk) (state new.disk) m pace)
+    (cause : TurnsBecause answer false seat old.held new.held (state old.disk) (state new.disk)) (counts : CountsTurn seat answer old.held new.held)
+    (even : new.held.book.stopped ≡ None → OwesNothing seat new.held)
+    (effect : Affects (beside_pins old.held.runs.sizes old.held.runs.space.pins) (file_length old.held.runs.sizes) (old.held.runs.sizes.quantum / 4 + 9) (state old.disk) (state new.disk))
+    (untouched : TurnsNone answer → new.disk ≡ old.disk) (holds : KeepsHolds old new) (follows : Follows seat (facts_of_held old.held) (facts_of_held new.held))
+    (lasts : (start : CoreState D) → StandsSince state start old → StandsSince state start new) (begins : StandsSince state new new)
+    → TurnsOnce state seat answer old new
+turns_once state seat answer old new can numbers steps cause counts even effect untouched holds follows lasts begins =
+    record { goes = goes_beside state seat kind.WorkTurn (Turn answer) old new can numbers follows lasts begins refl holds (λ honest. effect.bytes honest) steps; cause = cause; counts = counts; even = even; effect = effect; untouched = untouched }
+
+-- its end
+pub ends_work : {D : Type 0} (state : D → DiskState) (seat n : ℕ) (reply : Reply) (old new : CoreState D)
+    (can : may_in old.held seat (kind.WorkEnd n) ≡ true)
+    (numbers : (pace : Pace) → HoldsPace old.held pace (state old.disk) → MovesPace seat (kind.WorkEnd n) (Replied reply) new.held (state new.disk) pace)
+    (steps : (opening : List (Key × Value)) (m : Machine) (pace : Pace) → IsTrue (state old.disk).is_honest → StandsFor opening old.held m pace (state old.disk) → IsTrue (may m seat (kind.WorkEnd n)) → IsStep opening seat (kind.WorkEnd n) (Replied reply) new.held (state old.disk) (state new.disk) m pace)
+    (reply_is : reply ≡ work_reply (work_in seat old.held.book) old.held.book.stopped) (disk : new.disk ≡ old.disk) (held : new.held ≡ with_book (ended_in seat n old.held.book) old.held)
+    (holds : KeepsHolds old new) (follows : Follows seat (facts_of_held old.held) (facts_of_held new.held)) (lasts : (start : CoreState D) → StandsSince state start old → StandsSince state start new)
+    (begins : StandsSince state new new)
+    → EndsWork state seat n reply old new
+ends_work {D} state seat n reply old new can numbers steps reply_is disk held holds follows lasts begins =
+    record { goes = goes_beside state seat (kind.WorkEnd n) (Replied reply) old new can numbers follows lasts begins refl holds (λ honest. stays (ap (λ (d : D). (state d).bytes) disk)) steps; reply_is = reply_is; held = held; untouched = disk }
+  where
+    stays : (state new.disk).bytes ≡ (state old.disk).bytes → IsSameOutside (beside_pins old.held.runs.sizes old.held.runs.space.pins) (state old.disk).bytes (state new.disk).bytes
+    stays same = subst (λ (file : List ℕ). IsSameOutside (beside_pins old.held.runs.sizes old.held.runs.space.pins) (state old.disk).bytes file) (sym same) (same_file (beside_pins old.held.runs.sizes old.held.runs.space.pins) (state old.disk).bytes)
+
+-- a turn of a worker
+pub helps : {D : Type 0} (state : D → DiskState) (seat : ℕ) (answer : Turned) (old new : CoreState D)
+    (can : may_in old.held seat kind.WorkerTurn ≡ true) (numbers : (pace : Pace) → HoldsPace old.held pace (state old.disk) → MovesPace seat kind.WorkerTurn (Turn answer) new.held (state new.disk) pace)
+    (steps : (opening : List (Key × Value)) (m : Machine) (pace : Pace) → IsTrue (state old.disk).is_honest → StandsFor opening old.held m pace (state old.disk) → IsTrue (may m seat kind.WorkerTurn) → IsStep opening seat kind.WorkerTurn (Turn answer) new.held (state old.disk) (state new.disk) m pace)
+    (cause : TurnsBecause answer true seat old.held new.held (state old.disk) (state new.disk)) (notes : NotesNone old.held.book new.held.book) (helped : HelpsOnce seat old.held.book new.held.book)
+    (still : TurnsNone answer → new.held.book.stopped ≡ old.held.book.stopped)
+    (effect : Affects (beside_pins old.held.runs.sizes old.held.runs.space.pins) (file_length old.held.runs.sizes) (old.held.runs.sizes.quantum / 4 + 9) (state old.disk) (state new.disk))
+    (untouched : TurnsNone answer → new.disk ≡ old.disk) (holds : KeepsHolds old new) (follows : Follows seat (facts_of_held old.held) (facts_of_held new.held))
+    (lasts : (start : CoreState D) → StandsSince state start old → StandsSince state start new) (begins : StandsSince state new new)
+    → Helps state seat answer old new
+helps state seat answer old new can numbers steps cause notes helped still effect untouched holds follows lasts begins =
+    record { goes = goes_beside state seat kind.WorkerTurn (Turn answer) old new can numbers follows lasts begins refl holds (λ honest. effect.bytes honest) steps; cause = cause; notes = notes; helps = helped; still = still; effect = effect; untouched = untouched }
+
+-- a caller leaves
+pub leaves : {D : Type 0} (state : D → DiskState) (seat : ℕ) (old new : CoreState D)
+    (can : may_in old.held seat kind.Leave ≡ true) (numbers : (pace : Pace) → HoldsPace old.held pace (state old.disk) → MovesPace seat kind.Leave Left new.held (state new.disk) pace)
+    (steps : (opening : List (Key × Value)) (m : Machine) (pace : Pace) → IsTrue (state old.disk).is_honest → StandsFor opening old.held m pace (state old.disk) → IsTrue (may m seat kind.Leave) → IsStep opening seat kind.Leave Left new.held (state old.disk) (state new.disk) m pace)
+    (disk : new.disk ≡ old.disk) (held : new.held ≡ with_book (left_in seat old.held.book) old.held) (left : HasLeft seat new.held.book) (holds : KeepsHolds old new)
+    (follows : Follows seat (facts_of_held old.held) (facts_of_held new.held)) (lasts : (start : CoreState D) → StandsSince state start old → StandsSince state start new)
+    (begins : StandsSince state new new)
+    → Leaves state seat old new
+leaves {D} state seat old new can numbers steps disk held left holds follows lasts begins =
+    record { goes = goes_beside state seat kind.Leave Left old new can numbers follows lasts begins refl holds (λ honest. stays (ap (λ (d : D). (state d).bytes) disk)) steps; held = held; left = left; untouched = disk }
+  where
+    stays : (state new.disk).bytes ≡ (state old.disk).bytes → IsSameOutside (beside_pins old.held.runs.sizes old.held.runs.space.pins) (state old.disk).bytes (state new.disk).bytes
+    stays same = subst (λ (file : List ℕ). IsSameOutside (beside_pins old.held.runs.sizes old.held.runs.space.pins) (state old.disk).bytes file) (sym same) (same_file (beside_pins old.held.runs.sizes old.held.runs.space.pins) (state old.disk).bytes)
+
+-- ---- calls since a start
+
+-- at the start
+pub came_none : {D : Type 0} (state : D → DiskState) (start : CoreState D) → StandsSince state start start → CameSince state start start
+came_none state start begins = record { calls = []; are = refl; since = begins }
+
+one_more : {D : Type 0} (state : D → DiskState) (calls : List (Step × CoreState D)) (seat : ℕ) (k : Kind) (start old new : CoreState D) → AreCalls state calls start old → IsCall state seat k old new
+    → AreCalls state (calls ++ (record { seat = seat; kind = k }, new) ∷ []) start new
+one_more state [] seat k start old new are call = (subst (λ (core : CoreState _). IsCall state seat k core new) are call, refl)
+one_more state (one ∷ calls) seat k start old new are call = (are.0, one_more state calls seat k one.1 old new are.1 call)
+
+-- with one call more
+pub came_more : {D : Type 0} (state : D → DiskState) (seat : ℕ) (k : Kind) (start old new : CoreState D) → CameSince state start old → IsCall state seat k old new
+    → (StandsSince state start old → StandsSince state start new) → CameSince state start new
+came_more state seat k start old new came call lasts = record {
+  calls = came.calls ++ (record { seat = seat; kind = k }, new) ∷ [];
+  are = one_more state came.calls seat k start old new came.are call;
+  since = lasts came.since;
+}

@@ -1,0 +1,145 @@
+-- What the core's contracts say of one call, and of the calls since a start, one after another.
+use Rattle.std.specs.Prelude.{◌≡◌, ◌+◌, ◌/◌, ◌≤◌, ℕ, List, [], ◌∷◌, None, IsTrue, false, true}
+use Rattle.blsm_model.specs.Facts.{Follows}
+use Rattle.blsm_model.specs.Geometry.{file_length}
+use Rattle.blsm_model.specs.declared.history.Reply.{Reply}
+use Rattle.blsm_model.specs.declared.key.Key.{Key}
+use Rattle.blsm_model.specs.declared.op.Op.{Op}
+use Rattle.blsm_model.specs.declared.op.Op.TheVariants as op
+use Rattle.blsm_model.specs.declared.row.Value.{Value}
+use Rattle.disk_trait.specs.Disk.{DiskState}
+use Rattle.disk_trait.specs.Effects.{Affects}
+use Rattle.disk_trait.specs.Reads.{OnlyReads}
+use Rattle.pacing.specs.Pace.{Pace}
+use Rattle.scan_view.specs.Holds.{hold_of, pages_behind}
+use Rattle.scan_view.specs.Pins.{beside_pins}
+use Rattle.seat_book.specs.State.{ended_in, left_in, noted_in, work_in}
+use Rattle.tree_machine.specs.Machine.{Machine, Turned}
+use Rattle.tree_machine.specs.Steps.{Answer, Left, Replied, Turn, work_reply}
+use Rattle.tree_machine.specs.declared.step.Kind.{Kind}
+use Rattle.tree_machine.specs.declared.step.Kind.TheVariants as kind
+use Rattle.tree_machine.specs.declared.step.Step.{Step}
+use Rattle.tree_runs.specs.Runs.{page_share}
+use Rattle.core_moves.specs.Moves.{with_book}
+use Rattle.tree_core.specs.Answers.{answer_to_pay, reply_to_drop, reply_to_get, reply_to_hold, reply_to_next, reply_to_write}
+use Rattle.tree_core.specs.Causes.{AdmitsBecause, CallsNone, DropsBecause, FindsBecause, HasBegun, HoldsBecause, LooksNone, PaysBecause, PaysNone, ScansBecause, ScansNone, TurnsBecause, TurnsNone}
+use Rattle.tree_core.specs.Core.{CoreState, HoldsPace, facts_of_held}
+use Rattle.tree_core.specs.Holds.{LeavesOthers, StandsWhole}
+use Rattle.tree_core.specs.Notes.{CountsPayment, CountsTurn, HasLeft, HelpsOnce, Lessens, NotesNone, NotesOne, OwesNothing, Settles}
+use Rattle.tree_core.specs.Steps.{IsWholeStep, MovesPace, StandsSince, may_in}
+use Rattle.tree_core.specs.declared.answers.Admission.{Admission}
+use Rattle.tree_core.specs.declared.answers.Holding.{Holding}
+use Rattle.tree_core.specs.declared.answers.Lookup.{Lookup}
+use Rattle.tree_core.specs.declared.answers.Payment.{Payment}
+use Rattle.tree_core.specs.declared.answers.Release.{Release}
+use Rattle.tree_core.specs.declared.answers.Scan.{Scan}
+
+-- What each call says: it might be made, it moves the pace by its answer, follows from what stood, what lasts goes on lasting, and begins anew there.
+-- On an honest disk it is the machine's own step.
+pub record GoesOnAs {D : Type 0} (state : D → DiskState) (seat : ℕ) (k : Kind) (answer : Answer) (old new : CoreState D) : Type 0 where
+  pub may : IsTrue (may_in old.held seat k)
+  pub numbers : (pace : Pace) → HoldsPace old.held pace (state old.disk) → MovesPace seat k answer new.held (state new.disk) pace
+  pub steps : (opening : List (Key × Value)) (m : Machine) (pace : Pace) → IsTrue (state old.disk).is_honest → StandsWhole state opening old m pace → IsWholeStep state opening seat k answer old new m pace
+  pub follows : Follows seat (facts_of_held old.held) (facts_of_held new.held)
+  pub lasts : (start : CoreState D) → StandsSince state start old → StandsSince state start new
+  pub begins : StandsSince state new new
+
+pub record Admits {D : Type 0} (state : D → DiskState) (seat : ℕ) (op : Op) (answer : Admission) (old new : CoreState D) : Type 0 where
+  pub goes : GoesOnAs state seat (kind.Admit op) (Replied (reply_to_write answer)) old new
+  pub cause : AdmitsBecause answer seat op old.held new.held (state old.disk) (state new.disk)
+  pub begun : HasBegun answer old.held new.held
+  pub notes : NotesOne seat op (reply_to_write answer) old.held.book new.held.book
+  pub effect : Affects (beside_pins old.held.runs.sizes old.held.runs.space.pins) (file_length old.held.runs.sizes) 22 (state old.disk) (state new.disk)
+  pub untouched : CallsNone answer → new.disk ≡ old.disk
+
+pub record Pays {D : Type 0} (state : D → DiskState) (seat : ℕ) (answer : Payment) (old new : CoreState D) : Type 0 where
+  pub goes : GoesOnAs state seat kind.Pay (answer_to_pay answer) old new
+  pub cause : PaysBecause answer seat old.held new.held (state old.disk) (state new.disk)
+  pub counts : CountsPayment answer seat old.held.book new.held.book
+  pub settles : Settles answer seat new.held
+  pub lessens : Lessens answer seat old.held new.held
+  pub effect : Affects (beside_pins old.held.runs.sizes old.held.runs.space.pins) (file_length old.held.runs.sizes) (old.held.runs.sizes.quantum / 4 + 3) (state old.disk) (state new.disk)
+  pub untouched : PaysNone answer → new.disk ≡ old.disk
+
+pub record Gets {D : Type 0} (state : D → DiskState) (seat : ℕ) (key : Key) (answer : Lookup) (old new : CoreState D) : Type 0 where
+  pub goes : GoesOnAs state seat (kind.Get key) (Replied (reply_to_get answer)) old new
+  pub cause : FindsBecause answer old.held (state old.disk) (state new.disk)
+  pub held : new.held ≡ with_book (noted_in seat (op.Get key) (reply_to_get answer) old.held.book) old.held
+  pub reads : OnlyReads (file_length old.held.runs.sizes) (old.held.runs.catalogue.c1.pages + old.held.runs.catalogue.c1x.pages + old.held.runs.catalogue.c2.pages) (state old.disk) (state new.disk)
+  pub untouched : LooksNone answer → new.disk ≡ old.disk
+
+pub record HoldsRange {D : Type 0} (state : D → DiskState) (seat : ℕ) (low high : Key) (answer : Holding) (old new : CoreState D) : Type 0 where
+  pub goes : GoesOnAs state seat (kind.Hold low high) (Replied (reply_to_hold answer)) old new
+  pub cause : HoldsBecause answer seat low high old new
+  pub others : LeavesOthers seat old new
+  pub book : new.held.book ≡ noted_in seat (op.Hold low high) (reply_to_hold answer) old.held.book
+  pub untouched : new.disk ≡ old.disk
+
+pub record ReadsOn {D : Type 0} (state : D → DiskState) (seat n : ℕ) (answer : Scan) (old new : CoreState D) : Type 0 where
+  pub goes : GoesOnAs state seat (kind.Next n) (Replied (reply_to_next answer)) old new
+  pub cause : ScansBecause answer seat n old new (state old.disk) (state new.disk)
+  pub book : new.held.book ≡ noted_in seat (op.Next n) (reply_to_next answer) old.held.book
+  pub others : LeavesOthers seat old new
+  pub few : pages_behind (hold_of seat old.holds) ≤ page_share old.held.runs.sizes
+  pub reads : OnlyReads (file_length old.held.runs.sizes) (pages_behind (hold_of seat old.holds)) (state old.disk) (state new.disk)
+  pub untouched : ScansNone answer → new.disk ≡ old.disk
+
+pub record LetsGo {D : Type 0} (state : D → DiskState) (seat : ℕ) (answer : Release) (old new : CoreState D) : Type 0 where
+  pub goes : GoesOnAs state seat kind.Release (Replied (reply_to_drop answer)) old new
+  pub cause : DropsBecause answer seat old new
+  pub others : LeavesOthers seat old new
+  pub book : new.held.book ≡ noted_in seat op.Release (reply_to_drop answer) old.held.book
+  pub untouched : new.disk ≡ old.disk
+
+pub record TurnsOnce {D : Type 0} (state : D → DiskState) (seat : ℕ) (answer : Turned) (old new : CoreState D) : Type 0 where
+  pub goes : GoesOnAs state seat kind.WorkTurn (Turn answer) old new
+  pub cause : TurnsBecause answer false seat old.held new.held (state old.disk) (state new.disk)
+  pub counts : CountsTurn seat answer old.held new.held
+  pub even : new.held.book.stopped ≡ None → OwesNothing seat new.held
+  pub effect : Affects (beside_pins old.held.runs.sizes old.held.runs.space.pins) (file_length old.held.runs.sizes) (old.held.runs.sizes.quantum / 4 + 9) (state old.disk) (state new.disk)
+  pub untouched : TurnsNone answer → new.disk ≡ old.disk
+
+pub record EndsWork {D : Type 0} (state : D → DiskState) (seat n : ℕ) (reply : Reply) (old new : CoreState D) : Type 0 where
+  pub goes : GoesOnAs state seat (kind.WorkEnd n) (Replied reply) old new
+  pub reply_is : reply ≡ work_reply (work_in seat old.held.book) old.held.book.stopped
+  pub held : new.held ≡ with_book (ended_in seat n old.held.book) old.held
+  pub untouched : new.disk ≡ old.disk
+
+pub record Helps {D : Type 0} (state : D → DiskState) (seat : ℕ) (answer : Turned) (old new : CoreState D) : Type 0 where
+  pub goes : GoesOnAs state seat kind.WorkerTurn (Turn answer) old new
+  pub cause : TurnsBecause answer true seat old.held new.held (state old.disk) (state new.disk)
+  pub notes : NotesNone old.held.book new.held.book
+  pub helps : HelpsOnce seat old.held.book new.held.book
+  pub still : TurnsNone answer → new.held.book.stopped ≡ old.held.book.stopped
+  pub effect : Affects (beside_pins old.held.runs.sizes old.held.runs.space.pins) (file_length old.held.runs.sizes) (old.held.runs.sizes.quantum / 4 + 9) (state old.disk) (state new.disk)
+  pub untouched : TurnsNone answer → new.disk ≡ old.disk
+
+pub record Leaves {D : Type 0} (state : D → DiskState) (seat : ℕ) (old new : CoreState D) : Type 0 where
+  pub goes : GoesOnAs state seat kind.Leave Left old new
+  pub held : new.held ≡ with_book (left_in seat old.held.book) old.held
+  pub left : HasLeft seat new.held.book
+  pub untouched : new.disk ≡ old.disk
+
+-- one call by a seat, whatever it answered
+abbrev pub IsCall : {D : Type 0} → (D → DiskState) → ℕ → Kind → CoreState D → CoreState D → Type 0
+IsCall state seat (kind.Admit op) old new = (answer : Admission) × Admits state seat op answer old new
+IsCall state seat kind.Pay old new = (answer : Payment) × Pays state seat answer old new
+IsCall state seat (kind.Get key) old new = (answer : Lookup) × Gets state seat key answer old new
+IsCall state seat (kind.Hold low high) old new = (answer : Holding) × HoldsRange state seat low high answer old new
+IsCall state seat (kind.Next n) old new = (answer : Scan) × ReadsOn state seat n answer old new
+IsCall state seat kind.Release old new = (answer : Release) × LetsGo state seat answer old new
+IsCall state seat kind.WorkTurn old new = (answer : Turned) × TurnsOnce state seat answer old new
+IsCall state seat (kind.WorkEnd n) old new = (reply : Reply) × EndsWork state seat n reply old new
+IsCall state seat kind.WorkerTurn old new = (answer : Turned) × Helps state seat answer old new
+IsCall state seat kind.Leave old new = Leaves state seat old new
+
+-- these calls, one after another, with the core after each
+abbrev pub AreCalls : {D : Type 0} → (D → DiskState) → List (Step × CoreState D) → CoreState D → CoreState D → Type 0
+AreCalls state [] old new = new ≡ old
+AreCalls state (one ∷ more) old new = IsCall state one.0.seat one.0.kind old one.1 × AreCalls state more one.1 new
+
+-- From the start on some calls led here, and what lasts has lasted.
+pub record CameSince {D : Type 0} (state : D → DiskState) (start now : CoreState D) : Type 0 where
+  pub calls : List (Step × CoreState D)
+  pub are : AreCalls state calls start now
+  pub since : StandsSince state start now
