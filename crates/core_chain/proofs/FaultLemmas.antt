@@ -1,0 +1,343 @@
+-- What the calls tell of faults and of the stop, one after another.
+use Rattle.std.proofs.Common.{◌≡◌, ◌≢◌, ◌⊎◌, ◌∙◌, ⊎_elim, inl, inr, ℕ, ◌+◌, ◌<◌, ◌≤◌, Bool, true, false, List, [], ◌∷◌, ◌++◌, Some, None, refl, ap, sym, subst, arith}
+use Rattle.std.specs.Prelude.{Option, zero, suc, slice_index_or, sum_by}
+use Rattle.std.specs.List.{AllByRecursion}
+use Rattle.std.proofs.lemmas.Bool.{false≢true}
+use Rattle.std.proofs.lemmas.List.Sums.{sum_by-append, sum_by-cons}
+use Rattle.refusal.specs.Count.{HasRisen, HasRisenBy}
+use Rattle.blsm_model.specs.Legal.{is_write}
+use Rattle.blsm_model.specs.declared.history.Entry.{Entry}
+use Rattle.blsm_model.specs.declared.history.Reply.{Reply}
+use Rattle.blsm_model.specs.declared.history.Reply.TheVariants.{Fault, Stopped}
+use Rattle.blsm_model.specs.declared.history.Why.{Why}
+use Rattle.blsm_model.specs.declared.history.Why.TheVariants.{Faulted, BadPage}
+use Rattle.blsm_model.specs.declared.op.Op.{Op}
+use Rattle.blsm_model.specs.declared.op.Op.TheVariants.{Put, Add, Del, Get, Hold, Next, Release, Work}
+use Rattle.disk_trait.specs.Disk.{DiskState}
+use Rattle.tree_machine.specs.Machine.{WorkSoFar, no_work}
+use Rattle.tree_machine.specs.Outcomes.{is_failed_lookup}
+use Rattle.tree_machine.specs.Steps.{one_if}
+use Rattle.core_moves.specs.declared.held.Held.{Held}
+use Rattle.seat_book.specs.State.{BookState}
+use Rattle.tree_core.specs.Causes.{FoundDamaged, HasFailed, RanOn}
+use Rattle.tree_session.specs.Faults.{NamesCount, NamesStop, TellsFaults, TellsNone, faults_of, faults_of_turn, faults_told, is_by_fault}
+use Rattle.core_chain.specs.Tells.{lookups_failed}
+
+-- ---- entries
+
+lookup_tells : (op : Op) (reply : Reply) → one_if (is_failed_lookup op reply) ≤ faults_of reply
+lookup_tells (Put key value) reply = omega arith
+lookup_tells (Add key count) reply = omega arith
+lookup_tells (Del key) reply = omega arith
+lookup_tells (Get key) Fault = omega arith
+lookup_tells (Get key) _ = omega arith
+lookup_tells (Hold low high) reply = omega arith
+lookup_tells (Next n) Fault = omega arith
+lookup_tells (Next n) _ = omega arith
+lookup_tells Release reply = omega arith
+lookup_tells (Work n) reply = omega arith
+
+pub lookups_tell : (es : List Entry) → lookups_failed es ≤ faults_told es
+lookups_tell [] = omega arith
+lookups_tell (e ∷ es) =
+    let one = lookup_tells e.op e.reply in
+    let rest = lookups_tell es in
+    let lookups = sum_by-cons (λ (x : Entry). one_if (is_failed_lookup x.op x.reply)) e es in
+    let told = sum_by-cons (λ (x : Entry). faults_of x.reply) e es in
+    omega (arith, one, rest, lookups, told)
+
+calm_one : (op : Op) (reply : Reply) → faults_of reply ≤ one_if (is_failed_lookup op reply) → TellsNone op reply
+calm_one (Put key value) reply few = omega (arith, few)
+calm_one (Add key count) reply few = omega (arith, few)
+calm_one (Del key) reply few = omega (arith, few)
+calm_one (Get key) reply few = tt
+calm_one (Hold low high) reply few = omega (arith, few)
+calm_one (Next n) reply few = tt
+calm_one Release reply few = omega (arith, few)
+calm_one (Work n) reply few = omega (arith, few)
+
+-- where lookups alone failed
+pub all_calm : (es : List Entry) → faults_told es ≤ lookups_failed es → AllByRecursion (λ (e : Entry). TellsNone e.op e.reply) es
+all_calm [] few = tt
+all_calm (e ∷ es) few =
+    let one = lookup_tells e.op e.reply in
+    let rest = lookups_tell es in
+    let lookups = sum_by-cons (λ (x : Entry). one_if (is_failed_lookup x.op x.reply)) e es in
+    let told = sum_by-cons (λ (x : Entry). faults_of x.reply) e es in
+    (calm_one e.op e.reply (omega (arith, few, rest, lookups, told)), all_calm es (omega (arith, few, one, lookups, told)))
+
+-- a write is no lookup
+pub no_lookup : (op : Op) (reply : Reply) → is_write op ≡ true → is_failed_lookup op reply ≡ false
+no_lookup (Put key value) reply is = refl
+no_lookup (Add key count) reply is = refl
+no_lookup (Del key) reply is = refl
+no_lookup _ reply is = absurd (false≢true is)
+
+-- ---- works
+
+-- what is told of the works that are open, once they end
+abbrev pub pending : BookState → ℕ
+pending b = sum_by (λ w. faults_of_turn w.last) b.seats.work
+
+works_same : (f : WorkSoFar → ℕ) → f no_work ≡ 0 → (l m : List WorkSoFar) → ((i : ℕ) → slice_index_or m i no_work ≡ slice_index_or l i no_work) → sum_by f m ≡ sum_by f l
+works_same f none [] [] same = refl
+works_same f none [] (y ∷ m) same =
+    let here : f y ≡ f no_work = ap f (same 0) in
+    let rest = works_same f none [] m (λ i. same (suc i)) in
+    omega (arith, here, none, rest, sum_by-cons f y m)
+works_same f none (x ∷ l) [] same =
+    let here : f no_work ≡ f x = ap f (same 0) in
+    let rest = works_same f none l [] (λ i. same (suc i)) in
+    omega (arith, here, none, rest, sum_by-cons f x l)
+works_same f none (x ∷ l) (y ∷ m) same =
+    let here : f y ≡ f x = ap f (same 0) in
+    let rest = works_same f none l m (λ i. same (suc i)) in
+    omega (arith, here, rest, sum_by-cons f x l, sum_by-cons f y m)
+
+-- none is open
+pub works_idle : (f : WorkSoFar → ℕ) → f no_work ≡ 0 → (l : List WorkSoFar) → ((i : ℕ) → slice_index_or l i no_work ≡ no_work) → sum_by f l ≡ 0
+works_idle f none l idle = works_same f none [] l idle
+
+-- where one of them changes
+pub one_changed : (f : WorkSoFar → ℕ) → f no_work ≡ 0 → (l m : List WorkSoFar) (seat : ℕ) → ((i : ℕ) → i ≢ seat → slice_index_or m i no_work ≡ slice_index_or l i no_work)
+    → sum_by f m + f (slice_index_or l seat no_work) ≡ sum_by f l + f (slice_index_or m seat no_work)
+one_changed f none [] [] seat others = refl
+one_changed f none [] (y ∷ m) zero others =
+    let rest = works_same f none [] m (λ i. others (suc i) (λ same. omega (arith, same))) in
+    omega (arith, none, rest, sum_by-cons f y m)
+one_changed f none (x ∷ l) [] zero others =
+    let rest = works_same f none l [] (λ i. others (suc i) (λ same. omega (arith, same))) in
+    omega (arith, none, rest, sum_by-cons f x l)
+one_changed f none (x ∷ l) (y ∷ m) zero others =
+    let rest = works_same f none l m (λ i. others (suc i) (λ same. omega (arith, same))) in
+    omega (arith, rest, sum_by-cons f x l, sum_by-cons f y m)
+one_changed f none [] (y ∷ m) (suc seat) others =
+    let first : f y ≡ f no_work = ap f (others 0 (λ same. omega (arith, same))) in
+    let rest = one_changed f none [] m seat (λ i apart. others (suc i) (λ same. apart (omega (arith, same)))) in
+    omega (arith, none, first, rest, sum_by-cons f y m)
+one_changed f none (x ∷ l) [] (suc seat) others =
+    let first : f no_work ≡ f x = ap f (others 0 (λ same. omega (arith, same))) in
+    let rest = one_changed f none l [] seat (λ i apart. others (suc i) (λ same. apart (omega (arith, same)))) in
+    omega (arith, none, first, rest, sum_by-cons f x l)
+one_changed f none (x ∷ l) (y ∷ m) (suc seat) others =
+    let first : f y ≡ f x = ap f (others 0 (λ same. omega (arith, same))) in
+    let rest = one_changed f none l m seat (λ i apart. others (suc i) (λ same. apart (omega (arith, same)))) in
+    omega (arith, first, rest, sum_by-cons f x l, sum_by-cons f y m)
+
+-- ---- what one call tells
+
+-- No fault stops the store. So many lookups failed, and so much was told, of which the open works owed some.
+pub record Stays (lookups told pend left : ℕ) (old new : Option Why) (before after : DiskState) : Type 0 where
+  pub stop : (new ≡ old) ⊎ ((is_by_fault old ≡ false) × (is_by_fault new ≡ false))
+  pub risen : HasRisenBy lookups before.faults after.faults
+  pub quiet : lookups ≡ 0 → after.faults ≡ before.faults
+  pub ran : 0 < lookups → is_by_fault old ≡ false
+  pub told_is : told + left ≤ lookups + pend
+  pub halted : (why : Why) → old ≡ Some why → new ≡ Some why
+
+-- One does.
+pub record Stops (told pend left : ℕ) (old new : Option Why) (before after : DiskState) : Type 0 where
+  pub ran : old ≡ None
+  pub stop : new ≡ Some (Faulted after.faults)
+  pub risen : HasRisen before.faults after.faults
+  pub told_is : told + left ≤ pend + 1
+
+pub stays_ran : (told pend left : ℕ) (old new : Held) (before after : DiskState) → RanOn old new before after → told + left ≤ pend → Stays 0 told pend left old.book.stopped new.book.stopped before after
+stays_ran told pend left old new before after ran few = record {
+  stop = inr (ap is_by_fault ran.ran, ap is_by_fault ran.runs);
+  risen = omega (arith, ran.faults);
+  quiet = λ none. ran.faults;
+  ran = λ some. absurd (omega (arith, some));
+  told_is = omega (arith, few);
+  halted = λ why is. absurd (cc (ran.ran, is));
+}
+
+pub stays_damaged : (page told pend left : ℕ) (old new : Held) (before after : DiskState) → FoundDamaged page old new before after → told + left ≤ pend → Stays 0 told pend left old.book.stopped new.book.stopped before after
+stays_damaged page told pend left old new before after found few = record {
+  stop = inr (ap is_by_fault found.ran, ap is_by_fault found.stopped);
+  risen = omega (arith, found.faults);
+  quiet = λ none. found.faults;
+  ran = λ some. absurd (omega (arith, some));
+  told_is = omega (arith, few);
+  halted = λ why is. absurd (cc (found.ran, is));
+}
+
+pub stays_same : (told pend left : ℕ) (old new : Option Why) (before after : DiskState) → new ≡ old → after.faults ≡ before.faults → told + left ≤ pend → Stays 0 told pend left old new before after
+stays_same told pend left old new before after same faults few = record {
+  stop = inl same;
+  risen = omega (arith, faults);
+  quiet = λ none. faults;
+  ran = λ some. absurd (omega (arith, some));
+  told_is = omega (arith, few);
+  halted = λ why is. same ∙ is;
+}
+
+pub stays_lookup : (told pend left : ℕ) (old new : Option Why) (before after : DiskState) → old ≡ None → new ≡ old → HasRisen before.faults after.faults → told + left ≤ 1 + pend → Stays 1 told pend left old new before after
+stays_lookup told pend left old new before after ran same rose few = record {
+  stop = inl same;
+  risen = omega (arith, rose);
+  quiet = λ none. absurd (omega (arith, none));
+  ran = λ some. ap is_by_fault ran;
+  told_is = few;
+  halted = λ why is. same ∙ is;
+}
+
+pub stops_failed : (told pend left : ℕ) (old new : Held) (before after : DiskState) → HasFailed old new before after → told + left ≤ pend + 1 → Stops told pend left old.book.stopped new.book.stopped before after
+stops_failed told pend left old new before after failed few = record { ran = failed.ran; stop = failed.stopped; risen = failed.faults; told_is = few }
+
+abbrev pub How : (lookups told pend left : ℕ) → Option Why → Option Why → DiskState → DiskState → Type 0
+How lookups told pend left old new before after = Stays lookups told pend left old new before after ⊎ ((lookups ≡ 0) × Stops told pend left old new before after)
+
+halted_by : (lookups told pend left : ℕ) (old new : Option Why) (before after : DiskState) → How lookups told pend left old new before after → (why : Why) → old ≡ Some why → new ≡ Some why
+halted_by lookups told pend left old new before after how why is =
+    ⊎_elim (λ (s : Stays lookups told pend left old new before after). s.halted why is) (λ (s : (lookups ≡ 0) × Stops told pend left old new before after). absurd (cc (s.1.ran, is))) how
+
+abbrev pub AllNamed : List Entry → Option Why → Type 0
+AllNamed es stopped = AllByRecursion (λ (e : Entry). NamesStop e.reply stopped) es
+
+-- what it makes of what was told
+pub record LinkTells (old new : BookState) (before after : DiskState) : Type 0 where
+  pub lookups : ℕ
+  pub told : ℕ
+  pub lookups_are : lookups_failed new.book.entries ≡ lookups_failed old.book.entries + lookups
+  pub told_is : faults_told new.book.entries ≡ faults_told old.book.entries + told
+  pub how : How lookups told (pending old) (pending new) old.stopped new.stopped before after
+  pub names : AllNamed old.book.entries new.stopped → AllNamed new.book.entries new.stopped
+
+pub no_entry_tells : (old new : BookState) (before after : DiskState) → new.book.entries ≡ old.book.entries → How 0 0 (pending old) (pending new) old.stopped new.stopped before after → LinkTells old new before after
+no_entry_tells old new before after same how = record {
+  lookups = 0;
+  told = 0;
+  lookups_are = omega (arith, ap lookups_failed same);
+  told_is = omega (arith, ap faults_told same);
+  how = how;
+  names = λ all. subst (λ (es : List Entry). AllNamed es new.stopped) (sym same) all;
+}
+
+named_more : (es : List Entry) (e : Entry) (stopped : Option Why) → AllNamed es stopped → NamesStop e.reply stopped → AllNamed (es ++ e ∷ []) stopped
+named_more [] e stopped all one = (one, tt)
+named_more (x ∷ es) e stopped all one = (all.0, named_more es e stopped all.1 one)
+
+pub entry_tells : (lookups told : ℕ) (e : Entry) (old new : BookState) (before after : DiskState) → new.book.entries ≡ old.book.entries ++ e ∷ [] → one_if (is_failed_lookup e.op e.reply) ≡ lookups → faults_of e.reply ≡ told
+    → NamesStop e.reply new.stopped → How lookups told (pending old) (pending new) old.stopped new.stopped before after → LinkTells old new before after
+entry_tells lookups told e old new before after is lookup fault names how = record {
+  lookups = lookups;
+  told = told;
+  lookups_are =
+      let split = sum_by-append (λ (x : Entry). one_if (is_failed_lookup x.op x.reply)) old.book.entries (e ∷ []) in
+      let one = sum_by-cons (λ (x : Entry). one_if (is_failed_lookup x.op x.reply)) e [] in
+      omega (arith, split, one, lookup, ap lookups_failed is);
+  told_is =
+      let split = sum_by-append (λ (x : Entry). faults_of x.reply) old.book.entries (e ∷ []) in
+      let one = sum_by-cons (λ (x : Entry). faults_of x.reply) e [] in
+      omega (arith, split, one, fault, ap faults_told is);
+  how = how;
+  names = λ all. subst (λ (es : List Entry). AllNamed es new.stopped) (sym is) (named_more old.book.entries e new.stopped all names);
+}
+
+-- ---- one after another
+
+-- so much was told since the disk was as before
+pub record Told (before : DiskState) (b : BookState) (now : DiskState) : Type 0 where
+  pub grows : before.faults ≤ now.faults
+  pub counted : HasRisenBy (lookups_failed b.book.entries + one_if (is_by_fault b.stopped)) before.faults now.faults
+  pub quiet : lookups_failed b.book.entries ≡ 0 → is_by_fault b.stopped ≡ false → now.faults ≡ before.faults
+  pub stop : NamesCount b.stopped before now
+  pub others : faults_told b.book.entries + pending b ≤ lookups_failed b.book.entries + one_if (is_by_fault b.stopped)
+  pub names : AllNamed b.book.entries b.stopped
+
+-- a stop that isn't by a fault names no count
+unnamed : (o : Option Why) (before after : DiskState) → is_by_fault o ≡ false → NamesCount o before after
+unnamed (Some (Faulted faults)) before after calm = absurd (false≢true (sym calm))
+unnamed (Some (BadPage page)) before after calm = tt
+unnamed None before after calm = tt
+
+-- the count that it names stands
+named_still : (o : Option Why) (before between after : DiskState) → after.faults ≡ between.faults → NamesCount o before between → NamesCount o before after
+named_still (Some (Faulted faults)) before between after same names = (names.0 ∙ sym same, omega (arith, same, names.1))
+named_still (Some (BadPage page)) before between after same names = tt
+named_still None before between after same names = tt
+
+still_named : (es : List Entry) (old new : Option Why) → ((why : Why) → old ≡ Some why → new ≡ Some why) → AllNamed es old → AllNamed es new
+still_named [] old new halted all = tt
+still_named (e ∷ es) old new halted all = (one e.reply all.0, still_named es old new halted all.1)
+  where
+    one : (reply : Reply) → NamesStop reply old → NamesStop reply new
+    one (Stopped why) is = halted why is
+    one _ is = tt
+
+-- a stop that stands, or one by a page or none, counts as before
+same_flag : (old new : Option Why) → (new ≡ old) ⊎ ((is_by_fault old ≡ false) × (is_by_fault new ≡ false)) → is_by_fault new ≡ is_by_fault old
+same_flag old new how = ⊎_elim (λ (same : new ≡ old). ap is_by_fault same) (λ (none : (is_by_fault old ≡ false) × (is_by_fault new ≡ false)). none.1 ∙ sym none.0) how
+
+module _ (start between after : DiskState) (old new : BookState) (grows : between.faults ≤ after.faults) (link : LinkTells old new between after) (so_far : Told start old between) where
+  abbrev StaysNow : Type 0
+  StaysNow = Stays link.lookups link.told (pending old) (pending new) old.stopped new.stopped between after
+
+  abbrev StopsNow : Type 0
+  StopsNow = (link.lookups ≡ 0) × Stops link.told (pending old) (pending new) old.stopped new.stopped between after
+
+  abbrev HowNow : Type 0
+  HowNow = How link.lookups link.told (pending old) (pending new) old.stopped new.stopped between after
+
+  flag : StaysNow → one_if (is_by_fault new.stopped) ≡ one_if (is_by_fault old.stopped)
+  flag s = ap one_if (same_flag old.stopped new.stopped s.stop)
+
+  -- no fault had stopped it, and one does
+  was : StopsNow → one_if (is_by_fault old.stopped) ≡ 0
+  was s = ap (λ (o : Option Why). one_if (is_by_fault o)) s.1.ran
+
+  is : StopsNow → one_if (is_by_fault new.stopped) ≡ 1
+  is s = ap (λ (o : Option Why). one_if (is_by_fault o)) s.1.stop
+
+  counted : HowNow → HasRisenBy (lookups_failed new.book.entries + one_if (is_by_fault new.stopped)) start.faults after.faults
+  counted how = ⊎_elim
+      (λ (s : StaysNow). let same = flag s in omega (arith, so_far.counted, s.risen, link.lookups_are, same))
+      (λ (s : StopsNow). let none = was s in let one = is s in omega (arith, so_far.counted, s.1.risen, link.lookups_are, s.0, none, one))
+      how
+
+  quiet : HowNow → lookups_failed new.book.entries ≡ 0 → is_by_fault new.stopped ≡ false → after.faults ≡ start.faults
+  quiet how none calm = ⊎_elim
+      (λ (s : StaysNow). s.quiet (omega (arith, none, link.lookups_are)) ∙ so_far.quiet (omega (arith, none, link.lookups_are)) (sym (same_flag old.stopped new.stopped s.stop) ∙ calm))
+      (λ (s : StopsNow). absurd (false≢true (sym calm ∙ ap is_by_fault s.1.stop)))
+      how
+
+  stop_by : (b : Bool) → is_by_fault old.stopped ≡ b → StaysNow → NamesCount new.stopped start after
+  stop_by false calm s = unnamed new.stopped start after (same_flag old.stopped new.stopped s.stop ∙ calm)
+  stop_by true named s = ⊎_elim
+      (λ (same : new.stopped ≡ old.stopped). subst (λ (o : Option Why). NamesCount o start after) (sym same) (named_still old.stopped start between after (s.quiet (no_more link.lookups (λ some. false≢true (sym (s.ran some) ∙ named)))) so_far.stop))
+      (λ (none : (is_by_fault old.stopped ≡ false) × (is_by_fault new.stopped ≡ false)). absurd (false≢true (sym none.0 ∙ named)))
+      s.stop
+    where
+      no_more : (n : ℕ) → (0 < n → ⊥) → n ≡ 0
+      no_more zero not = refl
+      no_more (suc n) not = absurd (not (omega arith))
+
+  stop : HowNow → NamesCount new.stopped start after
+  stop how = ⊎_elim (stop_by (is_by_fault old.stopped) refl)
+      (λ (s : StopsNow). subst (λ (o : Option Why). NamesCount o start after) (sym s.1.stop) (refl, omega (arith, s.1.risen, so_far.grows))) how
+
+  others : HowNow → faults_told new.book.entries + pending new ≤ lookups_failed new.book.entries + one_if (is_by_fault new.stopped)
+  others how = ⊎_elim
+      (λ (s : StaysNow). let same = flag s in omega (arith, so_far.others, s.told_is, link.lookups_are, link.told_is, same))
+      (λ (s : StopsNow). let none = was s in let one = is s in omega (arith, so_far.others, s.1.told_is, s.0, link.lookups_are, link.told_is, none, one))
+      how
+
+  pub told_more : Told start new after
+  told_more = record {
+    grows = omega (arith, grows, so_far.grows);
+    counted = counted link.how;
+    quiet = quiet link.how;
+    stop = stop link.how;
+    others = others link.how;
+    names = link.names (still_named old.book.entries old.stopped new.stopped (halted_by link.lookups link.told (pending old) (pending new) old.stopped new.stopped between after link.how) so_far.names);
+  }
+
+-- what the whole chain tells, where it began with a store that ran
+pub tells_all : (old new : Held) (before after : DiskState) → old.book.stopped ≡ None → Told before new.book after → TellsFaults (faults_told new.book.book.entries) old new before after
+tells_all old new before after runs told = record {
+  risen = omega (arith, told.counted, told.others);
+  quiet = λ none calm. told.quiet (let few = lookups_tell new.book.book.entries in omega (arith, few, none)) calm;
+  stops = λ ran. told.stop;
+  halted = λ why is. absurd (cc (runs, is));
+}

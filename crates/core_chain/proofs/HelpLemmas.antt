@@ -1,0 +1,148 @@
+-- The workers' quanta and turns, which their own turns alone count.
+use Rattle.std.proofs.Common.{◌≡◌, ◌≢◌, ◌∙◌, ⊎_elim, ℕ, ◌+◌, ◌<◌, ◌≤◌, ◌%◌, ◌^◌, Bool, true, false, cond, List, [], ◌∷◌, refl, ap, sym, arith, ne_eqb, eq-eqb}
+use Rattle.std.specs.Prelude.{◌==◌, ◌&&◌, drop, sum, sum_by}
+use Rattle.std.proofs.lemmas.Bool.{cases_eq, false≢true}
+use Rattle.std.proofs.lemmas.List.Sums.{sum_by-take-drop}
+use Rattle.blsm_model.specs.Book.{Book}
+use Rattle.blsm_model.specs.Format.{callers}
+use Rattle.disk_trait.specs.Disk.{DiskState}
+use Rattle.pacing.specs.Pace.{Pace}
+use Rattle.seat_book.specs.Seats.{turns_in}
+use Rattle.seat_book.specs.State.{BookState}
+use Rattle.tree_machine.specs.Machine.{WorkSoFar}
+use Rattle.tree_machine.specs.Steps.{one_if}
+use Rattle.tree_machine.specs.declared.step.Kind.{Kind}
+use Rattle.tree_machine.specs.declared.step.Kind.TheVariants as kind
+use Rattle.tree_machine.specs.declared.step.Step.{Step}
+use Rattle.core_moves.specs.declared.held.Held.{Held}
+use Rattle.core_pace.proofs.CallLemmas.{plan_agrees}
+use Rattle.core_pace.proofs.PayLemmas.{payers_wrote}
+use Rattle.tree_core.specs.Calls.{AreCalls, IsCall, Pays}
+use Rattle.tree_core.specs.Core.{CoreState, IsCore}
+use Rattle.tree_core.specs.declared.answers.Payment.{Payment}
+use Rattle.tree_core.specs.declared.answers.Payment.TheVariants as payment
+use Rattle.tree_session.proofs.AloneLemmas.{admit_alone, by_workers, pay_alone, turn_alone, unpaid_alone}
+use Rattle.core_chain.specs.Quanta.{ChainHelps, helped_after, helps_in, is_help}
+use Rattle.core_chain.specs.Start.{IsUnasked, steps_of}
+use Rattle.core_chain.proofs.LinkLemmas.{caller_of, goes_of, link_keeps}
+
+module _ {D : Type 0} (state : D → DiskState) where
+  -- ---- quanta
+
+  -- one that wasn't made counts for nobody
+  unpaid : (seat : ℕ) (answer : Payment) (old new : CoreState D) (call : Pays state seat answer old new) (keeps : IsCore old.held (state old.disk)) → (call.goes.numbers keeps.pace keeps.holds).next.work ≡ keeps.pace.work
+      → new.held.book.book ≡ old.held.book.book → by_workers new.held ≡ by_workers old.held
+  unpaid seat answer old new call keeps work annals =
+      let moves = call.goes.numbers keeps.pace keeps.holds in
+      unpaid_alone old.held new.held (state old.disk) (state new.disk) keeps.pace moves.next keeps.holds moves.holds work annals call.counts.work
+
+  -- a payment that was made is for a write of its seat
+  pay_link : (seat : ℕ) (answer : Payment) (old new : CoreState D) → Pays state seat answer old new → seat < callers → IsCore old.held (state old.disk) → by_workers new.held ≡ by_workers old.held
+  pay_link seat payment.Paid old new call caller keeps =
+      let numbers = (keeps.holds.live call.cause.0.ran).paced.numbers in
+      let has = payers_wrote old.held keeps.pace seat keeps.holds.told.told caller (λ none. call.cause.1 (plan_agrees seat old.held keeps.pace numbers ∙ none)) in
+      pay_alone payment.Paid seat old.held new.held (state old.disk) (state new.disk) keeps.pace keeps.holds (call.goes.numbers keeps.pace keeps.holds) call.cause call.counts has
+  pay_link seat payment.Settled old new call caller keeps = unpaid seat payment.Settled old new call keeps (ap (λ (p : Pace). p.work) (call.goes.numbers keeps.pace keeps.holds).made) call.counts.annals
+  pay_link seat payment.Fault old new call caller keeps = unpaid seat payment.Fault old new call keeps (ap (λ (p : Pace). p.work) (call.goes.numbers keeps.pace keeps.holds).made) call.counts.annals
+  pay_link seat (payment.Damaged page) old new call caller keeps = unpaid seat (payment.Damaged page) old new call keeps (ap (λ (p : Pace). p.work) (call.goes.numbers keeps.pace keeps.holds).made) call.counts.annals
+  pay_link seat (payment.Stopped why) old new call caller keeps = unpaid seat (payment.Stopped why) old new call keeps (ap (λ (p : Pace). p.work) (call.goes.numbers keeps.pace keeps.holds).made) call.counts.annals
+
+  seats_same : (old new : CoreState D) → new.held.book.seats.quanta ≡ old.held.book.seats.quanta → by_workers new.held ≡ by_workers old.held
+  seats_same old new same = ap (λ (l : List ℕ). sum (drop callers l)) same
+
+  -- a caller's call counts none for a worker
+  link_alone : (seat : ℕ) (k : Kind) (old new : CoreState D) → IsCall state seat k old new → IsCore old.held (state old.disk) → is_help k ≡ false → by_workers new.held ≡ by_workers old.held
+  link_alone seat (kind.Admit op) old new call keeps other =
+      admit_alone call.0 seat op old.held new.held (state old.disk) (state new.disk) keeps.pace keeps.holds (call.1.goes.numbers keeps.pace keeps.holds) call.1.notes
+  link_alone seat kind.Pay old new call keeps other = pay_link seat call.0 old new call.1 (caller_of state seat kind.Pay old new call refl) keeps
+  link_alone seat (kind.Get key) old new call keeps other = seats_same old new (ap (λ (h : Held). h.book.seats.quanta) call.1.held)
+  link_alone seat (kind.Hold low high) old new call keeps other = seats_same old new (ap (λ (b : BookState). b.seats.quanta) call.1.book)
+  link_alone seat (kind.Next n) old new call keeps other = seats_same old new (ap (λ (b : BookState). b.seats.quanta) call.1.book)
+  link_alone seat kind.Release old new call keeps other = seats_same old new (ap (λ (b : BookState). b.seats.quanta) call.1.book)
+  link_alone seat kind.WorkTurn old new call keeps other =
+      turn_alone call.0 seat old.held new.held (state old.disk) (state new.disk) keeps.pace (caller_of state seat kind.WorkTurn old new call refl) keeps.holds (call.1.goes.numbers keeps.pace keeps.holds) call.1.cause call.1.counts
+  link_alone seat (kind.WorkEnd n) old new call keeps other = seats_same old new (ap (λ (h : Held). h.book.seats.quanta) call.1.held)
+  link_alone seat kind.WorkerTurn old new call keeps other = absurd (false≢true (sym other))
+  link_alone seat kind.Leave old new call keeps other = seats_same old new (ap (λ (h : Held). h.book.seats.quanta) call.held)
+
+  -- what the callers took is told by the entries and the open works, which a worker's turn leaves
+  link_helps : (seat : ℕ) (old new : CoreState D) → IsCall state seat kind.WorkerTurn old new → IsCore old.held (state old.disk) → by_workers new.held ≤ by_workers old.held + 1
+  link_helps seat old new call keeps =
+      let keeps_then = link_keeps state seat kind.WorkerTurn old new call keeps in
+      let before = keeps.holds.told.told.booked.by_callers in
+      let after = keeps_then.holds.told.told.booked.by_callers in
+      let split_before = sum_by-take-drop (λ (n : ℕ). n) old.held.book.seats.quanta callers in
+      let split_after = sum_by-take-drop (λ (n : ℕ). n) new.held.book.seats.quanta callers in
+      let annals = ap (λ (b : Book). sum b.quanta) call.1.notes.annals in
+      let works = ap (λ (l : List WorkSoFar). sum_by (λ (w : WorkSoFar). w.quanta) l) call.1.notes.work in
+      ⊎_elim
+      (λ (same : sum new.held.book.seats.quanta ≡ sum old.held.book.seats.quanta). omega (arith, same, before, after, split_before, split_after, annals, works))
+      (λ (more : sum new.held.book.seats.quanta ≡ sum old.held.book.seats.quanta + 1). omega (arith, more, before, after, split_before, split_after, annals, works))
+      call.1.goes.follows.quanta
+
+  link_rises : (seat : ℕ) (k : Kind) (old new : CoreState D) → IsCall state seat k old new → IsCore old.held (state old.disk) → by_workers new.held ≤ by_workers old.held + one_if (is_help k)
+  link_rises seat kind.WorkerTurn old new call keeps = link_helps seat old new call keeps
+  link_rises seat (kind.Admit op) old new call keeps = let same = link_alone seat (kind.Admit op) old new call keeps refl in omega (arith, same)
+  link_rises seat kind.Pay old new call keeps = let same = link_alone seat kind.Pay old new call keeps refl in omega (arith, same)
+  link_rises seat (kind.Get key) old new call keeps = let same = link_alone seat (kind.Get key) old new call keeps refl in omega (arith, same)
+  link_rises seat (kind.Hold low high) old new call keeps = let same = link_alone seat (kind.Hold low high) old new call keeps refl in omega (arith, same)
+  link_rises seat (kind.Next n) old new call keeps = let same = link_alone seat (kind.Next n) old new call keeps refl in omega (arith, same)
+  link_rises seat kind.Release old new call keeps = let same = link_alone seat kind.Release old new call keeps refl in omega (arith, same)
+  link_rises seat kind.WorkTurn old new call keeps = let same = link_alone seat kind.WorkTurn old new call keeps refl in omega (arith, same)
+  link_rises seat (kind.WorkEnd n) old new call keeps = let same = link_alone seat (kind.WorkEnd n) old new call keeps refl in omega (arith, same)
+  link_rises seat kind.Leave old new call keeps = let same = link_alone seat kind.Leave old new call keeps refl in omega (arith, same)
+
+  chain_rises : (calls : List (Step × CoreState D)) (old new : CoreState D) → AreCalls state calls old new → IsCore old.held (state old.disk) → by_workers new.held ≤ by_workers old.held + helps_in (steps_of calls)
+  chain_rises [] old new are keeps = let same = ap (λ (core : CoreState D). by_workers core.held) are in omega (arith, same)
+  chain_rises (one ∷ calls) old new are keeps =
+      let first = link_rises one.0.seat one.0.kind old one.1 are.0 keeps in
+      let rest = chain_rises calls one.1 new are.1 (link_keeps state one.0.seat one.0.kind old one.1 are.0 keeps) in
+      omega (arith, first, rest)
+
+  chain_alone : (calls : List (Step × CoreState D)) (old new : CoreState D) → AreCalls state calls old new → IsCore old.held (state old.disk) → helps_in (steps_of calls) ≡ 0 → by_workers new.held ≡ by_workers old.held
+  chain_alone [] old new are keeps none = ap (λ (core : CoreState D). by_workers core.held) are
+  chain_alone (one ∷ calls) old new are keeps none =
+      chain_alone calls one.1 new are.1 (link_keeps state one.0.seat one.0.kind old one.1 are.0 keeps) (omega (arith, none)) ∙ link_alone one.0.seat one.0.kind old one.1 are.0 keeps (by (is_help one.0.kind) (omega (arith, none)))
+    where
+      by : (b : Bool) → one_if b ≡ 0 → b ≡ false
+      by true none = absurd (omega (arith, none))
+      by false none = refl
+
+  -- ---- turns
+
+  -- a call of another seat leaves a worker's
+  others_turn : (seat any : ℕ) (k : Kind) (old new : CoreState D) → IsCall state seat k old new → any ≢ seat → turns_in any new.held.book ≡ turns_in any old.held.book
+  others_turn seat any k old new call apart = ((goes_of state seat k old new call).1.follows.others any apart).turns
+
+  by_other : (seat any : ℕ) (k : Kind) (old new : CoreState D) → IsCall state seat k old new → callers ≤ any → is_help k ≡ false → turns_in any new.held.book ≡ turns_in any old.held.book
+  by_other seat any k old new call above other = others_turn seat any k old new call (λ same. let below = caller_of state seat k old new call other in omega (arith, same, above, below))
+
+  link_counts : (seat any : ℕ) (k : Kind) (old new : CoreState D) → IsCall state seat k old new → callers ≤ any → turns_in any new.held.book ≡ cond (is_help k && (seat == any)) ((turns_in any old.held.book + 1) % 2 ^ 64) (turns_in any old.held.book)
+  link_counts seat any kind.WorkerTurn old new call above = ⊎_elim
+      (λ (same : any ≡ seat).
+      ap (λ (n : ℕ). turns_in n new.held.book) same ∙ call.1.helps ∙ ap (λ (n : ℕ). (turns_in n old.held.book + 1) % 2 ^ 64) (sym same)
+      ∙ ap (λ (b : Bool). cond b ((turns_in any old.held.book + 1) % 2 ^ 64) (turns_in any old.held.book)) (sym (eq-eqb seat any (sym same))))
+      (λ (apart : any ≡ seat → ⊥).
+      others_turn seat any kind.WorkerTurn old new call apart ∙ ap (λ (b : Bool). cond b ((turns_in any old.held.book + 1) % 2 ^ 64) (turns_in any old.held.book)) (sym (ne_eqb seat any (λ same. apart (sym same)))))
+      (cases_eq any seat)
+  link_counts seat any (kind.Admit op) old new call above = by_other seat any (kind.Admit op) old new call above refl
+  link_counts seat any kind.Pay old new call above = by_other seat any kind.Pay old new call above refl
+  link_counts seat any (kind.Get key) old new call above = by_other seat any (kind.Get key) old new call above refl
+  link_counts seat any (kind.Hold low high) old new call above = by_other seat any (kind.Hold low high) old new call above refl
+  link_counts seat any (kind.Next n) old new call above = by_other seat any (kind.Next n) old new call above refl
+  link_counts seat any kind.Release old new call above = by_other seat any kind.Release old new call above refl
+  link_counts seat any kind.WorkTurn old new call above = by_other seat any kind.WorkTurn old new call above refl
+  link_counts seat any (kind.WorkEnd n) old new call above = by_other seat any (kind.WorkEnd n) old new call above refl
+  link_counts seat any kind.Leave old new call above = by_other seat any kind.Leave old new call above refl
+
+  chain_counts : (any : ℕ) (calls : List (Step × CoreState D)) (old new : CoreState D) → AreCalls state calls old new → callers ≤ any → turns_in any new.held.book ≡ helped_after any (steps_of calls) (turns_in any old.held.book)
+  chain_counts any [] old new are above = ap (λ (core : CoreState D). turns_in any core.held.book) are
+  chain_counts any (one ∷ calls) old new are above =
+      chain_counts any calls one.1 new are.1 above ∙ ap (λ (n : ℕ). helped_after any (steps_of calls) n) (link_counts one.0.seat any one.0.kind old one.1 are.0 above)
+
+  pub chain_helps : (calls : List (Step × CoreState D)) (start end : CoreState D) → IsUnasked state start → AreCalls state calls start end → ChainHelps state calls start end
+  chain_helps calls start end unasked are = record {
+    rises = chain_rises calls start end are unasked.keeps;
+    alone = λ none. chain_alone calls start end are unasked.keeps none;
+    counted = λ seat above below. chain_counts seat calls start end are above;
+  }

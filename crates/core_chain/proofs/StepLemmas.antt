@@ -1,0 +1,213 @@
+-- On an honest disk each call is a step of the machine, and so a chain of them is a list of steps.
+use Rattle.std.proofs.Common.{◌≡◌, ◌∙◌, ℕ, ◌+◌, ◌≤◌, Bool, true, cond, List, [], ◌∷◌, length, refl, ap, sym, subst, arith}
+use Rattle.std.specs.Prelude.{IsSome, IsTrue, false, map, suc, take, zero}
+use mathlib.Core.List.{IsPrefix}
+use Rattle.blsm_model.specs.Sizes.{Sizes}
+use Rattle.blsm_model.specs.declared.history.Entry.{Entry}
+use Rattle.blsm_model.specs.declared.key.Key.{Key}
+use Rattle.blsm_model.specs.declared.row.Value.{Value}
+use Rattle.disk_trait.specs.Disk.{DiskState}
+use Rattle.disk_trait.specs.Moments.{IsTimed, LeavesOnly, leaves_only_run, leaves_only_weaken}
+use Rattle.pacing.specs.Pace.{Pace}
+use Rattle.paced_tree.specs.After.{pace_after}
+use Rattle.paced_tree.specs.Kept.{paced_all, paced_one}
+use Rattle.seat_book.specs.State.{BookState}
+use Rattle.tree_machine.specs.Machine.{Machine}
+use Rattle.tree_machine.specs.Outcomes.{AreTold, IsPossible, is_broken}
+use Rattle.tree_machine.specs.Plays.{may, played, played_one, stepped_as}
+use Rattle.tree_machine.specs.Steps.{Outcome}
+use Rattle.tree_machine.specs.declared.step.Kind.{Kind}
+use Rattle.tree_machine.specs.declared.step.Step.{Step}
+use Rattle.tree_machine.proofs.FrameLemmas.{step_fixed}
+use Rattle.core_lists.specs.Shown.{ShowsHistory}
+use Rattle.core_lists.proofs.ShowingLemmas.{prefix_self, prefix_then, showing_is_kept}
+use Rattle.tree_core.specs.Calls.{AreCalls, IsCall}
+use Rattle.tree_core.specs.Core.{CoreState, IsCore}
+use Rattle.tree_core.specs.Holds.{StandsWhole}
+use Rattle.tree_core.specs.Steps.{IsPlayed}
+use Rattle.tree_core.proofs.PlayLemmas.{history_grows, may_agrees, none_is_played, prefix_length}
+use Rattle.core_chain.specs.Start.{steps_of}
+use Rattle.core_chain.specs.Steps.{AllMay, AreTimed, ChainIsSteps, RestOnceStopped, clock_after, outcomes_in}
+use Rattle.core_chain.specs.Tells.{calls_of}
+use Rattle.core_chain.proofs.LinkLemmas.{goes_of, link_keeps, link_rests, link_sizes}
+use Rattle.core_chain.proofs.TellLemmas.{link_reaches}
+
+-- ---- one link
+
+-- where the machine stands before the call, and the step that the call is
+pub record IsLink {D : Type 0} (state : D → DiskState) (opening : List (Key × Value)) (seat : ℕ) (k : Kind) (old new : CoreState D) (m : Machine) (pace : Pace) : Type 0 where
+  pub outcome : Outcome
+  pub may : may m seat k ≡ true
+  pub possible : IsPossible m seat k outcome (state old.disk).faults (state new.disk).faults
+  pub whole : is_broken outcome ≡ false
+  pub stands : StandsWhole state opening new (stepped_as m seat k outcome).state (pace_after m pace seat k outcome)
+  pub images : LeavesOnly (state old.disk) (state new.disk) (ShowsHistory m.gears.sizes opening (stepped_as m seat k outcome).state.book.entries (length m.book.entries))
+
+pub link_steps : {D : Type 0} (state : D → DiskState) (opening : List (Key × Value)) (seat : ℕ) (k : Kind) (old new : CoreState D) (m : Machine) (pace : Pace) → IsCall state seat k old new → IsTrue (state old.disk).is_honest → StandsWhole state opening old m pace
+    → IsLink state opening seat k old new m pace
+link_steps state opening seat k old new m pace call honest whole =
+    let goes = (goes_of state seat k old new call).1 in
+    let is = goes.steps opening m pace honest whole in
+    record {
+      outcome = is.step.outcome;
+      may = may_agrees seat k old.held m whole.stands.book whole.stands.gears ∙ goes.may;
+      possible = is.step.possible;
+      whole = is.step.whole;
+      stands = record { stands = is.step.stands; rows = is.rows };
+      images = is.step.images;
+    }
+
+-- ---- the chain
+
+no_steps : (made : List (Step × Outcome)) → map (λ (x : Step × Outcome). x.0) made ≡ [] → made ≡ []
+no_steps [] none = refl
+no_steps (one ∷ made) none = absurd (cc none)
+
+-- no call
+module _ {D : Type 0} (state : D → DiskState) (opening : List (Key × Value)) (start : CoreState D) (m : Machine) (pace : Pace) (timed : IsTimed (state start.disk)) (whole : StandsWhole state opening start m pace) where
+  pub no_step : ChainIsSteps state opening [] start start m pace
+  no_step = record {
+    made = [];
+    steps_are = refl;
+    clocks_are = refl;
+    timed = refl;
+    rests = tt;
+    may = tt;
+    told = omega arith;
+    whole = tt;
+    stands = whole;
+    grows = prefix_self m.book.entries;
+    images = shows;
+    moments = λ k t c late left.
+        subst (λ (es : List Entry). ShowsHistory m.gears.sizes opening start.held.book.book.entries (length es) c) (sym (same k))
+        (subst (λ (es : List Entry). ShowsHistory m.gears.sizes opening es (length m.book.entries) c) (ap (λ (b : BookState). b.book.entries) whole.stands.book)
+        (shows.each c (timed.since_earlier (state start.disk).clock t c (early k late) left)));
+  }
+    where
+      none : IsPlayed state opening [] start start m pace
+      none = none_is_played state opening start m pace timed whole
+
+      -- nothing was played, and the clock stands
+      shows : LeavesOnly (state start.disk) (state start.disk) (ShowsHistory m.gears.sizes opening m.book.entries (length m.book.entries))
+      shows = subst (λ (steps : List (Step × Outcome)). LeavesOnly (state start.disk) (state start.disk) (ShowsHistory m.gears.sizes opening (played m steps).book.entries (length m.book.entries))) (no_steps none.made none.steps_are) none.images
+
+      same : (k : ℕ) → (played m (take k (outcomes_in []))).book.entries ≡ m.book.entries
+      same zero = refl
+      same (suc k) = refl
+
+      early : {t : ℕ} (k : ℕ) → clock_after (state start.disk).clock k [] ≤ t → (state start.disk).clock ≤ t
+      early zero late = late
+      early (suc k) late = late
+
+-- one call, and then the others
+module _ {D : Type 0} (state : D → DiskState) (opening : List (Key × Value)) (first : Step × CoreState D) (calls : List (Step × CoreState D)) (start end : CoreState D) (m : Machine) (pace : Pace) (timed : IsTimed (state end.disk))
+    (sizes : first.1.held.runs.sizes ≡ start.held.runs.sizes) (rises : (state start.disk).clock ≤ (state first.1.disk).clock) (few : (state first.1.disk).clock ≤ (state start.disk).clock + calls_of start.held.runs.sizes first.0.kind) (faults : (state start.disk).faults ≤ (state first.1.disk).faults) (quiet : IsSome m.stopped → (state first.1.disk).clock ≡ (state start.disk).clock)
+    (one : IsLink state opening first.0.seat first.0.kind start first.1 m pace)
+    (rest : ChainIsSteps state opening calls first.1 end (stepped_as m first.0.seat first.0.kind one.outcome).state (pace_after m pace first.0.seat first.0.kind one.outcome)) where
+  abbrev next : Machine
+  next = (stepped_as m first.0.seat first.0.kind one.outcome).state
+
+  abbrev next_pace : Pace
+  next_pace = pace_after m pace first.0.seat first.0.kind one.outcome
+
+  abbrev made : List (Step × Outcome × ℕ)
+  made = (first.0, one.outcome, (state first.1.disk).clock) ∷ rest.made
+
+  -- the step is made, since it may be
+  played_is : played_one m (first.0, one.outcome) ≡ next
+  played_is = ap (λ (b : Bool). cond b next m) one.may
+
+  paced_is : paced_one m pace (first.0, one.outcome) ≡ next_pace
+  paced_is = ap (λ (b : Bool). cond b next_pace pace) one.may
+
+  same_sizes : next.gears.sizes ≡ m.gears.sizes
+  same_sizes = (step_fixed m first.0.seat first.0.kind one.outcome one.may).0
+
+  grows_one : IsPrefix m.book.entries next.book.entries
+  grows_one = history_grows m first.0.seat first.0.kind one.outcome one.may
+
+  -- the rest, from where the step leads
+  rest_may : AllMay (played_one m (first.0, one.outcome)) (outcomes_in rest.made)
+  rest_may = subst (λ (x : Machine). AllMay x (outcomes_in rest.made)) (sym played_is) rest.may
+
+  rest_told : AreTold (played_one m (first.0, one.outcome)) (state first.1.disk).faults (outcomes_in rest.made) (state end.disk).faults
+  rest_told = subst (λ (x : Machine). AreTold x (state first.1.disk).faults (outcomes_in rest.made) (state end.disk).faults) (sym played_is) rest.told
+
+  all_played : played m (outcomes_in made) ≡ played next (outcomes_in rest.made)
+  all_played = ap (λ (x : Machine). played x (outcomes_in rest.made)) played_is
+
+  all_paced : paced_all m pace (outcomes_in made) ≡ paced_all next next_pace (outcomes_in rest.made)
+  all_paced = ap (λ (x : Machine). paced_all x (paced_one m pace (first.0, one.outcome)) (outcomes_in rest.made)) played_is ∙ ap (λ (p : Pace). paced_all next p (outcomes_in rest.made)) paced_is
+
+  grows_all : IsPrefix m.book.entries (played next (outcomes_in rest.made)).book.entries
+  grows_all = prefix_then m.book.entries next.book.entries (played next (outcomes_in rest.made)).book.entries grows_one rest.grows
+
+  -- the history in the end is the core's
+  entries_are : (played next (outcomes_in rest.made)).book.entries ≡ end.held.book.book.entries
+  entries_are = ap (λ (b : BookState). b.book.entries) rest.stands.stands.book
+
+  images_all : LeavesOnly (state start.disk) (state end.disk) (ShowsHistory m.gears.sizes opening (played next (outcomes_in rest.made)).book.entries (length m.book.entries))
+  images_all =
+      let last = (played next (outcomes_in rest.made)).book.entries in
+      leaves_only_run
+      (leaves_only_weaken (λ file shows. showing_is_kept m.gears.sizes opening next.book.entries last (length m.book.entries) (length m.book.entries) file rest.grows (omega arith) shows) one.images)
+      (leaves_only_weaken (λ file shows. showing_is_kept m.gears.sizes opening last last (length next.book.entries) (length m.book.entries) file (prefix_self last) (prefix_length m.book.entries next.book.entries grows_one)
+      (subst (λ (s : Sizes). ShowsHistory s opening last (length next.book.entries) file) same_sizes shows)) rest.images)
+
+  moments_all : (k t : ℕ) (c : List ℕ) → clock_after (state start.disk).clock k made ≤ t → (state end.disk).images_since t c
+      → ShowsHistory m.gears.sizes opening end.held.book.book.entries (length (played m (take k (outcomes_in made))).book.entries) c
+  moments_all zero t c late left =
+      subst (λ (es : List Entry). ShowsHistory m.gears.sizes opening es (length m.book.entries) c) entries_are (images_all.each c (timed.since_earlier (state start.disk).clock t c late left))
+  moments_all (suc k) t c late left =
+      subst (λ (x : Machine). ShowsHistory m.gears.sizes opening end.held.book.book.entries (length (played x (take k (outcomes_in rest.made))).book.entries) c) (sym played_is)
+      (subst (λ (s : Sizes). ShowsHistory s opening end.held.book.book.entries (length (played next (take k (outcomes_in rest.made))).book.entries) c) same_sizes (rest.moments k t c late left))
+
+  pub one_step : ChainIsSteps state opening (first ∷ calls) start end m pace
+  one_step = record {
+    made = made;
+    steps_are = ap (λ (xs : List Step). first.0 ∷ xs) rest.steps_are;
+    clocks_are = ap (λ (xs : List ℕ). (state first.1.disk).clock ∷ xs) rest.clocks_are;
+    timed = (rises, few, subst (λ (s : Sizes). AreTimed s (state first.1.disk).clock rest.made (state end.disk).clock) sizes rest.timed);
+    rests = (quiet, subst (λ (x : Machine). RestOnceStopped x (state first.1.disk).clock rest.made) (sym played_is) rest.rests);
+    may = (one.may, rest_may);
+    told = ((state first.1.disk).faults, faults, λ can. one.possible, rest_told);
+    whole = (one.whole, rest.whole);
+    stands = subst (λ (p : Pace). StandsWhole state opening end (played m (outcomes_in made)) p) (sym all_paced) (subst (λ (x : Machine). StandsWhole state opening end x (paced_all next next_pace (outcomes_in rest.made))) (sym all_played) rest.stands);
+    grows = subst (λ (x : Machine). IsPrefix m.book.entries x.book.entries) (sym all_played) grows_all;
+    images = subst (λ (x : Machine). LeavesOnly (state start.disk) (state end.disk) (ShowsHistory m.gears.sizes opening x.book.entries (length m.book.entries))) (sym all_played) images_all;
+    moments = moments_all;
+  }
+
+-- Each call of the chain is a step.
+pub chain_is_steps : {D : Type 0} (state : D → DiskState) (opening : List (Key × Value)) (calls : List (Step × CoreState D)) (start end : CoreState D) (m : Machine) (pace : Pace) → IsTimed (state end.disk) → IsCore start.held (state start.disk)
+    → AreCalls state calls start end → IsTrue (state start.disk).is_honest → StandsWhole state opening start m pace → ChainIsSteps state opening calls start end m pace
+chain_is_steps {D} state opening [] start end m pace timed keeps are honest whole =
+    subst (λ (core : CoreState D). ChainIsSteps state opening [] start core m pace) (sym are)
+    (no_step state opening start m pace (subst (λ (core : CoreState D). IsTimed (state core.disk)) are timed) whole)
+chain_is_steps {D} state opening (one ∷ calls) start end m pace timed keeps are honest whole =
+    let step = one.0 in
+    let mid = one.1 in
+    let link = link_steps state opening step.seat step.kind start mid m pace are.0 honest whole in
+    let reaches = link_reaches state step.seat step.kind start mid are.0 keeps in
+    let goes = reaches.goes_on in
+    one_step state opening one calls start end m pace timed (link_sizes state step.seat step.kind start mid are.0 keeps) goes.clock reaches.calls goes.faults
+    (λ stopped. ap (λ (d : D). (state d).clock) (link_rests state step.seat step.kind start mid are.0 (subst IsSome (ap (λ (b : BookState). b.stopped) whole.stands.book) stopped))) link
+    (chain_is_steps state opening calls mid end (stepped_as m step.seat step.kind link.outcome).state (pace_after m pace step.seat step.kind link.outcome) timed (link_keeps state step.seat step.kind start mid are.0 keeps) are.1
+    (subst IsTrue (sym goes.is_honest) honest) link.stands)
+
+-- so it is played
+pub steps_are_played : {D : Type 0} (state : D → DiskState) (opening : List (Key × Value)) (calls : List (Step × CoreState D)) (start end : CoreState D) (m : Machine) (pace : Pace) → ChainIsSteps state opening calls start end m pace
+    → IsPlayed state opening (steps_of calls) start end m pace
+steps_are_played state opening calls start end m pace is = record {
+  made = outcomes_in is.made;
+  steps_are = first_of is.made ∙ is.steps_are;
+  told = is.told;
+  whole = is.whole;
+  stands = is.stands;
+  grows = is.grows;
+  images = is.images;
+}
+  where
+    first_of : (made : List (Step × Outcome × ℕ)) → map (λ (x : Step × Outcome). x.0) (outcomes_in made) ≡ map (λ (x : Step × Outcome × ℕ). x.0) made
+    first_of [] = refl
+    first_of (one ∷ made) = ap (λ (xs : List Step). one.0 ∷ xs) (first_of made)

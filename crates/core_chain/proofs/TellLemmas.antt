@@ -1,0 +1,309 @@
+-- What each kind of call tells, and what a chain of them does.
+use Rattle.std.proofs.Common.{◌≡◌, ◌∙◌, inl, inr, ℕ, ◌+◌, ◌≤◌, true, false, List, [], ◌∷◌, ◌++◌, None, refl, ap, sym, subst, arith}
+use Rattle.std.specs.Prelude.{Option, slice_set, sum_by}
+use Rattle.std.proofs.lemmas.Bool.{false≢true}
+use Rattle.std.proofs.lemmas.List.{get_or-set_other}
+use Rattle.refusal.specs.Count.{HasRisen}
+use Rattle.blsm_model.specs.Book.{Book}
+use Rattle.blsm_model.specs.Geometry.{file_length}
+use Rattle.blsm_model.specs.Legal.{is_write}
+use Rattle.blsm_model.specs.Scripts.{asked_in}
+use Rattle.blsm_model.specs.Sizes.{Sizes}
+use Rattle.blsm_model.specs.declared.history.Entry.{Entry}
+use Rattle.blsm_model.specs.declared.history.Reply.{Reply}
+use Rattle.blsm_model.specs.declared.history.Why.{Why}
+use Rattle.blsm_model.specs.declared.key.Key.{Key}
+use Rattle.blsm_model.specs.declared.op.Op.{Op}
+use Rattle.blsm_model.specs.declared.op.Op.TheVariants as op
+use Rattle.disk_trait.specs.Disk.{DiskState}
+use Rattle.seat_book.specs.State.{BookState, noted_in, work_in}
+use Rattle.tree_machine.specs.Machine as machine
+use Rattle.tree_machine.specs.Machine.{Turned, WorkSoFar, no_work}
+use Rattle.tree_machine.specs.Outcomes.{is_failed_lookup}
+use Rattle.tree_machine.specs.Steps.{one_if, work_reply}
+use Rattle.tree_machine.specs.declared.step.Kind.{Kind}
+use Rattle.tree_machine.specs.declared.step.Kind.TheVariants as kind
+use Rattle.tree_machine.specs.declared.step.Step.{Step}
+use Rattle.core_moves.specs.declared.held.Held.{Held}
+use Rattle.tree_core.specs.Answers.{reply_to_drop, reply_to_get, reply_to_hold, reply_to_next, reply_to_write}
+use Rattle.tree_core.specs.Calls.{Admits, AreCalls, EndsWork, Gets, Helps, IsCall, Leaves, Pays, ReadsOn, TurnsOnce}
+use Rattle.tree_core.specs.Causes.{FindsBecause, HasFailed, PaysBecause, PaysNone, ScansBecause, ScansNone, TurnsBecause, TurnsNone}
+use Rattle.tree_core.specs.Core.{CoreState, IsCore}
+use Rattle.tree_core.specs.declared.answers.Admission.{Admission}
+use Rattle.tree_core.specs.declared.answers.Admission.TheVariants as admission
+use Rattle.tree_core.specs.declared.answers.Lookup.{Lookup}
+use Rattle.tree_core.specs.declared.answers.Lookup.TheVariants as lookup
+use Rattle.tree_core.specs.declared.answers.Payment.{Payment}
+use Rattle.tree_core.specs.declared.answers.Payment.TheVariants as payment
+use Rattle.tree_core.specs.declared.answers.Scan.{Scan}
+use Rattle.tree_core.specs.declared.answers.Scan.TheVariants as scan
+use Rattle.tree_session.specs.Faults.{NamesCount, NamesStop, Reaches, faults_of, faults_of_turn, faults_told, is_by_fault}
+use Rattle.tree_session.proofs.BookLemmas.{ended_empty, reply_names, reply_tells}
+use Rattle.tree_session.proofs.FaultLemmas.{admit_names, reaches_by, reaches_counted, reaches_none, reaches_then, reaches_wider}
+use Rattle.tree_session.proofs.GetLemmas.{get_calls}
+use Rattle.tree_session.proofs.HoldLemmas.{drop_names, drop_quiet, hold_names, hold_quiet}
+use Rattle.core_chain.specs.Start.{IsUnasked, steps_of}
+use Rattle.core_chain.specs.Tells.{ChainTells, asked_by, calls_of, calls_of_all, lookups_failed}
+use Rattle.core_chain.proofs.FaultLemmas.{AllNamed, How, LinkTells, Told, all_calm, entry_tells, no_entry_tells, no_lookup, one_changed, pending, stays_damaged, stays_lookup, stays_ran, stays_same, stops_failed, tells_all, told_more, works_idle}
+use Rattle.core_chain.proofs.LinkLemmas.{Kept, chain_keeps, link_keeps, link_kept, link_sizes, writes_as}
+use Rattle.core_chain.proofs.NoteLemmas.{AreCallers, chain_asks, entries_are_callers, payment_notes_none}
+
+-- the same works are open
+same_pending : (old new : BookState) → new.seats.work ≡ old.seats.work → 0 + pending new ≤ pending old
+same_pending old new same = omega (arith, ap (λ (l : List WorkSoFar). sum_by (λ (w : WorkSoFar). faults_of_turn w.last) l) same)
+
+-- ---- one link, by its kind
+
+module _ {D : Type 0} (state : D → DiskState) where
+  faults_same : (old new : CoreState D) → new.disk ≡ old.disk → (state new.disk).faults ≡ (state old.disk).faults
+  faults_same old new same = ap (λ (d : D). (state d).faults) same
+
+  -- what a call notes at once, which tells no fault
+  quiet_entry : (e : Entry) (old new : CoreState D) → new.held.book.book.entries ≡ old.held.book.book.entries ++ e ∷ [] → new.held.book.seats.work ≡ old.held.book.seats.work → is_failed_lookup e.op e.reply ≡ false → faults_of e.reply ≡ 0
+      → new.held.book.stopped ≡ old.held.book.stopped → (state new.disk).faults ≡ (state old.disk).faults → NamesStop e.reply new.held.book.stopped → LinkTells old.held.book new.held.book (state old.disk) (state new.disk)
+  quiet_entry e old new is work lookup fault stopped faults names =
+      entry_tells 0 0 e old.held.book new.held.book (state old.disk) (state new.disk) is (ap one_if lookup) fault names
+      (inl (stays_same 0 (pending old.held.book) (pending new.held.book) old.held.book.stopped new.held.book.stopped (state old.disk) (state new.disk) stopped faults (same_pending old.held.book new.held.book work)))
+
+  -- a lookup, or a next, that failed
+  lookup_entry : (e : Entry) (old new : CoreState D) → new.held.book.book.entries ≡ old.held.book.book.entries ++ e ∷ [] → new.held.book.seats.work ≡ old.held.book.seats.work → is_failed_lookup e.op e.reply ≡ true → faults_of e.reply ≡ 1
+      → old.held.book.stopped ≡ None → new.held.book.stopped ≡ old.held.book.stopped → HasRisen (state old.disk).faults (state new.disk).faults → NamesStop e.reply new.held.book.stopped → LinkTells old.held.book new.held.book (state old.disk) (state new.disk)
+  lookup_entry e old new is work lookup fault ran stopped rose names =
+      let few = same_pending old.held.book new.held.book work in
+      entry_tells 1 1 e old.held.book new.held.book (state old.disk) (state new.disk) is (ap one_if lookup) fault names
+      (inl (stays_lookup 1 (pending old.held.book) (pending new.held.book) old.held.book.stopped new.held.book.stopped (state old.disk) (state new.disk) ran stopped rose (omega (arith, few))))
+
+  -- a write whose admission failed
+  failed_entry : (e : Entry) (old new : CoreState D) → new.held.book.book.entries ≡ old.held.book.book.entries ++ e ∷ [] → new.held.book.seats.work ≡ old.held.book.seats.work → is_failed_lookup e.op e.reply ≡ false → faults_of e.reply ≡ 1
+      → HasFailed old.held new.held (state old.disk) (state new.disk) → NamesStop e.reply new.held.book.stopped → LinkTells old.held.book new.held.book (state old.disk) (state new.disk)
+  failed_entry e old new is work lookup fault failed names =
+      let few = same_pending old.held.book new.held.book work in
+      entry_tells 0 1 e old.held.book new.held.book (state old.disk) (state new.disk) is (ap one_if lookup) fault names
+      (inr (refl, stops_failed 1 (pending old.held.book) (pending new.held.book) old.held new.held (state old.disk) (state new.disk) failed (omega (arith, few))))
+
+  admit_link : (seat : ℕ) (op : Op) (answer : Admission) (old new : CoreState D) → is_write op ≡ true → Admits state seat op answer old new → LinkTells old.held.book new.held.book (state old.disk) (state new.disk)
+  admit_link seat op admission.Admitted old new write call =
+      entry_tells 0 0 (record { seat = seat; op = op; reply = reply_to_write admission.Admitted }) old.held.book new.held.book (state old.disk) (state new.disk) (ap (λ (b : Book). b.entries) call.notes.annals) (ap one_if (no_lookup op (reply_to_write admission.Admitted) write)) refl tt
+      (inl (stays_ran 0 (pending old.held.book) (pending new.held.book) old.held new.held (state old.disk) (state new.disk) call.cause.0 (same_pending old.held.book new.held.book call.notes.work)))
+  admit_link seat op (admission.Full charge) old new write call =
+      quiet_entry (record { seat = seat; op = op; reply = reply_to_write (admission.Full charge) }) old new (ap (λ (b : Book). b.entries) call.notes.annals) call.notes.work (no_lookup op (reply_to_write (admission.Full charge)) write) refl (ap (λ (h : Held). h.book.stopped) call.cause.3) (faults_same old new (call.untouched tt)) tt
+  admit_link seat op (admission.Fault true) old new write call = failed_entry (record { seat = seat; op = op; reply = reply_to_write (admission.Fault true) }) old new (ap (λ (b : Book). b.entries) call.notes.annals) call.notes.work (no_lookup op (reply_to_write (admission.Fault true)) write) refl call.cause.0 tt
+  admit_link seat op (admission.Fault false) old new write call = failed_entry (record { seat = seat; op = op; reply = reply_to_write (admission.Fault false) }) old new (ap (λ (b : Book). b.entries) call.notes.annals) call.notes.work (no_lookup op (reply_to_write (admission.Fault false)) write) refl call.cause.0 tt
+  admit_link seat op (admission.Stopped why) old new write call =
+      quiet_entry (record { seat = seat; op = op; reply = reply_to_write (admission.Stopped why) }) old new (ap (λ (b : Book). b.entries) call.notes.annals) call.notes.work (no_lookup op (reply_to_write (admission.Stopped why)) write) refl (ap (λ (h : Held). h.book.stopped) call.cause.1) (faults_same old new (call.untouched tt))
+      (admit_names (admission.Stopped why) seat op old.held new.held (state old.disk) (state new.disk) call.cause)
+
+  pay_link : (seat : ℕ) (answer : Payment) (old new : CoreState D) → Pays state seat answer old new → LinkTells old.held.book new.held.book (state old.disk) (state new.disk)
+  pay_link seat answer old new call =
+      no_entry_tells old.held.book new.held.book (state old.disk) (state new.disk) (ap (λ (b : Book). b.entries) call.counts.annals ∙ payment_notes_none answer seat old.held.book.book) (by answer call.cause call.untouched)
+    where
+      few : 0 + pending new.held.book ≤ pending old.held.book
+      few = same_pending old.held.book new.held.book call.counts.work
+
+      by : (given : Payment) → PaysBecause given seat old.held new.held (state old.disk) (state new.disk) → (PaysNone given → new.disk ≡ old.disk)
+          → How 0 0 (pending old.held.book) (pending new.held.book) old.held.book.stopped new.held.book.stopped (state old.disk) (state new.disk)
+      by payment.Paid cause none = inl (stays_ran 0 (pending old.held.book) (pending new.held.book) old.held new.held (state old.disk) (state new.disk) cause.0 few)
+      by payment.Settled cause none =
+          inl (stays_same 0 (pending old.held.book) (pending new.held.book) old.held.book.stopped new.held.book.stopped (state old.disk) (state new.disk) (ap (λ (h : Held). h.book.stopped) cause.2) (faults_same old new (none tt)) few)
+      by payment.Fault cause none = inr (refl, stops_failed 0 (pending old.held.book) (pending new.held.book) old.held new.held (state old.disk) (state new.disk) cause (omega (arith, few)))
+      by (payment.Damaged page) cause none = inl (stays_damaged page 0 (pending old.held.book) (pending new.held.book) old.held new.held (state old.disk) (state new.disk) cause few)
+      by (payment.Stopped why) cause none =
+          inl (stays_same 0 (pending old.held.book) (pending new.held.book) old.held.book.stopped new.held.book.stopped (state old.disk) (state new.disk) (ap (λ (h : Held). h.book.stopped) cause.1) (faults_same old new (none tt)) few)
+
+  get_link : (seat : ℕ) (key : Key) (answer : Lookup) (old new : CoreState D) → Gets state seat key answer old new → LinkTells old.held.book new.held.book (state old.disk) (state new.disk)
+  get_link seat key answer old new call = by answer refl call.cause
+    where
+      stopped : new.held.book.stopped ≡ old.held.book.stopped
+      stopped = ap (λ (h : Held). h.book.stopped) call.held
+
+      work : new.held.book.seats.work ≡ old.held.book.seats.work
+      work = ap (λ (h : Held). h.book.seats.work) call.held
+
+      noted : (given : Lookup) → answer ≡ given → new.held.book.book.entries ≡ old.held.book.book.entries ++ record { seat = seat; op = op.Get key; reply = reply_to_get given } ∷ []
+      noted given is = ap (λ (h : Held). h.book.book.entries) call.held ∙ ap (λ (a : Lookup). old.held.book.book.entries ++ record { seat = seat; op = op.Get key; reply = reply_to_get a } ∷ []) is
+
+      by : (given : Lookup) → answer ≡ given → FindsBecause given old.held (state old.disk) (state new.disk) → LinkTells old.held.book new.held.book (state old.disk) (state new.disk)
+      by (lookup.Is value) is cause = quiet_entry (record { seat = seat; op = op.Get key; reply = reply_to_get (lookup.Is value) }) old new (noted (lookup.Is value) is) work refl refl stopped cause.1 tt
+      by lookup.Absent is cause = quiet_entry (record { seat = seat; op = op.Get key; reply = reply_to_get lookup.Absent }) old new (noted lookup.Absent is) work refl refl stopped cause.1 tt
+      by lookup.Fault is cause = lookup_entry (record { seat = seat; op = op.Get key; reply = reply_to_get lookup.Fault }) old new (noted lookup.Fault is) work refl refl cause.0 stopped cause.1 tt
+      by (lookup.Damaged page) is cause = quiet_entry (record { seat = seat; op = op.Get key; reply = reply_to_get (lookup.Damaged page) }) old new (noted (lookup.Damaged page) is) work refl refl stopped cause.1 tt
+      by (lookup.Stopped why) is cause = quiet_entry (record { seat = seat; op = op.Get key; reply = reply_to_get (lookup.Stopped why) }) old new (noted (lookup.Stopped why) is) work refl refl stopped cause.1 (stopped ∙ cause.0)
+
+  scan_link : (seat n : ℕ) (answer : Scan) (old new : CoreState D) → ReadsOn state seat n answer old new → LinkTells old.held.book new.held.book (state old.disk) (state new.disk)
+  scan_link seat n answer old new call = by answer refl call.cause call.untouched
+    where
+      stopped : new.held.book.stopped ≡ old.held.book.stopped
+      stopped = ap (λ (b : BookState). b.stopped) call.book
+
+      work : new.held.book.seats.work ≡ old.held.book.seats.work
+      work = ap (λ (b : BookState). b.seats.work) call.book
+
+      noted : (given : Scan) → answer ≡ given → new.held.book.book.entries ≡ old.held.book.book.entries ++ record { seat = seat; op = op.Next n; reply = reply_to_next given } ∷ []
+      noted given is = ap (λ (b : BookState). b.book.entries) call.book ∙ ap (λ (a : Scan). old.held.book.book.entries ++ record { seat = seat; op = op.Next n; reply = reply_to_next a } ∷ []) is
+
+      by : (given : Scan) → answer ≡ given → ScansBecause given seat n old new (state old.disk) (state new.disk) → (ScansNone given → new.disk ≡ old.disk) → LinkTells old.held.book new.held.book (state old.disk) (state new.disk)
+      by (scan.Rows rows) is cause none = quiet_entry (record { seat = seat; op = op.Next n; reply = reply_to_next (scan.Rows rows) }) old new (noted (scan.Rows rows) is) work refl refl stopped cause.1 tt
+      by scan.NoHold is cause none = quiet_entry (record { seat = seat; op = op.Next n; reply = reply_to_next scan.NoHold }) old new (noted scan.NoHold is) work refl refl stopped (faults_same old new (none tt)) tt
+      by scan.Fault is cause none = lookup_entry (record { seat = seat; op = op.Next n; reply = reply_to_next scan.Fault }) old new (noted scan.Fault is) work refl refl cause.0 stopped cause.3 tt
+      by (scan.Damaged page) is cause none = quiet_entry (record { seat = seat; op = op.Next n; reply = reply_to_next (scan.Damaged page) }) old new (noted (scan.Damaged page) is) work refl refl stopped cause.2 tt
+      by (scan.Stopped why) is cause none = quiet_entry (record { seat = seat; op = op.Next n; reply = reply_to_next (scan.Stopped why) }) old new (noted (scan.Stopped why) is) work refl refl stopped cause.2 (stopped ∙ cause.0)
+
+  -- a command whose entry is noted in memory alone
+  memory_link : (e : Entry) (old new : CoreState D) → is_failed_lookup e.op e.reply ≡ false → faults_of e.reply ≡ 0 → new.held.book ≡ noted_in e.seat e.op e.reply old.held.book → new.disk ≡ old.disk → NamesStop e.reply new.held.book.stopped
+      → LinkTells old.held.book new.held.book (state old.disk) (state new.disk)
+  memory_link e old new lookup fault book disk names =
+      quiet_entry e old new (ap (λ (b : BookState). b.book.entries) book) (ap (λ (b : BookState). b.seats.work) book) lookup fault (ap (λ (b : BookState). b.stopped) book) (faults_same old new disk) names
+
+  -- of a caller's work the last turn alone is told, once it ends
+  turn_link : (seat : ℕ) (answer : Turned) (old new : CoreState D) → TurnsOnce state seat answer old new → LinkTells old.held.book new.held.book (state old.disk) (state new.disk)
+  turn_link seat answer old new call =
+      no_entry_tells old.held.book new.held.book (state old.disk) (state new.disk) (ap (λ (b : Book). b.entries) call.counts.annals) (by answer call.cause call.untouched few)
+    where
+      few : pending new.held.book ≤ pending old.held.book + faults_of_turn answer
+      few =
+          let changed = one_changed (λ (w : WorkSoFar). faults_of_turn w.last) refl old.held.book.seats.work new.held.book.seats.work seat (λ other apart. call.counts.others other apart) in
+          let now = ap (λ (w : WorkSoFar). faults_of_turn w.last) call.counts.work in
+          omega (arith, changed, now)
+
+      by : (given : Turned) → TurnsBecause given false seat old.held new.held (state old.disk) (state new.disk) → (TurnsNone given → new.disk ≡ old.disk) → pending new.held.book ≤ pending old.held.book + faults_of_turn given
+          → How 0 0 (pending old.held.book) (pending new.held.book) old.held.book.stopped new.held.book.stopped (state old.disk) (state new.disk)
+      by machine.Worked cause none within = inl (stays_ran 0 (pending old.held.book) (pending new.held.book) old.held new.held (state old.disk) (state new.disk) cause.0 (omega (arith, within)))
+      by machine.Idle cause none within = inl (stays_ran 0 (pending old.held.book) (pending new.held.book) old.held new.held (state old.disk) (state new.disk) cause.0 (omega (arith, within)))
+      by machine.Closed cause none within = absurd (false≢true cause.1)
+      by machine.Failed cause none within = inr (refl, stops_failed 0 (pending old.held.book) (pending new.held.book) old.held new.held (state old.disk) (state new.disk) cause (omega (arith, within)))
+      by (machine.BadPage page) cause none within = inl (stays_damaged page 0 (pending old.held.book) (pending new.held.book) old.held new.held (state old.disk) (state new.disk) cause (omega (arith, within)))
+      by (machine.Halted why) cause none within =
+          inl (stays_same 0 (pending old.held.book) (pending new.held.book) old.held.book.stopped new.held.book.stopped (state old.disk) (state new.disk) (call.counts.halted why cause.0 ∙ sym cause.0) (faults_same old new (none tt)) (omega (arith, within)))
+
+  end_link : (seat n : ℕ) (reply : Reply) (old new : CoreState D) → EndsWork state seat n reply old new → LinkTells old.held.book new.held.book (state old.disk) (state new.disk)
+  end_link seat n reply old new call =
+      entry_tells 0 told entry old.held.book new.held.book (state old.disk) (state new.disk) (ap (λ (h : Held). h.book.book.entries) call.held ∙ ap (λ (r : Reply). old.held.book.book.entries ++ record { seat = seat; op = op.Work n; reply = r } ∷ []) (sym call.reply_is))
+      refl (ap faults_of call.reply_is ∙ sym (reply_tells (work_in seat old.held.book) old.held.book.stopped))
+      (subst (λ (r : Reply). NamesStop r new.held.book.stopped) (sym call.reply_is) (subst (λ (o : Option Why). NamesStop (work_reply (work_in seat old.held.book) old.held.book.stopped) o) (sym stopped) (reply_names (work_in seat old.held.book) old.held.book.stopped)))
+      (inl (stays_same told (pending old.held.book) (pending new.held.book) old.held.book.stopped new.held.book.stopped (state old.disk) (state new.disk) stopped (faults_same old new call.untouched) few))
+    where
+      entry : Entry
+      entry = record { seat = seat; op = op.Work n; reply = reply }
+
+      told : ℕ
+      told = faults_of_turn (work_in seat old.held.book).last
+
+      stopped : new.held.book.stopped ≡ old.held.book.stopped
+      stopped = ap (λ (h : Held). h.book.stopped) call.held
+
+      works : new.held.book.seats.work ≡ slice_set old.held.book.seats.work seat no_work
+      works = ap (λ (h : Held). h.book.seats.work) call.held
+
+      few : faults_of_turn (work_in seat old.held.book).last + pending new.held.book ≤ pending old.held.book
+      few =
+          let changed = one_changed (λ (w : WorkSoFar). faults_of_turn w.last) refl old.held.book.seats.work (slice_set old.held.book.seats.work seat no_work) seat (λ other apart. get_or-set_other old.held.book.seats.work seat other no_work no_work apart) in
+          let now = ap (λ (w : WorkSoFar). faults_of_turn w.last) (ended_empty old.held.book.seats.work seat) in
+          let there = ap (λ (l : List WorkSoFar). sum_by (λ (w : WorkSoFar). faults_of_turn w.last) l) works in
+          omega (arith, changed, now, there)
+
+  help_link : (seat : ℕ) (answer : Turned) (old new : CoreState D) → Helps state seat answer old new → LinkTells old.held.book new.held.book (state old.disk) (state new.disk)
+  help_link seat answer old new call =
+      no_entry_tells old.held.book new.held.book (state old.disk) (state new.disk) (ap (λ (b : Book). b.entries) call.notes.annals) (by answer call.cause call.untouched call.still)
+    where
+      few : 0 + pending new.held.book ≤ pending old.held.book
+      few = same_pending old.held.book new.held.book call.notes.work
+
+      by : (given : Turned) → TurnsBecause given true seat old.held new.held (state old.disk) (state new.disk) → (TurnsNone given → new.disk ≡ old.disk) → (TurnsNone given → new.held.book.stopped ≡ old.held.book.stopped)
+          → How 0 0 (pending old.held.book) (pending new.held.book) old.held.book.stopped new.held.book.stopped (state old.disk) (state new.disk)
+      by machine.Worked cause none still = inl (stays_ran 0 (pending old.held.book) (pending new.held.book) old.held new.held (state old.disk) (state new.disk) cause.0 few)
+      by machine.Idle cause none still = inl (stays_ran 0 (pending old.held.book) (pending new.held.book) old.held new.held (state old.disk) (state new.disk) cause.0 few)
+      by machine.Closed cause none still = inl (stays_same 0 (pending old.held.book) (pending new.held.book) old.held.book.stopped new.held.book.stopped (state old.disk) (state new.disk) (still tt) (faults_same old new (none tt)) few)
+      by machine.Failed cause none still = inr (refl, stops_failed 0 (pending old.held.book) (pending new.held.book) old.held new.held (state old.disk) (state new.disk) cause (omega (arith, few)))
+      by (machine.BadPage page) cause none still = inl (stays_damaged page 0 (pending old.held.book) (pending new.held.book) old.held new.held (state old.disk) (state new.disk) cause few)
+      by (machine.Halted why) cause none still = inl (stays_same 0 (pending old.held.book) (pending new.held.book) old.held.book.stopped new.held.book.stopped (state old.disk) (state new.disk) (still tt) (faults_same old new (none tt)) few)
+
+  -- a caller that leaves
+  leave_link : (seat : ℕ) (old new : CoreState D) → Leaves state seat old new → LinkTells old.held.book new.held.book (state old.disk) (state new.disk)
+  leave_link seat old new call =
+      no_entry_tells old.held.book new.held.book (state old.disk) (state new.disk) (ap (λ (h : Held). h.book.book.entries) call.held)
+      (inl (stays_same 0 (pending old.held.book) (pending new.held.book) old.held.book.stopped new.held.book.stopped (state old.disk) (state new.disk) (ap (λ (h : Held). h.book.stopped) call.held) (faults_same old new call.untouched)
+      (same_pending old.held.book new.held.book (ap (λ (h : Held). h.book.seats.work) call.held))))
+
+  link_tells : (seat : ℕ) (k : Kind) (old new : CoreState D) → IsCall state seat k old new → LinkTells old.held.book new.held.book (state old.disk) (state new.disk)
+  link_tells seat (kind.Admit op) old new call = admit_link seat op call.0 old new (writes_as state seat old op call.1.goes.may).0 call.1
+  link_tells seat kind.Pay old new call = pay_link seat call.0 old new call.1
+  link_tells seat (kind.Get key) old new call = get_link seat key call.0 old new call.1
+  link_tells seat (kind.Hold low high) old new call =
+      memory_link (record { seat = seat; op = op.Hold low high; reply = reply_to_hold call.0 }) old new refl (hold_quiet call.0).0 call.1.book call.1.untouched
+      (hold_names call.0 seat low high old new call.1.cause (ap (λ (b : BookState). b.stopped) call.1.book))
+  link_tells seat (kind.Next n) old new call = scan_link seat n call.0 old new call.1
+  link_tells seat kind.Release old new call =
+      memory_link (record { seat = seat; op = op.Release; reply = reply_to_drop call.0 }) old new refl (drop_quiet call.0).0 call.1.book call.1.untouched (drop_names call.0 seat old new call.1.cause (ap (λ (b : BookState). b.stopped) call.1.book))
+  link_tells seat kind.WorkTurn old new call = turn_link seat call.0 old new call.1
+  link_tells seat (kind.WorkEnd n) old new call = end_link seat n call.0 old new call.1
+  link_tells seat kind.WorkerTurn old new call = help_link seat call.0 old new call.1
+  link_tells seat kind.Leave old new call = leave_link seat old new call
+
+  -- ---- calls of the disk
+
+  rests : (sizes : Sizes) (old new : CoreState D) → new.disk ≡ old.disk → Reaches (file_length sizes) 0 (state old.disk) (state new.disk)
+  rests sizes old new same = subst (λ (d : D). Reaches (file_length sizes) 0 (state old.disk) (state d)) (sym same) (reaches_none (state old.disk))
+
+  pub link_reaches : (seat : ℕ) (k : Kind) (old new : CoreState D) → IsCall state seat k old new → IsCore old.held (state old.disk) → Reaches (file_length old.held.runs.sizes) (calls_of old.held.runs.sizes k) (state old.disk) (state new.disk)
+  link_reaches seat (kind.Admit op) old new call keeps = reaches_by call.1.effect
+  link_reaches seat kind.Pay old new call keeps = reaches_by call.1.effect
+  link_reaches seat (kind.Get key) old new call keeps =
+      reaches_counted (get_calls call.0 old.held (state old.disk) (state new.disk) call.1.cause keeps call.1.reads.effect.calls (λ none. ap (λ (d : D). (state d).clock) (call.1.untouched none))) (reaches_by call.1.reads.effect)
+  link_reaches seat (kind.Hold low high) old new call keeps = rests old.held.runs.sizes old new call.1.untouched
+  link_reaches seat (kind.Next n) old new call keeps = reaches_wider call.1.few (reaches_by call.1.reads.effect)
+  link_reaches seat kind.Release old new call keeps = rests old.held.runs.sizes old new call.1.untouched
+  link_reaches seat kind.WorkTurn old new call keeps = reaches_by call.1.effect
+  link_reaches seat (kind.WorkEnd n) old new call keeps = rests old.held.runs.sizes old new call.1.untouched
+  link_reaches seat kind.WorkerTurn old new call keeps = reaches_by call.1.effect
+  link_reaches seat kind.Leave old new call keeps = rests old.held.runs.sizes old new call.untouched
+
+  -- ---- the chain
+
+  pub chain_reaches : (calls : List (Step × CoreState D)) (old new : CoreState D) → AreCalls state calls old new → IsCore old.held (state old.disk)
+      → Reaches (file_length old.held.runs.sizes) (calls_of_all old.held.runs.sizes (steps_of calls)) (state old.disk) (state new.disk)
+  chain_reaches [] old new are keeps = rests old.held.runs.sizes old new (ap (λ (core : CoreState D). core.disk) are)
+  chain_reaches (one ∷ calls) old new are keeps =
+      reaches_then (link_reaches one.0.seat one.0.kind old one.1 are.0 keeps)
+      (subst (λ (sizes : Sizes). Reaches (file_length sizes) (calls_of_all sizes (steps_of calls)) (state one.1.disk) (state new.disk)) (link_sizes state one.0.seat one.0.kind old one.1 are.0 keeps)
+      (chain_reaches calls one.1 new are.1 (link_keeps state one.0.seat one.0.kind old one.1 are.0 keeps)))
+
+  -- what its type keeps, and what was told
+  record SoFar (start now : CoreState D) : Type 0 where
+    kept : Kept state start now
+    told : Told (state start.disk) now.held.book (state now.disk)
+
+  so_far : (start : CoreState D) → IsUnasked state start → SoFar start start
+  so_far start unasked = record {
+    kept = record { keeps = unasked.keeps; sizes = refl };
+    told = record {
+      grows = omega arith;
+      counted = omega (arith, ap lookups_failed unasked.none, ap (λ (o : Option Why). one_if (is_by_fault o)) unasked.runs);
+      quiet = λ none calm. refl;
+      stop = subst (λ (o : Option Why). NamesCount o (state start.disk) (state start.disk)) (sym unasked.runs) tt;
+      others =
+          let open_works = works_idle (λ (w : WorkSoFar). faults_of_turn w.last) refl start.held.book.seats.work unasked.idle in
+          omega (arith, ap faults_told unasked.none, open_works);
+      names = subst (λ (es : List Entry). AllNamed es start.held.book.stopped) (sym unasked.none) tt;
+    };
+  }
+
+  pub chain_tells : (calls : List (Step × CoreState D)) (start end : CoreState D) → IsUnasked state start → AreCalls state calls start end → ChainTells state calls start end
+  chain_tells calls start end unasked are =
+      let all = chain_keeps state (λ now. SoFar start now)
+      (λ seat k old new call before. record {
+        kept = link_kept state start seat k old new call before.kept;
+        told = told_more (state start.disk) (state old.disk) (state new.disk) old.held.book new.held.book (link_reaches seat k old new call before.kept.keeps).goes_on.faults (link_tells seat k old new call) before.told;
+      }) calls start end are (so_far start unasked) in
+      let told = all.told in
+      let few : faults_told end.held.book.book.entries ≤ lookups_failed end.held.book.book.entries + one_if (is_by_fault end.held.book.stopped) = omega (arith, told.others) in
+      record {
+        sizes = all.kept.sizes;
+        asked = chain_asks state calls start end are ∙ ap (λ (es : List Entry). asked_in es ++ asked_by (steps_of calls)) unasked.none;
+        of_callers = entries_are_callers state calls start end are (subst (λ (es : List Entry). AreCallers es) (sym unasked.none) tt);
+        tells = tells_all start.held end.held (state start.disk) (state end.disk) unasked.runs told;
+        counted = told.counted;
+        no_others = few;
+        calm = λ calm. all_calm end.held.book.book.entries (omega (arith, few, ap one_if calm));
+        names = told.names;
+        effect = chain_reaches calls start end are unasked.keeps;
+      }

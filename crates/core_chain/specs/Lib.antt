@@ -1,0 +1,5 @@
+pub mod Start
+pub mod Tells
+pub mod Quanta
+pub mod Steps
+pub mod Rows

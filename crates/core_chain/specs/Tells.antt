@@ -1,0 +1,87 @@
+-- What a chain of calls tells, whoever made them, on every disk: of faults and of the stop, of the commands, and how it called the disk.
+use Rattle.std.specs.Prelude.{◌≡◌, ℕ, ◌+◌, ◌/◌, ◌<◌, ◌≤◌, false, List, [], ◌∷◌, ◌++◌, sum_by}
+use Rattle.std.specs.List.{AllByRecursion}
+use Rattle.refusal.specs.Count.{HasRisenBy}
+use Rattle.blsm_model.specs.Format.{callers}
+use Rattle.blsm_model.specs.Geometry.{file_length}
+use Rattle.blsm_model.specs.Scripts.{asked_in}
+use Rattle.blsm_model.specs.Sizes.{Sizes}
+use Rattle.blsm_model.specs.declared.history.Entry.{Entry}
+use Rattle.blsm_model.specs.declared.op.Op.{Op}
+use Rattle.blsm_model.specs.declared.op.Op.TheVariants as op
+use Rattle.disk_trait.specs.Disk.{DiskState}
+use Rattle.tree_machine.specs.Outcomes.{is_failed_lookup}
+use Rattle.tree_machine.specs.Steps.{one_if}
+use Rattle.tree_machine.specs.declared.step.Kind.{Kind}
+use Rattle.tree_machine.specs.declared.step.Kind.TheVariants as kind
+use Rattle.tree_machine.specs.declared.step.Step.{Step}
+use Rattle.tree_runs.specs.Runs.{page_share}
+use Rattle.tree_core.specs.Core.{CoreState}
+use Rattle.tree_session.specs.Faults.{NamesStop, Reaches, TellsFaults, TellsNone, faults_told, is_by_fault}
+use Rattle.core_chain.specs.Start.{steps_of}
+
+-- ---- calls of the disk
+
+-- How many calls of the disk a step makes at most: an admission makes two swaps and an append; a payment and a turn read a quantum's pages and write
+-- its run; a get looks into each page at most, and a next reads each page of its hold at most. The others are made in memory alone.
+abbrev pub calls_of : Sizes → Kind → ℕ
+calls_of sizes (kind.Admit op) = 22
+calls_of sizes kind.Pay = sizes.quantum / 4 + 3
+calls_of sizes (kind.Get key) = page_share sizes
+calls_of sizes (kind.Hold low high) = 0
+calls_of sizes (kind.Next n) = page_share sizes
+calls_of sizes kind.Release = 0
+calls_of sizes kind.WorkTurn = sizes.quantum / 4 + 9
+calls_of sizes (kind.WorkEnd n) = 0
+calls_of sizes kind.WorkerTurn = sizes.quantum / 4 + 9
+calls_of sizes kind.Leave = 0
+
+abbrev pub calls_of_all : Sizes → List Step → ℕ
+calls_of_all sizes [] = 0
+calls_of_all sizes (step ∷ steps) = calls_of sizes step.kind + calls_of_all sizes steps
+
+-- ---- commands
+
+-- The command whose entry a step notes, if it notes one: not a payment, a turn or a leave.
+abbrev pub asked_at : ℕ → Kind → List (ℕ × Op)
+asked_at seat (kind.Admit op) = (seat, op) ∷ []
+asked_at seat kind.Pay = []
+asked_at seat (kind.Get key) = (seat, op.Get key) ∷ []
+asked_at seat (kind.Hold low high) = (seat, op.Hold low high) ∷ []
+asked_at seat (kind.Next n) = (seat, op.Next n) ∷ []
+asked_at seat kind.Release = (seat, op.Release) ∷ []
+asked_at seat kind.WorkTurn = []
+asked_at seat (kind.WorkEnd n) = (seat, op.Work n) ∷ []
+asked_at seat kind.WorkerTurn = []
+asked_at seat kind.Leave = []
+
+abbrev pub asked_by : List Step → List (ℕ × Op)
+asked_by [] = []
+asked_by (step ∷ steps) = asked_at step.seat step.kind ++ asked_by steps
+
+-- ---- faults
+
+-- the lookups that failed: they tell a fault, and don't stop the store
+abbrev pub lookups_failed : List Entry → ℕ
+lookups_failed history = sum_by (λ e. one_if (is_failed_lookup e.op e.reply)) history
+
+-- ---- the whole
+
+-- From a core of which nothing was asked these calls led to the end.
+pub record ChainTells {D : Type 0} (state : D → DiskState) (calls : List (Step × CoreState D)) (start end : CoreState D) : Type 0 where
+  -- the geometry is the same
+  pub sizes : end.held.runs.sizes ≡ start.held.runs.sizes
+  -- the history has one entry for each step that notes one, in order; each is a caller's
+  pub asked : asked_in end.held.book.book.entries ≡ asked_by (steps_of calls)
+  pub of_callers : AllByRecursion (λ e. e.seat < callers) end.held.book.book.entries
+  -- the disk's count has risen for each reply that tells a fault, and stands where none does and no fault stopped the store; such a stop names it
+  pub tells : TellsFaults (faults_told end.held.book.book.entries) start.held end.held (state start.disk) (state end.disk)
+  -- it has risen for each lookup that failed and once more for a stop by a fault, whoever's step that was; and replies tell of no others
+  pub counted : HasRisenBy (lookups_failed end.held.book.book.entries + one_if (is_by_fault end.held.book.stopped)) (state start.disk).faults (state end.disk).faults
+  pub no_others : faults_told end.held.book.book.entries ≤ lookups_failed end.held.book.book.entries + one_if (is_by_fault end.held.book.stopped)
+  -- of a store that no fault has stopped a get and a next alone tell one
+  pub calm : is_by_fault end.held.book.stopped ≡ false → AllByRecursion (λ e. TellsNone e.op e.reply) end.held.book.book.entries
+  -- a reply that the store is stopped names what stopped it
+  pub names : AllByRecursion (λ e. NamesStop e.reply end.held.book.stopped) end.held.book.book.entries
+  -- the disk was called no more often than the steps may, and within the store's file
+  pub effect : Reaches (file_length start.held.runs.sizes) (calls_of_all start.held.runs.sizes (steps_of calls)) (state start.disk) (state end.disk)

@@ -1,0 +1,49 @@
+//! Chains of calls. The functions do nothing: each stands for the law that its clause names.
+ghost use Rattle.std.specs.Prelude.{List, IsTrue};
+ghost use Rattle.blsm_model.specs.declared.key.Key.{Key};
+ghost use Rattle.blsm_model.specs.declared.row.Value.{Value};
+ghost use Rattle.pacing.specs.Pace.{Pace};
+ghost use Rattle.tree_machine.specs.Machine.{Machine};
+ghost use Rattle.tree_machine.specs.declared.step.Step.{Step};
+ghost use Rattle.tree_core.specs.Calls.{AreCalls};
+ghost use Rattle.tree_core.specs.Core.{CoreState, IsCore};
+ghost use Rattle.tree_core.specs.Holds.{StandsWhole};
+ghost use Rattle.core_chain.specs.Quanta.{ChainHelps, ChainTakesFew};
+ghost use Rattle.core_chain.specs.Rows.{RowsStay};
+ghost use Rattle.core_chain.specs.Start.{IsUnasked};
+ghost use Rattle.core_chain.specs.Steps.{ChainIsSteps};
+ghost use Rattle.core_chain.specs.Tells.{ChainTells};
+
+use disk_trait::Disk;
+use tree_core::Core;
+
+/// On every disk the calls that led to this core note each command once, in order, tell faults only as the disk counted them, and name the
+/// stop; and they call the disk no more often than their steps may.
+pub fn calls_tell<D: Disk + Drop>(core: &Core<D>)
+    ensures { (calls : List (Step × CoreState D)) (start : CoreState D) → IsUnasked D.state start → AreCalls D.state calls start core.now
+        → ChainTells D.state calls start core.now }
+{}
+
+/// Each entry took no more quanta than it may, and the callers' quanta are those of the entries and of the works that are open.
+pub fn calls_take_few<D: Disk + Drop>(core: &Core<D>)
+    ensures { (calls : List (Step × CoreState D)) (start : CoreState D) → IsUnasked D.state start → AreCalls D.state calls start core.now
+        → ChainTakesFew D.state calls start core.now }
+{}
+
+/// The workers' quanta and turns are counted by their own turns alone.
+pub fn calls_help<D: Disk + Drop>(core: &Core<D>)
+    ensures { (calls : List (Step × CoreState D)) (start : CoreState D) → IsUnasked D.state start → AreCalls D.state calls start core.now
+        → ChainHelps D.state calls start core.now }
+{}
+
+/// On an honest disk they are steps of the machine, one for each call, timed by the disk's clock.
+pub fn calls_are_steps<D: Disk + Drop>(core: &Core<D>)
+    ensures { (opening : List (Key × Value)) (calls : List (Step × CoreState D)) (start : CoreState D) (m : Machine) (pace : Pace) → IsCore start.held (D.state start.disk)
+        → AreCalls D.state calls start core.now → IsTrue (D.state start.disk).is_honest → StandsWhole D.state opening start m pace
+        → ChainIsSteps D.state opening calls start core.now m pace }
+{}
+
+/// The rows that a seat has still to read are those after what it saw, where it saw all its own entries.
+pub fn rows_stay()
+    ensures { RowsStay }
+{}

@@ -1,0 +1,98 @@
+// Scripts that are made: by a seed, or of like lines.
+ghost use Rattle.std.specs.Prelude.{◌<◌};
+
+use crate::stores::script;
+use script_text::Script;
+use std::alloc::{AllocError, Global};
+use std::process::Abort;
+
+// Knuth's linear congruential generator.
+#[derive(Drop)]
+struct Draws(u64);
+
+impl Draws {
+    fn below(&mut self, limit: u64) -> u64
+        requires { 0 < limit }
+        ensures { result < limit }
+    {
+        self.0 = self
+            .0
+            .wrapping_mul(6_364_136_223_846_793_005)
+            .wrapping_add(1_442_695_040_888_963_407);
+        (self.0 >> 33) % limit
+    }
+}
+
+// The longest text there is: 435 letters.
+const LETTERS: &str =
+    "abcdefghijklmnopqrstuvwxyzabcdefghijklmnopqrstuvwxyzabcdefghijklmnopqrstuvwxyzabcdefghijklmnopqrstuvwxyzabcdefghijklmnopqrstuvwxyzabcdefghijklmnopqrstuvwxyzabcdefghijklmnopqrstuvwxyzabcdefghijklmnopqrstuvwxyzabcdefghijklmnopqrstuvwxyzabcdefghijklmnopqrstuvwxyzabcdefghijklmnopqrstuvwxyzabcdefghijklmnopqrstuvwxyzabcdefghijklmnopqrstuvwxyzabcdefghijklmnopqrstuvwxyzabcdefghijklmnopqrstuvwxyzabcdefghijklmnopqrstuvwxyzabcdefghijklmnopqrs";
+
+// A command on one of ten keys, k0 to k9. A range may be empty.
+fn any_command(alloc: Global, draws: &mut Draws) -> Result<String, AllocError> {
+    let key = draws.below(10);
+    let other = draws.below(10);
+    let count = draws.below(1_000);
+    match draws.below(16) {
+        0..=5 => format!(in alloc; "put k{key} {count} {LETTERS}"),
+        6..=7 => format!(in alloc; "add k{key} {count}"),
+        8 => format!(in alloc; "del k{key}"),
+        9..=10 => format!(in alloc; "get k{key}"),
+        11..=12 => format!(in alloc; "hold k{key} k{other}"),
+        13 => format!(in alloc; "next {}", 1 + key),
+        14 => String::from_str(alloc, "drop"),
+        _ => format!(in alloc; "work {}", 1 + other),
+    }
+}
+
+fn add_line(alloc: Global, text: &mut String, draws: &mut Draws) -> Result<(), AllocError> {
+    let caller = 1 + draws.below(16);
+    let command = any_command(alloc, draws)?;
+    let line = format!(in alloc; "{caller} {command}\n")?;
+    text.push_str(&line)?;
+    Ok(())
+}
+
+/// A script of so many lines, each of any caller.
+pub fn any_script(rt: &impl Abort, alloc: Global, seed: u64, lines: u32) -> Script {
+    let mut text = String::new(alloc);
+    let mut draws = Draws(seed);
+    for _ in 0..lines {
+        assert!(rt; add_line(alloc, &mut text, &mut draws).is_ok());
+    }
+    script(rt, alloc, text.as_bytes())
+}
+
+// Puts of a caller, each of another key and of the greatest weight, 512 bytes.
+fn add_puts(alloc: Global, text: &mut String, caller: u32, count: u32) -> Result<(), AllocError> {
+    for n in 0..count {
+        let line = format!(in alloc; "{caller} put k{n:063} {caller} {LETTERS}\n")?;
+        text.push_str(&line)?;
+    }
+    Ok(())
+}
+
+/// Callers 1 to 15 have a put each, and caller 16 has so many.
+pub fn each_puts(rt: &impl Abort, alloc: Global, count: u32) -> Script {
+    let mut text = String::new(alloc);
+    for caller in 1..16 {
+        assert!(rt; add_puts(alloc, &mut text, caller, 1).is_ok());
+    }
+    assert!(rt; add_puts(alloc, &mut text, 16, count).is_ok());
+    script(rt, alloc, text.as_bytes())
+}
+
+/// Caller 1 has so many puts.
+pub fn puts_of_one(rt: &impl Abort, alloc: Global, count: u32) -> Script {
+    let mut text = String::new(alloc);
+    assert!(rt; add_puts(alloc, &mut text, 1, count).is_ok());
+    script(rt, alloc, text.as_bytes())
+}
+
+/// Caller 1 looks the ten keys up.
+pub fn lookups(rt: &impl Abort, alloc: Global) -> Script {
+    script(
+        rt,
+        alloc,
+        b"1 get k0\n1 get k1\n1 get k2\n1 get k3\n1 get k4\n1 get k5\n1 get k6\n1 get k7\n1 get k8\n1 get k9\n",
+    )
+}

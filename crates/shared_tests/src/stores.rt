@@ -1,0 +1,78 @@
+// Stores on disks in memory, and runs of scripts over them.
+ghost use Rattle.std.specs.Prelude.{◌≤◌};
+
+use blsm_model::{Annals, Gate, Geometry, Totals};
+use disk_mem::MemDisk;
+use recover_open::{make_store, open_store};
+use script_text::{Script, read_script};
+use std::alloc::Global;
+use std::process::Abort;
+use std::sync::Wait;
+use std::thread::Threads;
+use tree_shared::{an_opened_core_is_fresh, run_all};
+
+// How many bytes of record a disk has beside those of its making.
+const RECORD: u64 = 16_000_000;
+
+// How many bytes a merge quantum writes.
+const QUANTUM: u64 = 4_096;
+
+// How many turns a worker takes at most.
+const TURNS: u32 = 1_000;
+
+/// The disk of a new store of the least size, whose workers begin a pass past this weight of the memory table.
+pub fn fresh(rt: &impl Abort, alloc: Global, low: u64) -> MemDisk {
+    let geometry = Geometry::new(Geometry::MIN_HALF, Geometry::MIN_RATIO, low, QUANTUM).expect(
+        rt,
+        "a geometry",
+    );
+    let length = geometry.length();
+    let kept = length.saturating_mul(2).saturating_add(RECORD);
+    let Ok(mut disk) = MemDisk::new(alloc, length, kept) else {
+        rt.abort()
+    };
+    assert_eq!(rt; make_store(&mut disk, &geometry), Ok(()));
+    disk
+}
+
+/// The script of a text.
+pub fn script(rt: &impl Abort, alloc: Global, text: &[u8]) -> Script {
+    match read_script(alloc, text) {
+        Ok(script) => script,
+        Err(_) => rt.abort(),
+    }
+}
+
+/// What a run leaves.
+#[derive(Drop)]
+pub struct Ran {
+    pub disk: MemDisk,
+    pub annals: Annals,
+    pub totals: Totals,
+}
+
+/// Runs a script over the store on a disk, each caller and each worker in a thread of its own.
+pub fn run<R: Abort + Threads + Wait + Sync, G: Gate + Sync>(
+    rt: &R,
+    alloc: Global,
+    disk: MemDisk,
+    script: &Script,
+    workers: u32,
+    gate: &G,
+) -> Ran
+    requires { workers ≤ 8 }
+{
+    an_opened_core_is_fresh::<MemDisk>();
+    let Ok(core) = open_store(alloc, disk, script.room()) else {
+        rt.abort()
+    };
+    let Ok(core) = run_all(rt, alloc, core, script.lines(), workers, TURNS, gate) else {
+        rt.abort()
+    };
+    let (disk, annals, totals) = core.end();
+    Ran {
+        disk,
+        annals,
+        totals,
+    }
+}

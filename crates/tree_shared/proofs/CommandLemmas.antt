@@ -1,0 +1,57 @@
+-- Commands, turn by turn.
+use Rattle.std.proofs.Common.{◌≡◌, ◌∙◌, ⊎_elim, inl, inr, ℕ, ◌≤◌, List, [], ◌∷◌, length, refl, ap, arith}
+use Rattle.blsm_model.specs.declared.history.Entry.{Entry}
+use Rattle.disk_trait.specs.Disk.{DiskState}
+use Rattle.turn_lock.specs.Callers.{Held as Caller, Lock}
+use Rattle.turn_lock.specs.Plays.{renewed}
+use Rattle.turn_lock.specs.Tallies.{IsOf}
+use Rattle.turn_lock.specs.Views.{size}
+use Rattle.turn_lock.proofs.TurnLemmas.{did_then, went_same, went_then}
+use Rattle.tree_core.specs.Calls.{CameSince}
+use Rattle.tree_core.specs.Core.{CoreState}
+use Rattle.tree_shared.specs.Seats.{DidOn, KnowsOf, WentOn, IsFree, IsWorking, facts_of}
+
+module _ {D : Type 0} (state : D → DiskState) where
+  -- the same caller of the lock
+  pub of_went : (lock : Lock (CoreState D)) (c d : Caller (CoreState D)) (es : List Entry) → IsOf lock c → WentOn state c es d → IsOf lock d
+  of_went lock c d es of went = let same = went_same facts_of (CameSince state) c d es went in (same.0 ∙ of.0, same.3 ∙ of.1, same.5 of.2)
+
+  pub number_went : (c d : Caller (CoreState D)) (es : List Entry) → WentOn state c es d → d.number ≡ c.number
+  number_went c d es went = (went_same facts_of (CameSince state) c d es went).1
+
+  long_as : (b : CoreState D) (ps : List (ℕ × CoreState D)) → length (renewed facts_of b ps) ≡ length ps
+  long_as b [] = refl
+  long_as b (p ∷ ps) = refl
+
+  pub sized_went : (c d : Caller (CoreState D)) (es : List Entry) → WentOn state c es d → size d.me.0 ≡ size c.me.0
+  sized_went c d es went = ⊎_elim
+      (λ (still : (d ≡ c) × (es ≡ [])). ap (λ (h : Caller (CoreState D)). size h.me.0) still.0)
+      (λ (did : DidOn state c es d). omega (arith, ap (λ (l : List (ℕ × CoreState D)). length l) did.own, long_as did.value c.me.0.own, ap (λ (l : List (ℕ × CoreState D)). length l) did.noted.spare))
+      went
+
+  -- one turn more that notes nothing
+  pub went_on : (c d e : Caller (CoreState D)) → WentOn state c [] d → DidOn state d [] e → WentOn state c [] e
+  went_on c d e went did = inr (went_then facts_of (CameSince state) c d e [] [] went did)
+
+  pub did_on : (c d e : Caller (CoreState D)) → WentOn state c [] d → DidOn state d [] e → DidOn state c [] e
+  did_on c d e went did = went_then facts_of (CameSince state) c d e [] [] went did
+
+  -- an entry, and then turns that note nothing
+  pub did_paid : (c d e : Caller (CoreState D)) (entry : Entry) → DidOn state c (entry ∷ []) d → DidOn state d [] e → DidOn state c (entry ∷ []) e
+  did_paid c d e entry one two = did_then facts_of (CameSince state) c d e (entry ∷ []) [] one two
+
+  -- turns that note nothing, and then an entry
+  pub did_ended : (c d e : Caller (CoreState D)) (entry : Entry) → WentOn state c [] d → DidOn state d (entry ∷ []) e → DidOn state c (entry ∷ []) e
+  did_ended c d e entry one two = went_then facts_of (CameSince state) c d e [] (entry ∷ []) one two
+
+-- a free caller is in a work of no turns
+pub works_none : {D : Type 0} (entries rows : ℕ) (c : Caller (CoreState D)) → KnowsOf (IsFree entries rows) c → KnowsOf (IsWorking 0 entries rows) c
+works_none entries rows c k = record { value = k.value; more = k.more; own = k.own; part = k.part }
+
+-- all its turns were made
+pub works_all : {D : Type 0} (n entries rows : ℕ) (c : Caller (CoreState D)) → KnowsOf (IsWorking n entries rows) c → KnowsOf (Rattle.tree_shared.specs.Seats.IsFinished n entries rows) c
+works_all n entries rows c k = record { value = k.value; more = k.more; own = k.own; part = (k.part.0, inl k.part.1, k.part.2) }
+
+-- with less room asked for
+pub frees_less : {D : Type 0} (entries rows fewer less : ℕ) (c : Caller (CoreState D)) → fewer ≤ entries → less ≤ rows → KnowsOf (IsFree entries rows) c → KnowsOf (IsFree fewer less) c
+frees_less entries rows fewer less c a b k = record { value = k.value; more = k.more; own = k.own; part = ((omega (arith, a, k.part.0.0), omega (arith, b, k.part.0.1)), k.part.1, k.part.2) }

@@ -1,0 +1,11 @@
+pub mod SeatLemmas
+pub mod WriteLemmas
+pub mod NoteLemmas
+pub mod WorkLemmas
+pub mod EndLemmas
+pub mod HoldLemmas
+pub mod CommandLemmas
+pub mod LineLemmas
+pub mod JobLemmas
+pub mod RestLemmas
+pub mod EndRunLemmas

@@ -1,0 +1,92 @@
+-- Runs of a script by callers and workers.
+use Rattle.std.specs.Prelude.{◌≡◌, ◌⊎◌, ◌≢◌, ℕ, zero, suc, ◌+◌, ◌-◌, ◌%◌, ◌^◌, ◌<◌, ◌≤◌, Bool, true, None, List, [], ◌∷◌, map, slice_index}
+use Rattle.blsm_model.specs.Facts.{entries_of}
+use Rattle.blsm_model.specs.Format.{callers}
+use Rattle.blsm_model.specs.Scripts.{IsOfScript, lines_of}
+use Rattle.blsm_model.specs.declared.history.Entry.{Entry}
+use Rattle.blsm_model.specs.declared.history.Line.{Line}
+use Rattle.blsm_model.specs.declared.history.Reply.{Reply}
+use Rattle.disk_trait.specs.Disk.{DiskState}
+use Rattle.seat_book.specs.State.{work_in}
+use Rattle.turn_lock.specs.Callers.{Held, Lock}
+use Rattle.turn_lock.specs.Tallies.{In, IsOf, Spares}
+use Rattle.turn_lock.specs.Views.{size}
+use Rattle.tree_machine.specs.Machine.{seats}
+use Rattle.tree_core.specs.Calls.{CameSince}
+use Rattle.tree_core.specs.Core.{CoreState, IsCore}
+use Rattle.tree_core.specs.Notes.{HasLeft, OwesNothing}
+use Rattle.tree_session.specs.Lines.{HasRoomFor, Rests, rows_of}
+use Rattle.tree_shared.specs.Seats.{DidOn, WentOn, KnowsOf, HasHelped, IsFree, IsGone, facts_of}
+
+-- ---- one job
+
+-- Another caller's line leaves a caller as it is, and its own is done and answered.
+pub record DoesLine {D : Type 0} (state : D → DiskState) (line : Line) (c d : Held (CoreState D)) : Type 0 where
+  pub other : line.seat ≢ c.number → d ≡ c
+  pub its : line.seat ≡ c.number → (reply : Reply) × DidOn state c (record { seat = c.number; op = line.op; reply = reply } ∷ []) d
+  pub free : line.seat ≡ c.number → (entries rows : ℕ) → KnowsOf (IsFree (entries + 1) (rows + rows_of line.op)) c → KnowsOf (IsFree entries rows) d
+
+-- A caller did its lines, in order, each once.
+pub record RanLines {D : Type 0} (state : D → DiskState) (lines : List Line) (c d : Held (CoreState D)) : Type 0 where
+  pub entries : List Entry
+  pub went : WentOn state c entries d
+  pub ops : map (λ (e : Entry). e.op) entries ≡ lines_of c.number lines
+
+-- a worker's turns after so many more
+abbrev pub turns_after : ℕ → ℕ → ℕ
+turns_after zero before = before
+turns_after (suc took) before = (turns_after took before + 1) % 2 ^ 64
+
+-- A worker took so many turns, or one at least and saw the value closed or stopped.
+pub record Helped {D : Type 0} (state : D → DiskState) (turns : ℕ) (c d : Held (CoreState D)) : Type 0 where
+  pub went : WentOn state c [] d
+  pub counted : (before : ℕ) → KnowsOf (HasHelped before) c → (took : ℕ) × (took ≤ turns) × KnowsOf (HasHelped (turns_after took before)) d × ((took ≡ turns) ⊎ ((0 < took) × (d.me.0.over ≡ true)))
+
+-- ---- all jobs
+
+-- the core as the lock takes it: nothing was asked of it, and each caller has room for its lines
+pub record IsFresh (lines : List Line) {D : Type 0} (start : CoreState D) : Type 0 where
+  pub none : start.held.book.book.entries ≡ []
+  pub runs : start.held.book.stopped ≡ None
+  pub rests : Rests start.held
+  pub helped : (seat : ℕ) → callers ≤ seat → seat < seats → slice_index start.held.book.seats.turns (seat - callers) ≡ 0
+  pub room : HasRoomFor start.held.book.book.room lines
+
+-- before its job: it has one number, of which nobody did anything, and may give away those from `next` on
+pub record IsNew {D : Type 0} (lock : Lock (CoreState D)) (c : Held (CoreState D)) : Type 0 where
+  pub of_lock : IsOf lock c
+  pub number : c.number < seats
+  pub own : c.me.0.own ≡ (c.number, lock.start) ∷ []
+
+-- what the number's job left of it: in this core, and where `halted` says that the core was seen stopped
+pub record HasEnded {D : Type 0} (lines : List Line) (turns : ℕ) (halted : Bool) (i : ℕ) (core : CoreState D) : Type 0 where
+  pub asked : map (λ (e : Entry). e.op) (entries_of i core.held.book.book.entries) ≡ lines_of i lines
+  pub gone : i < callers → IsGone halted ((facts_of core).part i)
+  pub helped : callers ≤ i → 0 < turns → 0 < ((facts_of core).part i).turns
+
+-- a caller has this number, and knows what its job left
+abbrev pub TellsEnd : {D : Type 0} → List Line → ℕ → ℕ → Held (CoreState D) → Type 0
+TellsEnd {D} lines turns i d = (core : CoreState D) × In (i, core) d.me.0.own × HasEnded lines turns d.me.0.halted i core
+
+pub record Starts {D : Type 0} (lock : Lock (CoreState D)) (more : ℕ) (c : Held (CoreState D)) : Type 0 where
+  pub new : IsNew lock c
+  pub last : c.next + more ≤ seats
+  pub spare : Spares lock c
+
+pub record Ends {D : Type 0} (lines : List Line) (turns : ℕ) (lock : Lock (CoreState D)) (more : ℕ) (c d : Held (CoreState D)) : Type 0 where
+  pub of_lock : IsOf lock d
+  pub sized : size d.me.0 ≡ size c.me.0
+  pub own : TellsEnd lines turns c.number d
+  pub others : (i : ℕ) → c.next ≤ i → i < c.next + more → TellsEnd lines turns i d
+
+-- ---- a run
+
+-- Each caller did its lines and left, and each worker took a turn, where they take any. From the start on some calls of the core led here.
+pub record RunsAll {D : Type 0} (state : D → DiskState) (lines : List Line) (workers turns : ℕ) (start end : CoreState D) : Type 0 where
+  pub of_script : IsOfScript lines end.held.book.book.entries
+  pub came : CameSince state start end
+  pub keeps : IsCore end.held (state end.disk)
+  pub left : (seat : ℕ) → seat < callers → HasLeft seat end.held.book
+  pub idle : (seat : ℕ) → seat < callers → (work_in seat end.held.book).turns ≡ 0
+  pub even : end.held.book.stopped ≡ None → (seat : ℕ) → seat < callers → OwesNothing seat end.held
+  pub helped : 0 < turns → (i : ℕ) → i < workers → 0 < slice_index end.held.book.seats.turns i

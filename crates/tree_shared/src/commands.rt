@@ -1,0 +1,261 @@
+//! Commands of a caller, in as many holds of the lock as they have steps.
+ghost use Rattle.std.specs.Prelude.{◌≡◌, ◌+◌, ◌<◌, ◌≤◌, ℕ, [], ◌∷◌, IsTrue, false};
+ghost use Rattle.blsm_model.specs.Format.{callers, most_rows};
+ghost use Rattle.blsm_model.specs.Legal.{is_write};
+ghost use Rattle.blsm_model.specs.Stored.{as_reply};
+ghost use Rattle.blsm_model.specs.declared.op.Op.TheVariants as op;
+ghost use Rattle.turn_lock.specs.Tallies.{IsOf};
+ghost use Rattle.tree_machine.specs.Plays.{most_turns};
+ghost use Rattle.tree_session.specs.Lines.{IsCommand, rows_of};
+ghost use Rattle.tree_shared.specs.Seats.{DidOn, WentOn, KnowsOf, IsFinished, IsFree, IsOwing};
+
+use crate::holds::{admit, end_work, get, hold, let_go, pay, read_on, turn};
+use blsm_model::{Gate, Key, Op, Point, Reply, ShortReply};
+use disk_trait::Disk;
+use seat_book::Turned;
+use std::alloc::Global;
+use std::sync::Wait;
+use tree_core::{Admission, Core, Holding, Lookup, Payment, Release, Scan};
+use turn_lock::{Caller, TurnLock};
+
+// Pays once. Whether more may be owed.
+fn pay_once<R: Wait, D: Disk + Drop, G: Gate>(
+    rt: &R,
+    lock: &TurnLock<Core<D>>,
+    caller: &mut Caller<Core<D>>,
+    gate: &G,
+) -> bool
+    requires lock { IsOf lock.now caller.old }
+    requires number { caller.old.number < callers }
+    requires owing { KnowsOf (IsOwing 0 0) caller.old }
+    ensures did { DidOn D.state caller.old [] caller.new }
+    ensures owing { (entries rows : ℕ) → KnowsOf (IsOwing entries rows) caller.old → KnowsOf (IsOwing entries rows) caller.new }
+    ensures free { result ≡ false → (entries rows : ℕ) → KnowsOf (IsOwing entries rows) caller.old → KnowsOf (IsFree entries rows) caller.new }
+{
+    match pay(rt, lock, caller) {
+        Payment::Paid => {
+            gate.at(caller.number(), Point::Paid);
+            true
+        }
+        _ => false,
+    }
+}
+
+// Pays until nothing is owed any more, or the store is stopped.
+fn pay_off<R: Wait, D: Disk + Drop, G: Gate>(
+    rt: &R,
+    lock: &TurnLock<Core<D>>,
+    caller: &mut Caller<Core<D>>,
+    gate: &G,
+)
+    requires lock { IsOf lock.now caller.old }
+    requires number { caller.old.number < callers }
+    requires owing { KnowsOf (IsOwing 0 0) caller.old }
+    ensures did { DidOn D.state caller.old [] caller.new }
+    ensures free { (entries rows : ℕ) → KnowsOf (IsOwing entries rows) caller.old → KnowsOf (IsFree entries rows) caller.new }
+{
+    for _ in rt.forever() {
+        if !pay_once(rt, lock, caller, gate) {
+            return;
+        }
+    }
+    unreachable!()
+}
+
+fn write<R: Wait, D: Disk + Drop, G: Gate>(
+    rt: &R,
+    lock: &TurnLock<Core<D>>,
+    caller: &mut Caller<Core<D>>,
+    op: &Op,
+    gate: &G,
+) -> ShortReply
+    requires lock { IsOf lock.now caller.old }
+    requires number { caller.old.number < callers }
+    requires write { IsTrue (is_write op.now) }
+    requires free { KnowsOf (IsFree 1 0) caller.old }
+    ensures did { DidOn D.state caller.old (record { seat = caller.old.number; op = op.now; reply = as_reply result } ∷ []) caller.new }
+    ensures free { (entries rows : ℕ) → KnowsOf (IsFree (entries + 1) rows) caller.old → KnowsOf (IsFree entries rows) caller.new }
+{
+    match admit(rt, lock, caller, op) {
+        Admission::Admitted => {
+            gate.at(caller.number(), Point::Admitted);
+            pay_off(rt, lock, caller, gate);
+            ShortReply::Done
+        }
+        Admission::Full(charge) => ShortReply::Full(charge),
+        Admission::Fault { begun: true } => ShortReply::FaultUnsure,
+        Admission::Fault { begun: false } => ShortReply::FaultLost,
+        Admission::Stopped(why) => ShortReply::Stopped(why),
+    }
+}
+
+fn look_up<R: Wait, D: Disk + Drop>(
+    rt: &R,
+    lock: &TurnLock<Core<D>>,
+    caller: &mut Caller<Core<D>>,
+    key: &Key,
+) -> ShortReply
+    requires lock { IsOf lock.now caller.old }
+    requires number { caller.old.number < callers }
+    requires free { KnowsOf (IsFree 1 0) caller.old }
+    ensures did { DidOn D.state caller.old (record { seat = caller.old.number; op = op.Get key.now; reply = as_reply result } ∷ []) caller.new }
+    ensures free { (entries rows : ℕ) → KnowsOf (IsFree (entries + 1) rows) caller.old → KnowsOf (IsFree entries rows) caller.new }
+{
+    match get(rt, lock, caller, key) {
+        Lookup::Is(value) => ShortReply::Is(value),
+        Lookup::Absent => ShortReply::Absent,
+        Lookup::Fault => ShortReply::Fault,
+        Lookup::Damaged(page) => ShortReply::Damaged(page),
+        Lookup::Stopped(why) => ShortReply::Stopped(why),
+    }
+}
+
+fn hold_range<R: Wait, D: Disk + Drop>(
+    rt: &R,
+    alloc: Global,
+    lock: &TurnLock<Core<D>>,
+    caller: &mut Caller<Core<D>>,
+    low: &Key,
+    high: &Key,
+) -> ShortReply
+    requires lock { IsOf lock.now caller.old }
+    requires number { caller.old.number < callers }
+    requires free { KnowsOf (IsFree 1 0) caller.old }
+    ensures did { DidOn D.state caller.old (record { seat = caller.old.number; op = op.Hold low.now high.now; reply = as_reply result } ∷ []) caller.new }
+    ensures free { (entries rows : ℕ) → KnowsOf (IsFree (entries + 1) rows) caller.old → KnowsOf (IsFree entries rows) caller.new }
+{
+    match hold(rt, alloc, lock, caller, low, high) {
+        Holding::Held => ShortReply::Held,
+        Holding::NoMemory => ShortReply::NoMemory,
+        Holding::Stopped(why) => ShortReply::Stopped(why),
+    }
+}
+
+fn next<R: Wait, D: Disk + Drop>(
+    rt: &R,
+    lock: &TurnLock<Core<D>>,
+    caller: &mut Caller<Core<D>>,
+    n: u32,
+) -> Reply
+    requires lock { IsOf lock.now caller.old }
+    requires number { caller.old.number < callers }
+    requires some { 0 < n }
+    requires few { n ≤ most_rows }
+    requires free { KnowsOf (IsFree 1 n) caller.old }
+    ensures did { DidOn D.state caller.old (record { seat = caller.old.number; op = op.Next n; reply = result } ∷ []) caller.new }
+    ensures free { (entries rows : ℕ) → KnowsOf (IsFree (entries + 1) (rows + n)) caller.old → KnowsOf (IsFree entries rows) caller.new }
+{
+    match read_on(rt, lock, caller, n) {
+        Scan::Rows(rows) => Reply::Rows(rows),
+        Scan::NoHold => Reply::NoHold,
+        Scan::Fault => Reply::Fault,
+        Scan::Damaged(page) => Reply::Damaged(page),
+        Scan::Stopped(why) => Reply::Stopped(why),
+    }
+}
+
+fn release<R: Wait, D: Disk + Drop>(
+    rt: &R,
+    lock: &TurnLock<Core<D>>,
+    caller: &mut Caller<Core<D>>,
+) -> ShortReply
+    requires lock { IsOf lock.now caller.old }
+    requires number { caller.old.number < callers }
+    requires free { KnowsOf (IsFree 1 0) caller.old }
+    ensures did { DidOn D.state caller.old (record { seat = caller.old.number; op = op.Release; reply = as_reply result } ∷ []) caller.new }
+    ensures free { (entries rows : ℕ) → KnowsOf (IsFree (entries + 1) rows) caller.old → KnowsOf (IsFree entries rows) caller.new }
+{
+    match let_go(rt, lock, caller) {
+        Release::Done => ShortReply::Done,
+        Release::NoHold => ShortReply::NoHold,
+        Release::Stopped(why) => ShortReply::Stopped(why),
+    }
+}
+
+// Makes n turns of a caller's work, or fewer where one of them doesn't work.
+fn turns<R: Wait, D: Disk + Drop>(
+    rt: &R,
+    lock: &TurnLock<Core<D>>,
+    caller: &mut Caller<Core<D>>,
+    n: u32,
+)
+    requires lock { IsOf lock.now caller.old }
+    requires number { caller.old.number < callers }
+    requires some { 0 < n }
+    requires few { n ≤ most_turns }
+    requires free { KnowsOf (IsFree 1 0) caller.old }
+    ensures went { WentOn D.state caller.old [] caller.new }
+    ensures finished { (entries rows : ℕ) → KnowsOf (IsFree entries rows) caller.old → KnowsOf (IsFinished n entries rows) caller.new }
+{
+    for done in 0..n {
+        match turn(rt, lock, caller, done) {
+            Turned::Worked => {}
+            _ => return,
+        }
+    }
+}
+
+fn work<R: Wait, D: Disk + Drop>(
+    rt: &R,
+    lock: &TurnLock<Core<D>>,
+    caller: &mut Caller<Core<D>>,
+    n: u32,
+) -> ShortReply
+    requires lock { IsOf lock.now caller.old }
+    requires number { caller.old.number < callers }
+    requires some { 0 < n }
+    requires few { n ≤ most_turns }
+    requires free { KnowsOf (IsFree 1 0) caller.old }
+    ensures did { DidOn D.state caller.old (record { seat = caller.old.number; op = op.Work n; reply = as_reply result } ∷ []) caller.new }
+    ensures free { (entries rows : ℕ) → KnowsOf (IsFree (entries + 1) rows) caller.old → KnowsOf (IsFree entries rows) caller.new }
+{
+    turns(rt, lock, caller, n);
+    end_work(rt, lock, caller, n)
+}
+
+fn perform<R: Wait, D: Disk + Drop, G: Gate>(
+    rt: &R,
+    alloc: Global,
+    lock: &TurnLock<Core<D>>,
+    caller: &mut Caller<Core<D>>,
+    op: &Op,
+    gate: &G,
+) -> Reply
+    requires lock { IsOf lock.now caller.old }
+    requires number { caller.old.number < callers }
+    requires command { IsCommand op.now }
+    requires free { KnowsOf (IsFree 1 (rows_of op.now)) caller.old }
+    ensures did { DidOn D.state caller.old (record { seat = caller.old.number; op = op.now; reply = result } ∷ []) caller.new }
+    ensures free { (entries rows : ℕ) → KnowsOf (IsFree (entries + 1) (rows + rows_of op.now)) caller.old → KnowsOf (IsFree entries rows) caller.new }
+{
+    match op {
+        Op::Put(..) | Op::Add(..) | Op::Del(_) => write(rt, lock, caller, op, gate).to_reply(),
+        Op::Get(key) => look_up(rt, lock, caller, key).to_reply(),
+        Op::Hold(low, high) => hold_range(rt, alloc, lock, caller, low, high).to_reply(),
+        Op::Next(n) => next(rt, lock, caller, *n),
+        Op::Release => release(rt, lock, caller).to_reply(),
+        Op::Work(n) => work(rt, lock, caller, *n).to_reply(),
+    }
+}
+
+/// Does a command of the caller to its end, one step in each hold of the lock, and answers its reply. A write is admitted and then paid for
+/// until nothing is owed; a work ends at its first turn that finds nothing to do.
+pub fn do_one<R: Wait, D: Disk + Drop, G: Gate>(
+    rt: &R,
+    alloc: Global,
+    lock: &TurnLock<Core<D>>,
+    caller: &mut Caller<Core<D>>,
+    op: &Op,
+    gate: &G,
+) -> Reply
+    requires lock { IsOf lock.now caller.old }
+    requires number { caller.old.number < callers }
+    requires command { IsCommand op.now }
+    requires free { KnowsOf (IsFree 1 (rows_of op.now)) caller.old }
+    ensures did { DidOn D.state caller.old (record { seat = caller.old.number; op = op.now; reply = result } ∷ []) caller.new }
+    ensures free { (entries rows : ℕ) → KnowsOf (IsFree (entries + 1) (rows + rows_of op.now)) caller.old → KnowsOf (IsFree entries rows) caller.new }
+{
+    let reply = perform(rt, alloc, lock, caller, op, gate);
+    gate.at(caller.number(), Point::Answered);
+    reply
+}

@@ -1,0 +1,228 @@
+//! One hold of the lock each: the value is taken, one call of the core is made, and the value is given back.
+ghost use Rattle.std.specs.Prelude.{◌≡◌, ◌≢◌, ◌+◌, ◌%◌, ◌^◌, ◌<◌, ◌≤◌, ℕ, [], ◌∷◌, IsTrue, true};
+ghost use Rattle.blsm_model.specs.Format.{callers, most_rows};
+ghost use Rattle.blsm_model.specs.Stored.{as_reply};
+ghost use Rattle.blsm_model.specs.declared.op.Op.TheVariants as op;
+ghost use Rattle.seat_book.specs.declared.turned.Turned.TheVariants.{Worked, Idle};
+ghost use Rattle.tree_machine.specs.Machine.{seats};
+ghost use Rattle.tree_machine.specs.Plays.{most_turns};
+ghost use Rattle.blsm_model.specs.Legal.{is_write};
+ghost use Rattle.turn_lock.specs.Tallies.{IsOf};
+ghost use Rattle.tree_core.specs.Answers.{reply_to_drop, reply_to_get, reply_to_hold, reply_to_next, reply_to_write};
+ghost use Rattle.tree_core.specs.declared.answers.Admission.TheVariants as admission;
+ghost use Rattle.tree_core.specs.declared.answers.Payment.TheVariants as payment;
+ghost use Rattle.tree_shared.specs.Seats.{DidOn, KnowsOf, HasHelped, IsFinished, IsFree, IsGone, IsOwing, IsWorking};
+
+use crate::calls;
+use blsm_model::{Key, Op, ShortReply};
+use disk_trait::Disk;
+use seat_book::Turned;
+use std::alloc::Global;
+use std::sync::Wait;
+use tree_core::{Admission, Core, Holding, Lookup, Payment, Release, Scan};
+use turn_lock::{Caller, TurnLock};
+
+// A write is admitted or refused.
+pub(crate) fn admit<R: Wait, D: Disk + Drop>(
+    rt: &R,
+    lock: &TurnLock<Core<D>>,
+    caller: &mut Caller<Core<D>>,
+    op: &Op,
+) -> Admission
+    requires lock { IsOf lock.now caller.old }
+    requires number { caller.old.number < callers }
+    requires write { IsTrue (is_write op.now) }
+    requires free { KnowsOf (IsFree 1 0) caller.old }
+    ensures did { DidOn D.state caller.old (record { seat = caller.old.number; op = op.now; reply = reply_to_write result } ∷ []) caller.new }
+    ensures owing { (entries rows : ℕ) → KnowsOf (IsFree (entries + 1) rows) caller.old → KnowsOf (IsOwing entries rows) caller.new }
+    ensures free { result ≢ admission.Admitted → (entries rows : ℕ) → KnowsOf (IsFree (entries + 1) rows) caller.old → KnowsOf (IsFree entries rows) caller.new }
+{
+    let seat = caller.number();
+    let mut core = lock.take(rt, caller);
+    let answer = calls::admit(&mut core, seat, op);
+    lock.give(caller, core);
+    answer
+}
+
+// A payment for what is owed.
+pub(crate) fn pay<R: Wait, D: Disk + Drop>(
+    rt: &R,
+    lock: &TurnLock<Core<D>>,
+    caller: &mut Caller<Core<D>>,
+) -> Payment
+    requires lock { IsOf lock.now caller.old }
+    requires number { caller.old.number < callers }
+    requires owing { KnowsOf (IsOwing 0 0) caller.old }
+    ensures did { DidOn D.state caller.old [] caller.new }
+    ensures owing { (entries rows : ℕ) → KnowsOf (IsOwing entries rows) caller.old → KnowsOf (IsOwing entries rows) caller.new }
+    ensures free { result ≢ payment.Paid → (entries rows : ℕ) → KnowsOf (IsOwing entries rows) caller.old → KnowsOf (IsFree entries rows) caller.new }
+{
+    let seat = caller.number();
+    let mut core = lock.take(rt, caller);
+    let answer = calls::pay(&mut core, seat);
+    lock.give(caller, core);
+    answer
+}
+
+// A lookup.
+pub(crate) fn get<R: Wait, D: Disk + Drop>(
+    rt: &R,
+    lock: &TurnLock<Core<D>>,
+    caller: &mut Caller<Core<D>>,
+    key: &Key,
+) -> Lookup
+    requires lock { IsOf lock.now caller.old }
+    requires number { caller.old.number < callers }
+    requires free { KnowsOf (IsFree 1 0) caller.old }
+    ensures did { DidOn D.state caller.old (record { seat = caller.old.number; op = op.Get key.now; reply = reply_to_get result } ∷ []) caller.new }
+    ensures free { (entries rows : ℕ) → KnowsOf (IsFree (entries + 1) rows) caller.old → KnowsOf (IsFree entries rows) caller.new }
+{
+    let seat = caller.number();
+    let mut core = lock.take(rt, caller);
+    let answer = calls::get(&mut core, seat, key);
+    lock.give(caller, core);
+    answer
+}
+
+// A range is held.
+pub(crate) fn hold<R: Wait, D: Disk + Drop>(
+    rt: &R,
+    alloc: Global,
+    lock: &TurnLock<Core<D>>,
+    caller: &mut Caller<Core<D>>,
+    low: &Key,
+    high: &Key,
+) -> Holding
+    requires lock { IsOf lock.now caller.old }
+    requires number { caller.old.number < callers }
+    requires free { KnowsOf (IsFree 1 0) caller.old }
+    ensures did { DidOn D.state caller.old (record { seat = caller.old.number; op = op.Hold low.now high.now; reply = reply_to_hold result } ∷ []) caller.new }
+    ensures free { (entries rows : ℕ) → KnowsOf (IsFree (entries + 1) rows) caller.old → KnowsOf (IsFree entries rows) caller.new }
+{
+    let seat = caller.number();
+    let mut core = lock.take(rt, caller);
+    let answer = calls::hold(&mut core, alloc, seat, low, high);
+    lock.give(caller, core);
+    answer
+}
+
+// The next rows of a hold.
+pub(crate) fn read_on<R: Wait, D: Disk + Drop>(
+    rt: &R,
+    lock: &TurnLock<Core<D>>,
+    caller: &mut Caller<Core<D>>,
+    n: u32,
+) -> Scan
+    requires lock { IsOf lock.now caller.old }
+    requires number { caller.old.number < callers }
+    requires some { 0 < n }
+    requires few { n ≤ most_rows }
+    requires free { KnowsOf (IsFree 1 n) caller.old }
+    ensures did { DidOn D.state caller.old (record { seat = caller.old.number; op = op.Next n; reply = reply_to_next result } ∷ []) caller.new }
+    ensures free { (entries rows : ℕ) → KnowsOf (IsFree (entries + 1) (rows + n)) caller.old → KnowsOf (IsFree entries rows) caller.new }
+{
+    let seat = caller.number();
+    let mut core = lock.take(rt, caller);
+    let answer = calls::next_rows(&mut core, seat, n);
+    lock.give(caller, core);
+    answer
+}
+
+// A hold is dropped.
+pub(crate) fn let_go<R: Wait, D: Disk + Drop>(
+    rt: &R,
+    lock: &TurnLock<Core<D>>,
+    caller: &mut Caller<Core<D>>,
+) -> Release
+    requires lock { IsOf lock.now caller.old }
+    requires number { caller.old.number < callers }
+    requires free { KnowsOf (IsFree 1 0) caller.old }
+    ensures did { DidOn D.state caller.old (record { seat = caller.old.number; op = op.Release; reply = reply_to_drop result } ∷ []) caller.new }
+    ensures free { (entries rows : ℕ) → KnowsOf (IsFree (entries + 1) rows) caller.old → KnowsOf (IsFree entries rows) caller.new }
+{
+    let seat = caller.number();
+    let mut core = lock.take(rt, caller);
+    let answer = calls::drop_hold(&mut core, seat);
+    lock.give(caller, core);
+    answer
+}
+
+// A turn of a caller's work, which had so many.
+pub(crate) fn turn<R: Wait, D: Disk + Drop>(
+    rt: &R,
+    lock: &TurnLock<Core<D>>,
+    caller: &mut Caller<Core<D>>,
+    done: u32,
+) -> Turned
+    requires lock { IsOf lock.now caller.old }
+    requires number { caller.old.number < callers }
+    requires done { done < most_turns }
+    requires working { KnowsOf (IsWorking done 0 0) caller.old }
+    ensures did { DidOn D.state caller.old [] caller.new }
+    ensures working { (entries rows : ℕ) → KnowsOf (IsWorking done entries rows) caller.old → KnowsOf (IsWorking (done + 1) entries rows) caller.new }
+    ensures early { result ≢ Worked → (n entries rows : ℕ) → done < n → KnowsOf (IsWorking done entries rows) caller.old → KnowsOf (IsFinished n entries rows) caller.new }
+{
+    let seat = caller.number();
+    let mut core = lock.take(rt, caller);
+    let answer = calls::work_turn(&mut core, seat);
+    lock.give(caller, core);
+    answer
+}
+
+// A caller's work ends.
+pub(crate) fn end_work<R: Wait, D: Disk + Drop>(
+    rt: &R,
+    lock: &TurnLock<Core<D>>,
+    caller: &mut Caller<Core<D>>,
+    n: u32,
+) -> ShortReply
+    requires lock { IsOf lock.now caller.old }
+    requires number { caller.old.number < callers }
+    requires finished { KnowsOf (IsFinished n 1 0) caller.old }
+    ensures did { DidOn D.state caller.old (record { seat = caller.old.number; op = op.Work n; reply = as_reply result } ∷ []) caller.new }
+    ensures free { (entries rows : ℕ) → KnowsOf (IsFinished n (entries + 1) rows) caller.old → KnowsOf (IsFree entries rows) caller.new }
+{
+    let seat = caller.number();
+    let mut core = lock.take(rt, caller);
+    let answer = calls::work_end(&mut core, seat, n);
+    lock.give(caller, core);
+    answer
+}
+
+// A turn of a worker.
+pub(crate) fn help<R: Wait, D: Disk + Drop>(
+    rt: &R,
+    lock: &TurnLock<Core<D>>,
+    caller: &mut Caller<Core<D>>,
+) -> Turned
+    requires lock { IsOf lock.now caller.old }
+    requires number { (callers ≤ caller.old.number) × (caller.old.number < seats) }
+    requires knows { (turns : ℕ) × KnowsOf (HasHelped turns) caller.old }
+    ensures did { DidOn D.state caller.old [] caller.new }
+    ensures helped { (turns : ℕ) → KnowsOf (HasHelped turns) caller.old → KnowsOf (HasHelped ((turns + 1) % 2 ^ 64)) caller.new }
+    ensures over { result ≢ Worked → result ≢ Idle → caller.new.me.0.over ≡ true }
+{
+    let seat = caller.number();
+    let mut core = lock.take(rt, caller);
+    let answer = calls::worker_turn(&mut core, seat);
+    lock.give(caller, core);
+    answer
+}
+
+// A caller leaves.
+pub(crate) fn leave<R: Wait, D: Disk + Drop>(
+    rt: &R,
+    lock: &TurnLock<Core<D>>,
+    caller: &mut Caller<Core<D>>,
+)
+    requires lock { IsOf lock.now caller.old }
+    requires number { caller.old.number < callers }
+    requires free { KnowsOf (IsFree 0 0) caller.old }
+    ensures did { DidOn D.state caller.old [] caller.new }
+    ensures gone { KnowsOf IsGone caller.new }
+{
+    let seat = caller.number();
+    let mut core = lock.take(rt, caller);
+    calls::leave(&mut core, seat);
+    lock.give(caller, core);
+}

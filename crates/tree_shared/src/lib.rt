@@ -1,0 +1,14 @@
+//! Callers and merge workers of a store, each in a thread of its own, over one core behind a lock.
+//!
+//! One hold of the lock is one call of the core. Between two holds a gate is called, at which a test may make threads wait for one another.
+#![tactic(auto)]
+
+mod calls;
+mod commands;
+mod holds;
+mod jobs;
+mod laws;
+
+pub use commands::do_one;
+pub use jobs::{run_all, worker};
+pub use laws::an_opened_core_is_fresh;
