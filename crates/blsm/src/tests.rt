@@ -7,6 +7,8 @@ mod holds;
 mod order;
 mod rows;
 mod statuses;
+mod threads;
+mod turns;
 
 use crate::call;
 use disk_mem::{MemDisk, MemShelf};
@@ -22,7 +24,8 @@ const NAME: &str = "store";
 
 const MAKE: [&str; 3] = ["blsm", "make", NAME];
 
-const RUN: [&str; 3] = ["blsm", "run", NAME];
+// A run without workers, so that the text of one caller's script is known.
+const RUN: [&str; 5] = ["blsm", "run", NAME, "--workers", "0"];
 
 const CHECK: [&str; 3] = ["blsm", "check", NAME];
 
@@ -96,6 +99,17 @@ fn copy_of(rt: &impl Abort, alloc: Global, shelf: &mut MemShelf) -> MemDisk {
     }
 }
 
+// A copy of bytes that are a text.
+fn text_in(rt: &impl Abort, alloc: Global, bytes: &[u8]) -> String {
+    let Ok(text) = str::from_utf8(bytes) else {
+        rt.abort()
+    };
+    match String::from_str(alloc, text) {
+        Ok(text) => text,
+        Err(_) => rt.abort(),
+    }
+}
+
 // Makes the call over streams that can't fail, and answers its exit code and its text.
 fn outcome<R: Abort + Threads + Wait + Sync>(
     rt: &R,
@@ -112,13 +126,7 @@ fn outcome<R: Abort + Threads + Wait + Sync>(
         rt.abort()
     };
     let code = call(rt, alloc, &words, &mut source, &mut sink, shelf);
-    let Ok(text) = str::from_utf8(sink.bytes()) else {
-        rt.abort()
-    };
-    match String::from_str(alloc, text) {
-        Ok(text) => (code, text),
-        Err(_) => rt.abort(),
-    }
+    (code, text_in(rt, alloc, sink.bytes()))
 }
 
 // Makes the call, and compares its exit code and its text.
@@ -186,4 +194,9 @@ fn letters(rt: &impl Abort, alloc: Global, letter: u8, count: usize) -> String {
         Ok(text) => text,
         Err(_) => rt.abort(),
     }
+}
+
+// The longest text.
+fn heavy_text(rt: &impl Abort, alloc: Global) -> String {
+    letters(rt, alloc, b't', 435)
 }

@@ -66,7 +66,7 @@ module _ {D : Type 0} (state : D → DiskState) (honest_tells : (d : D) → IsTr
 
   refused_run : (o : Outside D) (w : Written) (why : Unreadable) → IsOfFile why → IsGranted state o w → (a : AsksToRun o) × WasCalm state a.name o.shelf o.shelf_after (WasRefused why) → ⊥
   refused_run o w why of_file granted (a, calm) =
-      let s = said o a.name IsOpenable (WasRefused why) (can o w (run a.name) granted a.asked).0 calm.disk in
+      let s = said o a.name IsOpenable (WasRefused why) (can o w (run a.name a.workers a.turns) granted a.asked).0 calm.disk in
       no_reason why (state s.0).bytes s.4 of_file (s.5.because s.2)
 
   refused_check : (o : Outside D) (w : Written) (why : Unreadable) → IsOfFile why → IsGranted state o w → (a : AsksToCheck o) × WasCalm state a.name o.shelf o.shelf_after (WasUnreadable why) → ⊥
@@ -95,9 +95,9 @@ module _ {D : Type 0} (state : D → DiskState) (honest_tells : (d : D) → IsTr
   completes_ran o w history ending.Well status granted cause is = inl is
   completes_ran o w history ending.Faulted status granted cause is = absurd (omega (arith, granted.shelf_quiet.0, granted.shelf_quiet.1, cause.1.ended, cause.1.rose))
   completes_ran o w history ending.Damaged status granted (a, runs) is =
-      let s = said o a.name IsOpenable (HasRunOn state a.lines history ending.Damaged) (can o w (run a.name) granted a.asked).0 runs.disk in
+      let s = said o a.name IsOpenable (HasRunOn state a.lines a.workers a.turns history ending.Damaged) (can o w (run a.name a.workers a.turns) granted a.asked).0 runs.disk in
       let whole = s.5.headline s.2 in
-      let never : true ≡ false = sym s.5.ended.1 ∙ whole.3.no_page in
+      let never : true ≡ false = sym s.5.ended.1 ∙ whole.3.served.no_page in
       cc
 
   pub completes : (o : Outside D) (w : Written) (outcome : Outcome) (status : Status) → Cause state o outcome → Tells w outcome status → IsGranted state o w → (status ≡ Done) ⊎ (status ≡ NoMemory)
@@ -105,12 +105,12 @@ module _ {D : Type 0} (state : D → DiskState) (honest_tells : (d : D) → IsTr
   completes o w source_fault status cause tells granted = absurd (quiet_is_no_rise o.source_faults o.source_faults_after granted.source_quiet cause.1.0)
   completes o w too_big status cause tells granted =
       let asks = cause.0 in
-      let script = (can o w (run asks.name) granted asks.asked).1 in
+      let script = (can o w (run asks.name asks.workers asks.turns) granted asks.asked).1 in
       let long = told o.left script.input (λ input. most_script < length input) script.told cause.1 in
       absurd (omega (arith, long, script.short))
   completes o w (bad_line n) status cause tells granted =
       let asks = cause.0 in
-      let script = (can o w (run asks.name) granted asks.asked).1 in
+      let script = (can o w (run asks.name asks.workers asks.turns) granted asks.asked).1 in
       absurd (script_not_bad script.input script.lines n script.script (told o.left script.input (λ input. IsBadLine input n) script.told cause.2))
   completes o w disk_fault status cause tells granted = absurd (failed o w granted cause)
   completes o w not_a_store status cause tells granted = absurd (refused o w unreadable.NotAStore tt granted cause)

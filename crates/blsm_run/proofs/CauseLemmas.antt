@@ -40,7 +40,7 @@ module _ {D : Type 0} (state : D → DiskState) (o : Outside D) where
   not_made a refusal.DiskFault says = inl (a, says)
   not_made a _ says = absurd says
 
-  pub not_run : (a : AsksToRun o) (why : Refusal) → RunsOnShelf state a.name a.lines o.shelf o.shelf_after (Err why) → Cause state o (outcome_of (Err why))
+  pub not_run : (a : AsksToRun o) (why : Refusal) → RunsOnShelf state a.name a.lines a.workers a.turns o.shelf o.shelf_after (Err why) → Cause state o (outcome_of (Err why))
   not_run a refusal.DiskFault says = inr (inl (a, says))
   not_run a refusal.NotAStore says = inl (a, says)
   not_run a (refusal.Damaged place) says = inl (a, says)

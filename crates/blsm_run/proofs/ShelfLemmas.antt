@@ -111,16 +111,16 @@ module _ {D : Type 0} (state : D → DiskState) (name : List ℕ) (old mid new :
 
   -- ---- running
 
-  pub ran : (lines : List Line) (finished : Finished) (room : Room) → (sizes : Sizes) × IsRunOf sizes lines (run_of finished) → AreCounted (run_of finished) (state disk) (state last)
+  pub ran : (lines : List Line) (workers turns : ℕ) (finished : Finished) (room : Room) → (sizes : Sizes) × IsRunOf sizes lines (run_of finished) → AreCounted (run_of finished) (state disk) (state last)
       → IsEnding finished.ending (run_of finished) (state last).faults → StaysWithin (state disk) (state last)
-      → (IsTrue (state disk).is_honest → (sizes : Sizes) × IsRunOf sizes lines (run_of finished) × Headline state sizes (run_of finished) room (state disk) (state last))
-      → RunsOnShelf state name lines old new (Ok finished)
-  ran lines finished room printed counted ended inside headline = record {
+      → (IsTrue (state disk).is_honest → (sizes : Sizes) × IsRunOf sizes lines (run_of finished) × Headline state sizes workers turns (run_of finished) room (state disk) (state last))
+      → RunsOnShelf state name lines workers turns old new (Ok finished)
+  ran lines workers turns finished room printed counted ended inside headline = record {
     sizes = printed.0;
     printed = printed.1;
     stood = stood;
     disk =
-        of_the_disk (HasRunOn state lines (run_of finished) finished.ending) (record {
+        of_the_disk (HasRunOn state lines workers turns (run_of finished) finished.ending) (record {
           counted = counted;
           ended = ended;
           within = inside;
@@ -132,14 +132,14 @@ module _ {D : Type 0} (state : D → DiskState) (name : List ℕ) (old mid new :
     faults = rises_by (faults_told finished.annals.entries) counted.risen;
   }
 
-  pub not_run : (lines : List Line) (why : Unreadable) (result : Result Finished Unreadable) → result ≡ Err why → (IsTrue (state disk).is_honest → IsWhy why (state disk).bytes)
+  pub not_run : (lines : List Line) (workers turns : ℕ) (why : Unreadable) (result : Result Finished Unreadable) → result ≡ Err why → (IsTrue (state disk).is_honest → IsWhy why (state disk).bytes)
       → LeavesClosed (state disk) (state last) → (state last).faults ≤ (state disk).faults + 1
-      → TellsFaultsBy (Err unreadable.Fault) result (state disk) (state last) → RunsOnShelf state name lines old new (Err (refusal_of_store why))
-  not_run lines unreadable.NotAStore result is because leaves once tells = was_calm (WasRefused unreadable.NotAStore) (tells.stands (λ wrong. cc)) (record { because = because; leaves = leaves })
-  not_run lines (unreadable.Damaged place) result is because leaves once tells = was_calm (WasRefused (unreadable.Damaged place)) (tells.stands (λ wrong. cc)) (record { because = because; leaves = leaves })
-  not_run lines (unreadable.Worn version) result is because leaves once tells = was_calm (WasRefused (unreadable.Worn version)) (tells.stands (λ wrong. cc)) (record { because = because; leaves = leaves })
-  not_run lines unreadable.Fault result is because leaves once tells = has_failed LeavesClosed (tells.failed is) once leaves
-  not_run lines unreadable.NoMemory result is because leaves once tells = was_calm (WasRefused unreadable.NoMemory) (tells.stands (λ wrong. cc)) (record { because = because; leaves = leaves })
+      → TellsFaultsBy (Err unreadable.Fault) result (state disk) (state last) → RunsOnShelf state name lines workers turns old new (Err (refusal_of_store why))
+  not_run lines workers turns unreadable.NotAStore result is because leaves once tells = was_calm (WasRefused unreadable.NotAStore) (tells.stands (λ wrong. cc)) (record { because = because; leaves = leaves })
+  not_run lines workers turns (unreadable.Damaged place) result is because leaves once tells = was_calm (WasRefused (unreadable.Damaged place)) (tells.stands (λ wrong. cc)) (record { because = because; leaves = leaves })
+  not_run lines workers turns (unreadable.Worn version) result is because leaves once tells = was_calm (WasRefused (unreadable.Worn version)) (tells.stands (λ wrong. cc)) (record { because = because; leaves = leaves })
+  not_run lines workers turns unreadable.Fault result is because leaves once tells = has_failed LeavesClosed (tells.failed is) once leaves
+  not_run lines workers turns unreadable.NoMemory result is because leaves once tells = was_calm (WasRefused unreadable.NoMemory) (tells.stands (λ wrong. cc)) (record { because = because; leaves = leaves })
 
   -- ---- checking
 

@@ -32,14 +32,14 @@ module _ {D : Type 0} (state : D → DiskState) (o : Outside D) (seed count : �
   not_made : (name : List ℕ) (sizes : Sizes) → WasAsked o (make name sizes) → ⊥
   not_made name sizes other = let same : Some (make name sizes) ≡ Some (trial seed count) = sym other.1 ∙ asked.1 in cc
 
-  not_run : (name : List ℕ) → WasAsked o (run name) → ⊥
-  not_run name other = let same : Some (run name) ≡ Some (trial seed count) = sym other.1 ∙ asked.1 in cc
+  not_run : (name : List ℕ) (workers turns : ℕ) → WasAsked o (run name workers turns) → ⊥
+  not_run name workers turns other = let same : Some (run name workers turns) ≡ Some (trial seed count) = sym other.1 ∙ asked.1 in cc
 
   not_checked : (name : List ℕ) → WasAsked o (check name) → ⊥
   not_checked name other = let same : Some (check name) ≡ Some (trial seed count) = sym other.1 ∙ asked.1 in cc
 
   not_stopped : (why : Refusal) → WasStopped state o why → ⊥
-  not_stopped why (inl was) = not_run was.0.name was.0.asked
+  not_stopped why (inl was) = not_run was.0.name was.0.workers was.0.turns was.0.asked
   not_stopped why (inr was) = not_checked was.0.name was.0.asked
 
   not_failed : Cause state o disk_fault → ⊥
@@ -48,9 +48,9 @@ module _ {D : Type 0} (state : D → DiskState) (o : Outside D) (seed count : �
 
   pub ends_trial : (w : Written) (outcome : Outcome) (status : Status) → Cause state o outcome → Tells w outcome status → EndsTrial status
   ends_trial w usage status cause tells = absurd (cause.0 asked.0)
-  ends_trial w source_fault status cause tells = absurd (not_run cause.0.name cause.0.asked)
-  ends_trial w too_big status cause tells = absurd (not_run cause.0.name cause.0.asked)
-  ends_trial w (bad_line n) status cause tells = absurd (not_run cause.0.name cause.0.asked)
+  ends_trial w source_fault status cause tells = absurd (not_run cause.0.name cause.0.workers cause.0.turns cause.0.asked)
+  ends_trial w too_big status cause tells = absurd (not_run cause.0.name cause.0.workers cause.0.turns cause.0.asked)
+  ends_trial w (bad_line n) status cause tells = absurd (not_run cause.0.name cause.0.workers cause.0.turns cause.0.asked)
   ends_trial w disk_fault status cause tells = absurd (not_failed cause)
   ends_trial w not_a_store status cause tells = absurd (not_stopped refusal.NotAStore cause)
   ends_trial w (not_empty n) status cause tells = absurd (not_made cause.0.name cause.0.sizes cause.0.asked)
@@ -58,6 +58,6 @@ module _ {D : Type 0} (state : D → DiskState) (o : Outside D) (seed count : �
   ends_trial w (worn version) status cause tells = absurd (not_stopped (refusal.Worn version) cause)
   ends_trial w no_memory status cause tells = without_memory status (ends_as w no_memory status tells)
   ends_trial w (made length) status cause tells = absurd (not_made cause.0.name cause.0.sizes cause.0.asked)
-  ends_trial w (ran history end) status cause tells = absurd (not_run cause.0.name cause.0.asked)
+  ends_trial w (ran history end) status cause tells = absurd (not_run cause.0.name cause.0.workers cause.0.turns cause.0.asked)
   ends_trial w (checked report) status cause tells = absurd (not_checked cause.0.name cause.0.asked)
   ends_trial w (tried s n history) status cause tells = well status (ends_as w (tried s n history) status tells)

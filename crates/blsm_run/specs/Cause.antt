@@ -44,10 +44,13 @@ pub record AsksToCheck {D : Type 0} (o : Outside D) : Type 0 where
   pub unread : WasNotRead o
   pub fetched : HasFetched name false o.shelf o.shelf_after
 
--- The source is this script, which was to be run over the store on the disk of this name, and the disk was fetched for it.
+-- The source is this script, which was to be run over the store on the disk of this name, beside so many merge workers with so many turns each, and the
+-- disk was fetched for it.
 pub record AsksToRun {D : Type 0} (o : Outside D) : Type 0 where
   pub name : List ℕ
-  pub asked : WasAsked o (run name)
+  pub workers : ℕ
+  pub turns : ℕ
+  pub asked : WasAsked o (run name workers turns)
   pub read : HasRead o
   pub lines : List Line
   pub script : IfSome o.left (λ input. IsScript input lines)
@@ -55,7 +58,7 @@ pub record AsksToRun {D : Type 0} (o : Outside D) : Type 0 where
 
 -- what was asked for was refused for this: a run,
 abbrev pub HasRun : {D : Type 0} → (D → DiskState) → Outside D → Refusal → Type 0
-HasRun state o why = (a : AsksToRun o) × RunsOnShelf state a.name a.lines o.shelf o.shelf_after (Err why)
+HasRun state o why = (a : AsksToRun o) × RunsOnShelf state a.name a.lines a.workers a.turns o.shelf o.shelf_after (Err why)
 
 -- a check,
 abbrev pub HasChecked : {D : Type 0} → (D → DiskState) → Outside D → Refusal → Type 0
@@ -72,7 +75,9 @@ WasStopped state o why = HasRun state o why ⊎ HasChecked state o why
 -- the words ask for a run, whose script wasn't read
 pub record AsksInVain {D : Type 0} (o : Outside D) : Type 0 where
   pub name : List ℕ
-  pub asked : WasAsked o (run name)
+  pub workers : ℕ
+  pub turns : ℕ
+  pub asked : WasAsked o (run name workers turns)
   pub unfetched : HasNotFetched o.shelf o.shelf_after
 
 abbrev pub Cause : {D : Type 0} → (D → DiskState) → Outside D → Outcome → Type 0
@@ -89,6 +94,6 @@ Cause state o no_memory = (WasNotRead o × HasNotFetched o.shelf o.shelf_after)
     ⊎ (AsksInVain o × LosesFront o.left o.left_after × LosesAtMost most_read o.left o.left_after × (o.source_faults_after ≡ o.source_faults))
     ⊎ WasStopped state o refusal.NoMemory
 Cause state o (made length) = (a : AsksToMake o) × MakesOnShelf state a.name a.sizes o.shelf o.shelf_after (Ok length)
-Cause state o (ran history end) = (a : AsksToRun o) × IsRunOnShelf state a.name a.lines history end o.shelf o.shelf_after
+Cause state o (ran history end) = (a : AsksToRun o) × IsRunOnShelf state a.name a.lines a.workers a.turns history end o.shelf o.shelf_after
 Cause state o (checked report) = (a : AsksToCheck o) × ChecksOnShelf state a.name o.shelf o.shelf_after (Ok report)
 Cause state o (tried seed count history) = WasAsked o (trial seed count) × WasNotRead o × HasNotFetched o.shelf o.shelf_after × IsTrialOf seed count history

@@ -82,7 +82,7 @@ WhyOf refusal P = ⊥
 abbrev pub StaysWithin : DiskState → DiskState → Type 0
 StaysWithin first last = (end : ℕ) × (calls : ℕ) × (IsTrue first.tells_bytes → end ≤ max superblock_length (length first.bytes)) × Reaches end calls first last
 
--- What an opening that gives up leaves: where the disk read as a map, each image of each moment is one from before or reads as that map, and since
+-- What an opening that gives up leaves, also where memory is refused for the callers' lock: where the disk read as a map, each image of each moment is one from before or reads as that map, and since
 -- the first sync as that map; where it read as none each is one from before.
 pub record LeavesClosed (first last : DiskState) : Type 0 where
   pub keeps : (sizes : Sizes) (pairs : List (Key × Value)) → IsTrue first.is_honest → ReadsAsMap sizes pairs first.bytes → KeepsMapOf sizes pairs first last
@@ -94,21 +94,21 @@ pub record WasRefused (why : Unreadable) (first last : DiskState) : Type 0 where
   pub because : IsTrue first.is_honest → IsWhy why first.bytes
   pub leaves : LeavesClosed first last
 
--- A script was run over the disk. On an honest one the headline holds.
-pub record HasRunOn {D : Type 0} (state : D → DiskState) (lines : List Line) (run : Run) (ending : Ending) (first last : DiskState) : Type 0 where
+-- A script was run over the disk, beside so many merge workers with so many turns each. On an honest one the headline holds.
+pub record HasRunOn {D : Type 0} (state : D → DiskState) (lines : List Line) (workers turns : ℕ) (run : Run) (ending : Ending) (first last : DiskState) : Type 0 where
   pub counted : AreCounted run first last
   pub ended : IsEnding ending run last.faults
   pub within : StaysWithin first last
-  pub headline : IsTrue first.is_honest → (sizes : Sizes) × (room : Room) × IsRunOf sizes lines run × Headline state sizes run room first last
+  pub headline : IsTrue first.is_honest → (sizes : Sizes) × (room : Room) × IsRunOf sizes lines run × Headline state sizes workers turns run room first last
 
 -- A script was run over the disk of this name of a shelf.
-pub record IsRunOnShelf {D : Type 0} (state : D → DiskState) (name : List ℕ) (lines : List Line) (run : Run) (ending : Ending) (old new : ShelfState D) : Type 0 where
+pub record IsRunOnShelf {D : Type 0} (state : D → DiskState) (name : List ℕ) (lines : List Line) (workers turns : ℕ) (run : Run) (ending : Ending) (old new : ShelfState D) : Type 0 where
   -- on every disk
   pub sizes : Sizes
   pub printed : IsRunOf sizes lines run
   -- one stood there
   pub stood : IsTrue old.tells_disks → IsSome (old.disk_at name)
-  pub disk : OfTheDisk state name old new (HasRunOn state lines run ending)
+  pub disk : OfTheDisk state name old new (HasRunOn state lines workers turns run ending)
   -- it ended by the disk's own count of faults, by which the shelf's rose, and by what was found
   pub count : ℕ
   pub ended : IsEnding ending run count
@@ -116,10 +116,10 @@ pub record IsRunOnShelf {D : Type 0} (state : D → DiskState) (name : List ℕ)
   -- faults are told only as often as the shelf's count rose
   pub faults : HasRisenBy (faults_told run.entries) old.faults new.faults
 
-abbrev pub RunsOnShelf : {D : Type 0} → (D → DiskState) → List ℕ → List Line → ShelfState D → ShelfState D → Result Finished Refusal → Type 0
-RunsOnShelf state name lines old new (Ok finished) = IsRunOnShelf state name lines (run_of finished) finished.ending old new
-RunsOnShelf state name lines old new (Err refusal.DiskFault) = HasFailedOnce state name old new LeavesClosed
-RunsOnShelf state name lines old new (Err refusal) = WhyOf refusal (λ why. WasCalm state name old new (WasRefused why))
+abbrev pub RunsOnShelf : {D : Type 0} → (D → DiskState) → List ℕ → List Line → ℕ → ℕ → ShelfState D → ShelfState D → Result Finished Refusal → Type 0
+RunsOnShelf state name lines workers turns old new (Ok finished) = IsRunOnShelf state name lines workers turns (run_of finished) finished.ending old new
+RunsOnShelf state name lines workers turns old new (Err refusal.DiskFault) = HasFailedOnce state name old new LeavesClosed
+RunsOnShelf state name lines workers turns old new (Err refusal) = WhyOf refusal (λ why. WasCalm state name old new (WasRefused why))
 
 -- ---- checking
 

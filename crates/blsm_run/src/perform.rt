@@ -1,27 +1,35 @@
 //! The steps of a call up to its answer.
-ghost use Rattle.std.specs.Prelude.{◌≡◌, ℕ, List, Some, map, string_bytes};
-ghost use Rattle.program_words.specs.Words.{AreAccepted, IsInRange, asked_by, asked_of, run};
+ghost use Rattle.std.specs.Prelude.{◌≡◌, ◌≤◌, ℕ, List, Some, map, string_bytes};
+ghost use Rattle.program_words.specs.Words.{AreAccepted, IsInRange, asked_by, asked_of, most_workers, run};
 ghost use Rattle.blsm_run.specs.Cause.{Cause};
 ghost use Rattle.blsm_run.specs.Outcome.{HasMadeAnswer, outcome_of};
 
 use crate::outcome::{Answer, Refusal};
 use crate::source::read_source;
 use crate::stores::{check_on_shelf, make_on_shelf, run_on_shelf};
+use blsm_model::Gate;
 use disk_trait::Shelf;
 use program_words::{Request, asked_in_range, read_words};
 use script_text::made_histories;
 use std::alloc::Global;
+use std::sync::Wait;
+use std::thread::Threads;
 use store_trial::try_seed;
 use text_io::Source;
 
-// Reads the script and runs it over the store on the disk of a name, for which the words ask.
-fn run<S: Source, H: Shelf>(
+// Reads the script and runs it over the store on the disk of a name, beside the merge workers for which the words ask.
+fn run<R: Threads + Wait + Sync, S: Source, H: Shelf, G: Gate + Sync>(
+    rt: &R,
     alloc: Global,
     source: &mut S,
     shelf: &mut H,
     name: &str,
+    workers: u32,
+    turns: u32,
+    gate: &G,
 ) -> Result<Answer, Refusal>
-    ensures cause { (words : List (List ℕ)) → AreAccepted words → asked_by words ≡ Some (run name.now) → Cause H.D.state (record {
+    requires few { workers ≤ most_workers }
+    ensures cause { (words : List (List ℕ)) → AreAccepted words → asked_by words ≡ Some (run name.now workers turns) → Cause H.D.state (record {
       words = words;
       left = S.left source.old;
       left_after = S.left source.new;
@@ -33,16 +41,28 @@ fn run<S: Source, H: Shelf>(
     ensures made { HasMadeAnswer result }
 {
     let script = read_source(alloc, source)?;
-    let finished = run_on_shelf(alloc, shelf, name, script.lines(), script.room())?;
+    let finished = run_on_shelf(
+        rt,
+        alloc,
+        shelf,
+        name,
+        script.lines(),
+        script.room(),
+        workers,
+        turns,
+        gate,
+    )?;
     Ok(Answer::Ran(finished))
 }
 
 // Does what a request asks for, which the words gave.
-fn carry_out<S: Source, H: Shelf>(
+fn carry_out<R: Threads + Wait + Sync, S: Source, H: Shelf, G: Gate + Sync>(
+    rt: &R,
     alloc: Global,
     request: Request,
     source: &mut S,
     shelf: &mut H,
+    gate: &G,
 ) -> Result<Answer, Refusal>
     requires range { IsInRange (asked_of request) }
     ensures cause { (words : List (List ℕ)) → AreAccepted words → asked_by words ≡ Some (asked_of request.entry) → Cause H.D.state (record {
@@ -61,7 +81,11 @@ fn carry_out<S: Source, H: Shelf>(
         Request::Make { name, geometry } => Ok(Answer::Made(make_on_shelf(
             shelf, name, &geometry,
         )?)),
-        Request::Run { name } => run(alloc, source, shelf, name),
+        Request::Run {
+            name,
+            workers,
+            turns,
+        } => run(rt, alloc, source, shelf, name, workers, turns, gate),
         Request::Check { name } => Ok(Answer::Checked(check_on_shelf(alloc, shelf, name)?)),
         Request::Trial { seed, count } => Ok(Answer::Tried(
             seed,
@@ -72,11 +96,13 @@ fn carry_out<S: Source, H: Shelf>(
 }
 
 /// Does what the words ask for.
-pub(crate) fn perform<S: Source, H: Shelf>(
+pub(crate) fn perform<R: Threads + Wait + Sync, S: Source, H: Shelf, G: Gate + Sync>(
+    rt: &R,
     alloc: Global,
     words: &[String],
     source: &mut S,
     shelf: &mut H,
+    gate: &G,
 ) -> Result<Answer, Refusal>
     ensures cause { Cause H.D.state (record {
       words = map string_bytes words.now;
@@ -91,7 +117,7 @@ pub(crate) fn perform<S: Source, H: Shelf>(
 {
     asked_in_range();
     match read_words(alloc, words) {
-        Ok(request) => carry_out(alloc, request, source, shelf),
+        Ok(request) => carry_out(rt, alloc, request, source, shelf, gate),
         Err(why) => Err(Refusal::from(why)),
     }
 }

@@ -1,15 +1,18 @@
 //! What is done to the store on the disk of a name. The disk goes back to the shelf whatever happens.
-ghost use Rattle.std.specs.Prelude.{◌≤◌, false, sum, true};
-ghost use Rattle.blsm_model.specs.Format.{most_entries, most_rows_asked};
+ghost use Rattle.std.specs.Prelude.{◌+◌, ◌≤◌, false, sum, true};
+ghost use Rattle.blsm_model.specs.Format.{callers, most_entries, most_rows_asked};
+ghost use Rattle.tree_machine.specs.Machine.{seats};
 ghost use Rattle.tree_session.specs.Lines.{AreRunnable, HasRoomFor};
 ghost use Rattle.blsm_run.specs.Outside.{HasFetched};
 ghost use Rattle.blsm_run.specs.Stores.{ChecksOnShelf, MakesOnShelf, RunsOnShelf};
 
 use crate::outcome::Refusal;
-use blsm_model::{Geometry, Line, Room};
+use blsm_model::{Gate, Geometry, Line, Room};
 use disk_trait::Shelf;
 use recover_open::{Report, check_store, make_store};
 use std::alloc::Global;
+use std::sync::Wait;
+use std::thread::Threads;
 use store_run::{Finished, run_over};
 
 /// Makes a store of this geometry on the disk of a name, which may be a new one, and answers its length in bytes.
@@ -32,25 +35,30 @@ pub(crate) fn make_on_shelf<H: Shelf>(
     }
 }
 
-/// Runs a script over the store on the disk of a name.
-pub(crate) fn run_on_shelf<H: Shelf>(
+/// Runs a script over the store on the disk of a name, beside so many merge workers with so many turns each.
+pub(crate) fn run_on_shelf<R: Threads + Wait + Sync, H: Shelf, G: Gate + Sync>(
+    rt: &R,
     alloc: Global,
     shelf: &mut H,
     name: &str,
     lines: &[Line],
     room: Room,
+    workers: u32,
+    turns: u32,
+    gate: &G,
 ) -> Result<Finished, Refusal>
     requires entries { sum room.entries ≤ most_entries }
     requires rows { sum room.rows ≤ most_rows_asked }
     requires runnable { AreRunnable lines.now }
     requires room { HasRoomFor room lines.now }
+    requires few { callers + workers ≤ seats }
     ensures fetched { HasFetched name.now false (H.state shelf.old) (H.state shelf.new) }
-    ensures runs { RunsOnShelf H.D.state name.now lines.now (H.state shelf.old) (H.state shelf.new) result }
+    ensures runs { RunsOnShelf H.D.state name.now lines.now workers turns (H.state shelf.old) (H.state shelf.new) result }
 {
     let Ok(disk) = shelf.fetch(name, false) else {
         return Err(Refusal::DiskFault);
     };
-    let (disk, outcome) = run_over(alloc, disk, lines, room);
+    let (disk, outcome) = run_over(rt, alloc, disk, lines, room, workers, turns, gate);
     shelf.give_back(name, disk);
     match outcome {
         Ok(finished) => Ok(finished),

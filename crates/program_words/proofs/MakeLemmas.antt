@@ -1,4 +1,4 @@
--- The geometry that four numbers make, if any.
+-- The geometry that four numbers make, if any, and what a file and numbers ask for.
 use Rattle.std.proofs.Common.{◌≡◌, ℕ, Bool, true, false, Option, Some, None, cond, nat_le, ◌≤◌, ap, sym, refl, subst, ◌∙◌}
 use Rattle.std.proofs.lemmas.Bool.{leb-true, le-leb}
 use Rattle.clap.specs.Words.{Text}
@@ -6,7 +6,7 @@ use Rattle.blsm_model.specs.Sizes.{Sizes, IsGeometry, HalfFits, RatioFits, LowFi
 use Rattle.blsm_model.specs.Geometry.{IsFirstFault}
 use Rattle.blsm_model.specs.declared.geometry.GeometryFault.{GeometryFault}
 use Rattle.blsm_model.specs.declared.geometry.GeometryFault.TheVariants.{Half, Ratio, Low, Quantum}
-use Rattle.program_words.specs.Words.{geometry_by, make_by, make}
+use Rattle.program_words.specs.Words.{geometry_by, make_by, run_by, make, run}
 
 pub no_half : (half ratio low quantum : Option ℕ) → half ≡ None → None ≡ geometry_by half ratio low quantum
 no_half None ratio low quantum none = refl
@@ -75,3 +75,13 @@ no_name (Some n) sizes none = cc
 
 pub both_found : (name : Option Text) (sizes : Option Sizes) (n : Text) (s : Sizes) → Some n ≡ name → Some s ≡ sizes → Some (make n s) ≡ make_by name sizes
 both_found name sizes n s named sized = ap (λ (o : Option Text). make_by o (Some s)) named ∙ ap (make_by name) sized
+
+-- ---- a run
+
+pub no_file : (name : Option Text) (workers turns : Option ℕ) → None ≡ name → None ≡ run_by name workers turns
+no_file None workers turns none = refl
+no_file (Some n) workers turns none = cc
+
+pub all_given : (name : Option Text) (workers turns : Option ℕ) (n : Text) (w t : ℕ) → Some n ≡ name → Some w ≡ workers → Some t ≡ turns → Some (run n w t) ≡ run_by name workers turns
+all_given name workers turns n w t named many each =
+    ap (λ (o : Option Text). run_by o (Some w) (Some t)) named ∙ ap (λ (o : Option ℕ). run_by name o (Some t)) many ∙ ap (run_by name workers) each

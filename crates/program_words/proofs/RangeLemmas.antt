@@ -8,7 +8,7 @@ use Rattle.clap.specs.ValueTests.{is_unsigned_in}
 use Rattle.clap.specs.declared.builder.value_parser.ValueParser.TheVariants.{Unsigned}
 use Rattle.clap.proofs.ValueTestLemmas.{accepts-Accepts}
 use Rattle.blsm_model.specs.Sizes.{Sizes, IsGeometry}
-use Rattle.program_words.specs.Words.{Number, number_by, number_in, half_number, ratio_number, low_number, quantum_number, seed_number, count_number, geometry_by, geometry_in, make_by, make_in, trial_by, trial_in, file_in, asked_in, asked_by, program, Asked, make, run, check, trial, IsInRange}
+use Rattle.program_words.specs.Words.{Number, number_by, number_in, half_number, ratio_number, low_number, quantum_number, seed_number, count_number, geometry_by, geometry_in, make_by, make_in, run_by, run_in, trial_by, trial_in, workers_number, turns_number, file_in, asked_in, asked_by, program, Asked, make, run, check, trial, IsInRange}
 
 abbrev value : Text → ℕ
 value text = digits_value 10 (without_leading_plus text)
@@ -60,11 +60,13 @@ trial_fits (Some seed) (Some count) asked of_seed of_count is =
 trial_fits (Some seed) None asked of_seed of_count is = cc
 trial_fits None count asked of_seed of_count is = cc
 
-run_fits : (name : Option Text) (asked : Asked) → option_map run name ≡ Some asked → IsInRange asked
-run_fits (Some name) asked is =
-    let as_asked : run name ≡ asked = cc in
-    subst IsInRange as_asked tt
-run_fits None asked is = cc
+run_fits : (name : Option Text) (workers turns : Option ℕ) (asked : Asked) → Bounds workers_number workers → Bounds turns_number turns → run_by name workers turns ≡ Some asked → IsInRange asked
+run_fits (Some name) (Some workers) (Some turns) asked of_workers of_turns is =
+    let as_asked : run name workers turns ≡ asked = cc in
+    subst IsInRange as_asked ((of_workers workers refl).1, (of_turns turns refl).1)
+run_fits None workers turns asked of_workers of_turns is = cc
+run_fits (Some name) None turns asked of_workers of_turns is = cc
+run_fits (Some name) (Some workers) None asked of_workers of_turns is = cc
 
 check_fits : (name : Option Text) (asked : Asked) → option_map check name ≡ Some asked → IsInRange asked
 check_fits (Some name) asked is =
@@ -84,7 +86,8 @@ command_fits name rows asked is =
     either (bytes_eq name (codes "make")) (make_in rows) _ asked is
     (make_fits (file_in rows) (geometry_in rows) asked (λ sizes. geometry_fits (number_in half_number rows) (number_in ratio_number rows) (number_in low_number rows) (number_in quantum_number rows) sizes
     (bounded half_number rows) (bounded ratio_number rows) (bounded quantum_number rows)))
-    (λ other. either (bytes_eq name (codes "run")) (option_map run (file_in rows)) _ asked other (run_fits (file_in rows) asked)
+    (λ other. either (bytes_eq name (codes "run")) (run_in rows) _ asked other
+    (run_fits (file_in rows) (number_in workers_number rows) (number_in turns_number rows) asked (bounded workers_number rows) (bounded turns_number rows))
     (λ third. either (bytes_eq name (codes "check")) (option_map check (file_in rows)) _ asked third (check_fits (file_in rows) asked)
     (λ last. either (bytes_eq name (codes "trial")) (trial_in rows) None asked last
     (trial_fits (number_in seed_number rows) (number_in count_number rows) asked (bounded seed_number rows) (bounded count_number rows)) (none_fits asked))))

@@ -24,7 +24,7 @@ on_file command options = command ∷ codes "F" ∷ options
 
 -- ---- accepted
 
-run_file : AskFor (on_file (codes "run") []) (run (codes "F"))
+run_file : AskFor (on_file (codes "run") []) (run (codes "F") 2 1000)
 unfolding clap_on_literals
 run_file = (refl, refl)
 
@@ -33,9 +33,17 @@ unfolding clap_on_literals
 check_file = (refl, refl)
 
 -- a name that begins with a dash stands behind two dashes
-run_dash : AskFor (codes "run" ∷ codes "--" ∷ codes "-m" ∷ []) (run (codes "-m"))
+run_dash : AskFor (codes "run" ∷ codes "--" ∷ codes "-m" ∷ []) (run (codes "-m") 2 1000)
 unfolding clap_on_literals
 run_dash = (refl, refl)
+
+run_alone : AskFor (on_file (codes "run") (codes "--workers" ∷ codes "0" ∷ codes "--turns=0" ∷ [])) (run (codes "F") 0 0)
+unfolding clap_on_literals
+run_alone = (refl, refl)
+
+run_with_most : AskFor (codes "run" ∷ codes "--turns" ∷ codes "1000000" ∷ codes "--workers=8" ∷ codes "F" ∷ []) (run (codes "F") 8 1000000)
+unfolding clap_on_literals
+run_with_most = (refl, refl)
 
 make_plain : AskFor (on_file (codes "make") []) (make (codes "F") default_sizes)
 unfolding clap_on_literals
@@ -105,9 +113,21 @@ half_of_check : fault (on_file (codes "check") (codes "--half" ∷ codes "17408"
 unfolding clap_on_literals
 half_of_check = refl
 
-workers_of_run : fault (on_file (codes "run") (codes "--workers" ∷ codes "2" ∷ [])) ≡ kind.UnknownArgument ∷ []
+workers_of_check : fault (on_file (codes "check") (codes "--workers" ∷ codes "2" ∷ [])) ≡ kind.UnknownArgument ∷ []
 unfolding clap_on_literals
-workers_of_run = refl
+workers_of_check = refl
+
+nine_workers : fault (on_file (codes "run") (codes "--workers" ∷ codes "9" ∷ [])) ≡ kind.ValueValidation ∷ []
+unfolding clap_on_literals
+nine_workers = refl
+
+too_many_turns : fault (on_file (codes "run") (codes "--turns" ∷ codes "1000001" ∷ [])) ≡ kind.ValueValidation ∷ []
+unfolding clap_on_literals
+too_many_turns = refl
+
+some_workers : fault (on_file (codes "run") (codes "--workers" ∷ codes "some" ∷ [])) ≡ kind.ValueValidation ∷ []
+unfolding clap_on_literals
+some_workers = refl
 
 other_command : fault (on_file (codes "walk") []) ≡ kind.UnknownArgument ∷ kind.InvalidSubcommand ∷ []
 unfolding clap_on_literals

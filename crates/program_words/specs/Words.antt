@@ -43,6 +43,19 @@ seed_number = record { id = codes "seed"; least = 0; most = 18446744073709551615
 abbrev pub count_number : Number
 count_number = record { id = codes "count"; least = 1; most = most_lines }
 
+-- how many merge workers a run has, and how many turns each of them takes at most
+abbrev pub most_workers : ℕ
+most_workers = 8
+
+abbrev pub most_turns : ℕ
+most_turns = 1000000
+
+abbrev pub workers_number : Number
+workers_number = record { id = codes "workers"; least = 0; most = most_workers }
+
+abbrev pub turns_number : Number
+turns_number = record { id = codes "turns"; least = 0; most = most_turns }
+
 abbrev pub number_rule : Number → Rule
 number_rule number =
     record (new_rule number.id) { long = Some number.id; parser = Some (Unsigned number.least number.most) }
@@ -71,6 +84,12 @@ make_command = with_rule
     (with_default (codes "16384") (number_rule low_number)))
     (with_default (codes "4096") (number_rule quantum_number))
 
+-- `run FILE`, with merge workers and their turns
+abbrev pub run_command : App
+run_command = with_rule
+    (with_rule (on_file (codes "run")) (with_default (codes "2") (number_rule workers_number)))
+    (with_default (codes "1000") (number_rule turns_number))
+
 -- `trial`, with a seed and a count
 abbrev pub trial_command : App
 trial_command = with_rule
@@ -86,7 +105,7 @@ program = with_subcommand
     (with_subcommand
     (with_subcommand
     (with_subcommand (record no_command { top = record no_command.top { subcommand_required = true } }) make_command.top)
-    (on_file (codes "run")).top)
+    run_command.top)
     (on_file (codes "check")).top)
     trial_command.top
 
@@ -102,25 +121,26 @@ pub record IsCommand (app : App) (command : Command) : Type 0 where
 
 -- ---- what words ask for
 
--- a store to be made, one to run a script over, one to look at, each in the file of a name; a trial, by its seed and its
--- count
+-- a store to be made, one to run a script over with so many merge workers, each of which takes so many turns at most, one to
+-- look at, each in the file of a name; a trial, by its seed and its count
 pub data Asked : Type 0 where
   make : List ℕ → Sizes → Asked
-  run : List ℕ → Asked
+  run : List ℕ → ℕ → ℕ → Asked
   check : List ℕ → Asked
   trial : ℕ → ℕ → Asked
 
 -- the name of the file
 abbrev pub name_in : Asked → List ℕ
 name_in (make name sizes) = name
-name_in (run name) = name
+name_in (run name workers turns) = name
 name_in (check name) = name
 name_in (trial seed count) = []
 
--- what is asked for is a store of a geometry, or a trial of a seed of 64 bits and of a step to as many as a script has lines
+-- what is asked for is a store of a geometry, a run with few workers and few turns, or a trial of a seed of 64 bits and of a
+-- step to as many as a script has lines
 abbrev pub IsInRange : Asked → Type 0
 IsInRange (make name sizes) = IsGeometry sizes
-IsInRange (run name) = ⊤
+IsInRange (run name workers turns) = (workers ≤ most_workers) × (turns ≤ most_turns)
 IsInRange (check name) = ⊤
 IsInRange (trial seed count) = (seed < 2 ^ 64) × (1 ≤ count) × (count ≤ most_lines)
 
@@ -151,6 +171,13 @@ make_by _ _ = None
 abbrev pub make_in : List Row → Option Asked
 make_in rows = make_by (file_in rows) (geometry_in rows)
 
+abbrev pub run_by : Option Text → Option ℕ → Option ℕ → Option Asked
+run_by (Some name) (Some workers) (Some turns) = Some (run name workers turns)
+run_by _ _ _ = None
+
+abbrev pub run_in : List Row → Option Asked
+run_in rows = run_by (file_in rows) (number_in workers_number rows) (number_in turns_number rows)
+
 abbrev pub trial_by : Option ℕ → Option ℕ → Option Asked
 trial_by (Some seed) (Some count) = Some (trial seed count)
 trial_by _ _ = None
@@ -161,7 +188,7 @@ trial_in rows = trial_by (number_in seed_number rows) (number_in count_number ro
 -- what a command asks for, by its name and what was found for it
 abbrev pub asked_in : Text × List Row → Option Asked
 asked_in command = if bytes_eq command.0 (codes "make") then make_in command.1
-    else if bytes_eq command.0 (codes "run") then option_map run (file_in command.1)
+    else if bytes_eq command.0 (codes "run") then run_in command.1
     else if bytes_eq command.0 (codes "check") then option_map check (file_in command.1)
     else if bytes_eq command.0 (codes "trial") then trial_in command.1 else None
 
@@ -175,7 +202,7 @@ AreAccepted words = (fault_of program words ≡ []) × IsSome (asked_by words)
 
 abbrev pub asked_of : Request → Asked
 asked_of (request.Make name geometry) = make name.now geometry
-asked_of (request.Run name) = run name.now
+asked_of (request.Run name workers turns) = run name.now workers turns
 asked_of (request.Check name) = check name.now
 asked_of (request.Trial seed count) = trial seed count
 

@@ -11,6 +11,12 @@ pub(crate) const MIN_COUNT: u64 = 1;
 /// The greatest count of a trial: as many steps as a script has lines.
 pub(crate) const MAX_COUNT: u64 = 65_536;
 
+/// The greatest number of merge workers of a run.
+pub(crate) const MAX_WORKERS: u64 = 8;
+
+/// The greatest number of turns that each of them takes.
+pub(crate) const MAX_TURNS: u64 = 1_000_000;
+
 /// The number that an option was given, or its default, where it lies in this range.
 pub(crate) fn number_of(matches: &ArgMatches, name: &str, least: u64, most: u64) -> Option<u64>
     ensures value { result ≡ number_in (record { id = name.now; least = least; most = most }) (rows_of (found_of matches.now)) }

@@ -1,9 +1,9 @@
 //! What the program takes: four commands.
 ghost use Rattle.std.specs.Prelude.{◌≡◌, IfOk, false};
 ghost use Rattle.clap.specs.Words.{app_of, rule_of};
-ghost use Rattle.program_words.specs.Words.{number_rule, file as file_rule, on_file as on_file_app, make_command as make_app, trial_command as trial_app, program as program_app, IsCommand, IsRule};
+ghost use Rattle.program_words.specs.Words.{number_rule, file as file_rule, on_file as on_file_app, make_command as make_app, run_command as run_app, trial_command as trial_app, program as program_app, IsCommand, IsRule};
 
-use crate::numbers::{MAX_COUNT, MIN_COUNT};
+use crate::numbers::{MAX_COUNT, MAX_TURNS, MAX_WORKERS, MIN_COUNT};
 use blsm_model::Geometry;
 use clap::builder::ValueParser;
 use clap::{Arg, ArgAction, Command};
@@ -49,6 +49,18 @@ fn make<'a>(alloc: Global) -> Result<Command<'a>, AllocError>
         .arg(quantum)
 }
 
+// `run`, with its merge workers and their turns.
+fn run<'a>(alloc: Global) -> Result<Command<'a>, AllocError>
+    ensures { IfOk result (IsCommand run_app) }
+{
+    let workers = number(alloc, "workers", 0, MAX_WORKERS).default_value("2");
+    let turns = number(alloc, "turns", 0, MAX_TURNS).default_value("1000");
+    Command::new(alloc, "run")
+        .arg(file(alloc))?
+        .arg(workers)?
+        .arg(turns)
+}
+
 // A command on a file, with no option.
 fn on_file<'a>(alloc: Global, name: &'a str) -> Result<Command<'a>, AllocError>
     ensures { IfOk result (IsCommand (on_file_app name.entry.now)) }
@@ -70,7 +82,7 @@ pub(crate) fn program<'a>(alloc: Global) -> Result<Command<'a>, AllocError>
     ensures { IfOk result (λ command. app_of command ≡ program_app) }
 {
     let make = make(alloc)?;
-    let run = on_file(alloc, "run")?;
+    let run = run(alloc)?;
     let check = on_file(alloc, "check")?;
     let trial = trial(alloc)?;
     Command::new(alloc, "blsm")

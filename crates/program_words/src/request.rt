@@ -6,13 +6,26 @@ use thiserror::Error;
 #[derive(Clone, Copy, PartialEq, Eq, Debug)]
 pub enum Request<'a> {
     /// A new store of this geometry in the file of this name.
-    Make { name: &'a str, geometry: Geometry },
-    /// A script to be run over the store in the file of this name.
-    Run { name: &'a str },
+    Make {
+        name: &'a str,
+        geometry: Geometry,
+    },
+    /// A script to be run over the store in the file of this name, beside so many merge workers, from 0 to 8, each of
+    /// which takes so many turns at most, from 0 to 1,000,000.
+    Run {
+        name: &'a str,
+        workers: u32,
+        turns: u32,
+    },
     /// A look at the store in the file of this name.
-    Check { name: &'a str },
+    Check {
+        name: &'a str,
+    },
     /// A trial of so many steps, from 1 to 65,536, drawn from this seed.
-    Trial { seed: u64, count: u32 },
+    Trial {
+        seed: u64,
+        count: u32,
+    },
 }
 
 /// Why words were not read.

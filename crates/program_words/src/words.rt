@@ -1,9 +1,9 @@
 //! Words are read.
 ghost use Rattle.std.specs.Prelude.{◌≡◌, ◌≢◌, map, option_map, string_bytes};
 ghost use Rattle.clap.specs.Words.{found_of, kind_of, rows_of};
-ghost use Rattle.program_words.specs.Words.{asked_in, asked_of, run, check, file_in, geometry_in, make_in, trial_in, ReadsWords};
+ghost use Rattle.program_words.specs.Words.{asked_in, asked_of, check, file_in, geometry_in, make_in, run_in, trial_in, ReadsWords};
 
-use crate::numbers::{MAX_COUNT, MIN_COUNT, number_of};
+use crate::numbers::{MAX_COUNT, MAX_TURNS, MAX_WORKERS, MIN_COUNT, number_of};
 use crate::program::program;
 use crate::request::{Request, Unread};
 use blsm_model::Geometry;
@@ -53,12 +53,16 @@ fn trial_of<'a>(matches: &ArgMatches<'a>) -> Option<Request<'a>>
 
 // What `run` asks for.
 fn run_of<'a>(matches: &ArgMatches<'a>) -> Option<Request<'a>>
-    ensures { option_map asked_of result ≡ option_map run (file_in (rows_of (found_of matches.now))) }
+    ensures { option_map asked_of result ≡ run_in (rows_of (found_of matches.now)) }
 {
-    match matches.get_str("FILE") {
-        Some(name) => Some(Request::Run { name }),
-        None => None,
-    }
+    let name = matches.get_str("FILE")?;
+    let workers = number_of(matches, "workers", 0, MAX_WORKERS)?;
+    let turns = number_of(matches, "turns", 0, MAX_TURNS)?;
+    Some(Request::Run {
+        name,
+        workers: workers as u32,
+        turns: turns as u32,
+    })
 }
 
 // What `check` asks for.

@@ -17,10 +17,9 @@ use Rattle.store_file.specs.Layout.{superblock_length}
 use Rattle.tree_core.specs.Core.{CoreState, IsCore}
 use Rattle.tree_reading.specs.declared.found.Unreadable.{Unreadable}
 use Rattle.tree_session.specs.Faults.{NamesCount, Reaches, faults_told}
-use Rattle.tree_session.specs.Session.{Runs, calls_for}
 use Rattle.core_moves.specs.Held.{charge_in}
-use Rattle.store_run.specs.Run.{AreCounted, Run}
-use Rattle.store_run.proofs.RunLemmas.{no_entries_yet, run_at}
+use Rattle.store_run.specs.Run.{AreCounted, Run, run_at}
+use Rattle.store_run.proofs.RunLemmas.{HasRun}
 
 -- the count at which it began was the same before
 names_count : (stopped : Option Why) (first opened last : DiskState) → opened.faults ≡ first.faults → NamesCount stopped opened last → NamesCount stopped first last
@@ -32,24 +31,22 @@ names_count None first opened last calm names = tt
 pub calm_opening : (first opened : DiskState) → TellsFaultsBy (Some Unreadable.Fault) None first opened → opened.faults ≡ first.faults
 calm_opening first opened faults = faults.stands (λ wrong. absurd cc)
 
-pub are_counted : {D : Type 0} (state : D → DiskState) (lines : List Line) (annals : Book) (faults charge : ℕ) (first : DiskState) (old new : CoreState D) → IsOpened annals faults old.held
-    → (state old.disk).faults ≡ first.faults → Runs state lines old new → AreCounted (run_at charge new.held) first (state new.disk)
-are_counted state lines annals faults charge first old new opened calm runs =
-    let tells = runs.proceeds.tells in
-    let entries : new.held.book.book.entries ≡ runs.added = runs.entries ∙ ap (λ (es : List Entry). es ++ runs.added) (no_entries_yet annals faults old.held opened) in
+are_counted : {D : Type 0} (state : D → DiskState) (lines : List Line) (annals : Book) (faults charge : ℕ) (first : DiskState) (old new : CoreState D) → IsOpened annals faults old.held
+    → (state old.disk).faults ≡ first.faults → HasRun state lines old new → AreCounted (run_at charge new.held) first (state new.disk)
+are_counted state lines annals faults charge first old new opened calm run =
+    let tells = run.tells in
     let runs_on : old.held.book.stopped ≡ None = ap (λ (b : BookState). b.stopped) opened.book in
     record {
-      risen = subst (λ (n : ℕ). HasRisenBy (faults_told new.held.book.book.entries) n (state new.disk).faults) calm
-          (subst (λ (es : List Entry). HasRisenBy (faults_told es) (state old.disk).faults (state new.disk).faults) (sym entries) tells.risen);
-      quiet = λ none no_stop. tells.quiet (ap faults_told (sym entries) ∙ none) no_stop ∙ calm;
+      risen = subst (λ (n : ℕ). HasRisenBy (faults_told new.held.book.book.entries) n (state new.disk).faults) calm tells.risen;
+      quiet = λ none no_stop. tells.quiet none no_stop ∙ calm;
       stop = names_count new.held.book.stopped first (state old.disk) (state new.disk) calm (tells.stops runs_on);
     }
 
 pub counted_of : {D : Type 0} (state : D → DiskState) (lines : List Line) (annals : Book) (faults : ℕ) (first : DiskState) (old new : CoreState D) → IsOpened annals faults old.held
-    → (state old.disk).faults ≡ first.faults → Runs state lines old new → (run : Run) → run ≡ run_at (charge_in old.held) new.held → (disk : D) → disk ≡ new.disk → AreCounted run first (state disk)
-counted_of {D} state lines annals faults first old new opened calm runs run is disk same =
+    → (state old.disk).faults ≡ first.faults → HasRun state lines old new → (run : Run) → run ≡ run_at (charge_in old.held) new.held → (disk : D) → disk ≡ new.disk → AreCounted run first (state disk)
+counted_of {D} state lines annals faults first old new opened calm has run is disk same =
     subst (λ (r : Run). AreCounted r first (state disk)) (sym is)
-    (subst (λ (d : D). AreCounted (run_at (charge_in old.held) new.held) first (state d)) (sym same) (are_counted state lines annals faults (charge_in old.held) first old new opened calm runs))
+    (subst (λ (d : D). AreCounted (run_at (charge_in old.held) new.held) first (state d)) (sym same) (are_counted state lines annals faults (charge_in old.held) first old new opened calm has))
 
 -- ---- how far calls reach
 
@@ -80,21 +77,21 @@ reaches_run end end' calls calls' first mid last one two = record {
     still tells = subst IsTrue (sym one.goes_on.tells_bytes) tells
 
 -- once a store is opened its file is as long as its geometry says, and the opening made it no longer than it may be
-pub runs_inside : {D : Type 0} (state : D → DiskState) (lines : List Line) (annals : Book) (faults : ℕ) (first : DiskState) (old new : CoreState D) → IsOpened annals faults old.held → IsCore old.held (state old.disk)
-    → StaysInside first (state old.disk) → Runs state lines old new → ReachesInside first (state new.disk)
-runs_inside state lines annals faults first old new opened core inside runs =
+runs_inside : {D : Type 0} (state : D → DiskState) (lines : List Line) (annals : Book) (faults : ℕ) (first : DiskState) (old new : CoreState D) → IsOpened annals faults old.held → IsCore old.held (state old.disk)
+    → StaysInside first (state old.disk) → HasRun state lines old new → ReachesInside first (state new.disk)
+runs_inside state lines annals faults first old new opened core inside run =
     let runs_on : old.held.book.stopped ≡ None = ap (λ (b : BookState). b.stopped) opened.book in
     let long = (core.holds.live runs_on).on.long in (
       max inside.end (file_length old.held.runs.sizes),
-      inside.calls + calls_for old.held.runs.sizes runs.added runs.counts,
+      inside.calls + run.calls,
       λ tells. omega (arith, inside.inside tells, inside.effect.no_longer tells, long (subst IsTrue (sym inside.effect.goes_on.tells_bytes) tells)),
-      reaches_run inside.end (file_length old.held.runs.sizes) inside.calls (calls_for old.held.runs.sizes runs.added runs.counts) first (state old.disk) (state new.disk) (opening_reaches first (state old.disk) inside) runs.proceeds.effect,
+      reaches_run inside.end (file_length old.held.runs.sizes) inside.calls run.calls first (state old.disk) (state new.disk) (opening_reaches first (state old.disk) inside) run.effect,
     )
 
 pub disk_inside : {D : Type 0} (state : D → DiskState) (lines : List Line) (annals : Book) (faults : ℕ) (first : DiskState) (old new : CoreState D) → IsOpened annals faults old.held → IsCore old.held (state old.disk)
-    → StaysInside first (state old.disk) → Runs state lines old new → (disk : D) → disk ≡ new.disk → ReachesInside first (state disk)
-disk_inside {D} state lines annals faults first old new opened core inside runs disk same =
-    subst (λ (d : D). ReachesInside first (state d)) (sym same) (runs_inside state lines annals faults first old new opened core inside runs)
+    → StaysInside first (state old.disk) → HasRun state lines old new → (disk : D) → disk ≡ new.disk → ReachesInside first (state disk)
+disk_inside {D} state lines annals faults first old new opened core inside run disk same =
+    subst (λ (d : D). ReachesInside first (state d)) (sym same) (runs_inside state lines annals faults first old new opened core inside run)
 
 -- ---- a refusal
 
@@ -113,3 +110,7 @@ refused_faults {T} why first last faults = record {
 
     err_same : refusal_of T why ≡ refusal_of T Unreadable.Fault → why ≡ Unreadable.Fault
     err_same same = cc
+
+-- Memory was refused for the lock: nothing was done since the opening, which failed in no call.
+pub refused_calm : {T : Type 0} (first last : DiskState) → last.faults ≡ first.faults → TellsFaultsBy {R = Result T Unreadable} (Err Unreadable.Fault) (Err Unreadable.NoMemory) first last
+refused_calm first last calm = record { stands = λ other. calm; failed = λ wrong. absurd cc }

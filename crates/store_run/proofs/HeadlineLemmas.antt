@@ -1,13 +1,13 @@
 -- The headline, from what opening a store says and what a run from there on keeps.
-use Rattle.std.specs.Prelude.{◌≡◌, ◌≤◌, ◌+◌, ◌*◌, ℕ, Bool, true, false, ◌||◌, List, [], ◌∷◌, None, IsTrue, drop, sum, take}
+use Rattle.std.specs.Prelude.{◌≡◌, ◌≤◌, ◌+◌, ◌*◌, ℕ, Bool, true, false, ◌||◌, List, [], ◌∷◌, None, IsTrue, drop, map, sum, take}
 use Rattle.std.specs.List.{AllByRecursion, list_any}
 use Rattle.std.proofs.Common.{◌∙◌, append-nil, arith, ap, cond, refl, subst, sym}
 use Rattle.std.proofs.lemmas.List.Sums.{sum_by-take-drop}
-use Rattle.blsm_model.specs.Book.{Book}
 use Rattle.blsm_model.specs.Format.{callers}
 use Rattle.blsm_model.specs.Geometry.{high_mark, limits_of}
 use Rattle.blsm_model.specs.Legal.{IsLegal}
 use Rattle.blsm_model.specs.Rows.{puts_of}
+use Rattle.blsm_model.specs.Scripts.{asked, asked_in}
 use Rattle.blsm_model.specs.Sizes.{Sizes}
 use Rattle.blsm_model.specs.Values.{value_at}
 use Rattle.blsm_model.specs.declared.history.Entry.{Entry}
@@ -20,7 +20,6 @@ use Rattle.core_moves.specs.declared.held.Held.{Held}
 use Rattle.core_moves.specs.Held.{charge_in}
 use Rattle.core_lists.specs.Shown.{WeighsWithin, doubted, lanes_weight, most_worked}
 use Rattle.core_lists.proofs.FileWeights.{running_is_sure}
-use Rattle.core_pace.specs.Opening.{IsOpened}
 use Rattle.disk_trait.specs.Disk.{DiskState, GoesOn}
 use Rattle.disk_trait.specs.Moments.{IsTimed}
 use Rattle.paced_tree.specs.Kept.{paced_all}
@@ -29,7 +28,7 @@ use Rattle.pacing.specs.Pace.{Pace}
 use Rattle.recover_open.specs.Opening.{KeepsMapOf, OpensAs}
 use Rattle.record_delta.specs.Entries.{Entries, entries_weight}
 use Rattle.seat_book.specs.State.{BookState, book_of, totals_in}
-use Rattle.tree_core.specs.Core.{CoreState, IsCore}
+use Rattle.tree_core.specs.Core.{CoreState}
 use Rattle.tree_core.specs.Holds.{StandsWhole}
 use Rattle.tree_core.specs.Standing.{StandsFor}
 use Rattle.tree_core.specs.Steps.{IsPlayed, StandsSince}
@@ -41,11 +40,15 @@ use Rattle.tree_machine.specs.Outcomes.{AreTold, FindsNone, NoneDamaged, is_bad_
 use Rattle.tree_machine.specs.Plays.{may_step, played, played_one, stepped}
 use Rattle.tree_machine.specs.Steps.{Outcome}
 use Rattle.tree_machine.proofs.PlayLemmas.{of_replicate}
-use Rattle.tree_session.specs.Session.{Runs}
-use Rattle.store_run.specs.Headline.{EndsWithin, Headline, IsReached, LeavesHistory}
-use Rattle.store_run.specs.Run.{IsRunOf, Run, finds_damage}
+use Rattle.tree_shared.specs.Runs.{RunsAll}
+use Rattle.core_chain.specs.Quanta.{helps_in}
+use Rattle.core_chain.specs.Start.{steps_of}
+use Rattle.core_chain.specs.Steps.{ChainIsSteps, outcomes_in}
+use Rattle.gear_sched.specs.Gears.{GearState}
+use Rattle.store_run.specs.Headline.{EndsWithin, Headline, IsReached, IsServed}
+use Rattle.store_run.specs.Run.{HaveEnded, IsRunInOrder, IsRunOf, Run, finds_damage, run_at}
 use Rattle.store_run.proofs.CrashLemmas.{leaves_history, shown_now}
-use Rattle.store_run.proofs.RunLemmas.{is_run_of, no_entries_yet, no_quanta_yet, run_at}
+use Rattle.store_run.proofs.RunLemmas.{HasRun, is_run_of}
 
 -- ---- what steps keep
 
@@ -146,8 +149,8 @@ pub record Session {D : Type 0} (state : D → DiskState) (room : Room) (lines :
   pub opens : OpensAs state room old first.bytes
   pub goes_on : GoesOn first (state old.disk)
   pub calm : (state old.disk).faults ≡ first.faults
-  pub begins : StandsSince state old old
-  pub runs : Runs state lines old new
+  pub ran : old.held.book.stopped ≡ None
+  pub run : HasRun state lines old new
 
 reached_of : {D : Type 0} (state : D → DiskState) (sizes : Sizes) (opening : List (Key × Value)) (c1 c2 : Entries) (catalogue : Catalogue) (faults : ℕ) (room : Room) (pace : Pace) (steps : List Step) (old new : CoreState D)
     → old.held.runs.sizes ≡ sizes → old.held.book.stopped ≡ None → StandsFor opening old.held (opened sizes c1 c2 catalogue faults room) pace (state old.disk) → faults ≡ (state old.disk).faults
@@ -181,52 +184,118 @@ stands_of opening held first m pace d sizes same ends runs =
     let over = ends.stands.runs runs in
     (over.tree, subst (λ (s : Sizes). HoldsTree s over.tree d.bytes) same over.over.stands.reads, over.holds.lists)
 
-headline_from : StepKeepsOpening → NoneDamaged → {D : Type 0} (state : D → DiskState) (room : Room) (lines : List Line) (first : DiskState) (old new : CoreState D)
-    (c1 c2 : Entries) (catalogue : Catalogue) (pace : Pace) → IsTrue first.is_honest → (session : Session state room lines first old new) → old.held.book.stopped ≡ None
-    → StandsWhole state session.opens.pairs old (opened old.held.runs.sizes c1 c2 catalogue (state old.disk).faults room) pace
-    → LeavesHistory old.held.runs.sizes session.opens.pairs (run_at (charge_in old.held) new.held) first (state old.disk) (state new.disk)
-    → Headline state old.held.runs.sizes (run_at (charge_in old.held) new.held) room first (state new.disk)
+abbrev machine_of : {D : Type 0} → (D → DiskState) → Room → CoreState D → Entries → Entries → Catalogue → Machine
+machine_of state room core c1 c2 catalogue = opened core.held.runs.sizes c1 c2 catalogue (state core.disk).faults room
+
+served_from : StepKeepsOpening → NoneDamaged → {D : Type 0} (state : D → DiskState) (room : Room) (lines : List Line) (first : DiskState) (old new : CoreState D)
+    (c1 c2 : Entries) (catalogue : Catalogue) (pace : Pace) → (session : Session state room lines first old new)
+    → StandsWhole state session.opens.pairs old (machine_of state room old c1 c2 catalogue) pace
+    → (steps : List Step) → IsPlayed state session.opens.pairs steps old new (machine_of state room old c1 c2 catalogue) pace
+    → IsServed state old.held.runs.sizes (run_at (charge_in old.held) new.held) room first (state new.disk)
 unfolding reached_of
-headline_from keeps damaged {D} state room lines first old new c1 c2 catalogue pace honest session ran whole leaves =
+served_from keeps damaged {D} state room lines first old new c1 c2 catalogue pace session whole steps play =
     let opens = session.opens in
     let sizes = old.held.runs.sizes in
     let before = state old.disk in
     let after = state new.disk in
-    let machine = opened sizes c1 c2 catalogue before.faults room in
-    let since = session.runs.proceeds.lasts old session.begins in
-    let honest_then = subst IsTrue (sym session.goes_on.is_honest) honest in
-    let come = since.come opens.pairs machine pace honest_then whole in
-    let ends = ends_of keeps damaged state opens.pairs sizes c1 c2 catalogue before.faults room pace come.0 old new come.1 in
+    let machine = machine_of state room old c1 c2 catalogue in
+    let since = session.run.since in
+    let ends = ends_of keeps damaged state opens.pairs sizes c1 c2 catalogue before.faults room pace steps old new play in
     let weigh = opened_charge sizes c1 c2 catalogue before.faults room old.held whole.stands.charge_is in
     record {
       opening = opens.pairs;
       found = record { reads = opens.reads; image = opens.image; holds = opens.holds; taken = opens.taken };
       light = opens.light;
-      replies = replies_of opens.pairs new.held machine _ _ after sizes (charge_in old.held) session.runs.proceeds.sizes weigh ends;
+      replies = replies_of opens.pairs new.held machine _ _ after sizes (charge_in old.held) since.sizes weigh ends;
       no_page = no_page_of opens.pairs new.held machine _ _ after (charge_in old.held) ends;
       opened = old.disk;
       goes_on = since.goes_on;
       calm = session.calm;
-      reached = reached_of state sizes opens.pairs c1 c2 catalogue before.faults room pace come.0 old new refl ran whole.stands refl come.1;
-      ended = ended_of opens.pairs new.held machine _ _ after sizes (charge_in old.held) session.runs.proceeds.sizes weigh ends;
-      stands = λ runs. stands_of opens.pairs new.held machine _ _ after sizes session.runs.proceeds.sizes ends runs;
-      crashes = leaves;
+      reached = reached_of state sizes opens.pairs c1 c2 catalogue before.faults room pace steps old new refl session.ran whole.stands refl play;
+      within = ended_of opens.pairs new.held machine _ _ after sizes (charge_in old.held) since.sizes weigh ends;
+      stands = λ runs. stands_of opens.pairs new.held machine _ _ after sizes since.sizes ends runs;
+    }
+
+-- ---- on one thread
+
+-- what is printed, and what it was served
+abbrev pub RunInOrder : {D : Type 0} → (D → DiskState) → List Line → Room → Run → DiskState → DiskState → Type 0
+RunInOrder state lines room run first last = (sizes : Sizes) × IsRunInOrder sizes lines run × IsServed state sizes run room first last
+
+-- what lasts has lasted, by some steps
+pub served_in_order : StepKeepsOpening → NoneDamaged → {D : Type 0} (state : D → DiskState) (room : Room) (lines : List Line) (first : DiskState) (old new : CoreState D) → IsTrue first.is_honest
+    → (session : Session state room lines first old new) → asked_in new.held.book.book.entries ≡ asked lines → sum (drop callers new.held.book.seats.quanta) ≡ 0
+    → (disk : D) → disk ≡ new.disk → (run : Run) → run ≡ run_at (charge_in old.held) new.held → RunInOrder state lines room run first (state disk)
+served_in_order keeps damaged {D} state room lines first old new honest session in_order alone disk same run is =
+    let opens = session.opens in
+    let honest_then = subst IsTrue (sym session.goes_on.is_honest) honest in
+    let come = session.run.since.come opens.pairs _ _ honest_then opens.stands in
+    let served = served_from keeps damaged state room lines first old new _ _ _ _ session opens.stands come.0 come.1 in
+    let printed : IsRunInOrder old.held.runs.sizes lines (run_at (charge_in old.held) new.held) = record {
+      printed = is_run_of state lines (charge_in old.held) old new session.run;
+      in_order = in_order;
+      alone = alone;
+    } in
+    subst (λ (r : Run). RunInOrder state lines room r first (state disk)) (sym is)
+    (subst (λ (d : D). RunInOrder state lines room (run_at (charge_in old.held) new.held) first (state d)) (sym same) (old.held.runs.sizes, printed, served))
+
+-- ---- on threads
+
+-- the calls of a chain are steps that were played
+abbrev as_played : {D : Type 0} (state : D → DiskState) (opening : List (Key × Value)) (calls : List (Step × CoreState D)) (old new : CoreState D) (m : Machine) (pace : Pace)
+    → (steps : ChainIsSteps state opening calls old new m pace) → IsPlayed state opening (map (λ one. one.0) (outcomes_in steps.made)) old new m pace
+as_played state opening calls old new m pace steps = record {
+  made = outcomes_in steps.made;
+  steps_are = refl;
+  told = steps.told;
+  whole = steps.whole;
+  stands = steps.stands;
+  grows = steps.grows;
+  images = steps.images;
+}
+
+its_steps : (made : List (Step × Outcome × ℕ)) → map (λ one. one.0) (outcomes_in made) ≡ map (λ one. one.0) made
+its_steps [] = refl
+its_steps (one ∷ made) = ap (λ (ss : List Step). one.0 ∷ ss) (its_steps made)
+
+-- how they ended is told of the machine as of the core
+ended_as : {D : Type 0} (state : D → DiskState) (opening : List (Key × Value)) (lines : List Line) (workers turns : ℕ) (old new : CoreState D) (m : Machine) (pace : Pace)
+    → RunsAll state lines workers turns old new → StandsFor opening new.held m pace (state new.disk) → HaveEnded workers turns m.gears (book_of m)
+ended_as state opening lines workers turns old new m pace runs stands =
+    subst (λ (g : GearState). HaveEnded workers turns g (book_of m)) (sym stands.gears)
+    (subst (λ (b : BookState). HaveEnded workers turns new.held.gears b) (sym stands.book) (record { left = runs.left; idle = runs.idle; even = runs.even; helped = runs.helped }))
+
+headline_from : StepKeepsOpening → NoneDamaged → {D : Type 0} (state : D → DiskState) (timed : (d : D) → IsTimed (state d)) (room : Room) (lines : List Line) (workers turns : ℕ) (first : DiskState) (old new : CoreState D)
+    (c1 c2 : Entries) (catalogue : Catalogue) (pace : Pace) → (session : Session state room lines first old new) → old.held.book.book.entries ≡ []
+    → KeepsMapOf old.held.runs.sizes session.opens.pairs first (state old.disk)
+    → StandsWhole state session.opens.pairs old (machine_of state room old c1 c2 catalogue) pace
+    → (runs : RunsAll state lines workers turns old new) → ChainIsSteps state session.opens.pairs runs.came.calls old new (machine_of state room old c1 c2 catalogue) pace
+    → sum (drop callers new.held.book.seats.quanta) ≤ helps_in (steps_of runs.came.calls) → Headline state old.held.runs.sizes workers turns (run_at (charge_in old.held) new.held) room first (state new.disk)
+unfolding reached_of served_from
+headline_from keeps damaged {D} state timed room lines workers turns first old new c1 c2 catalogue pace session none map_kept whole runs steps few =
+    let opens = session.opens in
+    let machine = machine_of state room old c1 c2 catalogue in
+    let play = as_played state opens.pairs runs.came.calls old new machine pace steps in
+    record {
+      served = served_from keeps damaged state room lines first old new c1 c2 catalogue pace session whole (map (λ one. one.0) (outcomes_in steps.made)) play;
+      ended = ended_as state opens.pairs lines workers turns old new _ _ runs steps.stands.stands;
+      helped = subst (λ (ss : List Step). sum (drop callers new.held.book.seats.quanta) ≤ helps_in ss) (sym (its_steps steps.made ∙ steps.steps_are)) few;
+      crashes = leaves_history state timed opens.pairs runs.came.calls first old new machine pace none whole map_kept session.run.effect.syncs session.run.since.sizes steps (run_at (charge_in old.held) new.held) refl;
     }
 
 -- what is printed, with the headline
-abbrev pub RunAndHeadline : {D : Type 0} → (D → DiskState) → List Line → Room → Run → DiskState → DiskState → Type 0
-RunAndHeadline state lines room run first last = (sizes : Sizes) × IsRunOf sizes lines run × Headline state sizes run room first last
+abbrev pub RunAndHeadline : {D : Type 0} → (D → DiskState) → List Line → ℕ → ℕ → Room → Run → DiskState → DiskState → Type 0
+RunAndHeadline state lines workers turns room run first last = (sizes : Sizes) × IsRunOf sizes lines run × Headline state sizes workers turns run room first last
 
-pub whole_headline : StepKeepsOpening → NoneDamaged → {D : Type 0} (state : D → DiskState) (timed : (d : D) → IsTimed (state d)) (annals : Book) (faults : ℕ) (room : Room) (lines : List Line) (first : DiskState)
-    (old new : CoreState D) → IsTrue first.is_honest → IsTimed first → IsOpened annals faults old.held → IsCore new.held (state new.disk) → (session : Session state room lines first old new)
-    → KeepsMapOf old.held.runs.sizes session.opens.pairs first (state old.disk) → (disk : D) → disk ≡ new.disk → (run : Run) → run ≡ run_at (charge_in old.held) new.held
-    → RunAndHeadline state lines room run first (state disk)
-whole_headline keeps damaged {D} state timed annals faults room lines first old new honest timed_first opened core session keeps_map disk same run is =
-    let sizes = old.held.runs.sizes in
+pub whole_headline : StepKeepsOpening → NoneDamaged → {D : Type 0} (state : D → DiskState) (timed : (d : D) → IsTimed (state d)) (room : Room) (lines : List Line) (workers turns : ℕ) (first : DiskState)
+    (old new : CoreState D) → (session : Session state room lines first old new) → old.held.book.book.entries ≡ []
+    → KeepsMapOf old.held.runs.sizes session.opens.pairs first (state old.disk) → (runs : RunsAll state lines workers turns old new)
+    → ((opening : List (Key × Value)) (m : Machine) (pace : Pace) → StandsWhole state opening old m pace → ChainIsSteps state opening runs.came.calls old new m pace)
+    → sum (drop callers new.held.book.seats.quanta) ≤ helps_in (steps_of runs.came.calls)
+    → (disk : D) → disk ≡ new.disk → (run : Run) → run ≡ run_at (charge_in old.held) new.held → RunAndHeadline state lines workers turns room run first (state disk)
+whole_headline keeps damaged {D} state timed room lines workers turns first old new session none map_kept runs steps few disk same run is =
     let opens = session.opens in
-    let leaves = leaves_history state timed sizes opens.pairs lines first old new _ _ honest timed_first refl (no_entries_yet annals faults old.held opened) (no_quanta_yet annals faults old.held opened) opens.stands keeps_map session.goes_on session.begins session.runs
-    (run_at (charge_in old.held) new.held) refl refl in
-    let headline = headline_from keeps damaged state room lines first old new _ _ _ _ honest session (ap (λ (b : BookState). b.stopped) opened.book) opens.stands leaves in
-    let printed = is_run_of state lines annals faults (charge_in old.held) old new opened core session.begins session.runs in
-    subst (λ (r : Run). RunAndHeadline state lines room r first (state disk)) (sym is)
-    (subst (λ (d : D). RunAndHeadline state lines room (run_at (charge_in old.held) new.held) first (state d)) (sym same) (sizes, printed, headline))
+    let headline = headline_from keeps damaged state timed room lines workers turns first old new _ _ _ _ session none map_kept opens.stands runs (steps opens.pairs _ _ opens.stands) few in
+    let printed = is_run_of state lines (charge_in old.held) old new session.run in
+    subst (λ (r : Run). RunAndHeadline state lines workers turns room r first (state disk)) (sym is)
+    (subst (λ (d : D). RunAndHeadline state lines workers turns room (run_at (charge_in old.held) new.held) first (state d)) (sym same) (old.held.runs.sizes, printed, headline))

@@ -1,17 +1,21 @@
 -- What a run leaves to be printed, on every disk.
-use Rattle.std.specs.Prelude.{◌≡◌, ℕ, zero, suc, List, [], ◌∷◌, ◌++◌, drop, slice_index_or, sum, sum_by, take}
+use Rattle.std.specs.Prelude.{◌≡◌, ◌≤◌, ◌-◌, ℕ, zero, suc, List, [], ◌∷◌, ◌++◌, drop, replicate, slice_index, slice_index_or, sum, sum_by, take}
 use Rattle.std.specs.List.{AllByRecursion}
 use Rattle.std.proofs.Common.{◌∙◌, refl, ap, sym, subst, arith}
 use Rattle.std.proofs.lemmas.List.Sums.{sum_by-cons}
 use Rattle.blsm_model.specs.Book.{Book}
 use Rattle.blsm_model.specs.Format.{callers}
-use Rattle.blsm_model.specs.Geometry.{high_mark}
-use Rattle.blsm_model.specs.Scripts.{asked, asked_in}
+use Rattle.blsm_model.specs.Geometry.{file_length, high_mark}
+use Rattle.blsm_model.specs.Scripts.{IsOfScript, asked, asked_in}
 use Rattle.blsm_model.specs.Sizes.{Sizes, IsGeometry}
 use Rattle.blsm_model.specs.declared.history.Entry.{Entry}
 use Rattle.blsm_model.specs.declared.history.Line.{Line}
 use Rattle.blsm_model.specs.declared.history.Totals.{Totals}
+use Rattle.blsm_model.specs.declared.room.Room.{Room}
 use Rattle.blsm_model.proofs.ScriptLemmas.{of_script}
+use Rattle.core_chain.specs.Quanta.{ChainHelps, ChainTakesFew, helps_in}
+use Rattle.core_chain.specs.Start.{IsUnasked, steps_of}
+use Rattle.core_chain.specs.Tells.{ChainTells, calls_of_all}
 use Rattle.core_moves.specs.declared.held.Held.{Held}
 use Rattle.core_moves.specs.Held.{charge_in}
 use Rattle.core_pace.specs.Opening.{IsOpened}
@@ -19,20 +23,14 @@ use Rattle.disk_trait.specs.Disk.{DiskState}
 use Rattle.seat_book.specs.State.{BookState, totals_in}
 use Rattle.tree_core.specs.Core.{CoreState, IsCore}
 use Rattle.tree_core.specs.Steps.{StandsSince}
-use Rattle.tree_machine.specs.Machine.{WorkSoFar, no_work}
-use Rattle.tree_session.specs.Faults.{NamesStop}
-use Rattle.tree_session.specs.Lines.{Rests}
-use Rattle.tree_session.specs.Session.{Runs, TookFew}
-use Rattle.store_run.specs.Run.{IsRunOf, Run}
-
--- what a core leaves that began with this charge
-abbrev pub run_at : ℕ → Held → Run
-run_at charge held = record {
-  charge = charge;
-  entries = held.book.book.entries;
-  quanta = held.book.book.quanta;
-  totals = totals_in (high_mark held.runs.sizes) (charge_in held) held.book;
-}
+use Rattle.tree_machine.specs.Machine.{WorkSoFar, no_work, seats}
+use Rattle.tree_machine.specs.declared.step.Step.{Step}
+use Rattle.tree_machine.proofs.PlayLemmas.{of_replicate}
+use Rattle.tree_session.specs.Faults.{NamesStop, Reaches, TellsFaults, faults_told}
+use Rattle.tree_session.specs.Lines.{HasRoomFor, Rests}
+use Rattle.tree_session.specs.Session.{Runs, TookFew, calls_for}
+use Rattle.tree_shared.specs.Runs.{IsFresh, RunsAll}
+use Rattle.store_run.specs.Run.{IsRunOf, Run, run_at}
 
 abbrev pub run_with : ℕ → Book → Totals → Run
 run_with charge annals totals = record { charge = charge; entries = annals.entries; quanta = annals.quanta; totals = totals }
@@ -50,8 +48,8 @@ no_quanta (work ∷ works) none =
     omega (arith, sum_by-cons (λ (w : WorkSoFar). w.quanta) work works, ap (λ (w : WorkSoFar). w.quanta) (none zero), no_quanta works (λ seat. none (suc seat)))
 
 -- the callers' quanta are those of the entries
-by_callers : (held : Held) (d : DiskState) → IsCore held d → Rests held → sum (take callers held.book.seats.quanta) ≡ sum held.book.book.quanta
-by_callers held d core rests =
+by_lines_alone : (held : Held) (d : DiskState) → IsCore held d → Rests held → sum (take callers held.book.seats.quanta) ≡ sum held.book.book.quanta
+by_lines_alone held d core rests =
     omega (arith, core.holds.told.told.booked.by_callers, no_quanta held.book.seats.work rests.idle)
 
 -- a core that was just opened noted nothing
@@ -64,26 +62,113 @@ no_quanta_yet annals faults held opened = ap (λ (b : BookState). b.book.quanta)
 geometry_of : (held : Held) (d : DiskState) → IsCore held d → IsGeometry held.runs.sizes
 geometry_of held d core = subst IsGeometry core.holds.told.sizes core.holds.told.told.paced.within.sizes
 
-pub is_run_of : {D : Type 0} (state : D → DiskState) (lines : List Line) (annals : Book) (faults charge : ℕ) (old new : CoreState D) → IsOpened annals faults old.held → IsCore new.held (state new.disk)
-    → StandsSince state old old → Runs state lines old new → IsRunOf old.held.runs.sizes lines (run_at charge new.held)
-is_run_of state lines annals faults charge old new opened core begins runs =
-    let entries : new.held.book.book.entries ≡ runs.added = runs.entries ∙ ap (λ (es : List Entry). es ++ runs.added) (no_entries_yet annals faults old.held opened) in
-    let quanta : new.held.book.book.quanta ≡ runs.counts = runs.quanta ∙ ap (λ (ns : List ℕ). ns ++ runs.counts) (no_quanta_yet annals faults old.held opened) in
-    let asked_for : asked_in new.held.book.book.entries ≡ asked lines = ap asked_in entries ∙ runs.asked_for in
-    record {
-      geometry = subst IsGeometry runs.proceeds.sizes (geometry_of new.held (state new.disk) core);
-      of_script = of_script lines new.held.book.book.entries asked_for;
-      in_order = asked_for;
-      few = subst (λ (es : List Entry). TookFew old.held.runs.sizes es new.held.book.book.quanta) (sym entries) (subst (λ (ns : List ℕ). TookFew old.held.runs.sizes runs.added ns) (sym quanta) runs.few);
-      callers = by_callers new.held (state new.disk) core runs.rests;
-      workers = runs.alone ∙ ap (λ (b : BookState). sum (drop callers b.seats.quanta)) opened.book;
-      stops = subst (λ (es : List Entry). AllByRecursion (λ e. NamesStop e.reply new.held.book.stopped) es) (sym entries) runs.names;
-      peak = (runs.proceeds.lasts old begins).peak;
-      high = ap high_mark runs.proceeds.sizes;
-    }
+-- ---- a run, whoever's threads made it
+
+-- From a core that was just opened a script led here.
+pub record HasRun {D : Type 0} (state : D → DiskState) (lines : List Line) (old new : CoreState D) : Type 0 where
+  pub keeps : IsCore new.held (state new.disk)
+  pub since : StandsSince state old new
+  pub of_script : IsOfScript lines new.held.book.book.entries
+  pub few : TookFew old.held.runs.sizes new.held.book.book.entries new.held.book.book.quanta
+  pub by_callers : sum (take callers new.held.book.seats.quanta) ≡ sum new.held.book.book.quanta
+  pub names : AllByRecursion (λ e. NamesStop e.reply new.held.book.stopped) new.held.book.book.entries
+  pub tells : TellsFaults (faults_told new.held.book.book.entries) old.held new.held (state old.disk) (state new.disk)
+  pub calls : ℕ
+  pub effect : Reaches (file_length old.held.runs.sizes) calls (state old.disk) (state new.disk)
+
+-- one thread did the lines one after another
+module _ {D : Type 0} (state : D → DiskState) (lines : List Line) (annals : Book) (faults : ℕ) (old new : CoreState D) (opened : IsOpened annals faults old.held) (core : IsCore new.held (state new.disk))
+    (begins : StandsSince state old old) (runs : Runs state lines old new) where
+  lines_added : new.held.book.book.entries ≡ runs.added
+  lines_added = runs.entries ∙ ap (λ (es : List Entry). es ++ runs.added) (no_entries_yet annals faults old.held opened)
+
+  lines_counted : new.held.book.book.quanta ≡ runs.counts
+  lines_counted = runs.quanta ∙ ap (λ (ns : List ℕ). ns ++ runs.counts) (no_quanta_yet annals faults old.held opened)
+
+  pub lines_asked : asked_in new.held.book.book.entries ≡ asked lines
+  lines_asked = ap asked_in lines_added ∙ runs.asked_for
+
+  pub by_lines : HasRun state lines old new
+  by_lines = record {
+    keeps = core;
+    since = runs.proceeds.lasts old begins;
+    of_script = of_script lines new.held.book.book.entries lines_asked;
+    few =
+        subst (λ (es : List Entry). TookFew old.held.runs.sizes es new.held.book.book.quanta) (sym lines_added)
+        (subst (λ (ns : List ℕ). TookFew old.held.runs.sizes runs.added ns) (sym lines_counted) runs.few);
+    by_callers = by_lines_alone new.held (state new.disk) core runs.rests;
+    names = subst (λ (es : List Entry). AllByRecursion (λ e. NamesStop e.reply new.held.book.stopped) es) (sym lines_added) runs.names;
+    tells = subst (λ (es : List Entry). TellsFaults (faults_told es) old.held new.held (state old.disk) (state new.disk)) (sym lines_added) runs.proceeds.tells;
+    calls = calls_for old.held.runs.sizes runs.added runs.counts;
+    effect = runs.proceeds.effect;
+  }
+
+  pub lines_alone : sum (drop callers new.held.book.seats.quanta) ≡ 0
+  lines_alone = runs.alone ∙ ap (λ (b : BookState). sum (drop callers b.seats.quanta)) opened.book
+
+-- callers and workers did it by calls of the core, each in its turn
+pub by_threads : {D : Type 0} (state : D → DiskState) (lines : List Line) (workers turns : ℕ) (old new : CoreState D) → (runs : RunsAll state lines workers turns old new)
+    → ChainTells state runs.came.calls old new → ChainTakesFew state runs.came.calls old new → HasRun state lines old new
+by_threads state lines workers turns old new runs tells takes = record {
+  keeps = runs.keeps;
+  since = runs.came.since;
+  of_script = runs.of_script;
+  few = takes.few;
+  by_callers = takes.closed runs.idle;
+  names = tells.names;
+  tells = tells.tells;
+  calls = calls_of_all old.held.runs.sizes (steps_of runs.came.calls);
+  effect = tells.effect;
+}
+
+-- ---- what it leaves to be printed
+
+pub is_run_of : {D : Type 0} (state : D → DiskState) (lines : List Line) (charge : ℕ) (old new : CoreState D) → HasRun state lines old new → IsRunOf old.held.runs.sizes lines (run_at charge new.held)
+is_run_of state lines charge old new run = record {
+  geometry = subst IsGeometry run.since.sizes (geometry_of new.held (state new.disk) run.keeps);
+  of_script = run.of_script;
+  few = run.few;
+  callers = run.by_callers;
+  stops = run.names;
+  peak = run.since.peak;
+  high = ap high_mark run.since.sizes;
+}
 
 -- so of what is printed
-pub printed_of : {D : Type 0} (state : D → DiskState) (lines : List Line) (annals : Book) (faults : ℕ) (old new : CoreState D) → IsOpened annals faults old.held → IsCore new.held (state new.disk)
-    → StandsSince state old old → Runs state lines old new → (run : Run) → run ≡ run_at (charge_in old.held) new.held → (sizes : Sizes) × IsRunOf sizes lines run
-printed_of state lines annals faults old new opened core begins runs run is =
-    (old.held.runs.sizes, subst (λ (r : Run). IsRunOf old.held.runs.sizes lines r) (sym is) (is_run_of state lines annals faults (charge_in old.held) old new opened core begins runs))
+pub printed_of : {D : Type 0} (state : D → DiskState) (lines : List Line) (old new : CoreState D) → HasRun state lines old new → (run : Run) → run ≡ run_at (charge_in old.held) new.held
+    → (sizes : Sizes) × IsRunOf sizes lines run
+printed_of state lines old new has run is =
+    (old.held.runs.sizes, subst (λ (r : Run). IsRunOf old.held.runs.sizes lines r) (sym is) (is_run_of state lines (charge_in old.held) old new has))
+
+-- ---- a core that was just opened
+
+no_turns_yet : (seat : ℕ) → slice_index (replicate (seats - callers) 0) seat ≡ 0
+no_turns_yet seat = of_replicate (seats - callers) seat 0
+
+-- it is as the lock takes it
+pub is_fresh : {D : Type 0} (lines : List Line) (annals : Book) (faults : ℕ) (core : CoreState D) → IsOpened annals faults core.held → Rests core.held → HasRoomFor annals.room lines → IsFresh lines core
+is_fresh lines annals faults core opened rests room = record {
+  none = no_entries_yet annals faults core.held opened;
+  runs = ap (λ (b : BookState). b.stopped) opened.book;
+  rests = rests;
+  helped = λ seat above below. ap (λ (b : BookState). slice_index b.seats.turns (seat - callers)) opened.book ∙ no_turns_yet (seat - callers);
+  room = subst (λ (r : Room). HasRoomFor r lines) (sym (ap (λ (b : BookState). b.book.room) opened.book)) room;
+}
+
+-- and nothing was asked of it
+pub is_unasked : {D : Type 0} (state : D → DiskState) (annals : Book) (faults : ℕ) (core : CoreState D) → IsOpened annals faults core.held → Rests core.held → IsCore core.held (state core.disk) → StandsSince state core core
+    → IsUnasked state core
+is_unasked state annals faults core opened rests keeps begins = record {
+  keeps = keeps;
+  begins = begins;
+  none = no_entries_yet annals faults core.held opened;
+  runs = ap (λ (b : BookState). b.stopped) opened.book;
+  idle = rests.idle;
+}
+
+-- no quantum was counted for a worker yet, so each one is one of its turns
+pub few_turned : {D : Type 0} (state : D → DiskState) (calls : List (Step × CoreState D)) (annals : Book) (faults : ℕ) (old new : CoreState D) → IsOpened annals faults old.held
+    → ChainHelps state calls old new → sum (drop callers new.held.book.seats.quanta) ≤ helps_in (steps_of calls)
+few_turned state calls annals faults old new opened helps =
+    let none : sum (drop callers old.held.book.seats.quanta) ≡ 0 = ap (λ (b : BookState). sum (drop callers b.seats.quanta)) opened.book in
+    omega (arith, helps.rises, none)

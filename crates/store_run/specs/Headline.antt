@@ -1,13 +1,14 @@
--- The headline, for one thread. Over an honest disk whose file reads as a map, a script was run, and this was printed. Each phrase has its word
--- here, or in `IsRunOf`:
+-- The headline, however the threads interleave. Over an honest disk whose file reads as a map, callers and merge workers ran a script, and this was
+-- printed. Each phrase has its word here, or in `IsRunOf`:
 --
 --   each caller's commands once, in order                        `IsRunOf.of_script`
---   the sequential map's replies                                 `Headline.replies`; a write is refused for size or for a fault alone
+--   the sequential map's replies                                 `IsServed.replies`; a write is refused for size or for a fault alone
 --   the memory table never passes its bytes                      `IsRunOf.peak`, `EndsWithin.lanes`
---   each write does few merge quanta itself                      `IsRunOf.few`; and the quanta are real: `EndsWithin.components`, `Headline.stands`
+--   each write does few merge quanta itself                      `IsRunOf.few`; and the quanta are real: `EndsWithin.components`, `IsServed.stands`
 --   every crash image opens to a prefix of the history           `LeavesHistory.each`, `LeavesHistory.once_synced`
---   which holds every write that was acknowledged by then        `LeavesHistory.paced`, and in the end the whole, `LeavesHistory.whole`
-use Rattle.std.specs.Prelude.{◌≡◌, ◌≤◌, ◌+◌, ◌*◌, ℕ, false, List, length, take, None}
+--   which holds every write that was acknowledged by then        `HaveMoments.shows`, and in the end the whole, `LeavesHistory.whole`
+--   each caller and each worker comes to its end                 `Headline.ended`
+use Rattle.std.specs.Prelude.{◌≡◌, ◌≤◌, ◌+◌, ◌*◌, ℕ, false, List, length, map, take, None}
 use Rattle.blsm_model.specs.Geometry.{limits_of}
 use Rattle.blsm_model.specs.Legal.{IsLegal}
 use Rattle.blsm_model.specs.Rows.{puts_of}
@@ -20,6 +21,7 @@ use Rattle.disk_trait.specs.Disk.{DiskState, GoesOn}
 use Rattle.disk_trait.specs.Moments.{LeavesOnly, LeavesOnlyOnceSynced, IsOldOr}
 use Rattle.record_delta.specs.Entries.{Entries, entries_weight}
 use Rattle.pacing.specs.Kept.{most_taken}
+use Rattle.seat_book.specs.State.{book_of}
 use Rattle.tree_machine.specs.declared.step.Step.{Step}
 use Rattle.tree_machine.specs.Lists.{value_in}
 use Rattle.tree_machine.specs.Machine.{Catalogue, Machine, opened, totals}
@@ -30,8 +32,9 @@ use Rattle.tree_file.specs.Tree.{Tree, HoldsTree, ReadsAsMap, components_weight,
 use Rattle.core_lists.specs.Shown.{ShowsHistory, doubted, lanes_weight}
 use Rattle.tree_reading.specs.Damage.{most_version}
 use Rattle.recover_open.specs.Opening.{KeepsMapOf, weight_of_tree}
-use Rattle.tree_session.specs.Session.{calls_for}
-use Rattle.store_run.specs.Run.{Run, finds_damage}
+use Rattle.core_chain.specs.Quanta.{helps_in}
+use Rattle.core_chain.specs.Steps.{AllMay, AreTimed, RestOnceStopped, clock_after, outcomes_in}
+use Rattle.store_run.specs.Run.{HaveEnded, Run, finds_damage}
 
 -- The file is a store of these sizes that reads as this map, with a version that is taken.
 pub record IsStoreWith (sizes : Sizes) (opening : List (Key × Value)) (file : List ℕ) : Type 0 where
@@ -60,6 +63,10 @@ pub record IsReached (sizes : Sizes) (opening : List (Key × Value)) (run : Run)
   pub quanta : end.book.quanta ≡ run.quanta
   pub totals_are : totals end ≡ run.totals
 
+-- the state of the machine that it begins with
+abbrev pub begin_of : {sizes : Sizes} {opening : List (Key × Value)} {run : Run} {room : Room} {file : List ℕ} {before after : ℕ} → IsReached sizes opening run room file before after → Machine
+begin_of {sizes} {opening} {run} {room} {file} {before} reached = opened sizes reached.c1 reached.c2 reached.catalogue before room
+
 -- What the disk has in the end, also of a store that was stopped: a tree whose components weigh no more than at the opening and what the printed
 -- quanta can have taken, a quantum less one and two of the heaviest entries for each, so that no merge work was done in secret; and lanes that weigh
 -- no more than the peak, and the write in doubt where one is.
@@ -71,22 +78,8 @@ pub record EndsWithin (sizes : Sizes) (run : Run) (file : List ℕ) : Type 0 whe
   -- a write in doubt stops the store
   pub sure : run.totals.stopped ≡ None → doubted run.entries ≡ 0
 
--- What a crash leaves while the history is made. The disk was `first` before the call, `opened` when the store was open, and is `last` after it.
-pub record LeavesHistory (sizes : Sizes) (opening : List (Key × Value)) (run : Run) (first opened last : DiskState) : Type 0 where
-  -- up to the opening nothing of the history was written
-  pub begins : KeepsMapOf sizes opening first opened
-  -- each image of each moment is one from before, or shows a front of the history; since the first sync of the opening each shows one
-  pub each : LeavesOnly first last (IsOldOr first.images (ShowsHistory sizes opening run.entries 0))
-  pub once_synced : LeavesOnlyOnceSynced first last (ShowsHistory sizes opening run.entries 0)
-  -- once the first n commands had their calls of the disk, each image shows their n entries at least; and no more calls were made than that
-  pub paced : (n t : ℕ) (c : List ℕ) → n ≤ length run.entries → opened.clock + calls_for sizes (take n run.entries) (take n run.quanta) ≤ t → last.images_since t c
-      → ShowsHistory sizes opening run.entries n c
-  pub calls : last.clock ≤ opened.clock + calls_for sizes run.entries run.quanta
-  -- in the end each image shows the whole, and so does the disk as it reads
-  pub whole : (c : List ℕ) → last.images c → ShowsHistory sizes opening run.entries (length run.entries) c
-  pub shown : ShowsHistory sizes opening run.entries (length run.entries) last.bytes
-
-pub record Headline {D : Type 0} (state : D → DiskState) (sizes : Sizes) (run : Run) (room : Room) (first last : DiskState) : Type 0 where
+-- What the script was answered, and what the steps led to.
+pub record IsServed {D : Type 0} (state : D → DiskState) (sizes : Sizes) (run : Run) (room : Room) (first last : DiskState) : Type 0 where
   -- what the disk had
   pub opening : List (Key × Value)
   pub found : IsStoreWith sizes opening first.bytes
@@ -100,7 +93,38 @@ pub record Headline {D : Type 0} (state : D → DiskState) (sizes : Sizes) (run 
   pub goes_on : GoesOn (state opened) last
   pub calm : (state opened).faults ≡ first.faults
   pub reached : IsReached sizes opening run room (state opened).bytes (state opened).faults last.faults
-  pub ended : EndsWithin sizes run last.bytes
+  pub within : EndsWithin sizes run last.bytes
   -- unless a fault stopped the store, the disk has just the components and the tables to which the steps led
   pub stands : run.totals.stopped ≡ None → (tree : Tree) × HoldsTree sizes tree last.bytes × (reached.end.lists ≡ lists_of tree)
-  pub crashes : LeavesHistory sizes opening run first (state opened) last
+
+-- The moments of the steps, of which one is one hold of the lock: once the first n had ended, each image shows all entries that they had noted.
+pub record HaveMoments (sizes : Sizes) (opening : List (Key × Value)) (run : Run) (begin : Machine) (made : List (Step × Outcome)) (opened last : DiskState) : Type 0 where
+  -- the steps, each with the disk's clock when it had ended: clocks rise, by no more than a step may call the disk, and stand once the store is stopped
+  pub steps : List (Step × Outcome × ℕ)
+  pub same : outcomes_in steps ≡ made
+  pub timed : AreTimed sizes opened.clock steps last.clock
+  pub rests : RestOnceStopped begin opened.clock steps
+  -- each might be made where it stands
+  pub may : AllMay begin made
+  pub shows : (n t : ℕ) (c : List ℕ) → clock_after opened.clock n steps ≤ t → last.images_since t c
+      → ShowsHistory sizes opening run.entries (length (played begin (take n made)).book.entries) c
+
+-- What a crash leaves while the history is made. The disk was `first` before the call, `opened` when the store was open, and is `last` after it.
+pub record LeavesHistory (sizes : Sizes) (opening : List (Key × Value)) (run : Run) (begin : Machine) (made : List (Step × Outcome)) (first opened last : DiskState) : Type 0 where
+  -- up to the opening nothing of the history was written
+  pub begins : KeepsMapOf sizes opening first opened
+  -- each image of each moment is one from before, or shows a front of the history; since the first sync of the opening each shows one
+  pub each : LeavesOnly first last (IsOldOr first.images (ShowsHistory sizes opening run.entries 0))
+  pub once_synced : LeavesOnlyOnceSynced first last (ShowsHistory sizes opening run.entries 0)
+  pub moments : HaveMoments sizes opening run begin made opened last
+  -- in the end each image shows the whole, and so does the disk as it reads
+  pub whole : (c : List ℕ) → last.images c → ShowsHistory sizes opening run.entries (length run.entries) c
+  pub shown : ShowsHistory sizes opening run.entries (length run.entries) last.bytes
+
+-- so many merge workers, each of which takes so many turns at most
+pub record Headline {D : Type 0} (state : D → DiskState) (sizes : Sizes) (workers turns : ℕ) (run : Run) (room : Room) (first last : DiskState) : Type 0 where
+  pub served : IsServed state sizes run room first last
+  pub ended : HaveEnded workers turns served.reached.end.gears (book_of served.reached.end)
+  -- each quantum of a worker was a turn of one
+  pub helped : run.totals.workers ≤ helps_in (map (λ one. one.0) served.reached.made)
+  pub crashes : LeavesHistory sizes served.opening run (begin_of served.reached) served.reached.made first (state served.opened) last

@@ -1,14 +1,20 @@
 -- The run of a script over the store on a disk: what it leaves to be printed, and what holds of it on every disk, honest or not.
-use Rattle.std.specs.Prelude.{◌≡◌, ◌≤◌, ◌<◌, ◌||◌, ℕ, Bool, true, false, List, sum}
+use Rattle.std.specs.Prelude.{◌≡◌, ◌≤◌, ◌<◌, ◌+◌, ◌||◌, ℕ, Bool, true, false, None, List, slice_index, sum}
 use Rattle.std.specs.List.{AllByRecursion, list_any}
 use Rattle.refusal.specs.Count.{HasRisenBy}
 use Rattle.blsm_model.specs.Geometry.{high_mark}
+use Rattle.blsm_model.specs.Format.{callers}
 use Rattle.blsm_model.specs.Scripts.{IsOfScript, asked, asked_in}
 use Rattle.blsm_model.specs.Sizes.{Sizes, IsGeometry}
 use Rattle.blsm_model.specs.declared.history.Entry.{Entry}
 use Rattle.blsm_model.specs.declared.history.Line.{Line}
 use Rattle.blsm_model.specs.declared.history.Totals.{Totals}
+use Rattle.core_moves.specs.declared.held.Held.{Held}
+use Rattle.core_moves.specs.Held.{charge_in}
 use Rattle.disk_trait.specs.Disk.{DiskState}
+use Rattle.gear_sched.specs.Gears.{GearState, first_debt, second_debt}
+use Rattle.seat_book.specs.State.{BookState, totals_in, work_in}
+use Rattle.tree_core.specs.Notes.{HasLeft}
 use Rattle.tree_machine.specs.Outcomes.{is_by_page, is_damaged}
 use Rattle.tree_session.specs.Faults.{NamesCount, NamesStop, faults_told, is_by_fault}
 use Rattle.tree_session.specs.Session.{TookFew}
@@ -26,25 +32,46 @@ pub record Run : Type 0 where
 abbrev pub run_of : Finished → Run
 run_of f = record { charge = f.charge; entries = f.annals.entries; quanta = f.annals.quanta; totals = f.totals }
 
+-- what a core leaves to be printed that began with this charge
+abbrev pub run_at : ℕ → Held → Run
+run_at charge held = record {
+  charge = charge;
+  entries = held.book.book.entries;
+  quanta = held.book.book.quanta;
+  totals = totals_in (high_mark held.runs.sizes) (charge_in held) held.book;
+}
+
 -- a page was found damaged, by a lookup, by a next or by a merge
 abbrev pub finds_damage : Run → Bool
 finds_damage run = list_any (λ e. is_damaged e.reply) run.entries || is_by_page run.totals.stopped
 
--- What is printed, whatever the disk is.
+-- What is printed, whatever the disk is, and however the threads interleave.
 pub record IsRunOf (sizes : Sizes) (lines : List Line) (run : Run) : Type 0 where
   pub geometry : IsGeometry sizes
-  -- each caller's commands, once, in order; and, as there is one thread, in the order of the lines
+  -- each caller's commands, once, in order
   pub of_script : IsOfScript lines run.entries
-  pub in_order : asked_in run.entries ≡ asked lines
-  -- a write took no more quanta than its work bound, a work of n turns no more than n, and the others none; their sum is printed, and nobody else works
+  -- a write took no more quanta than its work bound, a work of n turns no more than n, and the others none; their sum is printed
   pub few : TookFew sizes run.entries run.quanta
   pub callers : run.totals.callers ≡ sum run.quanta
-  pub workers : run.totals.workers ≡ 0
   -- a reply that the store is stopped names what stopped it
   pub stops : AllByRecursion (λ e. NamesStop e.reply run.totals.stopped) run.entries
   -- the memory table weighed no more than its bytes
   pub peak : run.totals.peak ≤ high_mark sizes
   pub high : run.totals.high ≡ high_mark sizes
+
+-- And of one thread: the commands in the order of the lines, and nobody else works.
+pub record IsRunInOrder (sizes : Sizes) (lines : List Line) (run : Run) : Type 0 where
+  pub printed : IsRunOf sizes lines run
+  pub in_order : asked_in run.entries ≡ asked lines
+  pub alone : run.totals.workers ≡ 0
+
+-- How callers and workers ended: each caller left, with no open work, and owes nothing unless the store is stopped; each worker took a turn, where it
+-- takes any.
+pub record HaveEnded (workers turns : ℕ) (gears : GearState) (book : BookState) : Type 0 where
+  pub left : (seat : ℕ) → seat < callers → HasLeft seat book
+  pub idle : (seat : ℕ) → seat < callers → (work_in seat book).turns ≡ 0
+  pub even : book.stopped ≡ None → (seat : ℕ) → seat < callers → first_debt gears seat + second_debt gears seat ≡ 0
+  pub helped : 0 < turns → (i : ℕ) → i < workers → 0 < slice_index book.seats.turns i
 
 -- how the run ended, by the disk's count of faults and what was found
 abbrev pub IsEnding : Ending → Run → ℕ → Type 0

@@ -1,4 +1,4 @@
--- What a run over an empty store is, by the headline.
+-- What a run over an empty store is, by what it was served.
 use Rattle.std.proofs.Common.{◌≡◌, ◌≤◌, ◌↔◌, ◌∙◌, ◌||◌, ℕ, Bool, true, false, List, [], Option, Some, None, Result, Ok, Err, IfOk, IfErr, IsErr, is_err, ap, sym, subst, refl, arith, lit≤, take}
 use Rattle.std.proofs.Math.Seq.{take-nil}
 use Rattle.std.specs.List.{list_any}
@@ -26,8 +26,8 @@ use Rattle.tree_reading.specs.Damage.{most_version}
 use Rattle.tree_reading.specs.First.{IsOfFile}
 use Rattle.tree_reading.specs.Reading.{IsWhy}
 use Rattle.tree_session.specs.Faults.{NamesCount}
-use Rattle.store_run.specs.Run.{AreCounted, IsRunOf, Run, run_of}
-use Rattle.store_run.specs.Headline.{EndsWithin, Headline, IsReached}
+use Rattle.store_run.specs.Run.{AreCounted, IsRunInOrder, Run, run_of}
+use Rattle.store_run.specs.Headline.{EndsWithin, IsReached, IsServed}
 use Rattle.store_run.specs.declared.run.Finished.{Finished}
 use Rattle.store_trial.specs.Trial.{IsFreshStore, IsTrialOf}
 
@@ -99,60 +99,60 @@ module _ {D : Type 0} (state : D → DiskState)
     → ReadsAsMap sizes pairs file ↔ (FitsSizes sizes tree × (map_of_tree tree ≡ pairs)))
     (seed count : ℕ) (lines : List Line) (run : Run) (room : Room) (first last : DiskState) (made : lines ≡ generated seed count)
     (empty : IsEmptyStore default_sizes first.bytes) (none : first.faults ≡ 0) (still : last.faults ≡ 0) (counted : AreCounted run first last)
-    (sizes : Sizes) (printed : IsRunOf sizes lines run) (headline : Headline state sizes run room first last) where
+    (sizes : Sizes) (printed : IsRunInOrder sizes lines run) (served : IsServed state sizes run room first last) where
   sizes_are : sizes ≡ default_sizes
-  sizes_are = one_sizes sizes default_sizes headline.found.image first_tree first.bytes headline.found.holds empty
+  sizes_are = one_sizes sizes default_sizes served.found.image first_tree first.bytes served.found.holds empty
 
-  opening_is : headline.opening ≡ []
+  opening_is : served.opening ≡ []
   opening_is =
-      let reads = subst (λ (z : Sizes). ReadsAsMap z headline.opening first.bytes) sizes_are headline.found.reads in
-      let is = (one_map default_sizes first_tree headline.opening first.bytes empty).0 reads in
+      let reads = subst (λ (z : Sizes). ReadsAsMap z served.opening first.bytes) sizes_are served.found.reads in
+      let is = (one_map default_sizes first_tree served.opening first.bytes empty).0 reads in
       sym is.1
 
-  image_is : headline.found.image ≡ first_tree
+  image_is : served.found.image ≡ first_tree
   image_is =
-      one_tree default_sizes headline.found.image first_tree first.bytes
-      (subst (λ (z : Sizes). HoldsTree z headline.found.image first.bytes) sizes_are headline.found.holds) empty
+      one_tree default_sizes served.found.image first_tree first.bytes
+      (subst (λ (z : Sizes). HoldsTree z served.found.image first.bytes) sizes_are served.found.holds) empty
 
   -- what the file had before it was opened weighs nothing
-  weightless : weight_of_tree headline.found.image ≡ 0
+  weightless : weight_of_tree served.found.image ≡ 0
   weightless = ap weight_of_tree image_is
 
   -- so nothing was charged at the opening
   nothing : run.charge ≡ 0
-  nothing = let light = headline.light in omega (arith, light, weightless)
+  nothing = let light = served.light in omega (arith, light, weightless)
 
   never_stopped : run.totals.stopped ≡ None
   never_stopped =
-      let by_page = none_behind (list_any (λ (e : Entry). is_damaged e.reply) run.entries) (is_by_page run.totals.stopped) headline.no_page in
+      let by_page = none_behind (list_any (λ (e : Entry). is_damaged e.reply) run.entries) (is_by_page run.totals.stopped) served.no_page in
       none_stops run.totals.stopped first last counted.stop by_page none still
 
   legal : IsLegal (limits_of default_sizes 0) [] run.entries
   legal =
       subst (λ (n : ℕ). IsLegal (limits_of default_sizes n) [] run.entries) nothing
       (subst (λ (pairs : List (Key × Value)). IsLegal (limits_of default_sizes run.charge) pairs run.entries) opening_is
-      (subst (λ (z : Sizes). IsLegal (limits_of z run.charge) headline.opening run.entries) sizes_are headline.replies))
+      (subst (λ (z : Sizes). IsLegal (limits_of z run.charge) served.opening run.entries) sizes_are served.replies))
 
-  at_end : StandsIn default_sizes [] run room (state headline.opened).bytes last.bytes 0 0
+  at_end : StandsIn default_sizes [] run room (state served.opened).bytes last.bytes 0 0
   at_end =
-      let there = headline.stands never_stopped in
-      at_sizes sizes headline.opening run room (state headline.opened).bytes last.bytes (state headline.opened).faults last.faults sizes_are opening_is (headline.calm ∙ none) still
-      (headline.reached, there.0, there.1, there.2)
+      let there = served.stands never_stopped in
+      at_sizes sizes served.opening run room (state served.opened).bytes last.bytes (state served.opened).faults last.faults sizes_are opening_is (served.calm ∙ none) still
+      (served.reached, there.0, there.1, there.2)
 
   pub is_trial : IsTrialOf seed count run
   is_trial = record {
     printed =
-        subst (λ (ls : List Line). IsRunOf default_sizes ls run) made (subst (λ (z : Sizes). IsRunOf z lines run) sizes_are printed);
-    undamaged = headline.no_page;
+        subst (λ (ls : List Line). IsRunInOrder default_sizes ls run) made (subst (λ (z : Sizes). IsRunInOrder z lines run) sizes_are printed);
+    undamaged = served.no_page;
     nothing = nothing;
     replies = legal;
     untold = let risen = counted.risen in omega (arith, risen, none, still);
     runs = never_stopped;
     room = room;
-    before = (state headline.opened).bytes;
+    before = (state served.opened).bytes;
     reached = at_end.0;
     file = last.bytes;
-    ended = subst (λ (z : Sizes). EndsWithin z run last.bytes) sizes_are headline.ended;
+    ended = subst (λ (z : Sizes). EndsWithin z run last.bytes) sizes_are served.within;
     tree = at_end.1;
     holds = at_end.2;
     stands = at_end.3;
@@ -167,15 +167,15 @@ pub tried : ((a b : Sizes) (one other : Tree) (file : List ℕ) → HoldsTree a 
     → (seed count : ℕ) (lines : List Line) (room : Room) (disk last : Faultless) (result : Result Finished Unreadable) (finished : Finished)
     → lines ≡ generated seed count → IsFreshStore disk → last.faults ≡ 0
     → IfOk result (λ f. AreCounted (run_of f) (faultless_state disk) (faultless_state last))
-    → IfOk result (λ f. (sizes : Sizes) × IsRunOf sizes lines (run_of f) × Headline faultless_state sizes (run_of f) room (faultless_state disk) (faultless_state last))
+    → IfOk result (λ f. (sizes : Sizes) × IsRunInOrder sizes lines (run_of f) × IsServed faultless_state sizes (run_of f) room (faultless_state disk) (faultless_state last))
     → result ≡ Ok finished → IsTrialOf seed count (run_of finished)
-tried one_sizes one_tree one_map seed count lines room disk last result finished made fresh still counted headline is =
+tried one_sizes one_tree one_map seed count lines room disk last result finished made fresh still counted served is =
     let count_is =
     subst (λ (r : Result Finished Unreadable). IfOk r (λ f. AreCounted (run_of f) (faultless_state disk) (faultless_state last))) is counted in
     let all =
     subst (λ (r : Result Finished Unreadable).
-    IfOk r (λ f. (sizes : Sizes) × IsRunOf sizes lines (run_of f) × Headline faultless_state sizes (run_of f) room (faultless_state disk) (faultless_state last)))
-    is headline in
+    IfOk r (λ f. (sizes : Sizes) × IsRunInOrder sizes lines (run_of f) × IsServed faultless_state sizes (run_of f) room (faultless_state disk) (faultless_state last)))
+    is served in
     is_trial faultless_state one_sizes one_tree one_map seed count lines (run_of finished) room (faultless_state disk) (faultless_state last) made fresh.empty fresh.faults still
     count_is all.0 all.1 all.2
 

@@ -9,7 +9,7 @@ use Rattle.tree_file.specs.Tree.{Tree, HoldsTree, lists_of}
 use Rattle.recover_open.specs.Making.{IsEmptyStore}
 use Rattle.script_text.specs.Generated.{generated}
 use Rattle.tree_session.specs.Faults.{faults_told}
-use Rattle.store_run.specs.Run.{Run, IsRunOf, finds_damage}
+use Rattle.store_run.specs.Run.{Run, IsRunInOrder, finds_damage}
 use Rattle.store_run.specs.Headline.{EndsWithin, IsReached}
 
 -- The disk has an empty store of the default geometry and no room for more than its file, and no call failed yet.
@@ -22,7 +22,7 @@ pub record IsFreshStore (disk : Faultless) : Type 0 where
 -- The script that this seed makes was run over an empty store of the default geometry, without a fault and without damage. All of the headline
 -- holds of it but for crash images, of which such a disk tells none.
 pub record IsTrialOf (seed count : ℕ) (run : Run) : Type 0 where
-  pub printed : IsRunOf default_sizes (generated seed count) run
+  pub printed : IsRunInOrder default_sizes (generated seed count) run
   pub undamaged : finds_damage run ≡ false
   -- nothing was charged at the opening
   pub nothing : run.charge ≡ 0

@@ -12,7 +12,7 @@ use recover_open::{Unreadable, make_store};
 use refusal::NoMemory;
 use script_text::generate;
 use std::alloc::Global;
-use store_run::{Finished, run_over};
+use store_run::{Finished, run_in_order};
 use tree_file::one_tree;
 use tree_reading::a_map_is_read;
 
@@ -37,7 +37,7 @@ pub fn try_seed(alloc: Global, seed: u64, count: u32) -> Result<Finished, NoMemo
     a_map_is_read();
     let script = generate(alloc, seed, count)?;
     let disk = made(alloc)?;
-    let (_disk, outcome) = run_over(alloc, disk, script.lines(), script.room());
+    let (_disk, outcome) = run_in_order(alloc, disk, script.lines(), script.room());
     match outcome {
         Ok(finished) => Ok(finished),
         Err(Unreadable::NoMemory) => Err(NoMemory),

@@ -1,7 +1,8 @@
-// Scripts of sixteen callers, drawn at random, beside a plain map and plain copies of it.
+// Scripts of sixteen callers, drawn at random and done in the order of their lines, beside a plain map and plain copies of it.
 ghost use Rattle.std.specs.Prelude.{◌<◌};
 
-use super::{RUN, add, run_text, shelf_with_default};
+use super::turns::run_in_turn;
+use super::{add, shelf_with_default};
 use std::alloc::Global;
 use std::process::Abort;
 
@@ -244,7 +245,16 @@ fn draw_script(rt: &impl Abort, alloc: Global, seed: u64) -> (String, String) {
     };
     let mut script = String::new(alloc);
     let mut wanted = String::new(alloc);
-    for place in 1..=COMMANDS {
+    // One get of each caller comes first, in any order.
+    for seat in 1..=CALLERS {
+        add(
+            rt,
+            &mut script,
+            &taken(rt, format!(in alloc; "{seat} get none")),
+        );
+    }
+    for number in 1..=COMMANDS {
+        let place = number.saturating_add(CALLERS);
         let caller = draws.below(CALLERS);
         let (command, reply) = draw(rt, alloc, &mut draws, &mut plain, caller);
         let seat = caller.saturating_add(1);
@@ -263,6 +273,10 @@ fn draw_script(rt: &impl Abort, alloc: Global, seed: u64) -> (String, String) {
 fn check_lines(rt: &impl Abort, text: &str, wanted: &str) {
     let mut lines = text.lines();
     assert!(rt; lines.next() == Some("open charge 0"));
+    for _ in 0..CALLERS {
+        let Some(line) = lines.next() else { rt.abort() };
+        assert!(rt; line.ends_with(" get none => none q0"));
+    }
     for want in wanted.lines() {
         let Some(line) = lines.next() else { rt.abort() };
         assert!(rt; line.starts_with(want));
@@ -278,7 +292,7 @@ fn drawn_scripts_with_holds(rt: HostRuntime) {
     for seed in 0..SCRIPTS {
         let (script, wanted) = draw_script(&rt, alloc, seed);
         let mut shelf = shelf_with_default(&rt, alloc);
-        let text = run_text(&rt, alloc, &mut shelf, &RUN, script.as_bytes());
+        let text = run_in_turn(&rt, alloc, &mut shelf, &script, CALLERS);
         check_lines(&rt, &text, &wanted);
     }
 }

@@ -1,5 +1,6 @@
 // Holds of ranges, which give the rows of their moment.
-use super::{RUN, add, check, letters, run_text, shelf_with_default, shelf_with_smallest};
+use super::turns::run_in_turn;
+use super::{RUN, add, check, letters, shelf_with_default, shelf_with_smallest};
 use std::alloc::Global;
 use std::process::Abort;
 use std::sync::Wait;
@@ -36,8 +37,8 @@ fn a_hold_of_no_range_and_none(rt: HostRuntime) {
     check_fresh(
         &rt,
         rt.alloc(),
-        b"1 hold c a\n1 next 1\n2 drop\n2 next 32\n1 drop\n1 drop\n",
-        "open charge 0\n1 1 hold c a => held q0\n2 1 next 1 => rows 0 q0\n3 2 drop => nohold q0\n4 2 next 32 => nohold q0\n5 1 drop => ok q0\n6 1 drop => nohold q0\nend c0 0 of 65536 callers 0 workers 0 swaps 0 0\n",
+        b"2 drop\n2 next 32\n2 hold c a\n2 next 1\n2 drop\n2 drop\n",
+        "open charge 0\n1 2 drop => nohold q0\n2 2 next 32 => nohold q0\n3 2 hold c a => held q0\n4 2 next 1 => rows 0 q0\n5 2 drop => ok q0\n6 2 drop => nohold q0\nend c0 0 of 65536 callers 0 workers 0 swaps 0 0\n",
     );
 }
 
@@ -100,6 +101,8 @@ fn sixteen_holds_while_c2_is_written_twice(rt: HostRuntime) {
     let alloc = rt.alloc();
     let letters = letters(&rt, alloc, b't', 435);
     let mut script = String::new(alloc);
+    // The gets come first, in any order.
+    add_lines(&rt, alloc, &mut script, "get none");
     add_round(&rt, alloc, &mut script, 1, &letters);
     add_lines(&rt, alloc, &mut script, "hold k1 k4");
     add_round(&rt, alloc, &mut script, 2, &letters);
@@ -109,7 +112,7 @@ fn sixteen_holds_while_c2_is_written_twice(rt: HostRuntime) {
     add_lines(&rt, alloc, &mut script, "drop");
     add_lines(&rt, alloc, &mut script, "get k10");
     let mut shelf = shelf_with_smallest(&rt, alloc);
-    let text = run_text(&rt, alloc, &mut shelf, &RUN, script.as_bytes());
+    let text = run_in_turn(&rt, alloc, &mut shelf, &script, 16);
     let rows = first_rows(&rt, alloc, &letters);
     assert_eq!(&rt; count_ends(&text, &rows), 16);
     assert_eq!(&rt; count_ends(&text, "next 32 => rows 0 q0"), 16);

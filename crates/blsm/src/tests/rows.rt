@@ -1,4 +1,5 @@
 // Scripts with their printed texts, over a store that was just made, and what a check tells of it then.
+use super::turns::{check_behind, run_in_turn};
 use super::{
     CHECK, RUN, add, check, letters, shelf_with_default, shelf_with_smallest, shelf_with_store,
 };
@@ -59,14 +60,25 @@ fn a_store_goes_on_from_run_to_run(rt: HostRuntime) {
 #[test]
 fn two_callers(rt: HostRuntime) {
     let alloc = rt.alloc();
-    check_row(
-        &rt,
-        alloc,
-        &mut shelf_with_default(&rt, alloc),
-        b"1 put apple 3 red\n2 put pear 5 green\n1 add apple 4\n2 add plum 7\n2 get apple\n1 get plum\n1 del pear\n2 get pear\n1 put apple 1 -\n2 get apple\n",
-        "open charge 0\n1 1 put apple 3 red => ok q0\n2 2 put pear 5 green => ok q0\n3 1 add apple 4 => ok q0\n4 2 add plum 7 => ok q0\n5 2 get apple => is 7 red q0\n6 1 get plum => is 7 - q0\n7 1 del pear => ok q0\n8 2 get pear => none q0\n9 1 put apple 1 - => ok q0\n10 2 get apple => is 1 - q0\nend c0 60 of 65536 callers 0 workers 0 swaps 0 0\n",
-        "ok version 1 c1 0 0 c1x 0 0 c2 0 0 lanes 6 0\n",
-    );
+    let mut shelf = shelf_with_default(&rt, alloc);
+    // The two puts come first, in any order.
+    let script =
+        "1 put apple 3 red\n2 put pear 5 green\n1 add apple 4\n2 add plum 7\n2 get apple\n1 get plum\n1 del pear\n2 get pear\n1 put apple 1 -\n2 get apple\n";
+    let text = run_in_turn(&rt, alloc, &mut shelf, script, 2);
+    let wanted = [
+        "3 1 add apple 4 => ok q0",
+        "4 2 add plum 7 => ok q0",
+        "5 2 get apple => is 7 red q0",
+        "6 1 get plum => is 7 - q0",
+        "7 1 del pear => ok q0",
+        "8 2 get pear => none q0",
+        "9 1 put apple 1 - => ok q0",
+        "10 2 get apple => is 1 - q0",
+        "end c0 60 of 65536 callers 0 workers 0 swaps 0 0",
+    ];
+    check_behind(&rt, &text, 3, &wanted);
+    let report = "ok version 1 c1 0 0 c1x 0 0 c2 0 0 lanes 6 0\n";
+    check(&rt, alloc, &mut shelf, &CHECK, b"", (0, report));
 }
 
 #[test]

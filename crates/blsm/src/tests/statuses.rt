@@ -26,6 +26,10 @@ fn words_that_ask_for_nothing(rt: HostRuntime) {
     check(&rt, alloc, &mut shelf, &low, SCRIPT, usage);
     let none = ["blsm", "trial", "--seed", "7", "--count", "0"];
     check(&rt, alloc, &mut shelf, &none, SCRIPT, usage);
+    let nine = ["blsm", "run", NAME, "--workers", "9"];
+    check(&rt, alloc, &mut shelf, &nine, SCRIPT, usage);
+    let many = ["blsm", "run", NAME, "--turns", "1000001"];
+    check(&rt, alloc, &mut shelf, &many, SCRIPT, usage);
 }
 
 #[test]

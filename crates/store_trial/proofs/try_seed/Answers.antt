@@ -5,24 +5,24 @@ use Rattle.store_trial.proofs.RunnableLemmas.{all_runnable, room_for}
 use Rattle.store_trial.proofs.TrialLemmas.{refused_for_memory, tried}
 use Rattle.store_trial.proofs.try_seed.Goals as goal
 
-pub run_over-disk-requires-clause-runnable : goal.run_over-disk-requires-clause-runnable
-run_over-disk-requires-clause-runnable c = all_runnable c.lines.result.now c.lines.ensures.allowed
+pub run_in_order-disk-requires-clause-runnable : goal.run_in_order-disk-requires-clause-runnable
+run_in_order-disk-requires-clause-runnable c = all_runnable c.lines.result.now c.lines.ensures.allowed
 
-pub run_over-disk-requires-clause-room : goal.run_over-disk-requires-clause-room
-run_over-disk-requires-clause-room c = room_for c.room.result c.in_ok-script.script c.lines.result.now c.lines.ensures.lines c.room.ensures.entries c.room.ensures.rows
+pub run_in_order-disk-requires-clause-room : goal.run_in_order-disk-requires-clause-room
+run_in_order-disk-requires-clause-room c = room_for c.room.result c.in_ok-script.script c.lines.result.now c.lines.ensures.lines c.room.ensures.entries c.room.ensures.rows
 
 pub returns-in-Ok : goal.returns-in-Ok
 returns-in-Ok c =
     let t = c.one_tree.ensures in
-    let r = c.run_over-disk.ensures in
+    let r = c.run_in_order-disk.ensures in
     let fresh = c.in_ok-disk.ensures in
-    tried t.sizes t.same t.reads c.args.seed c.args.count c.lines.result.now c.room.result c.in_ok-disk.disk c.run_over-disk.result.0 c.run_over-disk.result.1 c.in-Ok.finished
-    (c.lines.ensures.lines ∙ c.in_ok-script.ensures) fresh (stays_calm c.in_ok-disk.disk (faultless_state c.run_over-disk.result.0) fresh r.reaches) r.counted (r.headline refl) c.in-Ok.is
+    tried t.sizes t.same t.reads c.args.seed c.args.count c.lines.result.now c.room.result c.in_ok-disk.disk c.run_in_order-disk.result.0 c.run_in_order-disk.result.1 c.in-Ok.finished
+    (c.lines.ensures.lines ∙ c.in_ok-script.ensures) fresh (stays_calm c.in_ok-disk.disk (faultless_state c.run_in_order-disk.result.0) fresh r.reaches) r.counted (r.served refl) c.in-Ok.is
 
 pub unreachable-requires : goal.unreachable-requires
 unreachable-requires c =
-    let r = c.run_over-disk.ensures in
+    let r = c.run_in_order-disk.ensures in
     let fresh = c.in_ok-disk.ensures in
-    let memory = refused_for_memory c.a_map_is_read.ensures c.in_ok-disk.disk c.run_over-disk.result.0 c.run_over-disk.result.1 c.in-Err.field-0 fresh
-    (stays_calm c.in_ok-disk.disk (faultless_state c.run_over-disk.result.0) fresh r.reaches) r.faults (r.refused refl) c.in-Err.is in
+    let memory = refused_for_memory c.a_map_is_read.ensures c.in_ok-disk.disk c.run_in_order-disk.result.0 c.run_in_order-disk.result.1 c.in-Err.field-0 fresh
+    (stays_calm c.in_ok-disk.disk (faultless_state c.run_in_order-disk.result.0) fresh r.reaches) r.faults (r.refused refl) c.in-Err.is in
     grind arith

@@ -44,6 +44,9 @@ returns-in_ok-make_on_shelf-in-Make-clause-cause g c = λ words accepted asked.
       c.in_ok-make_on_shelf-in-Make.ensures.makes,
     )
 
+pub run-requires-clause-few : goal.run-requires-clause-few
+run-requires-clause-few g c = λ κs lives. (subst (λ (r : Request). IsInRange (asked_of r)) c.in-Run.is c.requires.range).0
+
 pub returns-in-Run-clause-cause : goal.returns-in-Run-clause-cause
 returns-in-Run-clause-cause g c = λ words accepted asked. c.run.ensures.cause words accepted (subst (λ (r : Request). asked_by words ≡ Some (asked_of r)) c.in-Run.is asked)
 
@@ -105,7 +108,7 @@ returns-in_ok-try_seed-in-Trial-clause-cause g c = λ words accepted asked.
     ((accepted, was), record { left = refl; faults = refl }, unfetched (g.H.Shelf.state c.args.shelf.now), c.in_ok-try_seed-in-Trial.ensures)
 
 pub returns-in_ok-try_seed-in-Trial-clause-made : goal.returns-in_ok-try_seed-in-Trial-clause-made
-returns-in_ok-try_seed-in-Trial-clause-made g c = c.made_histories.ensures c.in-Trial.seed c.in-Trial.count _ c.in_ok-try_seed-in-Trial.ensures.printed.of_script
+returns-in_ok-try_seed-in-Trial-clause-made g c = c.made_histories.ensures c.in-Trial.seed c.in-Trial.count _ c.in_ok-try_seed-in-Trial.ensures.printed.printed.of_script
 
 pub returns-in_err-make_on_shelf-in-Make-clause-made : goal.returns-in_err-make_on_shelf-in-Make-clause-made
 returns-in_err-make_on_shelf-in-Make-clause-made g c = none_made _ c.from_residual.ensures.0

@@ -1,4 +1,4 @@
-use Rattle.std.proofs.Common.{List, Err, IfSome, ap, sym, subst, ◌∙◌}
+use Rattle.std.proofs.Common.{List, Err, IfSome, arith, ap, sym, subst, ◌∙◌}
 use Rattle.std.proofs.lemmas.Result.{err_from_is_err_and}
 use Rattle.blsm_model.specs.declared.history.Line.{Line}
 use Rattle.script_text.specs.Grammar.{IsScript}
@@ -15,6 +15,9 @@ run_on_shelf-requires-clause-runnable g c = λ κs lives. all_runnable _ c.lines
 pub run_on_shelf-requires-clause-room : goal.run_on_shelf-requires-clause-room
 run_on_shelf-requires-clause-room g c = λ κs lives. room_for c.room.result c.in_ok-script.script c.lines.result.now c.lines.ensures.lines c.room.ensures.entries c.room.ensures.rows
 
+pub run_on_shelf-requires-clause-few : goal.run_on_shelf-requires-clause-few
+run_on_shelf-requires-clause-few g c = λ κs lives. omega (arith, c.requires.few)
+
 pub returns-in_err-script-clause-cause : goal.returns-in_err-script-clause-cause
 returns-in_err-script-clause-cause g c = λ words accepted asked.
     let state = g.H.D.Disk.state in
@@ -30,7 +33,7 @@ returns-in_err-script-clause-cause g c = λ words accepted asked.
     } in
     let told = err_from_is_err_and c.from_residual.result c.from_residual.ensures.1 in
     subst (λ r. Cause state o (outcome_of r)) (sym (told.1 ∙ ap Err told.2))
-    (unread state o (record { name = c.args.name.now; asked = (accepted, asked); unfetched = unfetched shelf }) c.in_err-script.field-0.0 c.in_err-script.ensures)
+    (unread state o (record { name = c.args.name.now; workers = c.args.workers; turns = c.args.turns; asked = (accepted, asked); unfetched = unfetched shelf }) c.in_err-script.field-0.0 c.in_err-script.ensures)
 
 pub returns-in_err-finished-clause-cause : goal.returns-in_err-finished-clause-cause
 returns-in_err-finished-clause-cause g c = λ words accepted asked.
@@ -49,6 +52,8 @@ returns-in_err-finished-clause-cause g c = λ words accepted asked.
     subst (λ r. Cause state o (outcome_of r)) (sym (told.1 ∙ ap Err told.2))
     (not_run state o (record {
       name = c.args.name.now;
+      workers = c.args.workers;
+      turns = c.args.turns;
       asked = (accepted, asked);
       read = record { left = read.0; calm = read.2 };
       lines = c.lines.result.now;
@@ -62,6 +67,8 @@ returns-clause-cause g c = λ words accepted asked.
     let left = g.S.Source.left c.args.source.now in (
       record {
         name = c.args.name.now;
+        workers = c.args.workers;
+        turns = c.args.turns;
         asked = (accepted, asked);
         read = record { left = read.0; calm = read.2 };
         lines = c.lines.result.now;

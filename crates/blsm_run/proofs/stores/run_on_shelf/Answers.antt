@@ -24,7 +24,7 @@ returns-in-Ok-outcome-clause-runs g c =
     let m = c.run_over-disk.ensures in
     let w : CameBack state name old mid new first last = record { count = fetched.count; taken = fetched.taken; stands = fetched.stands; told = fetched.told.disks; put = back.put; faults = back.faults } in
     let is = c.in-Ok-outcome.is in
-    ran state name old mid new first last w c.args.lines.now c.in-Ok-outcome.finished c.args.room (IfOk-at_ok _ is m.ran) (IfOk-at_ok _ is m.counted) (IfOk-at_ok _ is m.ending) m.reaches (λ honest. IfOk-at_ok _ is (m.headline honest))
+    ran state name old mid new first last w c.args.lines.now c.args.workers c.args.turns c.in-Ok-outcome.finished c.args.room (IfOk-at_ok _ is m.ran) (IfOk-at_ok _ is m.counted) (IfOk-at_ok _ is m.ending) m.reaches (λ honest. IfOk-at_ok _ is (m.headline honest))
 
 pub returns-in-Err-clause-runs : goal.returns-in-Err-clause-runs
 returns-in-Err-clause-runs g c =
@@ -41,8 +41,8 @@ returns-in-Err-clause-runs g c =
     let w : CameBack state name old mid new first last = record { count = fetched.count; taken = fetched.taken; stands = fetched.stands; told = fetched.told.disks; put = back.put; faults = back.faults } in
     let is = c.in-Err.is in
     let failed : IsErr c.run_over-disk.result.1 = subst (λ r. IsErr r) (sym is) refl in
-    subst (λ (why : Refusal). RunsOnShelf state name c.args.lines.now old new (Err why)) (sym c.from.ensures)
-    (not_run state name old mid new first last w c.args.lines.now c.in-Err.why c.run_over-disk.result.1 is (λ honest. IfErr-at_err _ is (m.refused honest))
+    subst (λ (why : Refusal). RunsOnShelf state name c.args.lines.now c.args.workers c.args.turns old new (Err why)) (sym c.from.ensures)
+    (not_run state name old mid new first last w c.args.lines.now c.args.workers c.args.turns c.in-Err.why c.run_over-disk.result.1 is (λ honest. IfErr-at_err _ is (m.refused honest))
     (record { keeps = λ sizes pairs honest reads. IfErr-at_err _ is (m.keeps sizes pairs honest reads); untouched = m.untouched; within = m.reaches }) (m.one_fault failed) (m.faults failed))
 
 -- ---- the fetch, as it is noted

@@ -1,19 +1,14 @@
 use Rattle.std.specs.Prelude.{ℕ}
-use Rattle.std.proofs.Common.{ap, subst, sym}
-use Rattle.blsm_model.specs.Book.{Book}
-use Rattle.blsm_model.specs.declared.history.Totals.{Totals}
-use Rattle.blsm_model.specs.declared.room.Room.{Room}
-use Rattle.core_moves.specs.Held.{charge_in}
-use Rattle.recover_open.specs.Opening.{no_entries}
+use Rattle.std.proofs.Common.{ap, subst, sym, ◌∙◌}
+use Rattle.recover_open.specs.Opening.{KeepsMapOf, no_entries}
 use Rattle.seat_book.specs.State.{BookState}
-use Rattle.tree_session.specs.Lines.{HasRoomFor}
-use Rattle.store_run.specs.declared.run.Ending.{Ending}
-use Rattle.store_run.specs.declared.run.Ending.TheVariants.{Well, Faulted, Damaged}
-use Rattle.store_run.specs.Run.{IsEnding}
-use Rattle.store_run.proofs.FaultLemmas.{calm_opening, counted_of, disk_inside, refused_faults, stays_inside}
+use Rattle.store_run.specs.Run.{run_at, run_of}
+use Rattle.store_run.proofs.FaultLemmas.{ReachesInside, calm_opening, counted_of, disk_inside, refused_calm, refused_faults, stays_inside}
 use Rattle.store_run.proofs.HeadlineLemmas.{whole_headline}
-use Rattle.store_run.proofs.RunLemmas.{printed_of, run_is, run_with}
+use Rattle.store_run.proofs.RunLemmas.{by_threads, few_turned, is_fresh, is_unasked, no_entries_yet, printed_of}
 use Rattle.store_run.proofs.run.run_over.Goals as goal
+
+-- ---- the store wasn't opened
 
 pub returns-in-Err-clause-reaches : goal.returns-in-Err-clause-reaches
 returns-in-Err-clause-reaches g c = stays_inside (g.D.Disk.state c.args.disk) (g.D.Disk.state c.in-Err.refused.disk) c.in-Err.ensures.effect
@@ -24,62 +19,105 @@ returns-in-Err-clause-faults g c = λ refused. refused_faults c.in-Err.refused.w
 pub returns-in-Err-clause-one_fault : goal.returns-in-Err-clause-one_fault
 returns-in-Err-clause-one_fault g c = λ refused. c.in-Err.ensures.effect.effect.one_fault
 
-pub run_lines-requires-clause-room : goal.run_lines-requires-clause-room
-run_lines-requires-clause-room g c = subst (λ (room : Room). HasRoomFor room c.args.lines.now) (sym (ap (λ (b : BookState). b.book.room) c.in-Ok.ensures.opened.book)) c.requires.room
+-- ---- the run
 
-pub run_lines-requires-clause-rests : goal.run_lines-requires-clause-rests
-run_lines-requires-clause-rests g c = c.an_opened_core_rests.ensures (no_entries c.args.room) (g.D.Disk.state c.in-Ok.core.disk).faults c.in-Ok.core.held c.in-Ok.ensures.opened
+pub run_all-requires-clause-fresh : goal.run_all-requires-clause-fresh
+run_all-requires-clause-fresh g c = λ κs lives.
+    let core = c.in-Ok.core in
+    let rests = c.an_opened_core_rests.ensures (no_entries c.args.room) (g.D.Disk.state core.disk).faults core.held c.in-Ok.ensures.opened in
+    is_fresh c.args.lines.now (no_entries c.args.room) (g.D.Disk.state core.disk).faults core c.in-Ok.ensures.opened rests c.requires.room
 
-pub returns-clause-ran : goal.returns-clause-ran
-returns-clause-ran g c =
+pub returns-in-Ok-run_all-clause-ran : goal.returns-in-Ok-run_all-clause-ran
+returns-in-Ok-run_all-clause-ran g c =
+    let state = g.D.Disk.state in
     let old = c.in-Ok.core in
-    let new = c.run_lines.new.core in
-    printed_of g.D.Disk.state c.args.lines.now (no_entries c.args.room) (g.D.Disk.state old.disk).faults old new c.in-Ok.ensures.opened c.charge-charge_now.ensures.kept c.charge-charge.ensures.begins c.run_lines.ensures
-    (run_with c.charge-charge.result c.end-disk.result.1 c.end-disk.result.2) (run_is c.charge-charge.result (charge_in old.held) c.end-disk.result.1 c.end-disk.result.2 new.held c.charge-charge.ensures.charge c.end-disk.ensures.annals c.end-disk.ensures.totals)
+    let new = c.in-Ok-run_all.core in
+    let runs = c.in-Ok-run_all.ensures in
+    let opened = c.in-Ok.ensures.opened in
+    let rests = c.an_opened_core_rests.ensures (no_entries c.args.room) (state old.disk).faults old.held opened in
+    let unasked = is_unasked state (no_entries c.args.room) (state old.disk).faults old opened rests c.charge-charge.ensures.kept c.charge-charge.ensures.begins in
+    let has = by_threads state c.args.lines.now c.args.workers c.args.turns old new runs (c.calls_tell.ensures runs.came.calls old unasked runs.came.are) (c.calls_take_few.ensures runs.came.calls old unasked runs.came.are) in
+    printed_of state c.args.lines.now old new has (run_of c.finish-disk.result.1) (c.finish-disk.ensures.finished ∙ ap (λ (n : ℕ). run_at n new.held) c.charge-charge.ensures.charge)
 
-pub returns-clause-counted : goal.returns-clause-counted
-returns-clause-counted g c =
+pub returns-in-Ok-run_all-clause-counted : goal.returns-in-Ok-run_all-clause-counted
+returns-in-Ok-run_all-clause-counted g c =
+    let state = g.D.Disk.state in
     let old = c.in-Ok.core in
-    let new = c.run_lines.new.core in
-    counted_of g.D.Disk.state c.args.lines.now (no_entries c.args.room) (g.D.Disk.state old.disk).faults (g.D.Disk.state c.args.disk) old new c.in-Ok.ensures.opened
-    (calm_opening (g.D.Disk.state c.args.disk) (g.D.Disk.state old.disk) c.in-Ok.ensures.faults) c.run_lines.ensures
-    (run_with c.charge-charge.result c.end-disk.result.1 c.end-disk.result.2) (run_is c.charge-charge.result (charge_in old.held) c.end-disk.result.1 c.end-disk.result.2 new.held c.charge-charge.ensures.charge c.end-disk.ensures.annals c.end-disk.ensures.totals)
-    c.end-disk.result.0 c.end-disk.ensures.disk
+    let new = c.in-Ok-run_all.core in
+    let runs = c.in-Ok-run_all.ensures in
+    let opened = c.in-Ok.ensures.opened in
+    let rests = c.an_opened_core_rests.ensures (no_entries c.args.room) (state old.disk).faults old.held opened in
+    let unasked = is_unasked state (no_entries c.args.room) (state old.disk).faults old opened rests c.charge-charge.ensures.kept c.charge-charge.ensures.begins in
+    let has = by_threads state c.args.lines.now c.args.workers c.args.turns old new runs (c.calls_tell.ensures runs.came.calls old unasked runs.came.are) (c.calls_take_few.ensures runs.came.calls old unasked runs.came.are) in
+    counted_of state c.args.lines.now (no_entries c.args.room) (state old.disk).faults (state c.args.disk) old new opened (calm_opening (state c.args.disk) (state old.disk) c.in-Ok.ensures.faults) has
+    (run_of c.finish-disk.result.1) (c.finish-disk.ensures.finished ∙ ap (λ (n : ℕ). run_at n new.held) c.charge-charge.ensures.charge) c.finish-disk.result.0 c.finish-disk.ensures.disk
 
--- the charge doesn't count for it
-ending_with : (ended : Ending) (charge : ℕ) (annals : Book) (totals : Totals) (faults : ℕ) → IsEnding ended (run_with 0 annals totals) faults → IsEnding ended (run_with charge annals totals) faults
-ending_with Well charge annals totals faults is = is
-ending_with Faulted charge annals totals faults is = is
-ending_with Damaged charge annals totals faults is = is
+pub returns-in-Ok-run_all-clause-ending : goal.returns-in-Ok-run_all-clause-ending
+returns-in-Ok-run_all-clause-ending g c = subst (λ d. Rattle.store_run.specs.Run.IsEnding c.finish-disk.result.1.ending (run_of c.finish-disk.result.1) (g.D.Disk.state d).faults) (sym c.finish-disk.ensures.disk) c.finish-disk.ensures.ending
 
-pub returns-clause-ending : goal.returns-clause-ending
-returns-clause-ending g c =
-    subst (λ (n : ℕ). IsEnding c.ending-ended.result (run_with c.charge-charge.result c.end-disk.result.1 c.end-disk.result.2) n) c.faults-faults.ensures
-    (ending_with c.ending-ended.result c.charge-charge.result c.end-disk.result.1 c.end-disk.result.2 _ c.ending-ended.ensures)
-
-pub returns-clause-reaches : goal.returns-clause-reaches
-returns-clause-reaches g c =
+pub returns-in-Ok-run_all-clause-reaches : goal.returns-in-Ok-run_all-clause-reaches
+returns-in-Ok-run_all-clause-reaches g c =
+    let state = g.D.Disk.state in
     let old = c.in-Ok.core in
-    let new = c.run_lines.new.core in
-    disk_inside g.D.Disk.state c.args.lines.now (no_entries c.args.room) (g.D.Disk.state old.disk).faults (g.D.Disk.state c.args.disk) old new c.in-Ok.ensures.opened c.charge-charge.ensures.kept
-    c.in-Ok.ensures.effect c.run_lines.ensures c.end-disk.result.0 c.end-disk.ensures.disk
+    let new = c.in-Ok-run_all.core in
+    let runs = c.in-Ok-run_all.ensures in
+    let opened = c.in-Ok.ensures.opened in
+    let rests = c.an_opened_core_rests.ensures (no_entries c.args.room) (state old.disk).faults old.held opened in
+    let unasked = is_unasked state (no_entries c.args.room) (state old.disk).faults old opened rests c.charge-charge.ensures.kept c.charge-charge.ensures.begins in
+    let has = by_threads state c.args.lines.now c.args.workers c.args.turns old new runs (c.calls_tell.ensures runs.came.calls old unasked runs.came.are) (c.calls_take_few.ensures runs.came.calls old unasked runs.came.are) in
+    disk_inside state c.args.lines.now (no_entries c.args.room) (state old.disk).faults (state c.args.disk) old new opened c.charge-charge.ensures.kept c.in-Ok.ensures.effect has c.finish-disk.result.0 c.finish-disk.ensures.disk
 
-pub returns-clause-headline : goal.returns-clause-headline
-returns-clause-headline g c = λ honest.
+pub returns-in-Ok-run_all-clause-headline : goal.returns-in-Ok-run_all-clause-headline
+returns-in-Ok-run_all-clause-headline g c = λ honest.
+    let state = g.D.Disk.state in
     let old = c.in-Ok.core in
-    let new = c.run_lines.new.core in
+    let new = c.in-Ok-run_all.core in
+    let runs = c.in-Ok-run_all.ensures in
+    let opened = c.in-Ok.ensures.opened in
+    let annals = no_entries c.args.room in
+    let faults = (state old.disk).faults in
+    let calls = runs.came.calls in
+    let are = runs.came.are in
     let opens = c.in-Ok.ensures.stands honest in
-    whole_headline c.seats_apart.ensures.opening c.outcomes_are_told.ensures.pages g.D.Disk.state g.met.D.Disk.timed (no_entries c.args.room) (g.D.Disk.state old.disk).faults c.args.room
-    c.args.lines.now (g.D.Disk.state c.args.disk) old new honest (g.met.D.Disk.timed c.args.disk) c.in-Ok.ensures.opened c.charge-charge_now.ensures.kept
+    let rests = c.an_opened_core_rests.ensures annals faults old.held opened in
+    let unasked = is_unasked state annals faults old opened rests c.charge-charge.ensures.kept c.charge-charge.ensures.begins in
+    let goes_on = c.in-Ok.ensures.effect.effect.goes_on in
+    let honest_then = goes_on.is_honest ∙ honest in
+    whole_headline c.seats_apart.ensures.opening c.outcomes_are_told.ensures.pages state (g.met.D.Disk g.world.𝓛 g.world.𝓜 g.world.𝓡 ((λ s x. x), (λ x. x), (λ x. x), λ x. x)).timed c.args.room c.args.lines.now c.args.workers c.args.turns (state c.args.disk) old new
     (record {
       opens = opens;
-      goes_on = c.in-Ok.ensures.effect.effect.goes_on;
-      calm = calm_opening (g.D.Disk.state c.args.disk) (g.D.Disk.state old.disk) c.in-Ok.ensures.faults;
-      begins = c.charge-charge.ensures.begins;
-      runs = c.run_lines.ensures;
+      goes_on = goes_on;
+      calm = calm_opening (state c.args.disk) (state old.disk) c.in-Ok.ensures.faults;
+      ran = ap (λ (b : BookState). b.stopped) opened.book;
+      run = by_threads state c.args.lines.now c.args.workers c.args.turns old new runs (c.calls_tell.ensures calls old unasked are) (c.calls_take_few.ensures calls old unasked are);
     })
-    (c.in-Ok.ensures.keeps old.held.runs.sizes opens.pairs honest opens.reads) c.end-disk.result.0 c.end-disk.ensures.disk
-    (run_with c.charge-charge.result c.end-disk.result.1 c.end-disk.result.2) (run_is c.charge-charge.result (charge_in old.held) c.end-disk.result.1 c.end-disk.result.2 new.held c.charge-charge.ensures.charge c.end-disk.ensures.annals c.end-disk.ensures.totals)
+    (no_entries_yet annals faults old.held opened) (c.in-Ok.ensures.keeps old.held.runs.sizes opens.pairs honest opens.reads) runs
+    (λ opening m pace stands. c.calls_are_steps.ensures opening calls old m pace c.charge-charge.ensures.kept are honest_then stands)
+    (few_turned state calls annals faults old new opened (c.calls_help.ensures calls old unasked are))
+    c.finish-disk.result.0 c.finish-disk.ensures.disk (run_of c.finish-disk.result.1) (c.finish-disk.ensures.finished ∙ ap (λ (n : ℕ). run_at n new.held) c.charge-charge.ensures.charge)
 
-pub returns-clause-untouched : goal.returns-clause-untouched
-returns-clause-untouched g c = λ honest none. let opens = c.in-Ok.ensures.stands honest in absurd (none c.in-Ok.core.held.runs.sizes opens.pairs opens.reads)
+pub returns-in-Ok-run_all-clause-untouched : goal.returns-in-Ok-run_all-clause-untouched
+returns-in-Ok-run_all-clause-untouched g c = λ honest none. let opens = c.in-Ok.ensures.stands honest in absurd (none c.in-Ok.core.held.runs.sizes opens.pairs opens.reads)
+
+-- ---- memory was refused for the lock
+
+pub returns-in-Err-run_all-clause-reaches : goal.returns-in-Err-run_all-clause-reaches
+returns-in-Err-run_all-clause-reaches g c =
+    let state = g.D.Disk.state in
+    subst (λ d. ReachesInside (state c.args.disk) (state d)) (sym (c.end-disk.ensures.disk ∙ ap (λ core. core.disk) c.in-Err-run_all.ensures))
+    (stays_inside (state c.args.disk) (state c.in-Ok.core.disk) c.in-Ok.ensures.effect)
+
+pub returns-in-Err-run_all-clause-faults : goal.returns-in-Err-run_all-clause-faults
+returns-in-Err-run_all-clause-faults g c = λ refused.
+    let state = g.D.Disk.state in
+    refused_calm (state c.args.disk) (state c.end-disk.result.0)
+    (ap (λ d. (state d).faults) (c.end-disk.ensures.disk ∙ ap (λ core. core.disk) c.in-Err-run_all.ensures) ∙ calm_opening (state c.args.disk) (state c.in-Ok.core.disk) c.in-Ok.ensures.faults)
+
+pub returns-in-Err-run_all-clause-keeps : goal.returns-in-Err-run_all-clause-keeps
+returns-in-Err-run_all-clause-keeps g c = λ sizes pairs honest reads.
+    let state = g.D.Disk.state in
+    subst (λ d. KeepsMapOf sizes pairs (state c.args.disk) (state d)) (sym (c.end-disk.ensures.disk ∙ ap (λ core. core.disk) c.in-Err-run_all.ensures))
+    (c.in-Ok.ensures.keeps sizes pairs honest reads)
+
+pub returns-in-Err-run_all-clause-untouched : goal.returns-in-Err-run_all-clause-untouched
+returns-in-Err-run_all-clause-untouched g c = λ honest none. let opens = c.in-Ok.ensures.stands honest in absurd (none c.in-Ok.core.held.runs.sizes opens.pairs opens.reads)
