@@ -1,8 +1,9 @@
 // Holds over two tables and three components.
 ghost use Rattle.std.specs.Prelude.{◌≡◌};
+ghost use Rattle.blsm_model.specs.Components.{empty_component};
 
-use crate::store::{Store, base, key, put, table_of};
-use blsm_model::{Component, RowList};
+use crate::store::{Entry, Store, base, key, put, table_of};
+use blsm_model::{Component, Row, RowList};
 use mem_table::Table;
 use page_file::{Broken, no_component};
 use page_space::{Role, Space};
@@ -10,32 +11,50 @@ use record_delta::Rec;
 use scan_view::Hold;
 use std::alloc::Global;
 use std::process::Abort;
-use std::test::Fail;
 
 // The roles of C1, C1' and C2.
 const ROLES: [u8; 3] = [0, 1, 2];
 
-// Rows as they are written down: a key, a count and a text.
-fn are_rows(rt: &impl Abort, found: &RowList, rows: &[(&[u8], u64, &[u8])]) {
+// A row as it is written down: a key, a count and a text.
+type Written<'a> = (&'a [u8], u64, &'a [u8]);
+
+fn is_row(rt: &impl Abort, row: &Row, (key, count, text): Written) {
+    assert!(rt; row.key.as_bytes() == key);
+    assert_eq!(rt; row.value.count, count);
+    assert!(rt; row.value.text.as_bytes() == text);
+}
+
+fn are_rows(rt: &impl Abort, found: &RowList, rows: &[Written]) {
     let found = found.as_slice();
     assert_eq!(rt; found.len(), rows.len());
-    for (at, (key, count, text)) in rows.iter().enumerate() {
-        assert!(rt; at < found.len());
-        let row = &found[at];
-        assert!(rt; row.key.as_bytes() == *key);
-        assert_eq!(rt; row.value.count, *count);
-        assert!(rt; row.value.text.as_bytes() == *text);
+    for (row, written) in found.iter().zip(rows) {
+        is_row(rt, row, *written);
     }
 }
 
+// A hold gives these rows.
+fn gives(rt: &impl Abort, store: &mut Store, hold: &mut Hold, n: u32, rows: &[Written]) {
+    let found = store.next(rt, hold, n).expect(rt, "rows");
+    are_rows(rt, &found, rows);
+}
+
+// Or it breaks.
+fn breaks(rt: &impl Abort, store: &mut Store, hold: &mut Hold, n: u32, broken: Broken) {
+    assert_eq!(rt; store.next(rt, hold, n).err(), Some(broken));
+}
+
+fn claim(rt: &impl Abort, space: &mut Space, role: u8, page: u32) {
+    assert!(rt; role < 5 && page < space.pages());
+    space.claim(Role::new(role), page);
+}
+
 // A free-page map in which each component's pages have its role.
-fn map_of(rt: &impl Abort, alloc: Global, pages: &[(u8, u32)]) -> Result<Space, Fail> {
-    let mut space = Space::reserve(alloc, 798)?;
+fn map_of(rt: &impl Abort, alloc: Global, pages: &[(u8, u32)]) -> Space {
+    let mut space = Space::reserve(alloc, 798).expect(rt, "memory");
     for (role, page) in pages {
-        assert!(rt; *role < 5 && *page < space.pages());
-        space.claim(Role::new(*role), *page);
+        claim(rt, &mut space, *role, *page);
     }
-    Ok(space)
+    space
 }
 
 // What a hold is made over.
@@ -49,6 +68,12 @@ struct Tree {
     ghost reserved: { b.reserved ≡ 65536 },
 }
 
+fn is_component(rt: &impl Abort, run: &Component)
+    ensures { run.now.pages ≡ 0 → run.now ≡ empty_component }
+{
+    assert!(rt; run.pages != 0 || *run == no_component());
+}
+
 impl Tree {
     fn hold(
         &self,
@@ -57,16 +82,16 @@ impl Tree {
         space: &mut Space,
         low: &[u8],
         high: &[u8],
-    ) -> Result<Hold, Fail> {
-        assert!(rt; self.c1.pages != 0 || self.c1 == no_component());
-        assert!(rt; self.c1x.pages != 0 || self.c1x == no_component());
-        assert!(rt; self.c2.pages != 0 || self.c2 == no_component());
+    ) -> Hold {
+        is_component(rt, &self.c1);
+        is_component(rt, &self.c1x);
+        is_component(rt, &self.c2);
         let [c1, c1x, c2] = ROLES;
-        Ok(Hold::build(
+        Hold::build(
             alloc,
             3,
-            &key(low)?,
-            &key(high)?,
+            &key(rt, low),
+            &key(rt, high),
             &self.a,
             &self.b,
             &self.c1,
@@ -76,153 +101,197 @@ impl Tree {
             Role::new(c1),
             Role::new(c1x),
             Role::new(c2),
-        )?)
+        )
+        .expect(rt, "memory")
     }
 }
 
+// Tables that have records of some keys.
+fn table_a(rt: &impl Abort, alloc: Global) -> Table {
+    let entries = [
+        (key(rt, b"d"), base(rt, 10, b"x")),
+        (key(rt, b"e"), Rec::Delta(1)),
+        (key(rt, b"b"), Rec::Delta(3)),
+    ];
+    table_of(rt, alloc, &entries)
+}
+
+fn table_b(rt: &impl Abort, alloc: Global) -> Table
+    ensures { result.reserved ≡ 65536 }
+{
+    let entries = [(key(rt, b"b"), Rec::Tomb), (key(rt, b"d"), Rec::Delta(5))];
+    table_of(rt, alloc, &entries)
+}
+
+// Components, each of one page.
+fn make_c1(rt: &impl Abort, store: &mut Store) -> Component {
+    let entries = [
+        (key(rt, b"a"), base(rt, 1, b"")),
+        (key(rt, b"g"), Rec::Tomb),
+    ];
+    store.write(rt, &[(5, entries.as_slice())])
+}
+
+fn make_c1x(rt: &impl Abort, store: &mut Store) -> Component {
+    let entries = [
+        (key(rt, b"b"), base(rt, 2, b"")),
+        (key(rt, b"e"), base(rt, 7, b"t")),
+    ];
+    store.write(rt, &[(2, entries.as_slice())])
+}
+
+fn named(rt: &impl Abort, name: &[u8], count: u64, text: &[u8]) -> Entry {
+    (key(rt, name), base(rt, count, text))
+}
+
+fn make_c2(rt: &impl Abort, store: &mut Store) -> Component {
+    let entries = [
+        named(rt, b"a", 9, b"old"),
+        named(rt, b"c", 3, b""),
+        named(rt, b"f", 4, b""),
+        named(rt, b"g", 6, b""),
+        named(rt, b"h", 8, b""),
+    ];
+    store.write(rt, &[(9, entries.as_slice())])
+}
+
 // Tables and components that have each kind of record over each other.
-fn make_tree(rt: &impl Abort, alloc: Global, store: &mut Store) -> Result<Tree, Fail> {
-    let b = vec![in alloc; (key(b"b")?, Rec::Tomb), (key(b"d")?, Rec::Delta(5))]?;
-    let a = vec![in alloc;
-        (key(b"d")?, base(10, b"x")?),
-        (key(b"e")?, Rec::Delta(1)),
-        (key(b"b")?, Rec::Delta(3)),
-    ]?;
-    let c1 = vec![in alloc; (key(b"a")?, base(1, b"")?), (key(b"g")?, Rec::Tomb)]?;
-    let c1x = vec![in alloc; (key(b"b")?, base(2, b"")?), (key(b"e")?, base(7, b"t")?)]?;
-    let c2 = vec![in alloc;
-        (key(b"a")?, base(9, b"old")?),
-        (key(b"c")?, base(3, b"")?),
-        (key(b"f")?, base(4, b"")?),
-        (key(b"g")?, base(6, b"")?),
-        (key(b"h")?, base(8, b"")?),
-    ]?;
-    Ok(Tree {
-        a: table_of(rt, alloc, a.as_slice())?,
-        b: table_of(rt, alloc, b.as_slice())?,
-        c1: store.write(rt, vec![in alloc; (5, c1)]?.as_slice())?,
-        c1x: store.write(rt, vec![in alloc; (2, c1x)]?.as_slice())?,
-        c2: store.write(rt, vec![in alloc; (9, c2)]?.as_slice())?,
-    })
+fn make_tree(rt: &impl Abort, alloc: Global, store: &mut Store) -> Tree {
+    Tree {
+        a: table_a(rt, alloc),
+        b: table_b(rt, alloc),
+        c1: make_c1(rt, store),
+        c1x: make_c1x(rt, store),
+        c2: make_c2(rt, store),
+    }
 }
 
 const PAGES: [(u8, u32); 3] = [(0, 5), (1, 2), (2, 9)];
 
-#[test]
-fn rows_of_the_moment(rt: HostRuntime) -> Result<(), Fail> {
-    let mut store = Store::blank(rt.alloc())?;
-    let mut tree = make_tree(&rt, rt.alloc(), &mut store)?;
-    let mut space = map_of(&rt, rt.alloc(), &PAGES)?;
-    let mut hold = tree.hold(&rt, rt.alloc(), &mut space, b"a", b"h")?;
-    // The pages are pinned, and not given when they have no tag any more.
+// Pages lose their tags, and aren't given while they are pinned.
+fn release_all(rt: &impl Abort, space: &mut Space) {
     for role in ROLES {
+        assert!(rt; role < Role::COUNT);
         space.release(Role::new(role));
     }
-    assert!(rt;
-        space.pages() == 798
-            && !space.is_free(2)
-            && !space.is_free(5)
-            && !space.is_free(9)
-            && space.is_free(3)
-    );
-    // What is written later isn't seen.
-    put(&rt, &mut tree.b, &key(b"c")?, &Rec::Tomb);
-    let first = store.next(&rt, &mut hold, 2)?;
-    are_rows(&rt, &first, &[(b"a", 1, b""), (b"c", 3, b"")]);
-    let none = store.next(&rt, &mut hold, 0)?;
-    are_rows(&rt, &none, &[]);
-    let others = store.next(&rt, &mut hold, 32)?;
-    are_rows(
-        &rt,
-        &others,
-        &[(b"d", 15, b"x"), (b"e", 8, b"t"), (b"f", 4, b"")],
-    );
-    let ended = store.next(&rt, &mut hold, 32)?;
-    are_rows(&rt, &ended, &[]);
-    Ok(())
+    assert!(rt; space.pages() == 798);
+    for (page, free) in [(2, false), (5, false), (9, false), (3, true)] {
+        assert!(rt; page < space.pages());
+        assert_eq!(rt; space.is_free(page), free, "page {page}");
+    }
+}
+
+fn delete_c(rt: &impl Abort, tree: &mut Tree) {
+    put(rt, &mut tree.b, &key(rt, b"c"), &Rec::Tomb);
 }
 
 #[test]
-fn the_place_stays_after_an_error(rt: HostRuntime) -> Result<(), Fail> {
-    let mut store = Store::blank(rt.alloc())?;
-    let tree = make_tree(&rt, rt.alloc(), &mut store)?;
-    let mut space = map_of(&rt, rt.alloc(), &PAGES)?;
-    let mut hold = tree.hold(&rt, rt.alloc(), &mut space, b"b", b"z")?;
-    let first = store.next(&rt, &mut hold, 1)?;
-    are_rows(&rt, &first, &[(b"c", 3, b"")]);
+fn rows_of_the_moment(rt: HostRuntime) {
+    let mut store = Store::blank(&rt, rt.alloc());
+    let mut tree = make_tree(&rt, rt.alloc(), &mut store);
+    let mut space = map_of(&rt, rt.alloc(), &PAGES);
+    let mut hold = tree.hold(&rt, rt.alloc(), &mut space, b"a", b"h");
+    release_all(&rt, &mut space);
+    // What is written later isn't seen.
+    delete_c(&rt, &mut tree);
+    gives(
+        &rt,
+        &mut store,
+        &mut hold,
+        2,
+        &[(b"a", 1, b""), (b"c", 3, b"")],
+    );
+    gives(&rt, &mut store, &mut hold, 0, &[]);
+    let others: [Written; 3] = [(b"d", 15, b"x"), (b"e", 8, b"t"), (b"f", 4, b"")];
+    gives(&rt, &mut store, &mut hold, 32, &others);
+    gives(&rt, &mut store, &mut hold, 32, &[]);
+}
+
+// A hold over the tree of all kinds, between these keys.
+fn held(rt: &impl Abort, alloc: Global, store: &mut Store, low: &[u8], high: &[u8]) -> Hold {
+    let tree = make_tree(rt, alloc, store);
+    let mut space = map_of(rt, alloc, &PAGES);
+    tree.hold(rt, alloc, &mut space, low, high)
+}
+
+#[test]
+fn the_place_stays_after_an_error(rt: HostRuntime) {
+    let mut store = Store::blank(&rt, rt.alloc());
+    let mut hold = held(&rt, rt.alloc(), &mut store, b"b", b"z");
+    gives(&rt, &mut store, &mut hold, 1, &[(b"c", 3, b"")]);
     // Four calls wrote the store, and three read; the ninth is the second read of a page.
-    store.disk.fail(9)?;
-    assert_eq!(&rt; store.next(&rt, &mut hold, 32).err(), Some(Broken::Fault));
-    let rest: [(&[u8], u64, &[u8]); 4] = [
+    assert!(rt; store.disk.fail(9).is_ok());
+    breaks(&rt, &mut store, &mut hold, 32, Broken::Fault);
+    let rest: [Written; 4] = [
         (b"d", 15, b"x"),
         (b"e", 8, b"t"),
         (b"f", 4, b""),
         (b"h", 8, b""),
     ];
-    let others = store.next(&rt, &mut hold, 32)?;
-    are_rows(&rt, &others, &rest);
-    Ok(())
+    gives(&rt, &mut store, &mut hold, 32, &rest);
 }
 
 // Where the length of page 9's entries stands in the file.
 const USED: u64 = 212_992 + 9 * 4_096 + 2;
 
 #[test]
-fn the_place_stays_where_a_page_is_damaged(rt: HostRuntime) -> Result<(), Fail> {
-    let mut store = Store::blank(rt.alloc())?;
-    let tree = make_tree(&rt, rt.alloc(), &mut store)?;
-    let mut space = map_of(&rt, rt.alloc(), &PAGES)?;
-    let mut hold = tree.hold(&rt, rt.alloc(), &mut space, b"c", b"f")?;
-    let first = store.next(&rt, &mut hold, 1)?;
-    are_rows(&rt, &first, &[(b"c", 3, b"")]);
+fn the_place_stays_where_a_page_is_damaged(rt: HostRuntime) {
+    let mut store = Store::blank(&rt, rt.alloc());
+    let mut hold = held(&rt, rt.alloc(), &mut store, b"c", b"f");
+    gives(&rt, &mut store, &mut hold, 1, &[(b"c", 3, b"")]);
     // Calls 8 to 10 read the three pages, and calls 11 to 13 do again.
-    store.disk.poke(8, USED, &[0xff])?;
-    store.disk.poke(11, USED, &[0])?;
-    assert_eq!(&rt;
-        store.next(&rt, &mut hold, 1).err(),
-        Some(Broken::Damaged(9))
-    );
-    let second = store.next(&rt, &mut hold, 1)?;
-    are_rows(&rt, &second, &[(b"d", 15, b"x")]);
-    Ok(())
+    assert!(rt; store.disk.poke(8, USED, &[0xff]).is_ok());
+    assert!(rt; store.disk.poke(11, USED, &[0]).is_ok());
+    breaks(&rt, &mut store, &mut hold, 1, Broken::Damaged(9));
+    gives(&rt, &mut store, &mut hold, 1, &[(b"d", 15, b"x")]);
+}
+
+const TEXT: [u8; 435] = [b't'; 435];
+
+// Nine long entries.
+fn front(rt: &impl Abort, alloc: Global) -> Vec<Entry> {
+    let mut entries = Vec::new(alloc);
+    for number in 0..9u8 {
+        let entry = named(rt, &[b'a', number], u64::from(number), &TEXT);
+        assert!(rt; entries.push(entry).is_ok());
+    }
+    entries
+}
+
+// A C1 of two pages: the long entries, and three short ones.
+fn make_long(rt: &impl Abort, alloc: Global, store: &mut Store) -> Component {
+    let front = front(rt, alloc);
+    let back = [
+        (key(rt, b"b"), Rec::Delta(11)),
+        (key(rt, b"c"), Rec::Tomb),
+        (key(rt, b"d"), base(rt, 12, b"")),
+    ];
+    store.write(rt, &[(7, front.as_slice()), (4, back.as_slice())])
+}
+
+fn long_tree(rt: &impl Abort, alloc: Global, store: &mut Store) -> Tree {
+    Tree {
+        a: table_of(rt, alloc, &[]),
+        b: table_of(rt, alloc, &[]),
+        c1: make_long(rt, alloc, store),
+        c1x: no_component(),
+        c2: no_component(),
+    }
 }
 
 #[test]
-fn pages_one_after_the_other(rt: HostRuntime) -> Result<(), Fail> {
-    let mut store = Store::blank(rt.alloc())?;
-    let text = [b't'; 435];
-    let mut front = Vec::new(rt.alloc());
-    for number in 0..9u8 {
-        front.push((key(&[b'a', number])?, base(u64::from(number), &text)?))?;
-    }
-    let back = vec![in rt.alloc();
-        (key(b"b")?, Rec::Delta(11)),
-        (key(b"c")?, Rec::Tomb),
-        (key(b"d")?, base(12, b"")?),
-    ]?;
-    let c1 = store.write(&rt, vec![in rt.alloc(); (7, front), (4, back)]?.as_slice())?;
-    let tree = Tree {
-        a: table_of(&rt, rt.alloc(), &[])?,
-        b: table_of(&rt, rt.alloc(), &[])?,
-        c1,
-        c1x: no_component(),
-        c2: no_component(),
-    };
-    let mut space = map_of(&rt, rt.alloc(), &[(0, 7), (0, 4)])?;
-    let mut none = tree.hold(&rt, rt.alloc(), &mut space, b"d", b"a")?;
-    are_rows(&rt, &store.next(&rt, &mut none, 32)?, &[]);
-    let mut hold = tree.hold(&rt, rt.alloc(), &mut space, &[b'a', 7], b"e")?;
-    let rows = store.next(&rt, &mut hold, 32)?;
-    let text: &[u8] = &text;
-    are_rows(
-        &rt,
-        &rows,
-        &[
-            (&[b'a', 7], 7, text),
-            (&[b'a', 8], 8, text),
-            (b"b", 11, b""),
-            (b"d", 12, b""),
-        ],
-    );
-    Ok(())
+fn pages_one_after_the_other(rt: HostRuntime) {
+    let mut store = Store::blank(&rt, rt.alloc());
+    let tree = long_tree(&rt, rt.alloc(), &mut store);
+    let mut space = map_of(&rt, rt.alloc(), &[(0, 7), (0, 4)]);
+    let mut none = tree.hold(&rt, rt.alloc(), &mut space, b"d", b"a");
+    gives(&rt, &mut store, &mut none, 32, &[]);
+    let mut hold = tree.hold(&rt, rt.alloc(), &mut space, &[b'a', 7], b"e");
+    let rows: [Written; 4] = [
+        (&[b'a', 7], 7, &TEXT),
+        (&[b'a', 8], 8, &TEXT),
+        (b"b", 11, b""),
+        (b"d", 12, b""),
+    ];
+    gives(&rt, &mut store, &mut hold, 32, &rows);
 }

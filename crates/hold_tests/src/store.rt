@@ -1,5 +1,5 @@
 // The smallest store on a disk in memory, with components whose pages are written byte by byte, and two tables.
-ghost use Rattle.std.specs.Prelude.{◌≡◌, length, IfOk};
+ghost use Rattle.std.specs.Prelude.{◌≡◌, length};
 ghost use Rattle.blsm_model.specs.Geometry.{file_length};
 ghost use Rattle.disk_mem.specs.Recorded.{told};
 
@@ -13,17 +13,16 @@ use record_delta::{Rec, weight};
 use scan_view::Hold;
 use std::alloc::Global;
 use std::process::Abort;
-use std::test::Fail;
 
-pub fn key(text: &[u8]) -> Result<Key, Fail> {
-    Ok(Key::from_bytes(text).ok_or("no key")?)
+pub fn key(rt: &impl Abort, text: &[u8]) -> Key {
+    Key::from_bytes(text).expect(rt, "a key")
 }
 
-pub fn base(count: u64, text: &[u8]) -> Result<Rec, Fail> {
-    Ok(Rec::Base(Value {
+pub fn base(rt: &impl Abort, count: u64, text: &[u8]) -> Rec {
+    Rec::Base(Value {
         count,
-        text: Text::from_bytes(text).ok_or("too long a text")?,
-    }))
+        text: Text::from_bytes(text).expect(rt, "a text"),
+    })
 }
 
 /// An entry of a list that is written down.
@@ -37,36 +36,44 @@ pub struct Store {
     ghost long: { length (told disk).bytes ≡ file_length geo },
 }
 
+// A disk of so many zeros, by one call.
+fn blank_disk(rt: &impl Abort, alloc: Global, geo: &Geometry) -> MemDisk
+    ensures { length (told result).bytes ≡ file_length geo.now }
+{
+    let length = geo.length();
+    let zeros = vec![in alloc; 0; length as usize].expect(rt, "memory");
+    let mut disk = MemDisk::new(alloc, length, length.saturating_add(100_000)).expect(rt, "memory");
+    assert!(rt; disk.write(0, &zeros).is_ok());
+    disk
+}
+
 impl Store {
     /// The smallest store's length of zeros, by one call.
-    pub fn blank(alloc: Global) -> Result<Store, Fail> {
-        let geo = Geometry::new(17_408, 2, 16_384, 4_096)?;
-        let length = geo.length();
-        let mut disk = MemDisk::new(alloc, length, length.saturating_add(100_000))?;
-        let zeros = vec![in alloc; 0; length as usize]?;
-        disk.write(0, &zeros)?;
-        Ok(Store { geo, disk })
+    pub fn blank(rt: &impl Abort, alloc: Global) -> Store {
+        let geo = Geometry::new(17_408, 2, 16_384, 4_096).expect(rt, "a geometry");
+        let disk = blank_disk(rt, alloc, &geo);
+        Store { geo, disk }
+    }
+
+    fn write_page(&mut self, rt: &impl Abort, number: u32, page: &[u8; PAGE_LEN]) {
+        assert!(rt; u64::from(number) < self.geo.pages());
+        assert!(rt; write_page(&mut self.disk, &self.geo, number, page).is_ok());
     }
 
     /// Writes a component whose pages have these numbers and entries.
-    pub fn write(
-        &mut self,
-        rt: &impl Abort,
-        pages: &[(u32, Vec<Entry>)],
-    ) -> Result<Component, Fail> {
+    pub fn write(&mut self, rt: &impl Abort, pages: &[(u32, &[Entry])]) -> Component {
         let mut run = no_component();
         let mut next = u32::MAX;
         for at in 0..pages.len() {
             let (number, entries) = &pages[pages.len() - 1 - at];
-            let page = page_of(rt, entries.as_slice(), next, &mut run);
-            assert!(rt; u64::from(*number) < self.geo.pages());
-            write_page(&mut self.disk, &self.geo, *number, &page)?;
+            let page = page_of(rt, entries, next, &mut run);
+            self.write_page(rt, *number, &page);
             next = *number;
         }
         assert!(rt; pages.len() < 1_000);
         run.first = next;
         run.pages = pages.len() as u32;
-        Ok(run)
+        run
     }
 
     /// The next rows of a hold.
@@ -103,14 +110,23 @@ fn page_of(rt: &impl Abort, entries: &[Entry], next: u32, run: &mut Component) -
 }
 
 /// A table of these records, in any order.
-pub fn table_of(rt: &impl Abort, alloc: Global, entries: &[Entry]) -> Result<Table, Fail>
-    ensures { IfOk result (λ t. t.reserved ≡ 65536) }
+pub fn table_of(rt: &impl Abort, alloc: Global, entries: &[Entry]) -> Table
+    ensures { result.reserved ≡ 65536 }
 {
-    let mut table = Table::reserve(alloc, 65_536)?;
+    let mut table = reserved(rt, alloc);
     for (key, rec) in entries {
         put(rt, &mut table, key, rec);
     }
-    Ok(table)
+    table
+}
+
+fn reserved(rt: &impl Abort, alloc: Global) -> Table
+    ensures { result.reserved ≡ 65536 }
+{
+    match Table::reserve(alloc, 65_536) {
+        Ok(table) => table,
+        Err(_) => rt.abort(),
+    }
 }
 
 /// Folds a record into a table.

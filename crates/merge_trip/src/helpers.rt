@@ -5,7 +5,7 @@ ghost use Rattle.disk_mem.specs.Recorded.{told};
 ghost use Rattle.page_space.specs.Space.{SpaceState, IsWithin, role_size, pin_size, seat_count};
 ghost use Rattle.merge_ends.specs.Output.{TakesPages};
 
-use crate::plain::key_of;
+use crate::plain::{key_of, push};
 use blsm_model::{Component, Geometry, Key};
 use deep_merge::Deep;
 use disk_mem::MemDisk;
@@ -19,7 +19,6 @@ use run_writer::a_run_has_room;
 use snow_merge::Snow;
 use std::alloc::Global;
 use std::process::Abort;
-use std::test::Fail;
 
 /// How much a table may weigh, in bytes.
 pub const RESERVED: u64 = 65_536;
@@ -32,65 +31,91 @@ pub struct File {
     ghost long: { length (told disk).bytes ≡ file_length geo },
 }
 
+// A disk of so many zeros, durable, by two calls, with room for two megabytes of record.
+fn blank_disk(rt: &impl Abort, alloc: Global, geo: &Geometry) -> MemDisk
+    ensures { length (told result).bytes ≡ file_length geo.now }
+{
+    let length = geo.length();
+    let zeros = vec![in alloc; 0; length as usize].expect(rt, "memory");
+    let mut disk = MemDisk::new(alloc, length, length.saturating_add(2_000_000)).expect(
+        rt, "memory",
+    );
+    assert!(rt; disk.write(0, &zeros).is_ok());
+    assert!(rt; disk.sync().is_ok());
+    disk
+}
+
 impl File {
     /// The smallest store's length of zeros, durable, by two calls, with this quantum and room for two megabytes of record.
-    pub fn blank(alloc: Global, quantum: u64) -> Result<File, Fail> {
-        let geo = Geometry::new(17_408, 2, 16_384, quantum)?;
-        let length = geo.length();
-        let mut disk = MemDisk::new(alloc, length, length.saturating_add(2_000_000))?;
-        let zeros = vec![in alloc; 0; length as usize]?;
-        disk.write(0, &zeros)?;
-        disk.sync()?;
-        Ok(File { geo, disk })
+    pub fn blank(rt: &impl Abort, alloc: Global, quantum: u64) -> File {
+        let geo = Geometry::new(17_408, 2, 16_384, quantum).expect(rt, "a geometry");
+        let disk = blank_disk(rt, alloc, &geo);
+        File { geo, disk }
     }
 
     /// One of the images that a crash may leave. One call of it was answered.
-    pub fn image(&self, rt: &impl Abort, pick: u64) -> Result<File, Fail> {
-        let geo = Geometry::new(
-            self.geo.half(),
-            self.geo.ratio(),
-            self.geo.low(),
-            self.geo.quantum(),
-        )?;
-        let mut disk = self.disk.image(pick)?;
-        assert_eq!(rt; disk.len()?, geo.length());
-        Ok(File { geo, disk })
+    pub fn image(&self, rt: &impl Abort, pick: u64) -> File {
+        let geo = self.geo;
+        let mut disk = self.disk.image(pick).expect(rt, "memory");
+        assert_eq!(rt; disk.len(), Ok(geo.length()));
+        File { geo, disk }
+    }
+
+    /// Makes all that was written durable, by one call.
+    pub fn sync(&mut self, rt: &impl Abort)
+        ensures { self.new.geo ≡ self.old.geo }
+    {
+        assert!(rt; self.disk.sync().is_ok());
+    }
+
+    /// This call of the disk is to fail.
+    pub fn fail(&mut self, rt: &impl Abort, call: u64)
+        ensures { self.new.geo ≡ self.old.geo }
+    {
+        assert!(rt; self.disk.fail(call).is_ok());
     }
 
     /// Asserts that a run has just the records of a list.
-    pub fn check(
-        &mut self,
-        rt: &impl Abort,
-        run: &Component,
-        list: &[Option<Rec>],
-    ) -> Result<(), Fail> {
+    pub fn check(&mut self, rt: &impl Abort, run: &Component, list: &[Option<Rec>]) {
         assert!(rt; run.pages != 0 || *run == no_component());
         let mut cursor = Cursor::start(run);
         for (number, rec) in list.iter().enumerate() {
             if let Some(rec) = rec {
-                let entry = (key_of(number)?, rec.copy());
-                assert_eq!(rt; self.next(rt, &mut cursor), Some(entry));
+                self.goes_on(rt, &mut cursor, key_of(rt, number), rec.copy());
             }
         }
-        assert!(rt; self.next(rt, &mut cursor).is_none());
-        Ok(())
+        self.is_at_end(rt, &mut cursor);
     }
 
-    /// The next entry of a run, if there is one.
-    pub fn next(&mut self, rt: &impl Abort, cursor: &mut Cursor) -> Option<(Key, Rec)> {
+    /// Asserts that this is the next entry of a run.
+    pub fn goes_on(&mut self, rt: &impl Abort, cursor: &mut Cursor, key: Key, rec: Rec) {
+        assert_eq!(rt; self.next(rt, cursor), Some((key, rec)));
+    }
+
+    /// Asserts that a run has no next entry.
+    pub fn is_at_end(&mut self, rt: &impl Abort, cursor: &mut Cursor) {
+        assert!(rt; self.next(rt, cursor).is_none());
+    }
+
+    // The next entry of a run, if there is one.
+    fn next(&mut self, rt: &impl Abort, cursor: &mut Cursor) -> Option<(Key, Rec)> {
         assert_eq!(rt; cursor.advance(&mut self.disk, &self.geo), Ok(()));
         cursor.head()
     }
 }
 
 // A map of the store's pages, all of them free.
-fn free_map(rt: &impl Abort, alloc: Global, geo: &Geometry) -> Result<Space, Fail>
-    ensures pages { IfOk result (λ s. s.pages ≡ page_count geo.now) }
-    ensures within { IfOk result (λ s. IsWithin 0 0 s) }
+fn free_map(rt: &impl Abort, alloc: Global, geo: &Geometry) -> Space
+    ensures pages { result.pages ≡ page_count geo.now }
+    ensures within { IsWithin 0 0 result }
 {
-    let space = Space::reserve(alloc, geo.pages() as u32)?;
-    assert!(rt; u64::from(space.pages()) == geo.pages());
-    Ok(space)
+    match Space::reserve(alloc, geo.pages() as u32) {
+        Ok(space) => {
+            assert!(rt; u64::from(space.pages()) == geo.pages());
+            space
+        }
+        Err(_) => rt.abort(),
+    }
 }
 
 /// A table with room for so much.
@@ -101,21 +126,21 @@ pub struct Memory {
 }
 
 impl Memory {
-    pub fn reserve(alloc: Global) -> Result<Memory, Fail> {
-        Ok(Memory {
-            table: Table::reserve(alloc, RESERVED)?,
-        })
+    pub fn reserve(rt: &impl Abort, alloc: Global) -> Memory {
+        Memory {
+            table: Table::reserve(alloc, RESERVED).expect(rt, "memory"),
+        }
     }
 
     /// A table of the records of a list.
-    pub fn of_list(rt: &impl Abort, alloc: Global, list: &[Option<Rec>]) -> Result<Memory, Fail> {
-        let mut memory = Memory::reserve(alloc)?;
+    pub fn of_list(rt: &impl Abort, alloc: Global, list: &[Option<Rec>]) -> Memory {
+        let mut memory = Memory::reserve(rt, alloc);
         for (number, rec) in list.iter().enumerate() {
             if let Some(rec) = rec {
-                memory.fold_in(rt, &key_of(number)?, rec);
+                memory.fold_in(rt, &key_of(rt, number), rec);
             }
         }
-        Ok(memory)
+        memory
     }
 
     pub fn fold_in(&mut self, rt: &impl Abort, key: &Key, rec: &Rec) {
@@ -142,12 +167,12 @@ pub struct Coming {
 
 impl Coming {
     /// Nothing comes in.
-    pub fn nothing(alloc: Global) -> Result<Coming, Fail> {
-        Ok(Coming {
+    pub fn nothing(rt: &impl Abort, alloc: Global) -> Coming {
+        Coming {
             rounds: Vec::new(alloc),
             behind: Behind::Next,
-            next: Memory::reserve(alloc)?,
-        })
+            next: Memory::reserve(rt, alloc),
+        }
     }
 
     // What comes in behind the quantum of this number, where the cursor is at this key.
@@ -193,22 +218,22 @@ pub struct Store {
 
 impl Store {
     /// The smallest store, with this quantum and no run.
-    pub fn blank(rt: &impl Abort, alloc: Global, quantum: u64) -> Result<Store, Fail> {
-        let file = File::blank(alloc, quantum)?;
-        let space = free_map(rt, alloc, &file.geo)?;
-        Ok(Store {
+    pub fn blank(rt: &impl Abort, alloc: Global, quantum: u64) -> Store {
+        let file = File::blank(rt, alloc, quantum);
+        let space = free_map(rt, alloc, &file.geo);
+        Store {
             file,
             space,
             live: 0,
-        })
+        }
     }
 
     /// The same store over an image of its disk.
-    pub fn over_image(self, rt: &impl Abort, pick: u64) -> Result<Store, Fail> {
+    pub fn over_image(self, rt: &impl Abort, pick: u64) -> Store {
         let Store { file, space, live } = self;
-        let file = file.image(rt, pick)?;
+        let file = file.image(rt, pick);
         assert!(rt; u64::from(space.pages()) == file.geo.pages());
-        Ok(Store { file, space, live })
+        Store { file, space, live }
     }
 
     /// A pass of a table over C1, from its begin to its end. It runs on while something is to come in.
@@ -220,7 +245,7 @@ impl Store {
         role: Role,
         own: &mut Memory,
         coming: &mut Coming,
-    ) -> Result<(Store, Merged), Fail> {
+    ) -> (Store, Merged) {
         let Store {
             file,
             mut space,
@@ -238,7 +263,7 @@ impl Store {
             let _pages = space.pages();
             if snow.is_done(&own.table) && round >= coming.rounds.len() {
                 let run = snow.finish(&mut disk, &geo, &own.table).ok();
-                return Ok(ended(File { geo, disk }, space, live, role, run, quanta));
+                return ended(File { geo, disk }, space, live, role, run, quanta);
             }
             assert!(rt; total < 1_000_000);
             let most = total + own.table.weight() + c1.weight;
@@ -249,12 +274,12 @@ impl Store {
                 Err(broken) => {
                     assert_eq!(rt; broken, Broken::Fault);
                     assert_eq!(rt; snow.cursor(), at);
-                    return Ok(ended(File { geo, disk }, space, live, role, None, quanta));
+                    return ended(File { geo, disk }, space, live, role, None, quanta);
                 }
             };
             assert!(rt; taken < 1_000_000);
             total += taken;
-            quanta.push((taken, snow.cursor()))?;
+            push(rt, &mut quanta, (taken, snow.cursor()));
             coming.come_in(rt, round, &snow.cursor(), own);
         }
         rt.abort()
@@ -267,10 +292,10 @@ impl Store {
         alloc: Global,
         role: Role,
         own: &mut Memory,
-    ) -> Result<(Store, Component), Fail> {
-        let mut coming = Coming::nothing(alloc)?;
-        let (store, merged) = self.pass(rt, alloc, &no_component(), role, own, &mut coming)?;
-        Ok((store, merged.run.ok_or("a fault")?))
+    ) -> (Store, Component) {
+        let mut coming = Coming::nothing(rt, alloc);
+        let (store, merged) = self.pass(rt, alloc, &no_component(), role, own, &mut coming);
+        (store, merged.run.expect(rt, "no fault"))
     }
 
     /// A deep merge, from its begin to its end.
@@ -281,7 +306,7 @@ impl Store {
         c1x: &Component,
         c2: &Component,
         role: Role,
-    ) -> Result<(Store, Merged), Fail> {
+    ) -> (Store, Merged) {
         let Store {
             file,
             mut space,
@@ -300,7 +325,7 @@ impl Store {
             let _pages = space.pages();
             if deep.is_done() {
                 let run = deep.finish(&mut disk, &geo).ok();
-                return Ok(ended(File { geo, disk }, space, live, role, run, quanta));
+                return ended(File { geo, disk }, space, live, role, run, quanta);
             }
             assert!(rt; total < 1_000_000);
             let most = total + c1x.weight + c2.weight;
@@ -311,12 +336,12 @@ impl Store {
                 Err(broken) => {
                     assert_eq!(rt; broken, Broken::Fault);
                     assert_eq!(rt; deep.cursor(), at);
-                    return Ok(ended(File { geo, disk }, space, live, role, None, quanta));
+                    return ended(File { geo, disk }, space, live, role, None, quanta);
                 }
             };
             assert!(rt; taken < 1_000_000);
             total += taken;
-            quanta.push((taken, deep.cursor()))?;
+            push(rt, &mut quanta, (taken, deep.cursor()));
         }
         rt.abort()
     }

@@ -4,7 +4,7 @@ ghost use Rattle.std.specs.Prelude.{◌<◌};
 use blsm_model::{Key, Text, Value};
 use record_delta::{Rec, weight};
 use std::alloc::Global;
-use std::test::Fail;
+use std::process::Abort;
 
 /// A record, or none, for each of the keys of the numbers from 0 on.
 pub type Records = Vec<Option<Rec>>;
@@ -27,11 +27,11 @@ impl Draws {
 }
 
 /// The key of a number: its two bytes, and up to two more. Keys are in the order of their numbers.
-pub fn key_of(number: usize) -> Result<Key, Fail> {
-    let [high, low] = u16::try_from(number)?.to_be_bytes();
+pub fn key_of(rt: &impl Abort, number: usize) -> Key {
+    assert!(rt; number <= 65_535);
+    let [high, low] = (number as u16).to_be_bytes();
     let bytes = [high, low, b'k', b'k'];
-    let key = bytes.get(..2 + number % 3).ok_or("no key")?;
-    Ok(Key::from_bytes(key).ok_or("no key")?)
+    Key::from_bytes(&bytes[..2 + number % 3]).expect(rt, "a key")
 }
 
 /// The number of a key that has one.
@@ -43,67 +43,78 @@ pub fn number_of(key: &Key) -> usize {
 }
 
 /// A base whose text has so many letters.
-pub fn base(count: u64, length: usize) -> Result<Rec, Fail> {
-    let text = [b'x'; Text::MAX_LEN]
-        .get(..length)
-        .ok_or("too long a text")?;
-    Ok(Rec::Base(Value {
+pub fn base(rt: &impl Abort, count: u64, length: usize) -> Rec {
+    let letters = [b'x'; Text::MAX_LEN];
+    let letters = letters.get(..length).expect(rt, "so many letters");
+    Rec::Base(Value {
         count,
-        text: Text::from_bytes(text).ok_or("too long a text")?,
-    }))
+        text: Text::from_bytes(letters).expect(rt, "a text"),
+    })
 }
 
 /// Of six records three are bases, two deltas and one is a tombstone. A text has fewer letters than this. Sums of counts often wrap.
-pub fn draw_record(draws: &mut Draws, longer: u64) -> Result<Rec, Fail>
+pub fn draw_record(rt: &impl Abort, draws: &mut Draws, longer: u64) -> Rec
     requires { 0 < longer }
 {
     let count = draws
         .below(3)
         .wrapping_mul(u64::MAX / 3)
         .wrapping_add(draws.below(100));
-    Ok(match draws.below(6) {
-        0..=2 => base(count, draws.below(longer) as usize)?,
+    match draws.below(6) {
+        0..=2 => base(rt, count, draws.below(longer) as usize),
         3..=4 => Rec::Delta(count),
         _ => Rec::Tomb,
-    })
+    }
+}
+
+/// Puts one more at the end of a list.
+pub fn push<T: Drop>(rt: &impl Abort, list: &mut Vec<T>, item: T) {
+    assert!(rt; list.push(item).is_ok());
+}
+
+// The record of one more key, where it has one.
+fn draw_place(rt: &impl Abort, draws: &mut Draws, share: u64, longer: u64) -> Option<Rec>
+    requires { 0 < longer }
+{
+    if draws.below(100) < share {
+        Some(draw_record(rt, draws, longer))
+    } else {
+        None
+    }
 }
 
 /// A list of so many keys, of which so many in a hundred have a record.
 pub fn draw_list(
+    rt: &impl Abort,
     alloc: Global,
     draws: &mut Draws,
     keys: usize,
     share: u64,
     longer: u64,
-) -> Result<Records, Fail>
+) -> Records
     requires { 0 < longer }
 {
     let mut list = Vec::new(alloc);
     for _ in 0..keys {
-        let rec = if draws.below(100) < share {
-            Some(draw_record(draws, longer)?)
-        } else {
-            None
-        };
-        list.push(rec)?;
+        push(rt, &mut list, draw_place(rt, draws, share, longer));
     }
-    Ok(list)
+    list
 }
 
 /// The weight of a list's records.
-pub fn weight_of(list: &[Option<Rec>]) -> Result<u64, Fail> {
+pub fn weight_of(rt: &impl Abort, list: &[Option<Rec>]) -> u64 {
     let mut sum = 0u64;
     for number in 0..list.len() {
-        sum = sum.saturating_add(weight_at(list, number)?);
+        sum = sum.saturating_add(weight_at(rt, list, number));
     }
-    Ok(sum)
+    sum
 }
 
-fn weight_at(list: &[Option<Rec>], number: usize) -> Result<u64, Fail> {
-    Ok(match list.get(number) {
-        Some(Some(rec)) => weight(&key_of(number)?, rec),
+fn weight_at(rt: &impl Abort, list: &[Option<Rec>], number: usize) -> u64 {
+    match list.get(number) {
+        Some(Some(rec)) => weight(&key_of(rt, number), rec),
         _ => 0,
-    })
+    }
 }
 
 // The newer record of a key over the older one.
@@ -125,21 +136,26 @@ fn folded(newer: Option<&Rec>, older: Option<&Rec>) -> Option<Rec> {
     }
 }
 
-/// What is left of each record where nothing is older: a base stays, a delta becomes a base with an empty text, and of a tombstone
-/// nothing is left.
-pub fn settled(alloc: Global, list: &[Option<Rec>]) -> Result<Records, Fail> {
+// What is left of a record where nothing is older: a base stays, a delta becomes a base with an empty text, and of a tombstone nothing is
+// left.
+fn settled_one(rec: &Option<Rec>) -> Option<Rec> {
+    match rec {
+        Some(Rec::Base(value)) => Some(Rec::Base(value.copy())),
+        Some(Rec::Delta(count)) => Some(Rec::Base(Value {
+            count: *count,
+            text: Text::empty(),
+        })),
+        Some(Rec::Tomb) | None => None,
+    }
+}
+
+/// What is left of each record where nothing is older.
+pub fn settled(rt: &impl Abort, alloc: Global, list: &[Option<Rec>]) -> Records {
     let mut out = Vec::new(alloc);
     for rec in list {
-        out.push(match rec {
-            Some(Rec::Base(value)) => Some(Rec::Base(value.copy())),
-            Some(Rec::Delta(count)) => Some(Rec::Base(Value {
-                count: *count,
-                text: Text::empty(),
-            })),
-            Some(Rec::Tomb) | None => None,
-        })?;
+        push(rt, &mut out, settled_one(rec));
     }
-    Ok(out)
+    out
 }
 
 /// A merge of two lists, as far as it has come: what it made of those keys that it took, and the number behind them.
@@ -150,41 +166,42 @@ pub struct Plain {
 }
 
 impl Plain {
-    pub fn begin(alloc: Global, keys: usize) -> Result<Plain, Fail> {
+    pub fn begin(rt: &impl Abort, alloc: Global, keys: usize) -> Plain {
         let mut out = Vec::new(alloc);
         for _ in 0..keys {
-            out.push(None)?;
+            push(rt, &mut out, None);
         }
-        Ok(Plain { out, next: 0 })
+        Plain { out, next: 0 }
     }
 
     /// The greatest key that was taken.
-    pub fn cursor(&self) -> Result<Option<Key>, Fail> {
-        Ok(match self.next.checked_sub(1) {
-            Some(number) => Some(key_of(number)?),
+    pub fn cursor(&self, rt: &impl Abort) -> Option<Key> {
+        match self.next.checked_sub(1) {
+            Some(number) => Some(key_of(rt, number)),
             None => None,
-        })
+        }
     }
 
     /// Takes keys in their order, with the records of both lists, until these weigh a quantum or nothing is left. Gives what they weigh.
     pub fn quantum(
         &mut self,
+        rt: &impl Abort,
         newer: &[Option<Rec>],
         older: &[Option<Rec>],
         quantum: u64,
-    ) -> Result<u64, Fail> {
+    ) -> u64 {
         let mut taken = 0u64;
         for number in self.next..self.out.len() {
             if taken >= quantum {
-                return Ok(taken);
+                return taken;
             }
-            let group = weight_at(newer, number)?.saturating_add(weight_at(older, number)?);
+            let group = weight_at(rt, newer, number).saturating_add(weight_at(rt, older, number));
             if group > 0 {
                 taken = taken.saturating_add(group);
                 self.take(newer, older, number);
             }
         }
-        Ok(taken)
+        taken
     }
 
     fn take(&mut self, newer: &[Option<Rec>], older: &[Option<Rec>], number: usize) {

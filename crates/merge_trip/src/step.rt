@@ -2,7 +2,7 @@
 use blsm_model::Key;
 use merge_step::least_group;
 use record_delta::{Rec, Stream};
-use std::test::Fail;
+use std::process::Abort;
 
 #[derive(Drop)]
 struct Standing {
@@ -20,19 +20,29 @@ impl Stream for Standing {
     }
 }
 
-fn run_at(key: &[u8], rec: Rec) -> Result<Standing, Fail> {
-    let key = Key::from_bytes(key).ok_or("no key")?;
-    Ok(Standing {
-        entry: Some((key, rec)),
-    })
+fn key(rt: &impl Abort, bytes: &[u8]) -> Key {
+    Key::from_bytes(bytes).expect(rt, "a key")
+}
+
+// A run that stands at this entry.
+fn run_at(rt: &impl Abort, name: &[u8], rec: Rec) -> Standing {
+    Standing {
+        entry: Some((key(rt, name), rec)),
+    }
+}
+
+// Of these two runs this is the least group, with its weight.
+fn least_is(rt: &impl Abort, newer: Standing, older: Standing, rec: Rec, weight: u64) {
+    let group = least_group(&newer, &older);
+    assert_eq!(rt; group, Some((key(rt, b"x"), rec, weight)));
 }
 
 #[test]
-fn the_lesser_key_and_both_of_one(rt: HostRuntime) -> Result<(), Fail> {
-    let x = Key::from_bytes(b"x").ok_or("no key")?;
-    let group = least_group(&run_at(b"x", Rec::Delta(4))?, &run_at(b"y", Rec::Tomb)?);
-    assert_eq!(rt; group, Some((x.copy(), Rec::Delta(4), 14)));
-    let group = least_group(&run_at(b"x", Rec::Delta(4))?, &run_at(b"x", Rec::Delta(3))?);
-    assert_eq!(rt; group, Some((x, Rec::Delta(7), 28)));
-    Ok(())
+fn the_lesser_key_and_both_of_one(rt: HostRuntime) {
+    let x = run_at(&rt, b"x", Rec::Delta(4));
+    let y = run_at(&rt, b"y", Rec::Tomb);
+    least_is(&rt, x, y, Rec::Delta(4), 14);
+    let newer = run_at(&rt, b"x", Rec::Delta(4));
+    let older = run_at(&rt, b"x", Rec::Delta(3));
+    least_is(&rt, newer, older, Rec::Delta(7), 28);
 }

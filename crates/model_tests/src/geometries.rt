@@ -1,6 +1,6 @@
 // The numbers of a store's geometry.
 use blsm_model::{Geometry, GeometryFault};
-use std::test::Fail;
+use std::process::Abort;
 
 #[derive(Drop)]
 struct Case {
@@ -46,35 +46,59 @@ fn cases() -> [Case; 3] {
     ]
 }
 
-#[test]
-fn three_geometries_have_their_numbers(rt: HostRuntime) -> Result<(), Fail> {
-    for case in &cases() {
-        let (half, ratio, low, quantum) = case.numbers;
-        let geometry = Geometry::new(half, ratio, low, quantum)?;
-        assert_eq!(rt; (geometry.half(), geometry.ratio()), (half, ratio));
-        assert_eq!(rt; (geometry.low(), geometry.quantum()), (low, quantum));
-        let marks = (
-            geometry.high_mark(),
-            geometry.c1_mark(),
-            geometry.capacity(),
-        );
-        assert_eq!(rt; marks, case.marks);
-        assert_eq!(rt; geometry.c1_way(), case.way);
-        assert_eq!(rt; (geometry.first_gear(), geometry.second_gear()), case.gears);
-        assert_eq!(rt; (geometry.bound(14), geometry.bound(512)), case.bounds);
-        assert_eq!(rt; (geometry.pages(), geometry.length()), case.disk);
-        let (_, _, capacity) = case.marks;
-        assert!(rt; geometry.admits(false, case.limit.saturating_sub(14), 14));
-        assert!(rt; !geometry.admits(false, case.limit.saturating_sub(13), 14));
-        assert!(rt; geometry.admits(true, capacity.saturating_sub(14), 14));
-        assert!(rt; !geometry.admits(true, capacity.saturating_sub(13), 14));
-    }
-    Ok(())
+fn geometry(rt: &impl Abort, (half, ratio, low, quantum): (u64, u64, u64, u64)) -> Geometry {
+    Geometry::new(half, ratio, low, quantum).expect(rt, "a geometry")
+}
+
+fn has_numbers(rt: &impl Abort, case: &Case) {
+    let geometry = geometry(rt, case.numbers);
+    let (half, ratio, low, quantum) = case.numbers;
+    assert_eq!(rt; (geometry.half(), geometry.ratio()), (half, ratio));
+    assert_eq!(rt; (geometry.low(), geometry.quantum()), (low, quantum));
+}
+
+fn has_marks(rt: &impl Abort, case: &Case) {
+    let geometry = geometry(rt, case.numbers);
+    let (high, c1, capacity) = case.marks;
+    assert_eq!(rt; geometry.high_mark(), high);
+    assert_eq!(rt; geometry.c1_mark(), c1);
+    assert_eq!(rt; geometry.capacity(), capacity);
+    assert_eq!(rt; geometry.c1_way(), case.way);
+}
+
+fn has_bounds(rt: &impl Abort, case: &Case) {
+    let geometry = geometry(rt, case.numbers);
+    assert_eq!(rt; (geometry.first_gear(), geometry.second_gear()), case.gears);
+    assert_eq!(rt; (geometry.bound(14), geometry.bound(512)), case.bounds);
+    assert_eq!(rt; (geometry.pages(), geometry.length()), case.disk);
+}
+
+// A write of 14 bytes is taken up to 14 below this limit, and not past it.
+fn has_limit(rt: &impl Abort, geometry: &Geometry, is_del: bool, limit: u64) {
+    assert!(rt; geometry.admits(is_del, limit.saturating_sub(14), 14));
+    assert!(rt; !geometry.admits(is_del, limit.saturating_sub(13), 14));
+}
+
+fn has_limits(rt: &impl Abort, case: &Case) {
+    let geometry = geometry(rt, case.numbers);
+    let (_, _, capacity) = case.marks;
+    has_limit(rt, &geometry, false, case.limit);
+    has_limit(rt, &geometry, true, capacity);
 }
 
 #[test]
-fn the_smallest_store_is_full_at_its_edges(rt: HostRuntime) -> Result<(), Fail> {
-    let geometry = Geometry::new(17_408, 2, 16_384, 4_096)?;
+fn three_geometries_have_their_numbers(rt: HostRuntime) {
+    for case in &cases() {
+        has_numbers(&rt, case);
+        has_marks(&rt, case);
+        has_bounds(&rt, case);
+        has_limits(&rt, case);
+    }
+}
+
+#[test]
+fn the_smallest_store_is_full_at_its_edges(rt: HostRuntime) {
+    let geometry = geometry(&rt, (17_408, 2, 16_384, 4_096));
     let cases = [
         (true, 139_250, true),
         (true, 139_251, false),
@@ -85,7 +109,6 @@ fn the_smallest_store_is_full_at_its_edges(rt: HostRuntime) -> Result<(), Fail> 
     for (is_del, charge, taken) in cases {
         assert_eq!(rt; geometry.admits(is_del, charge, 14), taken, "at {charge}");
     }
-    Ok(())
 }
 
 #[test]

@@ -4,11 +4,13 @@ ghost use Rattle.std.specs.Ordering.{is_lt};
 ghost use Rattle.blsm_model.specs.Keys.{key_cmp};
 
 use crate::samples::{key, value};
+use crate::scripts::note;
 use blsm_model::{
     Annals, Entry, Gate, Key, Line, NoGate, Op, Plain, Point, Reply, Room, Row, RowList,
-    ShortReply, Stands, Text, Value, Write, run,
+    ShortReply, Stands, Text, Write, run,
 };
-use std::test::Fail;
+use std::alloc::Global;
+use std::process::Abort;
 
 // The order that the definitions name is the type's own.
 fn is_below(low: &Key, high: &Key) -> bool
@@ -18,18 +20,17 @@ fn is_below(low: &Key, high: &Key) -> bool
 }
 
 #[test]
-fn keys_are_ordered_bytewise(rt: HostRuntime) -> Result<(), Fail> {
+fn keys_are_ordered_bytewise(rt: HostRuntime) {
     let rising: [&[u8]; 6] = [b"a", b"aa", b"ab", b"b", b"b\x00", b"\xff"];
     for low in 0..rising.len() {
         for high in 0..rising.len() {
             assert_eq!(rt;
-                is_below(&key(rising[low])?, &key(rising[high])?),
+                is_below(&key(&rt, rising[low]), &key(&rt, rising[high])),
                 low < high,
                 "at {low} {high}"
             );
         }
     }
-    Ok(())
 }
 
 #[test]
@@ -52,32 +53,44 @@ fn keys_and_texts_have_their_lengths(rt: HostRuntime) {
 }
 
 #[test]
-fn writes_weigh_their_entry(rt: HostRuntime) -> Result<(), Fail> {
+fn writes_weigh_their_entry(rt: HostRuntime) {
     let bytes = [b'x'; 435];
-    let heaviest = Op::Put(key(&bytes[..64])?, value(9, &bytes)?);
+    let heaviest = Op::Put(key(&rt, &bytes[..64]), value(&rt, 9, &bytes));
     assert_eq!(rt; heaviest.weight(), Op::MAX_WEIGHT);
-    let short = key(b"a")?;
-    assert_eq!(rt; Op::Put(short.copy(), value(5, b"hi")?).weight(), 16);
-    assert_eq!(rt; Op::Add(short.copy(), 7).weight(), 14);
-    assert_eq!(rt; Op::Del(short).weight(), 14);
-    Ok(())
+    let put = Op::Put(key(&rt, b"a"), value(&rt, 5, b"hi"));
+    assert_eq!(rt; put.weight(), 16);
+    assert_eq!(rt; Op::Add(key(&rt, b"a"), 7).weight(), 14);
+    assert_eq!(rt; Op::Del(key(&rt, b"a")).weight(), 14);
 }
 
-#[test]
-fn copies_are_the_same(rt: HostRuntime) -> Result<(), Fail> {
-    let row = Row {
-        key: key(b"a")?,
-        value: value(5, b"hi")?,
-    };
-    let put = Write::Put(row.key.copy(), row.value.copy());
-    assert!(rt; put.copy() == put);
+fn row(rt: &impl Abort, count: u64, text: &[u8]) -> Row {
+    Row {
+        key: key(rt, b"a"),
+        value: value(rt, count, text),
+    }
+}
+
+// An entry whose reply has a row.
+fn entry_of(row: Row) -> Entry {
     let mut rows = RowList::new();
     rows.push(row.copy());
-    let entry = Entry {
+    Entry {
         seat: 15,
         op: Op::Put(row.key, row.value),
         reply: Reply::Rows(rows),
-    };
+    }
+}
+
+#[test]
+fn a_write_is_copied(rt: HostRuntime) {
+    let row = row(&rt, 5, b"hi");
+    let put = Write::Put(row.key.copy(), row.value.copy());
+    assert!(rt; put.copy() == put);
+}
+
+#[test]
+fn copies_are_the_same(rt: HostRuntime) {
+    let entry = entry_of(row(&rt, 5, b"hi"));
     let copy = entry.copy();
     assert!(rt; copy == entry);
     let line = Line {
@@ -86,55 +99,84 @@ fn copies_are_the_same(rt: HostRuntime) -> Result<(), Fail> {
     };
     assert!(rt; line.copy() == line);
     assert!(rt; line.op == entry.op);
-    Ok(())
 }
 
-#[test]
-fn annals_tell_what_was_noted(rt: HostRuntime) -> Result<(), Fail> {
+// Annals with room for so many entries and rows of seat 3.
+fn annals_of(rt: &impl Abort, alloc: Global, entries: u8, rows: u8) -> Annals {
     let mut room = Room {
         entries: [0; 16],
         rows: [0; 16],
     };
-    room.entries[3] = 2;
-    room.rows[3] = 5;
-    let mut annals = Annals::reserve(rt.alloc(), room)?;
-    assert!(rt; annals.is_empty());
+    room.entries[3] = u32::from(entries);
+    room.rows[3] = u32::from(rows);
+    Annals::reserve(alloc, room).expect(rt, "memory")
+}
 
-    let row = Row {
-        key: key(b"a")?,
-        value: Value {
-            count: 7,
-            text: Default::default(),
-        },
-    };
+fn two_rows(rt: &impl Abort) -> RowList {
     let mut rows = RowList::new();
-    rows.push(row.copy());
-    rows.push(row);
-    annals.note(Entry {
-        seat: 3,
-        op: Op::Next(2),
-        reply: Reply::Rows(rows.copy()),
-    });
-    annals.note_short(3, Op::Release, ShortReply::Done);
-    annals.count(1, 7);
-    annals.count(1, 2);
+    rows.push(row(rt, 7, b""));
+    rows.push(row(rt, 7, b""));
+    rows
+}
 
-    assert_eq!(rt; annals.len(), 2);
-    assert!(rt; !annals.is_empty());
-    assert_eq!(rt; (annals.seat(0), annals.quanta(0)), (3, 0));
-    assert_eq!(rt; (annals.seat(1), annals.quanta(1)), (3, 9));
-    assert!(rt; annals.op(0) == &Op::Next(2));
+fn note_release(rt: &impl Abort, annals: &mut Annals) {
+    let room = annals.room();
+    assert!(rt; room.entries[3] > 0);
+    annals.note_short(3, Op::Release, ShortReply::Done);
+}
+
+// Counts so many quanta for an entry that has few.
+fn count(rt: &impl Abort, annals: &mut Annals, place: u32, quanta: u8) {
+    assert!(rt; (place as usize) < annals.len());
+    assert!(rt; annals.quanta(place) < 100);
+    annals.count(place, u64::from(quanta));
+}
+
+// An entry of seat 3, with its quanta.
+fn has_entry(rt: &impl Abort, annals: &Annals, place: u32, quanta: u64, op: &Op) {
+    assert!(rt; (place as usize) < annals.len());
+    assert_eq!(rt; (annals.seat(place), annals.quanta(place)), (3, quanta));
+    assert!(rt; annals.op(place) == op);
+}
+
+// The first reply has rows.
+fn replies_rows(rt: &impl Abort, annals: &Annals, rows: RowList) {
+    assert!(rt; 0 < annals.len());
     assert!(rt; annals.short_reply(0).is_none());
     assert_eq!(rt; annals.rows(0).len(), 2);
     assert!(rt; annals.reply(0) == Reply::Rows(rows));
-    assert!(rt; annals.op(1) == &Op::Release);
+}
+
+// The second reply has none.
+fn replies_done(rt: &impl Abort, annals: &Annals) {
+    assert!(rt; 1 < annals.len());
     assert!(rt; annals.short_reply(1) == Some(&ShortReply::Done));
     assert!(rt; annals.rows(1).is_empty());
     assert!(rt; annals.reply(1) == Reply::Done);
+}
+
+// What is left of the room of two seats.
+fn has_left(rt: &impl Abort, annals: &Annals) {
     let left = annals.room();
     assert_eq!(rt; (left.entries[3], left.rows[3]), (0, 3));
     assert_eq!(rt; (left.entries[4], left.rows[4]), (0, 0));
-    Ok(())
+}
+
+#[test]
+fn annals_tell_what_was_noted(rt: HostRuntime) {
+    let mut annals = annals_of(&rt, rt.alloc(), 2, 5);
+    assert!(rt; annals.is_empty());
+    note(&rt, &mut annals, 3, Op::Next(2), Reply::Rows(two_rows(&rt)));
+    note_release(&rt, &mut annals);
+    count(&rt, &mut annals, 1, 7);
+    count(&rt, &mut annals, 1, 2);
+    assert_eq!(rt; annals.len(), 2);
+    assert!(rt; !annals.is_empty());
+    has_entry(&rt, &annals, 0, 0, &Op::Next(2));
+    has_entry(&rt, &annals, 1, 9, &Op::Release);
+    replies_rows(&rt, &annals, two_rows(&rt));
+    replies_done(&rt, &annals);
+    has_left(&rt, &annals);
 }
 
 // A history of writes that all weigh as much, and how many there may be.
@@ -151,7 +193,7 @@ impl Stands for Tally {
 
     ghost facts = { λ t. record {
       history = t.annals.entries;
-      part = λ seat. record { debt1 = 0; debt2 = 0; held = None; turns = 0; worked = false; room = (0, 0); left = false };
+      part = λ seat. record { debt1 = 0; debt2 = 0; turns = 0; worked = false; room = (0, 0); left = false };
       quanta = sum t.annals.quanta;
       peak = t.peak;
       closed = false;
@@ -181,21 +223,15 @@ fn told<V: Stands>(value: &V) -> (u64, u64)
 }
 
 #[test]
-fn a_value_tells_its_entries_and_its_peak(rt: HostRuntime) -> Result<(), Fail> {
-    let mut room = Room {
-        entries: [0; 16],
-        rows: [0; 16],
-    };
-    room.entries[3] = 1;
-    let mut annals = Annals::reserve(rt.alloc(), room)?;
-    annals.note_short(3, Op::Release, ShortReply::Done);
+fn a_value_tells_its_entries_and_its_peak(rt: HostRuntime) {
+    let mut annals = annals_of(&rt, rt.alloc(), 1, 0);
+    note_release(&rt, &mut annals);
     let tally = Tally {
         annals,
         peak: 14,
         most: 28,
     };
     assert_eq!(rt; told(&tally), (1, 14));
-    Ok(())
 }
 
 fn pass<G: Gate>(gate: &G) {
@@ -209,44 +245,63 @@ fn the_shipped_gate_lets_through(_rt: HostRuntime) {
     pass(&NoGate);
 }
 
-#[test]
-fn the_plain_store_answers_the_worked_examples(rt: HostRuntime) -> Result<(), Fail> {
-    let rows = [
-        (Op::Put(key(b"a")?, value(5, b"hi")?), Reply::Done),
-        (Op::Get(key(b"a")?), Reply::Is(value(5, b"hi")?)),
-        (Op::Del(key(b"a")?), Reply::Done),
-        (Op::Get(key(b"a")?), Reply::Absent),
-        (Op::Add(key(b"n")?, u64::MAX), Reply::Done),
-        (Op::Add(key(b"n")?, 2), Reply::Done),
-        (Op::Get(key(b"n")?), Reply::Is(value(1, b"")?)),
-        (Op::Del(key(b"n")?), Reply::Full(58)),
-        (Op::Get(key(b"n")?), Reply::Is(value(1, b"")?)),
-    ];
-    let mut plain = Plain::new(rt.alloc(), 71);
-    for (op, reply) in &rows {
-        assert!(rt; Plain::can_answer(op));
-        let answer = plain.answer(op)?;
-        assert!(rt; answer == *reply);
-    }
-    Ok(())
+fn is_answered(rt: &impl Abort, plain: &mut Plain, op: Op, reply: Reply) {
+    assert!(rt; Plain::can_answer(&op));
+    let answer = plain.answer(&op).expect(rt, "memory");
+    assert!(rt; answer == reply);
+}
+
+fn is_got(rt: &impl Abort, plain: &mut Plain, name: &[u8], reply: Reply) {
+    is_answered(rt, plain, Op::Get(key(rt, name)), reply);
+}
+
+fn is_added(rt: &impl Abort, plain: &mut Plain, count: u64) {
+    is_answered(rt, plain, Op::Add(key(rt, b"n"), count), Reply::Done);
+}
+
+fn is_deleted(rt: &impl Abort, plain: &mut Plain, name: &[u8], reply: Reply) {
+    is_answered(rt, plain, Op::Del(key(rt, name)), reply);
+}
+
+// A put, and a del of its key.
+fn put_and_del(rt: &impl Abort, plain: &mut Plain) {
+    let put = Op::Put(key(rt, b"a"), value(rt, 5, b"hi"));
+    is_answered(rt, plain, put, Reply::Done);
+    is_got(rt, plain, b"a", Reply::Is(value(rt, 5, b"hi")));
+    is_deleted(rt, plain, b"a", Reply::Done);
+    is_got(rt, plain, b"a", Reply::Absent);
 }
 
 #[test]
-fn a_script_runs_line_by_line(rt: HostRuntime) -> Result<(), Fail> {
+fn the_plain_store_answers_the_worked_examples(rt: HostRuntime) {
+    let mut plain = Plain::new(rt.alloc(), 71);
+    put_and_del(&rt, &mut plain);
+    is_added(&rt, &mut plain, u64::MAX);
+    is_added(&rt, &mut plain, 2);
+    is_got(&rt, &mut plain, b"n", Reply::Is(value(&rt, 1, b"")));
+    is_deleted(&rt, &mut plain, b"n", Reply::Full(58));
+    is_got(&rt, &mut plain, b"n", Reply::Is(value(&rt, 1, b"")));
+}
+
+// The entry of this place is that of this seat, with this reply.
+fn has_reply(rt: &impl Abort, history: &[Entry], place: usize, seat: u32, reply: Reply) {
+    let entry = history.get(place).expect(rt, "so many");
+    assert!(rt; entry.seat == seat);
+    assert!(rt; entry.reply == reply);
+}
+
+fn line(seat: u32, op: Op) -> Line {
+    Line { seat, op }
+}
+
+#[test]
+fn a_script_runs_line_by_line(rt: HostRuntime) {
     let script = [
-        Line {
-            seat: 0,
-            op: Op::Add(key(b"n")?, 7),
-        },
-        Line {
-            seat: 15,
-            op: Op::Get(key(b"n")?),
-        },
+        line(0, Op::Add(key(&rt, b"n"), 7)),
+        line(15, Op::Get(key(&rt, b"n"))),
     ];
     assert!(rt; Plain::can_run(&script));
-    let history = run(rt.alloc(), &script, 14)?;
+    let history = run(rt.alloc(), &script, 14).expect(&rt, "memory");
     assert_eq!(rt; history.len(), 2);
-    assert!(rt; history[1].seat == 15);
-    assert!(rt; history[1].reply == Reply::Is(value(7, b"")?));
-    Ok(())
+    has_reply(&rt, &history, 1, 15, Reply::Is(value(&rt, 7, b"")));
 }

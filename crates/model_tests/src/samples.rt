@@ -1,14 +1,21 @@
-// Keys and values of a few bytes.
+// Keys and values of a few bytes, and sinks.
 use blsm_model::{Key, Text, Value};
-use std::test::Fail;
+use std::alloc::Global;
+use std::process::Abort;
+use text_io::MemSink;
 
-pub fn key(bytes: &[u8]) -> Result<Key, Fail> {
-    Ok(Key::from_bytes(bytes).ok_or("no key")?)
+pub fn key(rt: &impl Abort, bytes: &[u8]) -> Key {
+    Key::from_bytes(bytes).expect(rt, "a key")
 }
 
-pub fn value(count: u64, text: &[u8]) -> Result<Value, Fail> {
-    Ok(Value {
+pub fn value(rt: &impl Abort, count: u64, text: &[u8]) -> Value {
+    Value {
         count,
-        text: Text::from_bytes(text).ok_or("too long a text")?,
-    })
+        text: Text::from_bytes(text).expect(rt, "a text"),
+    }
+}
+
+/// A sink with room for so many bytes, of which these calls fail.
+pub fn sink(rt: &impl Abort, alloc: Global, limit: u64, fails: &[u64]) -> MemSink {
+    MemSink::new(alloc, limit, fails).expect(rt, "memory")
 }

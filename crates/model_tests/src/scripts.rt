@@ -1,19 +1,15 @@
 // Scripts that are read, and histories that are printed.
-ghost use Rattle.std.specs.Prelude.{◌≡◌, OnOk, length};
+ghost use Rattle.std.specs.Prelude.{◌≡◌, length};
 ghost use Rattle.blsm_model.specs.Book.{noted, rows_given};
 
-use crate::samples::{key, value};
-use blsm_model::{Annals, Entry, Line, Op, Reply, Room, Row, RowList, Totals, Why};
+use crate::samples::{key, sink, value};
+use blsm_model::{Annals, Entry, Line, Op, Reply, Room, Row, RowList, Totals, Value, Why};
 use refusal::Failed;
-use script_text::{MOST_LINES, MOST_ROWS_ASKED, ScriptFault, print_history, read_script};
+use script_text::{MOST_LINES, MOST_ROWS_ASKED, Script, ScriptFault, print_history, read_script};
 use std::alloc::Global;
 use std::process::Abort;
-use std::test::Fail;
-use text_io::MemSink;
 
-#[test]
-fn a_script_is_its_lines(rt: HostRuntime) -> Result<(), Fail> {
-    let text = b"1 put a 5 hi
+const SCRIPT: &[u8] = b"1 put a 5 hi
 16 add n 18446744073709551615
 1 del a
 2 put - 0 -
@@ -24,54 +20,48 @@ fn a_script_is_its_lines(rt: HostRuntime) -> Result<(), Fail> {
 1 next 5
 3 next 1
 16 drop";
-    let script = read_script(rt.alloc(), text)?;
-    let wanted = [
-        Line {
-            seat: 0,
-            op: Op::Put(key(b"a")?, value(5, b"hi")?),
-        },
-        Line {
-            seat: 15,
-            op: Op::Add(key(b"n")?, 18446744073709551615),
-        },
-        Line {
-            seat: 0,
-            op: Op::Del(key(b"a")?),
-        },
-        Line {
-            seat: 1,
-            op: Op::Put(key(b"-")?, value(0, b"")?),
-        },
-        Line {
-            seat: 0,
-            op: Op::Get(key(b"a")?),
-        },
-        Line {
-            seat: 2,
-            op: Op::Work(1000),
-        },
-        Line {
-            seat: 2,
-            op: Op::Hold(key(b"b")?, key(b"a")?),
-        },
-        Line {
-            seat: 2,
-            op: Op::Next(32),
-        },
-        Line {
-            seat: 0,
-            op: Op::Next(5),
-        },
-        Line {
-            seat: 2,
-            op: Op::Next(1),
-        },
-        Line {
-            seat: 15,
-            op: Op::Release,
-        },
-    ];
-    assert_eq!(rt; script.lines(), wanted.as_slice());
+
+fn script_of(rt: &impl Abort, alloc: Global, text: &[u8]) -> Script {
+    read_script(alloc, text).expect(rt, "a script")
+}
+
+// The line of this place is this one.
+fn is_line(rt: &impl Abort, script: &Script, place: usize, seat: u32, op: Op) {
+    let line = script.lines().get(place).expect(rt, "so many");
+    assert!(rt; *line == Line { seat, op });
+}
+
+fn is_put(rt: &impl Abort, script: &Script, place: usize, seat: u32, name: &[u8], value: Value) {
+    is_line(rt, script, place, seat, Op::Put(key(rt, name), value));
+}
+
+#[test]
+fn writes_and_gets_are_read(rt: HostRuntime) {
+    let script = script_of(&rt, rt.alloc(), SCRIPT);
+    is_put(&rt, &script, 0, 0, b"a", value(&rt, 5, b"hi"));
+    let add = Op::Add(key(&rt, b"n"), 18446744073709551615);
+    is_line(&rt, &script, 1, 15, add);
+    is_line(&rt, &script, 2, 0, Op::Del(key(&rt, b"a")));
+    is_put(&rt, &script, 3, 1, b"-", value(&rt, 0, b""));
+    is_line(&rt, &script, 4, 0, Op::Get(key(&rt, b"a")));
+}
+
+#[test]
+fn works_and_holds_are_read(rt: HostRuntime) {
+    let script = script_of(&rt, rt.alloc(), SCRIPT);
+    is_line(&rt, &script, 5, 2, Op::Work(1000));
+    let hold = Op::Hold(key(&rt, b"b"), key(&rt, b"a"));
+    is_line(&rt, &script, 6, 2, hold);
+    is_line(&rt, &script, 7, 2, Op::Next(32));
+    is_line(&rt, &script, 8, 0, Op::Next(5));
+    is_line(&rt, &script, 9, 2, Op::Next(1));
+    is_line(&rt, &script, 10, 15, Op::Release);
+}
+
+#[test]
+fn a_script_has_room_for_its_entries_and_rows(rt: HostRuntime) {
+    let script = script_of(&rt, rt.alloc(), SCRIPT);
+    assert_eq!(rt; script.lines().len(), 11);
     let room = script.room();
     assert_eq!(rt;
         room.entries,
@@ -81,16 +71,15 @@ fn a_script_is_its_lines(rt: HostRuntime) -> Result<(), Fail> {
         room.rows,
         [5, 0, 33, 0, 0, 0, 0, 0, 0, 0, 0, 0, 0, 0, 0, 0]
     );
-    Ok(())
 }
 
 // How many lines the text has, or which is bad.
-fn count_lines(rt: &HostRuntime, text: &[u8]) -> Result<usize, ScriptFault> {
-    Ok(read_script(rt.alloc(), text)?.lines().len())
+fn count_lines(alloc: Global, text: &[u8]) -> Result<usize, ScriptFault> {
+    read_script(alloc, text).map(|script| script.lines().len())
 }
 
 #[test]
-fn the_first_bad_line_is_named(rt: HostRuntime) -> Result<(), Fail> {
+fn the_first_bad_line_is_named(rt: HostRuntime) {
     let cases: [(&[u8], Result<usize, ScriptFault>); 44] = [
         (b"", Ok(0)),
         (b"1 get a", Ok(1)),
@@ -138,13 +127,12 @@ fn the_first_bad_line_is_named(rt: HostRuntime) -> Result<(), Fail> {
         (b"1 work 1 1", Err(ScriptFault::Bad(1))),
     ];
     for (text, wanted) in cases {
-        assert_eq!(rt; count_lines(&rt, text), wanted);
+        assert_eq!(rt; count_lines(rt.alloc(), text), wanted);
     }
-    Ok(())
 }
 
 #[test]
-fn a_line_of_a_hold_has_its_words(rt: HostRuntime) -> Result<(), Fail> {
+fn a_line_of_a_hold_has_its_words(rt: HostRuntime) {
     let cases: [(&[u8], Result<usize, ScriptFault>); 27] = [
         (b"1 hold a b", Ok(1)),
         (b"16 hold b a\n", Ok(1)),
@@ -175,14 +163,26 @@ fn a_line_of_a_hold_has_its_words(rt: HostRuntime) -> Result<(), Fail> {
         (b"1 drop\n1 drop a\n1 next 0", Err(ScriptFault::Bad(2))),
     ];
     for (text, wanted) in cases {
-        assert_eq!(rt; count_lines(&rt, text), wanted);
+        assert_eq!(rt; count_lines(rt.alloc(), text), wanted);
     }
-    Ok(())
+}
+
+fn add_text(rt: &impl Abort, text: &mut Vec<u8>, more: &[u8]) {
+    assert!(rt; text.extend_from_slice(more).is_ok());
+}
+
+// A line, so many times.
+fn repeated(rt: &impl Abort, alloc: Global, line: &[u8], times: u32) -> Vec<u8> {
+    let mut text = Vec::new(alloc);
+    for _ in 0..times {
+        add_text(rt, &mut text, line);
+    }
+    text
 }
 
 // Lines that ask for as many rows as a script may, and behind them the lines of each case.
 #[test]
-fn a_script_asks_for_so_many_rows(rt: HostRuntime) -> Result<(), Fail> {
+fn a_script_asks_for_so_many_rows(rt: HostRuntime) {
     let cases: [(&[u8], Result<usize, ScriptFault>); 5] = [
         (b"", Ok(4096)),
         (b"2 hold a b\n2 drop", Ok(4098)),
@@ -191,38 +191,42 @@ fn a_script_asks_for_so_many_rows(rt: HostRuntime) -> Result<(), Fail> {
         (b"1 get a\n1 next 32\n1 frob", Err(ScriptFault::Bad(4098))),
     ];
     for (more, wanted) in cases {
-        let mut text = Vec::new(rt.alloc());
-        for _ in 0..MOST_ROWS_ASKED / 32 {
-            text.extend_from_slice(b"1 next 32\n")?;
-        }
-        text.extend_from_slice(more)?;
-        assert_eq!(rt; count_lines(&rt, &text), wanted);
+        let mut text = repeated(&rt, rt.alloc(), b"1 next 32\n", MOST_ROWS_ASKED / 32);
+        add_text(&rt, &mut text, more);
+        assert_eq!(rt; count_lines(rt.alloc(), &text), wanted);
     }
-    Ok(())
+}
+
+// A line of a put, by the lengths of its key and of its text.
+fn put_line(rt: &impl Abort, alloc: Global, key: u32, text: u32) -> Vec<u8> {
+    let mut line = repeated(rt, alloc, b"1 put ", 1);
+    add_text(rt, &mut line, &repeated(rt, alloc, b"k", key));
+    add_text(rt, &mut line, b" 9 ");
+    add_text(rt, &mut line, &repeated(rt, alloc, b"t", text));
+    line
 }
 
 #[test]
-fn keys_texts_and_scripts_have_their_limits(rt: HostRuntime) -> Result<(), Fail> {
+fn keys_and_texts_have_their_limits(rt: HostRuntime) {
     for (key_len, text_len, wanted) in [
         (64, 435, Ok(1)),
         (65, 435, Err(ScriptFault::Bad(1))),
         (64, 436, Err(ScriptFault::Bad(1))),
     ] {
-        let mut line = Vec::from_slice(rt.alloc(), b"1 put ")?;
-        line.extend_from_slice(&vec![in rt.alloc(); b'k'; key_len]?)?;
-        line.extend_from_slice(b" 9 ")?;
-        line.extend_from_slice(&vec![in rt.alloc(); b't'; text_len]?)?;
-        assert_eq!(rt; count_lines(&rt, &line), wanted);
+        let line = put_line(&rt, rt.alloc(), key_len, text_len);
+        assert_eq!(rt; count_lines(rt.alloc(), &line), wanted);
     }
+}
 
-    let mut text = Vec::new(rt.alloc());
-    for _ in 0..MOST_LINES {
-        text.extend_from_slice(b"1 get a\n")?;
-    }
-    assert_eq!(rt; count_lines(&rt, &text), Ok(65536));
-    text.extend_from_slice(b"1 get a")?;
-    assert_eq!(rt; count_lines(&rt, &text), Err(ScriptFault::Bad(65537)));
-    Ok(())
+#[test]
+fn scripts_have_their_limit(rt: HostRuntime) {
+    let mut text = repeated(&rt, rt.alloc(), b"1 get a\n", MOST_LINES);
+    assert_eq!(rt; count_lines(rt.alloc(), &text), Ok(65536));
+    add_text(&rt, &mut text, b"1 get a");
+    assert_eq!(rt;
+        count_lines(rt.alloc(), &text),
+        Err(ScriptFault::Bad(65537))
+    );
 }
 
 fn count_rows(reply: &Reply) -> u32
@@ -234,36 +238,33 @@ fn count_rows(reply: &Reply) -> u32
     }
 }
 
-// Notes an entry, if there is room for it.
-pub fn note(annals: &mut Annals, seat: u32, op: Op, reply: Reply) -> Result<(), &'static str>
-    ensures { OnOk result (annals.new ≡ noted annals.old (record { seat = seat; op = op; reply = reply })) }
+/// Notes an entry, for which there is room.
+pub fn note(rt: &impl Abort, annals: &mut Annals, seat: u32, op: Op, reply: Reply)
+    ensures { annals.new ≡ noted annals.old (record { seat = seat; op = op; reply = reply }) }
 {
     let room = annals.room();
-    if 16 <= seat || room.entries[seat as usize] == 0 {
-        return Err("no room");
-    }
-    if room.rows[seat as usize] < count_rows(&reply) {
-        return Err("no room for rows");
-    }
+    assert!(rt; seat < 16);
+    assert!(rt; room.entries[seat as usize] > 0);
+    assert!(rt; count_rows(&reply) <= room.rows[seat as usize]);
     annals.note(Entry { seat, op, reply });
-    Ok(())
 }
 
-fn two_rows() -> Result<RowList, Fail> {
+fn row(rt: &impl Abort, name: &[u8], count: u64, text: &[u8]) -> Row {
+    Row {
+        key: key(rt, name),
+        value: value(rt, count, text),
+    }
+}
+
+fn two_rows(rt: &impl Abort) -> RowList {
     let mut rows = RowList::new();
-    rows.push(Row {
-        key: key(b"a")?,
-        value: value(1, b"")?,
-    });
-    rows.push(Row {
-        key: key(b"b")?,
-        value: value(2, b"t")?,
-    });
-    Ok(rows)
+    rows.push(row(rt, b"a", 1, b""));
+    rows.push(row(rt, b"b", 2, b"t"));
+    rows
 }
 
 // Annals with room for 40 entries and 32 rows of one caller.
-fn roomy(rt: &HostRuntime, seat: u32) -> Result<Annals, Fail> {
+fn roomy(rt: &impl Abort, alloc: Global, seat: u32) -> Annals {
     let mut room = Room {
         entries: [0; 16],
         rows: [0; 16],
@@ -273,7 +274,7 @@ fn roomy(rt: &HostRuntime, seat: u32) -> Result<Annals, Fail> {
         room.entries[seat as usize] = 40;
         room.rows[seat as usize] = 32;
     }
-    Ok(Annals::reserve(rt.alloc(), room)?)
+    Annals::reserve(alloc, room).expect(rt, "memory")
 }
 
 fn totals(peak: u64) -> Totals {
@@ -289,66 +290,74 @@ fn totals(peak: u64) -> Totals {
     }
 }
 
-#[test]
-fn an_empty_history_is_two_lines(rt: HostRuntime) -> Result<(), Fail> {
-    let annals = roomy(&rt, 0)?;
-    let mut sink = MemSink::new(rt.alloc(), 1000, &[])?;
-    let answer = print_history(&mut sink, 14, &annals, &totals(0));
+// The history is printed whole.
+fn is_printed(
+    rt: &impl Abort,
+    alloc: Global,
+    charge: u64,
+    annals: &Annals,
+    totals: &Totals,
+    text: &[u8],
+) {
+    let mut sink = sink(rt, alloc, 2000, &[]);
+    let answer = print_history(&mut sink, charge, annals, totals);
     assert_eq!(rt; answer, Ok(()));
-    let wanted = b"open charge 14\nend c0 0 of 65536 callers 0 workers 0 swaps 0 0\n";
-    assert_eq!(rt; sink.bytes(), wanted.as_slice());
-    Ok(())
+    assert_eq!(rt; sink.bytes(), text);
 }
 
-fn four_entries(rt: &HostRuntime) -> Result<Annals, Fail> {
-    let mut annals = roomy(rt, 0)?;
-    let a = key(b"a")?;
-    note(
-        &mut annals,
-        0,
-        Op::Put(a.copy(), value(5, b"hi")?),
-        Reply::Done,
-    )?;
-    note(
-        &mut annals,
-        0,
-        Op::Get(a.copy()),
-        Reply::Is(value(5, b"hi")?),
-    )?;
-    note(&mut annals, 0, Op::Del(a.copy()), Reply::Done)?;
-    note(&mut annals, 0, Op::Get(a), Reply::Absent)?;
-    Ok(annals)
+#[test]
+fn an_empty_history_is_two_lines(rt: HostRuntime) {
+    let annals = roomy(&rt, rt.alloc(), 0);
+    let wanted = b"open charge 14\nend c0 0 of 65536 callers 0 workers 0 swaps 0 0\n";
+    is_printed(&rt, rt.alloc(), 14, &annals, &totals(0), wanted);
+}
+
+fn note_get(rt: &impl Abort, annals: &mut Annals, reply: Reply) {
+    note(rt, annals, 0, Op::Get(key(rt, b"a")), reply);
+}
+
+fn four_entries(rt: &impl Abort, alloc: Global) -> Annals {
+    let mut annals = roomy(rt, alloc, 0);
+    let put = Op::Put(key(rt, b"a"), value(rt, 5, b"hi"));
+    note(rt, &mut annals, 0, put, Reply::Done);
+    note_get(rt, &mut annals, Reply::Is(value(rt, 5, b"hi")));
+    note(rt, &mut annals, 0, Op::Del(key(rt, b"a")), Reply::Done);
+    note_get(rt, &mut annals, Reply::Absent);
+    annals
+}
+
+// What a sink holds that fails at this call, and how many calls failed.
+fn is_printed_to(
+    rt: &impl Abort,
+    alloc: Global,
+    annals: &Annals,
+    call: u64,
+    answer: Result<(), Failed>,
+    text: &[u8],
+) {
+    let mut sink = sink(rt, alloc, 1000, &[call]);
+    let faults = if answer.is_ok() { 0 } else { 1 };
+    assert_eq!(rt; print_history(&mut sink, 0, annals, &totals(16)), answer);
+    assert_eq!(rt; sink.bytes(), text);
+    assert_eq!(rt; sink.faults(), faults);
 }
 
 // The history is printed in calls of these parts: a sink that fails at a call holds the parts before it, and there is no
 // call after the last.
-fn is_printed_in(
-    rt: &impl Abort,
-    alloc: Global,
-    annals: &Annals,
-    parts: &[&[u8]],
-) -> Result<(), Fail> {
+fn is_printed_in(rt: &impl Abort, alloc: Global, annals: &Annals, parts: &[&[u8]]) {
     let mut before = Vec::new(alloc);
     let mut call = 1u64;
     for part in parts {
-        let mut sink = MemSink::new(alloc, 1000, &[call])?;
-        let answer = print_history(&mut sink, 0, annals, &totals(16));
-        assert_eq!(rt; answer, Err(Failed));
-        assert_eq!(rt; sink.bytes(), before.as_slice());
-        assert_eq!(rt; sink.faults(), 1);
-        before.extend_from_slice(part)?;
+        is_printed_to(rt, alloc, annals, call, Err(Failed), before.as_slice());
+        add_text(rt, &mut before, part);
         call = call.wrapping_add(1);
     }
-    let mut sink = MemSink::new(alloc, 1000, &[call])?;
-    let answer = print_history(&mut sink, 0, annals, &totals(16));
-    assert_eq!(rt; answer, Ok(()));
-    assert_eq!(rt; sink.bytes(), before.as_slice());
-    assert_eq!(rt; sink.faults(), 0);
-    Ok(())
+    is_printed_to(rt, alloc, annals, call, Ok(()), before.as_slice());
 }
 
 #[test]
-fn a_line_is_one_call_of_the_sink(rt: HostRuntime) -> Result<(), Fail> {
+fn a_line_is_one_call_of_the_sink(rt: HostRuntime) {
+    let annals = four_entries(&rt, rt.alloc());
     let lines: [&[u8]; 6] = [
         b"open charge 0\n",
         b"1 1 put a 5 hi => ok q0\n",
@@ -357,13 +366,14 @@ fn a_line_is_one_call_of_the_sink(rt: HostRuntime) -> Result<(), Fail> {
         b"4 1 get a => none q0\n",
         b"end c0 16 of 65536 callers 0 workers 0 swaps 0 0\n",
     ];
-    is_printed_in(&rt, rt.alloc(), &four_entries(&rt)?, &lines)
+    is_printed_in(&rt, rt.alloc(), &annals, &lines);
 }
 
 #[test]
-fn a_row_is_one_call_of_the_sink(rt: HostRuntime) -> Result<(), Fail> {
-    let mut annals = roomy(&rt, 0)?;
-    note(&mut annals, 0, Op::Next(32), Reply::Rows(two_rows()?))?;
+fn a_row_is_one_call_of_the_sink(rt: HostRuntime) {
+    let mut annals = roomy(&rt, rt.alloc(), 0);
+    let rows = Reply::Rows(two_rows(&rt));
+    note(&rt, &mut annals, 0, Op::Next(32), rows);
     let parts: [&[u8]; 6] = [
         b"open charge 0\n",
         b"1 1 next 32 => rows 2",
@@ -372,62 +382,69 @@ fn a_row_is_one_call_of_the_sink(rt: HostRuntime) -> Result<(), Fail> {
         b" q0\n",
         b"end c0 16 of 65536 callers 0 workers 0 swaps 0 0\n",
     ];
-    is_printed_in(&rt, rt.alloc(), &annals, &parts)
+    is_printed_in(&rt, rt.alloc(), &annals, &parts);
 }
 
 #[test]
-fn a_sink_with_too_little_room_holds_a_front(rt: HostRuntime) -> Result<(), Fail> {
-    let annals = four_entries(&rt)?;
-    let mut sink = MemSink::new(rt.alloc(), 40, &[])?;
+fn a_sink_with_too_little_room_holds_a_front(rt: HostRuntime) {
+    let annals = four_entries(&rt, rt.alloc());
+    let mut sink = sink(&rt, rt.alloc(), 40, &[]);
     let answer = print_history(&mut sink, 0, &annals, &totals(16));
     assert_eq!(rt; answer, Err(Failed));
     assert_eq!(rt;
         sink.bytes(),
         b"open charge 0\n1 1 put a 5 hi => ok q0\n".as_slice()
     );
-    Ok(())
 }
 
-#[test]
-fn each_command_and_reply_has_its_words(rt: HostRuntime) -> Result<(), Fail> {
-    let mut annals = roomy(&rt, 15)?;
-    let (a, c) = (key(b"a")?, key(b"c")?);
-    let entries = [
-        (Op::Add(a.copy(), 7), Reply::Full(121856)),
-        (Op::Add(a.copy(), 18446744073709551615), Reply::FaultLost),
-        (Op::Put(a.copy(), value(0, b"")?), Reply::FaultUnsure),
-        (Op::Hold(a.copy(), c), Reply::Held),
-        (Op::Hold(a.copy(), a.copy()), Reply::NoMemory),
-        (Op::Next(32), Reply::Rows(two_rows()?)),
-        (Op::Next(1), Reply::Rows(RowList::new())),
-        (Op::Next(1), Reply::NoHold),
-        (Op::Release, Reply::Done),
-        (Op::Work(1000), Reply::Did(6)),
-        (Op::Get(a.copy()), Reply::Fault),
-        (Op::Get(a.copy()), Reply::Damaged(9)),
-        (Op::Get(a.copy()), Reply::Stopped(Why::Faulted(1))),
-        (Op::Get(a), Reply::Stopped(Why::BadPage(4294967295))),
-    ];
-    for (op, reply) in entries {
-        note(&mut annals, 15, op, reply)?;
+// Notes an entry of seat 15.
+fn note_last(rt: &impl Abort, annals: &mut Annals, op: Op, reply: Reply) {
+    note(rt, annals, 15, op, reply);
+}
+
+fn note_writes(rt: &impl Abort, annals: &mut Annals) {
+    let add = Op::Add(key(rt, b"a"), 7);
+    note_last(rt, annals, add, Reply::Full(121856));
+    let add = Op::Add(key(rt, b"a"), 18446744073709551615);
+    note_last(rt, annals, add, Reply::FaultLost);
+    let put = Op::Put(key(rt, b"a"), value(rt, 0, b""));
+    note_last(rt, annals, put, Reply::FaultUnsure);
+}
+
+fn note_holds(rt: &impl Abort, annals: &mut Annals) {
+    let hold = Op::Hold(key(rt, b"a"), key(rt, b"c"));
+    note_last(rt, annals, hold, Reply::Held);
+    let hold = Op::Hold(key(rt, b"a"), key(rt, b"a"));
+    note_last(rt, annals, hold, Reply::NoMemory);
+}
+
+fn note_nexts(rt: &impl Abort, annals: &mut Annals) {
+    note_last(rt, annals, Op::Next(32), Reply::Rows(two_rows(rt)));
+    note_last(rt, annals, Op::Next(1), Reply::Rows(RowList::new()));
+    note_last(rt, annals, Op::Next(1), Reply::NoHold);
+    note_last(rt, annals, Op::Release, Reply::Done);
+}
+
+// A work of twelve quanta.
+fn note_work(rt: &impl Abort, annals: &mut Annals) {
+    note_last(rt, annals, Op::Work(1000), Reply::Did(6));
+    assert!(rt; 9 < annals.len());
+    assert!(rt; annals.quanta(9) == 0);
+    annals.count(9, 12);
+}
+
+fn note_gets(rt: &impl Abort, annals: &mut Annals) {
+    for reply in [
+        Reply::Fault,
+        Reply::Damaged(9),
+        Reply::Stopped(Why::Faulted(1)),
+        Reply::Stopped(Why::BadPage(4294967295)),
+    ] {
+        note_last(rt, annals, Op::Get(key(rt, b"a")), reply);
     }
-    if 9 < annals.len() && annals.quanta(9) == 0 {
-        annals.count(9, 12);
-    }
-    let mut sink = MemSink::new(rt.alloc(), 2000, &[])?;
-    let all = Totals {
-        peak: 1,
-        high: 34816,
-        callers: 2,
-        workers: 3,
-        passes: 4,
-        deeps: 5,
-        charge: 6,
-        stopped: None,
-    };
-    let answer = print_history(&mut sink, 18446744073709551615, &annals, &all);
-    assert_eq!(rt; answer, Ok(()));
-    let wanted = b"open charge 18446744073709551615
+}
+
+const EACH: &[u8] = b"open charge 18446744073709551615
 1 16 add a 7 => full 121856 q0
 2 16 add a 18446744073709551615 => fault lost q0
 3 16 put a 0 - => fault unsure q0
@@ -444,6 +461,25 @@ fn each_command_and_reply_has_its_words(rt: HostRuntime) -> Result<(), Fail> {
 14 16 get a => stopped page 4294967295 q0
 end c0 1 of 34816 callers 2 workers 3 swaps 4 5
 ";
-    assert_eq!(rt; sink.bytes(), wanted.as_slice());
-    Ok(())
+
+const ALL: Totals = Totals {
+    peak: 1,
+    high: 34816,
+    callers: 2,
+    workers: 3,
+    passes: 4,
+    deeps: 5,
+    charge: 6,
+    stopped: None,
+};
+
+#[test]
+fn each_command_and_reply_has_its_words(rt: HostRuntime) {
+    let mut annals = roomy(&rt, rt.alloc(), 15);
+    note_writes(&rt, &mut annals);
+    note_holds(&rt, &mut annals);
+    note_nexts(&rt, &mut annals);
+    note_work(&rt, &mut annals);
+    note_gets(&rt, &mut annals);
+    is_printed(&rt, rt.alloc(), 18446744073709551615, &annals, &ALL, EACH);
 }

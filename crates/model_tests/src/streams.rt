@@ -1,90 +1,99 @@
 // Sources and sinks in memory.
+use crate::samples::sink;
 use refusal::Failed;
-use std::test::Fail;
+use std::alloc::Global;
+use std::process::Abort;
 use text_io::{
-    FaultlessSink, FaultlessSource, MemSink, MemSource, ReadFault, Sink, Source, read_all,
-    write_all,
+    FaultlessSink, FaultlessSource, MemSource, ReadFault, Sink, Source, read_all, write_all,
 };
 
-#[test]
-fn a_source_gives_its_bytes_but_for_listed_calls(rt: HostRuntime) -> Result<(), Fail> {
-    let mut source = MemSource::new(rt.alloc(), b"abcde", &[2, 5])?;
+fn source(rt: &impl Abort, alloc: Global, bytes: &[u8], fails: &[u64]) -> MemSource {
+    MemSource::new(alloc, bytes, fails).expect(rt, "memory")
+}
+
+fn faultless(rt: &impl Abort, alloc: Global, bytes: &[u8]) -> FaultlessSource {
+    FaultlessSource::new(alloc, bytes).expect(rt, "memory")
+}
+
+// A read into three bytes gives these.
+fn gives<S: Source>(rt: &impl Abort, source: &mut S, bytes: &[u8]) {
     let mut piece = [0u8; 3];
-    let first = source.read(&mut piece);
-    assert_eq!(rt; first, Ok(3));
-    assert_eq!(rt; piece, [97, 98, 99]);
-    let second = source.read(&mut piece);
-    assert_eq!(rt; second, Err(Failed));
-    let third = source.read(&mut piece);
-    assert_eq!(rt; third, Ok(2));
-    assert_eq!(rt; piece[0], 100);
-    assert_eq!(rt; piece[1], 101);
-    let fourth = source.read(&mut piece);
-    assert_eq!(rt; fourth, Ok(0));
-    let fifth = source.read(&mut piece);
-    assert_eq!(rt; fifth, Err(Failed));
-    let sixth = source.read(&mut piece);
-    assert_eq!(rt; sixth, Ok(0));
-    Ok(())
+    let answer = source.read(&mut piece);
+    assert_eq!(rt; answer, Ok(bytes.len()));
+    assert!(rt; bytes.len() <= 3);
+    assert_eq!(rt; &piece[..bytes.len()], bytes);
+}
+
+fn read_fails<S: Source>(rt: &impl Abort, source: &mut S) {
+    let mut piece = [0u8; 3];
+    assert_eq!(rt; source.read(&mut piece), Err(Failed));
 }
 
 #[test]
-fn a_faultless_source_gives_its_bytes(rt: HostRuntime) -> Result<(), Fail> {
-    let mut source = FaultlessSource::new(rt.alloc(), b"xy")?;
-    let mut none = [0u8; 0];
-    let no_room = source.read(&mut none);
+fn a_source_gives_its_bytes_but_for_listed_calls(rt: HostRuntime) {
+    let mut source = source(&rt, rt.alloc(), b"abcde", &[2, 5]);
+    gives(&rt, &mut source, b"abc");
+    read_fails(&rt, &mut source);
+    gives(&rt, &mut source, b"de");
+    gives(&rt, &mut source, b"");
+    read_fails(&rt, &mut source);
+    gives(&rt, &mut source, b"");
+}
+
+#[test]
+fn a_faultless_source_gives_its_bytes(rt: HostRuntime) {
+    let mut source = faultless(&rt, rt.alloc(), b"xy");
+    let no_room = source.read(&mut []);
     assert_eq!(rt; no_room, Ok(0));
-    let mut piece = [0u8; 4];
-    let all = source.read(&mut piece);
-    assert_eq!(rt; all, Ok(2));
-    assert_eq!(rt; piece[0], 120);
-    assert_eq!(rt; piece[1], 121);
-    let end = source.read(&mut piece);
-    assert_eq!(rt; end, Ok(0));
-    Ok(())
+    gives(&rt, &mut source, b"xy");
+    gives(&rt, &mut source, b"");
 }
 
 #[test]
-fn a_sink_takes_bytes_but_for_listed_calls_and_its_limit(rt: HostRuntime) -> Result<(), Fail> {
-    let mut sink = MemSink::new(rt.alloc(), 5, &[2])?;
-    let answers = [
-        sink.write(b"abc"),
-        sink.write(b"d"),
-        sink.write(b"de"),
-        sink.write(b"f"),
-        sink.write(b""),
-    ];
-    assert_eq!(rt; answers, [Ok(3), Err(Failed), Ok(2), Err(Failed), Ok(0)]);
+fn a_sink_takes_bytes_but_for_listed_calls_and_its_limit(rt: HostRuntime) {
+    let mut sink = sink(&rt, rt.alloc(), 5, &[2]);
+    for (bytes, answer) in [
+        (b"abc".as_slice(), Ok(3)),
+        (b"d", Err(Failed)),
+        (b"de", Ok(2)),
+        (b"f", Err(Failed)),
+        (b"", Ok(0)),
+    ] {
+        assert_eq!(rt; sink.write(bytes), answer);
+    }
     assert_eq!(rt; sink.bytes(), b"abcde".as_slice());
     assert_eq!(rt; sink.faults(), 2);
-    Ok(())
 }
 
 #[test]
-fn a_faultless_sink_fails_past_its_limit_alone(rt: HostRuntime) -> Result<(), Fail> {
-    let mut sink = FaultlessSink::new(rt.alloc(), 3)?;
-    let answers = [sink.write(b"ab"), sink.write(b"cd"), sink.write(b"c")];
-    assert_eq!(rt; answers, [Ok(2), Err(Failed), Ok(1)]);
+fn a_faultless_sink_fails_past_its_limit_alone(rt: HostRuntime) {
+    let mut sink = FaultlessSink::new(rt.alloc(), 3).expect(&rt, "memory");
+    for (bytes, answer) in [
+        (b"ab".as_slice(), Ok(2)),
+        (b"cd", Err(Failed)),
+        (b"c", Ok(1)),
+    ] {
+        assert_eq!(rt; sink.write(bytes), answer);
+    }
     assert_eq!(rt; sink.bytes(), b"abc".as_slice());
-    Ok(())
 }
 
 #[test]
-fn a_whole_text_is_written_or_a_front_of_it(rt: HostRuntime) -> Result<(), Fail> {
-    let mut sink = MemSink::new(rt.alloc(), 8, &[2])?;
-    let answers = [
-        write_all(&mut sink, b"one "),
-        write_all(&mut sink, b"two "),
-        write_all(&mut sink, b"four"),
-        write_all(&mut sink, b""),
-    ];
-    assert_eq!(rt; answers, [Ok(()), Err(Failed), Ok(()), Ok(())]);
+fn a_whole_text_is_written_or_a_front_of_it(rt: HostRuntime) {
+    let mut sink = sink(&rt, rt.alloc(), 8, &[2]);
+    for (text, answer) in [
+        (b"one ".as_slice(), Ok(())),
+        (b"two ", Err(Failed)),
+        (b"four", Ok(())),
+        (b"", Ok(())),
+    ] {
+        assert_eq!(rt; write_all(&mut sink, text), answer);
+    }
     assert_eq!(rt; sink.bytes(), b"one four".as_slice());
-    Ok(())
 }
 
 #[test]
-fn a_source_is_read_to_its_end_up_to_a_limit(rt: HostRuntime) -> Result<(), Fail> {
+fn a_source_is_read_to_its_end_up_to_a_limit(rt: HostRuntime) {
     for (fails, limit, wanted) in [
         ([9, 9], 5, Ok(5)),
         ([9, 9], 6, Ok(5)),
@@ -93,21 +102,22 @@ fn a_source_is_read_to_its_end_up_to_a_limit(rt: HostRuntime) -> Result<(), Fail
         ([2, 9], 5, Err(ReadFault::Failed)),
         ([3, 9], 5, Ok(5)),
     ] {
-        let mut source = MemSource::new(rt.alloc(), b"abcde", &fails)?;
+        let mut source = source(&rt, rt.alloc(), b"abcde", &fails);
         let got = read_all(rt.alloc(), &mut source, limit).map(|bytes| bytes.len());
         assert_eq!(rt; got, wanted);
     }
-    let mut source = FaultlessSource::new(rt.alloc(), b"abcde")?;
-    let bytes = read_all(rt.alloc(), &mut source, 5).map_err(|_| "not read")?;
-    assert_eq!(rt; bytes.as_slice(), b"abcde".as_slice());
-    Ok(())
+}
+
+// A source of these bytes gives them all.
+fn is_read_whole(rt: &impl Abort, alloc: Global, text: &[u8]) {
+    let mut source = faultless(rt, alloc, text);
+    let bytes = read_all(alloc, &mut source, text.len()).expect(rt, "all");
+    assert_eq!(rt; bytes.as_slice(), text);
 }
 
 #[test]
-fn a_long_source_is_read_in_pieces(rt: HostRuntime) -> Result<(), Fail> {
-    let text = vec![in rt.alloc(); 7u8; 10000]?;
-    let mut source = FaultlessSource::new(rt.alloc(), &text)?;
-    let bytes = read_all(rt.alloc(), &mut source, 10000).map_err(|_| "not read")?;
-    assert_eq!(rt; bytes.as_slice(), text.as_slice());
-    Ok(())
+fn a_source_is_read_in_one_piece_or_several(rt: HostRuntime) {
+    is_read_whole(&rt, rt.alloc(), b"abcde");
+    let long = vec![in rt.alloc(); 7u8; 10000].expect(&rt, "memory");
+    is_read_whole(&rt, rt.alloc(), long.as_slice());
 }

@@ -1,87 +1,96 @@
 // Scripts that are made from a seed, and the summary of a run of one.
-ghost use Rattle.std.specs.Prelude.{◌≡◌, ◌≤◌, IfOk, OnOk};
+ghost use Rattle.std.specs.Prelude.{◌≤◌};
 ghost use Rattle.std.specs.List.{All};
 ghost use Rattle.blsm_model.specs.Format.{most_lines};
 ghost use Rattle.script_text.specs.Generated.{HasMadeKeys};
 
-use crate::samples::{key, value};
+use crate::samples::{key, sink, value};
 use crate::scripts::note;
 use blsm_model::{Annals, Entry, Line, Op, Plain, Totals, run};
 use refusal::Failed;
-use script_text::{MOST_LINES, generate, made_histories, print_summary};
+use script_text::{MOST_LINES, Script, generate, made_histories, print_summary};
 use std::alloc::Global;
-use std::test::Fail;
-use text_io::MemSink;
+use std::process::Abort;
 
-fn line(op: Op) -> Line {
-    Line { seat: 0, op }
+fn is_put(rt: &impl Abort, script: &Script, place: usize, name: &[u8], count: u64, text: &[u8]) {
+    is_line(
+        rt,
+        script,
+        place,
+        Op::Put(key(rt, name), value(rt, count, text)),
+    );
+}
+
+// The line of this place is this one, of seat 0.
+fn is_line(rt: &impl Abort, script: &Script, place: usize, op: Op) {
+    let line = script.lines().get(place).expect(rt, "so many");
+    assert!(rt; *line == Line { seat: 0, op });
+}
+
+fn of_seed(rt: &impl Abort, alloc: Global, seed: u64, count: u32) -> Script
+    requires { count ≤ most_lines }
+{
+    let script = generate(alloc, seed, count).expect(rt, "memory");
+    assert_eq!(rt; script.lines().len(), count as usize);
+    script
 }
 
 #[test]
-fn a_seed_makes_one_script(rt: HostRuntime) -> Result<(), Fail> {
-    let of_zero = generate(rt.alloc(), 0, 5)?;
-    let wanted = [
-        line(Op::Put(key(b"k00924")?, value(937, &[b'o'; 196])?)),
-        line(Op::Put(key(b"k01391")?, value(184, &[b'n'; 175])?)),
-        line(Op::Add(key(b"k00639")?, 503)),
-        line(Op::Get(key(b"k00145")?)),
-        line(Op::Put(key(b"k00978")?, value(931, &[b'q'; 163])?)),
-    ];
-    assert_eq!(rt; of_zero.lines(), wanted.as_slice());
-
-    let of_seven = generate(rt.alloc(), 7, 3)?;
-    let wanted = [
-        line(Op::Del(key(b"k00731")?)),
-        line(Op::Put(key(b"k00719")?, value(864, &[b'r'; 164])?)),
-        line(Op::Put(key(b"k01186")?, value(195, &[b'q'; 195])?)),
-    ];
-    assert_eq!(rt; of_seven.lines(), wanted.as_slice());
-    Ok(())
+fn seed_0_makes_one_script(rt: HostRuntime) {
+    let script = of_seed(&rt, rt.alloc(), 0, 5);
+    is_put(&rt, &script, 0, b"k00924", 937, &[b'o'; 196]);
+    is_put(&rt, &script, 1, b"k01391", 184, &[b'n'; 175]);
+    is_line(&rt, &script, 2, Op::Add(key(&rt, b"k00639"), 503));
+    is_line(&rt, &script, 3, Op::Get(key(&rt, b"k00145")));
+    is_put(&rt, &script, 4, b"k00978", 931, &[b'q'; 163]);
 }
 
 #[test]
-fn a_script_that_is_made_has_so_many_lines(rt: HostRuntime) -> Result<(), Fail> {
+fn seed_7_makes_one_script(rt: HostRuntime) {
+    let script = of_seed(&rt, rt.alloc(), 7, 3);
+    is_line(&rt, &script, 0, Op::Del(key(&rt, b"k00731")));
+    is_put(&rt, &script, 1, b"k00719", 864, &[b'r'; 164]);
+    is_put(&rt, &script, 2, b"k01186", 195, &[b'q'; 195]);
+}
+
+#[test]
+fn a_script_that_is_made_has_so_many_lines(rt: HostRuntime) {
     for count in [0, 1, MOST_LINES] {
-        let script = generate(rt.alloc(), 18446744073709551615, count)?;
-        assert_eq!(rt; script.lines().len(), count as usize);
+        let _script = of_seed(&rt, rt.alloc(), 18446744073709551615, count);
     }
-    Ok(())
 }
 
-fn note_made(annals: &mut Annals, entry: Entry) -> Result<(), &'static str>
+fn note_made(rt: &impl Abort, annals: &mut Annals, entry: Entry)
     requires old { All (λ e. HasMadeKeys e.op) annals.old.entries }
     requires entry { HasMadeKeys entry.op }
-    ensures { OnOk result (All (λ e. HasMadeKeys e.op) annals.new.entries) }
+    ensures { All (λ e. HasMadeKeys e.op) annals.new.entries }
 {
-    note(annals, entry.seat, entry.op, entry.reply)
+    note(rt, annals, entry.seat, entry.op, entry.reply);
 }
 
-fn note_all(annals: &mut Annals, history: &[Entry]) -> Result<(), &'static str>
+fn note_all(rt: &impl Abort, annals: &mut Annals, history: &[Entry])
     requires old { All (λ e. HasMadeKeys e.op) annals.old.entries }
     requires history { All (λ e. HasMadeKeys e.op) history.now }
-    ensures { OnOk result (All (λ e. HasMadeKeys e.op) annals.new.entries) }
+    ensures { All (λ e. HasMadeKeys e.op) annals.new.entries }
 {
     for entry in history {
-        note_made(annals, entry.copy())?;
+        note_made(rt, annals, entry.copy());
     }
-    Ok(())
 }
 
 // What a plain store that takes so many bytes answers to the script of a seed.
-fn play(alloc: Global, seed: u64, count: u32, limit: u64) -> Result<Annals, Fail>
+fn play(rt: &impl Abort, alloc: Global, seed: u64, count: u32, limit: u64) -> Annals
     requires { count ≤ most_lines }
-    ensures { IfOk result (λ annals. All (λ e. HasMadeKeys e.op) annals.entries) }
+    ensures { All (λ e. HasMadeKeys e.op) result.entries }
 {
-    let script = generate(alloc, seed, count)?;
+    let script = generate(alloc, seed, count).expect(rt, "memory");
     let lines = script.lines();
-    if !Plain::can_run(lines) {
-        Err("not plain")?;
-    }
-    let history = run(alloc, lines, limit)?;
+    assert!(rt; Plain::can_run(lines));
+    let history = run(alloc, lines, limit).expect(rt, "memory");
     made_histories();
-    let mut annals = Annals::reserve(alloc, script.room())?;
-    note_all(&mut annals, &history)?;
-    Ok(annals)
+    let mut annals = Annals::reserve(alloc, script.room()).expect(rt, "memory");
+    note_all(rt, &mut annals, &history);
+    annals
 }
 
 // Gives an entry its quanta, where there is such an entry without any.
@@ -105,19 +114,17 @@ const TOTALS: Totals = Totals {
     stopped: None,
 };
 
-// The numbers of commands, refusals and keys are those of another program, by the same rules.
-#[test]
-fn a_summary_is_seven_lines(rt: HostRuntime) -> Result<(), Fail> {
-    let mut annals = play(rt.alloc(), 7, 1000, 100000)?;
-    // A get's quanta are no write's.
-    pay(&mut annals, 1, 1);
-    pay(&mut annals, 7, 9);
-    pay(&mut annals, 8, 2);
-    pay(&mut annals, 9, 1);
-    let mut sink = MemSink::new(rt.alloc(), 1000, &[])?;
-    let answer = print_summary(&mut sink, 7, 1000, &annals, &TOTALS);
+// The summary is this text.
+fn is_summed_up(rt: &impl Abort, alloc: Global, seed: u64, count: u32, annals: &Annals, text: &[u8])
+    requires { All (λ e. HasMadeKeys e.op) annals.now.entries }
+{
+    let mut sink = sink(rt, alloc, 1000, &[]);
+    let answer = print_summary(&mut sink, seed, count, annals, &TOTALS);
     assert_eq!(rt; answer, Ok(()));
-    let wanted = b"trial seed 7 count 1000
+    assert_eq!(rt; sink.bytes(), text);
+}
+
+const OF_SEED_7: &[u8] = b"trial seed 7 count 1000
 puts 609 adds 166 dels 31 gets 194
 full 158
 c0 60001 of 65536
@@ -125,22 +132,20 @@ largest q 2 of 3
 quanta 18446744073709551617 swaps 3 1
 keys 509 charge 99982
 ";
-    assert_eq!(rt; sink.bytes(), wanted.as_slice());
-    Ok(())
+
+// The numbers of commands, refusals and keys are those of another program, by the same rules.
+#[test]
+fn a_summary_is_seven_lines(rt: HostRuntime) {
+    let mut annals = play(&rt, rt.alloc(), 7, 1000, 100000);
+    // A get's quanta are no write's.
+    pay(&mut annals, 1, 1);
+    pay(&mut annals, 7, 9);
+    pay(&mut annals, 8, 2);
+    pay(&mut annals, 9, 1);
+    is_summed_up(&rt, rt.alloc(), 7, 1000, &annals, OF_SEED_7);
 }
 
-#[test]
-fn an_empty_history_has_a_summary(rt: HostRuntime) -> Result<(), Fail> {
-    let annals = play(rt.alloc(), 0, 0, 0)?;
-    let mut failing = MemSink::new(rt.alloc(), 1000, &[1])?;
-    let answer = print_summary(&mut failing, 0, 0, &annals, &TOTALS);
-    assert_eq!(rt; answer, Err(Failed));
-    assert_eq!(rt; failing.bytes(), b"".as_slice());
-
-    let mut sink = MemSink::new(rt.alloc(), 1000, &[])?;
-    let answer = print_summary(&mut sink, 0, 0, &annals, &TOTALS);
-    assert_eq!(rt; answer, Ok(()));
-    let wanted = b"trial seed 0 count 0
+const OF_NOTHING: &[u8] = b"trial seed 0 count 0
 puts 0 adds 0 dels 0 gets 0
 full 0
 c0 60001 of 65536
@@ -148,6 +153,18 @@ largest q 0 of 3
 quanta 18446744073709551617 swaps 3 1
 keys 0 charge 99982
 ";
-    assert_eq!(rt; sink.bytes(), wanted.as_slice());
-    Ok(())
+
+#[test]
+fn an_empty_history_has_a_summary(rt: HostRuntime) {
+    let annals = play(&rt, rt.alloc(), 0, 0, 0);
+    is_summed_up(&rt, rt.alloc(), 0, 0, &annals, OF_NOTHING);
+}
+
+#[test]
+fn a_summary_over_a_sink_that_fails(rt: HostRuntime) {
+    let annals = play(&rt, rt.alloc(), 0, 0, 0);
+    let mut failing = sink(&rt, rt.alloc(), 1000, &[1]);
+    let answer = print_summary(&mut failing, 0, 0, &annals, &TOTALS);
+    assert_eq!(rt; answer, Err(Failed));
+    assert_eq!(rt; failing.bytes(), b"".as_slice());
 }

@@ -3,10 +3,12 @@ ghost use Rattle.std.specs.Prelude.{◌≡◌, ◌<◌};
 
 use crate::samples::{base, key, value};
 use blsm_model::{Key, Value, Write, value_of};
-use mem_table::{Above, Table};
+use mem_table::{Above, Steps, Table};
 use record_delta::{Rec, Stream, fold_writes, settle, weight};
+use std::alloc::Global;
+use std::marker::Brand;
 use std::process::Abort;
-use std::test::Fail;
+use std::sync::ledger::{Blank, Ledger};
 
 const RESERVED: u64 = 65_536;
 
@@ -28,27 +30,30 @@ impl Draws {
 }
 
 // One of 84 keys of one to three letters, so that some begin others.
-fn any_key(draws: &mut Draws) -> Result<Key, Fail> {
+fn any_key(rt: &impl Abort, draws: &mut Draws) -> Key {
     let mut letters = [0; 3];
     for letter in letters.iter_mut() {
         *letter = b'a' + draws.below(4) as u8;
     }
     let len = 1 + draws.below(3) as usize;
-    key(&letters[..len])
+    key(rt, letters.get(..len).expect(rt, "so many"))
 }
 
 // Three puts in five, three adds in ten, one del in ten. Sums of counts wrap often.
-fn any_write(draws: &mut Draws) -> Result<Write, Fail> {
-    let key = any_key(draws)?;
+fn any_write(rt: &impl Abort, draws: &mut Draws) -> Write {
+    let key = any_key(rt, draws);
     let count = draws.below(3) * (u64::MAX / 3) + draws.below(100);
-    Ok(match draws.below(10) {
+    match draws.below(10) {
         0..=5 => {
             let len = draws.below(300) as usize;
-            Write::Put(key, value(count, &[b't'; 300][..len])?)
+            Write::Put(
+                key,
+                value(rt, count, [b't'; 300].get(..len).expect(rt, "so many")),
+            )
         }
         6..=8 => Write::Add(key, count),
         _ => Write::Del(key),
-    })
+    }
 }
 
 // Folds a write into a table that has room for it.
@@ -67,23 +72,37 @@ fn settled(table: &Table, key: &Key) -> Option<Value> {
     }
 }
 
-#[test]
-fn two_thousand_writes_beside_their_list(rt: HostRuntime) -> Result<(), Fail> {
-    let mut table = Table::reserve(rt.alloc(), RESERVED)?;
-    let mut writes = Vec::new(rt.alloc());
-    let mut draws = Draws(7);
-    'writes: for _ in 0..2_000 {
-        let write = any_write(&mut draws)?;
-        let written = match &write {
-            Write::Put(key, _) | Write::Add(key, _) | Write::Del(key) => key.copy(),
-        };
-        fold_in(&rt, &mut table, &written, &Rec::of_write(&write));
-        writes.push(write)?;
-        assert_eq!(rt; table.get(&written), fold_writes(&writes, &written));
-        let other = any_key(&mut draws)?;
-        assert_eq!(rt; settled(&table, &other), value_of(&writes, &other));
+fn reserved(rt: &impl Abort, alloc: Global) -> Table
+    ensures { result.reserved ≡ RESERVED }
+{
+    match Table::reserve(alloc, RESERVED) {
+        Ok(table) => table,
+        Err(_) => rt.abort(),
     }
-    // From key to key, each once.
+}
+
+fn key_of(write: &Write) -> Key {
+    match write {
+        Write::Put(key, _) | Write::Add(key, _) | Write::Del(key) => key.copy(),
+    }
+}
+
+// One write more, and what the table and the list of the writes have then.
+fn one_more(rt: &impl Abort, table: &mut Table, writes: &mut Vec<Write>, draws: &mut Draws)
+    requires { table.old.reserved ≡ RESERVED }
+    ensures { table.new.reserved ≡ RESERVED }
+{
+    let write = any_write(rt, draws);
+    let written = key_of(&write);
+    fold_in(rt, table, &written, &Rec::of_write(&write));
+    assert!(rt; writes.push(write).is_ok());
+    assert_eq!(rt; table.get(&written), fold_writes(writes, &written));
+    let other = any_key(rt, draws);
+    assert_eq!(rt; settled(table, &other), value_of(writes, &other));
+}
+
+// From key to key, each once.
+fn walk(rt: &impl Abort, table: &Table) {
     let mut weights = 0u64;
     let mut next = table.least_above(None);
     for _ in 0..84 {
@@ -98,36 +117,101 @@ fn two_thousand_writes_beside_their_list(rt: HostRuntime) -> Result<(), Fail> {
     }
     assert!(rt; next.is_none());
     assert_eq!(rt; weights, table.weight());
-    Ok(())
 }
 
 #[test]
-fn three_keys_in_order(rt: HostRuntime) -> Result<(), Fail> {
-    let mut table = Table::reserve(rt.alloc(), RESERVED)?;
+fn two_thousand_writes_beside_their_list(rt: HostRuntime) {
+    let mut table = reserved(&rt, rt.alloc());
+    let mut writes = Vec::new(rt.alloc());
+    let mut draws = Draws(7);
+    'writes: for _ in 0..2_000 {
+        one_more(&rt, &mut table, &mut writes, &mut draws);
+    }
+    walk(&rt, &table);
+}
+
+// Folds a record of the key of these letters.
+fn fold_of(rt: &impl Abort, table: &mut Table, name: &[u8], rec: Rec)
+    requires { table.old.reserved ≡ RESERVED }
+    ensures { table.new.reserved ≡ RESERVED }
+{
+    fold_in(rt, table, &key(rt, name), &rec);
+}
+
+// The record of a key, by a search whose comparisons are counted.
+fn searched<L: Ledger>(table: &Table, key: &Key, blank: Blank) -> Option<Rec>
+    requires name { blank.name ≡ L.name }
+    requires parts { blank.parts ≡ L.parts }
+    requires some { 0 < blank.parts }
+{
+    let mut steps = Steps::<L>::none(blank);
+    table.get_in(key, &mut steps)
+}
+
+// The key of these letters has this record, whichever way it is looked up.
+fn has(rt: &impl Abort, table: &Table, name: &[u8], rec: Option<Rec>) {
+    let key = key(rt, name);
+    let found = searched::<Brand>(table, &key, Blank::new(1));
+    assert_eq!(rt; found, table.get(&key));
+    assert_eq!(rt; found, rec);
+}
+
+// It came as this one in the order of the keys, from 0 on.
+fn stands_at(rt: &impl Abort, table: &Table, name: &[u8], place: Option<u32>) {
+    assert_eq!(rt; table.place_of(&key(rt, name)), place);
+}
+
+// Behind the key of these letters, or from the first key on, the next one is this.
+fn goes_on(rt: &impl Abort, table: &Table, name: Option<&[u8]>, next: &[u8], rec: Rec) {
+    let from = match name {
+        Some(name) => Some(key(rt, name)),
+        None => None,
+    };
+    assert_eq!(rt; table.least_above(from), Some((key(rt, next), rec)));
+}
+
+fn is_empty(rt: &impl Abort, table: &Table) {
     assert!(rt; table.least_above(None).is_none());
-    assert!(rt; table.get(&key(b"a")?).is_none());
-    fold_in(&rt, &mut table, &key(b"b")?, &base(5, b"hi")?);
-    fold_in(&rt, &mut table, &key(b"aa")?, &Rec::Tomb);
-    fold_in(&rt, &mut table, &key(b"a")?, &Rec::Delta(7));
-    fold_in(&rt, &mut table, &key(b"b")?, &Rec::Delta(u64::MAX));
-    assert_eq!(rt; table.weight(), 14 + 15 + 16);
-    assert_eq!(rt; table.get(&key(b"b")?), Some(base(4, b"hi")?));
-    assert_eq!(rt; table.least_above(None), Some((key(b"a")?, Rec::Delta(7))));
-    assert_eq!(rt;
-        table.least_above(Some(key(b"a")?)),
-        Some((key(b"aa")?, Rec::Tomb))
-    );
-    assert_eq!(rt;
-        table.least_above(Some(key(b"ab")?)),
-        Some((key(b"b")?, base(4, b"hi")?))
-    );
-    assert!(rt; table.least_above(Some(key(b"b")?)).is_none());
-    table.clear();
     assert_eq!(rt; table.weight(), 0);
-    assert!(rt; table.least_above(None).is_none());
-    fold_in(&rt, &mut table, &key(b"b")?, &Rec::Delta(1));
-    assert_eq!(rt; table.get(&key(b"b")?), Some(Rec::Delta(1)));
-    Ok(())
+    has(rt, table, b"a", None);
+}
+
+#[test]
+fn three_keys_in_order(rt: HostRuntime) {
+    let mut table = reserved(&rt, rt.alloc());
+    is_empty(&rt, &table);
+    fold_of(&rt, &mut table, b"b", base(&rt, 5, b"hi"));
+    fold_of(&rt, &mut table, b"aa", Rec::Tomb);
+    fold_of(&rt, &mut table, b"a", Rec::Delta(7));
+    fold_of(&rt, &mut table, b"b", Rec::Delta(u64::MAX));
+    assert_eq!(rt; table.weight(), 14 + 15 + 16);
+    has(&rt, &table, b"b", Some(base(&rt, 4, b"hi")));
+    goes_on(&rt, &table, None, b"a", Rec::Delta(7));
+    goes_on(&rt, &table, Some(b"a"), b"aa", Rec::Tomb);
+    goes_on(&rt, &table, Some(b"ab"), b"b", base(&rt, 4, b"hi"));
+    assert!(rt; table.least_above(Some(key(&rt, b"b"))).is_none());
+    table.clear();
+    is_empty(&rt, &table);
+    fold_of(&rt, &mut table, b"b", Rec::Delta(1));
+    has(&rt, &table, b"b", Some(Rec::Delta(1)));
+}
+
+// A key keeps the place in which it came, until the table is cleared.
+#[test]
+fn keys_keep_their_places(rt: HostRuntime) {
+    let mut table = reserved(&rt, rt.alloc());
+    fold_of(&rt, &mut table, b"b", Rec::Delta(1));
+    fold_of(&rt, &mut table, b"aa", Rec::Tomb);
+    fold_of(&rt, &mut table, b"a", Rec::Delta(7));
+    fold_of(&rt, &mut table, b"b", Rec::Tomb);
+    stands_at(&rt, &table, b"b", Some(0));
+    stands_at(&rt, &table, b"aa", Some(1));
+    stands_at(&rt, &table, b"a", Some(2));
+    stands_at(&rt, &table, b"ab", None);
+    table.clear();
+    stands_at(&rt, &table, b"b", None);
+    fold_of(&rt, &mut table, b"a", Rec::Tomb);
+    stands_at(&rt, &table, b"a", Some(0));
 }
 
 fn head_of<S: Stream>(run: &S) -> Option<(Key, Rec)>
@@ -137,24 +221,23 @@ fn head_of<S: Stream>(run: &S) -> Option<(Key, Rec)>
 }
 
 #[test]
-fn a_table_from_a_key_on(rt: HostRuntime) -> Result<(), Fail> {
-    let mut table = Table::reserve(rt.alloc(), RESERVED)?;
-    fold_in(&rt, &mut table, &key(b"b")?, &Rec::Tomb);
-    fold_in(&rt, &mut table, &key(b"a")?, &Rec::Delta(7));
+fn a_table_from_a_key_on(rt: HostRuntime) {
+    let mut table = reserved(&rt, rt.alloc());
+    fold_of(&rt, &mut table, b"b", Rec::Tomb);
+    fold_of(&rt, &mut table, b"a", Rec::Delta(7));
     let all = Above {
         table: &table,
         key: None,
     };
-    assert_eq!(rt; head_of(&all), Some((key(b"a")?, Rec::Delta(7))));
+    assert_eq!(rt; head_of(&all), Some((key(&rt, b"a"), Rec::Delta(7))));
     let behind = Above {
         table: &table,
-        key: Some(key(b"a")?),
+        key: Some(key(&rt, b"a")),
     };
-    assert_eq!(rt; head_of(&behind), Some((key(b"b")?, Rec::Tomb)));
+    assert_eq!(rt; head_of(&behind), Some((key(&rt, b"b"), Rec::Tomb)));
     let none = Above {
         table: &table,
-        key: Some(key(b"b")?),
+        key: Some(key(&rt, b"b")),
     };
     assert!(rt; head_of(&none).is_none());
-    Ok(())
 }

@@ -1,18 +1,19 @@
 // Components of the smallest store, whose pages are written byte by byte on a disk in memory.
 ghost use Rattle.std.specs.Prelude.{◌≡◌, length};
+ghost use Rattle.blsm_model.specs.Components.{empty_component};
 ghost use Rattle.blsm_model.specs.Geometry.{file_length};
 ghost use Rattle.disk_mem.specs.Recorded.{told};
 
 use crate::drafts::Draft;
-use crate::samples::{FIRST_PAGE, NO_PAGE, blank, smallest};
+use crate::samples::{FIRST_PAGE, NO_PAGE, blank, fail, smallest};
 use blsm_model::{Component, Geometry, Key, Text, Value};
 use disk_mem::MemDisk;
 use disk_trait::Disk;
 use page_file::{Broken, PAGE_LEN, no_component, write_page};
 use record_delta::{Rec, Stream};
 use run_cursor::{Cursor, find, what_is_ahead};
+use std::alloc::Global;
 use std::process::Abort;
-use std::test::Fail;
 
 // A key of 64 bytes, all k but the last two, which are the number's.
 fn key_bytes(number: u16) -> [u8; 64] {
@@ -21,16 +22,16 @@ fn key_bytes(number: u16) -> [u8; 64] {
     key
 }
 
-fn key(number: u16) -> Result<Key, Fail> {
-    Ok(Key::from_bytes(&key_bytes(number)).ok_or("no key")?)
+fn key(rt: &impl Abort, bytes: &[u8]) -> Key {
+    Key::from_bytes(bytes).expect(rt, "a key")
 }
 
 // A base of 512 bytes with its key.
-fn base(count: u64) -> Result<Rec, Fail> {
-    Ok(Rec::Base(Value {
+fn base(rt: &impl Abort, count: u64) -> Rec {
+    Rec::Base(Value {
         count,
-        text: Text::from_bytes(&[b't'; 435]).ok_or("too long a text")?,
-    }))
+        text: Text::from_bytes(&[b't'; 435]).expect(rt, "a text"),
+    })
 }
 
 // Seven bases of 512 bytes each, with the keys of twice their numbers, from this one on: enough for a next page.
@@ -79,92 +80,126 @@ fn write_three(rt: &impl Abort, disk: &mut MemDisk, geo: &Geometry)
     write(rt, disk, geo, 9, &last_page(rt).page(rt, NO_PAGE));
 }
 
+// A disk with the three pages.
+fn disk_of_three(rt: &impl Abort, alloc: Global, geo: &Geometry) -> MemDisk
+    ensures { length (told result).bytes ≡ file_length geo.now }
+{
+    let mut disk = blank(rt, alloc, geo, 200_000);
+    write_three(rt, &mut disk, geo);
+    disk
+}
+
 // The entry of this place in the three pages.
-fn entry_of(place: u16) -> Result<(Key, Rec), Fail> {
+fn entry_of(rt: &impl Abort, place: u16) -> (Key, Rec) {
     if place == 14 {
-        return Ok((Key::from_bytes(b"l").ok_or("no key")?, Rec::Tomb));
+        return (key(rt, b"l"), Rec::Tomb);
     }
-    Ok((key(place.saturating_mul(2))?, base(u64::from(place % 7))?))
+    let bytes = key_bytes(place.saturating_mul(2));
+    (key(rt, &bytes), base(rt, u64::from(place % 7)))
+}
+
+// The cursor goes on to this, with so many entries left.
+fn goes_on(
+    rt: &impl Abort,
+    disk: &mut MemDisk,
+    geo: &Geometry,
+    cursor: &mut Cursor,
+    head: Option<(Key, Rec)>,
+    left: u64,
+)
+    requires { length (told disk.old).bytes ≡ file_length geo.now }
+    ensures { length (told disk.new).bytes ≡ file_length geo.now }
+{
+    assert_eq!(rt; cursor.advance(disk, geo), Ok(()));
+    assert_eq!(rt; cursor.head(), head);
+    assert_eq!(rt; cursor.left(), left);
 }
 
 #[test]
-fn a_cursor_gives_the_entries_in_order(rt: HostRuntime) -> Result<(), Fail> {
-    let geo = smallest()?;
-    let mut disk = blank(rt.alloc(), &geo, 200_000)?;
-    write_three(&rt, &mut disk, &geo);
+fn a_cursor_gives_the_entries_in_order(rt: HostRuntime) {
+    let geo = smallest(&rt);
+    let mut disk = disk_of_three(&rt, rt.alloc(), &geo);
     let mut cursor = Cursor::start(&THREE);
     assert_eq!(rt; cursor.head(), None);
     assert_eq!(rt; cursor.left(), 15);
     for place in 0..15u16 {
-        assert_eq!(rt; cursor.advance(&mut disk, &geo), Ok(()));
-        assert_eq!(rt; cursor.head(), Some(entry_of(place)?));
-        assert_eq!(rt; cursor.left(), 14 - u64::from(place));
+        let entry = entry_of(&rt, place);
+        goes_on(
+            &rt,
+            &mut disk,
+            &geo,
+            &mut cursor,
+            Some(entry),
+            14 - u64::from(place),
+        );
     }
     // At the end it stays, and reads nothing more.
     for _ in 0..2u8 {
-        assert_eq!(rt; cursor.advance(&mut disk, &geo), Ok(()));
-        assert_eq!(rt; cursor.head(), None);
-        assert_eq!(rt; cursor.left(), 0);
+        goes_on(&rt, &mut disk, &geo, &mut cursor, None, 0);
     }
-    Ok(())
+}
+
+// A lookup finds this of a key.
+fn finds(
+    rt: &impl Abort,
+    disk: &mut MemDisk,
+    geo: &Geometry,
+    run: &Component,
+    key: &Key,
+    rec: Option<Rec>,
+)
+    requires empty { run.now.pages ≡ 0 → run.now ≡ empty_component }
+    requires length { length (told disk.old).bytes ≡ file_length geo.now }
+    ensures { length (told disk.new).bytes ≡ file_length geo.now }
+{
+    assert_eq!(rt; find(disk, geo, run, key), Ok(rec));
 }
 
 #[test]
-fn an_empty_component(rt: HostRuntime) -> Result<(), Fail> {
-    let geo = smallest()?;
-    let mut disk = blank(rt.alloc(), &geo, 200_000)?;
+fn an_empty_component(rt: HostRuntime) {
+    let geo = smallest(&rt);
+    let mut disk = blank(&rt, rt.alloc(), &geo, 200_000);
     let run = no_component();
     let mut cursor = Cursor::start(&run);
     assert_eq!(rt; cursor.left(), 0);
-    assert_eq!(rt; cursor.advance(&mut disk, &geo), Ok(()));
-    assert_eq!(rt; cursor.head(), None);
-    assert_eq!(rt; find(&mut disk, &geo, &run, &key(0)?), Ok(None));
+    goes_on(&rt, &mut disk, &geo, &mut cursor, None, 0);
+    finds(&rt, &mut disk, &geo, &run, &key(&rt, &key_bytes(0)), None);
     what_is_ahead();
-    Ok(())
 }
 
 #[test]
-fn a_key_is_found_or_not(rt: HostRuntime) -> Result<(), Fail> {
-    let geo = smallest()?;
-    let mut disk = blank(rt.alloc(), &geo, 200_000)?;
-    write_three(&rt, &mut disk, &geo);
+fn a_key_is_found_or_not(rt: HostRuntime) {
+    let geo = smallest(&rt);
+    let mut disk = disk_of_three(&rt, rt.alloc(), &geo);
     for place in 0..15u16 {
-        let (key, rec) = entry_of(place)?;
-        assert_eq!(rt; find(&mut disk, &geo, &THREE, &key), Ok(Some(rec)));
+        let (key, rec) = entry_of(&rt, place);
+        finds(&rt, &mut disk, &geo, &THREE, &key, Some(rec));
     }
     for place in 0..14u16 {
-        let between = key(place.saturating_mul(2).saturating_add(1))?;
-        assert_eq!(rt; find(&mut disk, &geo, &THREE, &between), Ok(None));
+        let between = key_bytes(place.saturating_mul(2).saturating_add(1));
+        finds(&rt, &mut disk, &geo, &THREE, &key(&rt, &between), None);
     }
     for absent in [b"a".as_slice(), b"kz", b"ll", b"m"] {
-        let absent = Key::from_bytes(absent).ok_or("no key")?;
-        assert_eq!(rt; find(&mut disk, &geo, &THREE, &absent), Ok(None));
+        finds(&rt, &mut disk, &geo, &THREE, &key(&rt, absent), None);
     }
-    Ok(())
 }
 
 // A component of one page.
 #[test]
-fn one_page(rt: HostRuntime) -> Result<(), Fail> {
-    let geo = smallest()?;
-    let mut disk = blank(rt.alloc(), &geo, 200_000)?;
-    write(
-        &rt,
-        &mut disk,
-        &geo,
-        797,
-        &last_page(&rt).page(&rt, NO_PAGE),
-    );
+fn one_page(rt: HostRuntime) {
+    let geo = smallest(&rt);
+    let mut disk = blank(&rt, rt.alloc(), &geo, 200_000);
+    let page = last_page(&rt).page(&rt, NO_PAGE);
+    write(&rt, &mut disk, &geo, 797, &page);
     let run = Component {
         first: 797,
         pages: 1,
         entries: 1,
         weight: 14,
     };
-    let (last, tomb) = entry_of(14)?;
-    assert_eq!(rt; find(&mut disk, &geo, &run, &last), Ok(Some(tomb)));
-    assert_eq!(rt; find(&mut disk, &geo, &run, &key(0)?), Ok(None));
-    Ok(())
+    let (last, tomb) = entry_of(&rt, 14);
+    finds(&rt, &mut disk, &geo, &run, &last, Some(tomb));
+    finds(&rt, &mut disk, &geo, &run, &key(&rt, &key_bytes(0)), None);
 }
 
 // Bytes of a page that are changed, numbers of the component, which page is damaged then, and how many entries come before.
@@ -300,63 +335,80 @@ fn walk(
     (20, Ok(()))
 }
 
-#[test]
-fn damage_names_the_page(rt: HostRuntime) -> Result<(), Fail> {
-    let geo = smallest()?;
-    let before_all = Key::from_bytes(b"a").ok_or("no key")?;
-    let behind_all = Key::from_bytes(b"z").ok_or("no key")?;
-    for damage in &damages() {
-        let mut disk = blank(rt.alloc(), &geo, 200_000)?;
-        write_three(&rt, &mut disk, &geo);
-        let mut page = [0; PAGE_LEN];
-        assert!(rt; u64::from(damage.page) < geo.pages());
-        let at = FIRST_PAGE + 4_096 * u64::from(damage.page);
-        assert_eq!(rt; disk.read(at, &mut page), Ok(()));
-        for (at, byte) in damage.bytes {
-            assert!(rt; (*at as usize) < PAGE_LEN);
-            page[*at as usize] = *byte;
-        }
-        write(&rt, &mut disk, &geo, damage.page, &page);
-        let expected = Err(Broken::Damaged(damage.damaged));
-        assert_eq!(rt;
-            walk(&rt, &mut disk, &geo, &damage.run),
-            (damage.given, expected),
-            "page {}: {:?}, {:?}",
-            damage.page,
-            damage.bytes,
-            damage.run
-        );
-        // A lookup tells of it where its key is behind, and doesn't see it where the key is before.
-        assert!(rt; damage.run.pages > 0);
-        assert_eq!(rt;
-            find(&mut disk, &geo, &damage.run, &behind_all),
-            Err(Broken::Damaged(damage.damaged))
-        );
-        let before = find(&mut disk, &geo, &damage.run, &before_all);
-        if damage.given == 0 {
-            assert_eq!(rt; before, Err(Broken::Damaged(damage.damaged)));
-        } else {
-            assert_eq!(rt; before, Ok(None));
-        }
+// Changes bytes of a page.
+fn change(rt: &impl Abort, disk: &mut MemDisk, geo: &Geometry, n: u32, bytes: &[(u16, u8)])
+    requires { length (told disk.old).bytes ≡ file_length geo.now }
+    ensures { length (told disk.new).bytes ≡ file_length geo.now }
+{
+    let mut page = [0; PAGE_LEN];
+    assert!(rt; u64::from(n) < geo.pages());
+    let at = FIRST_PAGE + 4_096 * u64::from(n);
+    assert_eq!(rt; disk.read(at, &mut page), Ok(()));
+    for (at, byte) in bytes {
+        assert!(rt; (*at as usize) < PAGE_LEN);
+        page[*at as usize] = *byte;
     }
-    Ok(())
+    write(rt, disk, geo, n, &page);
+}
+
+// What a lookup of this key answers.
+fn answers(
+    rt: &impl Abort,
+    disk: &mut MemDisk,
+    geo: &Geometry,
+    run: &Component,
+    name: &[u8],
+    expected: Result<Option<Rec>, Broken>,
+)
+    requires { length (told disk.old).bytes ≡ file_length geo.now }
+    ensures { length (told disk.new).bytes ≡ file_length geo.now }
+{
+    assert!(rt; run.pages > 0);
+    assert_eq!(rt; find(disk, geo, run, &key(rt, name)), expected);
+}
+
+// The cursor stops at the damage. A lookup tells of it where its key is behind, and doesn't see it where the key is before.
+fn is_damaged(rt: &impl Abort, disk: &mut MemDisk, geo: &Geometry, damage: &Damage)
+    requires { length (told disk.old).bytes ≡ file_length geo.now }
+{
+    let broken = Broken::Damaged(damage.damaged);
+    assert_eq!(rt;
+        walk(rt, disk, geo, &damage.run),
+        (damage.given, Err(broken)),
+        "page {}: {:?}, {:?}",
+        damage.page,
+        damage.bytes,
+        damage.run
+    );
+    answers(rt, disk, geo, &damage.run, b"z", Err(broken));
+    let before = if damage.given == 0 {
+        Err(broken)
+    } else {
+        Ok(None)
+    };
+    answers(rt, disk, geo, &damage.run, b"a", before);
+}
+
+#[test]
+fn damage_names_the_page(rt: HostRuntime) {
+    let geo = smallest(&rt);
+    for damage in &damages() {
+        let mut disk = disk_of_three(&rt, rt.alloc(), &geo);
+        change(&rt, &mut disk, &geo, damage.page, damage.bytes);
+        is_damaged(&rt, &mut disk, &geo, damage);
+    }
 }
 
 // The second read of a page fails. The cursor stays at the seventh entry, and goes on from there.
 #[test]
-fn a_fault_leaves_the_cursor(rt: HostRuntime) -> Result<(), Fail> {
-    let geo = smallest()?;
-    let mut disk = blank(rt.alloc(), &geo, 200_000)?;
-    write_three(&rt, &mut disk, &geo);
-    disk.fail(7)?;
-    disk.fail(12)?;
+fn a_fault_leaves_the_cursor(rt: HostRuntime) {
+    let geo = smallest(&rt);
+    let mut disk = disk_of_three(&rt, rt.alloc(), &geo);
+    fail(&rt, &mut disk, 7);
+    fail(&rt, &mut disk, 12);
     assert_eq!(rt; walk(&rt, &mut disk, &geo, &THREE), (7, Err(Broken::Fault)));
     assert_eq!(rt; disk.faults(), 1);
     assert_eq!(rt; walk(&rt, &mut disk, &geo, &THREE), (15, Ok(())));
-    assert_eq!(rt;
-        find(&mut disk, &geo, &THREE, &entry_of(14)?.0),
-        Err(Broken::Fault)
-    );
+    answers(&rt, &mut disk, &geo, &THREE, b"l", Err(Broken::Fault));
     assert_eq!(rt; disk.faults(), 2);
-    Ok(())
 }

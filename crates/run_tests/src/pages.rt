@@ -1,10 +1,10 @@
 // Pages of the smallest store, over disks in memory.
-ghost use Rattle.std.specs.Prelude.{◌≡◌, ◌<◌, ◌+◌, length, IfOk};
+ghost use Rattle.std.specs.Prelude.{◌≡◌, ◌<◌, ◌+◌, length};
 ghost use Rattle.blsm_model.specs.Geometry.{file_length};
 ghost use Rattle.disk_mem.specs.Recorded.{told};
 
 use crate::drafts::Draft;
-use crate::samples::{FIRST_PAGE, NO_PAGE, PAGES, blank, smallest};
+use crate::samples::{FIRST_PAGE, NO_PAGE, PAGES, blank, fail, smallest, validity, zeros};
 use blsm_model::{Component, Geometry};
 use disk_mem::{FaultlessDisk, MemDisk};
 use disk_trait::Disk;
@@ -15,16 +15,43 @@ use page_file::{
 use refusal::Failed;
 use std::alloc::Global;
 use std::process::Abort;
-use std::test::Fail;
 
 // A disk of the store's length, of zeros.
-fn faultless(alloc: Global, geo: &Geometry) -> Result<FaultlessDisk, Fail>
-    ensures { IfOk result (λ d. length d.bytes ≡ file_length geo.now) }
+fn faultless(rt: &impl Abort, alloc: Global, geo: &Geometry) -> FaultlessDisk
+    ensures { length result.bytes ≡ file_length geo.now }
 {
-    let mut disk = FaultlessDisk::new(alloc, geo.length())?;
-    let zeros = vec![in alloc; 0; geo.length() as usize]?;
-    disk.write(0, &zeros)?;
-    Ok(disk)
+    let zeros = zeros(rt, alloc, geo);
+    let mut disk = FaultlessDisk::new(alloc, geo.length()).expect(rt, "memory");
+    assert!(rt; disk.write(0, zeros.as_slice()).is_ok());
+    disk
+}
+
+// A page is read as these bytes. What is read of it.
+fn found(
+    rt: &impl Abort,
+    disk: &mut FaultlessDisk,
+    geo: &Geometry,
+    n: u32,
+    page: &[u8; PAGE_LEN],
+) -> Result<(), Broken>
+    requires { length disk.old.bytes ≡ file_length geo.now }
+    ensures { length disk.new.bytes ≡ file_length geo.now }
+{
+    assert!(rt; u64::from(n) < geo.pages());
+    let mut found = [0xee; PAGE_LEN];
+    let outcome = read_page(disk, geo, n, &mut found);
+    assert!(rt; found == *page);
+    outcome
+}
+
+// These bytes stand at a page's place in the file.
+fn stands(rt: &impl Abort, disk: &mut FaultlessDisk, n: u32, page: &[u8; PAGE_LEN])
+    ensures { length disk.new.bytes ≡ length disk.old.bytes }
+{
+    let mut found = [0xee; PAGE_LEN];
+    let at = FIRST_PAGE + u64::from(n) * 4_096;
+    assert!(rt; disk.read(at, &mut found).is_ok());
+    assert!(rt; found == *page);
 }
 
 // Writes a page and reads it again: what is read of it, and that the same bytes are read, and at its place in the file.
@@ -40,16 +67,8 @@ fn written(
 {
     assert!(rt; u64::from(n) < geo.pages());
     assert!(rt; write_page(disk, geo, n, page).is_ok());
-    let mut found = [0xee; PAGE_LEN];
-    let outcome = read_page(disk, geo, n, &mut found);
-    assert!(rt; found == *page);
-    found = [0xee; PAGE_LEN];
-    assert!(rt;
-        disk.read(FIRST_PAGE + u64::from(n) * 4_096, &mut found)
-            .is_ok()
-    );
-    assert!(rt; found == *page);
-    outcome
+    stands(rt, disk, n, page);
+    found(rt, disk, geo, n, page)
 }
 
 // Two entries: a, a base of count 5 and text "hi", and b, a tombstone.
@@ -122,36 +141,47 @@ fn changes() -> [Change; 32] {
     ]
 }
 
+// The page of two entries, with these bytes in place of its own.
+fn changed(rt: &impl Abort, bytes: &[(u16, u8)]) -> [u8; PAGE_LEN] {
+    let mut page = two_entries(rt);
+    for (at, byte) in bytes {
+        assert!(rt; (*at as usize) < PAGE_LEN);
+        page[*at as usize] = *byte;
+    }
+    page
+}
+
 #[test]
-fn each_byte_of_a_page_counts(rt: HostRuntime) -> Result<(), Fail> {
-    let geo = smallest()?;
-    let mut disk = faultless(rt.alloc(), &geo)?;
+fn each_byte_of_a_page_counts(rt: HostRuntime) {
+    let geo = smallest(&rt);
+    let mut disk = faultless(&rt, rt.alloc(), &geo);
     for change in &changes() {
-        let mut page = two_entries(&rt);
-        for (at, byte) in change.bytes {
-            assert!(rt; (*at as usize) < PAGE_LEN);
-            page[*at as usize] = *byte;
-        }
-        let expected = if change.is_valid {
-            Ok(())
-        } else {
-            Err(Broken::Damaged(7))
-        };
+        let page = changed(&rt, change.bytes);
         assert_eq!(rt;
             written(&rt, &mut disk, &geo, 7, &page),
-            expected,
+            validity(change.is_valid, 7),
             "{:?}",
             change.bytes
         );
     }
-    Ok(())
+}
+
+// A page of one entry, by its kind and the lengths of its key, at most 65, and of its text, at most 436.
+fn page_of(rt: &impl Abort, kind: u8, key_len: usize, text_len: usize) -> [u8; PAGE_LEN] {
+    let mut draft = Draft::new();
+    let key = [b'k'; 65];
+    let text = [b't'; 436];
+    assert!(rt; key_len <= 65);
+    assert!(rt; text_len <= 436);
+    draft.entry(rt, kind, &key[..key_len], &text[..text_len], 0);
+    draft.page(rt, NO_PAGE)
 }
 
 // One entry, by the lengths of its key and of its text.
 #[test]
-fn an_entry_has_its_lengths(rt: HostRuntime) -> Result<(), Fail> {
-    let geo = smallest()?;
-    let mut disk = faultless(rt.alloc(), &geo)?;
+fn an_entry_has_its_lengths(rt: HostRuntime) {
+    let geo = smallest(&rt);
+    let mut disk = faultless(&rt, rt.alloc(), &geo);
     let rows = [
         (1, 0, 0, false),
         (1, 1, 0, true),
@@ -165,24 +195,13 @@ fn an_entry_has_its_lengths(rt: HostRuntime) -> Result<(), Fail> {
         (3, 64, 1, false),
     ];
     for (kind, key_len, text_len, is_valid) in rows {
-        let mut draft = Draft::new();
-        let key = [b'k'; 65];
-        let text = [b't'; 436];
-        assert!(rt; key_len <= 65);
-        assert!(rt; text_len <= 436);
-        draft.entry(&rt, kind, &key[..key_len], &text[..text_len], 0);
-        let expected = if is_valid {
-            Ok(())
-        } else {
-            Err(Broken::Damaged(0))
-        };
+        let page = page_of(&rt, kind, key_len, text_len);
         assert_eq!(rt;
-            written(&rt, &mut disk, &geo, 0, &draft.page(&rt, NO_PAGE)),
-            expected,
+            written(&rt, &mut disk, &geo, 0, &page),
+            validity(is_valid, 0),
             "kind {kind}, a key of {key_len} and a text of {text_len} bytes"
         );
     }
-    Ok(())
 }
 
 // So many bytes of entries, 512 each and what is left in the last one, and a next page.
@@ -206,10 +225,16 @@ fn last_byte(byte: u8) -> [u8; 64] {
     key
 }
 
+// A page's head says so.
+fn has_head(rt: &impl Abort, page: &[u8; PAGE_LEN], count: u16, used: u16, next: u32) {
+    let next = if next == NO_PAGE { None } else { Some(next) };
+    assert_eq!(rt; PageHead::read(page), PageHead { count, used, next });
+}
+
 #[test]
-fn a_page_with_a_next_one_is_full(rt: HostRuntime) -> Result<(), Fail> {
-    let geo = smallest()?;
-    let mut disk = faultless(rt.alloc(), &geo)?;
+fn a_page_with_a_next_one_is_full(rt: HostRuntime) {
+    let geo = smallest(&rt);
+    let mut disk = faultless(&rt, rt.alloc(), &geo);
     let rows = [
         (3_576, 7, NO_PAGE, true),
         (3_576, 7, 0, false),
@@ -223,20 +248,13 @@ fn a_page_with_a_next_one_is_full(rt: HostRuntime) -> Result<(), Fail> {
     ];
     for (used, count, next, is_valid) in rows {
         let page = filled(&rt, used, next);
-        let expected = if is_valid {
-            Ok(())
-        } else {
-            Err(Broken::Damaged(5))
-        };
         assert_eq!(rt;
             written(&rt, &mut disk, &geo, 5, &page),
-            expected,
+            validity(is_valid, 5),
             "{used} bytes, next {next}"
         );
-        let next = if next == NO_PAGE { None } else { Some(next) };
-        assert_eq!(rt; PageHead::read(&page), PageHead { count, used, next });
+        has_head(&rt, &page, count, used, next);
     }
-    Ok(())
 }
 
 // Whether a page reads as zeros, which aren't a page.
@@ -252,10 +270,10 @@ fn is_blank(rt: &impl Abort, disk: &mut FaultlessDisk, geo: &Geometry, n: u32) -
 
 // The first page, another and the last one. The pages beside them stay as they were.
 #[test]
-fn a_page_is_written_at_its_place(rt: HostRuntime) -> Result<(), Fail> {
-    let geo = smallest()?;
+fn a_page_is_written_at_its_place(rt: HostRuntime) {
+    let geo = smallest(&rt);
     assert_eq!(rt; geo.pages(), u64::from(PAGES));
-    let mut disk = faultless(rt.alloc(), &geo)?;
+    let mut disk = faultless(&rt, rt.alloc(), &geo);
     let page = two_entries(&rt);
     assert_eq!(rt; written(&rt, &mut disk, &geo, 0, &page), Ok(()));
     assert_eq!(rt; written(&rt, &mut disk, &geo, 2, &page), Ok(()));
@@ -263,6 +281,10 @@ fn a_page_is_written_at_its_place(rt: HostRuntime) -> Result<(), Fail> {
     assert!(rt; is_blank(&rt, &mut disk, &geo, 1));
     assert!(rt; is_blank(&rt, &mut disk, &geo, 3));
     assert!(rt; is_blank(&rt, &mut disk, &geo, PAGES - 2));
+}
+
+#[test]
+fn laws_of_pages_are_called(rt: HostRuntime) {
     one_page();
     where_entries_stand();
     pages_are_apart();
@@ -279,50 +301,71 @@ fn a_page_is_written_at_its_place(rt: HostRuntime) -> Result<(), Fail> {
             weight: 0
         }
     );
-    Ok(())
+}
+
+// Writes the page of two entries at page 1, and reads it. What came of both.
+fn write_one(rt: &impl Abort, disk: &mut MemDisk, geo: &Geometry) -> Result<(), Failed>
+    requires { length (told disk.old).bytes ≡ file_length geo.now }
+    ensures { length (told disk.new).bytes ≡ file_length geo.now }
+{
+    assert!(rt; 1 < geo.pages());
+    write_page(disk, geo, 1, &two_entries(rt))
+}
+
+fn read_one(rt: &impl Abort, disk: &mut MemDisk, geo: &Geometry) -> Result<(), Broken>
+    requires { length (told disk.old).bytes ≡ file_length geo.now }
+    ensures { length (told disk.new).bytes ≡ file_length geo.now }
+{
+    assert!(rt; 1 < geo.pages());
+    let mut found = [0xee; PAGE_LEN];
+    let outcome = read_page(disk, geo, 1, &mut found);
+    assert!(rt; outcome.is_err() || found == two_entries(rt));
+    outcome
 }
 
 // The third call, a write, and the fifth, a read, fail. The fourth and the sixth don't.
 #[test]
-fn a_call_that_fails_is_told(rt: HostRuntime) -> Result<(), Fail> {
-    let geo = smallest()?;
-    let mut disk = blank(rt.alloc(), &geo, 10_000)?;
-    disk.fail(3)?;
-    disk.fail(5)?;
-    let page = two_entries(&rt);
-    let mut found = [0xee; PAGE_LEN];
-    assert!(rt; 1 < geo.pages());
-    assert_eq!(rt; write_page(&mut disk, &geo, 1, &page), Err(Failed));
+fn a_call_that_fails_is_told(rt: HostRuntime) {
+    let geo = smallest(&rt);
+    let mut disk = blank(&rt, rt.alloc(), &geo, 10_000);
+    fail(&rt, &mut disk, 3);
+    fail(&rt, &mut disk, 5);
+    assert_eq!(rt; write_one(&rt, &mut disk, &geo), Err(Failed));
     assert_eq!(rt; disk.faults(), 1);
-    assert_eq!(rt; write_page(&mut disk, &geo, 1, &page), Ok(()));
-    assert_eq!(rt;
-        read_page(&mut disk, &geo, 1, &mut found),
-        Err(Broken::Fault)
-    );
+    assert_eq!(rt; write_one(&rt, &mut disk, &geo), Ok(()));
+    assert_eq!(rt; read_one(&rt, &mut disk, &geo), Err(Broken::Fault));
     assert_eq!(rt; disk.faults(), 2);
-    assert_eq!(rt; read_page(&mut disk, &geo, 1, &mut found), Ok(()));
-    assert!(rt; found == page);
+    assert_eq!(rt; read_one(&rt, &mut disk, &geo), Ok(()));
     assert_eq!(rt; disk.faults(), 2);
-    Ok(())
+}
+
+// What is read of page 0, and its 39th byte.
+fn read_first(
+    rt: &impl Abort,
+    disk: &mut MemDisk,
+    geo: &Geometry,
+    expected: Result<(), Broken>,
+    byte: u8,
+)
+    requires { length (told disk.old).bytes ≡ file_length geo.now }
+    ensures { length (told disk.new).bytes ≡ file_length geo.now }
+{
+    let mut found = [0xee; PAGE_LEN];
+    assert!(rt; 0 < geo.pages());
+    assert_eq!(rt; read_page(disk, geo, 0, &mut found), expected);
+    assert_eq!(rt; found[38], byte);
 }
 
 // A byte of the page changes by no call of the disk.
 #[test]
-fn a_page_that_changed_by_itself_is_damaged(rt: HostRuntime) -> Result<(), Fail> {
-    let geo = smallest()?;
-    let mut disk = blank(rt.alloc(), &geo, 10_000)?;
-    disk.poke(5, FIRST_PAGE.saturating_add(38), b"\x01")?;
-    let page = two_entries(&rt);
-    let mut found = [0xee; PAGE_LEN];
+fn a_page_that_changed_by_itself_is_damaged(rt: HostRuntime) {
+    let geo = smallest(&rt);
+    let mut disk = blank(&rt, rt.alloc(), &geo, 10_000);
+    assert!(rt; disk.poke(5, FIRST_PAGE.saturating_add(38), b"\x01").is_ok());
     assert!(rt; 0 < geo.pages());
-    assert_eq!(rt; write_page(&mut disk, &geo, 0, &page), Ok(()));
-    assert_eq!(rt; read_page(&mut disk, &geo, 0, &mut found), Ok(()));
-    assert_eq!(rt;
-        read_page(&mut disk, &geo, 0, &mut found),
-        Err(Broken::Damaged(0))
-    );
-    assert_eq!(rt; found[38], 1);
-    Ok(())
+    assert_eq!(rt; write_page(&mut disk, &geo, 0, &two_entries(&rt)), Ok(()));
+    read_first(&rt, &mut disk, &geo, Ok(()), 0);
+    read_first(&rt, &mut disk, &geo, Err(Broken::Damaged(0)), 1);
 }
 
 // Whether a page reads so.
@@ -335,17 +378,39 @@ fn reads(rt: &impl Abort, disk: &mut MemDisk, geo: &Geometry, n: u32, page: &[u8
     read_page(disk, geo, n, &mut found) == Ok(()) && found == *page
 }
 
+// Pages 0 and 2 are written and durable, and page 1 is written.
+fn write_pages(rt: &impl Abort, alloc: Global, geo: &Geometry, page: &[u8; PAGE_LEN]) -> MemDisk {
+    let mut disk = blank(rt, alloc, geo, 20_000);
+    assert!(rt; 2 < geo.pages());
+    assert_eq!(rt; write_page(&mut disk, geo, 0, page), Ok(()));
+    assert_eq!(rt; write_page(&mut disk, geo, 2, page), Ok(()));
+    assert!(rt; disk.sync().is_ok());
+    assert_eq!(rt; write_page(&mut disk, geo, 1, page), Ok(()));
+    disk
+}
+
+// An image has pages 0 and 2, and page 1 or not.
+fn has_pages(
+    rt: &impl Abort,
+    disk: &MemDisk,
+    geo: &Geometry,
+    page: &[u8; PAGE_LEN],
+    pick: u64,
+    is_written: bool,
+) {
+    let mut image = disk.image(pick).expect(rt, "memory");
+    assert_eq!(rt; image.len(), Ok(geo.length()));
+    assert!(rt; reads(rt, &mut image, geo, 0, page));
+    assert!(rt; reads(rt, &mut image, geo, 2, page));
+    assert_eq!(rt; reads(rt, &mut image, geo, 1, page), is_written);
+}
+
 // A crash after page 1 was written leaves the pages beside it, and of page 1 nothing, its first 37 or 38 bytes, all, or zeros.
 #[test]
-fn a_crash_leaves_the_other_pages(rt: HostRuntime) -> Result<(), Fail> {
-    let geo = smallest()?;
-    let mut disk = blank(rt.alloc(), &geo, 20_000)?;
+fn a_crash_leaves_the_other_pages(rt: HostRuntime) {
+    let geo = smallest(&rt);
     let page = two_entries(&rt);
-    assert!(rt; 2 < geo.pages());
-    assert_eq!(rt; write_page(&mut disk, &geo, 0, &page), Ok(()));
-    assert_eq!(rt; write_page(&mut disk, &geo, 2, &page), Ok(()));
-    disk.sync()?;
-    assert_eq!(rt; write_page(&mut disk, &geo, 1, &page), Ok(()));
+    let disk = write_pages(&rt, rt.alloc(), &geo, &page);
     for (pick, is_written) in [
         (0, false),
         (37, false),
@@ -353,11 +418,6 @@ fn a_crash_leaves_the_other_pages(rt: HostRuntime) -> Result<(), Fail> {
         (4_096, true),
         (8_193, false),
     ] {
-        let mut image = disk.image(pick)?;
-        assert_eq!(rt; image.len()?, geo.length());
-        assert!(rt; reads(&rt, &mut image, &geo, 0, &page));
-        assert!(rt; reads(&rt, &mut image, &geo, 2, &page));
-        assert_eq!(rt; reads(&rt, &mut image, &geo, 1, &page), is_written);
+        has_pages(&rt, &disk, &geo, &page, pick, is_written);
     }
-    Ok(())
 }

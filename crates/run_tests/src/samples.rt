@@ -1,5 +1,5 @@
 // The smallest store, disks in memory of its length, and runs on them.
-ghost use Rattle.std.specs.Prelude.{◌≡◌, length, IfOk};
+ghost use Rattle.std.specs.Prelude.{◌≡◌, length};
 ghost use Rattle.blsm_model.specs.Geometry.{page_count, file_length};
 ghost use Rattle.disk_mem.specs.Recorded.{told};
 ghost use Rattle.run_writer.specs.Writer.{IsInside};
@@ -7,13 +7,13 @@ ghost use Rattle.run_writer.specs.Writer.{IsInside};
 use blsm_model::{Geometry, Key};
 use disk_mem::MemDisk;
 use disk_trait::Disk;
+use page_file::Broken;
 use page_space::Space;
 use record_delta::Rec;
 use refusal::Failed;
 use run_writer::Writer;
 use std::alloc::Global;
 use std::process::Abort;
-use std::test::Fail;
 
 /// How many pages the smallest store has.
 pub const PAGES: u32 = 798;
@@ -24,20 +24,53 @@ pub const FIRST_PAGE: u64 = 212_992;
 /// The number that stands for no page.
 pub const NO_PAGE: u32 = u32::MAX;
 
-pub fn smallest() -> Result<Geometry, Fail> {
-    Ok(Geometry::new(17_408, 2, 16_384, 4_096)?)
+pub fn smallest(rt: &impl Abort) -> Geometry {
+    Geometry::new(17_408, 2, 16_384, 4_096).expect(rt, "a geometry")
+}
+
+/// So many zeros as a store's file is long.
+pub fn zeros(rt: &impl Abort, alloc: Global, geo: &Geometry) -> Vec<u8>
+    ensures { length result.items ≡ file_length geo.now }
+{
+    vec![in alloc; 0; geo.length() as usize].expect(rt, "memory")
 }
 
 /// A disk of a store's length, of zeros, by two calls, with room for so many bytes of record more.
-pub fn blank(alloc: Global, geo: &Geometry, record: u32) -> Result<MemDisk, Fail>
-    ensures { IfOk result (λ d. length (told d).bytes ≡ file_length geo.now) }
+pub fn blank(rt: &impl Abort, alloc: Global, geo: &Geometry, record: u32) -> MemDisk
+    ensures { length (told result).bytes ≡ file_length geo.now }
 {
     let length = geo.length();
-    let mut disk = MemDisk::new(alloc, length, length.saturating_add(u64::from(record)))?;
-    let zeros = vec![in alloc; 0; length as usize]?;
-    disk.write(0, &zeros)?;
-    disk.sync()?;
-    Ok(disk)
+    let kept = length.saturating_add(u64::from(record));
+    let zeros = zeros(rt, alloc, geo);
+    let mut disk = MemDisk::new(alloc, length, kept).expect(rt, "memory");
+    assert!(rt; disk.write(0, zeros.as_slice()).is_ok());
+    assert!(rt; disk.sync().is_ok());
+    disk
+}
+
+/// A map of a store's pages, all of them free.
+pub fn free_map(rt: &impl Abort, alloc: Global, geo: &Geometry) -> Space
+    ensures { result.pages ≡ page_count geo.now }
+{
+    let space = Space::reserve(alloc, geo.pages() as u32).expect(rt, "memory");
+    assert!(rt; u64::from(space.pages()) == geo.pages());
+    space
+}
+
+/// This call of a disk is to fail.
+pub fn fail(rt: &impl Abort, disk: &mut MemDisk, call: u64)
+    ensures { (told disk.new).bytes ≡ (told disk.old).bytes }
+{
+    assert!(rt; disk.fail(call).is_ok());
+}
+
+/// What a page is that is valid, or isn't.
+pub fn validity(is_valid: bool, page: u32) -> Result<(), Broken> {
+    if is_valid {
+        Ok(())
+    } else {
+        Err(Broken::Damaged(page))
+    }
 }
 
 /// Pushes an entry onto a run, where a page is free.

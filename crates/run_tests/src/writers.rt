@@ -8,7 +8,7 @@ ghost use Rattle.disk_mem.specs.Recorded.{told};
 ghost use Rattle.page_file.specs.Entry.{AreRising};
 ghost use Rattle.run_writer.specs.Writer.{IsInside};
 
-use crate::samples::{NO_PAGE, blank, push_entry, smallest};
+use crate::samples::{NO_PAGE, blank, fail, free_map, push_entry, smallest};
 use blsm_model::{Component, Geometry, Key, Text, Value};
 use disk_mem::MemDisk;
 use disk_trait::Disk;
@@ -20,7 +20,6 @@ use refusal::Failed;
 use run_writer::{Writer, a_run_has_room, where_a_run_writes};
 use std::alloc::Global;
 use std::process::Abort;
-use std::test::Fail;
 
 // The lengths of an entry's key, at least 4, and of its text, at most 435.
 #[derive(Clone, Copy)]
@@ -75,6 +74,24 @@ fn push(
     push_entry(rt, writer, disk, geo, space, &key, &rec)
 }
 
+// Pushes the entry of a number, which doesn't fail.
+fn push_one(
+    rt: &impl Abort,
+    writer: &mut Writer,
+    disk: &mut MemDisk,
+    geo: &Geometry,
+    space: &mut Space,
+    n: u32,
+    lengths: Lengths,
+)
+    requires inside { IsInside (page_count geo.now) writer.old }
+    requires length { length (told disk.old).bytes ≡ file_length geo.now }
+    ensures inside { IsInside (page_count geo.now) writer.new }
+    ensures length { length (told disk.new).bytes ≡ file_length geo.now }
+{
+    assert!(rt; push(rt, writer, disk, geo, space, n, lengths).is_ok());
+}
+
 // Pushes the entries of the first numbers.
 fn push_all(
     rt: &impl Abort,
@@ -91,7 +108,7 @@ fn push_all(
     ensures length { length (told disk.new).bytes ≡ file_length geo.now }
 {
     for n in 0..count {
-        assert!(rt; push(rt, writer, disk, geo, space, n, lengths).is_ok());
+        push_one(rt, writer, disk, geo, space, n, lengths);
     }
 }
 
@@ -172,20 +189,35 @@ fn has_entries(
     ((at - PAGE_HEAD_LEN) as u16, same)
 }
 
-// A run of entries, by their lengths, in pages of so many entries each.
+// Writes a run of entries, by their lengths.
+fn write_run(
+    rt: &impl Abort,
+    alloc: Global,
+    disk: &mut MemDisk,
+    geo: &Geometry,
+    lengths: Lengths,
+    count: u32,
+) -> Component
+    requires { length (told disk.old).bytes ≡ file_length geo.now }
+    ensures { length (told disk.new).bytes ≡ file_length geo.now }
+{
+    let mut space = free_map(rt, alloc, geo);
+    let mut writer = Writer::start(Role::new(3));
+    push_all(rt, &mut writer, disk, geo, &mut space, count, lengths);
+    writer.end(disk, geo).expect(rt, "a run")
+}
+
+// A run of entries, by their lengths, in pages of so many entries each, from page 0 on.
 fn check_run(
     rt: &impl Abort,
     alloc: Global,
     lengths: Lengths,
     count: u32,
     per_page: u32,
-) -> Result<Component, Fail> {
-    let geo = smallest()?;
-    let mut disk = blank(alloc, &geo, 2_000_000)?;
-    let mut space = Space::reserve(alloc, geo.pages() as u32)?;
-    let mut writer = Writer::start(Role::new(3));
-    push_all(rt, &mut writer, &mut disk, &geo, &mut space, count, lengths);
-    let component = writer.end(&mut disk, &geo)?;
+) -> Component {
+    let geo = smallest(rt);
+    let mut disk = blank(rt, alloc, &geo, 2_000_000);
+    let component = write_run(rt, alloc, &mut disk, &geo, lengths, count);
     let mut from = 0;
     for n in 0..component.pages {
         let is_last = n + 1 == component.pages;
@@ -198,13 +230,13 @@ fn check_run(
         from = to;
     }
     assert_eq!(rt; from, count);
-    Ok(component)
+    component
 }
 
 #[test]
-fn a_run_of_2000_entries(rt: HostRuntime) -> Result<(), Fail> {
+fn a_run_of_2000_entries(rt: HostRuntime) {
     let lengths = Lengths { key: 4, text: 432 };
-    let component = check_run(&rt, rt.alloc(), lengths, 2_000, 9)?;
+    let component = check_run(&rt, rt.alloc(), lengths, 2_000, 9);
     // 222 pages of 9 entries, and one of 2.
     assert_eq!(rt;
         component,
@@ -215,12 +247,11 @@ fn a_run_of_2000_entries(rt: HostRuntime) -> Result<(), Fail> {
             weight: 898_000
         }
     );
-    Ok(())
 }
 
 // A page is closed where the next entry doesn't fit into 4,088 bytes: 8 entries of 511 bytes fill it.
 #[test]
-fn a_page_is_closed_where_the_next_entry_does_not_fit(rt: HostRuntime) -> Result<(), Fail> {
+fn a_page_is_closed_where_the_next_entry_does_not_fit(rt: HostRuntime) {
     let rows = [
         (64, 434, 8, 8, 1),
         (64, 434, 9, 8, 2),
@@ -230,22 +261,22 @@ fn a_page_is_closed_where_the_next_entry_does_not_fit(rt: HostRuntime) -> Result
         (4, 0, 241, 240, 2),
     ];
     for (key, text, count, per_page, pages) in rows {
-        let component = check_run(&rt, rt.alloc(), Lengths { key, text }, count, per_page)?;
+        let component = check_run(&rt, rt.alloc(), Lengths { key, text }, count, per_page);
         assert_eq!(rt;
             component.pages,
             pages,
             "{count} entries of a text of {text}"
         );
     }
-    Ok(())
 }
 
-#[test]
-fn runs_of_no_entry_and_of_one(rt: HostRuntime) -> Result<(), Fail> {
-    let geo = smallest()?;
-    let mut disk = blank(rt.alloc(), &geo, 20_000)?;
-    let mut space = Space::reserve(rt.alloc(), geo.pages() as u32)?;
-    let mut writer = Writer::start(Role::new(0));
+// The run of no entry takes no page.
+fn end_none(rt: &impl Abort, writer: &mut Writer, disk: &mut MemDisk, geo: &Geometry)
+    requires inside { IsInside (page_count geo.now) writer.old }
+    requires length { length (told disk.old).bytes ≡ file_length geo.now }
+    ensures inside { IsInside (page_count geo.now) writer.new }
+    ensures length { length (told disk.new).bytes ≡ file_length geo.now }
+{
     let none = Component {
         first: NO_PAGE,
         pages: 0,
@@ -253,45 +284,73 @@ fn runs_of_no_entry_and_of_one(rt: HostRuntime) -> Result<(), Fail> {
         weight: 0,
     };
     assert_eq!(rt; writer.component(), none);
-    assert_eq!(rt; writer.end(&mut disk, &geo), Ok(none));
+    assert_eq!(rt; writer.end(disk, geo), Ok(none));
+}
+
+fn is_no_page(rt: &impl Abort, disk: &mut MemDisk, geo: &Geometry, space: &mut Space)
+    requires { length (told disk.old).bytes ≡ file_length geo.now }
+    ensures { length (told disk.new).bytes ≡ file_length geo.now }
+{
     let mut page = [0; PAGE_LEN];
     assert!(rt; 0 < geo.pages());
-    assert_eq!(rt;
-        read_page(&mut disk, &geo, 0, &mut page),
-        Err(Broken::Damaged(0))
-    );
-    // No page was taken.
+    assert_eq!(rt; read_page(disk, geo, 0, &mut page), Err(Broken::Damaged(0)));
+    least_is(rt, space, 0);
+}
+
+// The least free page.
+fn least_is(rt: &impl Abort, space: &mut Space, page: u32) {
     assert!(rt; space.has_free());
-    assert_eq!(rt; space.take(), 0);
-    let lengths = Lengths { key: 5, text: 7 };
-    assert_eq!(rt;
-        push(&rt, &mut writer, &mut disk, &geo, &mut space, 1, lengths),
-        Ok(())
-    );
-    // It is on the disk only once the run has ended.
-    assert!(rt; !is_page_of(&rt, &mut disk, &geo, 0, 1, 2, lengths, None));
+    assert_eq!(rt; space.take(), page);
+}
+
+// The run of one entry of 25 bytes ends.
+fn end_one(rt: &impl Abort, writer: &mut Writer, disk: &mut MemDisk, geo: &Geometry)
+    requires inside { IsInside (page_count geo.now) writer.old }
+    requires length { length (told disk.old).bytes ≡ file_length geo.now }
+    ensures length { length (told disk.new).bytes ≡ file_length geo.now }
+{
     let one = Component {
         first: 0,
         pages: 1,
         entries: 1,
-        weight: weight(&key(&rt, 1, 5), &base(&rt, 1, 7)),
+        weight: 25,
     };
-    assert_eq!(rt; one.weight, 25);
-    assert_eq!(rt; writer.end(&mut disk, &geo), Ok(one));
-    assert!(rt; is_page_of(&rt, &mut disk, &geo, 0, 1, 2, lengths, None));
-    Ok(())
+    assert_eq!(rt; weight(&key(rt, 1, 5), &base(rt, 1, 7)), 25);
+    assert_eq!(rt; writer.end(disk, geo), Ok(one));
 }
 
-// Pages 0 and 2 are another role's.
 #[test]
-fn the_least_free_pages_are_taken(rt: HostRuntime) -> Result<(), Fail> {
-    let geo = smallest()?;
-    let mut disk = blank(rt.alloc(), &geo, 100_000)?;
-    let mut space = Space::reserve(rt.alloc(), geo.pages() as u32)?;
+fn runs_of_no_entry_and_of_one(rt: HostRuntime) {
+    let geo = smallest(&rt);
+    let mut disk = blank(&rt, rt.alloc(), &geo, 20_000);
+    let mut space = free_map(&rt, rt.alloc(), &geo);
+    let mut writer = Writer::start(Role::new(0));
+    end_none(&rt, &mut writer, &mut disk, &geo);
+    is_no_page(&rt, &mut disk, &geo, &mut space);
+    let lengths = Lengths { key: 5, text: 7 };
+    push_one(&rt, &mut writer, &mut disk, &geo, &mut space, 1, lengths);
+    // It is on the disk only once the run has ended.
+    assert!(rt; !is_page_of(&rt, &mut disk, &geo, 0, 1, 2, lengths, None));
+    end_one(&rt, &mut writer, &mut disk, &geo);
+    assert!(rt; is_page_of(&rt, &mut disk, &geo, 0, 1, 2, lengths, None));
+}
+
+// A map of which another role has pages 0 and 2.
+fn map_of_two(rt: &impl Abort, alloc: Global, geo: &Geometry) -> Space {
+    let mut space = free_map(rt, alloc, geo);
     assert!(rt; 2 < space.pages());
     space.claim(Role::new(0), 0);
     assert!(rt; 2 < space.pages());
     space.claim(Role::new(0), 2);
+    space
+}
+
+// Pages 0 and 2 are another role's.
+#[test]
+fn the_least_free_pages_are_taken(rt: HostRuntime) {
+    let geo = smallest(&rt);
+    let mut disk = blank(&rt, rt.alloc(), &geo, 100_000);
+    let mut space = map_of_two(&rt, rt.alloc(), &geo);
     let lengths = Lengths { key: 4, text: 432 };
     let mut writer = Writer::start(Role::new(4));
     push_all(&rt, &mut writer, &mut disk, &geo, &mut space, 20, lengths);
@@ -302,48 +361,73 @@ fn the_least_free_pages_are_taken(rt: HostRuntime) -> Result<(), Fail> {
     assert!(rt; !is_page_of(&rt, &mut disk, &geo, 2, 9, 18, lengths, Some(3)));
     // They are its role's.
     space.release(Role::new(4));
-    assert!(rt; space.has_free());
-    assert_eq!(rt; space.take(), 1);
-    Ok(())
+    least_is(&rt, &mut space, 1);
+}
+
+// Two calls of a disk are to fail.
+fn failing(rt: &impl Abort, alloc: Global, geo: &Geometry) -> MemDisk
+    ensures { length (told result).bytes ≡ file_length geo.now }
+{
+    let mut disk = blank(rt, alloc, geo, 100_000);
+    fail(rt, &mut disk, 3);
+    fail(rt, &mut disk, 5);
+    disk
+}
+
+// A push whose page's write fails leaves the component as it was.
+fn push_fails(
+    rt: &impl Abort,
+    writer: &mut Writer,
+    disk: &mut MemDisk,
+    geo: &Geometry,
+    space: &mut Space,
+    lengths: Lengths,
+)
+    requires inside { IsInside (page_count geo.now) writer.old }
+    requires length { length (told disk.old).bytes ≡ file_length geo.now }
+    ensures inside { IsInside (page_count geo.now) writer.new }
+    ensures length { length (told disk.new).bytes ≡ file_length geo.now }
+{
+    let before = writer.component();
+    let outcome = push(rt, writer, disk, geo, space, 9, lengths);
+    assert_eq!(rt; outcome, Err(Failed));
+    assert_eq!(rt; writer.component(), before);
+    assert_eq!(rt; disk.faults(), 1);
+}
+
+// An end whose page's write fails may be tried again.
+fn end_twice(rt: &impl Abort, writer: &mut Writer, disk: &mut MemDisk, geo: &Geometry)
+    requires inside { IsInside (page_count geo.now) writer.old }
+    requires length { length (told disk.old).bytes ≡ file_length geo.now }
+    ensures length { length (told disk.new).bytes ≡ file_length geo.now }
+{
+    assert_eq!(rt; writer.end(disk, geo), Err(Failed));
+    assert_eq!(rt; disk.faults(), 2);
+    assert!(rt; writer.end(disk, geo).is_ok());
 }
 
 // The third call, the first page's write, and the fifth, the last one's, fail.
 #[test]
-fn a_write_that_fails_is_told(rt: HostRuntime) -> Result<(), Fail> {
-    let geo = smallest()?;
-    let mut disk = blank(rt.alloc(), &geo, 100_000)?;
-    disk.fail(3)?;
-    disk.fail(5)?;
-    let mut space = Space::reserve(rt.alloc(), geo.pages() as u32)?;
+fn a_write_that_fails_is_told(rt: HostRuntime) {
+    let geo = smallest(&rt);
+    let mut disk = failing(&rt, rt.alloc(), &geo);
+    let mut space = free_map(&rt, rt.alloc(), &geo);
     let lengths = Lengths { key: 4, text: 432 };
     let mut writer = Writer::start(Role::new(1));
     push_all(&rt, &mut writer, &mut disk, &geo, &mut space, 9, lengths);
-    let before = writer.component();
-    assert_eq!(rt;
-        push(&rt, &mut writer, &mut disk, &geo, &mut space, 9, lengths),
-        Err(Failed)
-    );
-    assert_eq!(rt; writer.component(), before);
-    assert_eq!(rt; disk.faults(), 1);
+    push_fails(&rt, &mut writer, &mut disk, &geo, &mut space, lengths);
     // The page that was taken stays claimed, so the next one is page 2.
-    assert_eq!(rt;
-        push(&rt, &mut writer, &mut disk, &geo, &mut space, 9, lengths),
-        Ok(())
-    );
-    assert_eq!(rt; writer.end(&mut disk, &geo), Err(Failed));
-    assert_eq!(rt; disk.faults(), 2);
-    assert!(rt; writer.end(&mut disk, &geo).is_ok());
+    push_one(&rt, &mut writer, &mut disk, &geo, &mut space, 9, lengths);
+    end_twice(&rt, &mut writer, &mut disk, &geo);
     assert!(rt; is_page_of(&rt, &mut disk, &geo, 0, 0, 9, lengths, Some(2)));
     assert!(rt; is_page_of(&rt, &mut disk, &geo, 2, 9, 10, lengths, None));
-    Ok(())
 }
 
 #[test]
-fn a_list_of_one_entry(rt: HostRuntime) -> Result<(), Fail> {
-    let geo = smallest()?;
-    let mut disk = blank(rt.alloc(), &geo, 20_000)?;
-    let mut space = Space::reserve(rt.alloc(), geo.pages() as u32)?;
-    assert!(rt; u64::from(space.pages()) == geo.pages());
+fn a_list_of_one_entry(rt: HostRuntime) {
+    let geo = smallest(&rt);
+    let mut disk = blank(&rt, rt.alloc(), &geo, 20_000);
+    let mut space = free_map(&rt, rt.alloc(), &geo);
     let entries = [(key(&rt, 1, 4), base(&rt, 1, 400))];
     let one = Component {
         first: 0,
@@ -357,5 +441,4 @@ fn a_list_of_one_entry(rt: HostRuntime) -> Result<(), Fail> {
     );
     a_run_has_room();
     where_a_run_writes();
-    Ok(())
 }

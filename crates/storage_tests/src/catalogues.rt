@@ -1,10 +1,10 @@
 // Slots of the smallest store, over disks in memory.
-ghost use Rattle.std.specs.Prelude.{◌≡◌, ◌<◌, length, IfOk};
+ghost use Rattle.std.specs.Prelude.{◌≡◌, ◌<◌, length};
 ghost use Rattle.blsm_model.specs.Geometry.{file_length};
 ghost use Rattle.blsm_model.specs.Lanes.{spare_of};
 ghost use Rattle.disk_mem.specs.Recorded.{told};
 
-use crate::samples::{put, smallest};
+use crate::samples::{disk_of, has_bytes, put, smallest};
 use blsm_model::{Component, Geometry};
 use catalog_swap::{
     Catalog, EVEN_SLOT, ODD_SLOT, SLOT_LEN, SlotsBroken, commit, first_newest, newest, one_body,
@@ -12,9 +12,9 @@ use catalog_swap::{
 };
 use disk_mem::MemDisk;
 use disk_trait::Disk;
+use refusal::Failed;
 use std::alloc::Global;
 use std::process::Abort;
-use std::test::Fail;
 
 // Where the lanes of the smallest store begin, and how far apart.
 const LANES_START: usize = 4_096;
@@ -28,6 +28,16 @@ const PICKS: u64 = 170;
 // A component that has no pages.
 const NOTHING: [u8; 24] = [
     255, 255, 255, 255, 0, 0, 0, 0, 0, 0, 0, 0, 0, 0, 0, 0, 0, 0, 0, 0, 0, 0, 0, 0,
+];
+
+// No pages, and a weight of 14.
+const WEIGHTY: [u8; 24] = [
+    255, 255, 255, 255, 0, 0, 0, 0, 0, 0, 0, 0, 0, 0, 0, 0, 0, 0, 0, 0, 0, 0, 0, 14,
+];
+
+// 1,023 pages, of 798.
+const BAD: [u8; 24] = [
+    0, 0, 0, 3, 0, 0, 3, 255, 0, 0, 0, 0, 0, 0, 0, 5, 0, 0, 0, 0, 0, 0, 1, 44,
 ];
 
 // One of the pages 3 and on: 2 pages, 5 entries, 300 bytes.
@@ -89,38 +99,43 @@ fn third() -> Catalog
     }
 }
 
-// A slot of 84 bytes.
-fn slot(gate: u8, version: u8, lanes: [u8; 3], c1: [u8; 24]) -> [u8; SLOT_LEN] {
+// A slot's gate, version, lanes and C1; or that it is zeros.
+type Words = Option<(u8, u8, [u8; 3], [u8; 24])>;
+
+// A slot of 84 bytes, with no other component.
+fn slot(words: Words) -> [u8; SLOT_LEN] {
     let mut slot = [0; SLOT_LEN];
-    slot[0] = gate;
-    slot[8] = version;
-    put(&mut slot, 9, &lanes);
-    put(&mut slot, 12, &c1);
-    put(&mut slot, 36, &NOTHING);
-    put(&mut slot, 60, &NOTHING);
+    if let Some(words) = words {
+        let lanes = words.2;
+        let c1 = words.3;
+        slot[0] = words.0;
+        slot[8] = words.1;
+        put(&mut slot, 9, &lanes);
+        put(&mut slot, 12, &c1);
+        put(&mut slot, 36, &NOTHING);
+        put(&mut slot, 60, &NOTHING);
+    }
     slot
 }
 
 // A disk with these slots, the first gates of the lanes open, and zeros elsewhere, by two calls.
 fn make_disk(
+    rt: &impl Abort,
     alloc: Global,
     geometry: &Geometry,
-    odd: &[u8; SLOT_LEN],
-    even: &[u8; SLOT_LEN],
-) -> Result<MemDisk, Fail>
-    ensures { IfOk result (λ d. length (told d).bytes ≡ file_length geometry.now) }
+    odd: Words,
+    even: Words,
+) -> MemDisk
+    ensures { length (told result).bytes ≡ file_length geometry.now }
 {
-    let length = geometry.length();
-    let mut disk = MemDisk::new(alloc, length, length.saturating_add(4_096))?;
-    let mut file = vec![in alloc; 0; length as usize]?;
-    put(&mut file, 512, odd);
-    put(&mut file, 1_024, even);
-    put(&mut file, LANES_START, &[1]);
-    put(&mut file, LANES_START + LANE, &[1]);
-    put(&mut file, LANES_START + 2 * LANE, &[1]);
-    disk.write(0, &file)?;
-    disk.sync()?;
-    Ok(disk)
+    let mut file = vec![in alloc; 0; geometry.length() as usize].expect(rt, "memory");
+    put(&mut file, 512, &slot(odd));
+    put(&mut file, 1_024, &slot(even));
+    for lane in 0..3usize {
+        put(&mut file, LANES_START + lane * LANE, &[1]);
+    }
+    assert!(rt; file.len() as u64 == geometry.length());
+    disk_of(rt, alloc, geometry, file.as_slice(), 4_096)
 }
 
 // What the slots of a disk say.
@@ -128,171 +143,233 @@ fn read_slots(
     rt: &impl Abort,
     disk: &mut MemDisk,
     geometry: &Geometry,
-) -> Result<Result<Catalog, SlotsBroken>, Fail> {
-    assert_eq!(rt; disk.len()?, geometry.length());
-    Ok(newest(disk, geometry))
+) -> Result<Catalog, SlotsBroken> {
+    assert_eq!(rt; disk.len(), Ok(geometry.length()));
+    newest(disk, geometry)
 }
 
-// Which version the slots have, or that they are damaged.
-#[test]
-fn the_open_slot_of_the_higher_version_counts(rt: HostRuntime) -> Result<(), Fail> {
-    let geo = smallest()?;
-    let lanes = [0, 1, 2];
-    let mut bad = SOME;
-    bad[7] = 255;
-    bad[6] = 3; // 1,023 pages, of 798
-    let mut weighty = NOTHING;
-    weighty[23] = 14; // of no pages
-    let rows = [
-        (slot(1, 1, lanes, NOTHING), [0; SLOT_LEN], Ok(1)),
-        (
-            slot(1, 1, lanes, NOTHING),
-            slot(1, 2, [1, 2, 0], SOME),
-            Ok(2),
-        ),
-        (slot(1, 3, lanes, SOME), slot(1, 2, [1, 2, 0], SOME), Ok(3)),
-        (slot(0, 3, lanes, SOME), slot(1, 2, [1, 2, 0], SOME), Ok(2)),
-        (
-            slot(0, 1, lanes, NOTHING),
-            slot(2, 2, lanes, SOME),
-            Err(SlotsBroken::Damaged),
-        ),
-        (
-            slot(1, 2, lanes, NOTHING),
-            [0; SLOT_LEN],
-            Err(SlotsBroken::Damaged),
-        ),
-        (
-            slot(1, 1, lanes, NOTHING),
-            slot(1, 1, lanes, NOTHING),
-            Err(SlotsBroken::Damaged),
-        ),
-        (
-            slot(1, 1, lanes, NOTHING),
-            slot(1, 0, lanes, NOTHING),
-            Err(SlotsBroken::Damaged),
-        ),
-        (
-            slot(1, 1, [0, 1, 1], NOTHING),
-            [0; SLOT_LEN],
-            Err(SlotsBroken::Damaged),
-        ),
-        (
-            slot(1, 1, [0, 1, 3], NOTHING),
-            [0; SLOT_LEN],
-            Err(SlotsBroken::Damaged),
-        ),
-        (
-            slot(1, 1, lanes, bad),
-            slot(0, 2, lanes, SOME),
-            Err(SlotsBroken::Damaged),
-        ),
-        (
-            slot(1, 1, lanes, bad),
-            slot(1, 2, lanes, SOME),
-            Err(SlotsBroken::Damaged),
-        ),
-        (slot(0, 1, lanes, bad), slot(1, 2, lanes, SOME), Ok(2)),
-        (
-            slot(1, 1, lanes, weighty),
-            [0; SLOT_LEN],
-            Err(SlotsBroken::Damaged),
-        ),
-        (
-            slot(1, 1, [0, 0, 1], NOTHING),
-            [0; SLOT_LEN],
-            Err(SlotsBroken::Damaged),
-        ),
-    ];
-    for (odd, even, outcome) in rows {
-        let mut disk = make_disk(rt.alloc(), &geo, &odd, &even)?;
-        let found = newest(&mut disk, &geo).map(|catalog| catalog.version);
-        assert_eq!(rt; found, outcome);
-        assert_eq!(rt; disk.faults(), 0);
-    }
-    Ok(())
-}
+const LANES: [u8; 3] = [0, 1, 2];
 
-// How the slots read, in so many images of a disk.
-fn read_images(
+// Both slots, and which version they have, or that they are damaged.
+const SLOTS: [(Words, Words, Result<u64, SlotsBroken>); 15] = [
+    (Some((1, 1, LANES, NOTHING)), None, Ok(1)),
+    (
+        Some((1, 1, LANES, NOTHING)),
+        Some((1, 2, [1, 2, 0], SOME)),
+        Ok(2),
+    ),
+    (
+        Some((1, 3, LANES, SOME)),
+        Some((1, 2, [1, 2, 0], SOME)),
+        Ok(3),
+    ),
+    (
+        Some((0, 3, LANES, SOME)),
+        Some((1, 2, [1, 2, 0], SOME)),
+        Ok(2),
+    ),
+    (
+        Some((0, 1, LANES, NOTHING)),
+        Some((2, 2, LANES, SOME)),
+        Err(SlotsBroken::Damaged),
+    ),
+    (
+        Some((1, 2, LANES, NOTHING)),
+        None,
+        Err(SlotsBroken::Damaged),
+    ),
+    (
+        Some((1, 1, LANES, NOTHING)),
+        Some((1, 1, LANES, NOTHING)),
+        Err(SlotsBroken::Damaged),
+    ),
+    (
+        Some((1, 1, LANES, NOTHING)),
+        Some((1, 0, LANES, NOTHING)),
+        Err(SlotsBroken::Damaged),
+    ),
+    (
+        Some((1, 1, [0, 1, 1], NOTHING)),
+        None,
+        Err(SlotsBroken::Damaged),
+    ),
+    (
+        Some((1, 1, [0, 1, 3], NOTHING)),
+        None,
+        Err(SlotsBroken::Damaged),
+    ),
+    (
+        Some((1, 1, LANES, BAD)),
+        Some((0, 2, LANES, SOME)),
+        Err(SlotsBroken::Damaged),
+    ),
+    (
+        Some((1, 1, LANES, BAD)),
+        Some((1, 2, LANES, SOME)),
+        Err(SlotsBroken::Damaged),
+    ),
+    (Some((0, 1, LANES, BAD)), Some((1, 2, LANES, SOME)), Ok(2)),
+    (
+        Some((1, 1, LANES, WEIGHTY)),
+        None,
+        Err(SlotsBroken::Damaged),
+    ),
+    (
+        Some((1, 1, [0, 0, 1], NOTHING)),
+        None,
+        Err(SlotsBroken::Damaged),
+    ),
+];
+
+fn reads_as(
     rt: &impl Abort,
-    disk: &MemDisk,
-    geometry: &Geometry,
-    now: &Catalog,
-    next: &Catalog,
-) -> Result<(bool, bool), Fail> {
-    let mut finds_now = false;
-    let mut finds_next = false;
-    for pick in 0..PICKS {
-        let mut image = disk.image(pick)?;
-        let found = read_slots(rt, &mut image, geometry)?;
-        if found == Ok(*now) {
-            finds_now = true;
-        } else {
-            assert_eq!(rt; found, Ok(*next), "pick {pick}");
-            finds_next = true;
+    alloc: Global,
+    odd: Words,
+    even: Words,
+    outcome: Result<u64, SlotsBroken>,
+) {
+    let geo = smallest(rt);
+    let mut disk = make_disk(rt, alloc, &geo, odd, even);
+    let found = newest(&mut disk, &geo).map(|catalog| catalog.version);
+    assert_eq!(rt; found, outcome);
+    assert_eq!(rt; disk.faults(), 0);
+}
+
+#[test]
+fn the_open_slot_of_the_higher_version_counts(rt: HostRuntime) {
+    for (odd, even, outcome) in SLOTS {
+        reads_as(&rt, rt.alloc(), odd, even, outcome);
+    }
+}
+
+// A catalogue, the next one, and the slots as the first of them was committed.
+#[derive(Clone, Copy)]
+struct Pair {
+    now: Catalog,
+    next: Catalog,
+    odd: Words,
+    even: Words,
+    ghost lane: { spare_of now.lanes < 3 },
+}
+
+const ODD: Words = Some((1, 1, LANES, NOTHING));
+
+const EVEN: Words = Some((1, 2, [1, 2, 0], SOME));
+
+fn first_and_second() -> Pair {
+    Pair {
+        now: first(),
+        next: second(),
+        odd: ODD,
+        even: None,
+    }
+}
+
+fn second_and_third() -> Pair {
+    Pair {
+        now: second(),
+        next: third(),
+        odd: ODD,
+        even: EVEN,
+    }
+}
+
+impl Pair {
+    // Whether an image has the next catalogue; it has the one or the other.
+    fn has_next(&self, rt: &impl Abort, disk: &MemDisk, geometry: &Geometry, pick: u64) -> bool {
+        let mut image = disk.image(pick).expect(rt, "memory");
+        let found = read_slots(rt, &mut image, geometry);
+        if found == Ok(self.now) {
+            return false;
+        }
+        assert_eq!(rt; found, Ok(self.next), "pick {pick}");
+        true
+    }
+
+    // Whether the one is found, and whether the next one is, in so many images of a disk.
+    fn find(&self, rt: &impl Abort, disk: &MemDisk, geometry: &Geometry) -> (bool, bool) {
+        let mut finds_now = false;
+        let mut finds_next = false;
+        for pick in 0..PICKS {
+            if self.has_next(rt, disk, geometry, pick) {
+                finds_next = true;
+            } else {
+                finds_now = true;
+            }
+        }
+        (finds_now, finds_next)
+    }
+
+    fn commit(&self, disk: &mut MemDisk, geometry: &Geometry) -> Result<(), Failed>
+        requires { length (told disk.old).bytes ≡ file_length geometry.now }
+    {
+        match prepare(disk, geometry, &self.now) {
+            Ok(()) => commit(disk, geometry, &self.next),
+            Err(failed) => Err(failed),
         }
     }
-    Ok((finds_now, finds_next))
+
+    // The next one is committed over a disk that stops after so many calls, where all of them are this many.
+    fn stops_after(&self, rt: &impl Abort, alloc: Global, calls: u64, all: u64)
+        requires { calls < 9 }
+    {
+        let geo = smallest(rt);
+        let mut disk = make_disk(rt, alloc, &geo, self.odd, self.even);
+        disk.stop_after(calls + 2);
+        let outcome = self.commit(&mut disk, &geo);
+        assert_eq!(rt; outcome.is_ok(), calls >= all, "after {calls} calls");
+        assert_eq!(rt;
+            self.find(rt, &disk, &geo),
+            (calls < all, calls + 2 >= all),
+            "after {calls} calls"
+        );
+    }
 }
 
 // The next catalogue is committed over a disk that stops after so many calls. Each image that is picked has the old catalogue or
-// the new one: the new one from the write that opens its gate on, and it alone once that is durable.
+// the new one: the new one from the write that opens its gate on, and it alone once that is durable. It takes one call more where the
+// older slot is open.
 #[test]
-fn a_commit_is_whole_or_not_there(rt: HostRuntime) -> Result<(), Fail> {
-    let geo = smallest()?;
-    let odd = slot(1, 1, [0, 1, 2], NOTHING);
-    let even = slot(1, 2, [1, 2, 0], SOME);
-    // The slots, and how many calls they take: one more where the older slot is open.
-    let rows = [
-        (first(), second(), odd, [0; SLOT_LEN], 7),
-        (second(), third(), odd, even, 8),
-    ];
-    for (now, next, odd, even, all) in rows {
+fn a_commit_is_whole_or_not_there(rt: HostRuntime) {
+    for (pair, all) in [(first_and_second(), 7), (second_and_third(), 8)] {
         for calls in 0..9 {
-            let mut disk = make_disk(rt.alloc(), &geo, &odd, &even)?;
-            disk.stop_after(calls + 2);
-            let outcome = match prepare(&mut disk, &geo, &now) {
-                Ok(()) => commit(&mut disk, &geo, &next),
-                Err(failed) => Err(failed),
-            };
-            assert_eq!(rt; outcome.is_ok(), calls >= all, "after {calls} calls");
-            let found = read_images(&rt, &disk, &geo, &now, &next)?;
-            assert_eq!(rt;
-                found,
-                (calls < all, calls + 2 >= all),
-                "after {calls} calls"
-            );
+            pair.stops_after(&rt, rt.alloc(), calls, all);
         }
     }
-    Ok(())
+}
+
+// The third catalogue's slot.
+fn third_slot() -> [u8; SLOT_LEN] {
+    let mut expected = slot(Some((1, 3, [2, 0, 1], NOTHING)));
+    put(&mut expected, 36, &SOME);
+    put(&mut expected, 60, &SOME);
+    expected
+}
+
+// The smallest store's disk with the third catalogue.
+fn with_third(rt: &impl Abort, alloc: Global, geo: &Geometry) -> MemDisk {
+    let mut disk = make_disk(rt, alloc, geo, ODD, EVEN);
+    assert!(rt; second_and_third().commit(&mut disk, geo).is_ok());
+    disk
 }
 
 // What a commit writes, byte by byte: the slot and the gates of the lanes.
 #[test]
-fn the_third_stands_where_the_first_stood(rt: HostRuntime) -> Result<(), Fail> {
-    let geo = smallest()?;
-    let odd = slot(1, 1, [0, 1, 2], NOTHING);
-    let even = slot(1, 2, [1, 2, 0], SOME);
-    let mut disk = make_disk(rt.alloc(), &geo, &odd, &even)?;
-    prepare(&mut disk, &geo, &second())?;
-    commit(&mut disk, &geo, &third())?;
+fn the_third_stands_where_the_first_stood(rt: HostRuntime) {
+    let geo = smallest(&rt);
+    let mut disk = with_third(&rt, rt.alloc(), &geo);
     for (lane, expected) in [(0, 0), (1, 1), (2, 1)] {
-        let mut gate = [9];
-        disk.read((LANES_START + LANE * lane) as u64, &mut gate)?;
-        assert_eq!(rt; gate, [expected], "lane {lane}");
+        has_bytes(
+            &rt,
+            &mut disk,
+            (LANES_START + LANE * lane) as u64,
+            [expected],
+        );
     }
-    let mut written = [0; SLOT_LEN];
-    disk.read(ODD_SLOT, &mut written)?;
-    let mut expected = slot(1, 3, [2, 0, 1], NOTHING);
-    put(&mut expected, 36, &SOME);
-    put(&mut expected, 60, &SOME);
-    assert_eq!(rt; written, expected);
-    disk.read(EVEN_SLOT, &mut written)?;
-    assert_eq!(rt; written, even);
-    assert_eq!(rt; read_slots(&rt, &mut disk, &geo)?, Ok(third()));
+    has_bytes(&rt, &mut disk, ODD_SLOT, third_slot());
+    has_bytes(&rt, &mut disk, EVEN_SLOT, slot(EVEN));
+    assert_eq!(rt; read_slots(&rt, &mut disk, &geo), Ok(third()));
     one_newest();
     one_body();
     first_newest();
-    Ok(())
 }

@@ -1,32 +1,45 @@
 // Disks and a shelf in memory: which calls fail, and what each crash image has.
+ghost use Rattle.std.specs.Prelude.{◌≤◌};
+
 use disk_mem::{FaultlessDisk, MemDisk, MemShelf};
 use disk_trait::{Disk, Shelf};
-use refusal::{Failed, NoMemory};
 use std::alloc::Global;
-use std::test::Fail;
+use std::process::Abort;
 
 const LIMIT: u64 = 4;
 
 const RECORD: u64 = 1000;
 
+fn mem_disk(rt: &impl Abort, alloc: Global, limit: u64, kept: u64) -> MemDisk {
+    MemDisk::new(alloc, limit, kept).expect(rt, "memory")
+}
+
 // Two bytes, written and synced, by two calls.
-fn make_disk(alloc: Global, kept: u64) -> Result<MemDisk, NoMemory> {
-    let mut disk = MemDisk::new(alloc, LIMIT, kept)?;
+fn make_disk(rt: &impl Abort, alloc: Global, kept: u64) -> MemDisk {
+    let mut disk = mem_disk(rt, alloc, LIMIT, kept);
     let _ = disk.write(0, b"ab");
     let _ = disk.sync();
-    Ok(disk)
+    disk
 }
 
-fn read_two<D: Disk>(disk: &mut D) -> Result<[u8; 2], Failed> {
+fn write<D: Disk>(rt: &impl Abort, disk: &mut D, at: u64, from: &[u8]) {
+    assert!(rt; disk.write(at, from).is_ok());
+}
+
+fn read_two<D: Disk>(rt: &impl Abort, disk: &mut D) -> [u8; 2] {
     let mut two = [0; 2];
-    disk.read(0, &mut two)?;
-    Ok(two)
+    assert!(rt; disk.read(0, &mut two).is_ok());
+    two
 }
 
-fn read_four<D: Disk>(disk: &mut D) -> Result<[u8; 4], Failed> {
+fn read_four<D: Disk>(rt: &impl Abort, disk: &mut D) -> [u8; 4] {
     let mut four = [0; 4];
-    disk.read(0, &mut four)?;
-    Ok(four)
+    assert!(rt; disk.read(0, &mut four).is_ok());
+    four
+}
+
+fn image(rt: &impl Abort, disk: &MemDisk, pick: u64) -> MemDisk {
+    disk.image(pick).expect(rt, "memory")
 }
 
 #[derive(Clone, Copy, Debug)]
@@ -65,47 +78,73 @@ const ATTEMPTS: [(Attempt, bool, u64, u64); 9] = [
     (Attempt::Sync, false, 0, 1),
 ];
 
-#[test]
-fn calls_fail_by_list_stop_record_limit_and_range(rt: HostRuntime) -> Result<(), Fail> {
-    for (attempt, fails_alone, faults_alone, faults_else) in ATTEMPTS {
-        let mut free = make_disk(rt.alloc(), RECORD)?;
-        let mut listed = make_disk(rt.alloc(), RECORD)?;
-        listed.fail(3)?;
-        let mut stopped = make_disk(rt.alloc(), RECORD)?;
-        stopped.stop_after(2);
+// An attempt by itself.
+fn by_itself(rt: &impl Abort, alloc: Global, attempt: Attempt, expected: (bool, u64)) {
+    let mut disk = make_disk(rt, alloc, RECORD);
+    assert_eq!(rt; outcome_of(&mut disk, attempt), expected, "{attempt:?}");
+}
 
-        // A call takes sixteen bytes of the record, a write also its own.
-        let mut full = make_disk(rt.alloc(), 16 + 2 + 16 + 15)?;
-        let alone = outcome_of(&mut free, attempt);
-        assert_eq!(rt; alone, (fails_alone, faults_alone), "{attempt:?}");
-        let by_list = outcome_of(&mut listed, attempt);
-        assert_eq!(rt; by_list, (true, faults_else), "{attempt:?}");
-        let by_stop = outcome_of(&mut stopped, attempt);
-        assert_eq!(rt; by_stop, (true, faults_else), "{attempt:?}");
-        let by_record = outcome_of(&mut full, attempt);
-        assert_eq!(rt; by_record, (true, faults_else), "{attempt:?}");
+// Where its call is listed, which the next one isn't.
+fn by_list(rt: &impl Abort, alloc: Global, attempt: Attempt, faults: u64) {
+    let mut disk = make_disk(rt, alloc, RECORD);
+    assert!(rt; disk.fail(3).is_ok());
+    assert_eq!(rt;
+        outcome_of(&mut disk, attempt),
+        (true, faults),
+        "{attempt:?}"
+    );
+    assert!(rt; disk.len().is_ok(), "{attempt:?}");
+}
 
-        // The list has one call, the stop and the end of the record have no end.
-        assert!(rt; listed.len().is_ok(), "{attempt:?}");
-        assert!(rt; stopped.len().is_err(), "{attempt:?}");
-        assert!(rt; full.len().is_err(), "{attempt:?}");
-    }
-    Ok(())
+// Behind a stop, which has no end.
+fn by_stop(rt: &impl Abort, alloc: Global, attempt: Attempt, faults: u64) {
+    let mut disk = make_disk(rt, alloc, RECORD);
+    disk.stop_after(2);
+    assert_eq!(rt;
+        outcome_of(&mut disk, attempt),
+        (true, faults),
+        "{attempt:?}"
+    );
+    assert!(rt; disk.len().is_err(), "{attempt:?}");
+}
+
+// At the end of the record, which has no end either. A call takes sixteen bytes of it, a write also its own.
+fn by_record(rt: &impl Abort, alloc: Global, attempt: Attempt, faults: u64) {
+    let mut disk = make_disk(rt, alloc, 16 + 2 + 16 + 15);
+    assert_eq!(rt;
+        outcome_of(&mut disk, attempt),
+        (true, faults),
+        "{attempt:?}"
+    );
+    assert!(rt; disk.len().is_err(), "{attempt:?}");
 }
 
 #[test]
-fn a_faultless_disk_fails_past_its_bytes_and_its_limit(rt: HostRuntime) -> Result<(), Fail> {
+fn calls_fail_by_list_stop_record_limit_and_range(rt: HostRuntime) {
+    for (attempt, fails_alone, faults_alone, faults_else) in ATTEMPTS {
+        by_itself(&rt, rt.alloc(), attempt, (fails_alone, faults_alone));
+        by_list(&rt, rt.alloc(), attempt, faults_else);
+        by_stop(&rt, rt.alloc(), attempt, faults_else);
+        by_record(&rt, rt.alloc(), attempt, faults_else);
+    }
+}
+
+fn faultless(rt: &impl Abort, alloc: Global) -> FaultlessDisk {
+    let mut disk = FaultlessDisk::new(alloc, LIMIT).expect(rt, "memory");
+    write(rt, &mut disk, 0, b"ab");
+    disk
+}
+
+#[test]
+fn a_faultless_disk_fails_past_its_bytes_and_its_limit(rt: HostRuntime) {
     for (attempt, fails_alone, faults_alone, _) in ATTEMPTS {
-        let mut disk = FaultlessDisk::new(rt.alloc(), LIMIT)?;
-        disk.write(0, b"ab")?;
+        let mut disk = faultless(&rt, rt.alloc());
         let alone = outcome_of(&mut disk, attempt);
         assert_eq!(rt; alone, (fails_alone, faults_alone), "{attempt:?}");
     }
-    let mut disk = FaultlessDisk::new(rt.alloc(), LIMIT)?;
-    disk.write(0, b"ab")?;
-    disk.write(1, b"xyz")?;
-    assert_eq!(rt; read_four(&mut disk)?, *b"axyz");
-    Ok(())
+    let mut disk = faultless(&rt, rt.alloc());
+    write(&rt, &mut disk, 1, b"xyz");
+    assert_eq!(rt; read_four(&rt, &mut disk), *b"axyz");
 }
 
 // What stands of a write over "ab" of "xy", and over "cd" of "zw", by its two digits as one number.
@@ -113,191 +152,226 @@ const FRONTS: [[u8; 2]; 6] = [*b"ab", *b"xb", *b"xy", [0, b'b'], [b'x', 0], [0, 
 
 const BACKS: [[u8; 2]; 6] = [*b"cd", *b"zd", *b"zw", [0, b'd'], [b'z', 0], [0, 0]];
 
+// Four bytes, synced, then two writes of which one fails, by its number, or none, and a sync that fails.
+fn torn(rt: &impl Abort, alloc: Global, failing: u64) -> MemDisk {
+    let mut disk = mem_disk(rt, alloc, LIMIT, RECORD);
+    write(rt, &mut disk, 0, b"abcd");
+    assert!(rt; disk.sync().is_ok());
+    assert!(rt; disk.fail(failing).is_ok());
+    assert_eq!(rt; disk.write(0, b"xy").is_err(), failing == 3);
+    assert_eq!(rt; disk.write(2, b"zw").is_err(), failing == 4);
+    assert!(rt; disk.fail(5).is_ok());
+    assert!(rt; disk.sync().is_err());
+    disk
+}
+
+// An image of it.
+fn reads_torn(rt: &impl Abort, disk: &MemDisk, pick: u64) {
+    let [a, b] = FRONTS[(pick % 6) as usize];
+    let [c, d] = BACKS[(pick / 6 % 6) as usize];
+    let mut image = image(rt, disk, pick);
+    assert_eq!(rt; read_four(rt, &mut image), [a, b, c, d], "{pick}");
+    assert_eq!(rt; image.faults(), 0);
+}
+
+// After a sync that ends well each image is as the disk reads.
+fn settles(rt: &impl Abort, mut disk: MemDisk) {
+    assert!(rt; disk.sync().is_ok());
+    let reads = read_four(rt, &mut disk);
+    for pick in [0, 2, 35] {
+        let mut image = image(rt, &disk, pick);
+        assert_eq!(rt; read_four(rt, &mut image), reads, "{pick}");
+    }
+}
+
 // Two writes are torn between two syncs, the second of which fails: each stands not at all, in part, garbled or in whole,
 // whatever the other does; and so for writes that failed.
 #[test]
-fn images_have_every_part_of_each_torn_write(rt: HostRuntime) -> Result<(), Fail> {
+fn images_have_every_part_of_each_torn_write(rt: HostRuntime) {
     for failing in [0, 3, 4] {
-        let mut disk = MemDisk::new(rt.alloc(), LIMIT, RECORD)?;
-        disk.write(0, b"abcd")?;
-        disk.sync()?;
-        disk.fail(failing)?;
-        let first = disk.write(0, b"xy");
-        let second = disk.write(2, b"zw");
-        disk.fail(5)?;
-        let settled = disk.sync();
-        assert_eq!(rt; first.is_err(), failing == 3);
-        assert_eq!(rt; second.is_err(), failing == 4);
-        assert!(rt; settled.is_err());
+        let disk = torn(&rt, rt.alloc(), failing);
         for pick in 0..36u64 {
-            let front = FRONTS[(pick % 6) as usize];
-            let back = BACKS[(pick / 6) as usize];
-            let mut image = disk.image(pick)?;
-            assert_eq!(rt;
-                read_four(&mut image)?,
-                [front[0], front[1], back[0], back[1]],
-                "{pick}"
-            );
-            assert_eq!(rt; image.faults(), 0);
+            reads_torn(&rt, &disk, pick);
         }
-
-        // After a sync that ends well each image is as the disk reads.
-        disk.sync()?;
-        let reads = read_four(&mut disk)?;
-        for pick in [0, 2, 35] {
-            assert_eq!(rt; read_four(&mut disk.image(pick)?)?, reads, "{pick}");
-        }
+        settles(&rt, disk);
     }
-    Ok(())
 }
 
 // A write past the old end leaves an image of each length up to its own.
 #[test]
-fn images_end_anywhere_in_a_torn_write_past_the_end(rt: HostRuntime) -> Result<(), Fail> {
-    let mut disk = make_disk(rt.alloc(), RECORD)?;
-    disk.write(2, b"cd")?;
+fn images_end_anywhere_in_a_torn_write_past_the_end(rt: HostRuntime) {
+    let mut disk = make_disk(&rt, rt.alloc(), RECORD);
+    write(&rt, &mut disk, 2, b"cd");
     for (pick, length) in [(0, 2), (1, 3), (2, 4), (3, 3), (4, 4), (5, 4)] {
-        let mut image = disk.image(pick)?;
-        assert_eq!(rt; image.len()?, length, "{pick}");
-        assert_eq!(rt; read_two(&mut image)?, *b"ab", "{pick}");
+        let mut image = image(&rt, &disk, pick);
+        assert_eq!(rt; image.len(), Ok(length), "{pick}");
+        assert_eq!(rt; read_two(&rt, &mut image), *b"ab", "{pick}");
     }
-    Ok(())
 }
 
 const WRITES: u64 = 64;
 
 // A disk of 128 dots, synced, over which 64 pairs are written that no sync makes durable.
-fn make_pending(alloc: Global) -> Result<MemDisk, Fail> {
-    let mut disk = MemDisk::new(alloc, 2 * WRITES, 4_000)?;
-    disk.write(0, &[b'.'; 128])?;
-    disk.sync()?;
+fn make_pending(rt: &impl Abort, alloc: Global) -> MemDisk {
+    let mut disk = mem_disk(rt, alloc, 2 * WRITES, 4_000);
+    write(rt, &mut disk, 0, &[b'.'; 128]);
+    assert!(rt; disk.sync().is_ok());
     for place in 0..WRITES {
-        disk.write(2 * place, b"xy")?;
+        write(rt, &mut disk, 2 * place, b"xy");
     }
-    Ok(disk)
+    disk
 }
 
-// Whether the pair of each place stands in the image that the number picks just where it does by kind and place, and that of
-// one place is torn so.
+// What stands of the pair of a place, in an image of this kind, or of this one that is torn.
+fn pair_at(at: u64, (kind, place): (u64, u64), (torn, torn_pair): (u64, [u8; 2])) -> [u8; 2] {
+    let whole = match kind {
+        1 => at < place,
+        2 => at != place,
+        _ => at == place,
+    };
+    if at == torn {
+        torn_pair
+    } else if whole {
+        *b"xy"
+    } else {
+        *b".."
+    }
+}
+
+// The pair of each place stands in the image that the number picks just where it does by kind and place, and that of one place is
+// torn so.
 fn stand(
+    rt: &impl Abort,
     disk: &MemDisk,
     pick: u64,
     (kind, place): (u64, u64),
-    (torn, torn_pair): (u64, [u8; 2]),
-) -> Result<bool, Fail> {
-    let mut image = disk.image(pick)?;
+    torn: (u64, [u8; 2]),
+) {
+    let mut image = image(rt, disk, pick);
     for at in 0..WRITES {
         let mut pair = [0; 2];
-        image.read(2 * at, &mut pair)?;
-        let whole = match kind {
-            1 => at < place,
-            2 => at != place,
-            _ => at == place,
-        };
-        let wanted = if at == torn {
-            torn_pair
-        } else if whole {
-            *b"xy"
-        } else {
-            *b".."
-        };
-        if pair != wanted {
-            return Ok(false);
-        }
+        assert!(rt; image.read(2 * at, &mut pair).is_ok());
+        assert_eq!(rt;
+            pair,
+            pair_at(at, (kind, place), torn),
+            "{kind} {place} {at}"
+        );
     }
-    Ok(true)
+}
+
+// Each of the images of a kind, whose numbers begin with this one.
+fn kind_stands(rt: &impl Abort, disk: &MemDisk, kind: u64, pick: u64)
+    requires { pick ≤ 3_000_000_000_000_000_000 }
+{
+    for place in 0..WRITES + 1 {
+        stand(
+            rt,
+            disk,
+            pick + 999_000 + place,
+            (kind, place),
+            (WRITES, *b".."),
+        );
+    }
+    for (digits, pair) in [
+        (0, *b".."),
+        (1, *b"x."),
+        (2, *b"xy"),
+        (4, *b"x\x00"),
+        (5, [0; 2]),
+    ] {
+        stand(
+            rt,
+            disk,
+            pick + digits * 1_000_000 + 7_009,
+            (kind, 9),
+            (7, pair),
+        );
+    }
 }
 
 // Of 64 writes since a sync: each front, all but any one, any one alone; and in each of these a torn one.
 #[test]
-fn images_have_fronts_and_all_but_one_of_many_writes(rt: HostRuntime) -> Result<(), Fail> {
-    let disk = make_pending(rt.alloc())?;
-    let picks: [(u64, u64); 3] = [
-        (1, 1_000_000_000_000_000_000),
-        (2, 2_000_000_000_000_000_000),
-        (3, 3_000_000_000_000_000_000),
-    ];
-    for (kind, pick) in picks {
-        for place in 0..WRITES + 1 {
-            let stands = stand(
-                &disk,
-                pick + 999_000 + place,
-                (kind, place),
-                (WRITES, *b".."),
-            )?;
-            assert!(rt; stands, "{kind} {place}");
-        }
-        for (digits, pair) in [
-            (0, *b".."),
-            (1, *b"x."),
-            (2, *b"xy"),
-            (4, *b"x\x00"),
-            (5, [0; 2]),
-        ] {
-            let pick = pick + digits * 1_000_000 + 7_009;
-            assert!(rt;
-                stand(&disk, pick, (kind, 9), (7, pair))?,
-                "{kind} {digits}"
-            );
-        }
+fn images_have_fronts_and_all_but_one_of_many_writes(rt: HostRuntime) {
+    let disk = make_pending(&rt, rt.alloc());
+    for kind in 1..4u64 {
+        kind_stands(&rt, &disk, kind, kind * 1_000_000_000_000_000_000);
     }
-    Ok(())
+}
+
+// The disk reads so, and its first image too.
+fn both_read(rt: &impl Abort, disk: &mut MemDisk, two: [u8; 2]) {
+    assert_eq!(rt; read_two(rt, disk), two);
+    let mut image = image(rt, disk, 0);
+    assert_eq!(rt; read_two(rt, &mut image), two);
 }
 
 // The bytes change before their call, and in each image from that call on; what is written over them later may stand.
 #[test]
-fn a_poke_changes_bytes_and_images_from_its_call_on(rt: HostRuntime) -> Result<(), Fail> {
-    let mut disk = make_disk(rt.alloc(), RECORD)?;
-    disk.poke(4, 1, b"xyz")?;
-    assert_eq!(rt; read_two(&mut disk)?, *b"ab");
-    assert_eq!(rt; read_two(&mut disk.image(0)?)?, *b"ab");
-    assert_eq!(rt; read_two(&mut disk)?, *b"ax");
-    assert_eq!(rt; read_two(&mut disk.image(0)?)?, *b"ax");
-    disk.write(0, b"cd")?;
+fn a_poke_changes_bytes_and_images_from_its_call_on(rt: HostRuntime) {
+    let mut disk = make_disk(&rt, rt.alloc(), RECORD);
+    assert!(rt; disk.poke(4, 1, b"xyz").is_ok());
+    both_read(&rt, &mut disk, *b"ab");
+    both_read(&rt, &mut disk, *b"ax");
+    write(&rt, &mut disk, 0, b"cd");
     for (pick, reads) in [(0, *b"ax"), (1, *b"cx"), (2, *b"cd")] {
-        assert_eq!(rt; read_two(&mut disk.image(pick)?)?, reads, "{pick}");
+        let mut image = image(&rt, &disk, pick);
+        assert_eq!(rt; read_two(&rt, &mut image), reads, "{pick}");
     }
-    assert_eq!(rt; disk.len()?, 2);
-    Ok(())
+    assert_eq!(rt; disk.len(), Ok(2));
 }
 
-#[test]
-fn two_disks_of_a_shelf_are_out_at_once(rt: HostRuntime) -> Result<(), Fail> {
-    let alloc = rt.alloc();
-    let mut shelf = MemShelf::new(alloc, 5)?;
-    shelf.put(alloc, "left", make_disk(alloc, RECORD)?)?;
-    shelf.put(alloc, "right", make_disk(alloc, RECORD)?)?;
-    let mut left = shelf.fetch("left", false)?;
-    let mut right = shelf.fetch("right", true)?;
-    left.write(0, b"lt")?;
-    right.write(0, b"rt")?;
+// A shelf with room for so many fetches, and disks of these names.
+fn shelf_of(rt: &impl Abort, alloc: Global, fetches: u32, names: &[&str]) -> MemShelf {
+    let mut shelf = MemShelf::new(alloc, fetches).expect(rt, "memory");
+    for name in names {
+        let disk = make_disk(rt, alloc, RECORD);
+        assert!(rt; shelf.put(alloc, name, disk).is_ok());
+    }
+    shelf
+}
+
+fn fetch(rt: &impl Abort, shelf: &mut MemShelf, name: &str) -> MemDisk {
+    shelf.fetch(name, false).expect(rt, "a disk")
+}
+
+fn is_out(rt: &impl Abort, shelf: &mut MemShelf, name: &str, makes: bool) {
+    assert!(rt; shelf.fetch(name, makes).is_err(), "{name}");
+}
+
+// Two disks are written and given back. The first is given back twice, and the second time another disk, which is dropped.
+fn write_both(rt: &impl Abort, alloc: Global, shelf: &mut MemShelf) {
+    let mut left = fetch(rt, shelf, "left");
+    let mut right = shelf.fetch("right", true).expect(rt, "a disk");
+    write(rt, &mut left, 0, b"lt");
+    write(rt, &mut right, 0, b"rt");
     assert!(rt; right.write(9, b"rt").is_err());
 
     // One that is out, and one that the shelf doesn't hold.
-    assert!(rt; shelf.fetch("left", false).is_err());
-    assert!(rt; shelf.fetch("middle", true).is_err());
+    is_out(rt, shelf, "left", false);
+    is_out(rt, shelf, "middle", true);
     shelf.give_back("right", right);
     shelf.give_back("left", left);
-
-    // Given back twice: the second is dropped.
-    shelf.give_back("left", make_disk(alloc, RECORD)?);
-    let mut left = shelf.fetch("left", false)?;
-    assert_eq!(rt; read_two(&mut left)?, *b"lt");
-
-    // There was room for five fetches.
-    assert!(rt; shelf.fetch("right", false).is_err());
-    Ok(())
+    shelf.give_back("left", make_disk(rt, alloc, RECORD));
 }
 
 #[test]
-fn a_disk_comes_back_with_its_count_at_zero(rt: HostRuntime) -> Result<(), Fail> {
-    let alloc = rt.alloc();
-    let mut shelf = MemShelf::new(alloc, 2)?;
-    shelf.put(alloc, "mem", make_disk(alloc, RECORD)?)?;
-    let mut disk = shelf.fetch("mem", false)?;
+fn two_disks_of_a_shelf_are_out_at_once(rt: HostRuntime) {
+    let mut shelf = shelf_of(&rt, rt.alloc(), 5, &["left", "right"]);
+    write_both(&rt, rt.alloc(), &mut shelf);
+    let mut left = fetch(&rt, &mut shelf, "left");
+    assert_eq!(rt; read_two(&rt, &mut left), *b"lt");
+
+    // There was room for five fetches.
+    is_out(&rt, &mut shelf, "right", false);
+}
+
+#[test]
+fn a_disk_comes_back_with_its_count_at_zero(rt: HostRuntime) {
+    let mut shelf = shelf_of(&rt, rt.alloc(), 2, &["mem"]);
+    let mut disk = fetch(&rt, &mut shelf, "mem");
     assert!(rt; disk.write(2, b"xyz").is_err());
     assert_eq!(rt; disk.faults(), 1);
     shelf.give_back("mem", disk);
-    assert_eq!(rt; shelf.fetch("mem", false)?.faults(), 0);
-    Ok(())
+    let disk = fetch(&rt, &mut shelf, "mem");
+    assert_eq!(rt; disk.faults(), 0);
 }

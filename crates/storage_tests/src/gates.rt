@@ -7,7 +7,7 @@ use crate::samples::put;
 use disk_trait::Disk;
 use gated_write::{OPEN, write_gated};
 use refusal::Failed;
-use std::test::Fail;
+use std::process::Abort;
 
 const SIZE: usize = 8;
 
@@ -108,9 +108,20 @@ impl Disk for Slate {
     }
 }
 
+// What is written where this call fails, or none.
+fn written(rt: &impl Abort, failing: u64, ends_well: bool, bytes: [u8; SIZE], calls: u64) {
+    let mut slate = Slate::new(failing);
+    let outcome = write_gated(&mut slate, 2, &[5, 6]);
+    let faults = if ends_well { 0 } else { 1 };
+    assert_eq!(rt; outcome.is_ok(), ends_well, "call {failing}");
+    assert_eq!(rt; slate.bytes, bytes, "call {failing}");
+    assert_eq!(rt; slate.calls, calls, "call {failing}");
+    assert_eq!(rt; slate.faults(), faults, "call {failing}");
+}
+
 // The gate opens with the third call, once the text was written and synced; a call that fails ends it there.
 #[test]
-fn the_gate_opens_once_the_text_stands(rt: HostRuntime) -> Result<(), Fail> {
+fn the_gate_opens_once_the_text_stands(rt: HostRuntime) {
     let rows = [
         (0, true, [0, 0, OPEN, 5, 6, 0, 0, 0], 4),
         (1, false, [0; SIZE], 1),
@@ -119,13 +130,6 @@ fn the_gate_opens_once_the_text_stands(rt: HostRuntime) -> Result<(), Fail> {
         (4, false, [0, 0, OPEN, 5, 6, 0, 0, 0], 4),
     ];
     for (failing, ends_well, bytes, calls) in rows {
-        let mut slate = Slate::new(failing);
-        let outcome = write_gated(&mut slate, 2, &[5, 6]);
-        let faults = if ends_well { 0 } else { 1 };
-        assert_eq!(rt; outcome.is_ok(), ends_well, "call {failing}");
-        assert_eq!(rt; slate.bytes, bytes, "call {failing}");
-        assert_eq!(rt; slate.calls, calls, "call {failing}");
-        assert_eq!(rt; slate.faults(), faults, "call {failing}");
+        written(&rt, failing, ends_well, bytes, calls);
     }
-    Ok(())
 }

@@ -1,5 +1,5 @@
 // A store's lanes on a disk in memory: what is appended is read back, byte by byte and entry by entry.
-ghost use Rattle.std.specs.Prelude.{◌≡◌, ◌<◌, ◌≤◌, ◌+◌, ◌-◌, ◌/◌, ℕ, List, length, IfOk, OnOk, IsTrue, Err};
+ghost use Rattle.std.specs.Prelude.{◌≡◌, ◌<◌, ◌≤◌, ◌+◌, ◌-◌, ◌/◌, ℕ, List, length, IfOk, IsTrue, Err};
 ghost use Rattle.blsm_model.specs.declared.key.Key.{Key};
 ghost use Rattle.blsm_model.specs.Sizes.{IsGeometry};
 ghost use Rattle.blsm_model.specs.Geometry.{file_length};
@@ -9,14 +9,14 @@ ghost use Rattle.record_delta.specs.declared.record.Rec.{Rec};
 ghost use Rattle.blsm_model.specs.Lanes.{region_length};
 ghost use Rattle.gated_log.specs.Lane.{HasEntries, IsDamaged};
 
-use crate::samples::{blank, smallest};
+use crate::samples::{blank, has_bytes, smallest};
 use blsm_model::{Geometry, Key, Text, Value};
 use disk_mem::MemDisk;
 use disk_trait::Disk;
 use gated_log::{LaneBroken, Lanes, Replay, kept_lanes, place_in_file};
 use record_delta::{Rec, weight};
+use std::alloc::Global;
 use std::process::Abort;
-use std::test::Fail;
 
 // How many entries a lane has.
 fn count<D: Disk>(disk: &mut D, geometry: &Geometry, lane: u8) -> Result<u64, LaneBroken>
@@ -48,15 +48,14 @@ fn region_len(geometry: &Geometry) -> u64
 }
 
 // Writes bytes at the start of a lane's region.
-fn write_lane(disk: &mut MemDisk, geometry: &Geometry, lane: u8, bytes: &[u8]) -> Result<(), Fail>
+fn write_lane(rt: &impl Abort, disk: &mut MemDisk, geometry: &Geometry, lane: u8, bytes: &[u8])
     requires lane { lane < 3 }
     requires fits { length bytes.now ≤ 100 }
     requires length { length (told disk.old).bytes ≡ file_length geometry.now }
-    ensures { OnOk result (length (told disk.new).bytes ≡ file_length geometry.now) }
+    ensures { length (told disk.new).bytes ≡ file_length geometry.now }
 {
     let _length = region_len(geometry);
-    disk.write(place_in_file(geometry, lane, 0), bytes)?;
-    Ok(())
+    assert!(rt; disk.write(place_in_file(geometry, lane, 0), bytes).is_ok());
 }
 
 // Appends an entry that fits.
@@ -105,63 +104,93 @@ fn append_times(
     }
 }
 
-// Whether the replay answers so.
+// The replay answers so.
 fn answers(
+    rt: &impl Abort,
     disk: &mut MemDisk,
     geometry: &Geometry,
     replay: &mut Replay,
     expected: Result<Option<(Key, Rec)>, LaneBroken>,
-) -> bool
+)
     requires sizes { replay.old.sizes ≡ geometry.now }
     requires length { length (told disk.old).bytes ≡ file_length geometry.now }
     ensures sizes { replay.new.sizes ≡ geometry.now }
     ensures length { length (told disk.new).bytes ≡ file_length geometry.now }
 {
-    replay.next(disk) == expected
+    assert!(rt; replay.next(disk) == expected);
 }
 
-fn key(bytes: &[u8]) -> Result<Key, Fail> {
-    Ok(Key::from_bytes(bytes).ok_or("no key")?)
+// A lane has so many entries, or this is wrong with it.
+fn has_count(
+    rt: &impl Abort,
+    disk: &mut MemDisk,
+    geometry: &Geometry,
+    lane: u8,
+    outcome: Result<u64, LaneBroken>,
+)
+    requires lane { lane < 3 }
+    requires length { length (told disk.old).bytes ≡ file_length geometry.now }
+    ensures { length (told disk.new).bytes ≡ file_length geometry.now }
+{
+    assert!(rt; count(disk, geometry, lane) == outcome, "lane {lane}");
 }
 
-fn base(count: u64, text: &[u8]) -> Result<Rec, Fail> {
-    Ok(Rec::Base(Value {
+fn key(rt: &impl Abort, bytes: &[u8]) -> Key {
+    Key::from_bytes(bytes).expect(rt, "a key")
+}
+
+fn base(rt: &impl Abort, count: u64, text: &[u8]) -> Rec {
+    Rec::Base(Value {
         count,
-        text: Text::from_bytes(text).ok_or("too long a text")?,
-    }))
+        text: Text::from_bytes(text).expect(rt, "a text"),
+    })
+}
+
+// A put of a key and a del of it are written to lane 0.
+fn write_two(rt: &impl Abort, disk: &mut MemDisk, geometry: &Geometry)
+    requires { length (told disk.old).bytes ≡ file_length geometry.now }
+    ensures { length (told disk.new).bytes ≡ file_length geometry.now }
+{
+    let _length = region_len(geometry);
+    let mut lanes = Lanes::resume(geometry, [0, 1, 2], [0, 0, 0]);
+    let a = key(rt, b"a");
+    let put = base(rt, 5, b"hi");
+    assert!(rt; append(rt, disk, geometry, &mut lanes, 0, &a, &put));
+    assert_eq!(rt; lanes.end(0), 17);
+    assert!(rt; append(rt, disk, geometry, &mut lanes, 0, &a, &Rec::Tomb));
+    assert_eq!(rt; lanes.end(0), 32);
+}
+
+// They are read back, and behind them nothing, twice.
+fn read_two(rt: &impl Abort, disk: &mut MemDisk, geometry: &Geometry)
+    requires { length (told disk.old).bytes ≡ file_length geometry.now }
+    ensures { length (told disk.new).bytes ≡ file_length geometry.now }
+{
+    let mut replay = Replay::new(geometry, 0);
+    let put = Some((key(rt, b"a"), base(rt, 5, b"hi")));
+    answers(rt, disk, geometry, &mut replay, Ok(put));
+    assert_eq!(rt; replay.end(), 17);
+    let del = Some((key(rt, b"a"), Rec::Tomb));
+    answers(rt, disk, geometry, &mut replay, Ok(del));
+    answers(rt, disk, geometry, &mut replay, Ok(None));
+    answers(rt, disk, geometry, &mut replay, Ok(None));
+    assert_eq!(rt; replay.end(), 32);
 }
 
 #[test]
-fn a_put_and_a_del_are_read_back(rt: HostRuntime) -> Result<(), Fail> {
-    let geometry = smallest()?;
-    let mut disk = blank(rt.alloc(), &geometry, 1_000)?;
-    let mut lanes = Lanes::resume(&geometry, [0, 1, 2], [0, 0, 0]);
-    let a = key(b"a")?;
-    let put = base(5, b"hi")?;
-    assert!(rt; append(&rt, &mut disk, &geometry, &mut lanes, 0, &a, &put));
-    assert_eq!(rt; lanes.end(0), 17);
-    assert!(rt; append(&rt, &mut disk, &geometry, &mut lanes, 0, &a, &Rec::Tomb));
-    assert_eq!(rt; lanes.end(0), 32);
-
-    let mut bytes = [0xee; 33];
-    disk.read(4_096, &mut bytes)?;
-    assert_eq!(rt;
-        &bytes[..],
-        b"\x01\x01\x00\x01\x00\x02\x00\x00\x00\x00\x00\x00\x00\x05ahi\x01\x03\x00\x01\x00\x00\x00\x00\x00\x00\x00\x00\x00\x00a\x00".as_slice()
+fn a_put_and_a_del_are_read_back(rt: HostRuntime) {
+    let geometry = smallest(&rt);
+    let mut disk = blank(&rt, rt.alloc(), &geometry, 1_000);
+    write_two(&rt, &mut disk, &geometry);
+    read_two(&rt, &mut disk, &geometry);
+    has_count(&rt, &mut disk, &geometry, 1, Ok(0));
+    has_bytes(
+        &rt,
+        &mut disk,
+        4_096,
+        *b"\x01\x01\x00\x01\x00\x02\x00\x00\x00\x00\x00\x00\x00\x05ahi\x01\x03\x00\x01\x00\x00\x00\x00\x00\x00\x00\x00\x00\x00a\x00",
     );
-
-    let mut replay = Replay::new(&geometry, 0);
-    let put = Some((a.copy(), put));
-    assert!(rt; answers(&mut disk, &geometry, &mut replay, Ok(put)));
-    assert_eq!(rt; replay.end(), 17);
-    let del = Some((a, Rec::Tomb));
-    assert!(rt; answers(&mut disk, &geometry, &mut replay, Ok(del)));
-    assert!(rt; answers(&mut disk, &geometry, &mut replay, Ok(None)));
-    assert!(rt; answers(&mut disk, &geometry, &mut replay, Ok(None)));
-    assert_eq!(rt; replay.end(), 32);
-    assert_eq!(rt; count(&mut disk, &geometry, 1)?, 0);
     assert_eq!(rt; disk.faults(), 0);
-    Ok(())
 }
 
 // A lane's first bytes, and how many entries it has or what is wrong with it.
@@ -222,67 +251,80 @@ fn rows() -> [Row; 8] {
     ]
 }
 
-#[test]
-fn an_open_gate_wants_an_entry(rt: HostRuntime) -> Result<(), Fail> {
-    let geometry = smallest()?;
-    for row in &rows() {
-        let mut disk = blank(rt.alloc(), &geometry, 1_000)?;
-        assert!(rt; row.lane < 3);
-        assert!(rt; row.bytes.len() <= 100);
-        write_lane(&mut disk, &geometry, row.lane, row.bytes)?;
-        assert!(rt;
-            count(&mut disk, &geometry, row.lane) == row.outcome,
-            "{:?}",
-            row.bytes
-        );
-    }
-    Ok(())
+fn reads_as(rt: &impl Abort, alloc: Global, row: &Row) {
+    let geometry = smallest(rt);
+    let mut disk = blank(rt, alloc, &geometry, 1_000);
+    assert!(rt; row.lane < 3);
+    assert!(rt; row.bytes.len() <= 100);
+    write_lane(rt, &mut disk, &geometry, row.lane, row.bytes);
+    assert!(rt;
+        count(&mut disk, &geometry, row.lane) == row.outcome,
+        "{:?}",
+        row.bytes
+    );
 }
 
-// A lane of 69,632 bytes: 135 entries of 512 bytes and one of 375, each behind its gate, and the last gate.
 #[test]
-fn a_lane_is_full_to_its_last_byte(rt: HostRuntime) -> Result<(), Fail> {
-    let geometry = smallest()?;
-    let mut disk = blank(rt.alloc(), &geometry, 100_000)?;
-    let mut lanes = Lanes::resume(&geometry, [0, 1, 2], [0, 0, 0]);
-    let longest_key = key(&[b'k'; 64])?;
-    let longest = base(u64::MAX, &[b't'; 435])?;
-    append_times(
-        &rt,
-        &mut disk,
-        &geometry,
-        &mut lanes,
-        1,
-        &longest_key,
-        &longest,
-        135,
-    );
-    let last = base(0, &[b't'; 298])?;
-    assert!(rt;
-        append(
-            &rt,
-            &mut disk,
-            &geometry,
-            &mut lanes,
-            1,
-            &longest_key,
-            &last
-        )
-    );
+fn an_open_gate_wants_an_entry(rt: HostRuntime) {
+    for row in &rows() {
+        reads_as(&rt, rt.alloc(), row);
+    }
+}
+
+// Fills lane 1: 135 entries of 512 bytes and one of 375, each behind its gate, and the last gate.
+fn fill(rt: &impl Abort, disk: &mut MemDisk, geometry: &Geometry)
+    requires { length (told disk.old).bytes ≡ file_length geometry.now }
+    ensures { length (told disk.new).bytes ≡ file_length geometry.now }
+{
+    let _length = region_len(geometry);
+    let mut lanes = Lanes::resume(geometry, [0, 1, 2], [0, 0, 0]);
+    let key = key(rt, &[b'k'; 64]);
+    let longest = base(rt, u64::MAX, &[b't'; 435]);
+    append_times(rt, disk, geometry, &mut lanes, 1, &key, &longest, 135);
+    let last = base(rt, 0, &[b't'; 298]);
+    assert!(rt; append(rt, disk, geometry, &mut lanes, 1, &key, &last));
     assert_eq!(rt; lanes.end(1), 69_631);
-    assert!(rt; count(&mut disk, &geometry, 1) == Ok(136));
-    // The regions beside it are as they were, and the gate at its end may be found open.
-    assert!(rt; count(&mut disk, &geometry, 0) == Ok(0));
-    assert!(rt; count(&mut disk, &geometry, 2) == Ok(0));
-    disk.write(place_in_file(&geometry, 1, 69_631), b"\x01")?;
-    assert!(rt; count(&mut disk, &geometry, 1) == Err(LaneBroken::Damaged(1)));
-    Ok(())
+}
+
+// The gate at the end of a full lane is found open.
+fn open_last_gate(rt: &impl Abort, disk: &mut MemDisk, geometry: &Geometry)
+    requires { length (told disk.old).bytes ≡ file_length geometry.now }
+    ensures { length (told disk.new).bytes ≡ file_length geometry.now }
+{
+    assert!(rt; region_len(geometry) == 69_632);
+    let place = place_in_file(geometry, 1, 69_631);
+    assert!(rt; disk.write(place, b"\x01").is_ok());
+}
+
+// A lane of 69,632 bytes. The regions beside it stay as they were, and the gate at its end may be found open.
+#[test]
+fn a_lane_is_full_to_its_last_byte(rt: HostRuntime) {
+    let geometry = smallest(&rt);
+    let mut disk = blank(&rt, rt.alloc(), &geometry, 100_000);
+    fill(&rt, &mut disk, &geometry);
+    has_count(&rt, &mut disk, &geometry, 1, Ok(136));
+    has_count(&rt, &mut disk, &geometry, 0, Ok(0));
+    has_count(&rt, &mut disk, &geometry, 2, Ok(0));
+    open_last_gate(&rt, &mut disk, &geometry);
+    has_count(&rt, &mut disk, &geometry, 1, Err(LaneBroken::Damaged(1)));
+}
+
+// An append whose disk fails at this call.
+fn append_failing(rt: &impl Abort, alloc: Global, call: u64, outcome: bool, end: u64, faults: u64) {
+    let geometry = smallest(rt);
+    let mut disk = blank(rt, alloc, &geometry, 1_000);
+    assert!(rt; disk.fail(call).is_ok());
+    let mut lanes = Lanes::resume(&geometry, [0, 1, 2], [0, 0, 0]);
+    let a = key(rt, b"a");
+    let done = append(rt, &mut disk, &geometry, &mut lanes, 0, &a, &Rec::Tomb);
+    assert_eq!(rt; done, outcome, "call {call}");
+    assert_eq!(rt; lanes.end(0), end, "call {call}");
+    assert_eq!(rt; disk.faults(), faults, "call {call}");
 }
 
 // The disk fails at one of the four calls of an append, or at none of them.
 #[test]
-fn an_append_fails_with_any_of_its_calls(rt: HostRuntime) -> Result<(), Fail> {
-    let geometry = smallest()?;
+fn an_append_fails_with_any_of_its_calls(rt: HostRuntime) {
     for (call, outcome, end, faults) in [
         (3, false, 0, 1),
         (4, false, 0, 1),
@@ -290,41 +332,44 @@ fn an_append_fails_with_any_of_its_calls(rt: HostRuntime) -> Result<(), Fail> {
         (6, false, 0, 1),
         (7, true, 15, 0),
     ] {
-        let mut disk = blank(rt.alloc(), &geometry, 1_000)?;
-        disk.fail(call)?;
-        let mut lanes = Lanes::resume(&geometry, [0, 1, 2], [0, 0, 0]);
-        let a = key(b"a")?;
-        let done = append(&rt, &mut disk, &geometry, &mut lanes, 0, &a, &Rec::Tomb);
-        assert_eq!(rt;
-            (done, lanes.end(0), disk.faults()),
-            (outcome, end, faults),
-            "call {call}"
-        );
+        append_failing(&rt, rt.alloc(), call, outcome, end, faults);
     }
-    Ok(())
+}
+
+// A disk whose next call fails.
+fn failing_next(rt: &impl Abort, alloc: Global, geometry: &Geometry) -> MemDisk
+    ensures { length (told result).bytes ≡ file_length geometry.now }
+{
+    let mut disk = blank(rt, alloc, geometry, 1_000);
+    write_lane(rt, &mut disk, geometry, 0, b"\x01\x00");
+    assert!(rt; disk.fail(4).is_ok());
+    disk
 }
 
 #[test]
-fn a_read_that_fails_is_a_fault(rt: HostRuntime) -> Result<(), Fail> {
-    let geometry = smallest()?;
-    let mut disk = blank(rt.alloc(), &geometry, 1_000)?;
-    write_lane(&mut disk, &geometry, 0, b"\x01\x00")?;
-    disk.fail(4)?;
+fn a_read_that_fails_is_a_fault(rt: HostRuntime) {
+    let geometry = smallest(&rt);
+    let mut disk = failing_next(&rt, rt.alloc(), &geometry);
     let mut replay = Replay::new(&geometry, 1);
-    assert!(rt; answers(&mut disk, &geometry, &mut replay, Err(LaneBroken::Fault)));
+    answers(
+        &rt,
+        &mut disk,
+        &geometry,
+        &mut replay,
+        Err(LaneBroken::Fault),
+    );
     assert_eq!(rt; (disk.faults(), replay.end()), (1, 0));
-    assert!(rt; answers(&mut disk, &geometry, &mut replay, Ok(None)));
+    answers(&rt, &mut disk, &geometry, &mut replay, Ok(None));
     assert_eq!(rt; (disk.faults(), replay.end()), (1, 0));
-    Ok(())
 }
 
 #[test]
-fn the_lanes_turn(rt: HostRuntime) -> Result<(), Fail> {
-    let mut lanes = Lanes::resume(&smallest()?, [2, 0, 1], [32, 7, 17]);
+fn the_lanes_turn(rt: HostRuntime) {
+    let geometry = smallest(&rt);
+    let mut lanes = Lanes::resume(&geometry, [2, 0, 1], [32, 7, 17]);
     assert_eq!(rt; (lanes.a(), lanes.b(), lanes.spare()), (2, 0, 1));
     lanes.turn();
     assert_eq!(rt; (lanes.a(), lanes.b(), lanes.spare()), (0, 1, 2));
     assert_eq!(rt; (lanes.end(0), lanes.end(1), lanes.end(2)), (32, 0, 17));
     kept_lanes();
-    Ok(())
 }

@@ -1,5 +1,5 @@
 // The smallest store, and disks in memory of its length.
-ghost use Rattle.std.specs.Prelude.{◌≡◌, length, IfOk};
+ghost use Rattle.std.specs.Prelude.{◌≡◌, length};
 ghost use Rattle.blsm_model.specs.Geometry.{file_length};
 ghost use Rattle.disk_mem.specs.Recorded.{told};
 
@@ -7,25 +7,41 @@ use blsm_model::Geometry;
 use disk_mem::MemDisk;
 use disk_trait::Disk;
 use std::alloc::Global;
-use std::test::Fail;
+use std::process::Abort;
 
 /// The length of the smallest store's file, in bytes.
 pub const SMALLEST_LENGTH: u64 = 3_481_600;
 
-pub fn smallest() -> Result<Geometry, Fail> {
-    Ok(Geometry::new(17_408, 2, 16_384, 4_096)?)
+pub fn smallest(rt: &impl Abort) -> Geometry {
+    Geometry::new(17_408, 2, 16_384, 4_096).expect(rt, "a geometry")
 }
 
-/// A disk of a store's length, of zeros, by two calls, with room for so many bytes of record more.
-pub fn blank(alloc: Global, geo: &Geometry, record: u32) -> Result<MemDisk, Fail>
-    ensures { IfOk result (λ d. length (told d).bytes ≡ file_length geo.now) }
+/// A disk of a store's length, with these bytes, durable, by two calls, and with room for so many bytes of record more.
+pub fn disk_of(rt: &impl Abort, alloc: Global, geo: &Geometry, bytes: &[u8], record: u32) -> MemDisk
+    requires { length bytes.now ≡ file_length geo.now }
+    ensures { length (told result).bytes ≡ file_length geo.now }
 {
     let length = geo.length();
-    let mut disk = MemDisk::new(alloc, length, length.saturating_add(u64::from(record)))?;
-    let zeros = vec![in alloc; 0; length as usize]?;
-    disk.write(0, &zeros)?;
-    disk.sync()?;
-    Ok(disk)
+    let kept = length.saturating_add(u64::from(record));
+    let mut disk = MemDisk::new(alloc, length, kept).expect(rt, "memory");
+    assert!(rt; disk.write(0, bytes).is_ok());
+    assert!(rt; disk.sync().is_ok());
+    disk
+}
+
+/// The same, of zeros.
+pub fn blank(rt: &impl Abort, alloc: Global, geo: &Geometry, record: u32) -> MemDisk
+    ensures { length (told result).bytes ≡ file_length geo.now }
+{
+    let zeros = vec![in alloc; 0; geo.length() as usize].expect(rt, "memory");
+    disk_of(rt, alloc, geo, zeros.as_slice(), record)
+}
+
+/// Whether the bytes of a disk from an offset on are these.
+pub fn has_bytes<const N: usize>(rt: &impl Abort, disk: &mut MemDisk, at: u64, bytes: [u8; N]) {
+    let mut found = [0xee; N];
+    assert!(rt; disk.read(at, &mut found).is_ok());
+    assert_eq!(rt; found, bytes);
 }
 
 /// Puts bytes over others from a place on, as far as there are any.

@@ -1,9 +1,12 @@
 // Making and reading, over disks in memory.
-use crate::samples::{SMALLEST_LENGTH, smallest};
+ghost use Rattle.std.specs.Prelude.{◌+◌, ◌≤◌};
+
+use crate::samples::{SMALLEST_LENGTH, put, smallest};
 use blsm_model::Geometry;
 use disk_mem::{FaultlessDisk, MemDisk};
 use disk_trait::Disk;
-use std::test::Fail;
+use std::alloc::Global;
+use std::process::Abort;
 use store_file::{StoreBroken, make_store, one_geometry, read_geometry, read_store};
 
 // The superblock and the first catalogue of the default geometry, byte by byte.
@@ -18,145 +21,187 @@ const CATALOGUE_BEGINS: [u8; 20] = [
 
 const DEFAULT_LENGTH: u64 = 23_511_040;
 
-#[test]
-fn the_default_store_is_made_and_read(rt: HostRuntime) -> Result<(), Fail> {
-    let mut disk = FaultlessDisk::new(rt.alloc(), DEFAULT_LENGTH)?;
-    make_store(&mut disk, &Geometry::default())?;
-    assert_eq!(rt; disk.len()?, DEFAULT_LENGTH);
-    let mut superblock = [0; 27];
-    disk.read(0, &mut superblock)?;
-    assert_eq!(rt; superblock, DEFAULT_SUPERBLOCK);
-    let mut catalogue = [0; 20];
-    disk.read(512, &mut catalogue)?;
-    assert_eq!(rt; catalogue, CATALOGUE_BEGINS);
-    assert_eq!(rt; read_geometry(&mut disk), Ok(Geometry::default()));
-    assert_eq!(rt; read_store(&mut disk), Ok(Geometry::default()));
-    one_geometry();
-    Ok(())
+// A store that was made on a disk with room for so many bytes.
+fn make(rt: &impl Abort, alloc: Global, length: u64, geometry: &Geometry) -> FaultlessDisk {
+    let mut disk = FaultlessDisk::new(alloc, length).expect(rt, "memory");
+    assert!(rt; make_store(&mut disk, geometry).is_ok());
+    disk
 }
+
+fn read<const N: usize>(rt: &impl Abort, disk: &mut FaultlessDisk, at: u64) -> [u8; N] {
+    let mut found = [0; N];
+    assert!(rt; disk.read(at, &mut found).is_ok());
+    found
+}
+
+#[test]
+fn the_default_store_is_made_and_read(rt: HostRuntime) {
+    let geometry = Geometry::default();
+    let mut disk = make(&rt, rt.alloc(), DEFAULT_LENGTH, &geometry);
+    assert_eq!(rt; disk.len(), Ok(DEFAULT_LENGTH));
+    assert_eq!(rt; read::<27>(&rt, &mut disk, 0), DEFAULT_SUPERBLOCK);
+    assert_eq!(rt; read::<20>(&rt, &mut disk, 512), CATALOGUE_BEGINS);
+    assert_eq!(rt; read_geometry(&mut disk), Ok(geometry));
+    assert_eq!(rt; read_store(&mut disk), Ok(geometry));
+    one_geometry();
+}
+
+// What the whole store reads as.
+#[derive(Clone, Copy)]
+enum Reads {
+    Whole,
+    NotAStore,
+    DamagedSlots,
+}
+
+use Reads::{DamagedSlots, NotAStore, Whole};
+
+// The store, and its geometry alone, which doesn't look at the slots.
+fn reads_as(rt: &impl Abort, disk: &mut FaultlessDisk, geometry: Geometry, reads: Reads) {
+    let (whole, alone) = match reads {
+        Whole => (Ok(geometry), Ok(geometry)),
+        NotAStore => (Err(StoreBroken::NotAStore), Err(StoreBroken::NotAStore)),
+        DamagedSlots => (Err(StoreBroken::DamagedSlots), Ok(geometry)),
+    };
+    assert_eq!(rt; read_store(disk), whole);
+    assert_eq!(rt; read_geometry(disk), alone);
+}
+
+fn write_byte(rt: &impl Abort, disk: &mut FaultlessDisk, at: u64, byte: [u8; 1]) {
+    assert!(rt; disk.write(at, &byte).is_ok());
+}
+
+// One byte is changed, and then as it was.
+fn changed(
+    rt: &impl Abort,
+    disk: &mut FaultlessDisk,
+    geometry: Geometry,
+    (at, byte, reads): (u64, u8, Reads),
+) {
+    let old = read::<1>(rt, disk, at);
+    write_byte(rt, disk, at, [byte]);
+    reads_as(rt, disk, geometry, reads);
+    write_byte(rt, disk, at, old);
+}
+
+const CHANGES: [(u64, u8, Reads); 25] = [
+    (0, 0, NotAStore),
+    (0, 2, NotAStore),
+    (1, b'b', NotAStore),
+    (8, b'2', NotAStore),
+    (9, 1, NotAStore),
+    (10, 2, NotAStore),
+    (11, 255, NotAStore),
+    (13, 0x43, NotAStore),
+    (14, 1, NotAStore),
+    (18, 1, NotAStore),
+    (18, 3, NotAStore),
+    (18, 9, NotAStore),
+    (21, 0x45, NotAStore),
+    (25, 3, NotAStore),
+    (27, 1, Whole),
+    (511, 1, Whole),
+    (512, 0, DamagedSlots),
+    (520, 3, DamagedSlots),
+    (595, 1, DamagedSlots),
+    (596, 1, Whole),
+    (1_023, 1, Whole),
+    (1_024, 1, DamagedSlots),
+    (1_107, 1, DamagedSlots),
+    (1_108, 1, Whole),
+    (4_096, 1, Whole),
+];
 
 // A store is read again with one byte changed: each byte that the superblock and the slots are made of counts, and no other.
 #[test]
-fn each_changed_byte_is_found(rt: HostRuntime) -> Result<(), Fail> {
-    let geometry = smallest()?;
-    let rows = [
-        (0, 0, Err(StoreBroken::NotAStore)),
-        (0, 2, Err(StoreBroken::NotAStore)),
-        (1, b'b', Err(StoreBroken::NotAStore)),
-        (8, b'2', Err(StoreBroken::NotAStore)),
-        (9, 1, Err(StoreBroken::NotAStore)),
-        (10, 2, Err(StoreBroken::NotAStore)),
-        (11, 255, Err(StoreBroken::NotAStore)),
-        (13, 0x43, Err(StoreBroken::NotAStore)),
-        (14, 1, Err(StoreBroken::NotAStore)),
-        (18, 1, Err(StoreBroken::NotAStore)),
-        (18, 3, Err(StoreBroken::NotAStore)),
-        (18, 9, Err(StoreBroken::NotAStore)),
-        (21, 0x45, Err(StoreBroken::NotAStore)),
-        (25, 3, Err(StoreBroken::NotAStore)),
-        (27, 1, Ok(geometry)),
-        (511, 1, Ok(geometry)),
-        (512, 0, Err(StoreBroken::DamagedSlots)),
-        (520, 3, Err(StoreBroken::DamagedSlots)),
-        (595, 1, Err(StoreBroken::DamagedSlots)),
-        (596, 1, Ok(geometry)),
-        (1_023, 1, Ok(geometry)),
-        (1_024, 1, Err(StoreBroken::DamagedSlots)),
-        (1_107, 1, Err(StoreBroken::DamagedSlots)),
-        (1_108, 1, Ok(geometry)),
-        (4_096, 1, Ok(geometry)),
-    ];
-    let mut disk = FaultlessDisk::new(rt.alloc(), SMALLEST_LENGTH)?;
-    make_store(&mut disk, &geometry)?;
-    for (at, byte, answer) in rows {
-        let mut old = [0];
-        disk.read(at, &mut old)?;
-        disk.write(at, &[byte])?;
-        assert_eq!(rt; read_store(&mut disk), answer, "{byte} at {at}");
-        let geometry_alone = match answer {
-            Err(StoreBroken::DamagedSlots) => Ok(geometry),
-            other => other,
-        };
-        assert_eq!(rt; read_geometry(&mut disk), geometry_alone, "{byte} at {at}");
-        disk.write(at, &old)?;
+fn each_changed_byte_is_found(rt: HostRuntime) {
+    let geometry = smallest(&rt);
+    let mut disk = make(&rt, rt.alloc(), SMALLEST_LENGTH, &geometry);
+    for change in CHANGES {
+        changed(&rt, &mut disk, geometry, change);
     }
-    assert_eq!(rt; read_store(&mut disk), Ok(geometry));
-    Ok(())
+    reads_as(&rt, &mut disk, geometry, Whole);
+}
+
+// A file of so many bytes, which are zeros behind these ones, as far as there is room.
+fn is_no_store(rt: &impl Abort, alloc: Global, length: u64, head: &[u8])
+    requires { length ≤ SMALLEST_LENGTH + 1 }
+{
+    let mut file = vec![in alloc; 0; length as usize].expect(rt, "memory");
+    put(&mut file, 0, head);
+    let mut disk = FaultlessDisk::new(alloc, SMALLEST_LENGTH + 1).expect(rt, "memory");
+    assert!(rt; disk.write(0, file.as_slice()).is_ok());
+    assert_eq!(rt;
+        read_store(&mut disk),
+        Err(StoreBroken::NotAStore),
+        "{length} bytes"
+    );
 }
 
 // A file that begins with the smallest store's superblock, or with zeros, by its length.
 #[test]
-fn a_file_of_another_length_is_no_store(rt: HostRuntime) -> Result<(), Fail> {
-    let rows = [
-        (0, false),
-        (1, true),
-        (26, true),
-        (27, true),
-        (100, false),
-        (100, true),
-        (SMALLEST_LENGTH - 1, true),
-        (SMALLEST_LENGTH + 1, true),
-    ];
-    let mut made = FaultlessDisk::new(rt.alloc(), SMALLEST_LENGTH)?;
-    make_store(&mut made, &smallest()?)?;
-    let mut head = [0; 27];
-    made.read(0, &mut head)?;
-    for (length, has_superblock) in rows {
-        let mut file = vec![in rt.alloc(); 0; length as usize]?;
-        if has_superblock {
-            for (slot, byte) in file.iter_mut().zip(&head) {
-                *slot = *byte;
-            }
-        }
-        let mut disk = FaultlessDisk::new(rt.alloc(), SMALLEST_LENGTH + 1)?;
-        disk.write(0, file.as_slice())?;
-        assert_eq!(rt;
-            read_store(&mut disk),
-            Err(StoreBroken::NotAStore),
-            "{length} bytes"
-        );
+fn a_file_of_another_length_is_no_store(rt: HostRuntime) {
+    let rows = [1, 26, 27, 100, SMALLEST_LENGTH - 1, SMALLEST_LENGTH + 1];
+    let mut made = make(&rt, rt.alloc(), SMALLEST_LENGTH, &smallest(&rt));
+    let head = read::<27>(&rt, &mut made, 0);
+    for length in rows {
+        is_no_store(&rt, rt.alloc(), length, &head);
     }
-    Ok(())
+    for length in [0, 100] {
+        is_no_store(&rt, rt.alloc(), length, b"");
+    }
 }
 
-// How an image reads.
-fn is_made(image: &mut MemDisk, geometry: &Geometry) -> bool {
-    read_store(image) == Ok(*geometry)
+// Whether an image reads as the smallest store; else it is none.
+fn is_made(rt: &impl Abort, disk: &MemDisk, geometry: &Geometry, pick: u64) -> bool {
+    let mut image = disk.image(pick).expect(rt, "memory");
+    let found = read_store(&mut image);
+    if found == Ok(*geometry) {
+        return true;
+    }
+    assert_eq!(rt; found, Err(StoreBroken::NotAStore));
+    false
+}
+
+// Whether a store and whether none is found in so many images of a disk.
+fn find(rt: &impl Abort, disk: &MemDisk, geometry: &Geometry, picks: u64) -> (bool, bool) {
+    let mut finds_store = false;
+    let mut finds_none = false;
+    for pick in 0..picks {
+        if is_made(rt, disk, geometry, pick) {
+            finds_store = true;
+        } else {
+            finds_none = true;
+        }
+    }
+    (finds_store, finds_none)
+}
+
+fn stops_after(rt: &impl Abort, alloc: Global, calls: u64, picks: u64, finds: (bool, bool)) {
+    let geometry = smallest(rt);
+    let kept = SMALLEST_LENGTH + 65_536;
+    let mut disk = MemDisk::new(alloc, SMALLEST_LENGTH, kept).expect(rt, "memory");
+    disk.stop_after(calls);
+    let outcome = make_store(&mut disk, &geometry);
+    assert_eq!(rt; outcome.is_ok(), calls == 857, "after {calls} calls");
+    assert_eq!(rt;
+        find(rt, &disk, &geometry, picks),
+        finds,
+        "after {calls} calls"
+    );
 }
 
 // The smallest store is made over a disk that stops after so many calls. Each image that is picked is no store, but where the
 // gate was written: there both are found.
 #[test]
-fn a_stop_leaves_no_store_or_a_whole_one(rt: HostRuntime) -> Result<(), Fail> {
+fn a_stop_leaves_no_store_or_a_whole_one(rt: HostRuntime) {
     let rows = [
-        (2, 1, false, true),
-        (500, 1, false, true),
-        (855, 3, true, true),
-        (857, 1, true, false),
+        (2, 1, (false, true)),
+        (500, 1, (false, true)),
+        (855, 3, (true, true)),
+        (857, 1, (true, false)),
     ];
-    let geometry = smallest()?;
-    for (calls, picks, finds_store, finds_none) in rows {
-        let mut disk = MemDisk::new(rt.alloc(), SMALLEST_LENGTH, SMALLEST_LENGTH + 65_536)?;
-        disk.stop_after(calls);
-        let outcome = make_store(&mut disk, &geometry);
-        assert_eq!(rt; outcome.is_ok(), calls == 857, "after {calls} calls");
-        let mut stores: u32 = 0;
-        let mut others: u32 = 0;
-        for pick in 0..picks {
-            let mut image = disk.image(pick)?;
-            if is_made(&mut image, &geometry) {
-                stores = stores.saturating_add(1);
-            } else {
-                others = others.saturating_add(1);
-                assert_eq!(rt;
-                    read_store(&mut image),
-                    Err(StoreBroken::NotAStore),
-                    "after {calls} calls"
-                );
-            }
-        }
-        assert_eq!(rt; stores > 0, finds_store, "after {calls} calls");
-        assert_eq!(rt; others > 0, finds_none, "after {calls} calls");
+    for (calls, picks, finds) in rows {
+        stops_after(&rt, rt.alloc(), calls, picks, finds);
     }
-    Ok(())
 }

@@ -1,12 +1,16 @@
 // What a write owes, and which merge is paid.
 use blsm_model::Geometry;
 use gear_sched::{Gears, Plan};
-use std::test::Fail;
+use std::process::Abort;
+
+fn geometry(rt: &impl Abort) -> Geometry {
+    Geometry::new(32_768, 4, 16_384, 1_024).expect(rt, "a geometry")
+}
 
 // A pass that is ahead forgives two writes of 14 bytes, and not a third of 512; a quantum lowers that debt.
 #[test]
-fn a_debt_is_forgiven_while_the_pass_is_ahead(rt: HostRuntime) -> Result<(), Fail> {
-    let mut gears = Gears::new(&Geometry::new(32_768, 4, 16_384, 1_024)?);
+fn a_debt_is_forgiven_while_the_pass_is_ahead(rt: HostRuntime) {
+    let mut gears = Gears::new(&geometry(&rt));
     gears.new_pass(0, 2_245);
     gears.took1(0, 1_347);
     gears.enter(0, 14);
@@ -22,12 +26,11 @@ fn a_debt_is_forgiven_while_the_pass_is_ahead(rt: HostRuntime) -> Result<(), Fai
     assert_eq!(rt; gears.plan(3, true, true), Plan::Nothing);
     gears.end_pass();
     assert!(rt; !gears.owes(3));
-    Ok(())
 }
 
 #[test]
-fn a_deep_merge_is_paid_after_the_pass(rt: HostRuntime) -> Result<(), Fail> {
-    let mut gears = Gears::new(&Geometry::new(32_768, 4, 16_384, 1_024)?);
+fn a_deep_merge_is_paid_after_the_pass(rt: HostRuntime) {
+    let mut gears = Gears::new(&geometry(&rt));
     gears.rotate(300_000);
     gears.new_pass(100, 200);
     gears.enter(15, 100);
@@ -41,5 +44,4 @@ fn a_deep_merge_is_paid_after_the_pass(rt: HostRuntime) -> Result<(), Fail> {
     gears.end_deep();
     gears.end_pass();
     assert!(rt; !gears.owes(15));
-    Ok(())
 }

@@ -1,44 +1,42 @@
 // The plain tree, by commands and by steps.
-use blsm_model::{Entry, Geometry, Key, Op, Reply, Room, Row, RowList, Text, Totals, Value, Why};
-use plain_tree::{Answer, Catalogue, GaveUp, Outcome, PlainTree, Turned, run_steps};
+ghost use Rattle.std.specs.Prelude.{◌<◌};
+
+use blsm_model::{Geometry, Key, Op, Reply, Room, Row, RowList, Text, Totals, Value, Why};
+use plain_tree::{Answer, Catalogue, Outcome, PlainTree, Turned, run_steps};
 use std::alloc::Global;
-use std::test::Fail;
+use std::process::Abort;
 use tree_machine::{Kind, Step};
 
-// Commands of short names. A name that is no key gives a release, which no test asks for so.
-fn put(name: &[u8], count: u64, text: &[u8]) -> Op {
-    match (Key::from_bytes(name), Text::from_bytes(text)) {
-        (Some(key), Some(text)) => Op::Put(key, Value { count, text }),
-        _ => Op::Release,
+fn key(rt: &impl Abort, name: &[u8]) -> Key {
+    Key::from_bytes(name).expect(rt, "a key")
+}
+
+fn value(rt: &impl Abort, count: u64, text: &[u8]) -> Value {
+    Value {
+        count,
+        text: Text::from_bytes(text).expect(rt, "a text"),
     }
 }
 
-fn add(name: &[u8], count: u64) -> Op {
-    match Key::from_bytes(name) {
-        Some(key) => Op::Add(key, count),
-        None => Op::Release,
-    }
+// Commands of short names.
+fn put(rt: &impl Abort, name: &[u8], count: u64, text: &[u8]) -> Op {
+    Op::Put(key(rt, name), value(rt, count, text))
 }
 
-fn get(name: &[u8]) -> Op {
-    match Key::from_bytes(name) {
-        Some(key) => Op::Get(key),
-        None => Op::Release,
-    }
+fn add(rt: &impl Abort, name: &[u8], count: u64) -> Op {
+    Op::Add(key(rt, name), count)
 }
 
-fn del(name: &[u8]) -> Op {
-    match Key::from_bytes(name) {
-        Some(key) => Op::Del(key),
-        None => Op::Release,
-    }
+fn get(rt: &impl Abort, name: &[u8]) -> Op {
+    Op::Get(key(rt, name))
 }
 
-fn hold(low: &[u8], high: &[u8]) -> Op {
-    match (Key::from_bytes(low), Key::from_bytes(high)) {
-        (Some(low), Some(high)) => Op::Hold(low, high),
-        _ => Op::Release,
-    }
+fn del(rt: &impl Abort, name: &[u8]) -> Op {
+    Op::Del(key(rt, name))
+}
+
+fn hold(rt: &impl Abort, low: &[u8], high: &[u8]) -> Op {
+    Op::Hold(key(rt, low), key(rt, high))
 }
 
 fn is(count: u64) -> Reply {
@@ -49,7 +47,7 @@ fn is(count: u64) -> Reply {
 }
 
 // A fresh tree with room enough.
-fn fresh(alloc: Global, geometry: Geometry) -> Result<PlainTree, GaveUp> {
+fn fresh(rt: &impl Abort, alloc: Global, geometry: Geometry) -> PlainTree {
     let catalogue = Catalogue {
         version: 1,
         lane_a: 0,
@@ -60,160 +58,128 @@ fn fresh(alloc: Global, geometry: Geometry) -> Result<PlainTree, GaveUp> {
         entries: [1_000; 16],
         rows: [1_000; 16],
     };
-    PlainTree::open(alloc, geometry, &[], &[], catalogue, 0, room)
+    PlainTree::open(alloc, geometry, &[], &[], catalogue, 0, room).expect(rt, "memory")
 }
 
 // Caller 0 makes a step, which ends well.
-fn make(tree: &mut PlainTree, kind: Kind) -> Result<(), GaveUp> {
-    tree.play(&Step { seat: 0, kind }, Outcome::Well)?;
-    Ok(())
+fn make(rt: &impl Abort, tree: &mut PlainTree, kind: Kind) {
+    assert!(rt; tree.play(&Step { seat: 0, kind }, Outcome::Well).is_ok());
 }
 
 // So many turns, of which the last ones may be idle, and the end of the work.
-fn work(tree: &mut PlainTree, turns: u32) -> Result<(), GaveUp> {
+fn work(rt: &impl Abort, tree: &mut PlainTree, turns: u32) {
     for _ in 0..turns.min(8) {
-        make(tree, Kind::WorkTurn)?;
+        make(rt, tree, Kind::WorkTurn);
     }
-    make(tree, Kind::WorkEnd(turns))
+    make(rt, tree, Kind::WorkEnd(turns));
 }
 
 // A write, and what its caller pays for it.
-fn write(tree: &mut PlainTree, op: Op) -> Result<(), GaveUp> {
-    make(tree, Kind::Admit(op))?;
+fn write(rt: &impl Abort, tree: &mut PlainTree, op: Op) {
+    make(rt, tree, Kind::Admit(op));
     for _ in 0..4 {
-        make(tree, Kind::Pay)?;
+        make(rt, tree, Kind::Pay);
     }
-    Ok(())
 }
 
 // Caller 0 gives a command.
-fn command(tree: &mut PlainTree, op: &Op) -> Result<(), GaveUp> {
+fn command(rt: &impl Abort, tree: &mut PlainTree, op: Op) {
     match op {
-        Op::Get(key) => make(tree, Kind::Get(key.copy())),
-        Op::Hold(low, high) => make(tree, Kind::Hold(low.copy(), high.copy())),
-        Op::Next(n) => make(tree, Kind::Next(*n)),
-        Op::Release => make(tree, Kind::Release),
-        Op::Work(n) => work(tree, *n),
-        _ => write(tree, op.copy()),
+        Op::Get(key) => make(rt, tree, Kind::Get(key)),
+        Op::Hold(low, high) => make(rt, tree, Kind::Hold(low, high)),
+        Op::Next(n) => make(rt, tree, Kind::Next(n)),
+        Op::Release => make(rt, tree, Kind::Release),
+        Op::Work(n) => work(rt, tree, n),
+        write_op => write(rt, tree, write_op),
     }
 }
 
-// Caller 0 gives these commands to a fresh tree.
-fn run(alloc: Global, geometry: Geometry, ops: &[Op]) -> Result<PlainTree, GaveUp> {
-    let mut tree = fresh(alloc, geometry)?;
-    for op in ops {
-        command(&mut tree, op)?;
-    }
-    Ok(tree)
+// The entry of this place has this reply.
+fn replies(rt: &impl Abort, tree: &PlainTree, place: usize, reply: Reply) {
+    let entry = tree.entries().get(place).expect(rt, "so many");
+    assert!(rt; entry.reply == reply, "entry {place}");
 }
 
-// Whether the entries have these replies, in order.
-fn have_replies(entries: &[Entry], replies: &[Reply]) -> bool {
-    if entries.len() != replies.len() {
-        return false;
-    }
-    for place in 0..entries.len() {
-        if entries[place].reply != replies[place] {
-            return false;
-        }
-    }
-    true
+// A command, and its reply, which is the last one.
+fn is_answered(rt: &impl Abort, tree: &mut PlainTree, op: Op, reply: Reply) {
+    let place = tree.entries().len();
+    command(rt, tree, op);
+    replies(rt, tree, place, reply);
+    assert_eq!(rt; tree.entries().len(), place.wrapping_add(1));
 }
 
-// Whether so many entries are done, and the ones behind them have these replies.
-fn are_done_and_then(entries: &[Entry], done: usize, replies: &[Reply]) -> bool {
-    if entries.len() < done {
-        return false;
-    }
-    for entry in &entries[..done] {
-        if entry.reply != Reply::Done {
-            return false;
-        }
-    }
-    have_replies(&entries[done..], replies)
+// A write that is done.
+fn is_done(rt: &impl Abort, tree: &mut PlainTree, op: Op) {
+    is_answered(rt, tree, op, Reply::Done);
+}
+
+fn totals_of(rt: &impl Abort, tree: &PlainTree) -> Totals {
+    tree.totals().expect(rt, "totals")
 }
 
 // The peak, the quanta of callers, and the swaps.
-fn told(totals: &Totals) -> (u64, u64, u64, u64) {
-    (totals.peak, totals.callers, totals.passes, totals.deeps)
+fn has_told(rt: &impl Abort, tree: &PlainTree, told: (u64, u64, u64, u64)) {
+    let totals = totals_of(rt, tree);
+    let found = (totals.peak, totals.callers, totals.passes, totals.deeps);
+    assert_eq!(rt; found, told);
 }
 
 // A work brings a put down to the deepest component: begin, quantum, swap, rotation, quantum, swap.
 #[test]
-fn a_work_merges_down(rt: HostRuntime) -> Result<(), Fail> {
-    let ops = [
-        put(b"x", 100, b"old"),
-        Op::Work(100),
-        del(b"x"),
-        add(b"x", 7),
-        get(b"x"),
-    ];
-    let replies = [Reply::Done, Reply::Did(6), Reply::Done, Reply::Done, is(7)];
-    let tree = run(rt.alloc(), Geometry::default(), &ops)?;
-    assert!(rt; have_replies(tree.entries(), &replies));
+fn a_work_merges_down(rt: HostRuntime) {
+    let mut tree = fresh(&rt, rt.alloc(), Geometry::default());
+    is_done(&rt, &mut tree, put(&rt, b"x", 100, b"old"));
+    is_answered(&rt, &mut tree, Op::Work(100), Reply::Did(6));
+    is_done(&rt, &mut tree, del(&rt, b"x"));
+    is_done(&rt, &mut tree, add(&rt, b"x", 7));
+    is_answered(&rt, &mut tree, get(&rt, b"x"), is(7));
     assert_eq!(rt; tree.quanta(), [0, 2, 0, 0, 0].as_slice());
-    let totals = tree.totals()?;
-    assert_eq!(rt; told(&totals), (17, 2, 1, 1));
+    has_told(&rt, &tree, (17, 2, 1, 1));
+    let totals = totals_of(&rt, &tree);
     assert_eq!(rt;
         (totals.high, totals.charge, totals.workers),
         (65_536, 17 + 14, 0)
     );
-    Ok(())
+}
+
+// Five puts of long texts, b to f.
+fn put_five(rt: &impl Abort, tree: &mut PlainTree) {
+    for name in b'b'..b'g' {
+        is_done(rt, tree, put(rt, &[name], 0, &[b'x'; 435]));
+    }
+}
+
+// c and g are read.
+fn get_both(rt: &impl Abort, tree: &mut PlainTree) {
+    is_answered(rt, tree, get(rt, b"c"), is(1));
+    is_answered(rt, tree, get(rt, b"g"), is(2));
 }
 
 // A quantum takes b, c and d, 1,347 bytes, and forgives the debts of two writes: of c, behind the cursor, and of g, ahead of it.
 #[test]
-fn writes_join_a_pass_or_wait(rt: HostRuntime) -> Result<(), Fail> {
-    let long = [b'x'; 435];
-    let ops = [
-        put(b"b", 0, &long),
-        put(b"c", 0, &long),
-        put(b"d", 0, &long),
-        put(b"e", 0, &long),
-        put(b"f", 0, &long),
-        Op::Work(2),
-        put(b"c", 1, b""),
-        put(b"g", 2, b""),
-        get(b"c"),
-        get(b"g"),
-        Op::Work(3),
-        get(b"c"),
-        get(b"g"),
-    ];
-    let geometry = Geometry::new(32_768, 4, 16_384, 1_024)?;
-    let tree = run(rt.alloc(), geometry, &ops)?;
-    let entries = tree.entries();
-    assert_eq!(rt; entries.len(), 13);
-    assert!(rt; entries[5].reply == Reply::Did(2));
-    assert!(rt;
-        have_replies(
-            &entries[6..],
-            &[
-                Reply::Done,
-                Reply::Done,
-                is(1),
-                is(2),
-                Reply::Did(3),
-                is(1),
-                is(2)
-            ]
-        )
-    );
+fn writes_join_a_pass_or_wait(rt: HostRuntime) {
+    let geometry = Geometry::new(32_768, 4, 16_384, 1_024).expect(&rt, "a geometry");
+    let mut tree = fresh(&rt, rt.alloc(), geometry);
+    put_five(&rt, &mut tree);
+    is_answered(&rt, &mut tree, Op::Work(2), Reply::Did(2));
+    is_done(&rt, &mut tree, put(&rt, b"c", 1, b""));
+    is_done(&rt, &mut tree, put(&rt, b"g", 2, b""));
+    get_both(&rt, &mut tree);
+    is_answered(&rt, &mut tree, Op::Work(3), Reply::Did(3));
+    get_both(&rt, &mut tree);
     assert_eq!(rt;
         tree.quanta(),
         [0, 0, 0, 0, 0, 1, 0, 0, 0, 0, 1, 0, 0].as_slice()
     );
-    assert_eq!(rt; told(&tree.totals()?), (2_273, 2, 1, 0));
-    Ok(())
+    has_told(&rt, &tree, (2_273, 2, 1, 0));
 }
 
 // A hundred writes of one key, 512 bytes each: each thirty-third pays a quantum.
 #[test]
-fn each_thirty_third_write_pays(rt: HostRuntime) -> Result<(), Fail> {
-    let op = put(&[b'k'; 64], 9, &[b'x'; 435]);
-    let mut tree = fresh(rt.alloc(), Geometry::default())?;
+fn each_thirty_third_write_pays(rt: HostRuntime) {
+    let mut tree = fresh(&rt, rt.alloc(), Geometry::default());
     for _ in 0..100 {
-        command(&mut tree, &op)?;
+        command(&rt, &mut tree, put(&rt, &[b'k'; 64], 9, &[b'x'; 435]));
     }
     assert_eq!(rt; tree.entries().len(), 100);
     let mut quanta = [0; 100];
@@ -221,76 +187,68 @@ fn each_thirty_third_write_pays(rt: HostRuntime) -> Result<(), Fail> {
     quanta[65] = 1;
     quanta[98] = 1;
     assert_eq!(rt; tree.quanta(), quanta.as_slice());
-    assert_eq!(rt; told(&tree.totals()?), (512, 3, 3, 0));
-    Ok(())
+    has_told(&rt, &tree, (512, 3, 3, 0));
 }
 
-fn row(name: &[u8], count: u64) -> Option<Row> {
-    Some(Row {
-        key: Key::from_bytes(name)?,
-        value: Value {
-            count,
-            text: Text::empty(),
-        },
-    })
+fn row(rt: &impl Abort, name: &[u8], count: u64) -> Row {
+    Row {
+        key: key(rt, name),
+        value: value(rt, count, b""),
+    }
+}
+
+// The rows a and b, as they were held.
+fn held_rows(rt: &impl Abort) -> Reply {
+    Reply::Rows(RowList::from_slice(&[row(rt, b"a", 1), row(rt, b"b", 2)]))
+}
+
+// Two puts are merged down, and held; then one is put again, the other one deleted, and both are merged down.
+fn hold_over_merges(rt: &impl Abort, tree: &mut PlainTree) {
+    is_done(rt, tree, put(rt, b"a", 1, b""));
+    is_done(rt, tree, put(rt, b"b", 2, b""));
+    is_answered(rt, tree, Op::Work(1_000), Reply::Did(6));
+    is_answered(rt, tree, hold(rt, b"a", b"c"), Reply::Held);
+    is_done(rt, tree, put(rt, b"a", 9, b""));
+    is_done(rt, tree, del(rt, b"b"));
+    is_answered(rt, tree, Op::Work(1_000), Reply::Did(6));
 }
 
 // A hold keeps the rows of its moment over writes and merges.
 #[test]
-fn a_hold_lasts_over_merges(rt: HostRuntime) -> Result<(), Fail> {
-    let ops = [
-        put(b"a", 1, b""),
-        put(b"b", 2, b""),
-        Op::Work(1_000),
-        hold(b"a", b"c"),
-        put(b"a", 9, b""),
-        del(b"b"),
-        Op::Work(1_000),
-        Op::Next(32),
-        Op::Next(32),
-        get(b"b"),
-        Op::Release,
-        Op::Next(1),
-    ];
-    let held = [row(b"a", 1).ok_or("no key")?, row(b"b", 2).ok_or("no key")?];
-    let replies = [
-        Reply::Rows(RowList::from_slice(&held)),
-        Reply::Rows(RowList::new()),
-        Reply::Absent,
-        Reply::Done,
-        Reply::NoHold,
-    ];
-    let tree = run(rt.alloc(), Geometry::default(), &ops)?;
-    let entries = tree.entries();
-    assert_eq!(rt; entries.len(), 12);
-    assert!(rt; entries[2].reply == Reply::Did(6));
-    assert!(rt; entries[3].reply == Reply::Held);
-    assert!(rt; entries[6].reply == Reply::Did(6));
-    assert!(rt; have_replies(&entries[7..], &replies));
-    assert_eq!(rt; told(&tree.totals()?), (28, 4, 2, 2));
-    Ok(())
+fn a_hold_lasts_over_merges(rt: HostRuntime) {
+    let mut tree = fresh(&rt, rt.alloc(), Geometry::default());
+    hold_over_merges(&rt, &mut tree);
+    is_answered(&rt, &mut tree, Op::Next(32), held_rows(&rt));
+    is_answered(&rt, &mut tree, Op::Next(32), Reply::Rows(RowList::new()));
+    is_answered(&rt, &mut tree, get(&rt, b"b"), Reply::Absent);
+    is_answered(&rt, &mut tree, Op::Release, Reply::Done);
+    is_answered(&rt, &mut tree, Op::Next(1), Reply::NoHold);
+    assert_eq!(rt; tree.entries().len(), 12);
+    has_told(&rt, &tree, (28, 4, 2, 2));
 }
 
 fn step(seat: u32, kind: Kind, outcome: Outcome) -> (Step, Outcome) {
     (Step { seat, kind }, outcome)
 }
 
-// A write whose append fails is unsure, and the tree is stopped. A step that may not be made has no answer.
-#[test]
-fn a_list_of_steps_with_a_fault(rt: HostRuntime) -> Result<(), Fail> {
-    let steps = [
-        step(0, Kind::Admit(put(b"a", 1, b"")), Outcome::Well),
+fn steps_with_a_fault(rt: &impl Abort) -> [(Step, Outcome); 5] {
+    let well = put(rt, b"a", 1, b"");
+    let failing = put(rt, b"b", 2, b"");
+    [
+        step(0, Kind::Admit(well), Outcome::Well),
         step(16, Kind::Pay, Outcome::Well),
-        step(
-            0,
-            Kind::Admit(put(b"b", 2, b"")),
-            Outcome::FailedAfter(0, 1),
-        ),
+        step(0, Kind::Admit(failing), Outcome::FailedAfter(0, 1)),
         step(0, Kind::Release, Outcome::Well),
         step(16, Kind::WorkerTurn, Outcome::Well),
-    ];
-    let tree = fresh(rt.alloc(), Geometry::default())?;
-    let (tree, answers) = run_steps(rt.alloc(), tree, &steps)?;
+    ]
+}
+
+// A write whose append fails is unsure, and the tree is stopped. A step that may not be made has no answer.
+#[test]
+fn a_list_of_steps_with_a_fault(rt: HostRuntime) {
+    let tree = fresh(&rt, rt.alloc(), Geometry::default());
+    let steps = steps_with_a_fault(&rt);
+    let (tree, answers) = run_steps(rt.alloc(), tree, &steps).expect(&rt, "memory");
     let why = Why::Faulted(1);
     let expected = [
         Some(Answer::Replied(Reply::Done)),
@@ -300,34 +258,49 @@ fn a_list_of_steps_with_a_fault(rt: HostRuntime) -> Result<(), Fail> {
         Some(Answer::Turn(Turned::Halted(why))),
     ];
     assert!(rt; answers.as_slice() == expected.as_slice());
-    assert_eq!(rt; told(&tree.totals()?), (14, 0, 0, 0));
+    has_told(&rt, &tree, (14, 0, 0, 0));
     assert_eq!(rt; tree.stopped(), Some(why));
-    Ok(())
+}
+
+// A put of 512 bytes, one of 238.
+fn long_put(rt: &impl Abort, first: u8, second: u8) -> Op
+    requires { (first < 14) × (second < 17) }
+{
+    let mut name = [b'k'; 64];
+    name[1] = b'a' + first;
+    name[2] = b'a' + second;
+    put(rt, &name, 0, &[b'x'; 435])
+}
+
+fn fill(rt: &impl Abort, tree: &mut PlainTree) {
+    for first in 0..14u8 {
+        for second in 0..17u8 {
+            is_done(rt, tree, long_put(rt, first, second));
+        }
+    }
+}
+
+// No write paid more than three quanta.
+fn pay_at_most_three(rt: &impl Abort, tree: &PlainTree) {
+    for quanta in tree.quanta() {
+        assert!(rt; *quanta <= 3);
+    }
 }
 
 // A put or an add leaves half a spring of the capacity free, and a del may fill it.
 #[test]
-fn a_small_tree_is_full_at_its_edge(rt: HostRuntime) -> Result<(), Fail> {
-    let long = [b'x'; 435];
-    let mut tree = fresh(rt.alloc(), Geometry::new(17_408, 2, 16_384, 4_096)?)?;
-    for first in 0..14u8 {
-        for second in 0..17u8 {
-            let mut name = [b'k'; 64];
-            name[1] = b'a' + first;
-            name[2] = b'a' + second;
-            command(&mut tree, &put(&name, 0, &long))?;
-        }
-    }
-    command(&mut tree, &put(b"a", 1, b""))?;
-    command(&mut tree, &del(b"a"))?;
-    command(&mut tree, &put(b"a", 1, b""))?;
-    let last = [Reply::Full(121_856), Reply::Done, Reply::Full(121_870)];
-    assert!(rt; are_done_and_then(tree.entries(), 238, &last));
-    for quanta in tree.quanta() {
-        assert!(rt; *quanta <= 3);
-    }
-    let totals = tree.totals()?;
+fn a_small_tree_is_full_at_its_edge(rt: HostRuntime) {
+    let geometry = Geometry::new(17_408, 2, 16_384, 4_096).expect(&rt, "a geometry");
+    let mut tree = fresh(&rt, rt.alloc(), geometry);
+    fill(&rt, &mut tree);
+    let full = Reply::Full(121_856);
+    is_answered(&rt, &mut tree, put(&rt, b"a", 1, b""), full);
+    is_done(&rt, &mut tree, del(&rt, b"a"));
+    let full = Reply::Full(121_870);
+    is_answered(&rt, &mut tree, put(&rt, b"a", 1, b""), full);
+    assert_eq!(rt; tree.entries().len(), 238 + 3);
+    pay_at_most_three(&rt, &tree);
+    let totals = totals_of(&rt, &tree);
     assert!(rt; totals.peak <= totals.high);
     assert!(rt; 0 < totals.deeps);
-    Ok(())
 }

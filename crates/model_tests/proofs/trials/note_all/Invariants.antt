@@ -4,4 +4,4 @@ use Rattle.script_text.specs.Generated.{HasMadeKeys}
 use Rattle.model_tests.proofs.trials.note_all.Given as goal
 
 abbrev pub invariant-loop-entry : goal.invariant-loop-entry
-invariant-loop-entry l = All (λ (e : Entry). HasMadeKeys e.op) l.annals.entries
+invariant-loop-entry g l = All (λ (e : Entry). HasMadeKeys e.op) l.annals.entries
