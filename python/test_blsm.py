@@ -1,0 +1,228 @@
+"""Tests of the store from Python. Those that need the built program are skipped where it isn't there; the others run a small stand-in that prints a given text.
+
+    python3 -m unittest discover -s python
+"""
+
+import os
+import sys
+import tempfile
+import unittest
+from pathlib import Path
+
+import blsm
+from blsm import Absent, Add, Del, Did, Done, Drop, Full, Get, Held, Hold, Is, Next, NoHold, NotDone, Put, Row, Rows, Stopped, Store, Value, Work, WriteFailed
+from judge import Geometry, judge
+
+BUILT = os.environ.get("BLSM", str(blsm.PROGRAM))
+HAS_PROGRAM = os.access(BUILT, os.X_OK)
+WHY = f"the built program isn't there: {BUILT}"
+
+SAY = """import pathlib, sys
+here = pathlib.Path(sys.argv[1])
+number = len(list(here.glob("asked_*")))
+(here / f"asked_{number}").write_text(" ".join(sys.argv[2:]) + "\\n" + sys.stdin.read())
+status, text = (here / f"says_{number}").read_text().split("\\n", 1)
+sys.stdout.write(text)
+sys.exit(int(status))
+"""
+
+
+class WithStandIn(unittest.TestCase):
+    """A store whose program prints what the test says, call by call, and notes what it was asked."""
+
+    def setUp(self) -> None:
+        self.room = tempfile.TemporaryDirectory()
+        self.addCleanup(self.room.cleanup)
+        self.here = Path(self.room.name)
+        (self.here / "say.py").write_text(SAY)
+        self.store = Store("-file", [sys.executable, str(self.here / "say.py"), str(self.here)])
+
+    def says(self, *texts: str, status: int = 0) -> None:
+        for number, text in enumerate(texts):
+            (self.here / f"says_{number}").write_text(f"{status}\n{text}")
+
+    def asked(self, number: int = 0) -> str:
+        return (self.here / f"asked_{number}").read_text()
+
+
+class Batches(WithStandIn):
+    def test_each_reply_has_its_type(self) -> None:
+        self.says(
+            "open charge 3\n1 2 add plum 7 => ok q1\n2 1 put a 1 hi => full 9 q0\n3 1 get a => is 1 - q0\n4 1 get b => none q0\n5 1 work 3 => did 2 q1\n"
+            "6 1 hold a c => held q0\n7 1 next 2 => rows 2 a 1 - b 2 hi q0\n8 1 drop => nohold q0\n"
+            "end c0 20 of 65536 callers 2 workers 5 swaps 1 0\n"
+        )
+        mine = [Put("a", 1, "hi"), Get("a"), Get("b"), Work(3), Hold("a", "c"), Next(2), Drop()]
+        run = self.store.run({1: mine, 2: [Add("plum", 7)]}, workers=2, turns=5)
+        self.assertEqual(run.replies(1), [Full(9), Is(1, ""), Absent(), Did(2), Held(), Rows((Row("a", 1), Row("b", 2, "hi"))), NoHold()])
+        self.assertEqual(run.replies(2), [Done()])
+        self.assertEqual([entry.quanta for entry in run.entries], [1, 0, 0, 0, 1, 0, 0, 0])
+        self.assertEqual((run.charge, run.peak, run.high_mark, run.callers_quanta, run.workers_quanta, run.passes, run.deep_merges), (3, 20, 65536, 2, 5, 1, 0))
+        self.assertIs(run.entries[1].command, mine[0])
+        self.assertEqual(
+            self.asked(), "run --workers 2 --turns 5 -- -file\n1 put a 1 hi\n2 add plum 7\n1 get a\n1 get b\n1 work 3\n1 hold a c\n1 next 2\n1 drop\n"
+        )
+
+    def test_a_history_of_other_commands_is_refused(self) -> None:
+        for text in (
+            "open charge 0\n1 1 get b => none q0\nend c0 0 of 65536 callers 0 workers 0 swaps 0 0\n",
+            "open charge 0\nend c0 0 of 65536 callers 0 workers 0 swaps 0 0\n",
+            "open charge 0\n1 1 get a => none q0\n",
+            "open charge 0\n1 1 get a => perhaps q0\nend c0 0 of 65536 callers 0 workers 0 swaps 0 0\n",
+            "",
+        ):
+            with self.subTest(text), self.assertRaises(blsm.Unreadable):
+                for old in self.here.glob("asked_*"):
+                    old.unlink()
+                self.says(text)
+                self.store.run({1: [Get("a")]})
+
+    def test_what_no_script_can_spell_never_runs(self) -> None:
+        for command in (Put("", 1), Put("a b", 1), Put("k" * 65, 1), Put("a", 1, "-"), Put("a", 1, "x" * 436), Put("a", 2**64), Put("a", -1), Get("a\n1 del b"), Next(33), Next(0), Work(0)):
+            with self.subTest(command), self.assertRaises(ValueError):
+                self.store.run({1: [command]})
+        for caller in (0, 17):
+            with self.assertRaises(ValueError):
+                self.store.run({caller: [Get("a")]})
+        self.assertEqual(list(self.here.glob("asked_*")), [])
+
+    def test_a_refused_write_raises_where_it_stands_alone(self) -> None:
+        self.says("open charge 0\n1 1 add a 1 => full 5 q0\nend c0 0 of 65536 callers 0 workers 0 swaps 0 0\n")
+        with self.assertRaises(NotDone) as caught:
+            self.store.add("a", 1)
+        self.assertEqual(caught.exception.reply, Full(5))
+        self.assertIn("larger", caught.exception.advice)
+
+
+class Refusals(WithStandIn):
+    def test_each_status_has_its_class(self) -> None:
+        for status, line, kind in (
+            (1, "usage", blsm.Usage),
+            (2, "bad line 3", blsm.BadLine),
+            (3, "too big", blsm.TooBig),
+            (4, "not a store", blsm.NotAStore),
+            (5, "not empty 100", blsm.NotEmpty),
+            (6, "damaged page 7", blsm.Damaged),
+            (7, "disk fault", blsm.DiskFault),
+            (8, "source fault", blsm.SourceFault),
+            (10, "no memory", blsm.NoMemory),
+        ):
+            with self.subTest(line), self.assertRaises(kind) as caught:
+                for old in self.here.glob("asked_*"):
+                    old.unlink()
+                self.says(line + "\n", status=status)
+                self.store.check()
+            self.assertEqual(caught.exception.line, line)
+            self.assertIsNone(caught.exception.run)
+            self.assertIn(caught.exception.advice, str(caught.exception))
+
+    def test_a_run_that_met_a_fault_tells_what_was_done(self) -> None:
+        text = "open charge 0\n1 1 put a 1 - => ok q0\n2 1 put b 2 - => fault unsure q0\n3 1 get a => stopped fault 1 q0\nend c0 14 of 65536 callers 0 workers 0 swaps 0 0\n"
+        self.says(text, status=7)
+        with self.assertRaises(blsm.DiskFault) as caught:
+            self.store.run({1: [Put("a", 1), Put("b", 2), Get("a")]})
+        assert caught.exception.run
+        self.assertEqual(caught.exception.run.replies(1), [Done(), WriteFailed(True), Stopped(False, 1)])
+
+
+def printed(rows: list[str], nexts: int, first: str, greatest: str | None) -> str:
+    """The history of a part of `rows`."""
+    lines = [f"hold {first} {blsm.GREATEST_KEY} => held", f"get {blsm.GREATEST_KEY} => {greatest or 'none'}"]
+    for i in range(nexts):
+        part = rows[32 * i : 32 * i + 32]
+        lines.append(" ".join([f"next 32 => rows {len(part)}", *part]))
+    lines.append("drop => ok")
+    body = "".join(f"{i} 1 {line} q0\n" for i, line in enumerate(lines, 1))
+    return f"open charge 0\n{body}end c0 0 of 65536 callers 0 workers 0 swaps 0 0\n"
+
+
+class Scans(WithStandIn):
+    def test_rows_of_one_script(self) -> None:
+        self.says("ok version 3 c1 40 600 c1x 0 0 c2 30 400 lanes 2 1\n", printed([f"k{i:02} {i} -" for i in range(70)], 3, "!", "is 9 z"))
+        rows = list(self.store.rows())
+        self.assertEqual(rows, [*(Row(f"k{i:02}", i) for i in range(70)), Row(blsm.GREATEST_KEY, 9, "z")])
+        self.assertEqual(self.asked(1).count("next 32"), 3)
+
+    def test_a_range_asks_for_no_greatest_key(self) -> None:
+        self.says(
+            "ok version 1 c1 0 0 c1x 0 0 c2 0 0 lanes 1 0\n",
+            "open charge 14\n1 1 hold a c => held q0\n2 1 next 32 => rows 1 a 1 - q0\n3 1 drop => ok q0\nend c0 0 of 65536 callers 0 workers 0 swaps 0 0\n",
+        )
+        self.assertEqual(list(self.store.rows("a", "c")), [Row("a", 1)])
+
+    def test_a_lookup_that_fails_raises(self) -> None:
+        self.says(
+            "ok version 1 c1 0 0 c1x 0 0 c2 0 0 lanes 1 0\n",
+            "open charge 14\n1 1 hold a c => held q0\n2 1 next 32 => fault q0\n3 1 drop => ok q0\nend c0 0 of 65536 callers 0 workers 0 swaps 0 0\n",
+        )
+        with self.assertRaises(NotDone):
+            list(self.store.rows("a", "c"))
+
+    def test_dumped_lines_are_loaded(self) -> None:
+        lines = ["a 1 -\n", "b 18446744073709551615 hi\n"]
+        self.says("open charge 0\n1 1 put a 1 - => ok q0\n2 1 put b 18446744073709551615 hi => ok q0\nend c0 0 of 65536 callers 0 workers 0 swaps 0 0\n")
+        self.assertEqual(self.store.load(lines), 2)
+        self.assertEqual([Row.of_line(line.strip()).line() + "\n" for line in lines], lines)
+
+    def test_successors(self) -> None:
+        self.assertEqual(blsm.successor("a"), "a!")
+        self.assertEqual(blsm.successor("a" * 64), "a" * 63 + "b")
+        self.assertEqual(blsm.successor("b" + "~" * 63), "c")
+        self.assertIsNone(blsm.successor(blsm.GREATEST_KEY))
+
+
+@unittest.skipUnless(HAS_PROGRAM, WHY)
+class Built(unittest.TestCase):
+    """Over the built program, and files."""
+
+    def setUp(self) -> None:
+        self.room = tempfile.TemporaryDirectory()
+        self.addCleanup(self.room.cleanup)
+        self.path = Path(self.room.name) / "a.blsm"
+
+    def test_a_store_keeps_what_was_put(self) -> None:
+        store = Store.make(self.path)
+        store.put("apple", 3, "red")
+        store.add("apple", 4)
+        store.add("plum", 7)
+        self.assertEqual(Store.open(self.path).get("apple"), Value(7, "red"))
+        store.delete("plum")
+        self.assertIsNone(store.get("plum"))
+
+    def test_histories_are_legal(self) -> None:
+        store = Store.make(self.path, low=0)
+        batch = {caller: [Add(f"k{i % 40:02}", caller) for i in range(200)] + [Del(f"k{caller:02}"), Get("k05"), Hold("k", "l"), Next(32), Next(32), Drop()] for caller in range(1, 17)}
+        opening: dict[str, tuple[int, str]] = {}
+        for workers in (0, 2, 8):
+            run = store.run(batch, workers=workers)
+            opening = judge(run.script, run.text, opening, Geometry(low=0), workers)
+            self.assertEqual([(row.key, (row.count, row.text)) for row in store.rows()], sorted(opening.items()))
+
+    def test_the_callers_order_stays(self) -> None:
+        run = Store.make(self.path).run({1: [Put("a", 1)], 2: [Put("a", 2), Get("a")]}, workers=2)
+        self.assertIn(run.replies(2)[1], (Is(1, ""), Is(2, "")))
+
+    def test_a_dump_survives_a_round_trip(self) -> None:
+        first, second = Store.make(self.path), Store.make(self.path.with_name("b.blsm"), half=65536)
+        keys = ["!", *(f"k{i:03}" for i in range(500)), "~" * 63, blsm.GREATEST_KEY]
+        first.run({1: [Put(key, i, "x" * (i % 436)) for i, key in enumerate(keys)]})
+        lines = list(first.dump())
+        self.assertEqual(len(lines), len(keys))
+        self.assertEqual(second.load(lines), len(keys))
+        self.assertEqual(list(second.dump()), lines)
+
+    def test_refusals(self) -> None:
+        with self.assertRaises(blsm.DiskFault):
+            Store.open(self.path)
+        Store.make(self.path)
+        with self.assertRaises(blsm.NotEmpty):
+            Store.make(self.path)
+        with self.assertRaises(blsm.Usage):
+            Store.make(self.path, low=40000)
+        self.path.write_bytes(bytes(100))
+        with self.assertRaises(blsm.NotAStore):
+            Store.open(self.path)
+
+
+if __name__ == "__main__":
+    unittest.main()
