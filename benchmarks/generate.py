@@ -31,4 +31,5 @@ def main():
         print(1, command(kind % 100, place % KEYS, count % 1000, 160 + size % 40))
 
 
-main()
+if __name__ == "__main__":
+    main()

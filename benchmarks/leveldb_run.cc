@@ -1,16 +1,92 @@
-// Runs a script of puts, adds, dels and gets over LevelDB, each write synced before the next command, and prints the replies.
+// Runs a script of puts, adds, dels, gets and works over LevelDB, each write synced before its caller's next command, and prints the history.
 //
-//     leveldb_run FOLDER < script.txt
+//     leveldb_run [--buffer BYTES] [--count] FOLDER < script.txt        (or --version)
 //
-// A value is stored as its count and its text. LevelDB has no blind add, so an add reads the value first.
+// Each caller of the script does its lines in order, on a thread of its own where there are several. LevelDB has no blind add, so an add reads the value
+// first; so that no other write of the key comes between, a caller has the key's lock (one of many, by its hash) while it does a command. Writes of other
+// keys still meet in LevelDB, which syncs them together. The history's order is that in which the locks were had: commands of one key took effect in it, and
+// those of two keys are nothing to one another. A work does nothing, since LevelDB merges by itself.
+//
+// A value is stored as its count and its text, without compression: a text of one letter would be next to nothing. --buffer is the size of the write buffer,
+// 65,536 bytes at least (else LevelDB's own, 4 MB). With --count tables are read by calls, which a tracer sees, and not by a map of memory; and each entry
+// ends in the bytes that were put into tables since the entry before.
+#include <fcntl.h>
+#include <unistd.h>
+
+#include <array>
+#include <atomic>
 #include <cstdint>
+#include <cstdlib>
+#include <functional>
 #include <iostream>
+#include <map>
+#include <memory>
+#include <mutex>
 #include <sstream>
 #include <string>
+#include <thread>
+#include <vector>
 
 #include "leveldb/db.h"
+#include "leveldb/env.h"
 
 namespace {
+
+using leveldb::Slice;
+using leveldb::Status;
+
+// ---- what is counted
+
+std::atomic<uint64_t> bytes_of_tables{0};
+
+bool IsTable(const std::string& name) { return name.size() > 4 && name.compare(name.size() - 4, 4, ".ldb") == 0; }
+
+class CountedFile : public leveldb::WritableFile {
+ public:
+  explicit CountedFile(leveldb::WritableFile* file) : file_(file) {}
+  Status Append(const Slice& data) override {
+    bytes_of_tables += data.size();
+    return file_->Append(data);
+  }
+  Status Close() override { return file_->Close(); }
+  Status Flush() override { return file_->Flush(); }
+  Status Sync() override { return file_->Sync(); }
+
+ private:
+  std::unique_ptr<leveldb::WritableFile> file_;
+};
+
+class CalledFile : public leveldb::RandomAccessFile {
+ public:
+  explicit CalledFile(int file) : file_(file) {}
+  ~CalledFile() override { close(file_); }
+  Status Read(uint64_t offset, size_t length, Slice* result, char* scratch) const override {
+    const ssize_t size = pread(file_, scratch, length, static_cast<off_t>(offset));
+    *result = Slice(scratch, size < 0 ? 0 : size);
+    return size < 0 ? Status::IOError("pread") : Status::OK();
+  }
+
+ private:
+  const int file_;
+};
+
+class CountingEnv : public leveldb::EnvWrapper {
+ public:
+  CountingEnv() : EnvWrapper(leveldb::Env::Default()) {}
+  Status NewWritableFile(const std::string& name, leveldb::WritableFile** file) override {
+    Status done = target()->NewWritableFile(name, file);
+    if (done.ok() && IsTable(name)) *file = new CountedFile(*file);
+    return done;
+  }
+  Status NewRandomAccessFile(const std::string& name, leveldb::RandomAccessFile** file) override {
+    const int opened = open(name.c_str(), O_RDONLY | O_CLOEXEC);
+    if (opened < 0) return Status::IOError(name);
+    *file = new CalledFile(opened);
+    return Status::OK();
+  }
+};
+
+// ---- values
 
 struct Value {
   uint64_t count = 0;
@@ -29,51 +105,115 @@ Value Decode(const std::string& bytes) {
 
 bool Find(leveldb::DB* db, const std::string& key, Value* value) {
   std::string bytes;
-  if (!db->Get(leveldb::ReadOptions(), key, &bytes).ok()) return false;
-  *value = Decode(bytes);
-  return true;
+  const Status done = db->Get(leveldb::ReadOptions(), key, &bytes);
+  if (!done.ok() && !done.IsNotFound()) std::exit(7);
+  if (done.ok()) *value = Decode(bytes);
+  return done.ok();
+}
+
+// ---- commands
+
+struct Command {
+  std::string line, kind, key, text;
+  int caller = 0;
+  uint64_t count = 0;
+  std::string reply;
+};
+
+Command Parse(const std::string& line) {
+  Command command;
+  command.line = line;
+  std::istringstream words(line);
+  words >> command.caller >> command.kind >> command.key >> command.count >> command.text;
+  return command;
+}
+
+class Store {
+ public:
+  Store(leveldb::DB* db, size_t commands) : db_(db), order_(commands) {}
+
+  void Do(Command* command) {
+    std::lock_guard<std::mutex> lock(locks_[std::hash<std::string>()(command->key) % locks_.size()]);
+    command->reply = Answer(*command);
+    const uint64_t place = next_++;
+    order_[place] = {command, bytes_of_tables.load()};
+  }
+
+  void Print() const {
+    uint64_t place = 0, before = 0;
+    for (const auto& [command, bytes] : order_) {
+      std::cout << ++place << " " << command->line << " => " << command->reply << " m" << (bytes > before ? bytes - before : 0) << "\n";
+      before = std::max(before, bytes);
+    }
+  }
+
+ private:
+  std::string Answer(const Command& command) {
+    Value value;
+    if (command.kind == "put") return Put(command.key, {command.count, command.text == "-" ? "" : command.text});
+    if (command.kind == "del") return Done(db_->Delete(durable(), command.key));
+    if (command.kind == "work") return "did 0";
+    const bool found = Find(db_.get(), command.key, &value);
+    if (command.kind == "add") return Put(command.key, {value.count + command.count, value.text});
+    if (command.kind != "get") std::exit(2);
+    return found ? "is " + std::to_string(value.count) + " " + (value.text.empty() ? "-" : value.text) : "none";
+  }
+
+  std::string Put(const std::string& key, const Value& value) { return Done(db_->Put(durable(), key, Encode(value))); }
+
+  static std::string Done(const Status& status) {
+    if (!status.ok()) std::exit(7);
+    return "ok";
+  }
+
+  static leveldb::WriteOptions durable() {
+    leveldb::WriteOptions options;
+    options.sync = true;
+    return options;
+  }
+
+  std::unique_ptr<leveldb::DB> db_;
+  std::array<std::mutex, 1024> locks_;
+  std::atomic<uint64_t> next_{0};
+  std::vector<std::pair<const Command*, uint64_t>> order_;
+};
+
+void Run(std::vector<Command>* commands, Store* store) {
+  std::map<int, std::vector<Command*>> callers;
+  for (Command& command : *commands) callers[command.caller].push_back(&command);
+  const auto serve = [store](const std::vector<Command*>& lines) {
+    for (Command* command : lines) store->Do(command);
+  };
+  if (callers.size() == 1) return serve(callers.begin()->second);
+  std::vector<std::thread> threads;
+  for (const auto& caller : callers) threads.emplace_back(serve, std::cref(caller.second));
+  for (std::thread& thread : threads) thread.join();
 }
 
 }  // namespace
 
 int main(int argc, char** argv) {
-  if (argc != 2) return 1;
   leveldb::Options options;
   options.create_if_missing = true;
-  leveldb::DB* db = nullptr;
-  if (!leveldb::DB::Open(options, argv[1], &db).ok()) return 7;
-  leveldb::WriteOptions durable;
-  durable.sync = true;
-  std::string line;
-  uint64_t place = 0;
-  while (std::getline(std::cin, line)) {
-    std::istringstream words(line);
-    std::string caller, kind, key, text;
-    uint64_t count = 0;
-    words >> caller >> kind >> key >> count >> text;
-    std::cout << ++place << " " << line << " => ";
-    Value value;
-    leveldb::Status done;
-    if (kind == "put") {
-      value.count = count;
-      value.text = text == "-" ? "" : text;
-      done = db->Put(durable, key, Encode(value));
-    } else if (kind == "add") {
-      Find(db, key, &value);
-      value.count += count;
-      done = db->Put(durable, key, Encode(value));
-    } else if (kind == "del") {
-      done = db->Delete(durable, key);
-    } else if (Find(db, key, &value)) {
-      std::cout << "is " << value.count << " " << (value.text.empty() ? "-" : value.text) << "\n";
-      continue;
-    } else {
-      std::cout << "none\n";
-      continue;
+  options.compression = leveldb::kNoCompression;
+  static CountingEnv counting;
+  int word = 1;
+  for (; word < argc && std::string(argv[word]).compare(0, 2, "--") == 0; ++word) {
+    const std::string option = argv[word];
+    if (option == "--version") {
+      std::cout << leveldb::kMajorVersion << "." << leveldb::kMinorVersion << "\n";
+      return 0;
     }
-    if (!done.ok()) return 7;
-    std::cout << "ok\n";
+    if (option == "--count") options.env = &counting;
+    if (option == "--buffer" && word + 1 < argc) options.write_buffer_size = std::stoull(argv[++word]);
   }
-  delete db;
+  if (word + 1 != argc) return 1;
+  std::vector<Command> commands;
+  for (std::string line; std::getline(std::cin, line);) commands.push_back(Parse(line));
+  leveldb::DB* db = nullptr;
+  if (!leveldb::DB::Open(options, argv[word], &db).ok()) return 7;
+  Store store(db, commands.size());
+  Run(&commands, &store);
+  store.Print();
   return 0;
 }

@@ -1,11 +1,16 @@
 #!/usr/bin/env python3
-"""Draws the pacing of a run: how much the memory table weighs after each entry of a printed history, and the merge quanta of each entry.
+"""Draws the pacing of a run from its printed history: the memory table's weight and the charge after each entry, the swaps, and the merge quanta of writes
+and of works, with the work bound of the heaviest write.
 
     plot_pacing.py HISTORY > pacing.svg        (HISTORY may be -, standard input; --half, --ratio, --low, --quantum as given to `make`)
 
-The history doesn't print the table's weight, so the run is done again here, over plain dictionaries, by the rules of the pacing. What the history does
-print (each entry's quanta, the peak, the swaps) must come out the same, else it says where it doesn't and ends with status 1. It wants a history of one
-that began with an empty store (`open charge 0`), with writes of one caller after another, as a run without workers prints it.
+The history prints neither the table's weight nor the charge, so the run is done again here, over plain dictionaries, by the rules of the pacing. It wants a
+history of a run that began with an empty store (`open charge 0`).
+
+One caller without workers has one run: then what the history does print (each entry's quanta, the charge of a refused write, the peak, the swaps) must come
+out the same, else it says where it doesn't and ends with status 1. Of several callers, or workers, the history doesn't tell in which order they paid, and of
+the workers' quanta only the sum. Then the quanta are drawn as they are printed, and weight, charge and swaps as the rules give them where each command is
+done whole before the next one and nobody helps: the picture says so.
 """
 import argparse
 import bisect
@@ -85,7 +90,8 @@ class Tree:
         self.snow = self.deep = None
         self.spring = self.admitted = self.since_rotation = 0
         self.debts = [[0] * 16, [0] * 16]
-        self.passes = self.deeps = self.peak = 0
+        self.passes = self.deeps = self.peak = self.at_begin = 0
+        self.capacity = ratio * self.mark
 
     def table(self):
         return self.a.weight + self.b.weight
@@ -116,7 +122,16 @@ class Tree:
             self.rotate()
 
     def begin(self):
-        self.snow, self.admitted = Merge(False), 0
+        self.snow, self.admitted, self.at_begin = Merge(False), 0, self.table()
+
+    def charge(self):
+        """The components as last committed, and what was written since."""
+        memory = self.table() if self.snow is None else self.at_begin + self.admitted
+        return self.c1.weight + self.c1x.weight + self.c2.weight + memory
+
+    def work_bound(self, heavy):
+        """The most quanta of a write of this weight."""
+        return sum(-(-gear * heavy // self.quantum) for gear in self.gears)
 
     def admit(self, seat, key, record):
         heavy = weight(key, record)
@@ -204,63 +219,163 @@ def record_of(words):
     return ("tomb", 0, "")
 
 
-def replay(lines, tree):
-    """Does the history again. Gives the table's weight and the quanta after each entry."""
-    weights, all_quanta = [], []
-    for line in lines[1:-1]:
-        number, seat, command = line.split(" ", 2)
-        command, reply = command.split(" => ")
-        words, (reply, printed) = command.split(" "), reply.rsplit(" q", 1)
-        quanta = 0
-        if words[0] in ("put", "add", "del") and reply == "ok":
-            tree.admit(int(seat) - 1, words[1], record_of(words))
-            quanta = tree.pay(int(seat) - 1)
-        elif words[0] == "work" and reply.startswith("did"):
-            quanta = tree.work(int(words[1]))
-        if quanta != int(printed):
-            sys.exit(f"entry {number}: the history has q{printed}, the rules give q{quanta}")
-        weights.append(tree.table())
-        all_quanta.append(quanta)
-    end = lines[-1].split(" ")
-    printed = [int(end[i]) for i in (2, 10, 11)]
-    if printed != [tree.peak, tree.passes, tree.deeps]:
-        sys.exit(f"the history ends with peak and swaps {printed}, the rules give {[tree.peak, tree.passes, tree.deeps]}")
-    return weights, all_quanta
+class Entry:
+    """A printed entry, and what stands after it as the run is done again."""
+
+    def __init__(self, line):
+        head, rest = line.split(" => ")
+        self.number, seat, command = head.split(" ", 2)
+        self.seat, self.words = int(seat) - 1, command.split(" ")
+        self.reply, quanta = rest.rsplit(" q", 1)
+        self.quanta = int(quanta)
+        self.is_write = self.words[0] in ("put", "add", "del") and self.reply == "ok"
+        self.is_work = self.words[0] == "work"
+        self.weight = weight(self.words[1], record_of(self.words)) if self.words[0] in ("put", "add", "del") else 0
+        self.table = self.charge = self.passes = self.deeps = 0
+
+    def redo(self, tree):
+        """Does it again. Answers its quanta by the rules."""
+        if self.is_write:
+            tree.admit(self.seat, self.words[1], record_of(self.words))
+            return tree.pay(self.seat)
+        return tree.work(int(self.words[1])) if self.is_work and self.reply.startswith("did") else 0
 
 
-WIDTH, TABLE, QUANTA, LEFT, TOP, GAP = 1000, 300, 120, 80, 30, 50
+class Drawn:
+    """A history, done again."""
+
+    def __init__(self, lines, tree):
+        self.entries = [Entry(line) for line in lines[1:-1]]
+        end = lines[-1].split(" ")
+        self.peak, self.by_callers, self.by_workers, self.passes, self.deeps = (int(end[i]) for i in (2, 6, 8, 10, 11))
+        told = {entry.reply.split(" ")[0] for entry in self.entries}
+        # one caller without workers and without a fault: the run can be done again, step by step
+        self.is_exact = len({entry.seat for entry in self.entries}) <= 1 and not self.by_workers and not told & {"fault", "damaged", "stopped"}
+        for entry in self.entries:
+            self.redo(entry, tree)
+        if self.is_exact and [self.peak, self.passes, self.deeps] != [tree.peak, tree.passes, tree.deeps]:
+            sys.exit(f"the history ends with peak and swaps {[self.peak, self.passes, self.deeps]}, the rules give {[tree.peak, tree.passes, tree.deeps]}")
+
+    def redo(self, entry, tree):
+        passes, deeps, charge = tree.passes, tree.deeps, tree.charge()
+        quanta = entry.redo(tree)
+        if self.is_exact and quanta != entry.quanta:
+            sys.exit(f"entry {entry.number}: the history has q{entry.quanta}, the rules give q{quanta}")
+        if self.is_exact and entry.reply.startswith("full") and entry.reply != f"full {charge}":
+            sys.exit(f"entry {entry.number}: the history has {entry.reply}, the rules give the charge {charge}")
+        entry.table, entry.charge = tree.table(), tree.charge()
+        entry.passes, entry.deeps = tree.passes - passes, tree.deeps - deeps
+
+
+WIDTH, LEFT, TOP, GAP, LINE = 1000, 80, 64, 52, 14
 
 
 def level(value, most, height):
     return height - height * value / most
 
 
-def draw(weights, quanta, half, low):
-    count, high, most = max(1, len(weights)), 2 * half, max([1, *quanta])
-    step = WIDTH / count
-    out = [
-        f'<svg xmlns="http://www.w3.org/2000/svg" width="{LEFT + WIDTH + 20}" height="{TOP + TABLE + GAP + QUANTA + 40}" font-family="sans-serif" font-size="12">',
-        '<rect width="100%" height="100%" fill="white"/>',
-        f'<text x="{LEFT}" y="18">weight of the memory table after each entry, in bytes</text>',
-    ]
-    for value, name in ((high, "high mark"), (half, "half spring"), (low, "low mark"), (0, "0")):
-        y = TOP + level(value, high, TABLE)
-        out.append(f'<line x1="{LEFT}" x2="{LEFT + WIDTH}" y1="{y:.1f}" y2="{y:.1f}" stroke="#bbb" stroke-dasharray="4 3"/>')
-        out.append(f'<text x="4" y="{y + 4:.1f}">{name if value == 0 else value}</text>')
-        if value:
-            out.append(f'<text x="{LEFT + WIDTH - 4}" y="{y - 3:.1f}" text-anchor="end" fill="#888">{name}</text>')
-    points = " ".join(f"{LEFT + (i + 1) * step:.2f},{TOP + level(value, high, TABLE):.2f}" for i, value in enumerate(weights))
-    out.append(f'<polyline fill="none" stroke="#1565c0" points="{LEFT},{TOP + TABLE} {points}"/>')
-    base = TOP + TABLE + GAP
-    out.append(f'<text x="{LEFT}" y="{base - 12}">merge quanta of each entry, {most} at most</text>')
-    for i, value in enumerate(quanta):
-        if value:
-            y = base + level(value, most, QUANTA)
-            out.append(f'<line x1="{LEFT + (i + 1) * step:.2f}" x2="{LEFT + (i + 1) * step:.2f}" y1="{y:.1f}" y2="{base + QUANTA}" stroke="#c62828" stroke-width="{max(0.5, step * 0.7):.2f}"/>')
-    out.append(f'<line x1="{LEFT}" x2="{LEFT + WIDTH}" y1="{base + QUANTA}" y2="{base + QUANTA}" stroke="#888"/>')
-    out.append(f'<text x="{LEFT}" y="{base + QUANTA + 18}">entry 1</text><text x="{LEFT + WIDTH}" y="{base + QUANTA + 18}" text-anchor="end">entry {len(weights)}</text>')
-    out.append("</svg>")
-    return "\n".join(out)
+def columns(values):
+    """The values by the column in which they are drawn: one each, or where there are more than the picture is wide some neighbours in each."""
+    count = min(WIDTH, len(values))
+    return [values[i * len(values) // count : (i + 1) * len(values) // count] for i in range(count)]
+
+
+class Picture:
+    """An SVG of panels, one below the other. A column that stands for several entries shows the range of a curve's values, and the greatest of stems."""
+
+    def __init__(self, count):
+        self.step, self.y, self.out = WIDTH / max(1, min(WIDTH, count)), TOP, []
+
+    def text(self, x, y, words, more=""):
+        words = words.replace("&", "&amp;").replace("<", "&lt;")
+        self.out.append(f'<text x="{x:.1f}" y="{y:.1f}"{more}>{words}</text>')
+
+    def across(self, y, label, name="", colour="#bbb", lower=0):
+        """A line over the whole width, with its value at the left and its name at the right, both so much lower where another line is near above."""
+        self.out.append(f'<line x1="{LEFT}" x2="{LEFT + WIDTH}" y1="{y:.1f}" y2="{y:.1f}" stroke="{colour}" stroke-dasharray="4 3"/>')
+        self.text(4, y + 4 + lower, str(label))
+        if name:
+            self.text(LEFT + WIDTH - 4, y - 3 + lower, name, ' text-anchor="end" fill="#666"')
+
+    def curve(self, title, values, most, marks, height, colour):
+        self.text(LEFT, self.y - 8, title)
+        above = None
+        for value, name in (*marks, (0, "")):
+            y = self.y + level(value, most, height)
+            self.across(y, value, name, lower=LINE if above is not None and y - above < LINE else 0)
+            above = y
+        at, path = height, f"M{LEFT} {self.y + height}"
+        for column in columns(values):
+            path += f"h{self.step:.4g}"
+            for value in (min(column), max(column), column[-1]):
+                to = round(level(value, most, height))
+                path += f"v{to - at}" if to != at else ""
+                at = to
+        self.out.append(f'<path fill="none" stroke="{colour}" d="{path}"/>')
+        self.y += height + GAP
+
+    def stems(self, title, values, most, height, colour, bound=None):
+        """One stem for each column that has a value; a bound is a line."""
+        self.text(LEFT, self.y - 8, title)
+        self.across(self.y + height, 0)
+        if bound:
+            self.across(self.y + level(bound[0], most, height), bound[0], bound[1], "#c62828")
+        else:
+            self.across(self.y, most)
+        path = ""
+        for i, column in enumerate(columns(values)):
+            if max(column):
+                path += f"M{LEFT + (i + 1) * self.step:.5g} {self.y + height}V{self.y + level(max(column), most, height):.5g}"
+        self.out.append(f'<path stroke="{colour}" stroke-width="{max(0.5, self.step * 0.7):.2f}" d="{path}"/>')
+        self.y += height + GAP
+
+    def bars(self, title, parts):
+        """Sums beside one another, as long as their share."""
+        self.text(LEFT, self.y - 8, title)
+        most, x = max(1, sum(value for _, value, _ in parts)), LEFT
+        for name, value, colour in parts:
+            self.out.append(f'<rect x="{x:.1f}" y="{self.y}" width="{WIDTH * value / most:.1f}" height="16" fill="{colour}"/>')
+            x += WIDTH * value / most
+        self.text(LEFT, self.y + 32, ", ".join(f"{name} {value}" for name, value, _ in parts))
+        self.y += 16 + GAP
+
+    def whole(self):
+        size = f'width="{LEFT + WIDTH + 20}" height="{self.y}"'
+        return "\n".join([f'<svg xmlns="http://www.w3.org/2000/svg" {size} font-family="sans-serif" font-size="12">', '<rect width="100%" height="100%" fill="white"/>', *self.out, "</svg>"])
+
+
+REDONE = "Done again by the rules, and the same as printed: quanta, peak, swaps."
+NOT_REDONE = (
+    "Several callers, workers or faults: quanta are as printed; of the workers' only the sum is known. Weight, charge and swaps are what the rules give",
+    "where each command is done whole before the next one and no worker helps: not what was in this run.",
+)
+
+
+def draw(drawn, tree):
+    entries = drawn.entries
+    picture = Picture(len(entries))
+    for i, line in enumerate((REDONE,) if drawn.is_exact else NOT_REDONE):
+        picture.text(LEFT, 16 + 15 * i, line, ' fill="#444"')
+    high = 2 * tree.half
+    marks = ((high, "high mark"), (tree.half, "half spring"), (tree.low, "low mark"))
+    picture.curve("weight of the memory table after each entry, in bytes", [e.table for e in entries], high, marks, 240, "#1565c0")
+    full = ((tree.capacity, "capacity"), (tree.capacity - tree.half, "no put or add passes"))
+    picture.curve("charge after each entry, in bytes", [e.charge for e in entries], tree.capacity, full, 120, "#2e7d32")
+    for title, values, colour in (("swaps that ended a pass", [e.passes for e in entries], "#6a1b9a"), ("swaps that ended a deep merge", [e.deeps for e in entries], "#ef6c00")):
+        picture.stems(f"{title}, by entry: {sum(values)}", values, max([1, *values]), 24, colour)
+    heaviest = max([e.weight for e in entries if e.is_write], default=0)
+    bound = tree.work_bound(heaviest)
+    writes = [e.quanta if e.is_write else 0 for e in entries]
+    works = [e.quanta if e.is_work else 0 for e in entries]
+    line = (bound, f"work bound of the heaviest write ({heaviest} bytes)") if bound else None
+    picture.stems(f"merge quanta of each write, {max(writes, default=0)} at most", writes, max([1, bound, *writes]), 100, "#37474f", line)
+    if any(e.is_work for e in entries):
+        picture.stems(f"merge quanta of each work, {max(works)} at most", works, max(1, *works, 1), 80, "#5d4037")
+    parts = (("writes of callers", sum(writes), "#37474f"), ("works of callers", sum(works), "#5d4037"), ("workers (a sum alone)", drawn.by_workers, "#00838f"))
+    picture.bars("all merge quanta", parts)
+    picture.text(LEFT, picture.y - 22, "entry 1")
+    picture.text(LEFT + WIDTH, picture.y - 22, f"entry {len(entries)}", ' text-anchor="end"')
+    return picture.whole()
 
 
 def main():
@@ -271,10 +386,10 @@ def main():
     args = parser.parse_args()
     with sys.stdin if args.history == "-" else open(args.history, encoding="ascii") as file:
         lines = file.read().splitlines()
-    if len(lines) < 2 or lines[0] != "open charge 0":
+    if len(lines) < 2 or lines[0] != "open charge 0" or not lines[-1].startswith("end c0 "):
         sys.exit("this is no history that began with an empty store")
-    weights, quanta = replay(lines, Tree(args.half, args.ratio, args.low, args.quantum))
-    print(draw(weights, quanta, args.half, args.low))
+    tree = Tree(args.half, args.ratio, args.low, args.quantum)
+    print(draw(Drawn(lines, tree), tree))
 
 
 if __name__ == "__main__":
