@@ -9,6 +9,7 @@ use Rattle.std.proofs.lemmas.Bool.{cases_eq, cases_lt, lt-ltb, le-ltb}
 use Rattle.std.proofs.lemmas.Cmp.{nat_list_cmp_total}
 use Rattle.std.proofs.lemmas.List.{length-set, length-append, length-map, map-append, append-nil, drop_all, take_all, get_or-set_same, get_or-set_other, get_or-map, get_or_default, get_or_append_left, get_or-append-add}
 use Rattle.std.proofs.lemmas.List.Quantifiers.{position-Some}
+use Rattle.std.proofs.lemmas.List.Sums.{sum_by-append, sum_by-cons, sum_by-set}
 use Rattle.blsm_model.specs.declared.key.Key.{Key}
 use Rattle.blsm_model.specs.Keys.{key_cmp}
 use Rattle.blsm_model.specs.Format.{least_weight}
@@ -202,9 +203,13 @@ keys_set [] p e within is = absurd (omega arith)
 keys_set (x ∷ slots) zero e within is = ap (λ (k : Key). k ∷ keys_of slots) is
 keys_set (x ∷ slots) (suc p) e within is = ap (λ (l : List Key). x.0 ∷ l) (keys_set slots p e (omega arith) is)
 
+-- the entry that came last
+pub grown_entry : (slots : Entries) (key : Key) (rec : Rec) → entry_at (slots ++ (key, rec) ∷ []) (length slots) ≡ (key, rec)
+grown_entry slots key rec = ap (λ n. entry_at (slots ++ (key, rec) ∷ []) n) (omega arith) ∙ get_or-append-add slots ((key, rec) ∷ []) 0 ([], Tomb)
+
 -- ---- a table
 
-module _ (nodes : List Node) (slots : Entries) (root kept reserved node_places slot_places : ℕ) (a : IsArena nodes slots root kept reserved node_places slot_places) where
+module _ (nodes : List Node) (slots : Entries) (root kept reserved node_places : ℕ) (a : IsArena nodes slots root kept reserved node_places) where
   -- fewer than there are numbers
   pub few_slots : (length slots < no_node) × (length (tree_entries nodes slots root) ≡ length slots)
   few_slots =
@@ -299,20 +304,29 @@ module _ (nodes : List Node) (slots : Entries) (root kept reserved node_places s
       let older = ap (λ (x : Key × Rec). weight key x.1) (entry_is slots (places (tree_at nodes root)) p f.has ([], Tomb)) in
       omega (arith, a.table.weight_is, older, weight_at_le (tree_entries nodes slots root) key f.has.index ([], Tomb) at)
 
+  pub slots_folded : (key : Key) (p : ℕ) (e : Key × Rec) (before after : ℕ) → place_in key (keys_of slots) ≡ Some p → e.0 ≡ key → before ≡ weight key (entry_at slots p).1 → after ≡ weight key e.1
+      → entries_weight (set slots p e) ≡ kept - before + after
+  slots_folded key p e before after is key_is before_is after_is =
+      let f = found_at key p is in
+      let moved = sum_by-set (λ (x : Key × Rec). weight x.0 x.1) slots p e ([], Tomb) f.in_range in
+      let older : weight (entry_at slots p).0 (entry_at slots p).1 ≡ before = ap (λ (k : Key). weight k (entry_at slots p).1) f.key_is ∙ sym before_is in
+      let newer : weight e.0 e.1 ≡ after = ap (λ (k : Key). weight k e.1) key_is ∙ sym after_is in
+      omega (arith, moved, older, newer, a.same_weight, before_le key p is, before_is)
+
   pub arena_folded : (key : Key) (rec : Rec) (p : ℕ) (e : Key × Rec) (before after : ℕ) → place_in key (keys_of slots) ≡ Some p → e.0 ≡ key → e.1 ≡ fold rec (entry_at slots p).1
       → 1 ≤ length key → entries_weight (with_record key rec (tree_entries nodes slots root)) ≤ reserved → before ≡ weight key (entry_at slots p).1 → after ≡ weight key (fold rec (entry_at slots p).1)
-      → IsArena nodes (set slots p e) root (kept - before + after) reserved node_places slot_places
+      → IsArena nodes (set slots p e) root (kept - before + after) reserved node_places
   arena_folded key rec p e before after is key_is folded_is key_least fits before_is after_is =
       let f = found_at key p is in
       let at = is_at slots (places (tree_at nodes root)) p key f.has f.key_is in
       let older : (get_or (tree_entries nodes slots root) f.has.index e).1 ≡ (entry_at slots p).1 = ap (λ (x : Key × Rec). x.1) (entry_is slots (places (tree_at nodes root)) p f.has e) in
-      let table = table_at (tree_entries nodes slots root) kept reserved slot_places key rec f.has.index e before after a.table at key_least fits
+      let table = table_at (tree_entries nodes slots root) kept reserved node_places key rec f.has.index e before after a.table at key_least fits
       (before_is ∙ ap (weight key) (sym older)) (after_is ∙ ap (λ (r : Rec). weight key (fold rec r)) (sym older)) in
       let same_keys : keys_of (set slots p e) ≡ keys_of slots = keys_set slots p e f.in_range (key_is ∙ sym f.key_is) in
       let len : length (set slots p e) ≡ length slots = length-set slots p e in
       record {
-        table = subst (λ (es : Entries). IsTable es (kept - before + after) reserved slot_places) (sym (entries_folded key rec e.1 p e is key_is folded_is)) table;
-        node_room = a.node_room;
+        table = subst (λ (es : Entries). IsTable es (kept - before + after) reserved node_places) (sym (entries_folded key rec e.1 p e is key_is folded_is)) table;
+        same_weight = slots_folded key p e before after is key_is before_is (after_is ∙ ap (weight key) (sym folded_is));
         numbered = a.numbered;
         as_many = omega (arith, a.as_many);
         all = omega (arith, a.all);
@@ -321,6 +335,13 @@ module _ (nodes : List Node) (slots : Entries) (root kept reserved node_places s
         balanced = a.balanced;
         distinct = subst (λ (ks : List Key). (i j : ℕ) → i < j → j < length ks → get_or ks i [] ≢ get_or ks j []) (sym same_keys) a.distinct;
       }
+
+  pub folded_fits : (key : Key) (rec : Rec) (p : ℕ) (e : Key × Rec) (before after : ℕ) → place_in key (keys_of slots) ≡ Some p → e.0 ≡ key → e.1 ≡ fold rec (entry_at slots p).1
+      → 1 ≤ length key → entries_weight (with_record key rec (tree_entries nodes slots root)) ≤ reserved → before ≡ weight key (entry_at slots p).1 → after ≡ weight key (fold rec (entry_at slots p).1)
+      → entries_weight (set slots p e) ≤ reserved
+  folded_fits key rec p e before after is key_is folded_is key_least fits before_is after_is =
+      let folded = arena_folded key rec p e before after is key_is folded_is key_least fits before_is after_is in
+      omega (arith, folded.same_weight, folded.table.fits)
 
   pub arrived_folded : (key : Key) (p : ℕ) (e : Key × Rec) → place_in key (keys_of slots) ≡ Some p → e.0 ≡ key → keys_of (set slots p e) ≡ arrived_with key (keys_of slots)
   arrived_folded key p e is key_is =
@@ -344,19 +365,16 @@ module _ (nodes : List Node) (slots : Entries) (root kept reserved node_places s
           | inr p ↦ record { index = p.0; gap = p.1 }
         ]
 
-    pub slot_left : length slots < slot_places
-    slot_left = omega (arith, few_slots.1, place_left (tree_entries nodes slots root) kept reserved slot_places key rec gap_for.index a.table gap_for.gap key_least fits)
-
     pub node_left : length nodes < node_places
-    node_left =
-        let t = a.table in
-        omega (
-          arith,
-          few_slots.1,
-          a.as_many,
-          place_left (tree_entries nodes slots root) kept reserved node_places key rec gap_for.index
-              (record { sorted = t.sorted; weight_is = t.weight_is; fits = t.fits; keys = t.keys; room = a.node_room }) gap_for.gap key_least fits,
-        )
+    node_left = omega (arith, few_slots.1, a.as_many, place_left (tree_entries nodes slots root) kept reserved node_places key rec gap_for.index a.table gap_for.gap key_least fits)
+
+    -- the entries weigh as much in the order in which they came
+    pub grown_weight : entries_weight (slots ++ (key, rec) ∷ []) ≡ kept + weight key rec
+    grown_weight =
+        omega (arith, sum_by-append (λ (e : Key × Rec). weight e.0 e.1) slots ((key, rec) ∷ []), sum_by-cons (λ (e : Key × Rec). weight e.0 e.1) (key, rec) [], a.same_weight)
+
+    pub grown_fits : entries_weight (slots ++ (key, rec) ∷ []) ≤ reserved
+    grown_fits = omega (arith, grown_weight, a.table.weight_is, total_apart (tree_entries nodes slots root) key rec gap_for.index gap_for.gap, fits)
 
     pub number_left : length slots + 1 < no_node
     number_left =
@@ -390,7 +408,7 @@ module _ (nodes : List Node) (slots : Entries) (root kept reserved node_places s
       }
 
       new_entry : entry_at (slots ++ (key, rec) ∷ []) (length slots) ≡ (key, rec)
-      new_entry = ap (λ n. entry_at (slots ++ (key, rec) ∷ []) n) (omega arith) ∙ get_or-append-add slots ((key, rec) ∷ []) 0 ([], Tomb)
+      new_entry = grown_entry slots key rec
 
       pub grown_new : IsNew (nodes ++ node ∷ []) (slots ++ (key, rec) ∷ []) root (length slots)
       grown_new = record {
@@ -429,16 +447,14 @@ module _ (nodes : List Node) (slots : Entries) (root kept reserved node_places s
             map-append (λ (e : Key × Rec). e.0) slots ((key, rec) ∷ [])
             ∙ sym (ap (λ (r : Option ℕ). cond (is_some r) (keys_of slots) (keys_of slots ++ key ∷ [])) nowhere)
 
-        pub arena_added : (more grown_nodes grown_slots : ℕ) → more ≡ weight key rec → node_places ≤ grown_nodes → slot_places ≤ grown_slots
-            → IsArena after (slots ++ (key, rec) ∷ []) top (kept + more) reserved grown_nodes grown_slots
-        arena_added more grown_nodes grown_slots more_is nodes_more slots_more =
-            let room = a.node_room in
+        pub arena_added : (more grown_nodes : ℕ) → more ≡ weight key rec → node_places ≤ grown_nodes → IsArena after (slots ++ (key, rec) ∷ []) top (kept + more) reserved grown_nodes
+        arena_added more grown_nodes more_is nodes_more =
             let lens = length-append slots ((key, rec) ∷ []) in
             record {
               table =
-                  subst (λ (es : Entries). IsTable es (kept + more) reserved grown_slots) (sym entries_added)
-                  (table_apart (tree_entries nodes slots root) kept reserved slot_places grown_slots key rec gap_for.index more a.table gap_for.gap key_least fits more_is slots_more);
-              node_room = omega arith;
+                  subst (λ (es : Entries). IsTable es (kept + more) reserved grown_nodes) (sym entries_added)
+                  (table_apart (tree_entries nodes slots root) kept reserved node_places grown_nodes key rec gap_for.index more a.table gap_for.gap key_least fits more_is nodes_more);
+              same_weight = grown_weight ∙ ap (λ n. kept + n) (sym more_is);
               numbered = a.numbered;
               as_many = omega (arith, a.as_many, length-append nodes (node ∷ []));
               all = omega (arith, added.one_more, ap (λ (t : Tree). length (places t)) grown_is, a.all);
@@ -475,13 +491,12 @@ put_back n xs ys len is =
 
 -- ---- an empty table
 
-pub arena_empty : (reserved node_places slot_places : ℕ) → reserved < least_weight * (node_places + 1) → reserved < least_weight * (slot_places + 1) → reserved < least_weight * no_node
-    → IsArena [] [] no_node 0 reserved node_places slot_places
-arena_empty reserved node_places slot_places nodes_fit slots_fit numbered =
+pub arena_empty : (reserved node_places : ℕ) → reserved < least_weight * (node_places + 1) → reserved < least_weight * no_node → IsArena [] [] no_node 0 reserved node_places
+arena_empty reserved node_places nodes_fit numbered =
     let bare : tree_at [] no_node ≡ Leaf = read [] no_node Leaf (omega arith) refl in
     record {
-      table = subst (λ (t : Tree). IsTable (entries_at [] (places t)) 0 reserved slot_places) (sym bare) (record { sorted = refl; weight_is = refl; fits = omega arith; keys = tt; room = slots_fit });
-      node_room = nodes_fit;
+      table = subst (λ (t : Tree). IsTable (entries_at [] (places t)) 0 reserved node_places) (sym bare) (record { sorted = refl; weight_is = refl; fits = omega arith; keys = tt; room = nodes_fit });
+      same_weight = refl;
       numbered = numbered;
       as_many = refl;
       all = ap (λ (t : Tree). length (places t)) bare;

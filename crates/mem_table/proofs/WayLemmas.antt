@@ -12,6 +12,7 @@ use Rattle.std.proofs.lemmas.List.{map-append, length-append, get_or_append_left
 use Rattle.blsm_model.specs.declared.key.Key.{Key}
 use Rattle.blsm_model.specs.Keys.{key_cmp}
 use Rattle.record_delta.specs.declared.record.Rec.{Rec}
+use Rattle.record_delta.specs.declared.record.Rec.TheVariants.{Tomb}
 use Rattle.record_delta.specs.Entries.{Entries, is_above}
 use Rattle.mem_table.specs.declared.nodes.Node.{Node}
 use Rattle.mem_table.specs.Shapes.{Tree, Leaf, Fork, height, places, times, one_if, no_node, node_at, height_of, Holds, tree_at}
@@ -274,11 +275,6 @@ next_none nodes slots root low before few is = sym (ap (λ (t : Tree). or_else (
 pub seen : (slots : Entries) (p : ℕ) (d : Key × Rec) → p < length slots → entry_at slots p ≡ get_or slots p d
 seen slots p d within = get_or_default slots p _ d within
 
-pub ordered : (slots : Entries) (key : Key) (p : ℕ) (d : Key × Rec) (compared known : Ordering) → p < length slots → compared ≡ key_cmp key (get_or slots p d).0 → compared ≡ known
-    → key_cmp key (entry_at slots p).0 ≡ known
-ordered slots key p d compared known within by same = ap (λ (x : Key × Rec). key_cmp key x.0) (seen slots p d within) ∙ sym by ∙ same
-
-pub compared_two : (slots : Entries) (q p : ℕ) (d e : Key × Rec) (compared : Ordering) → q < length slots → p < length slots → compared ≡ key_cmp (get_or slots q d).0 (get_or slots p e).0
-    → key_cmp (entry_at slots q).0 (entry_at slots p).0 ≡ compared
-compared_two slots q p d e compared within_q within_p by =
-    ap (λ (x : Key × Rec). key_cmp x.0 (entry_at slots p).0) (seen slots q d within_q) ∙ ap (λ (x : Key × Rec). key_cmp (get_or slots q d).0 x.0) (seen slots p e within_p) ∙ sym by
+-- the key of a place, beside another's
+pub compared_key : (slots : Entries) (key : Key) (q p : ℕ) (compared : Ordering) → (entry_at slots q).0 ≡ key → ((e : Key × Rec) → compared ≡ key_cmp key (get_or slots p e).0) → key_cmp (entry_at slots q).0 (entry_at slots p).0 ≡ compared
+compared_key slots key q p compared is by = ap (λ (k : Key). key_cmp k (entry_at slots p).0) is ∙ sym (by ([], Tomb))

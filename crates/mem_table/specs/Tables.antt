@@ -39,9 +39,10 @@ abbrev pub keys_of : Entries → List Key
 keys_of slots = map (λ e. e.0) slots
 
 -- what holds of the nodes and the entries of a table, each at its place
-pub record IsArena (nodes : List Node) (slots : Entries) (root weight reserved node_places slot_places : ℕ) : Type 0 where
-  pub table : IsTable (tree_entries nodes slots root) weight reserved slot_places
-  pub node_room : reserved < least_weight * (node_places + 1)
+pub record IsArena (nodes : List Node) (slots : Entries) (root weight reserved places_for_nodes : ℕ) : Type 0 where
+  pub table : IsTable (tree_entries nodes slots root) weight reserved places_for_nodes
+  -- in whichever order, they weigh the same
+  pub same_weight : entries_weight slots ≡ weight
   -- all places have a number
   pub numbered : reserved < least_weight * no_node
   pub as_many : length slots ≡ length nodes

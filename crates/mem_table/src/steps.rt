@@ -1,8 +1,10 @@
 //! How many keys a search compared, counted at no cost.
-ghost use Rattle.std.specs.Prelude.{◌≡◌, ◌+◌, ◌<◌};
+ghost use Rattle.std.specs.Prelude.{◌≡◌, ◌+◌, ◌<◌, length};
 ghost use Rattle.blsm_model.specs.Keys.{key_cmp};
+ghost use Rattle.mem_table.specs.Ways.{entry_at};
 
 use blsm_model::Key;
+use entry_store::Store;
 use std::cmp::Ordering;
 use std::marker::Model;
 use std::sync::ledger::{Blank, Book, Ledger, Share};
@@ -36,12 +38,13 @@ impl<L: Ledger> Steps<L> {
         Steps { book, share }
     }
 
-    // Compares two keys, which is a step.
-    pub(crate) fn compare(&mut self, key: &Key, other: &Key) -> Ordering
+    // Compares a key with the one at a place, which is a step.
+    pub(crate) fn compare(&mut self, key: &Key, store: &Store, place: u32) -> Ordering
+        requires { place < length store.now.slots }
         ensures step { self.new ≡ self.old + 1 }
-        ensures order { result ≡ key_cmp key.now other.now }
+        ensures order { result ≡ key_cmp key.now (entry_at store.now.slots place).0 }
     {
         self.book.add(&mut self.share, 1);
-        key.cmp(other)
+        store.compare(key, place)
     }
 }

@@ -13,24 +13,22 @@ ghost use Rattle.mem_table.specs.Tables.{IsFoldedIn, place_in, arrived_with};
 use crate::nodes::{NONE, Node};
 use crate::steps::Steps;
 use crate::ways::{add_under, find, find_above, find_in};
-use blsm_model::{Key, Op};
+use blsm_model::Key;
+use entry_store::{LEAST_WEIGHT, Store, places_for};
 use record_delta::{Rec, fold, weight};
 use refusal::NoMemory;
 use std::alloc::Global;
 use std::marker::Model;
+use std::mem::size_of;
 use std::sync::ledger::Ledger;
-
-// No entry weighs less: a key of one byte, and no text.
-const LEAST_WEIGHT: u64 = Op::OVERHEAD + 1;
 
 /// The memory table. Contracts see its entries, sorted by key, how much they may weigh, and the keys in the order in which they came.
 #[derive(Debug, Drop)]
 pub struct Table {
-    slots: Vec<(Key, Rec)>,
+    store: Store,
     nodes: Vec<Node>,
     root: u32,
     weight: u64,
-    reserved: u64,
 }
 
 impl Model for Table {
@@ -40,27 +38,33 @@ impl Model for Table {
 
     ghost Value = { Contents };
 
-    ghost view = { λ t. record { entries = tree_entries t.nodes.items t.slots.items t.root; reserved = t.reserved; arrived = keys_of t.slots.items } };
+    ghost view = { λ t. record { entries = tree_entries t.nodes.items t.store.slots t.root; reserved = t.store.reserved; arrived = keys_of t.store.slots } };
 
-    ghost invariant = { λ t. IsArena t.nodes.items t.slots.items t.root t.weight t.reserved (vec_capacity t.nodes) (vec_capacity t.slots) };
+    ghost invariant = { λ t. IsArena t.nodes.items t.store.slots t.root t.weight t.store.reserved (vec_capacity t.nodes) };
 }
 
+// At most four bytes of memory for each byte of weight.
+const _: () = prove!(Table::PLACE_BYTES as u64 <= 4 * LEAST_WEIGHT);
+
 impl Table {
+    /// How many bytes of memory a place takes: a node, and what the store has for it.
+    pub const PLACE_BYTES: usize = size_of::<Node>() + Store::PLACE_BYTES;
+
     /// An empty table with room for entries of this weight in all, in bytes. It takes memory for as many of the lightest
-    /// entries at once; where that is refused there is no table.
+    /// entries at once, which is 48 bytes for 14, and none later; where that is refused, or they are 2^32 - 1 or more, there
+    /// is no table.
     pub fn reserve(alloc: Global, weight: u64) -> Result<Table, NoMemory>
         ensures { IfOk result (λ table. table ≡ record { entries = []; reserved = weight; arrived = [] }) }
     {
-        let places = weight / LEAST_WEIGHT;
+        let places = places_for(weight);
         if places >= NONE as u64 {
             return Err(NoMemory);
         }
         Ok(Table {
-            slots: Vec::with_capacity(alloc, places as usize)?,
+            store: Store::reserve(alloc, weight)?,
             nodes: Vec::with_capacity(alloc, places as usize)?,
             root: NONE,
             weight: 0,
-            reserved: weight,
         })
     }
 
@@ -68,7 +72,7 @@ impl Table {
     pub fn clear(&mut self)
         ensures { self.new ≡ record { entries = []; reserved = self.old.reserved; arrived = [] } }
     {
-        self.slots.clear();
+        self.store.clear();
         self.nodes.clear();
         self.root = NONE;
         self.weight = 0;
@@ -90,7 +94,7 @@ impl Table {
         ensures { result ≡ record_of_key key.now self.now.entries }
     {
         match self.place_of(key) {
-            Some(place) => Some(self.slots[place as usize].1.copy()),
+            Some(place) => Some(self.store.record_at(place)),
             None => None,
         }
     }
@@ -102,8 +106,8 @@ impl Table {
         ensures few { 1 ≤ length self.now.entries → 2 ^ (steps.new - steps.old) ≤ 4 * length self.now.entries * length self.now.entries }
         ensures none { length self.now.entries ≡ 0 → steps.new ≡ steps.old }
     {
-        match find_in(&self.nodes, &self.slots, self.root, key, steps) {
-            Some(place) => Some(self.slots[place as usize].1.copy()),
+        match find_in(&self.nodes, &self.store, self.root, key, steps) {
+            Some(place) => Some(self.store.record_at(place)),
             None => None,
         }
     }
@@ -115,7 +119,7 @@ impl Table {
         ensures holder { IfSome result (HoldsAt (λ k. k ≡ key.now) self.now.arrived) }
         ensures none { IsNone result ↔ (record_of_key key.now self.now.entries ≡ None) }
     {
-        find(&self.nodes, &self.slots, self.root, key)
+        find(&self.nodes, &self.store, self.root, key)
     }
 
     /// Folds a record over the one of its key, or adds it where the key is new. All other keys keep their records. The
@@ -147,11 +151,11 @@ impl Table {
         ensures in_range { IsRecord rec.now }
         ensures sorted { AreSorted self.old.entries }
     {
-        let older = self.slots[place as usize].1.copy();
+        let older = self.store.record_at(place);
         let before = weight(key, &older);
         let folded = fold(rec.copy(), older);
         self.weight = self.weight - before + weight(key, &folded);
-        self.slots[place as usize].1 = folded;
+        self.store.set(place, key, &folded);
     }
 
     // Adds an entry for a new key.
@@ -164,27 +168,21 @@ impl Table {
         ensures sorted { AreSorted self.old.entries }
     {
         self.weight += weight(key, rec);
-        let place = self.slots.len() as u32;
-        match self.slots.push((key.copy(), rec.copy())) {
-            Ok(()) => {}
-            Err(_) => unreachable!(),
-        }
+        let place = self.nodes.len() as u32;
+        self.store.push(key, rec);
         match self.nodes.push(Node::alone()) {
             Ok(()) => {}
             Err(_) => unreachable!(),
         }
-        self.root = add_under(&mut self.nodes, &self.slots, self.root, place);
+        self.root = add_under(&mut self.nodes, &self.store, self.root, key, place);
     }
 
     /// The entry of the least key above this one, or of the least key where this is `None`.
     pub fn least_above(&self, key: Option<Key>) -> Option<(Key, Rec)>
         ensures { result ≡ first_of (above key self.now.entries) }
     {
-        match find_above(&self.nodes, &self.slots, self.root, &key, None) {
-            Some(place) => {
-                let entry = &self.slots[place as usize];
-                Some((entry.0.copy(), entry.1.copy()))
-            }
+        match find_above(&self.nodes, &self.store, self.root, &key, None) {
+            Some(place) => Some(self.store.entry(place)),
             None => None,
         }
     }

@@ -87,47 +87,93 @@ fn key_of(write: &Write) -> Key {
     }
 }
 
-// One write more, and what the table and the list of the writes have then.
-fn one_more(rt: &impl Abort, table: &mut Table, writes: &mut Vec<Write>, draws: &mut Draws)
+// The writes, and their keys in the order in which they came.
+#[derive(Drop)]
+struct Written {
+    writes: Vec<Write>,
+    keys: Vec<Key>,
+}
+
+fn place_among(keys: &[Key], key: &Key) -> Option<u32> {
+    match keys.iter().position(|other| other == key) {
+        Some(place) => u32::try_from(place).ok(),
+        None => None,
+    }
+}
+
+// The table has a key's place and record as the lists do, whichever way they are looked up.
+fn as_written(rt: &impl Abort, table: &Table, written: &Written, key: &Key) {
+    let record = fold_writes(&written.writes, key);
+    assert_eq!(rt; table.place_of(key), place_among(&written.keys, key));
+    let found = searched::<Brand>(table, key, Blank::new(1));
+    assert_eq!(rt; found, record);
+    assert_eq!(rt; table.get(key), record);
+    assert_eq!(rt; settled(table, key), value_of(&written.writes, key));
+}
+
+fn note(rt: &impl Abort, written: &mut Written, write: Write) {
+    let key = key_of(&write);
+    assert!(rt; written.writes.push(write).is_ok());
+    if place_among(&written.keys, &key).is_none() {
+        assert!(rt; written.keys.push(key).is_ok());
+    }
+}
+
+// One write more, and what the table and the lists have then.
+fn one_more(rt: &impl Abort, table: &mut Table, written: &mut Written, draws: &mut Draws)
     requires { table.old.reserved ≡ RESERVED }
     ensures { table.new.reserved ≡ RESERVED }
 {
     let write = any_write(rt, draws);
-    let written = key_of(&write);
-    fold_in(rt, table, &written, &Rec::of_write(&write));
-    assert!(rt; writes.push(write).is_ok());
-    assert_eq!(rt; table.get(&written), fold_writes(writes, &written));
-    let other = any_key(rt, draws);
-    assert_eq!(rt; settled(table, &other), value_of(writes, &other));
+    let key = key_of(&write);
+    fold_in(rt, table, &key, &Rec::of_write(&write));
+    note(rt, written, write);
+    as_written(rt, table, written, &key);
+    as_written(rt, table, written, &any_key(rt, draws));
 }
 
 // From key to key, each once.
-fn walk(rt: &impl Abort, table: &Table) {
+fn walk(rt: &impl Abort, table: &Table, keys: &[Key]) {
     let mut weights = 0u64;
     let mut next = table.least_above(None);
-    for _ in 0..84 {
+    for _ in 0..keys.len() {
         next = match next {
             Some((key, rec)) => {
+                assert!(rt; place_among(keys, &key).is_some());
                 assert_eq!(rt; table.get(&key), Some(rec.copy()));
                 weights = weights.wrapping_add(weight(&key, &rec));
                 table.least_above(Some(key))
             }
-            None => None,
+            None => rt.abort(),
         };
     }
     assert!(rt; next.is_none());
     assert_eq!(rt; weights, table.weight());
 }
 
+// A pass: so many writes, from key to key, and the table is empty again.
+fn pass(rt: &impl Abort, alloc: Global, table: &mut Table, draws: &mut Draws)
+    requires { table.old.reserved ≡ RESERVED }
+    ensures { table.new.reserved ≡ RESERVED }
+{
+    let mut written = Written {
+        writes: Vec::new(alloc),
+        keys: Vec::new(alloc),
+    };
+    'writes: for _ in 0..1_000 {
+        one_more(rt, table, &mut written, draws);
+    }
+    walk(rt, table, &written.keys);
+    table.clear();
+    is_empty(rt, table);
+}
+
 #[test]
 fn two_thousand_writes_beside_their_list(rt: HostRuntime) {
     let mut table = reserved(&rt, rt.alloc());
-    let mut writes = Vec::new(rt.alloc());
     let mut draws = Draws(7);
-    'writes: for _ in 0..2_000 {
-        one_more(&rt, &mut table, &mut writes, &mut draws);
-    }
-    walk(&rt, &table);
+    pass(&rt, rt.alloc(), &mut table, &mut draws);
+    pass(&rt, rt.alloc(), &mut table, &mut draws);
 }
 
 // Folds a record of the key of these letters.

@@ -1,71 +1,71 @@
-use Rattle.std.proofs.Common.{arith}
-use Rattle.mem_table.proofs.WayLemmas.{forked, answer_left, answer_right, answer_here, answer_none, ordered}
+use Rattle.std.proofs.Common.{sym, ◌∙◌, arith}
+use Rattle.mem_table.proofs.WayLemmas.{forked, answer_left, answer_right, answer_here, answer_none}
 use Rattle.mem_table.proofs.ways.+find_in.Goals as goal
 
 pub returns-then-root-eq-NONE-clause-absent : goal.returns-then-root-eq-NONE-clause-absent
-returns-then-root-eq-NONE-clause-absent g t c = (answer_none c.args.nodes.now c.args.slots.now c.args.root c.args.key.now c.requires.few c.if-root-eq-NONE.true).absent
+returns-then-root-eq-NONE-clause-absent g t c = (answer_none c.args.nodes.now c.args.store.now.slots c.args.root c.args.key.now c.requires.few c.if-root-eq-NONE.true).absent
 
 pub bounds-nodes-root : goal.bounds-nodes-root
-bounds-nodes-root g t c = (forked c.args.nodes.now c.args.slots.now c.args.root c.requires c.if-root-eq-NONE.false).in_range
+bounds-nodes-root g t c = (forked c.args.nodes.now c.args.store.now.slots c.args.root c.requires c.if-root-eq-NONE.false).in_range
 
-pub bounds-slots-root : goal.bounds-slots-root
-bounds-slots-root g t c = omega (arith, (forked c.args.nodes.now c.args.slots.now c.args.root c.requires c.if-root-eq-NONE.false).in_range, c.requires.as_many)
+pub compare-requires : goal.compare-requires
+compare-requires g t c = omega (arith, (forked c.args.nodes.now c.args.store.now.slots c.args.root c.requires c.if-root-eq-NONE.false).in_range, c.requires.as_many)
 
 pub find_in-requires : goal.find_in-requires
 find_in-requires g t c =
-    let fork = forked c.args.nodes.now c.args.slots.now c.args.root c.requires c.if-root-eq-NONE.false in
+    let fork = forked c.args.nodes.now c.args.store.now.slots c.args.root c.requires c.if-root-eq-NONE.false in
     λ κs lives. (omega (arith, fork.lower_left, c.decreases), (lives, fork.left_tree))
 
 pub find_in-requires-in-Greater : goal.find_in-requires-in-Greater
 find_in-requires-in-Greater g t c =
-    let fork = forked c.args.nodes.now c.args.slots.now c.args.root c.requires c.if-root-eq-NONE.false in
+    let fork = forked c.args.nodes.now c.args.store.now.slots c.args.root c.requires c.if-root-eq-NONE.false in
     λ κs lives. (omega (arith, fork.lower_right, c.decreases), (lives, fork.right_tree))
 
 pub returns-in-Less-clause-found : goal.returns-in-Less-clause-found
 returns-in-Less-clause-found g t c =
-    let fork = forked c.args.nodes.now c.args.slots.now c.args.root c.requires c.if-root-eq-NONE.false in
-    (answer_left c.args.nodes.now c.args.slots.now c.args.root _ _ c.args.key.now fork c.find_in.result
-    (ordered c.args.slots.now c.args.key.now c.args.root c.index-slots-root.result c.compare.result _ (omega (arith, fork.in_range, c.requires.as_many)) c.compare.ensures.order c.in-Less.is)
+    let fork = forked c.args.nodes.now c.args.store.now.slots c.args.root c.requires c.if-root-eq-NONE.false in
+    (answer_left c.args.nodes.now c.args.store.now.slots c.args.root _ _ c.args.key.now fork c.find_in.result
+    (sym c.compare.ensures.order ∙ c.in-Less.is)
     (record { found = c.find_in.ensures.found; absent = c.find_in.ensures.absent })).found
 
 pub returns-in-Less-clause-absent : goal.returns-in-Less-clause-absent
 returns-in-Less-clause-absent g t c =
-    let fork = forked c.args.nodes.now c.args.slots.now c.args.root c.requires c.if-root-eq-NONE.false in
-    (answer_left c.args.nodes.now c.args.slots.now c.args.root _ _ c.args.key.now fork c.find_in.result
-    (ordered c.args.slots.now c.args.key.now c.args.root c.index-slots-root.result c.compare.result _ (omega (arith, fork.in_range, c.requires.as_many)) c.compare.ensures.order c.in-Less.is)
+    let fork = forked c.args.nodes.now c.args.store.now.slots c.args.root c.requires c.if-root-eq-NONE.false in
+    (answer_left c.args.nodes.now c.args.store.now.slots c.args.root _ _ c.args.key.now fork c.find_in.result
+    (sym c.compare.ensures.order ∙ c.in-Less.is)
     (record { found = c.find_in.ensures.found; absent = c.find_in.ensures.absent })).absent
 
 pub returns-in-Less-clause-few : goal.returns-in-Less-clause-few
 returns-in-Less-clause-few g t c =
-    let fork = forked c.args.nodes.now c.args.slots.now c.args.root c.requires c.if-root-eq-NONE.false in
+    let fork = forked c.args.nodes.now c.args.store.now.slots c.args.root c.requires c.if-root-eq-NONE.false in
     omega (arith, c.find_in.ensures.few, c.compare.ensures.step, fork.lower_left)
 
 pub returns-in-Greater-clause-few : goal.returns-in-Greater-clause-few
 returns-in-Greater-clause-few g t c =
-    let fork = forked c.args.nodes.now c.args.slots.now c.args.root c.requires c.if-root-eq-NONE.false in
+    let fork = forked c.args.nodes.now c.args.store.now.slots c.args.root c.requires c.if-root-eq-NONE.false in
     omega (arith, c.find_in-in-Greater.ensures.few, c.compare.ensures.step, fork.lower_right)
 
 pub returns-in-Equal-clause-few : goal.returns-in-Equal-clause-few
 returns-in-Equal-clause-few g t c =
-    let fork = forked c.args.nodes.now c.args.slots.now c.args.root c.requires c.if-root-eq-NONE.false in
+    let fork = forked c.args.nodes.now c.args.store.now.slots c.args.root c.requires c.if-root-eq-NONE.false in
     omega (arith, c.compare.ensures.step, fork.lower_left)
 
 pub returns-in-Equal-clause-found : goal.returns-in-Equal-clause-found
 returns-in-Equal-clause-found g t c =
-    let fork = forked c.args.nodes.now c.args.slots.now c.args.root c.requires c.if-root-eq-NONE.false in
-    (answer_here c.args.nodes.now c.args.slots.now c.args.root _ _ c.args.key.now fork
-    (ordered c.args.slots.now c.args.key.now c.args.root c.index-slots-root.result c.compare.result _ (omega (arith, fork.in_range, c.requires.as_many)) c.compare.ensures.order c.in-Equal.is)).found
+    let fork = forked c.args.nodes.now c.args.store.now.slots c.args.root c.requires c.if-root-eq-NONE.false in
+    (answer_here c.args.nodes.now c.args.store.now.slots c.args.root _ _ c.args.key.now fork
+    (sym c.compare.ensures.order ∙ c.in-Equal.is)).found
 
 pub returns-in-Greater-clause-found : goal.returns-in-Greater-clause-found
 returns-in-Greater-clause-found g t c =
-    let fork = forked c.args.nodes.now c.args.slots.now c.args.root c.requires c.if-root-eq-NONE.false in
-    (answer_right c.args.nodes.now c.args.slots.now c.args.root _ _ c.args.key.now fork c.find_in-in-Greater.result
-    (ordered c.args.slots.now c.args.key.now c.args.root c.index-slots-root.result c.compare.result _ (omega (arith, fork.in_range, c.requires.as_many)) c.compare.ensures.order c.in-Greater.is)
+    let fork = forked c.args.nodes.now c.args.store.now.slots c.args.root c.requires c.if-root-eq-NONE.false in
+    (answer_right c.args.nodes.now c.args.store.now.slots c.args.root _ _ c.args.key.now fork c.find_in-in-Greater.result
+    (sym c.compare.ensures.order ∙ c.in-Greater.is)
     (record { found = c.find_in-in-Greater.ensures.found; absent = c.find_in-in-Greater.ensures.absent })).found
 
 pub returns-in-Greater-clause-absent : goal.returns-in-Greater-clause-absent
 returns-in-Greater-clause-absent g t c =
-    let fork = forked c.args.nodes.now c.args.slots.now c.args.root c.requires c.if-root-eq-NONE.false in
-    (answer_right c.args.nodes.now c.args.slots.now c.args.root _ _ c.args.key.now fork c.find_in-in-Greater.result
-    (ordered c.args.slots.now c.args.key.now c.args.root c.index-slots-root.result c.compare.result _ (omega (arith, fork.in_range, c.requires.as_many)) c.compare.ensures.order c.in-Greater.is)
+    let fork = forked c.args.nodes.now c.args.store.now.slots c.args.root c.requires c.if-root-eq-NONE.false in
+    (answer_right c.args.nodes.now c.args.store.now.slots c.args.root _ _ c.args.key.now fork c.find_in-in-Greater.result
+    (sym c.compare.ensures.order ∙ c.in-Greater.is)
     (record { found = c.find_in-in-Greater.ensures.found; absent = c.find_in-in-Greater.ensures.absent })).absent

@@ -5,11 +5,10 @@ use Rattle.mem_table.proofs.table.Table.clear.Goals as goal
 
 pub invariant_of-self : goal.invariant_of-self
 invariant_of-self c =
-    let rooms = c.self.invariant.node_room in
     let places = c.self.invariant.table.room in
-    rw (c.clear-2.ensures.items, c.clear.ensures.items)
-    (arena_empty c.self.inside.reserved _ _ (omega (arith, c.clear-2.ensures.capacity)) (omega (arith, c.clear.ensures.capacity)) c.self.invariant.numbered)
+    rw (c.clear-2.ensures.items, c.clear.ensures)
+    (arena_empty c.self.inside.store.reserved _ (omega (arith, c.clear-2.ensures.capacity)) c.self.invariant.numbered)
 
 pub returns : goal.returns
 returns c =
-    rw (c.clear-2.ensures.items, c.clear.ensures.items, ← c.self.view_is) (ap (λ (es : Entries). record { entries = es; reserved = c.self.inside.reserved; arrived = [] }) entries_empty)
+    rw (c.clear-2.ensures.items, c.clear.ensures, ← c.self.view_is) (ap (λ (es : Entries). record { entries = es; reserved = c.self.inside.store.reserved; arrived = [] }) entries_empty)

@@ -1,4 +1,4 @@
-use Rattle.std.proofs.Common.{◌≡◌, Some, None, ap, sym, subst, ◌∙◌, arith}
+use Rattle.std.proofs.Common.{◌≡◌, Some, None, ap, sym, subst, ◌∙◌}
 use Rattle.blsm_model.specs.declared.key.Key.{Key}
 use Rattle.record_delta.specs.declared.record.Rec.{Rec}
 use Rattle.record_delta.specs.Entries.{first_of, above}
@@ -9,27 +9,26 @@ use Rattle.mem_table.proofs.TableLemmas.{tree_there, least_some, least_none}
 use Rattle.mem_table.proofs.table.Table.least_above.Goals as goal
 
 pub find_above-requires : goal.find_above-requires
-find_above-requires c = rw (c.deref.ensures.value, c.deref-2.ensures.value) (tree_there c.self.inside.nodes.items c.self.inside.slots.items c.self.inside.root _ _ _ _ c.self.invariant)
+find_above-requires c = rw c.deref.ensures.value (tree_there c.self.inside.nodes.items c.self.inside.store.slots c.self.inside.root _ _ _ c.self.invariant)
 
-pub index-entry-requires : goal.index-entry-requires
-index-entry-requires c =
-    let tree = tree_there c.self.inside.nodes.items c.self.inside.slots.items c.self.inside.root _ _ _ _ c.self.invariant in
-    let some = least_some c.self.inside.nodes.items c.self.inside.slots.items c.self.inside.root tree c.args.key c.find_above.result
-    (rw (c.deref.ensures.value, c.deref-2.ensures.value) at c.find_above.ensures) c.in-Some.place c.in-Some.is in
-    omega (arith, some.1, c.self.inside.slots.ok.0)
+pub entry-requires : goal.entry-requires
+entry-requires c =
+    let tree = tree_there c.self.inside.nodes.items c.self.inside.store.slots c.self.inside.root _ _ _ c.self.invariant in
+    let some = least_some c.self.inside.nodes.items c.self.inside.store.slots c.self.inside.root tree c.args.key c.find_above.result
+    (rw c.deref.ensures.value at c.find_above.ensures) c.in-Some.place c.in-Some.is in
+    some.1
 
 pub returns-in-Some : goal.returns-in-Some
 returns-in-Some c =
-    let tree = tree_there c.self.inside.nodes.items c.self.inside.slots.items c.self.inside.root _ _ _ _ c.self.invariant in
-    let some = least_some c.self.inside.nodes.items c.self.inside.slots.items c.self.inside.root tree c.args.key c.find_above.result
-    (rw (c.deref.ensures.value, c.deref-2.ensures.value) at c.find_above.ensures) c.in-Some.place c.in-Some.is in
-    let copied : (c.copy.result, c.copy-in-Some.result) ≡ c.index-entry.result.now = rw (c.copy.ensures, c.copy-in-Some.ensures.same) in
-    ap (λ (e : Key × Rec). Some e) (copied ∙ c.index-entry.ensures ∙ sym (seen c.self.inside.slots.items c.in-Some.place c.index-entry.result.now some.1))
-    ∙ sym (subst (λ (v : Contents). first_of (above c.args.key v.entries) ≡ Some (entry_at c.self.inside.slots.items c.in-Some.place)) c.self.view_is some.0)
+    let tree = tree_there c.self.inside.nodes.items c.self.inside.store.slots c.self.inside.root _ _ _ c.self.invariant in
+    let some = least_some c.self.inside.nodes.items c.self.inside.store.slots c.self.inside.root tree c.args.key c.find_above.result
+    (rw c.deref.ensures.value at c.find_above.ensures) c.in-Some.place c.in-Some.is in
+    ap (λ (e : Key × Rec). Some e) (c.entry.ensures ∙ sym (seen c.self.inside.store.slots c.in-Some.place c.entry.result some.1))
+    ∙ sym (subst (λ (v : Contents). first_of (above c.args.key v.entries) ≡ Some (entry_at c.self.inside.store.slots c.in-Some.place)) c.self.view_is some.0)
 
 pub returns-in-None : goal.returns-in-None
 returns-in-None c =
-    let tree = tree_there c.self.inside.nodes.items c.self.inside.slots.items c.self.inside.root _ _ _ _ c.self.invariant in
-    let none = least_none c.self.inside.nodes.items c.self.inside.slots.items c.self.inside.root tree c.args.key c.find_above.result
-    (rw (c.deref.ensures.value, c.deref-2.ensures.value) at c.find_above.ensures) c.in-None.is in
+    let tree = tree_there c.self.inside.nodes.items c.self.inside.store.slots c.self.inside.root _ _ _ c.self.invariant in
+    let none = least_none c.self.inside.nodes.items c.self.inside.store.slots c.self.inside.root tree c.args.key c.find_above.result
+    (rw c.deref.ensures.value at c.find_above.ensures) c.in-None.is in
     sym (subst (λ (v : Contents). first_of (above c.args.key v.entries) ≡ None) c.self.view_is none)

@@ -5,9 +5,9 @@ use Rattle.mem_table.proofs.table.Table.reserve.Goals as goal
 
 pub invariant_of-result : goal.invariant_of-result
 invariant_of-result c =
-    rw (c.in_ok-with_capacity-2.ensures.items, c.in_ok-with_capacity.ensures.items)
-    (arena_empty c.args.weight _ _ (omega (arith, c.in_ok-with_capacity-2.ensures.exact)) (omega (arith, c.in_ok-with_capacity.ensures.exact)) (omega arith))
+    rw (c.in_ok-with_capacity.ensures.items, c.in_ok-reserve.ensures)
+    (arena_empty c.args.weight _ (omega (arith, c.in_ok-with_capacity.ensures.exact, c.places_for-places.ensures)) (omega (arith, c.places_for-places.ensures)))
 
 pub returns : goal.returns
 returns c =
-    rw (c.in_ok-with_capacity-2.ensures.items, c.in_ok-with_capacity.ensures.items) (ap (λ (es : Entries). record { entries = es; reserved = c.args.weight; arrived = [] }) entries_empty)
+    rw (c.in_ok-with_capacity.ensures.items, c.in_ok-reserve.ensures) (ap (λ (es : Entries). record { entries = es; reserved = c.args.weight; arrived = [] }) entries_empty)

@@ -1,0 +1,4 @@
+pub mod ChainLemmas
+pub mod StoreLemmas
+pub mod SetLemmas
+pub mod CompareLemmas

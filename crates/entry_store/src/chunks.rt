@@ -1,0 +1,128 @@
+//! Strings of bytes in chunks of sixteen, linked by numbers.
+ghost use Rattle.std.specs.Prelude.{◌≡◌, ℕ, ◌+◌, ◌-◌, ◌*◌, ◌^◌, ◌<◌, ◌≤◌, ◌++◌, length, take};
+ghost use Rattle.std.specs.Ordering.{nat_cmp};
+ghost use Rattle.std.specs.Cmp.Lexicographic.{slice_cmp};
+ghost use Rattle.entry_store.specs.Chains.{AreLinked, chunks_for, chunk_at, next_of, chain, walk, text_of, times, linked};
+
+use arrayvec::ArrayVec;
+use std::cmp::Ordering;
+
+/// How many bytes a chunk has.
+pub(crate) const CHUNK: usize = 16;
+
+/// The most bytes of a key with its text.
+pub(crate) const MOST: usize = 499;
+
+/// Some bytes, and the chunk that comes next.
+#[derive(Clone, Copy, Debug, Drop)]
+pub(crate) struct Chunk {
+    pub(crate) bytes: [u8; 16],
+    pub(crate) next: u32,
+}
+
+// The bytes, with zeros behind them.
+fn piece(bytes: &[u8]) -> [u8; 16]
+    requires { length bytes.now ≤ 16 }
+    ensures bytes { take (length bytes.now) result ≡ bytes.now }
+    ensures len { length result ≡ 16 }
+{
+    let mut piece = [0; 16];
+    piece[..bytes.len()].copy_from_slice(bytes);
+    piece
+}
+
+// Writes a string into chunks that are linked already, and gives the chunk behind them.
+pub(crate) fn fill(chunks: &mut [Chunk], at: u32, bytes: &[u8]) -> u32
+    requires inside { (q : ℕ) → 1 ≤ times q (chain (chunks_for (length bytes.now)) chunks.old at) → q < length chunks.old }
+    requires apart { (q : ℕ) → times q (chain (chunks_for (length bytes.now)) chunks.old at) ≤ 1 }
+    requires full { (q : ℕ) → q < length chunks.old → length (chunk_at chunks.old q).bytes ≡ 16 }
+    ensures links { (q : ℕ) → next_of chunks.new q ≡ next_of chunks.old q }
+    ensures others { (q : ℕ) → times q (chain (chunks_for (length bytes.now)) chunks.old at) ≡ 0 → chunk_at chunks.new q ≡ chunk_at chunks.old q }
+    ensures text { text_of (chunks_for (length bytes.now)) chunks.new at (length bytes.now) ≡ bytes.now }
+    ensures next { result ≡ walk (chunks_for (length bytes.now)) chunks.old at }
+    ensures full { (q : ℕ) → q < length chunks.old → length (chunk_at chunks.new q).bytes ≡ 16 }
+{
+    if bytes.is_empty() {
+        return at;
+    }
+    let many = bytes.len().min(CHUNK);
+    let next = chunks[at as usize].next;
+    chunks[at as usize] = Chunk {
+        bytes: piece(&bytes[..many]),
+        next,
+    };
+    fill(chunks, next, &bytes[many..])
+}
+
+// Reads a string from its chunks.
+pub(crate) fn read(chunks: &[Chunk], at: u32, len: usize, into: &mut ArrayVec<u8, MOST>)
+    requires inside { (q : ℕ) → 1 ≤ times q (chain (chunks_for len) chunks.now at) → q < length chunks.now }
+    requires room { length into.old.items + len ≤ 499 }
+    ensures { into.new.items ≡ into.old.items ++ text_of (chunks_for len) chunks.now at len }
+{
+    if len == 0 {
+        return;
+    }
+    let many = len.min(CHUNK);
+    let chunk = chunks[at as usize];
+    match into.try_extend_from_slice(&chunk.bytes[..many]) {
+        Ok(()) => {}
+        Err(_) => unreachable!(),
+    }
+    read(chunks, chunk.next, len - many, into);
+}
+
+// How bytes stand to the string of this length that begins at a chunk.
+pub(crate) fn compare(bytes: &[u8], chunks: &[Chunk], at: u32, len: usize) -> Ordering
+    requires inside { (q : ℕ) → 1 ≤ times q (chain (chunks_for len) chunks.now at) → q < length chunks.now }
+    requires full { (q : ℕ) → q < length chunks.now → length (chunk_at chunks.now q).bytes ≡ 16 }
+    ensures { result ≡ slice_cmp nat_cmp bytes.now (text_of (chunks_for len) chunks.now at len) }
+{
+    if len == 0 {
+        return if bytes.is_empty() {
+            Ordering::Equal
+        } else {
+            Ordering::Greater
+        };
+    }
+    let chunk = &chunks[at as usize];
+    let front = bytes.len().min(CHUNK);
+    let many = len.min(CHUNK);
+    match bytes[..front].cmp(&chunk.bytes[..many]) {
+        Ordering::Equal => compare(&bytes[front..], chunks, chunk.next, len - many),
+        decided => decided,
+    }
+}
+
+// Links each chunk to the one behind it, whatever it was linked to.
+pub(crate) fn link_all(chunks: &mut [Chunk])
+    requires numbered { length chunks.old < 2 ^ 32 }
+    requires full { (q : ℕ) → q < length chunks.old → length (chunk_at chunks.old q).bytes ≡ 16 }
+    ensures { AreLinked chunks.new }
+{
+    'chunks: for number in 0..chunks.len() as u32 {
+        chunks[number as usize].next = number + 1;
+    }
+}
+
+// The last of so many linked chunks.
+fn last_of(chunks: &[Chunk], first: u32, many: u32) -> u32
+    requires some { 1 ≤ many }
+    requires inside { (q : ℕ) → 1 ≤ times q (chain many chunks.now first) → q < length chunks.now }
+    ensures { result ≡ walk (many - 1) chunks.now first }
+{
+    if many == 1 {
+        return first;
+    }
+    last_of(chunks, chunks[first as usize].next, many - 1)
+}
+
+// Links so many chunks in front of the free ones.
+pub(crate) fn give_back(chunks: &mut [Chunk], first: u32, many: u32, free: u32)
+    requires some { 1 ≤ many }
+    requires inside { (q : ℕ) → 1 ≤ times q (chain many chunks.old first) → q < length chunks.old }
+    ensures { chunks.new ≡ linked chunks.old (walk (many - 1) chunks.old first) free }
+{
+    let last = last_of(chunks, first, many);
+    chunks[last as usize].next = free;
+}

@@ -1,0 +1,8 @@
+//! Keys and records at numbered places, with their bytes in chunks. Contracts see the list of them, and how much they may
+//! weigh. The memory table stands on it.
+#![tactic(auto)]
+
+mod chunks;
+mod store;
+
+pub use store::{LEAST_WEIGHT, Store, places_for};

@@ -1,0 +1,258 @@
+//! Keys and records at numbered places.
+ghost use Rattle.std.specs.Prelude.{◌≡◌, ◌+◌, ◌-◌, ◌/◌, ◌<◌, ◌≤◌, ◌++◌, ◌∷◌, [], length, take, drop, set, slice_index_or, IfOk};
+ghost use Rattle.blsm_model.specs.declared.key.Key.{Key};
+ghost use Rattle.blsm_model.specs.Format.{least_weight};
+ghost use Rattle.blsm_model.specs.Keys.{key_cmp};
+ghost use Rattle.record_delta.specs.declared.record.Rec.{Rec};
+ghost use Rattle.record_delta.specs.Records.{text_of as text_in, IsRecord};
+ghost use Rattle.record_delta.specs.Entries.{entries_weight};
+ghost use Rattle.entry_store.specs.Chains.{chunks_for};
+ghost use Rattle.entry_store.specs.Stores.{IsHead, IsHeadOf, HasText, rec_with};
+
+use crate::chunks::{CHUNK, Chunk, MOST, compare, fill, give_back, link_all, read};
+use arrayvec::ArrayVec;
+use blsm_model::{Key, Op, Text, Value};
+use record_delta::Rec;
+use refusal::NoMemory;
+use std::alloc::Global;
+use std::cmp::Ordering;
+use std::marker::Model;
+use std::mem::size_of;
+
+/// No entry weighs less, in bytes: a key of one byte, and no text.
+pub const LEAST_WEIGHT: u64 = Op::OVERHEAD + 1;
+
+/// How many of the lightest entries weigh this much, in bytes.
+pub fn places_for(weight: u64) -> u64
+    ensures { result ≡ weight / least_weight }
+{
+    weight / LEAST_WEIGHT
+}
+
+/// What kind of record it is.
+#[derive(Clone, Copy, Debug, Drop)]
+pub(crate) enum Kind {
+    Base,
+    Delta,
+    Tomb,
+}
+
+/// Where the bytes of a key and its text are, and what else the record has.
+#[derive(Clone, Copy, Debug, Drop)]
+pub(crate) struct Head {
+    pub(crate) count: u64,
+    pub(crate) first: u32,
+    pub(crate) text_len: u16,
+    pub(crate) key_len: u8,
+    pub(crate) kind: Kind,
+}
+
+impl Head {
+    fn len(&self) -> usize
+        ensures { result ≡ self.now.key_len + self.now.text_len }
+    {
+        self.key_len as usize + self.text_len as usize
+    }
+
+    fn chunks(&self) -> u32
+        ensures { result ≡ chunks_for (self.now.key_len + self.now.text_len) }
+    {
+        ((self.len() + 15) / CHUNK) as u32
+    }
+}
+
+/// Keys and records, each at its place. Contracts see them as a list, and how much they may weigh.
+#[derive(Debug, Drop)]
+pub struct Store {
+    heads: Vec<Head>,
+    chunks: Vec<Chunk>,
+    free: u32,
+    reserved: u64,
+}
+
+impl Model for Store {
+    ghost use Rattle.std.specs.Vec.{vec_capacity};
+    ghost use Rattle.entry_store.specs.Stores.{Stored, IsStore, entries_in};
+
+    ghost Value = { Stored };
+
+    ghost view = { λ s. record { slots = entries_in s.chunks.items s.heads.items; reserved = s.reserved } };
+
+    ghost invariant = { λ s. IsStore s.chunks.items s.heads.items s.free s.reserved (vec_capacity s.heads) };
+}
+
+// What kind of record it is, its count, and how many bytes its text has.
+fn sort_of(rec: &Rec) -> (Kind, u64, usize)
+    ensures sort { rec_with result.0 result.1 (text_in rec.now) ≡ rec.now }
+    ensures text_len { result.2 ≡ length (text_in rec.now) }
+    ensures has_text { HasText result.0 result.2 }
+    ensures in_range { IsRecord rec.now }
+{
+    match rec {
+        Rec::Base(Value { count, text }) => (Kind::Base, *count, text.as_bytes().len()),
+        Rec::Delta(count) => (Kind::Delta, *count, 0),
+        Rec::Tomb => (Kind::Tomb, 0, 0),
+    }
+}
+
+// The bytes of a key and its text, behind one another, and the head of the record, whose bytes begin at a chunk.
+fn packed(key: &Key, rec: &Rec, first: u32) -> (Head, ArrayVec<u8, MOST>)
+    ensures head { IsHeadOf result.0 key.now rec.now first }
+    ensures bytes { result.1.items ≡ key.now ++ text_in rec.now }
+    ensures in_range { IsRecord rec.now }
+{
+    let mut bytes = ArrayVec::new();
+    let (kind, count, text_len) = sort_of(rec);
+    let key_bytes = key.as_bytes();
+    let _ = bytes.try_extend_from_slice(key_bytes);
+    if let Rec::Base(value) = rec {
+        let _ = bytes.try_extend_from_slice(value.text.as_bytes());
+    }
+    (
+        Head {
+            count,
+            first,
+            text_len: text_len as u16,
+            key_len: key_bytes.len() as u8,
+            kind,
+        },
+        bytes,
+    )
+}
+
+// The record of a head and its bytes.
+fn record_of(head: Head, bytes: &[u8]) -> Rec
+    requires head { IsHead head }
+    requires len { length bytes.now ≡ head.key_len + head.text_len }
+    ensures { result ≡ rec_with head.kind head.count (drop head.key_len bytes.now) }
+{
+    let (_, text_bytes) = bytes.split_at(head.key_len as usize);
+    match head.kind {
+        Kind::Base => {
+            let Some(text) = Text::from_bytes(text_bytes) else {
+                unreachable!()
+            };
+            Rec::Base(Value {
+                count: head.count,
+                text,
+            })
+        }
+        Kind::Delta => Rec::Delta(head.count),
+        Kind::Tomb => Rec::Tomb,
+    }
+}
+
+// The key and the record of a head and its bytes.
+fn parts(head: Head, bytes: &[u8]) -> (Key, Rec)
+    requires head { IsHead head }
+    requires len { length bytes.now ≡ head.key_len + head.text_len }
+    ensures { result ≡ (take head.key_len bytes.now, rec_with head.kind head.count (drop head.key_len bytes.now)) }
+{
+    let (key_bytes, _) = bytes.split_at(head.key_len as usize);
+    let Some(key) = Key::from_bytes(key_bytes) else {
+        unreachable!()
+    };
+    (key, record_of(head, bytes))
+}
+
+impl Store {
+    /// How many bytes of memory a place takes: a head, and one chunk. That is enough: the chunks of an entry are never more
+    /// than the lightest entries that weigh what it does.
+    pub const PLACE_BYTES: usize = size_of::<Head>() + size_of::<Chunk>();
+
+    /// An empty store for entries of this weight in all, in bytes. It takes memory for as many of the lightest at once, which
+    /// is a place for each; where that is refused, or they are 2^32 - 1 or more, there is no store.
+    pub fn reserve(alloc: Global, weight: u64) -> Result<Store, NoMemory>
+        ensures { IfOk result (λ store. store ≡ record { slots = []; reserved = weight }) }
+    {
+        let places = places_for(weight);
+        if places >= u32::MAX as u64 {
+            return Err(NoMemory);
+        }
+        let mut chunks = Vec::with_capacity(alloc, places as usize)?;
+        'chunks: for number in 0..places as u32 {
+            chunks.push(Chunk {
+                bytes: [0; 16],
+                next: number + 1,
+            })?;
+        }
+        Ok(Store {
+            heads: Vec::with_capacity(alloc, places as usize)?,
+            chunks,
+            free: 0,
+            reserved: weight,
+        })
+    }
+
+    /// Adds an entry at the next place. All may then weigh at most what was reserved. It takes no memory.
+    pub fn push(&mut self, key: &Key, rec: &Rec)
+        requires { entries_weight (self.old.slots ++ (key.now, rec.now) ∷ []) ≤ self.old.reserved }
+        ensures added { self.new ≡ record { slots = self.old.slots ++ (key.now, rec.now) ∷ []; reserved = self.old.reserved } }
+        ensures in_range { IsRecord rec.now }
+    {
+        let (head, bytes) = packed(key, rec, self.free);
+        self.free = fill(&mut self.chunks, self.free, bytes.as_slice());
+        match self.heads.push(head) {
+            Ok(()) => {}
+            Err(_) => unreachable!(),
+        }
+    }
+
+    /// The entry at a place.
+    pub fn entry(&self, place: u32) -> (Key, Rec)
+        requires { place < length self.now.slots }
+        ensures { result ≡ slice_index_or self.now.slots place result }
+    {
+        let head = self.heads[place as usize];
+        let mut bytes = ArrayVec::new();
+        read(&self.chunks, head.first, head.len(), &mut bytes);
+        parts(head, bytes.as_slice())
+    }
+
+    /// The record at a place.
+    pub fn record_at(&self, place: u32) -> Rec
+        requires { place < length self.now.slots }
+        ensures { (entry : Key × Rec) → result ≡ (slice_index_or self.now.slots place entry).1 }
+    {
+        let head = self.heads[place as usize];
+        let mut bytes = ArrayVec::new();
+        read(&self.chunks, head.first, head.len(), &mut bytes);
+        record_of(head, bytes.as_slice())
+    }
+
+    /// How a key stands to the one at a place. It takes no memory, and no bytes are moved.
+    pub fn compare(&self, key: &Key, place: u32) -> Ordering
+        requires { place < length self.now.slots }
+        ensures { (entry : Key × Rec) → result ≡ key_cmp key.now (slice_index_or self.now.slots place entry).0 }
+    {
+        let head = self.heads[place as usize];
+        compare(
+            key.as_bytes(),
+            &self.chunks,
+            head.first,
+            head.key_len as usize,
+        )
+    }
+
+    /// Another record for the key at a place. All may then weigh at most what was reserved. It takes no memory.
+    pub fn set(&mut self, place: u32, key: &Key, rec: &Rec)
+        requires place { place < length self.old.slots }
+        requires fits { entries_weight (set self.old.slots place (key.now, rec.now)) ≤ self.old.reserved }
+        ensures { self.new ≡ record { slots = set self.old.slots place (key.now, rec.now); reserved = self.old.reserved } }
+    {
+        let older = self.heads[place as usize];
+        give_back(&mut self.chunks, older.first, older.chunks(), self.free);
+        let (head, bytes) = packed(key, rec, older.first);
+        self.free = fill(&mut self.chunks, older.first, bytes.as_slice());
+        self.heads[place as usize] = head;
+    }
+
+    /// Removes all entries. The room stays reserved.
+    pub fn clear(&mut self)
+        ensures { self.new ≡ record { slots = []; reserved = self.old.reserved } }
+    {
+        self.heads.clear();
+        link_all(&mut self.chunks);
+        self.free = 0;
+    }
+}
