@@ -19,7 +19,8 @@ use Rattle.recover_open.specs.declared.making.NotMade.TheVariants as not_made
 use Rattle.tree_session.specs.Faults.{faults_told}
 use Rattle.store_run.specs.declared.run.Finished.{Finished}
 use Rattle.store_run.specs.Headline.{Headline}
-use Rattle.store_run.specs.Run.{AreCounted, IsEnding, IsRunOf, run_of}
+use Rattle.tree_session.specs.Lines.{HasRoomFor}
+use Rattle.store_run.specs.Run.{AreCounted, CameToEnd, IsEnding, IsRunOf, run_of}
 use Rattle.blsm_run.specs.Outcome.{refusal_of_making, refusal_of_store}
 use Rattle.blsm_run.specs.Outside.{HasRisenOnce, IsQuietCount, OfTheDisk}
 use Rattle.blsm_run.specs.Stores.{WasCalm, HasFailedOnce, LeavesMade, WasMade, MakesOnShelf, LeavesClosed, WasRefused, HasRunOn, RunsOnShelf, StaysWithin, WasUnreadable, WasChecked, ChecksOnShelf}
@@ -111,20 +112,21 @@ module _ {D : Type 0} (state : D → DiskState) (name : List ℕ) (old mid new :
 
   -- ---- running
 
-  pub ran : (lines : List Line) (workers turns : ℕ) (finished : Finished) (room : Room) → (sizes : Sizes) × IsRunOf sizes lines (run_of finished) → AreCounted (run_of finished) (state disk) (state last)
+  pub ran : (lines : List Line) (workers turns : ℕ) (finished : Finished) (room : Room) → HasRoomFor room lines → (sizes : Sizes) × IsRunOf sizes lines workers turns (run_of finished) → CameToEnd workers turns (run_of finished) → AreCounted (run_of finished) (state disk) (state last)
       → IsEnding finished.ending (run_of finished) (state last).faults → StaysWithin (state disk) (state last)
-      → (IsTrue (state disk).is_honest → (sizes : Sizes) × IsRunOf sizes lines (run_of finished) × Headline state sizes workers turns (run_of finished) room (state disk) (state last))
+      → (IsTrue (state disk).is_honest → (sizes : Sizes) × IsRunOf sizes lines workers turns (run_of finished) × Headline state sizes lines workers turns (run_of finished) room (state disk) (state last))
       → RunsOnShelf state name lines workers turns old new (Ok finished)
-  ran lines workers turns finished room printed counted ended inside headline = record {
+  ran lines workers turns finished room has_room printed came counted ended inside headline = record {
     sizes = printed.0;
     printed = printed.1;
+    came = came;
     stood = stood;
     disk =
         of_the_disk (HasRunOn state lines workers turns (run_of finished) finished.ending) (record {
           counted = counted;
           ended = ended;
           within = inside;
-          headline = λ honest. let said = headline honest in (said.0, room, said.1, said.2);
+          headline = λ honest. let said = headline honest in (said.0, room, has_room, said.1, said.2);
         });
     count = (state last).faults;
     ended = ended;

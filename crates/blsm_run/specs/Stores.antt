@@ -27,7 +27,8 @@ use Rattle.tree_session.specs.Faults.{Reaches, faults_told}
 use Rattle.store_run.specs.declared.run.Ending.{Ending}
 use Rattle.store_run.specs.declared.run.Finished.{Finished}
 use Rattle.store_run.specs.Headline.{Headline}
-use Rattle.store_run.specs.Run.{Run, AreCounted, IsEnding, IsRunOf, run_of}
+use Rattle.tree_session.specs.Lines.{HasRoomFor}
+use Rattle.store_run.specs.Run.{Run, AreCounted, CameToEnd, IsEnding, IsRunOf, run_of}
 use Rattle.blsm_run.specs.declared.outcome.Refusal.{Refusal}
 use Rattle.blsm_run.specs.declared.outcome.Refusal.TheVariants as refusal
 use Rattle.blsm_run.specs.Outside.{HasRisenOnce, OfTheDisk}
@@ -94,18 +95,21 @@ pub record WasRefused (why : Unreadable) (first last : DiskState) : Type 0 where
   pub because : IsTrue first.is_honest → IsWhy why first.bytes
   pub leaves : LeavesClosed first last
 
--- A script was run over the disk, beside so many merge workers with so many turns each. On an honest one the headline holds.
+-- A script was run over the disk, beside so many merge workers with so many turns each. On an honest one the headline holds, from a state with room
+-- for each caller's lines.
 pub record HasRunOn {D : Type 0} (state : D → DiskState) (lines : List Line) (workers turns : ℕ) (run : Run) (ending : Ending) (first last : DiskState) : Type 0 where
   pub counted : AreCounted run first last
   pub ended : IsEnding ending run last.faults
   pub within : StaysWithin first last
-  pub headline : IsTrue first.is_honest → (sizes : Sizes) × (room : Room) × IsRunOf sizes lines run × Headline state sizes workers turns run room first last
+  pub headline : IsTrue first.is_honest → (sizes : Sizes) × (room : Room) × HasRoomFor room lines × IsRunOf sizes lines workers turns run × Headline state sizes lines workers turns run room first last
 
 -- A script was run over the disk of this name of a shelf.
 pub record IsRunOnShelf {D : Type 0} (state : D → DiskState) (name : List ℕ) (lines : List Line) (workers turns : ℕ) (run : Run) (ending : Ending) (old new : ShelfState D) : Type 0 where
   -- on every disk
   pub sizes : Sizes
-  pub printed : IsRunOf sizes lines run
+  pub printed : IsRunOf sizes lines workers turns run
+  -- how callers and workers ended
+  pub came : CameToEnd workers turns run
   -- one stood there
   pub stood : IsTrue old.tells_disks → IsSome (old.disk_at name)
   pub disk : OfTheDisk state name old new (HasRunOn state lines workers turns run ending)

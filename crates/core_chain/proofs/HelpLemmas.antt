@@ -1,7 +1,7 @@
 -- The workers' quanta and turns, which their own turns alone count.
-use Rattle.std.proofs.Common.{◌≡◌, ◌≢◌, ◌∙◌, ⊎_elim, ℕ, ◌+◌, ◌<◌, ◌≤◌, ◌%◌, ◌^◌, Bool, true, false, cond, List, [], ◌∷◌, refl, ap, sym, arith, ne_eqb, eq-eqb}
-use Rattle.std.specs.Prelude.{◌==◌, ◌&&◌, drop, sum, sum_by}
-use Rattle.std.proofs.lemmas.Bool.{cases_eq, false≢true}
+use Rattle.std.proofs.Common.{◌≡◌, ◌≢◌, ◌∙◌, ⊎_elim, ℕ, ◌+◌, ◌<◌, ◌≤◌, Bool, true, false, cond, List, [], ◌∷◌, refl, ap, sym, arith, ne_eqb, eq-eqb}
+use Rattle.std.specs.Prelude.{◌==◌, ◌&&◌, drop, nat_le, nat_lt, sum, sum_by}
+use Rattle.std.proofs.lemmas.Bool.{cases_eq, false≢true, leb-true, ltb-true}
 use Rattle.std.proofs.lemmas.List.Sums.{sum_by-take-drop}
 use Rattle.blsm_model.specs.Book.{Book}
 use Rattle.blsm_model.specs.Format.{callers}
@@ -9,7 +9,8 @@ use Rattle.disk_trait.specs.Disk.{DiskState}
 use Rattle.pacing.specs.Pace.{Pace}
 use Rattle.seat_book.specs.Seats.{turns_in}
 use Rattle.seat_book.specs.State.{BookState}
-use Rattle.tree_machine.specs.Machine.{WorkSoFar}
+use Rattle.tree_machine.proofs.FoldLemmas.{both_hold}
+use Rattle.tree_machine.specs.Machine.{WorkSoFar, seats, turn_more}
 use Rattle.tree_machine.specs.Steps.{one_if}
 use Rattle.tree_machine.specs.declared.step.Kind.{Kind}
 use Rattle.tree_machine.specs.declared.step.Kind.TheVariants as kind
@@ -22,7 +23,8 @@ use Rattle.tree_core.specs.Core.{CoreState, IsCore}
 use Rattle.tree_core.specs.declared.answers.Payment.{Payment}
 use Rattle.tree_core.specs.declared.answers.Payment.TheVariants as payment
 use Rattle.tree_session.proofs.AloneLemmas.{admit_alone, by_workers, pay_alone, turn_alone, unpaid_alone}
-use Rattle.core_chain.specs.Quanta.{ChainHelps, helped_after, helps_in, is_help}
+use Rattle.tree_machine.specs.Plays.{is_help}
+use Rattle.core_chain.specs.Quanta.{ChainHelps, helped_after, helps_in}
 use Rattle.core_chain.specs.Start.{IsUnasked, steps_of}
 use Rattle.core_chain.proofs.LinkLemmas.{caller_of, goes_of, link_keeps}
 
@@ -117,13 +119,13 @@ module _ {D : Type 0} (state : D → DiskState) where
   by_other : (seat any : ℕ) (k : Kind) (old new : CoreState D) → IsCall state seat k old new → callers ≤ any → is_help k ≡ false → turns_in any new.held.book ≡ turns_in any old.held.book
   by_other seat any k old new call above other = others_turn seat any k old new call (λ same. let below = caller_of state seat k old new call other in omega (arith, same, above, below))
 
-  link_counts : (seat any : ℕ) (k : Kind) (old new : CoreState D) → IsCall state seat k old new → callers ≤ any → turns_in any new.held.book ≡ cond (is_help k && (seat == any)) ((turns_in any old.held.book + 1) % 2 ^ 64) (turns_in any old.held.book)
+  link_counts : (seat any : ℕ) (k : Kind) (old new : CoreState D) → IsCall state seat k old new → callers ≤ any → turns_in any new.held.book ≡ cond (is_help k && (seat == any)) (turn_more (turns_in any old.held.book)) (turns_in any old.held.book)
   link_counts seat any kind.WorkerTurn old new call above = ⊎_elim
       (λ (same : any ≡ seat).
-      ap (λ (n : ℕ). turns_in n new.held.book) same ∙ call.1.helps ∙ ap (λ (n : ℕ). (turns_in n old.held.book + 1) % 2 ^ 64) (sym same)
-      ∙ ap (λ (b : Bool). cond b ((turns_in any old.held.book + 1) % 2 ^ 64) (turns_in any old.held.book)) (sym (eq-eqb seat any (sym same))))
+      ap (λ (n : ℕ). turns_in n new.held.book) same ∙ call.1.helps ∙ ap (λ (n : ℕ). turn_more (turns_in n old.held.book)) (sym same)
+      ∙ ap (λ (b : Bool). cond b (turn_more (turns_in any old.held.book)) (turns_in any old.held.book)) (sym (eq-eqb seat any (sym same))))
       (λ (apart : any ≡ seat → ⊥).
-      others_turn seat any kind.WorkerTurn old new call apart ∙ ap (λ (b : Bool). cond b ((turns_in any old.held.book + 1) % 2 ^ 64) (turns_in any old.held.book)) (sym (ne_eqb seat any (λ same. apart (sym same)))))
+      others_turn seat any kind.WorkerTurn old new call apart ∙ ap (λ (b : Bool). cond b (turn_more (turns_in any old.held.book)) (turns_in any old.held.book)) (sym (ne_eqb seat any (λ same. apart (sym same)))))
       (cases_eq any seat)
   link_counts seat any (kind.Admit op) old new call above = by_other seat any (kind.Admit op) old new call above refl
   link_counts seat any kind.Pay old new call above = by_other seat any kind.Pay old new call above refl
@@ -140,9 +142,48 @@ module _ {D : Type 0} (state : D → DiskState) where
   chain_counts any (one ∷ calls) old new are above =
       chain_counts any calls one.1 new are.1 above ∙ ap (λ (n : ℕ). helped_after any (steps_of calls) n) (link_counts one.0.seat any one.0.kind old one.1 are.0 above)
 
+  -- a seat that took a turn has one for ever
+  helped_some : (any : ℕ) (steps : List Step) (n : ℕ) → 0 < n → 0 < helped_after any steps n
+  helped_some any [] n some = some
+  helped_some any (step ∷ steps) n some = helped_some any steps _ (by (is_help step.kind && (step.seat == any)))
+    where
+      by : (b : Bool) → 0 < cond b (turn_more n) n
+      by true = omega arith
+      by false = some
+
+  helper : (seat : ℕ) (old new : CoreState D) → IsCall state seat kind.WorkerTurn old new → (callers ≤ seat) × (seat < seats)
+  helper seat old new call =
+      let parts = both_hold (nat_le callers seat) (nat_lt seat seats) call.1.goes.may in
+      (leb-true callers seat parts.0, ltb-true seat seats parts.1)
+
+  chain_rests : (calls : List (Step × CoreState D)) (old new : CoreState D) → AreCalls state calls old new → ((seat : ℕ) → callers ≤ seat → seat < seats → turns_in seat new.held.book ≡ 0) → helps_in (steps_of calls) ≡ 0
+  chain_rests [] old new are none = refl
+  chain_rests (one ∷ calls) old new are none =
+      let rest = chain_rests calls one.1 new are.1 none in
+      omega (arith, rest, first one.0.kind are.0)
+    where
+      first : (k : Kind) → IsCall state one.0.seat k old one.1 → one_if (is_help k) ≡ 0
+      first kind.WorkerTurn call =
+          let seat = helper one.0.seat old one.1 call in
+          let after : turns_in one.0.seat one.1.held.book ≡ turn_more (turns_in one.0.seat old.held.book) = call.1.helps in
+          let some : 0 < turns_in one.0.seat one.1.held.book = omega (arith, after) in
+          let last = helped_some one.0.seat (steps_of calls) (turns_in one.0.seat one.1.held.book) some in
+          let is_last = chain_counts one.0.seat calls one.1 new are.1 seat.0 in
+          absurd (omega (arith, last, is_last, none one.0.seat seat.0 seat.1))
+      first (kind.Admit op) call = refl
+      first kind.Pay call = refl
+      first (kind.Get key) call = refl
+      first (kind.Hold low high) call = refl
+      first (kind.Next n) call = refl
+      first kind.Release call = refl
+      first kind.WorkTurn call = refl
+      first (kind.WorkEnd n) call = refl
+      first kind.Leave call = refl
+
   pub chain_helps : (calls : List (Step × CoreState D)) (start end : CoreState D) → IsUnasked state start → AreCalls state calls start end → ChainHelps state calls start end
   chain_helps calls start end unasked are = record {
     rises = chain_rises calls start end are unasked.keeps;
     alone = λ none. chain_alone calls start end are unasked.keeps none;
+    rests = chain_rests calls start end are;
     counted = λ seat above below. chain_counts seat calls start end are above;
   }

@@ -11,7 +11,7 @@ use Rattle.disk_trait.specs.Disk.{DiskState}
 use Rattle.seat_book.specs.State.{BookState, may_note_in, may_turn_in, work_in}
 use Rattle.tree_machine.specs.Machine as machine
 use Rattle.tree_machine.specs.Machine.{Turned, is_caller}
-use Rattle.tree_machine.specs.Plays.{has_room, is_finished, most_turns}
+use Rattle.tree_machine.specs.Plays.{has_room, is_finished, is_help, most_turns}
 use Rattle.tree_machine.specs.Steps.{Answer, Left, Replied, Turn}
 use Rattle.tree_machine.specs.declared.step.Kind.{Kind}
 use Rattle.tree_machine.specs.declared.step.Kind.TheVariants as kind
@@ -31,7 +31,6 @@ use Rattle.tree_core.specs.declared.answers.Payment.TheVariants as payment
 use Rattle.tree_core.specs.declared.answers.Scan.{Scan}
 use Rattle.tree_core.specs.declared.answers.Scan.TheVariants as scan
 use Rattle.tree_core.proofs.SizeLemmas.{made_sizes}
-use Rattle.core_chain.specs.Quanta.{is_help}
 
 -- ---- one link
 

@@ -1,6 +1,6 @@
 -- The moves of the core are the machine's, over the lists of the tree that the file holds. Each law has what the calls of a move say as its
 -- premises, and the file as it was and as it is then.
-use Rattle.std.specs.Prelude.{◌≡◌, ◌↔◌, ℕ, ◌+◌, ◌-◌, ◌%◌, ◌^◌, ◌<◌, true, List, is_some, slice_index, slice_set}
+use Rattle.std.specs.Prelude.{◌≡◌, ◌↔◌, ℕ, ◌-◌, ◌<◌, true, List, is_some, slice_index, slice_set}
 use Rattle.blsm_model.specs.Format.{callers}
 use Rattle.blsm_model.specs.declared.key.Key.{Key}
 use Rattle.blsm_model.specs.declared.op.Op.{Op}
@@ -14,7 +14,7 @@ use Rattle.page_file.specs.Component.{entries_of}
 use Rattle.pacing.specs.Pace.{Pace}
 use Rattle.tree_machine.specs.Lists.{memory_weight, value_in}
 use Rattle.tree_machine.specs.Layers.{IsSound}
-use Rattle.tree_machine.specs.Machine.{Machine, Turned, work_of, charge, in_deep, in_pass, pass_done, deep_done}
+use Rattle.tree_machine.specs.Machine.{Machine, Turned, work_of, charge, in_deep, in_pass, pass_done, deep_done, turn_more}
 use Rattle.tree_machine.specs.Moves.{begin_pass, swap_deep, swap_pass, rotate_alone, pass_quantum, deep_quantum, take_write, with_peak, note, stop}
 use Rattle.tree_machine.specs.Steps.{count_for_write, forgive, with_turn, work_noted, work_end, leave}
 use Rattle.seat_book.specs.State.{noted_in, stopped_in, paid_in, turned_in, helped_in, ended_in, left_in}
@@ -80,7 +80,7 @@ abbrev pub turn_noted : ℕ → Turned → ℕ → Machine → Machine
 turn_noted seat ended quanta m = work_noted seat (with_turn (work_of seat m) (record { state = m; ended = ended; quanta = quanta })) m
 
 abbrev pub helped : ℕ → Machine → Machine
-helped seat m = record m { seats = record m.seats { turns = slice_set m.seats.turns (seat - callers) ((slice_index m.seats.turns (seat - callers) + 1) % 2 ^ 64) } }
+helped seat m = record m { seats = record m.seats { turns = slice_set m.seats.turns (seat - callers) (turn_more (slice_index m.seats.turns (seat - callers))) } }
 
 -- What is done to the book alone.
 pub record BookMoves (held : Held) (tree : Tree) (m : Machine) (file : List ℕ) : Type 0 where

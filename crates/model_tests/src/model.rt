@@ -193,7 +193,7 @@ impl Stands for Tally {
 
     ghost facts = { λ t. record {
       history = t.annals.entries;
-      part = λ seat. record { debt1 = 0; debt2 = 0; turns = 0; worked = false; room = (0, 0); left = false };
+      part = λ seat. record { debt1 = 0; debt2 = 0; turns = 0; worked = false; quanta = 0; room = (0, 0); left = false };
       quanta = sum t.annals.quanta;
       peak = t.peak;
       closed = false;

@@ -1,5 +1,5 @@
 -- A turn of the lists is one of the numbers.
-use Rattle.std.proofs.Common.{◌≡◌, ◌∙◌, refl, sym, ap, subst, ℕ, ◌+◌, ◌-◌, ◌%◌, ◌^◌, ◌<◌, ◌≤◌, Bool, cond, true, false, not, ◌&&◌, ◌||◌, List, Option, Some, None, length, arith}
+use Rattle.std.proofs.Common.{◌≡◌, ◌∙◌, refl, sym, ap, subst, ℕ, ◌+◌, ◌-◌, ◌<◌, ◌≤◌, Bool, cond, true, false, not, ◌&&◌, ◌||◌, List, Option, Some, None, length, arith}
 use Rattle.std.specs.Prelude.{◌==◌, nat_lt, nat_le, slice_index, slice_index_or, slice_set}
 use Rattle.std.proofs.lemmas.Bool.{false≢true, le-leb, leb-true}
 use Rattle.blsm_model.specs.Format.{callers}
@@ -16,7 +16,7 @@ use Rattle.record_delta.specs.Entries.{entries_weight}
 use Rattle.tree_machine.specs.Lists.{memory_weight}
 use Rattle.tree_machine.specs.Merges.{Merge}
 use Rattle.tree_machine.specs.Layers.{IsSound}
-use Rattle.tree_machine.specs.Machine.{Machine, Seats, Turned, Failed, BadPage, Halted, is_closed, WorkSoFar, no_work, seats, pass_done, deep_done, work_of}
+use Rattle.tree_machine.specs.Machine.{Machine, Seats, Turned, Failed, BadPage, Halted, is_closed, WorkSoFar, no_work, seats, pass_done, deep_done, work_of, turn_more}
 use Rattle.tree_machine.specs.Moves.{begin_pass, rotate, rotate_alone, end_pass, swap_deep, swap_pass, output_of, pass_quantum, deep_quantum, stop}
 use Rattle.tree_machine.specs.Steps.{Choice, SwapDeep, SwapPass, DeepQuantum, PassQuantum, Begin, Rotate, Rest, choice, chosen, quanta_of, work_noted, with_turn, work_turn, work_turning, worker_turn, worker_turning, do_turn, Outcome, Well, FailedAfter, Broken, NoRoom}
 use Rattle.paced_tree.specs.Numbers.{with_numbers_of, IsPaceOf, HasTaken}
@@ -254,19 +254,19 @@ pub worker_turn_goes : (m : Machine) (p : Pace) (seat : ℕ) (outcome : Outcome)
     → Goes (worker_turn m seat outcome).state (unless_stopped m.stopped p (cond (is_closed m) p (after_turn m p seat outcome)))
 worker_turn_goes m p seat outcome sound g worker there = by m.stopped (is_closed m) outcome
   where
-    still : (n : Machine) → IsPaceOf n p → Goes (record n { seats = record n.seats { turns = slice_set n.seats.turns (seat - callers) ((slice_index n.seats.turns (seat - callers) + 1) % 2 ^ 64) } }) p
+    still : (n : Machine) → IsPaceOf n p → Goes (record n { seats = record n.seats { turns = slice_set n.seats.turns (seat - callers) (turn_more (slice_index n.seats.turns (seat - callers))) } }) p
     still n of_tree = record { of_tree = record { numbers = of_tree.numbers; started = of_tree.started; booked = of_tree.booked }; paced = g.paced }
 
     well : Goes (record (chosen (choice (nat_lt m.gears.sizes.low m.spring) false m) seat m) {
       seats = record (chosen (choice (nat_lt m.gears.sizes.low m.spring) false m) seat m).seats {
-        turns = slice_set (chosen (choice (nat_lt m.gears.sizes.low m.spring) false m) seat m).seats.turns (seat - callers) ((slice_index (chosen (choice (nat_lt m.gears.sizes.low m.spring) false m) seat m).seats.turns (seat - callers) + 1) % 2 ^ 64);
+        turns = slice_set (chosen (choice (nat_lt m.gears.sizes.low m.spring) false m) seat m).seats.turns (seat - callers) (turn_more (slice_index (chosen (choice (nat_lt m.gears.sizes.low m.spring) false m) seat m).seats.turns (seat - callers)));
       };
     })
         (after_turn m p seat Well)
     well = of_pace
         (λ q. Goes (record (chosen (choice (nat_lt m.gears.sizes.low m.spring) false m) seat m) {
           seats = record (chosen (choice (nat_lt m.gears.sizes.low m.spring) false m) seat m).seats {
-            turns = slice_set (chosen (choice (nat_lt m.gears.sizes.low m.spring) false m) seat m).seats.turns (seat - callers) ((slice_index (chosen (choice (nat_lt m.gears.sizes.low m.spring) false m) seat m).seats.turns (seat - callers) + 1) % 2 ^ 64);
+            turns = slice_set (chosen (choice (nat_lt m.gears.sizes.low m.spring) false m) seat m).seats.turns (seat - callers) (turn_more (slice_index (chosen (choice (nat_lt m.gears.sizes.low m.spring) false m) seat m).seats.turns (seat - callers)));
           };
         })
         (after_turn m q seat Well))
@@ -274,24 +274,24 @@ worker_turn_goes m p seat outcome sound g worker there = by m.stopped (is_closed
         (λ l h.
         subst (λ is_worker. Goes (record (chosen (due true m l) seat m) {
           seats = record (chosen (due true m l) seat m).seats {
-            turns = slice_set (chosen (due true m l) seat m).seats.turns (seat - callers) ((slice_index (chosen (due true m l) seat m).seats.turns (seat - callers) + 1) % 2 ^ 64);
+            turns = slice_set (chosen (due true m l) seat m).seats.turns (seat - callers) (turn_more (slice_index (chosen (due true m l) seat m).seats.turns (seat - callers)));
           };
         })
         (turned_by (turn_of is_worker (with_numbers_of m l)) (with_numbers_of m l) seat (quantum_for_move (turn_of is_worker (with_numbers_of m l)) m))) (sym (a_worker seat worker))
         (subst (λ x. Goes (record (chosen (due true m l) seat m) {
           seats = record (chosen (due true m l) seat m).seats {
-            turns = slice_set (chosen (due true m l) seat m).seats.turns (seat - callers) ((slice_index (chosen (due true m l) seat m).seats.turns (seat - callers) + 1) % 2 ^ 64);
+            turns = slice_set (chosen (due true m l) seat m).seats.turns (seat - callers) (turn_more (slice_index (chosen (due true m l) seat m).seats.turns (seat - callers)));
           };
         })
         (turned_by x (with_numbers_of m l) seat (quantum_for_move x m))) (sym (turn_is true m l sound))
         (record {
-          of_tree = worker_chosen m l seat sound h worker there (λ (n : Machine). slice_set n.seats.turns (seat - callers) ((slice_index n.seats.turns (seat - callers) + 1) % 2 ^ 64)) (due true m l) refl;
+          of_tree = worker_chosen m l seat sound h worker there (λ (n : Machine). slice_set n.seats.turns (seat - callers) (turn_more (slice_index n.seats.turns (seat - callers)))) (due true m l) refl;
           paced = turn_paced m l seat sound h true (due true m l) refl;
         })))
 
     by : (o : Option Why) (b : Bool) (e : Outcome)
         → (let turning = worker_turning o b m seat e in
-        Goes (record turning.state { seats = record turning.state.seats { turns = slice_set turning.state.seats.turns (seat - callers) ((slice_index turning.state.seats.turns (seat - callers) + 1) % 2 ^ 64) } })
+        Goes (record turning.state { seats = record turning.state.seats { turns = slice_set turning.state.seats.turns (seat - callers) (turn_more (slice_index turning.state.seats.turns (seat - callers))) } })
         (unless_stopped o p (cond b p (after_turn m p seat e))))
     by (Some why) b e = still m g.of_tree
     by None true e = still m g.of_tree

@@ -1,10 +1,10 @@
 -- How turns end, as the machine says it.
-use Rattle.std.specs.Prelude.{ℕ, ◌+◌, ◌-◌, ◌%◌, ◌^◌, if◌then◌else◌, slice_index, slice_set}
+use Rattle.std.specs.Prelude.{ℕ, ◌+◌, ◌-◌, ◌^◌, if◌then◌else◌, slice_index, slice_set}
 use Rattle.blsm_model.specs.Format.{callers}
 use Rattle.blsm_model.specs.Book.{counted_up}
 use Rattle.plain_tree.specs.declared.seats.Turned.{Turned}
 use Rattle.plain_tree.specs.declared.seats.Turned.TheVariants as plain
-use Rattle.tree_machine.specs.Machine.{Machine, WorkSoFar, Worked, Idle, Closed, Failed, BadPage, Halted}
+use Rattle.tree_machine.specs.Machine.{Machine, WorkSoFar, Worked, Idle, Closed, Failed, BadPage, Halted, turn_more}
 use Rattle.tree_machine.specs.Machine as machine
 use Rattle.tree_machine.specs.Steps.{is_idle}
 
@@ -25,9 +25,9 @@ with_ended work ended quanta = record {
   last = ended;
 }
 
--- a turn more of a worker, modulo 2 ^ 64
+-- a turn more of a worker
 abbrev pub turn_counted : ℕ → Machine → Machine
-turn_counted seat m = record m { seats = record m.seats { turns = slice_set m.seats.turns (seat - callers) ((slice_index m.seats.turns (seat - callers) + 1) % 2 ^ 64) } }
+turn_counted seat m = record m { seats = record m.seats { turns = slice_set m.seats.turns (seat - callers) (turn_more (slice_index m.seats.turns (seat - callers))) } }
 
 -- the entry at a place has so many quanta more
 abbrev pub quanta_counted : ℕ → ℕ → Machine → Machine

@@ -1,7 +1,7 @@
 //! What the seats did.
-ghost use Rattle.std.specs.Prelude.{◌≡◌, ◌≤◌, ◌+◌, ◌%◌, ◌^◌, true, IfOk, OnErr, slice_index, slice_index_or, slice_set, sum, take, drop};
+ghost use Rattle.std.specs.Prelude.{◌≡◌, ◌≤◌, ◌+◌, ◌^◌, true, IfOk, OnErr, slice_index, slice_index_or, slice_set, sum, take, drop};
 ghost use Rattle.blsm_model.specs.Format.{callers};
-ghost use Rattle.tree_machine.specs.Machine.{WorkSoFar as WorkState, Seats as SeatsState, fresh_seats, no_work, all_true, is_worked as is_worked_of};
+ghost use Rattle.tree_machine.specs.Machine.{WorkSoFar as WorkState, Seats as SeatsState, fresh_seats, no_work, all_true, is_worked as is_worked_of, turn_more};
 ghost use Rattle.tree_machine.specs.Moves.{count_quantum};
 ghost use Rattle.tree_machine.specs.Steps.{is_idle as is_idle_of};
 ghost use Rattle.tree_machine.specs.Plays.{is_finished};
@@ -235,13 +235,13 @@ impl PlainSeats {
         Ok(())
     }
 
-    // One turn more of the worker at this place, modulo 2^64.
+    // One turn more of the worker at this place.
     pub fn count_turn(&mut self, place: u32)
-        ensures { self.new ≡ record { work = self.old.work; left = self.old.left; turns = slice_set self.old.turns place ((slice_index self.old.turns place + 1) % 2 ^ 64); quanta = self.old.quanta } }
+        ensures { self.new ≡ record { work = self.old.work; left = self.old.left; turns = slice_set self.old.turns place (turn_more (slice_index self.old.turns place)); quanta = self.old.quanta } }
     {
         let at = place as usize;
         if at < WORKERS {
-            self.turns[at] = self.turns[at].wrapping_add(1);
+            self.turns[at] = self.turns[at].saturating_add(1);
         }
     }
 

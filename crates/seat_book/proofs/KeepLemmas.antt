@@ -1,5 +1,5 @@
 -- What the calls of the book leave to the other seats.
-use Rattle.std.proofs.Common.{◌≡◌, ◌≢◌, ℕ, zero, suc, ◌+◌, ◌-◌, ◌%◌, ◌^◌, ◌≤◌, ◌⊎◌, inl, inr, Bool, cond, true, false, List, [], ◌∷◌, ◌++◌, length, sum, Option, Some, refl, ap, sym, ◌∙◌, arith, append_assoc, length-append}
+use Rattle.std.proofs.Common.{◌≡◌, ◌≢◌, ℕ, zero, suc, ◌+◌, ◌-◌, ◌≤◌, ◌⊎◌, inl, inr, Bool, cond, true, false, List, [], ◌∷◌, ◌++◌, length, sum, Option, Some, refl, ap, sym, ◌∙◌, arith, append_assoc, length-append}
 use Rattle.std.specs.Prelude.{nat_lt, is_some, slice_index, slice_index_or, slice_set}
 use Rattle.std.specs.List.{AllByRecursion}
 use Rattle.std.proofs.lemmas.Bool.{ltb-true, ltb-false}
@@ -13,7 +13,7 @@ use Rattle.blsm_model.specs.declared.op.Op.TheVariants.{Work}
 use Rattle.blsm_model.specs.declared.history.Why.{Why}
 use Rattle.blsm_model.specs.declared.history.Reply.{Reply}
 use Rattle.blsm_model.specs.declared.history.Entry.{Entry}
-use Rattle.tree_machine.specs.Machine.{WorkSoFar, Counts, Turned, no_work, is_worked, is_caller, all_true}
+use Rattle.tree_machine.specs.Machine.{WorkSoFar, Counts, Turned, no_work, is_worked, is_caller, all_true, turn_more}
 use Rattle.tree_machine.specs.Steps.{work_reply}
 use Rattle.tree_machine.proofs.FoldLemmas.{both_hold, both}
 use Rattle.seat_book.specs.State.{BookState, work_in, noted_in, stopped_in, peaked_in, pass_counted_in, deep_counted_in, quantum_counted_in, paid_in, with_ended, turned_in, helped_in, ended_in, left_in}
@@ -52,12 +52,13 @@ gains_notes seat h k gains = by gains.0 gains.1 gains.2 gains.3
 -- ---- seats
 
 seat_itself : (other : ℕ) (b : BookState) → LeavesSeat other b b
-seat_itself other b = record { turns = refl; worked = refl; entries_room = refl; rows_room = refl; left = refl }
+seat_itself other b = record { turns = refl; worked = refl; quanta = refl; entries_room = refl; rows_room = refl; left = refl }
 
 seat_both : (other : ℕ) (b c d : BookState) → LeavesSeat other b c → LeavesSeat other c d → LeavesSeat other b d
 seat_both other b c d first second = record {
   turns = second.turns ∙ first.turns;
   worked = second.worked ∙ first.worked;
+  quanta = second.quanta ∙ first.quanta;
   entries_room = second.entries_room ∙ first.entries_room;
   rows_room = second.rows_room ∙ first.rows_room;
   left = second.left ∙ first.left;
@@ -70,6 +71,7 @@ keeps_itself seat b = record {
   history = gains_none seat b.book.entries;
   kept = omega arith;
   counted = omega arith;
+  its = omega arith;
   peak = omega arith;
   closed = λ is. is;
   stopped = λ is. is;
@@ -85,6 +87,7 @@ keeps_both seat entries more_entries quanta more_quanta b c d first second = rec
   history = gains_both seat entries more_entries b.book.entries c.book.entries d.book.entries first.history second.history;
   kept = omega (arith, first.kept, second.kept);
   counted = omega (arith, first.counted, second.counted);
+  its = omega (arith, first.its, second.its);
   peak = omega (arith, first.peak, second.peak);
   closed = λ is. second.closed (first.closed is);
   stopped = λ is. second.stopped (first.stopped is);
@@ -100,6 +103,7 @@ keeps_less seat entries more_entries quanta more_quanta b c fewer less kept = re
   history = (kept.history.0, omega (arith, kept.history.1, fewer), kept.history.2, kept.history.3);
   kept = kept.kept;
   counted = omega (arith, kept.counted, less);
+  its = omega (arith, kept.its, less);
   peak = kept.peak;
   closed = kept.closed;
   stopped = kept.stopped;
@@ -116,6 +120,7 @@ note_keeps seat op reply b = record {
   history = gains_one seat b.book.entries (record { seat = seat; op = op; reply = reply }) refl;
   kept = omega arith;
   counted = omega arith;
+  its = omega arith;
   peak = omega arith;
   closed = λ is. is;
   stopped = λ is. is;
@@ -125,61 +130,82 @@ note_keeps seat op reply b = record {
   others = λ other apart. record {
     turns = refl;
     worked = refl;
+    quanta = refl;
     entries_room = get_or-set_other b.book.room.entries seat other (slice_index b.book.room.entries seat - 1) 0 apart;
     rows_room = get_or-set_other b.book.room.rows seat other (slice_index b.book.room.rows seat - length (rows_given reply)) 0 apart;
     left = refl;
   };
 }
 
+-- the number of a seat rises by so many at most, and those of the others stay
+record Rises (seat more : ℕ) (xs ys : List ℕ) : Type 0 where
+  kept : sum xs ≤ sum ys
+  counted : sum ys ≤ sum xs + more
+  its : slice_index ys seat ≤ slice_index xs seat + more
+  others : (other : ℕ) → other ≢ seat → slice_index ys other ≡ slice_index xs other
+
+still : (seat : ℕ) (xs : List ℕ) → Rises seat 0 xs xs
+still seat xs = record { kept = omega arith; counted = omega arith; its = omega arith; others = λ other apart. refl }
+
 -- one number of a list is raised by one
-raised : (xs : List ℕ) (i : ℕ) → (sum xs ≤ sum (slice_set xs i (slice_index xs i + 1))) × (sum (slice_set xs i (slice_index xs i + 1)) ≤ sum xs + 1)
-raised xs i = by (nat_lt i (length xs)) refl
+raised : (seat : ℕ) (xs : List ℕ) → Rises seat 1 xs (slice_set xs seat (slice_index xs seat + 1))
+raised seat xs = record {
+  kept = (sums (nat_lt seat (length xs)) refl).0;
+  counted = (sums (nat_lt seat (length xs)) refl).1;
+  its = once xs seat;
+  others = λ other apart. get_or-set_other xs seat other (slice_index xs seat + 1) 0 apart;
+}
   where
-    by : (b : Bool) → nat_lt i (length xs) ≡ b → (sum xs ≤ sum (slice_set xs i (slice_index xs i + 1))) × (sum (slice_set xs i (slice_index xs i + 1)) ≤ sum xs + 1)
-    by true is =
-        let more : sum (slice_set xs i (slice_index xs i + 1)) + slice_index xs i ≡ sum xs + (slice_index xs i + 1) = sum_by-set (λ n. n) xs i (slice_index xs i + 1) 0 (ltb-true i (length xs) is) in
+    sums : (b : Bool) → nat_lt seat (length xs) ≡ b → (sum xs ≤ sum (slice_set xs seat (slice_index xs seat + 1))) × (sum (slice_set xs seat (slice_index xs seat + 1)) ≤ sum xs + 1)
+    sums true is =
+        let more : sum (slice_set xs seat (slice_index xs seat + 1)) + slice_index xs seat ≡ sum xs + (slice_index xs seat + 1) = sum_by-set (λ n. n) xs seat (slice_index xs seat + 1) 0 (ltb-true seat (length xs) is) in
         (omega (arith, more), omega (arith, more))
-    by false is =
-        let same : slice_set xs i (slice_index xs i + 1) ≡ xs = set_past xs i (slice_index xs i + 1) (ltb-false i (length xs) is) in
+    sums false is =
+        let same : slice_set xs seat (slice_index xs seat + 1) ≡ xs = set_past xs seat (slice_index xs seat + 1) (ltb-false seat (length xs) is) in
         (rw same (omega arith), rw same (omega arith))
 
+    once : (ys : List ℕ) (i : ℕ) → slice_index (slice_set ys i (slice_index ys i + 1)) i ≤ slice_index ys i + 1
+    once [] i = omega arith
+    once (y ∷ ys) zero = omega arith
+    once (y ∷ ys) (suc i) = once ys i
+
 -- the quanta, the counts and the stop alone change
-counts_keep : (seat more : ℕ) (b : BookState) (quanta counted : List ℕ) (counts : Counts) (stopped : Option Why) → sum b.seats.quanta ≤ sum counted → sum counted ≤ sum b.seats.quanta + more
+counts_keep : (seat more : ℕ) (b : BookState) (quanta counted : List ℕ) (counts : Counts) (stopped : Option Why) → Rises seat more b.seats.quanta counted
     → b.counts.peak ≤ counts.peak → counts.charge ≡ b.counts.charge → counts.faults ≡ b.counts.faults → (is_some b.stopped ≡ true → is_some stopped ≡ true)
     → KeepsSeats seat 0 more b (record { book = record b.book { quanta = quanta }; seats = record b.seats { quanta = counted }; counts = counts; stopped = stopped })
-counts_keep seat more b quanta counted counts stopped kept few peak charge faults stays = record {
+counts_keep seat more b quanta counted counts stopped rises peak charge faults stays = record {
   history = gains_none seat b.book.entries;
-  kept = kept;
-  counted = few;
+  kept = rises.kept;
+  counted = rises.counted;
+  its = rises.its;
   peak = peak;
   closed = λ is. is;
   stopped = stays;
   charge = charge;
   faults = faults;
   writes = λ any is. is;
-  others = λ other apart. record { turns = refl; worked = refl; entries_room = refl; rows_room = refl; left = refl };
+  others = λ other apart. record { turns = refl; worked = refl; quanta = rises.others other apart; entries_room = refl; rows_room = refl; left = refl };
 }
 
 pub stop_keeps : (seat : ℕ) (why : Why) (b : BookState) → KeepsSeats seat 0 0 b (stopped_in why b)
-stop_keeps seat why b = counts_keep seat 0 b b.book.quanta b.seats.quanta b.counts (Some why) (omega arith) (omega arith) (omega arith) refl refl (λ is. refl)
+stop_keeps seat why b = counts_keep seat 0 b b.book.quanta b.seats.quanta b.counts (Some why) (still seat b.seats.quanta) (omega arith) refl refl (λ is. refl)
 
 pub peak_keeps : (seat weight : ℕ) (b : BookState) → KeepsSeats seat 0 0 b (peaked_in weight b)
 peak_keeps seat weight b =
-    counts_keep seat 0 b b.book.quanta b.seats.quanta (peaked_in weight b).counts b.stopped (omega arith) (omega arith) (omega arith) refl refl (λ is. is)
+    counts_keep seat 0 b b.book.quanta b.seats.quanta (peaked_in weight b).counts b.stopped (still seat b.seats.quanta) (omega arith) refl refl (λ is. is)
 
 pub pass_keeps : (seat : ℕ) (b : BookState) → KeepsSeats seat 0 0 b (pass_counted_in b)
-pass_keeps seat b = counts_keep seat 0 b b.book.quanta b.seats.quanta (pass_counted_in b).counts b.stopped (omega arith) (omega arith) (omega arith) refl refl (λ is. is)
+pass_keeps seat b = counts_keep seat 0 b b.book.quanta b.seats.quanta (pass_counted_in b).counts b.stopped (still seat b.seats.quanta) (omega arith) refl refl (λ is. is)
 
 pub deep_keeps : (seat : ℕ) (b : BookState) → KeepsSeats seat 0 0 b (deep_counted_in b)
-deep_keeps seat b = counts_keep seat 0 b b.book.quanta b.seats.quanta (deep_counted_in b).counts b.stopped (omega arith) (omega arith) (omega arith) refl refl (λ is. is)
+deep_keeps seat b = counts_keep seat 0 b b.book.quanta b.seats.quanta (deep_counted_in b).counts b.stopped (still seat b.seats.quanta) (omega arith) refl refl (λ is. is)
 
 pub quantum_keeps : (seat : ℕ) (b : BookState) → KeepsSeats seat 0 1 b (quantum_counted_in seat b)
 quantum_keeps seat b =
-    let sums = raised b.seats.quanta seat in
-    counts_keep seat 1 b b.book.quanta (quantum_counted_in seat b).seats.quanta b.counts b.stopped sums.0 sums.1 (omega arith) refl refl (λ is. is)
+    counts_keep seat 1 b b.book.quanta (quantum_counted_in seat b).seats.quanta b.counts b.stopped (raised seat b.seats.quanta) (omega arith) refl refl (λ is. is)
 
 pub payment_keeps : (seat : ℕ) (b : BookState) → KeepsSeats seat 0 0 b (paid_in seat b)
-payment_keeps seat b = counts_keep seat 0 b (paid_in seat b).book.quanta b.seats.quanta b.counts b.stopped (omega arith) (omega arith) (omega arith) refl refl (λ is. is)
+payment_keeps seat b = counts_keep seat 0 b (paid_in seat b).book.quanta b.seats.quanta b.counts b.stopped (still seat b.seats.quanta) (omega arith) refl refl (λ is. is)
 
 -- ---- turns
 
@@ -189,6 +215,7 @@ worked_keeps seat work b = record {
   history = gains_none seat b.book.entries;
   kept = omega arith;
   counted = omega arith;
+  its = omega arith;
   peak = omega arith;
   closed = λ is. is;
   stopped = λ is. is;
@@ -200,6 +227,7 @@ worked_keeps seat work b = record {
       record {
         turns = ap (λ (w : WorkSoFar). cond (is_caller other) w.turns (slice_index b.seats.turns (other - callers))) same;
         worked = ap (λ (w : WorkSoFar). is_worked w.last) same;
+        quanta = refl;
         entries_room = refl;
         rows_room = refl;
         left = refl;
@@ -226,6 +254,7 @@ worker_keeps seat b worker = record {
   history = gains_none seat b.book.entries;
   kept = omega arith;
   counted = omega arith;
+  its = omega arith;
   peak = omega arith;
   closed = λ is. is;
   stopped = λ is. is;
@@ -233,8 +262,9 @@ worker_keeps seat b worker = record {
   faults = refl;
   writes = λ any is. is;
   others = λ other apart. record {
-    turns = helped_turns seat other ((slice_index b.seats.turns (seat - callers) + 1) % 2 ^ 64) b worker apart;
+    turns = helped_turns seat other (turn_more (slice_index b.seats.turns (seat - callers))) b worker apart;
     worked = refl;
+    quanta = refl;
     entries_room = refl;
     rows_room = refl;
     left = refl;
@@ -247,7 +277,7 @@ ending_keeps seat n b =
     let counted = (ended_in seat n b).book.quanta in
     let more : BookState = record noted { book = record noted.book { quanta = counted } } in
     keeps_both seat 1 0 0 0 b noted (ended_in seat n b) (note_keeps seat (Work n) (work_reply (work_in seat b) b.stopped) b)
-    (keeps_both seat 0 0 0 0 noted more (ended_in seat n b) (counts_keep seat 0 noted counted b.seats.quanta b.counts b.stopped (omega arith) (omega arith) (omega arith) refl refl (λ is. is)) (worked_keeps seat no_work more))
+    (keeps_both seat 0 0 0 0 noted more (ended_in seat n b) (counts_keep seat 0 noted counted b.seats.quanta b.counts b.stopped (still seat b.seats.quanta) (omega arith) refl refl (λ is. is)) (worked_keeps seat no_work more))
 
 -- ---- callers that leave
 
@@ -262,6 +292,7 @@ leave_keeps seat b = record {
   history = gains_none seat b.book.entries;
   kept = omega arith;
   counted = omega arith;
+  its = omega arith;
   peak = omega arith;
   closed = λ is. still_all b.seats.left seat is;
   stopped = λ is. is;
@@ -271,6 +302,7 @@ leave_keeps seat b = record {
   others = λ other apart. record {
     turns = refl;
     worked = refl;
+    quanta = refl;
     entries_room = refl;
     rows_room = refl;
     left = get_or-set_other b.seats.left seat other true false apart;
@@ -301,6 +333,7 @@ pub holds_follow : (seat : ℕ) (b c : BookState) (old new : Beside) → KeepsSe
 holds_follow seat b c old new kept beside = record {
   history = gains_notes seat b.book.entries c.book.entries kept.history;
   quanta = same_or_more (sum b.seats.quanta) (sum c.seats.quanta) kept.kept kept.counted;
+  its = kept.its;
   peak = kept.peak;
   closed = kept.closed;
   stopped = kept.stopped;
@@ -309,6 +342,7 @@ holds_follow seat b c old new kept beside = record {
     debt2 = beside.second other apart;
     turns = (kept.others other apart).turns;
     worked = (kept.others other apart).worked;
+    quanta = (kept.others other apart).quanta;
     room = λ i. ((kept.others other apart).entries_room i, (kept.others other apart).rows_room i);
     left = (kept.others other apart).left;
   };

@@ -12,10 +12,11 @@ use Rattle.seat_book.specs.State.{BookState, work_in, is_closed_in}
 abbrev pub turns_in : ℕ → BookState → ℕ
 turns_in seat b = if is_caller seat then (work_in seat b).turns else slice_index b.seats.turns (seat - callers)
 
--- a seat's turns, how the last one ended, its room, and whether it left, are the same
+-- a seat's turns, how the last one ended, its quanta, its room, and whether it left, are the same
 pub record LeavesSeat (other : ℕ) (b c : BookState) : Type 0 where
   pub turns : turns_in other c ≡ turns_in other b
   pub worked : is_worked (work_in other c).last ≡ is_worked (work_in other b).last
+  pub quanta : slice_index c.seats.quanta other ≡ slice_index b.seats.quanta other
   pub entries_room : slice_index c.book.room.entries other ≡ slice_index b.book.room.entries other
   pub rows_room : slice_index c.book.room.rows other ≡ slice_index b.book.room.rows other
   pub left : slice_index_or c.seats.left other false ≡ slice_index_or b.seats.left other false
@@ -31,6 +32,7 @@ pub record KeepsSeats (seat entries quanta : ℕ) (b c : BookState) : Type 0 whe
   pub history : Gains seat entries b.book.entries c.book.entries
   pub kept : sum b.seats.quanta ≤ sum c.seats.quanta
   pub counted : sum c.seats.quanta ≤ sum b.seats.quanta + quanta
+  pub its : slice_index c.seats.quanta seat ≤ slice_index b.seats.quanta seat + quanta
   pub peak : b.counts.peak ≤ c.counts.peak
   pub closed : is_closed_in b ≡ true → is_closed_in c ≡ true
   pub stopped : is_some b.stopped ≡ true → is_some c.stopped ≡ true
@@ -52,6 +54,7 @@ part_in beside b seat = record {
   debt2 = beside.second seat;
   turns = turns_in seat b;
   worked = is_worked (work_in seat b).last;
+  quanta = slice_index b.seats.quanta seat;
   room = (slice_index b.book.room.entries seat, slice_index b.book.room.rows seat);
   left = slice_index_or b.seats.left seat false;
 }

@@ -1,6 +1,6 @@
 -- The machine's book: what its seats did, the history, the counts and the stop. Each word here is the machine's own, on these four
 -- parts alone.
-use Rattle.std.specs.Prelude.{ℕ, ◌+◌, ◌-◌, ◌%◌, ◌^◌, Bool, true, ◌&&◌, length, take, drop, sum, max, Option, Some, None, slice_index, slice_index_or, slice_set, if◌then◌else◌, nat_lt, ◌==◌}
+use Rattle.std.specs.Prelude.{ℕ, ◌+◌, ◌-◌, ◌^◌, Bool, true, ◌&&◌, length, take, drop, sum, max, Option, Some, None, slice_index, slice_index_or, slice_set, if◌then◌else◌, nat_lt, ◌==◌}
 use Rattle.blsm_model.specs.Format.{callers}
 use Rattle.blsm_model.specs.declared.op.Op.{Op}
 use Rattle.blsm_model.specs.declared.op.Op.TheVariants.{Work}
@@ -8,7 +8,7 @@ use Rattle.blsm_model.specs.declared.history.Why.{Why}
 use Rattle.blsm_model.specs.declared.history.Reply.{Reply}
 use Rattle.blsm_model.specs.declared.history.Totals.{Totals}
 use Rattle.blsm_model.specs.Book.{Book, noted, counted_up}
-use Rattle.tree_machine.specs.Machine.{Machine, Seats, Counts, WorkSoFar, Turned, no_work, fresh_seats, all_true, is_caller}
+use Rattle.tree_machine.specs.Machine.{Machine, Seats, Counts, WorkSoFar, Turned, no_work, fresh_seats, all_true, is_caller, turn_more}
 use Rattle.tree_machine.specs.Moves.{count_quantum}
 use Rattle.tree_machine.specs.Steps.{is_idle, last_write, work_reply}
 use Rattle.tree_machine.specs.Plays.{most_turns, has_room, is_finished}
@@ -111,7 +111,7 @@ turned_in seat ended quanta b = record b { seats = record b.seats { work = slice
 -- a turn of a worker counts, modulo 2 ^ 64
 abbrev pub helped_in : ℕ → BookState → BookState
 helped_in seat b =
-    record b { seats = record b.seats { turns = slice_set b.seats.turns (seat - callers) ((slice_index b.seats.turns (seat - callers) + 1) % 2 ^ 64) } }
+    record b { seats = record b.seats { turns = slice_set b.seats.turns (seat - callers) (turn_more (slice_index b.seats.turns (seat - callers))) } }
 
 -- A caller's work of n turns ends: its entry has the quanta of its turns, and the work is empty again.
 abbrev pub ended_in : ℕ → ℕ → BookState → BookState

@@ -201,7 +201,7 @@ impl SeatBook {
         self.work[seat as usize].turns()
     }
 
-    /// How many turns a worker had, modulo 2^64.
+    /// How many turns a worker had, 2^64 - 1 at most.
     pub fn worker_turns(&self, seat: u32) -> u64
         requires { (callers ≤ seat) × (seat < seats) }
         ensures { result ≡ slice_index self.now.seats.turns (seat - callers) }
@@ -345,13 +345,13 @@ impl SeatBook {
         self.work[at] = self.work[at].with_ended(ended, quanta);
     }
 
-    /// A turn of a worker's ended. Turns count modulo 2^64.
+    /// A turn of a worker's ended. Turns count up to 2^64 - 1, and stand there.
     pub fn worker_turn(&mut self, seat: u32)
         requires { (callers ≤ seat) × (seat < seats) }
         ensures { self.new ≡ helped_in seat self.old }
     {
         let place = (seat - CALLERS) as usize;
-        self.turns[place] = self.turns[place].wrapping_add(1);
+        self.turns[place] = self.turns[place].saturating_add(1);
     }
 
     /// Notes the end of a caller's work of `n` turns, and gives its reply. The entry has the quanta of the work.

@@ -1,5 +1,5 @@
 -- The headline, from what opening a store says and what a run from there on keeps.
-use Rattle.std.specs.Prelude.{◌≡◌, ◌≤◌, ◌+◌, ◌*◌, ℕ, Bool, true, false, ◌||◌, List, [], ◌∷◌, None, IsTrue, drop, map, sum, take}
+use Rattle.std.specs.Prelude.{◌≡◌, ◌<◌, ◌≤◌, ◌+◌, ◌*◌, ℕ, Bool, true, false, ◌||◌, List, [], ◌∷◌, None, IsTrue, drop, map, sum, take}
 use Rattle.std.specs.List.{AllByRecursion, list_any}
 use Rattle.std.proofs.Common.{◌∙◌, append-nil, arith, ap, cond, refl, subst, sym}
 use Rattle.std.proofs.lemmas.List.Sums.{sum_by-take-drop}
@@ -27,6 +27,7 @@ use Rattle.pacing.specs.Kept.{most_taken}
 use Rattle.pacing.specs.Pace.{Pace}
 use Rattle.recover_open.specs.Opening.{KeepsMapOf, OpensAs}
 use Rattle.record_delta.specs.Entries.{Entries, entries_weight}
+use Rattle.seat_book.specs.Seats.{turns_in}
 use Rattle.seat_book.specs.State.{BookState, book_of, totals_in}
 use Rattle.tree_core.specs.Core.{CoreState}
 use Rattle.tree_core.specs.Holds.{StandsWhole}
@@ -35,7 +36,7 @@ use Rattle.tree_core.specs.Steps.{IsPlayed, StandsSince}
 use Rattle.tree_file.specs.Tree.{Tree, HoldsTree, components_weight, lists_of}
 use Rattle.tree_machine.specs.declared.step.Step.{Step}
 use Rattle.tree_machine.specs.Laws.{StepKeepsOpening}
-use Rattle.tree_machine.specs.Machine.{Catalogue, Machine, WorkSoFar, charge, no_work, opened, totals}
+use Rattle.tree_machine.specs.Machine.{Catalogue, Machine, WorkSoFar, charge, no_work, opened, seats, totals}
 use Rattle.tree_machine.specs.Outcomes.{AreTold, FindsNone, NoneDamaged, is_bad_page, is_by_page, is_damaged}
 use Rattle.tree_machine.specs.Plays.{may_step, played, played_one, stepped}
 use Rattle.tree_machine.specs.Steps.{Outcome}
@@ -48,7 +49,9 @@ use Rattle.gear_sched.specs.Gears.{GearState}
 use Rattle.store_run.specs.Headline.{EndsWithin, Headline, IsReached, IsServed}
 use Rattle.store_run.specs.Run.{HaveEnded, IsRunInOrder, IsRunOf, Run, finds_damage, run_at}
 use Rattle.store_run.proofs.CrashLemmas.{leaves_history, shown_now}
-use Rattle.store_run.proofs.RunLemmas.{HasRun, is_run_of}
+use Rattle.alone_run.specs.Alone.{RunsAlone}
+use Rattle.store_run.proofs.SoloLemmas.{solo_of}
+use Rattle.store_run.proofs.RunLemmas.{HasRun, came_to_end, is_run_of, workers_took}
 
 -- ---- what steps keep
 
@@ -232,9 +235,8 @@ served_in_order keeps damaged {D} state room lines first old new honest session 
     let come = session.run.since.come opens.pairs _ _ honest_then opens.stands in
     let served = served_from keeps damaged state room lines first old new _ _ _ _ session opens.stands come.0 come.1 in
     let printed : IsRunInOrder old.held.runs.sizes lines (run_at (charge_in old.held) new.held) = record {
-      printed = is_run_of state lines (charge_in old.held) old new session.run;
+      printed = is_run_of state lines 0 0 (charge_in old.held) old new session.run (omega (arith, alone));
       in_order = in_order;
-      alone = alone;
     } in
     subst (λ (r : Run). RunInOrder state lines room r first (state disk)) (sym is)
     (subst (λ (d : D). RunInOrder state lines room (run_at (charge_in old.held) new.held) first (state d)) (sym same) (old.held.runs.sizes, printed, served))
@@ -263,39 +265,46 @@ ended_as : {D : Type 0} (state : D → DiskState) (opening : List (Key × Value)
     → RunsAll state lines workers turns old new → StandsFor opening new.held m pace (state new.disk) → HaveEnded workers turns m.gears (book_of m)
 ended_as state opening lines workers turns old new m pace runs stands =
     subst (λ (g : GearState). HaveEnded workers turns g (book_of m)) (sym stands.gears)
-    (subst (λ (b : BookState). HaveEnded workers turns new.held.gears b) (sym stands.book) (record { left = runs.left; idle = runs.idle; even = runs.even; helped = runs.helped }))
+    (subst (λ (b : BookState). HaveEnded workers turns new.held.gears b) (sym stands.book) (came_to_end state lines workers turns old new runs))
 
-headline_from : StepKeepsOpening → NoneDamaged → {D : Type 0} (state : D → DiskState) (timed : (d : D) → IsTimed (state d)) (room : Room) (lines : List Line) (workers turns : ℕ) (first : DiskState) (old new : CoreState D)
+headline_from : StepKeepsOpening → NoneDamaged → RunsAlone → {D : Type 0} (state : D → DiskState) (timed : (d : D) → IsTimed (state d)) (room : Room) (lines : List Line) (workers turns : ℕ) (first : DiskState) (old new : CoreState D)
     (c1 c2 : Entries) (catalogue : Catalogue) (pace : Pace) → (session : Session state room lines first old new) → old.held.book.book.entries ≡ []
     → KeepsMapOf old.held.runs.sizes session.opens.pairs first (state old.disk)
     → StandsWhole state session.opens.pairs old (machine_of state room old c1 c2 catalogue) pace
     → (runs : RunsAll state lines workers turns old new) → ChainIsSteps state session.opens.pairs runs.came.calls old new (machine_of state room old c1 c2 catalogue) pace
-    → sum (drop callers new.held.book.seats.quanta) ≤ helps_in (steps_of runs.came.calls) → Headline state old.held.runs.sizes workers turns (run_at (charge_in old.held) new.held) room first (state new.disk)
+    → sum (drop callers new.held.book.seats.quanta) ≤ helps_in (steps_of runs.came.calls)
+    → (((seat : ℕ) → callers ≤ seat → seat < seats → turns_in seat new.held.book ≡ 0) → helps_in (steps_of runs.came.calls) ≡ 0)
+    → Headline state old.held.runs.sizes lines workers turns (run_at (charge_in old.held) new.held) room first (state new.disk)
 unfolding reached_of served_from
-headline_from keeps damaged {D} state timed room lines workers turns first old new c1 c2 catalogue pace session none map_kept whole runs steps few =
+headline_from keeps damaged law {D} state timed room lines workers turns first old new c1 c2 catalogue pace session none map_kept whole runs steps few rests =
     let opens = session.opens in
     let machine = machine_of state room old c1 c2 catalogue in
     let play = as_played state opens.pairs runs.came.calls old new machine pace steps in
+    let served = served_from keeps damaged state room lines first old new c1 c2 catalogue pace session whole (map (λ one. one.0) (outcomes_in steps.made)) play in
+    let ended = ended_as state opens.pairs lines workers turns old new _ _ runs steps.stands.stands in
     record {
-      served = served_from keeps damaged state room lines first old new c1 c2 catalogue pace session whole (map (λ one. one.0) (outcomes_in steps.made)) play;
-      ended = ended_as state opens.pairs lines workers turns old new _ _ runs steps.stands.stands;
+      served = served;
+      ended = ended;
+      solo = solo_of law served.reached lines workers turns runs.of_script ended
+          (λ (alone : workers ≡ 0). ap helps_in (its_steps steps.made ∙ steps.steps_are) ∙ rests (λ seat above below. (runs.rested seat (omega (arith, alone, above)) below).0));
       helped = subst (λ (ss : List Step). sum (drop callers new.held.book.seats.quanta) ≤ helps_in ss) (sym (its_steps steps.made ∙ steps.steps_are)) few;
       crashes = leaves_history state timed opens.pairs runs.came.calls first old new machine pace none whole map_kept session.run.effect.syncs session.run.since.sizes steps (run_at (charge_in old.held) new.held) refl;
     }
 
 -- what is printed, with the headline
 abbrev pub RunAndHeadline : {D : Type 0} → (D → DiskState) → List Line → ℕ → ℕ → Room → Run → DiskState → DiskState → Type 0
-RunAndHeadline state lines workers turns room run first last = (sizes : Sizes) × IsRunOf sizes lines run × Headline state sizes workers turns run room first last
+RunAndHeadline state lines workers turns room run first last = (sizes : Sizes) × IsRunOf sizes lines workers turns run × Headline state sizes lines workers turns run room first last
 
-pub whole_headline : StepKeepsOpening → NoneDamaged → {D : Type 0} (state : D → DiskState) (timed : (d : D) → IsTimed (state d)) (room : Room) (lines : List Line) (workers turns : ℕ) (first : DiskState)
+pub whole_headline : StepKeepsOpening → NoneDamaged → RunsAlone → {D : Type 0} (state : D → DiskState) (timed : (d : D) → IsTimed (state d)) (room : Room) (lines : List Line) (workers turns : ℕ) (first : DiskState)
     (old new : CoreState D) → (session : Session state room lines first old new) → old.held.book.book.entries ≡ []
     → KeepsMapOf old.held.runs.sizes session.opens.pairs first (state old.disk) → (runs : RunsAll state lines workers turns old new)
     → ((opening : List (Key × Value)) (m : Machine) (pace : Pace) → StandsWhole state opening old m pace → ChainIsSteps state opening runs.came.calls old new m pace)
     → sum (drop callers new.held.book.seats.quanta) ≤ helps_in (steps_of runs.came.calls)
+    → (((seat : ℕ) → callers ≤ seat → seat < seats → turns_in seat new.held.book ≡ 0) → helps_in (steps_of runs.came.calls) ≡ 0)
     → (disk : D) → disk ≡ new.disk → (run : Run) → run ≡ run_at (charge_in old.held) new.held → RunAndHeadline state lines workers turns room run first (state disk)
-whole_headline keeps damaged {D} state timed room lines workers turns first old new session none map_kept runs steps few disk same run is =
+whole_headline keeps damaged law {D} state timed room lines workers turns first old new session none map_kept runs steps few rests disk same run is =
     let opens = session.opens in
-    let headline = headline_from keeps damaged state timed room lines workers turns first old new _ _ _ _ session none map_kept opens.stands runs (steps opens.pairs _ _ opens.stands) few in
-    let printed = is_run_of state lines (charge_in old.held) old new session.run in
+    let headline = headline_from keeps damaged law state timed room lines workers turns first old new _ _ _ _ session none map_kept opens.stands runs (steps opens.pairs _ _ opens.stands) few rests in
+    let printed = is_run_of state lines workers turns (charge_in old.held) old new session.run (workers_took state lines workers turns old new runs) in
     subst (λ (r : Run). RunAndHeadline state lines workers turns room r first (state disk)) (sym is)
     (subst (λ (d : D). RunAndHeadline state lines workers turns room (run_at (charge_in old.held) new.held) first (state d)) (sym same) (old.held.runs.sizes, printed, headline))

@@ -2,3 +2,4 @@ pub mod CrashLemmas
 pub mod FaultLemmas
 pub mod HeadlineLemmas
 pub mod RunLemmas
+pub mod SoloLemmas

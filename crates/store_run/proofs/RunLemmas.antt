@@ -1,7 +1,7 @@
 -- What a run leaves to be printed, on every disk.
-use Rattle.std.specs.Prelude.{◌≡◌, ◌≤◌, ◌-◌, ℕ, zero, suc, List, [], ◌∷◌, ◌++◌, drop, replicate, slice_index, slice_index_or, sum, sum_by, take}
+use Rattle.std.specs.Prelude.{◌≡◌, ◌≤◌, ◌<◌, ◌+◌, ◌-◌, ◌*◌, ℕ, zero, suc, List, [], ◌∷◌, ◌++◌, drop, length, replicate, slice_index, slice_index_or, sum, sum_by, take}
 use Rattle.std.specs.List.{AllByRecursion}
-use Rattle.std.proofs.Common.{◌∙◌, refl, ap, sym, subst, arith}
+use Rattle.std.proofs.Common.{◌∙◌, refl, ap, sym, subst, arith, get_or-drop, length-drop, suc-mul, zero-le}
 use Rattle.std.proofs.lemmas.List.Sums.{sum_by-cons}
 use Rattle.blsm_model.specs.Book.{Book}
 use Rattle.blsm_model.specs.Format.{callers}
@@ -30,7 +30,7 @@ use Rattle.tree_session.specs.Faults.{NamesStop, Reaches, TellsFaults, faults_to
 use Rattle.tree_session.specs.Lines.{HasRoomFor, Rests}
 use Rattle.tree_session.specs.Session.{Runs, TookFew, calls_for}
 use Rattle.tree_shared.specs.Runs.{IsFresh, RunsAll}
-use Rattle.store_run.specs.Run.{IsRunOf, Run, run_at}
+use Rattle.store_run.specs.Run.{CameToEnd, HaveEnded, IsRunOf, Run, run_at}
 
 abbrev pub run_with : ℕ → Book → Totals → Run
 run_with charge annals totals = record { charge = charge; entries = annals.entries; quanta = annals.quanta; totals = totals }
@@ -121,24 +121,56 @@ by_threads state lines workers turns old new runs tells takes = record {
   effect = tells.effect;
 }
 
+-- numbers of which the first n are t at most, and the others none
+few_sum : (xs : List ℕ) (n t : ℕ) → ((i : ℕ) → i < n → slice_index xs i ≤ t) → ((i : ℕ) → n ≤ i → i < length xs → slice_index xs i ≡ 0) → sum xs ≤ n * t
+few_sum [] n t few none = zero-le
+few_sum (x ∷ xs) zero t few none =
+    let first : x ≡ 0 = none 0 (omega arith) (omega arith) in
+    let rest = few_sum xs zero t (λ i below. absurd (omega (arith, below))) (λ i above below. none (suc i) (omega arith) (omega (arith, below))) in
+    omega (arith, first, rest, sum_by-cons (λ (m : ℕ). m) x xs)
+few_sum (x ∷ xs) (suc n) t few none =
+    let first : x ≤ t = few 0 (omega arith) in
+    let rest = few_sum xs n t (λ i below. few (suc i) (omega (arith, below))) (λ i above below. none (suc i) (omega (arith, above)) (omega (arith, below))) in
+    omega (arith, first, rest, sum_by-cons (λ (m : ℕ). m) x xs, suc-mul n t)
+
+-- a worker took a quantum in each of its turns at most, and nobody else took any but callers
+pub workers_took : {D : Type 0} (state : D → DiskState) (lines : List Line) (workers turns : ℕ) (old new : CoreState D) → RunsAll state lines workers turns old new → sum (drop callers new.held.book.seats.quanta) ≤ workers * turns
+workers_took state lines workers turns old new runs =
+    let quanta = new.held.book.seats.quanta in
+    let long : length quanta ≡ seats = runs.keeps.holds.told.told.booked.seats in
+    let at : (i : ℕ) → slice_index (drop callers quanta) i ≡ slice_index quanta (callers + i) = λ i. get_or-drop callers quanta i 0 in
+    few_sum (drop callers quanta) workers turns
+    (λ i below. omega (arith, at i, (runs.few i below).1))
+    (λ i above below. at i ∙ (runs.rested (callers + i) (omega (arith, above)) (omega (arith, below, length-drop callers quanta, long))).1)
+
+-- how they ended is told of the core that is left
+pub came_to_end : {D : Type 0} (state : D → DiskState) (lines : List Line) (workers turns : ℕ) (old new : CoreState D) → RunsAll state lines workers turns old new → HaveEnded workers turns new.held.gears new.held.book
+came_to_end state lines workers turns old new runs = record { left = runs.left; idle = runs.idle; even = runs.even; helped = runs.helped; few = runs.few; rested = runs.rested }
+
+pub ended_of : {D : Type 0} (state : D → DiskState) (lines : List Line) (workers turns : ℕ) (old new : CoreState D) → RunsAll state lines workers turns old new → (run : Run) → run ≡ run_at (charge_in old.held) new.held → CameToEnd workers turns run
+ended_of state lines workers turns old new runs run is =
+    subst (λ (r : Run). CameToEnd workers turns r) (sym is) (record { held = new.held; printed = refl; ended = came_to_end state lines workers turns old new runs })
+
 -- ---- what it leaves to be printed
 
-pub is_run_of : {D : Type 0} (state : D → DiskState) (lines : List Line) (charge : ℕ) (old new : CoreState D) → HasRun state lines old new → IsRunOf old.held.runs.sizes lines (run_at charge new.held)
-is_run_of state lines charge old new run = record {
+pub is_run_of : {D : Type 0} (state : D → DiskState) (lines : List Line) (workers turns charge : ℕ) (old new : CoreState D) → HasRun state lines old new
+    → sum (drop callers new.held.book.seats.quanta) ≤ workers * turns → IsRunOf old.held.runs.sizes lines workers turns (run_at charge new.held)
+is_run_of state lines workers turns charge old new run helped = record {
   geometry = subst IsGeometry run.since.sizes (geometry_of new.held (state new.disk) run.keeps);
   of_script = run.of_script;
   few = run.few;
   callers = run.by_callers;
+  helped = helped;
   stops = run.names;
   peak = run.since.peak;
   high = ap high_mark run.since.sizes;
 }
 
 -- so of what is printed
-pub printed_of : {D : Type 0} (state : D → DiskState) (lines : List Line) (old new : CoreState D) → HasRun state lines old new → (run : Run) → run ≡ run_at (charge_in old.held) new.held
-    → (sizes : Sizes) × IsRunOf sizes lines run
-printed_of state lines old new has run is =
-    (old.held.runs.sizes, subst (λ (r : Run). IsRunOf old.held.runs.sizes lines r) (sym is) (is_run_of state lines (charge_in old.held) old new has))
+pub printed_of : {D : Type 0} (state : D → DiskState) (lines : List Line) (workers turns : ℕ) (old new : CoreState D) → HasRun state lines old new → RunsAll state lines workers turns old new → (run : Run) → run ≡ run_at (charge_in old.held) new.held
+    → (sizes : Sizes) × IsRunOf sizes lines workers turns run
+printed_of state lines workers turns old new has runs run is =
+    (old.held.runs.sizes, subst (λ (r : Run). IsRunOf old.held.runs.sizes lines workers turns r) (sym is) (is_run_of state lines workers turns (charge_in old.held) old new has (workers_took state lines workers turns old new runs)))
 
 -- ---- a core that was just opened
 
@@ -152,6 +184,7 @@ is_fresh lines annals faults core opened rests room = record {
   runs = ap (λ (b : BookState). b.stopped) opened.book;
   rests = rests;
   helped = λ seat above below. ap (λ (b : BookState). slice_index b.seats.turns (seat - callers)) opened.book ∙ no_turns_yet (seat - callers);
+  took_none = λ seat. ap (λ (b : BookState). slice_index b.seats.quanta seat) opened.book ∙ of_replicate seats seat 0;
   room = subst (λ (r : Room). HasRoomFor r lines) (sym (ap (λ (b : BookState). b.book.room) opened.book)) room;
 }
 

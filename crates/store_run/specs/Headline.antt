@@ -8,7 +8,13 @@
 --   every crash image opens to a prefix of the history           `LeavesHistory.each`, `LeavesHistory.once_synced`
 --   which holds every write that was acknowledged by then        `HaveMoments.shows`, and in the end the whole, `LeavesHistory.whole`
 --   each caller and each worker comes to its end                 `Headline.ended`
-use Rattle.std.specs.Prelude.{◌≡◌, ◌≤◌, ◌+◌, ◌*◌, ℕ, false, List, length, map, take, None}
+--   one caller and no worker: the text is one function           `Headline.solo`
+use Rattle.std.specs.Prelude.{◌≡◌, ◌<◌, ◌≤◌, ◌+◌, ◌*◌, ℕ, false, List, length, map, take, None}
+use Rattle.std.specs.List.{AllByRecursion}
+use Rattle.alone_run.specs.Alone.{alone, is_trouble}
+use Rattle.blsm_model.specs.Format.{callers}
+use Rattle.blsm_model.specs.Scripts.{lines_of}
+use Rattle.blsm_model.specs.declared.history.Line.{Line}
 use Rattle.blsm_model.specs.Geometry.{limits_of}
 use Rattle.blsm_model.specs.Legal.{IsLegal}
 use Rattle.blsm_model.specs.Rows.{puts_of}
@@ -121,10 +127,26 @@ pub record LeavesHistory (sizes : Sizes) (opening : List (Key × Value)) (run : 
   pub whole : (c : List ℕ) → last.images c → ShowsHistory sizes opening run.entries (length run.entries) c
   pub shown : ShowsHistory sizes opening run.entries (length run.entries) last.bytes
 
+-- what is printed is what this state of the machine has
+pub record IsPrinted (run : Run) (m : Machine) : Type 0 where
+  pub entries : run.entries ≡ m.book.entries
+  pub quanta : run.quanta ≡ m.book.quanta
+  pub totals_are : run.totals ≡ totals m
+
+-- no reply tells of a fault, of a damaged page or of want of memory, and nothing stopped the store
+pub record IsCalm (run : Run) : Type 0 where
+  pub replies : AllByRecursion (λ e. is_trouble e.reply ≡ false) run.entries
+  pub runs : run.totals.stopped ≡ None
+
+-- With one caller and no worker, and where all went well, what is printed is one function of the state that the run begins with and the script.
+abbrev pub Solo : List Line → ℕ → Run → Machine → Type 0
+Solo lines workers run begin = (seat : ℕ) → seat < callers → AllByRecursion (λ l. l.seat ≡ seat) lines → workers ≡ 0 → IsCalm run → IsPrinted run (alone seat begin (lines_of seat lines))
+
 -- so many merge workers, each of which takes so many turns at most
-pub record Headline {D : Type 0} (state : D → DiskState) (sizes : Sizes) (workers turns : ℕ) (run : Run) (room : Room) (first last : DiskState) : Type 0 where
+pub record Headline {D : Type 0} (state : D → DiskState) (sizes : Sizes) (lines : List Line) (workers turns : ℕ) (run : Run) (room : Room) (first last : DiskState) : Type 0 where
   pub served : IsServed state sizes run room first last
   pub ended : HaveEnded workers turns served.reached.end.gears (book_of served.reached.end)
   -- each quantum of a worker was a turn of one
   pub helped : run.totals.workers ≤ helps_in (map (λ one. one.0) served.reached.made)
+  pub solo : Solo lines workers run (begin_of served.reached)
   pub crashes : LeavesHistory sizes served.opening run (begin_of served.reached) served.reached.made first (state served.opened) last

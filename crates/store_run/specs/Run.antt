@@ -1,5 +1,5 @@
 -- The run of a script over the store on a disk: what it leaves to be printed, and what holds of it on every disk, honest or not.
-use Rattle.std.specs.Prelude.{◌≡◌, ◌≤◌, ◌<◌, ◌+◌, ◌||◌, ℕ, Bool, true, false, None, List, slice_index, sum}
+use Rattle.std.specs.Prelude.{◌≡◌, ◌≤◌, ◌<◌, ◌+◌, ◌*◌, ◌||◌, ℕ, Bool, true, false, None, List, slice_index, sum}
 use Rattle.std.specs.List.{AllByRecursion, list_any}
 use Rattle.refusal.specs.Count.{HasRisenBy}
 use Rattle.blsm_model.specs.Geometry.{high_mark}
@@ -13,8 +13,10 @@ use Rattle.core_moves.specs.declared.held.Held.{Held}
 use Rattle.core_moves.specs.Held.{charge_in}
 use Rattle.disk_trait.specs.Disk.{DiskState}
 use Rattle.gear_sched.specs.Gears.{GearState, first_debt, second_debt}
+use Rattle.seat_book.specs.Seats.{turns_in}
 use Rattle.seat_book.specs.State.{BookState, totals_in, work_in}
 use Rattle.tree_core.specs.Notes.{HasLeft}
+use Rattle.tree_machine.specs.Machine.{seats}
 use Rattle.tree_machine.specs.Outcomes.{is_by_page, is_damaged}
 use Rattle.tree_session.specs.Faults.{NamesCount, NamesStop, faults_told, is_by_fault}
 use Rattle.tree_session.specs.Session.{TookFew}
@@ -46,13 +48,16 @@ abbrev pub finds_damage : Run → Bool
 finds_damage run = list_any (λ e. is_damaged e.reply) run.entries || is_by_page run.totals.stopped
 
 -- What is printed, whatever the disk is, and however the threads interleave.
-pub record IsRunOf (sizes : Sizes) (lines : List Line) (run : Run) : Type 0 where
+-- so many merge workers helped, each of which takes so many turns at most
+pub record IsRunOf (sizes : Sizes) (lines : List Line) (workers turns : ℕ) (run : Run) : Type 0 where
   pub geometry : IsGeometry sizes
   -- each caller's commands, once, in order
   pub of_script : IsOfScript lines run.entries
   -- a write took no more quanta than its work bound, a work of n turns no more than n, and the others none; their sum is printed
   pub few : TookFew sizes run.entries run.quanta
   pub callers : run.totals.callers ≡ sum run.quanta
+  -- a worker took a quantum in each of its turns at most, and without workers none was taken so
+  pub helped : run.totals.workers ≤ workers * turns
   -- a reply that the store is stopped names what stopped it
   pub stops : AllByRecursion (λ e. NamesStop e.reply run.totals.stopped) run.entries
   -- the memory table weighed no more than its bytes
@@ -61,17 +66,24 @@ pub record IsRunOf (sizes : Sizes) (lines : List Line) (run : Run) : Type 0 wher
 
 -- And of one thread: the commands in the order of the lines, and nobody else works.
 pub record IsRunInOrder (sizes : Sizes) (lines : List Line) (run : Run) : Type 0 where
-  pub printed : IsRunOf sizes lines run
+  pub printed : IsRunOf sizes lines 0 0 run
   pub in_order : asked_in run.entries ≡ asked lines
-  pub alone : run.totals.workers ≡ 0
 
 -- How callers and workers ended: each caller left, with no open work, and owes nothing unless the store is stopped; each worker took a turn, where it
--- takes any.
+-- takes any, and no more than it may, with a quantum in each at most. No other worker's seat took any.
 pub record HaveEnded (workers turns : ℕ) (gears : GearState) (book : BookState) : Type 0 where
   pub left : (seat : ℕ) → seat < callers → HasLeft seat book
   pub idle : (seat : ℕ) → seat < callers → (work_in seat book).turns ≡ 0
   pub even : book.stopped ≡ None → (seat : ℕ) → seat < callers → first_debt gears seat + second_debt gears seat ≡ 0
   pub helped : 0 < turns → (i : ℕ) → i < workers → 0 < slice_index book.seats.turns i
+  pub few : (i : ℕ) → i < workers → (slice_index book.seats.turns i ≤ turns) × (slice_index book.seats.quanta (callers + i) ≤ turns)
+  pub rested : (seat : ℕ) → callers + workers ≤ seat → seat < seats → (turns_in seat book ≡ 0) × (slice_index book.seats.quanta seat ≡ 0)
+
+-- The same of what is printed, on every disk: it is what a core left that they ended so.
+pub record CameToEnd (workers turns : ℕ) (run : Run) : Type 0 where
+  pub held : Held
+  pub printed : run_at run.charge held ≡ run
+  pub ended : HaveEnded workers turns held.gears held.book
 
 -- how the run ended, by the disk's count of faults and what was found
 abbrev pub IsEnding : Ending → Run → ℕ → Type 0

@@ -13,10 +13,11 @@ ghost use Rattle.tree_reading.specs.Reading.{IsWhy};
 ghost use Rattle.recover_open.specs.Opening.{KeepsMapOf, ReadsAsNone};
 ghost use Rattle.tree_session.specs.Faults.{Reaches};
 ghost use Rattle.tree_session.specs.Lines.{AreRunnable, HasRoomFor};
-ghost use Rattle.store_run.specs.Run.{AreCounted, IsEnding, IsRunInOrder, IsRunOf, run_at, run_of};
+ghost use Rattle.store_run.specs.Run.{AreCounted, CameToEnd, IsEnding, IsRunInOrder, IsRunOf, run_at, run_of};
 ghost use Rattle.store_run.specs.Headline.{Headline, IsServed};
 
 use crate::ending::ending;
+use alone_run::runs_alone;
 use blsm_model::{Annals, Gate, Line, Room, Totals};
 use core_chain::{calls_are_steps, calls_help, calls_take_few, calls_tell};
 use disk_trait::Disk;
@@ -91,7 +92,8 @@ pub fn run_over<R: Threads + Wait + Sync, D: Disk + Send + Drop, G: Gate + Sync>
     requires few { callers + workers ≤ seats }
 
     // On every disk: what is printed, how faults are told, and that no call ends behind the file or the superblock.
-    ensures ran { IfOk result.1 (λ finished. (sizes : Sizes) × IsRunOf sizes lines.now (run_of finished)) }
+    ensures ran { IfOk result.1 (λ finished. (sizes : Sizes) × IsRunOf sizes lines.now workers turns (run_of finished)) }
+    ensures ended { IfOk result.1 (λ finished. CameToEnd workers turns (run_of finished)) }
     ensures counted { IfOk result.1 (λ finished. AreCounted (run_of finished) (D.state disk) (D.state result.0)) }
     ensures ending { IfOk result.1 (λ finished. IsEnding finished.ending (run_of finished) (D.state result.0).faults) }
     ensures reaches { (end : ℕ) × (calls : ℕ) × (IsTrue (D.state disk).tells_bytes → end ≤ max superblock_length (length (D.state disk).bytes))
@@ -101,7 +103,7 @@ pub fn run_over<R: Threads + Wait + Sync, D: Disk + Send + Drop, G: Gate + Sync>
 
     // On an honest disk: the headline, or why the store wasn't opened.
     ensures headline { IsTrue (D.state disk).is_honest
-        → IfOk result.1 (λ finished. (sizes : Sizes) × IsRunOf sizes lines.now (run_of finished) × Headline D.state sizes workers turns (run_of finished) room (D.state disk) (D.state result.0)) }
+        → IfOk result.1 (λ finished. (sizes : Sizes) × IsRunOf sizes lines.now workers turns (run_of finished) × Headline D.state sizes lines.now workers turns (run_of finished) room (D.state disk) (D.state result.0)) }
     ensures refused { IsTrue (D.state disk).is_honest → IfErr result.1 (λ why. IsWhy why (D.state disk).bytes) }
 
     // Where no command was done, each image of each moment is one from before or reads as the map that the file read as; where it read as none, one
@@ -114,6 +116,7 @@ pub fn run_over<R: Threads + Wait + Sync, D: Disk + Send + Drop, G: Gate + Sync>
     an_opened_core_rests();
     seats_apart();
     outcomes_are_told();
+    runs_alone();
     let core = match open_store(alloc, disk, room) {
         Ok(core) => core,
         Err(refused) => return (refused.disk, Err(refused.why)),

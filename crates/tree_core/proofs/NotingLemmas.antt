@@ -1,5 +1,5 @@
 -- What a call leaves of the annals, of the callers' open works, and of its own seat's debts.
-use Rattle.std.specs.Prelude.{IfOk, IsErr, length, slice_index, slice_index_or, slice_set, nat_lt, ◌==◌, ◌%◌, ◌^◌}
+use Rattle.std.specs.Prelude.{IfOk, IsErr, length, slice_index, slice_index_or, slice_set, nat_lt, ◌==◌}
 use Rattle.std.specs.declared.result.Result.{Result}
 use Rattle.std.proofs.Common.{◌≡◌, ◌∙◌, ℕ, ◌+◌, ◌-◌, ◌≤◌, ◌<◌, Bool, true, false, cond, List, Some, Ok, Err, replicate, refl, ap, sym, subst, arith}
 use Rattle.std.proofs.lemmas.Bool.{eqb-true, ltb-true, ltb-false}
@@ -19,7 +19,7 @@ use Rattle.page_file.specs.declared.file.Broken.TheVariants.{Fault, Damaged}
 use Rattle.pacing.specs.Steps as pacing
 use Rattle.pacing.specs.Steps.{Move}
 use Rattle.paced_tree.specs.Booking.{quanta_of_move}
-use Rattle.tree_machine.specs.Machine.{Seats, Turned, WorkSoFar, is_caller, no_work, seats}
+use Rattle.tree_machine.specs.Machine.{Seats, Turned, WorkSoFar, is_caller, no_work, seats, turn_more}
 use Rattle.tree_machine.specs.Steps.{last_write}
 use Rattle.tree_machine.proofs.PlayLemmas.{of_replicate}
 use Rattle.seat_book.specs.Seats.{turns_in}
@@ -217,11 +217,11 @@ pub helps_once : (seat : ℕ) (old between b : BookState) → callers ≤ seat �
 helps_once seat old between b above below places same is =
     let none = no_caller seat above in
     let of : (x : BookState) → turns_in seat x ≡ slice_index x.seats.turns (seat - callers) = λ x. ap (λ (c : Bool). cond c (work_in seat x).turns (slice_index x.seats.turns (seat - callers))) none in
-    let more = (slice_index between.seats.turns (seat - callers) + 1) % 2 ^ 64 in
+    let more = turn_more (slice_index between.seats.turns (seat - callers)) in
     let there : seat - callers < length between.seats.turns = omega (arith, above, below, places, ap (λ (l : List ℕ). length l) same) in
     of b ∙ (ap (λ (x : BookState). slice_index x.seats.turns (seat - callers)) is
     ∙ (get_or-set_same between.seats.turns (seat - callers) more 0 there
-    ∙ (ap (λ (l : List ℕ). (slice_index l (seat - callers) + 1) % 2 ^ 64) same ∙ ap (λ (n : ℕ). (n + 1) % 2 ^ 64) (sym (of old)))))
+    ∙ (ap (λ (l : List ℕ). turn_more (slice_index l (seat - callers))) same ∙ ap (λ (n : ℕ). turn_more n) (sym (of old)))))
 
 pub turn_helps : (seat : ℕ) (mv : Move) (made : Result ℕ Broken) (faults : ℕ) (old moved : Held) (ended : Turned) (b : BookState) (before after : DiskState) → callers ≤ seat → seat < seats
     → length old.book.seats.turns ≡ seats - callers → Ends true seat mv made faults old moved ended b before after → HelpsOnce seat old.book b

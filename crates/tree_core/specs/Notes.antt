@@ -1,5 +1,5 @@
 -- What a call leaves of the book, on every disk: the annals, and the callers' open works.
-use Rattle.std.specs.Prelude.{◌≡◌, ◌≢◌, ⊤, ℕ, ◌+◌, ◌%◌, ◌^◌, ◌<◌, true, false, Some, slice_index_or}
+use Rattle.std.specs.Prelude.{◌≡◌, ◌≢◌, ⊤, ℕ, ◌+◌, ◌<◌, true, false, Some, slice_index_or}
 use Rattle.blsm_model.specs.Book.{Book, noted, counted_up}
 use Rattle.blsm_model.specs.declared.op.Op.{Op}
 use Rattle.blsm_model.specs.declared.history.Reply.{Reply}
@@ -7,7 +7,7 @@ use Rattle.blsm_model.specs.declared.history.Why.{Why}
 use Rattle.gear_sched.specs.Gears.{first_debt, second_debt}
 use Rattle.pacing.specs.Steps.{Move}
 use Rattle.paced_tree.specs.Booking.{quanta_of_move}
-use Rattle.tree_machine.specs.Machine.{Turned, Worked}
+use Rattle.tree_machine.specs.Machine.{Turned, Worked, turn_more}
 use Rattle.tree_machine.specs.Steps.{last_write}
 use Rattle.seat_book.specs.State.{BookState, work_in, with_ended}
 use Rattle.seat_book.specs.Seats.{turns_in}
@@ -66,9 +66,9 @@ pub record CountsTurn (seat : ℕ) (ended : Turned) (old new : Held) : Type 0 wh
 
 -- ---- turns of a worker
 
--- one turn more, modulo 2 ^ 64
+-- one turn more
 abbrev pub HelpsOnce : ℕ → BookState → BookState → Type 0
-HelpsOnce seat old new = turns_in seat new ≡ (turns_in seat old + 1) % 2 ^ 64
+HelpsOnce seat old new = turns_in seat new ≡ turn_more (turns_in seat old)
 
 -- ---- callers who leave
 

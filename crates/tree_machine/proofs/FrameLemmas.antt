@@ -1,5 +1,5 @@
 -- What each part of a step leaves to the other seats.
-use Rattle.std.proofs.Common.{subst, ◌≡◌, ◌≢◌, ℕ, zero, suc, ◌+◌, ◌-◌, ◌*◌, ◌%◌, ◌^◌, ◌≤◌, ◌⊎◌, Bool, cond, true, false, not, ◌&&◌, List, [], ◌∷◌, length, take, drop, replicate, Some, None, Option, refl, ap, sym, ◌∙◌, arith}
+use Rattle.std.proofs.Common.{subst, ◌≡◌, ◌≢◌, ℕ, zero, suc, ◌+◌, ◌-◌, ◌*◌, ◌≤◌, ◌⊎◌, Bool, cond, true, false, not, ◌&&◌, List, [], ◌∷◌, length, take, drop, replicate, Some, None, Option, refl, ap, sym, ◌∙◌, arith}
 use Rattle.std.specs.Prelude.{◌==◌, sum, nat_lt, nat_le, slice_index, slice_index_or, slice_set, is_some}
 use Rattle.std.proofs.lemmas.Bool.{false≢true, leb-true, ltb-false}
 use Rattle.std.proofs.lemmas.List.{get_or-set_other}
@@ -29,10 +29,10 @@ use Rattle.tree_machine.specs.Merges.{Merge, quantum_of}
 use Rattle.gear_sched.specs.Gears.{plan_for, first_debt, second_debt}
 use Rattle.gear_sched.specs.declared.Plan.{Plan}
 use Rattle.gear_sched.specs.declared.Plan.TheVariants.{Snow, Deep, Nothing}
-use Rattle.tree_machine.specs.Machine.{Machine, WorkSoFar, is_worked, seats, no_work, in_pass, in_deep, pass_done, deep_done, is_closed, all_true, charge, held_by, work_of}
+use Rattle.tree_machine.specs.Machine.{Machine, WorkSoFar, is_worked, seats, no_work, in_pass, in_deep, pass_done, deep_done, is_closed, all_true, charge, held_by, work_of, turn_more}
 use Rattle.tree_machine.specs.Moves.{begin_pass, rotate, rotate_alone, swap_pass, swap_deep, end_pass, output_of, pass_quantum, deep_quantum, pass_quantum_of, deep_quantum_of, take_write, with_peak, note, stop}
 use Rattle.tree_machine.specs.Steps.{Choice, SwapDeep, SwapPass, DeepQuantum, PassQuantum, Begin, Rotate, Rest, chosen, deep_swapped, pass_swapped, swapped, pass_begun_for, ready_for, taken_once, forgive, count_for_write, holding, work_noted, Outcome, Well, FailedAfter, Broken, NoRoom, Stepped, replied, unless_stopped, is_del, swaps_due, admit, admit_fitting, do_pay, pay_planned, pay, pay_running, reply_unless, hold, do_hold, next_rows, do_next, choice, do_turn, work_turning, worker_turning, with_turn, work_turn, worker_turn, work_reply, work_end, leave}
-use Rattle.tree_machine.specs.Plays.{stepped_as, may}
+use Rattle.tree_machine.specs.Plays.{stepped_as, may, is_help}
 use Rattle.tree_machine.proofs.FoldLemmas.{both_hold, both}
 use Rattle.blsm_model.specs.Facts.{Follows}
 use Rattle.tree_machine.specs.Frames.{facts_of, turns_of}
@@ -47,6 +47,8 @@ pub record Apart (seat more : ℕ) (old new : Machine) : Type 0 where
   pub closed : is_closed old ≡ true → is_closed new ≡ true
   pub kept : sum old.seats.quanta ≤ sum new.seats.quanta
   pub quanta : sum new.seats.quanta ≤ sum old.seats.quanta + more
+  pub its : slice_index new.seats.quanta seat ≤ slice_index old.seats.quanta seat + more
+  pub counts : (other : ℕ) → other ≢ seat → slice_index new.seats.quanta other ≡ slice_index old.seats.quanta other
   pub held : (other : ℕ) → other ≢ seat → held_by other new ≡ held_by other old
   pub work : (other : ℕ) → other ≢ seat → work_of other new ≡ work_of other old
   pub turns : (other : ℕ) → callers ≤ other → other ≢ seat → slice_index new.seats.turns (other - callers) ≡ slice_index old.seats.turns (other - callers)
@@ -69,6 +71,11 @@ raised (x ∷ xs) (suc i) =
       omega (arith, rest.1, sum_by-cons (λ n. n) x xs, sum_by-cons (λ n. n) x (slice_set xs i (slice_index xs i + 1))),
     )
 
+raised_once : (xs : List ℕ) (i : ℕ) → slice_index (slice_set xs i (slice_index xs i + 1)) i ≤ slice_index xs i + 1
+raised_once [] i = omega arith
+raised_once (x ∷ xs) zero = omega arith
+raised_once (x ∷ xs) (suc i) = raised_once xs i
+
 pub apart_itself : (seat : ℕ) (m : Machine) → Apart seat 0 m m
 apart_itself seat m = record {
   fixed = (refl, refl, refl);
@@ -77,6 +84,8 @@ apart_itself seat m = record {
   closed = λ is. is;
   kept = omega arith;
   quanta = omega arith;
+  its = omega arith;
+  counts = λ other apart. refl;
   held = λ other apart. refl;
   work = λ other apart. refl;
   turns = λ other worker apart. refl;
@@ -95,6 +104,8 @@ apart_on {a} {b} {c} seat j k p q = record {
   closed = λ is. q.closed (p.closed is);
   kept = omega (arith, p.kept, q.kept);
   quanta = omega (arith, p.quanta, q.quanta);
+  its = omega (arith, p.its, q.its);
+  counts = λ other apart. q.counts other apart ∙ p.counts other apart;
   held = λ other apart. q.held other apart ∙ p.held other apart;
   work = λ other apart. q.work other apart ∙ p.work other apart;
   turns = λ other worker apart. q.turns other worker apart ∙ p.turns other worker apart;
@@ -114,6 +125,8 @@ apart_more {a} {b} seat j k le p = record {
   closed = p.closed;
   kept = p.kept;
   quanta = omega (arith, p.quanta, le);
+  its = omega (arith, p.its, le);
+  counts = p.counts;
   held = p.held;
   work = p.work;
   turns = p.turns;
@@ -134,6 +147,8 @@ begin_apart seat m = record {
   closed = λ is. is;
   kept = omega arith;
   quanta = omega arith;
+  its = omega arith;
+  counts = λ other apart. refl;
   held = λ other apart. refl;
   work = λ other apart. refl;
   turns = λ other worker apart. refl;
@@ -152,6 +167,8 @@ rotate_apart seat m = record {
   closed = λ is. is;
   kept = omega arith;
   quanta = omega arith;
+  its = omega arith;
+  counts = λ other apart. refl;
   held = λ other apart. refl;
   work = λ other apart. refl;
   turns = λ other worker apart. refl;
@@ -170,6 +187,8 @@ rotate_alone_apart seat m = record {
   closed = λ is. is;
   kept = omega arith;
   quanta = omega arith;
+  its = omega arith;
+  counts = λ other apart. refl;
   held = λ other apart. refl;
   work = λ other apart. refl;
   turns = λ other worker apart. refl;
@@ -188,6 +207,8 @@ swap_deep_apart seat m = record {
   closed = λ is. is;
   kept = omega arith;
   quanta = omega arith;
+  its = omega arith;
+  counts = λ other apart. refl;
   held = λ other apart. refl;
   work = λ other apart. refl;
   turns = λ other worker apart. refl;
@@ -206,6 +227,8 @@ end_pass_apart seat m = record {
   closed = λ is. is;
   kept = omega arith;
   quanta = omega arith;
+  its = omega arith;
+  counts = λ other apart. refl;
   held = λ other apart. refl;
   work = λ other apart. refl;
   turns = λ other worker apart. refl;
@@ -235,6 +258,8 @@ pass_quantum_apart seat m = by m.merges.pass
       closed = λ is. is;
       kept = (raised m.seats.quanta seat).0;
       quanta = (raised m.seats.quanta seat).1;
+      its = raised_once m.seats.quanta seat;
+      counts = λ other apart. get_or-set_other m.seats.quanta seat other (slice_index m.seats.quanta seat + 1) 0 apart;
       held = λ other apart. refl;
       work = λ other apart. refl;
       turns = λ other worker apart. refl;
@@ -257,6 +282,8 @@ deep_quantum_apart seat m = by m.merges.deep
       closed = λ is. is;
       kept = (raised m.seats.quanta seat).0;
       quanta = (raised m.seats.quanta seat).1;
+      its = raised_once m.seats.quanta seat;
+      counts = λ other apart. get_or-set_other m.seats.quanta seat other (slice_index m.seats.quanta seat + 1) 0 apart;
       held = λ other apart. refl;
       work = λ other apart. refl;
       turns = λ other worker apart. refl;
@@ -311,6 +338,8 @@ note_apart seat op reply m = record {
   closed = λ is. is;
   kept = omega arith;
   quanta = omega arith;
+  its = omega arith;
+  counts = λ other apart. refl;
   held = λ other apart. refl;
   work = λ other apart. refl;
   turns = λ other worker apart. refl;
@@ -329,6 +358,8 @@ stop_apart seat cause m none = record {
   closed = λ is. is;
   kept = omega arith;
   quanta = omega arith;
+  its = omega arith;
+  counts = λ other apart. refl;
   held = λ other apart. refl;
   work = λ other apart. refl;
   turns = λ other worker apart. refl;
@@ -355,6 +386,8 @@ take_apart seat w m = record {
   closed = λ is. is;
   kept = omega arith;
   quanta = omega arith;
+  its = omega arith;
+  counts = λ other apart. refl;
   held = λ other apart. refl;
   work = λ other apart. refl;
   turns = λ other worker apart. refl;
@@ -373,6 +406,8 @@ forgive_apart seat m = record {
   closed = λ is. is;
   kept = omega arith;
   quanta = omega arith;
+  its = omega arith;
+  counts = λ other apart. refl;
   held = λ other apart. refl;
   work = λ other apart. refl;
   turns = λ other worker apart. refl;
@@ -394,6 +429,8 @@ count_apart seat m = record {
   closed = λ is. is;
   kept = omega arith;
   quanta = omega arith;
+  its = omega arith;
+  counts = λ other apart. refl;
   held = λ other apart. refl;
   work = λ other apart. refl;
   turns = λ other worker apart. refl;
@@ -412,6 +449,8 @@ holding_apart seat rows m = record {
   closed = λ is. is;
   kept = omega arith;
   quanta = omega arith;
+  its = omega arith;
+  counts = λ other apart. refl;
   held = λ other apart. get_or-set_other m.holds seat other _ None apart;
   work = λ other apart. refl;
   turns = λ other worker apart. refl;
@@ -430,6 +469,8 @@ work_apart seat work m = record {
   closed = λ is. is;
   kept = omega arith;
   quanta = omega arith;
+  its = omega arith;
+  counts = λ other apart. refl;
   held = λ other apart. refl;
   work = λ other apart. get_or-set_other m.seats.work seat other _ no_work apart;
   turns = λ other worker apart. refl;
@@ -449,6 +490,8 @@ recounted_apart seat place quanta m = record {
   closed = λ is. is;
   kept = omega arith;
   quanta = omega arith;
+  its = omega arith;
+  counts = λ other apart. refl;
   held = λ other apart. refl;
   work = λ other apart. refl;
   turns = λ other worker apart. refl;
@@ -515,6 +558,8 @@ taken_apart seat _ m = peak_apart seat m
       closed = λ is. is;
       kept = omega arith;
       quanta = omega arith;
+      its = omega arith;
+      counts = λ other apart. refl;
       held = λ other apart. refl;
       work = λ other apart. refl;
       turns = λ other worker apart. refl;
@@ -616,7 +661,7 @@ work_turn_apart m seat outcome =
 worker_turn_apart : (m : Machine) (seat : ℕ) (outcome : Outcome) → callers ≤ seat → Apart seat 1 m (worker_turn m seat outcome).state
 worker_turn_apart m seat outcome worker = counted (worker_turning m.stopped (is_closed m) m seat outcome).state (by m.stopped refl (is_closed m))
   where
-    counted : (n : Machine) → Apart seat 1 m n → Apart seat 1 m (record n { seats = record n.seats { turns = slice_set n.seats.turns (seat - callers) ((slice_index n.seats.turns (seat - callers) + 1) % 2 ^ 64) } })
+    counted : (n : Machine) → Apart seat 1 m n → Apart seat 1 m (record n { seats = record n.seats { turns = slice_set n.seats.turns (seat - callers) (turn_more (slice_index n.seats.turns (seat - callers))) } })
     counted n p = record {
       fixed = p.fixed;
       peak = p.peak;
@@ -624,9 +669,11 @@ worker_turn_apart m seat outcome worker = counted (worker_turning m.stopped (is_
       closed = p.closed;
       kept = p.kept;
       quanta = p.quanta;
+      its = p.its;
+      counts = p.counts;
       held = p.held;
       work = p.work;
-      turns = λ other here apart. get_or-set_other n.seats.turns (seat - callers) (other - callers) ((slice_index n.seats.turns (seat - callers) + 1) % 2 ^ 64) 0 (λ same. apart (omega (arith, worker, here, same))) ∙ p.turns other here apart;
+      turns = λ other here apart. get_or-set_other n.seats.turns (seat - callers) (other - callers) (turn_more (slice_index n.seats.turns (seat - callers))) 0 (λ same. apart (omega (arith, worker, here, same))) ∙ p.turns other here apart;
       left = p.left;
       entries_room = p.entries_room;
       rows_room = p.rows_room;
@@ -660,6 +707,8 @@ leave_apart m seat = record {
   closed = λ is. still_all m.seats.left seat is;
   kept = omega arith;
   quanta = omega arith;
+  its = omega arith;
+  counts = λ other apart. refl;
   held = λ other apart. refl;
   work = λ other apart. refl;
   turns = λ other worker apart. refl;
@@ -670,12 +719,8 @@ leave_apart m seat = record {
   second = λ other apart. omega arith;
 }
 
-abbrev is_worker_turn : Kind → Bool
-is_worker_turn kind.WorkerTurn = true
-is_worker_turn _ = false
-
 -- whatever the step and its outcome, where a worker's turn is a worker's
-pub step_apart : (m : Machine) (seat : ℕ) (k : Kind) (outcome : Outcome) → (is_worker_turn k ≡ true → callers ≤ seat) → Apart seat 1 m (stepped_as m seat k outcome).state
+pub step_apart : (m : Machine) (seat : ℕ) (k : Kind) (outcome : Outcome) → (is_help k ≡ true → callers ≤ seat) → Apart seat 1 m (stepped_as m seat k outcome).state
 step_apart m seat (kind.Admit op) outcome worker = apart_more seat 0 1 (omega arith) (admit_apart m seat op outcome)
 step_apart m seat kind.Pay outcome worker = pay_apart m seat outcome
 step_apart m seat (kind.Get key) outcome worker = apart_more seat 0 1 (omega arith)
@@ -711,7 +756,7 @@ pub step_stays : (m : Machine) (seat : ℕ) (k : Kind) (outcome : Outcome) (why 
 step_stays m seat kind.WorkerTurn outcome why is = subst (λ o. (worker_turning o (is_closed m) m seat outcome).state.stopped ≡ Some why) (sym is) is
 step_stays m seat k outcome why is = (step_apart m seat k outcome (λ w. absurd (false≢true w))).stopped why is
 
-worker_turns : (m : Machine) (seat : ℕ) (k : Kind) → may m seat k ≡ true → is_worker_turn k ≡ true → callers ≤ seat
+worker_turns : (m : Machine) (seat : ℕ) (k : Kind) → may m seat k ≡ true → is_help k ≡ true → callers ≤ seat
 worker_turns m seat kind.WorkerTurn ok is = leb-true callers seat (both_hold (nat_le callers seat) (nat_lt seat seats) ok).0
 worker_turns m seat k ok is = absurd (false≢true is)
 
@@ -722,6 +767,7 @@ step_follows m seat k outcome ok =
     record {
       history = notes seat m new (step_grows m seat k outcome);
       quanta = same_or_more (sum m.seats.quanta) (sum new.seats.quanta) p.kept p.quanta;
+      its = p.its;
       peak = p.peak;
       closed = p.closed;
       stopped = some_stays m.stopped new.stopped p.stopped;
@@ -730,6 +776,7 @@ step_follows m seat k outcome ok =
         debt2 = p.second other apart;
         turns = turns_stay seat other m new p apart;
         worked = ap (λ w. is_worked w.last) (p.work other apart);
+        quanta = p.counts other apart;
         room = ap (λ n. (n, slice_index new.book.room.rows other)) (p.entries_room other apart) ∙ ap (λ n. (slice_index m.book.room.entries other, n)) (p.rows_room other apart);
         left = p.left other apart;
       };

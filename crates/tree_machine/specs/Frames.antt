@@ -16,6 +16,7 @@ part_of m seat = record {
   debt2 = second_debt m.gears seat;
   turns = turns_of seat m;
   worked = is_worked (work_of seat m).last;
+  quanta = slice_index m.seats.quanta seat;
   room = (slice_index m.book.room.entries seat, slice_index m.book.room.rows seat);
   left = slice_index_or m.seats.left seat false;
 }

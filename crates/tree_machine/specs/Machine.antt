@@ -1,5 +1,5 @@
 -- The state of the tree, as a machine over lists.
-use Rattle.std.specs.Prelude.{ℕ, ◌+◌, ◌-◌, Bool, true, false, ◌&&◌, List, [], ◌∷◌, take, drop, sum, Option, Some, None, replicate, slice_index_or, if◌then◌else◌, nat_lt, nat_le}
+use Rattle.std.specs.Prelude.{ℕ, ◌+◌, ◌-◌, Bool, true, false, ◌&&◌, List, [], ◌∷◌, take, drop, sum, Option, Some, None, replicate, slice_index_or, if◌then◌else◌, nat_lt, nat_le, ◌^◌, min}
 use Rattle.blsm_model.specs.Format.{callers}
 use Rattle.blsm_model.specs.declared.room.Room.{Room}
 use Rattle.blsm_model.specs.declared.row.Row.{Row}
@@ -54,7 +54,11 @@ pub record WorkSoFar : Type 0 where
 abbrev pub no_work : WorkSoFar
 no_work = record { turns = 0; worked = 0; quanta = 0; last = Idle }
 
--- What the seats did: each caller's work, and whether it left; each worker's turns, modulo 2 ^ 64; the quanta of each seat.
+-- a worker's turns after one more: they stop at the end of their type, so that a seat whose turns are none never took one
+abbrev pub turn_more : ℕ → ℕ
+turn_more turns = min (turns + 1) (2 ^ 64 - 1)
+
+-- What the seats did: each caller's work, and whether it left; each worker's turns; the quanta of each seat.
 pub record Seats : Type 0 where
   pub work : List WorkSoFar
   pub left : List Bool

@@ -1,5 +1,5 @@
 -- Lists of steps, and the states that they reach.
-use Rattle.std.specs.Prelude.{⊤, ℕ, Bool, ◌&&◌, ◌||◌, not, List, [], ◌∷◌, is_some, slice_index, if◌then◌else◌, nat_lt, nat_le, ◌==◌, fold}
+use Rattle.std.specs.Prelude.{⊤, ℕ, Bool, true, false, ◌&&◌, ◌||◌, not, List, [], ◌∷◌, is_some, slice_index, if◌then◌else◌, nat_lt, nat_le, ◌==◌, fold}
 use Rattle.blsm_model.specs.Format.{most_rows}
 use Rattle.blsm_model.specs.declared.room.Room.{Room}
 use Rattle.blsm_model.specs.Legal.{is_write}
@@ -47,6 +47,11 @@ may m seat kind.WorkTurn = is_caller seat && nat_lt (work_of seat m).turns most_
 may m seat (kind.WorkEnd n) = is_caller seat && has_room m.book.room seat 0 && is_finished n (work_of seat m)
 may m seat kind.WorkerTurn = is_worker seat
 may m seat kind.Leave = is_caller seat
+
+-- a worker's turn
+abbrev pub is_help : Kind → Bool
+is_help kind.WorkerTurn = true
+is_help _ = false
 
 abbrev pub may_step : Machine → Step → Bool
 may_step m step = may m step.seat step.kind

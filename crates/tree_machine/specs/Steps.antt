@@ -1,6 +1,6 @@
 -- The steps of the tree. Each is one function of the state, the seat, what is asked, and the step's outcome, which says
 -- whether a call of the disk failed and where, whether a page was found damaged, or whether memory was refused.
-use Rattle.std.specs.Prelude.{ℕ, ◌+◌, ◌-◌, ◌%◌, ◌^◌, Bool, true, false, ◌&&◌, ◌||◌, not, List, [], ◌∷◌, length, take, drop, Option, Some, None, option_map, unwrap_or, slice_index, slice_set, if◌then◌else◌, nat_lt, ◌==◌}
+use Rattle.std.specs.Prelude.{ℕ, ◌+◌, ◌-◌, ◌^◌, Bool, true, false, ◌&&◌, ◌||◌, not, List, [], ◌∷◌, length, take, drop, Option, Some, None, option_map, unwrap_or, slice_index, slice_set, if◌then◌else◌, nat_lt, ◌==◌}
 use Rattle.std.specs.List.{before_last}
 use Rattle.blsm_model.specs.Format.{callers}
 use Rattle.blsm_model.specs.declared.key.Key.{Key}
@@ -22,7 +22,7 @@ use Rattle.tree_machine.specs.Lists.{memory_weight, value_in, rows_in}
 use Rattle.gear_sched.specs.Gears.{forgiven, deep_is_behind, plan_for, first_debt, second_debt}
 use Rattle.gear_sched.specs.declared.Plan.{Plan}
 use Rattle.gear_sched.specs.declared.Plan.TheVariants.{Snow, Deep, Nothing}
-use Rattle.tree_machine.specs.Machine.{Machine, WorkSoFar, Turned, Worked, Idle, Closed, Failed, BadPage, Halted, no_work, in_pass, in_deep, pass_done, deep_done, charge, work_of, held_by, is_closed}
+use Rattle.tree_machine.specs.Machine.{Machine, WorkSoFar, Turned, Worked, Idle, Closed, Failed, BadPage, Halted, no_work, in_pass, in_deep, pass_done, deep_done, charge, work_of, held_by, is_closed, turn_more}
 use Rattle.tree_machine.specs.Moves.{begin_pass, rotate_alone, swap_deep, swap_pass, pass_quantum, deep_quantum, take_write, with_peak, note, stop}
 
 -- ---- outcomes and answers
@@ -278,7 +278,7 @@ worker_turn m seat outcome =
     let place = seat - callers in
     let s = turning.state.seats in
     record {
-      state = record turning.state { seats = record s { turns = slice_set s.turns place ((slice_index s.turns place + 1) % 2 ^ 64) } };
+      state = record turning.state { seats = record s { turns = slice_set s.turns place (turn_more (slice_index s.turns place)) } };
       answer = Turn turning.ended;
     }
 

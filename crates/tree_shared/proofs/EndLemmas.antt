@@ -1,6 +1,6 @@
 -- The turns of a worker, and a caller's leave.
-use Rattle.std.proofs.Common.{◌≡◌, ◌∙◌, ℕ, ◌+◌, ◌<◌, Bool, true, ◌||◌, [], refl, ap, sym}
-use Rattle.std.specs.Prelude.{◌%◌, ◌^◌, is_some, slice_index_or}
+use Rattle.std.proofs.Common.{◌≡◌, ◌∙◌, ℕ, ◌+◌, ◌<◌, Bool, true, ◌||◌, [], refl, ap, sym, arith}
+use Rattle.std.specs.Prelude.{is_some, slice_index_or}
 use Rattle.std.proofs.lemmas.List.{append-nil}
 use Rattle.blsm_model.specs.Book.{Book}
 use Rattle.blsm_model.specs.Facts.{Part}
@@ -9,7 +9,7 @@ use Rattle.disk_trait.specs.Disk.{DiskState}
 use Rattle.turn_lock.specs.Callers.{Held as Caller}
 use Rattle.turn_lock.specs.Turns.{TookTurn}
 use Rattle.turn_lock.proofs.TurnLemmas.{did_turn, knows_after, saw_over}
-use Rattle.tree_machine.specs.Machine.{Turned, Worked, Idle, Closed, Failed, BadPage, Halted}
+use Rattle.tree_machine.specs.Machine.{Turned, Worked, Idle, Closed, Failed, BadPage, Halted, turn_more}
 use Rattle.core_moves.specs.declared.held.Held.{Held}
 use Rattle.tree_core.specs.Calls.{CameSince, Helps, Leaves}
 use Rattle.tree_core.specs.Causes.{TurnsBecause}
@@ -22,9 +22,9 @@ module _ {D : Type 0} (state : D → DiskState) (c d : Caller (CoreState D)) (an
   pub help_did : (P : Bool → Part → Type 0) → KnowsOf P c → DidOn state c [] d
   help_did P knows = did_turn facts_of (CameSince state) P c d b w [] turn knows (ap (λ (x : Book). x.entries) helps.notes.annals ∙ sym (append-nil b.held.book.book.entries)) refl
 
-  pub help_counts : (turns : ℕ) → KnowsOf (HasHelped turns) c → KnowsOf (HasHelped ((turns + 1) % 2 ^ 64)) d
-  help_counts turns knows = knows_after facts_of (CameSince state) (HasHelped turns) (HasHelped ((turns + 1) % 2 ^ 64)) c d b w turn knows
-      (λ p had eases. helps.helps ∙ ap (λ (n : ℕ). (n + 1) % 2 ^ 64) (eases.turns ∙ had))
+  pub help_counts : (turns taken : ℕ) → KnowsOf (HasHelped turns taken) c → KnowsOf (HasHelped (turn_more turns) (taken + 1)) d
+  help_counts turns taken knows = knows_after facts_of (CameSince state) (HasHelped turns taken) (HasHelped (turn_more turns) (taken + 1)) c d b w turn knows
+      (λ p had eases. (helps.helps ∙ ap (λ (n : ℕ). turn_more n) (eases.turns ∙ had.0), omega (arith, turn.follows.its, eases.quanta, had.1)))
 
   -- one that neither worked nor was idle leaves the value closed or stopped
   ended : (a : Turned) → (a ≡ Worked → ⊥) → (a ≡ Idle → ⊥) → TurnsBecause a true c.number b.held w.held (state b.disk) (state w.disk) → ((facts_of w).closed || (facts_of w).stopped) ≡ true

@@ -7,6 +7,7 @@ use Rattle.blsm_model.specs.Scripts.{IsOfScript, lines_of}
 use Rattle.blsm_model.specs.declared.history.Entry.{Entry}
 use Rattle.blsm_model.specs.declared.history.Line.{Line}
 use Rattle.disk_trait.specs.Disk.{DiskState}
+use Rattle.seat_book.specs.Seats.{turns_in}
 use Rattle.turn_lock.specs.Callers.{Held as Caller, Lock, IsOpened}
 use Rattle.turn_lock.specs.Rule.{IsKnown}
 use Rattle.tree_machine.specs.Machine.{seats}
@@ -17,7 +18,7 @@ use Rattle.tree_shared.specs.Seats.{IsGone, facts_of}
 use Rattle.tree_shared.specs.Runs.{Ends, IsFresh, RunsAll}
 use Rattle.core_chain.proofs.NoteLemmas.{AreCallers, entries_are_callers, none_of_workers}
 use Rattle.tree_shared.proofs.JobLemmas.{lines_none, worker_turns}
-use Rattle.tree_shared.proofs.RestLemmas.{ended_in_value, told_of}
+use Rattle.tree_shared.proofs.RestLemmas.{ended_in_value, spare_in_value, told_of}
 use Rattle.tree_shared.proofs.SeatLemmas.{caller_turns, is_a_caller}
 
 module _ {D : Type 0} (state : D → DiskState) (lines : List Line) (workers turns : ℕ) (start end : CoreState D) (lock : Lock (CoreState D)) (c d : Caller (CoreState D))
@@ -26,6 +27,7 @@ module _ {D : Type 0} (state : D → DiskState) (lines : List Line) (workers tur
   told : (i : ℕ) → i < callers + workers → (map (λ (e : Entry). e.op) (Rattle.blsm_model.specs.Facts.entries_of i end.held.book.book.entries) ≡ lines_of i lines)
       × (i < callers → IsGone (is_some end.held.book.stopped) ((facts_of end).part i))
       × (callers ≤ i → 0 < turns → 0 < ((facts_of end).part i).turns)
+      × (callers ≤ i → (((facts_of end).part i).turns ≤ turns) × (((facts_of end).part i).quanta ≤ turns))
   told i below = ended_in_value (CameSince state) lines turns lock i d end known (told_of (CameSince state) lines turns lock (callers - 1 + workers) i start c d opened ends (omega (arith, below)))
 
   their_entries : AreCallers end.held.book.book.entries
@@ -56,4 +58,16 @@ module _ {D : Type 0} (state : D → DiskState) (lines : List Line) (workers tur
         let at : callers + i - callers ≡ i = omega arith in
         subst (λ (n : ℕ). 0 < slice_index end.held.book.seats.turns n) at
         (subst (λ (n : ℕ). 0 < n) (worker_turns (callers + i) end.held.book (omega arith)) ((told (callers + i) (omega (arith, below))).2 (omega arith) some));
+    few = λ i below.
+        let most = (told (callers + i) (omega (arith, below))).3 (omega arith) in
+        let at : callers + i - callers ≡ i = omega arith in (
+          subst (λ (n : ℕ). slice_index end.held.book.seats.turns n ≤ turns) at
+              (subst (λ (n : ℕ). n ≤ turns) (worker_turns (callers + i) end.held.book (omega arith)) most.0),
+          most.1,
+        );
+    rested = λ seat above below.
+        let eases = spare_in_value (CameSince state) lines turns lock seat (callers - 1 + workers) c d end known ends (omega (arith, opened.next, above)) (omega (arith, below)) in
+        let idle : turns_in seat lock.start.held.book ≡ 0 = worker_turns seat lock.start.held.book (omega (arith, above)) ∙ (ap (λ (core : CoreState D). slice_index core.held.book.seats.turns (seat - callers)) opened.start ∙ fresh.helped seat (omega (arith, above)) below) in
+        let none : slice_index lock.start.held.book.seats.quanta seat ≡ 0 = ap (λ (core : CoreState D). slice_index core.held.book.seats.quanta seat) opened.start ∙ fresh.took_none seat in
+        (eases.turns ∙ idle, eases.quanta ∙ none);
   }

@@ -1,6 +1,6 @@
 -- What a job leaves: of a caller's, and of a worker's.
 use Rattle.std.proofs.Common.{◌≡◌, ◌∙◌, ⊎_elim, inl, inr, ℕ, zero, suc, ◌+◌, ◌-◌, ◌<◌, ◌≤◌, Bool, true, false, cond, ◌==◌, List, [], ◌∷◌, ◌++◌, length, map, filter, ne_eqb, refl, ap, sym, subst, arith}
-use Rattle.std.specs.Prelude.{◌%◌, ◌^◌, nat_lt, slice_index}
+use Rattle.std.specs.Prelude.{◌^◌, nat_lt, slice_index}
 use Rattle.std.proofs.lemmas.Bool.{ltb-true}
 use Rattle.std.proofs.lemmas.List.{append-nil}
 use Rattle.std.proofs.lemmas.List.Elements.{All-head, All-tail}
@@ -15,7 +15,7 @@ use Rattle.seat_book.specs.State.{BookState, work_in}
 use Rattle.turn_lock.specs.Callers.{Held as Caller, Lock}
 use Rattle.turn_lock.specs.Tallies.{In, its_entries}
 use Rattle.turn_lock.proofs.TurnLemmas.{went_then}
-use Rattle.tree_machine.specs.Machine.{WorkSoFar, is_caller}
+use Rattle.tree_machine.specs.Machine.{WorkSoFar, is_caller, turn_more}
 use Rattle.tree_core.specs.Calls.{CameSince}
 use Rattle.tree_core.specs.Core.{CoreState}
 use Rattle.tree_session.specs.Lines.{AreRunnable, IsRunnable, rows_asked}
@@ -33,15 +33,12 @@ no_caller seat above = by (nat_lt seat callers) refl
 pub worker_turns : (seat : ℕ) (b : BookState) → callers ≤ seat → turns_in seat b ≡ slice_index b.seats.turns (seat - callers)
 worker_turns seat b above = ap (λ (c : Bool). cond c (work_in seat b).turns (slice_index b.seats.turns (seat - callers))) (no_caller seat above)
 
-small : (n : ℕ) → n < 2 ^ 64 → n % 2 ^ 64 ≡ n
-small n few = omega (arith, few)
-
 turns_few : (n : ℕ) → n < 2 ^ 64 → turns_after n 0 ≡ n
 turns_few zero few = refl
-turns_few (suc n) few = let before = turns_few n (omega (arith, few)) in let e : turns_after n 0 + 1 ≡ suc n = omega (arith, before) in ap (λ (k : ℕ). k % 2 ^ 64) e ∙ small (suc n) few
+turns_few (suc n) few = let before = turns_few n (omega (arith, few)) in omega (arith, before, few)
 
 -- one turn more
-pub turns_more : (n before : ℕ) → (turns_after n before + 1) % 2 ^ 64 ≡ turns_after (n + 1) before
+pub turns_more : (n before : ℕ) → turn_more (turns_after n before) ≡ turns_after (n + 1) before
 turns_more n before = let e : suc n ≡ n + 1 = omega arith in ap (λ (k : ℕ). turns_after k before) e
 
 -- a script has no lines of a worker
@@ -68,8 +65,8 @@ module _ {D : Type 0} (lines : List Line) (lock : Lock (CoreState D)) (c : Calle
     );
   }
 
-  pub new_has_helped : callers ≤ c.number → KnowsOf (HasHelped 0) c
-  new_has_helped above = record { value = lock.start; more = []; own = new.own; part = worker_turns c.number lock.start.held.book above ∙ fresh.helped c.number above new.number }
+  pub new_has_helped : callers ≤ c.number → KnowsOf (HasHelped 0 0) c
+  new_has_helped above = record { value = lock.start; more = []; own = new.own; part = (worker_turns c.number lock.start.held.book above ∙ fresh.helped c.number above new.number, omega (arith, fresh.took_none c.number)) }
 
   none_before : its_entries facts_of c.me.0.own ≡ []
   none_before = ap (its_entries facts_of) new.own ∙ ap (entries_of c.number) fresh.none
@@ -86,8 +83,8 @@ module _ {D : Type 0} (lines : List Line) (lock : Lock (CoreState D)) (c : Calle
   same_number {state} d es went = ⊎_elim (λ (still : (d ≡ c) × (es ≡ [])). ap (λ (h : Caller (CoreState D)). h.number) still.0) (λ (did : DidOn state c es d). did.noted.number) went
 
   tells : {state : D → DiskState} (turns : ℕ) (d : Caller (CoreState D)) (es : List Entry) (P : Bool → Part → Type 0) (went : WentOn state c es d) → (k : KnowsOf P d) → map (λ (e : Entry). e.op) es ≡ lines_of c.number lines
-      → (c.number < callers → IsGone d.me.0.halted ((facts_of k.value).part d.number)) → (callers ≤ c.number → 0 < turns → 0 < ((facts_of k.value).part d.number).turns) → TellsEnd lines turns c.number d
-  tells turns d es P went k ops gone helped =
+      → (c.number < callers → IsGone d.me.0.halted ((facts_of k.value).part d.number)) → (callers ≤ c.number → 0 < turns → 0 < ((facts_of k.value).part d.number).turns) → (callers ≤ c.number → (((facts_of k.value).part d.number).turns ≤ turns) × (((facts_of k.value).part d.number).quanta ≤ turns)) → TellsEnd lines turns c.number d
+  tells turns d es P went k ops gone helped few =
       let number = same_number d es went in (
         k.value,
         subst (In (c.number, k.value)) (sym k.own) (inl (ap (λ (n : ℕ). (n, k.value)) (sym number))),
@@ -95,19 +92,21 @@ module _ {D : Type 0} (lines : List Line) (lock : Lock (CoreState D)) (c : Calle
           asked = ap (map (λ (e : Entry). e.op)) (ap (λ (n : ℕ). entries_of n k.value.held.book.book.entries) (sym number) ∙ (sym (ap (its_entries facts_of) k.own) ∙ noted_all d es went)) ∙ ops;
           gone = λ below. subst (λ (n : ℕ). IsGone d.me.0.halted ((facts_of k.value).part n)) number (gone below);
           helped = λ above some. subst (λ (n : ℕ). 0 < ((facts_of k.value).part n).turns) number (helped above some);
+          few = λ above. subst (λ (n : ℕ). (((facts_of k.value).part n).turns ≤ turns) × (((facts_of k.value).part n).quanta ≤ turns)) number (few above);
         },
       )
 
   pub caller_ended : {state : D → DiskState} (turns : ℕ) (d e : Caller (CoreState D)) → c.number < callers → RanLines state lines c d → DidOn state d [] e → KnowsOf IsGone e → TellsEnd lines turns c.number e
   caller_ended {state} turns d e below ran left k =
       let all : DidOn state c (ran.entries ++ []) e = went_then facts_of (CameSince state) c d e ran.entries [] ran.went left in
-      tells turns e (ran.entries ++ []) IsGone (inr all) k (ap (map (λ (x : Entry). x.op)) (append-nil ran.entries) ∙ ran.ops) (λ was. k.part) (λ above some. absurd (omega (arith, below, above)))
+      tells turns e (ran.entries ++ []) IsGone (inr all) k (ap (map (λ (x : Entry). x.op)) (append-nil ran.entries) ∙ ran.ops) (λ was. k.part) (λ above some. absurd (omega (arith, below, above))) (λ above. absurd (omega (arith, below, above)))
 
   pub worker_ended : {state : D → DiskState} (turns : ℕ) (d : Caller (CoreState D)) → callers ≤ c.number → turns < 2 ^ 32 → AreRunnable lines → Helped state turns c d → TellsEnd lines turns c.number d
   worker_ended turns d above few runnable helped =
-      let told = helped.counted 0 (new_has_helped above) in
+      let told = helped.counted 0 0 (new_has_helped above) in
       let took = told.0 in
       let k = told.2 in
-      let is : ((facts_of k.value).part d.number).turns ≡ took = k.part ∙ turns_few took (omega (arith, told.1, few)) in
-      tells turns d [] (HasHelped (turns_after took 0)) helped.went k (sym (lines_none c.number lines runnable above)) (λ below. absurd (omega (arith, below, above)))
+      let is : ((facts_of k.value).part d.number).turns ≡ took = k.part.0 ∙ turns_few took (omega (arith, told.1, few)) in
+      tells turns d [] (HasHelped (turns_after took 0) (0 + took)) helped.went k (sym (lines_none c.number lines runnable above)) (λ below. absurd (omega (arith, below, above)))
       (λ up some. ⊎_elim (λ (all : took ≡ turns). omega (arith, all, some, is)) (λ early. omega (arith, early.0, is)) told.3)
+      (λ up. (omega (arith, is, told.1), omega (arith, k.part.1, told.1)))

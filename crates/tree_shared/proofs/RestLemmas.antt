@@ -1,9 +1,9 @@
 -- The jobs of a caller and of those that it splits off, and the end of all.
-use Rattle.std.proofs.Common.{◌≡◌, ◌∙◌, ⊎_elim, inl, inr, ℕ, suc, ◌+◌, ◌-◌, ◌<◌, ◌≤◌, Bool, true, ◌||◌, List, [], ◌∷◌, ◌++◌, length, map, Some, length-append, ap, sym, subst, arith}
+use Rattle.std.proofs.Common.{◌≡◌, ◌∙◌, ⊎_elim, inl, inr, ℕ, zero, suc, ◌+◌, ◌-◌, ◌<◌, ◌≤◌, Bool, true, ◌||◌, List, [], ◌∷◌, ◌++◌, length, map, Some, length-append, ap, sym, subst, arith}
 use Rattle.std.specs.Prelude.{is_some}
 use mathlib.Core.Logic.{dite}
 use native.Mathlib.Decide.{ℕ_discrete}
-use Rattle.blsm_model.specs.Facts.{entries_of}
+use Rattle.blsm_model.specs.Facts.{Eases, entries_of}
 use Rattle.blsm_model.specs.Format.{callers}
 use Rattle.blsm_model.specs.Scripts.{lines_of}
 use Rattle.blsm_model.specs.declared.history.Entry.{Entry}
@@ -36,6 +36,7 @@ ended_on lines turns i halted later core lasts ended = record {
   asked = ended.asked;
   gone = λ below. let gone = ended.gone below in (gone.0, gone.1, ⊎_elim (λ (was : halted ≡ true). inl (lasts was)) (λ none. inr none) gone.2);
   helped = ended.helped;
+  few = ended.few;
 }
 
 module _ {D : Type 0} (st : CoreState D → CoreState D → Type 0) (lines : List Line) (turns : ℕ) (lock : Lock (CoreState D)) where
@@ -73,8 +74,17 @@ module _ {D : Type 0} (st : CoreState D → CoreState D → Type 0) (lines : Lis
 
   -- ---- coming together
 
-  pub ends_none : (c d : Caller (CoreState D)) → size d.me.0 ≡ size c.me.0 → IsOf lock d → TellsEnd lines turns c.number d → Ends lines turns lock 0 c d
-  ends_none c d sized of_lock own = record { of_lock = of_lock; sized = sized; own = own; others = λ i low high. absurd (omega (arith, low, high)) }
+  spares_same : (m n : ℕ) → m ≡ n → counted_up m (24 - m) lock.start ≡ counted_up n (24 - n) lock.start
+  spares_same m n is = ap (λ (k : ℕ). counted_up k (24 - k) lock.start) is
+
+  pub ends_none : (c d : Caller (CoreState D)) → Starts lock 0 c → size d.me.0 ≡ size c.me.0 → d.me.0.spare ≡ c.me.0.spare → IsOf lock d → TellsEnd lines turns c.number d → Ends lines turns lock 0 c d
+  ends_none c d s sized spare of_lock own = record {
+    of_lock = of_lock;
+    sized = sized;
+    own = own;
+    others = λ i low high. absurd (omega (arith, low, high));
+    spare = spare ∙ (s.spare ∙ spares_same c.next (c.next + 0) (omega arith));
+  }
 
   ends_more : (m : ℕ) (c c1 o d1 d2 d : Caller (CoreState D)) → Starts lock (suc m) c → GaveAway c c1 → IsSplitOff c o → Ends lines turns lock m c1 d1 → size d2.me.0 ≡ size o.me.0 → TellsEnd lines turns o.number d2
       → d ≡ with_me d1 (joined d1.me.0 d2.me.0, []) → Ends lines turns lock (suc m) c d
@@ -98,6 +108,7 @@ module _ {D : Type 0} (st : CoreState D → CoreState D → Type 0) (lines : Lis
         others = λ i low high. dite (ℕ_discrete i c.next)
             (λ e. subst (λ (n : ℕ). TellsEnd lines turns n d) (b.number ∙ sym e) (from_2 o.number told))
             (λ ne. to_d i (ends.others i (omega (arith, low, ne, a.next)) (omega (arith, high, a.next))));
+        spare = spare_d ∙ (ends.spare ∙ spares_same (c1.next + m) (c.next + suc m) (omega (arith, a.next)));
       }
 
   pub ends_all : (more : ℕ) (c c1 o d1 d2 d : Caller (CoreState D)) → 0 < more → Starts lock more c → GaveAway c c1 → IsSplitOff c o → Ends lines turns lock (more - 1) c1 d1 → size d2.me.0 ≡ size o.me.0 → TellsEnd lines turns o.number d2
@@ -132,6 +143,7 @@ module _ {D : Type 0} (st : CoreState D → CoreState D → Type 0) (lines : Lis
       → (map (λ (e : Entry). e.op) (entries_of i end.held.book.book.entries) ≡ lines_of i lines)
       × (i < callers → IsGone (is_some end.held.book.stopped) ((facts_of end).part i))
       × (callers ≤ i → 0 < turns → 0 < ((facts_of end).part i).turns)
+      × (callers ≤ i → (((facts_of end).part i).turns ≤ turns) × (((facts_of end).part i).quanta ≤ turns))
   ended_in_value i d end known t =
       let fits = at (Fits facts_of d.me.0.seen end) (i, t.0) d.me.0.own t.1 known.knows.own in
       let eases = fits.0.part in (
@@ -142,7 +154,21 @@ module _ {D : Type 0} (st : CoreState D → CoreState D → Type 0) (lines : Lis
           ⊎_elim (λ (was : d.me.0.halted ≡ true). inl (known.knows.halted was)) (λ (none : ((facts_of t.0).part i).debt1 + ((facts_of t.0).part i).debt2 ≡ 0). inr (omega (arith, none, eases.debt1, eases.debt2))) gone.2,
         )),
         (λ above some. subst (λ (n : ℕ). 0 < n) (sym eases.turns) (t.2.helped above some)),
+        (λ above. let few = t.2.few above in (omega (arith, eases.turns, few.0), omega (arith, eases.quanta, few.1))),
       )
+
+  -- a number that nobody had
+  in_counted : (from n i : ℕ) → from ≤ i → i < from + n → In (i, lock.start) (counted_up from n lock.start)
+  in_counted from zero i low high = absurd (omega (arith, low, high))
+  in_counted from (suc n) i low high = dite (ℕ_discrete i from)
+      (λ e. inl (ap (λ (k : ℕ). (k, lock.start)) e))
+      (λ ne. inr (in_counted (from + 1) n i (omega (arith, low, ne)) (omega (arith, high))))
+
+  pub spare_in_value : (i more : ℕ) (c d : Caller (CoreState D)) (end : CoreState D) → IsKnown facts_of st lock.start end d.me.0 → Ends lines turns lock more c d → c.next + more ≤ i → i < 24
+      → Eases ((facts_of lock.start).part i) ((facts_of end).part i)
+  spare_in_value i more c d end known ends low high =
+      (at (Fits facts_of d.me.0.seen end) (i, lock.start) d.me.0.spare
+      (subst (In (i, lock.start)) (sym ends.spare) (in_counted (c.next + more) (24 - (c.next + more)) i low (omega (arith, low, high)))) known.knows.spare).0.part
 
   -- every caller's, and those of the workers
   pub told_of : (more i : ℕ) (core : CoreState D) (c d : Caller (CoreState D)) → IsOpened core lock c → Ends lines turns lock more c d → i < 1 + more → TellsEnd lines turns i d

@@ -1,5 +1,5 @@
 -- Runs of a script by callers and workers.
-use Rattle.std.specs.Prelude.{◌≡◌, ◌⊎◌, ◌≢◌, ℕ, zero, suc, ◌+◌, ◌-◌, ◌%◌, ◌^◌, ◌<◌, ◌≤◌, Bool, true, None, List, [], ◌∷◌, map, slice_index}
+use Rattle.std.specs.Prelude.{◌≡◌, ◌⊎◌, ◌≢◌, ℕ, zero, suc, ◌+◌, ◌-◌, ◌<◌, ◌≤◌, Bool, true, None, List, [], ◌∷◌, map, slice_index}
 use Rattle.blsm_model.specs.Facts.{entries_of}
 use Rattle.blsm_model.specs.Format.{callers}
 use Rattle.blsm_model.specs.Scripts.{IsOfScript, lines_of}
@@ -7,11 +7,12 @@ use Rattle.blsm_model.specs.declared.history.Entry.{Entry}
 use Rattle.blsm_model.specs.declared.history.Line.{Line}
 use Rattle.blsm_model.specs.declared.history.Reply.{Reply}
 use Rattle.disk_trait.specs.Disk.{DiskState}
+use Rattle.seat_book.specs.Seats.{turns_in}
 use Rattle.seat_book.specs.State.{work_in}
 use Rattle.turn_lock.specs.Callers.{Held, Lock}
 use Rattle.turn_lock.specs.Tallies.{In, IsOf, Spares}
-use Rattle.turn_lock.specs.Views.{size}
-use Rattle.tree_machine.specs.Machine.{seats}
+use Rattle.turn_lock.specs.Views.{counted_up, size}
+use Rattle.tree_machine.specs.Machine.{seats, turn_more}
 use Rattle.tree_core.specs.Calls.{CameSince}
 use Rattle.tree_core.specs.Core.{CoreState, IsCore}
 use Rattle.tree_core.specs.Notes.{HasLeft, OwesNothing}
@@ -35,12 +36,13 @@ pub record RanLines {D : Type 0} (state : D → DiskState) (lines : List Line) (
 -- a worker's turns after so many more
 abbrev pub turns_after : ℕ → ℕ → ℕ
 turns_after zero before = before
-turns_after (suc took) before = (turns_after took before + 1) % 2 ^ 64
+turns_after (suc took) before = turn_more (turns_after took before)
 
--- A worker took so many turns, or one at least and saw the value closed or stopped.
+-- A worker took so many turns, or one at least and saw the value closed or stopped, and a quantum in each at most.
 pub record Helped {D : Type 0} (state : D → DiskState) (turns : ℕ) (c d : Held (CoreState D)) : Type 0 where
   pub went : WentOn state c [] d
-  pub counted : (before : ℕ) → KnowsOf (HasHelped before) c → (took : ℕ) × (took ≤ turns) × KnowsOf (HasHelped (turns_after took before)) d × ((took ≡ turns) ⊎ ((0 < took) × (d.me.0.over ≡ true)))
+  pub counted : (before taken : ℕ) → KnowsOf (HasHelped before taken) c
+      → (took : ℕ) × (took ≤ turns) × KnowsOf (HasHelped (turns_after took before) (taken + took)) d × ((took ≡ turns) ⊎ ((0 < took) × (d.me.0.over ≡ true)))
 
 -- ---- all jobs
 
@@ -50,6 +52,7 @@ pub record IsFresh (lines : List Line) {D : Type 0} (start : CoreState D) : Type
   pub runs : start.held.book.stopped ≡ None
   pub rests : Rests start.held
   pub helped : (seat : ℕ) → callers ≤ seat → seat < seats → slice_index start.held.book.seats.turns (seat - callers) ≡ 0
+  pub took_none : (seat : ℕ) → slice_index start.held.book.seats.quanta seat ≡ 0
   pub room : HasRoomFor start.held.book.book.room lines
 
 -- before its job: it has one number, of which nobody did anything, and may give away those from `next` on
@@ -63,6 +66,7 @@ pub record HasEnded {D : Type 0} (lines : List Line) (turns : ℕ) (halted : Boo
   pub asked : map (λ (e : Entry). e.op) (entries_of i core.held.book.book.entries) ≡ lines_of i lines
   pub gone : i < callers → IsGone halted ((facts_of core).part i)
   pub helped : callers ≤ i → 0 < turns → 0 < ((facts_of core).part i).turns
+  pub few : callers ≤ i → (((facts_of core).part i).turns ≤ turns) × (((facts_of core).part i).quanta ≤ turns)
 
 -- a caller has this number, and knows what its job left
 abbrev pub TellsEnd : {D : Type 0} → List Line → ℕ → ℕ → Held (CoreState D) → Type 0
@@ -78,10 +82,13 @@ pub record Ends {D : Type 0} (lines : List Line) (turns : ℕ) (lock : Lock (Cor
   pub sized : size d.me.0 ≡ size c.me.0
   pub own : TellsEnd lines turns c.number d
   pub others : (i : ℕ) → c.next ≤ i → i < c.next + more → TellsEnd lines turns i d
+  -- of the numbers behind these nobody did anything
+  pub spare : d.me.0.spare ≡ counted_up (c.next + more) (24 - (c.next + more)) lock.start
 
 -- ---- a run
 
--- Each caller did its lines and left, and each worker took a turn, where they take any. From the start on some calls of the core led here.
+-- Each caller did its lines and left, and each worker took a turn, where they take any, no more turns than it may, and no more quanta than that. No
+-- other worker's seat took any. From the start on some calls of the core led here.
 pub record RunsAll {D : Type 0} (state : D → DiskState) (lines : List Line) (workers turns : ℕ) (start end : CoreState D) : Type 0 where
   pub of_script : IsOfScript lines end.held.book.book.entries
   pub came : CameSince state start end
@@ -90,3 +97,5 @@ pub record RunsAll {D : Type 0} (state : D → DiskState) (lines : List Line) (w
   pub idle : (seat : ℕ) → seat < callers → (work_in seat end.held.book).turns ≡ 0
   pub even : end.held.book.stopped ≡ None → (seat : ℕ) → seat < callers → OwesNothing seat end.held
   pub helped : 0 < turns → (i : ℕ) → i < workers → 0 < slice_index end.held.book.seats.turns i
+  pub few : (i : ℕ) → i < workers → (slice_index end.held.book.seats.turns i ≤ turns) × (slice_index end.held.book.seats.quanta (callers + i) ≤ turns)
+  pub rested : (seat : ℕ) → callers + workers ≤ seat → seat < seats → (turns_in seat end.held.book ≡ 0) × (slice_index end.held.book.seats.quanta seat ≡ 0)

@@ -46,9 +46,9 @@ IsWorking done entries rows halted p = HasRoomFor entries rows p × (p.turns ≡
 abbrev pub IsFinished : ℕ → ℕ → ℕ → Bool → Part → Type 0
 IsFinished n entries rows halted p = HasRoomFor entries rows p × ((p.turns ≡ n) ⊎ ((0 < p.turns) × (p.turns < n) × (p.worked ≡ false))) × IsEven halted p
 
--- A worker's turns so far, modulo 2 ^ 64.
-abbrev pub HasHelped : ℕ → Bool → Part → Type 0
-HasHelped turns halted p = p.turns ≡ turns
+-- A worker's turns so far, and how many quanta it took at most.
+abbrev pub HasHelped : ℕ → ℕ → Bool → Part → Type 0
+HasHelped turns taken halted p = (p.turns ≡ turns) × (p.quanta ≤ taken)
 
 -- A caller that left: no work is open, and nothing is owed.
 abbrev pub IsGone : Bool → Part → Type 0

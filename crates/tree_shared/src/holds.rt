@@ -1,10 +1,10 @@
 //! One hold of the lock each: the value is taken, one call of the core is made, and the value is given back.
-ghost use Rattle.std.specs.Prelude.{◌≡◌, ◌≢◌, ◌+◌, ◌%◌, ◌^◌, ◌<◌, ◌≤◌, ℕ, [], ◌∷◌, IsTrue, true};
+ghost use Rattle.std.specs.Prelude.{◌≡◌, ◌≢◌, ◌+◌, ◌<◌, ◌≤◌, ℕ, [], ◌∷◌, IsTrue, true};
 ghost use Rattle.blsm_model.specs.Format.{callers, most_rows};
 ghost use Rattle.blsm_model.specs.Stored.{as_reply};
 ghost use Rattle.blsm_model.specs.declared.op.Op.TheVariants as op;
 ghost use Rattle.seat_book.specs.declared.turned.Turned.TheVariants.{Worked, Idle};
-ghost use Rattle.tree_machine.specs.Machine.{seats};
+ghost use Rattle.tree_machine.specs.Machine.{seats, turn_more};
 ghost use Rattle.tree_machine.specs.Plays.{most_turns};
 ghost use Rattle.blsm_model.specs.Legal.{is_write};
 ghost use Rattle.turn_lock.specs.Tallies.{IsOf};
@@ -197,9 +197,9 @@ pub(crate) fn help<R: Wait, D: Disk + Drop>(
 ) -> Turned
     requires lock { IsOf lock.now caller.old }
     requires number { (callers ≤ caller.old.number) × (caller.old.number < seats) }
-    requires knows { (turns : ℕ) × KnowsOf (HasHelped turns) caller.old }
+    requires knows { (turns : ℕ) × (taken : ℕ) × KnowsOf (HasHelped turns taken) caller.old }
     ensures did { DidOn D.state caller.old [] caller.new }
-    ensures helped { (turns : ℕ) → KnowsOf (HasHelped turns) caller.old → KnowsOf (HasHelped ((turns + 1) % 2 ^ 64)) caller.new }
+    ensures helped { (turns taken : ℕ) → KnowsOf (HasHelped turns taken) caller.old → KnowsOf (HasHelped (turn_more turns) (taken + 1)) caller.new }
     ensures over { result ≢ Worked → result ≢ Idle → caller.new.me.0.over ≡ true }
 {
     let seat = caller.number();

@@ -1,5 +1,5 @@
 //! The jobs of callers and workers, each in a thread of its own where one can be made.
-ghost use Rattle.std.specs.Prelude.{◌≡◌, ◌+◌, ◌-◌, ◌%◌, ◌^◌, ◌<◌, ◌≤◌, ℕ, length, MatchResult};
+ghost use Rattle.std.specs.Prelude.{◌≡◌, ◌+◌, ◌-◌, ◌<◌, ◌≤◌, ℕ, length, MatchResult};
 ghost use Rattle.std.specs.Thread.{IsSync};
 ghost use Rattle.blsm_model.specs.Format.{callers};
 ghost use Rattle.blsm_model.specs.Scripts.{lines_of};
@@ -32,7 +32,7 @@ pub fn worker<R: Wait, D: Disk + Drop, G: Gate>(
 )
     requires lock { IsOf lock.now caller.old }
     requires number { (callers ≤ caller.old.number) × (caller.old.number < seats) }
-    requires knows { (before : ℕ) × KnowsOf (HasHelped before) caller.old }
+    requires knows { (before : ℕ) × (taken : ℕ) × KnowsOf (HasHelped before taken) caller.old }
     ensures { Helped D.state turns caller.old caller.new }
 {
     for _turn in 0..turns {
@@ -102,6 +102,7 @@ fn run_one<R: Wait, D: Disk + Drop, G: Gate>(
     requires runnable { AreRunnable script.now }
     ensures same { IsOf lock.now result }
     ensures sized { size result.me.0 ≡ size caller.me.0 }
+    ensures spare { result.me.0.spare ≡ caller.me.0.spare }
     ensures ends { TellsEnd script.now turns caller.number result }
 {
     if caller.number() < CALLERS {

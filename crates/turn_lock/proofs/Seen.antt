@@ -11,7 +11,7 @@ pub prefix_self : {A : Type 0} (xs : List A) → IsPrefix xs xs
 prefix_self xs = ([], append-nil xs)
 
 pub eases_self : (p : Part) → Eases p p
-eases_self p = record { debt1 = omega arith; debt2 = omega arith; turns = refl; worked = refl; room = refl; left = refl }
+eases_self p = record { debt1 = omega arith; debt2 = omega arith; turns = refl; worked = refl; quanta = refl; room = refl; left = refl }
 
 pub eases_trans : (p q r : Part) → Eases p q → Eases q r → Eases p r
 eases_trans p q r a b = record {
@@ -19,6 +19,7 @@ eases_trans p q r a b = record {
   debt2 = le_trans b.debt2 a.debt2;
   turns = b.turns ∙ a.turns;
   worked = b.worked ∙ a.worked;
+  quanta = b.quanta ∙ a.quanta;
   room = b.room ∙ a.room;
   left = b.left ∙ a.left;
 }

@@ -13,7 +13,7 @@ use Rattle.turn_lock.specs.Callers.{Held, Lock, Idles}
 abbrev pub tally_facts : Book → Facts
 tally_facts b = record {
   history = b.entries;
-  part = λ i. record { debt1 = 0; debt2 = 0; turns = 0; worked = false; room = (slice_index b.room.entries i, slice_index b.room.rows i); left = false };
+  part = λ i. record { debt1 = 0; debt2 = 0; turns = 0; worked = false; quanta = 0; room = (slice_index b.room.entries i, slice_index b.room.rows i); left = false };
   quanta = 0;
   peak = 0;
   closed = false;

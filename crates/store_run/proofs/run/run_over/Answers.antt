@@ -5,7 +5,7 @@ use Rattle.seat_book.specs.State.{BookState}
 use Rattle.store_run.specs.Run.{run_at, run_of}
 use Rattle.store_run.proofs.FaultLemmas.{ReachesInside, calm_opening, counted_of, disk_inside, refused_calm, refused_faults, stays_inside}
 use Rattle.store_run.proofs.HeadlineLemmas.{whole_headline}
-use Rattle.store_run.proofs.RunLemmas.{by_threads, few_turned, is_fresh, is_unasked, no_entries_yet, printed_of}
+use Rattle.store_run.proofs.RunLemmas.{by_threads, ended_of, few_turned, is_fresh, is_unasked, no_entries_yet, printed_of}
 use Rattle.store_run.proofs.run.run_over.Goals as goal
 
 -- ---- the store wasn't opened
@@ -37,7 +37,12 @@ returns-in-Ok-run_all-clause-ran g c =
     let rests = c.an_opened_core_rests.ensures (no_entries c.args.room) (state old.disk).faults old.held opened in
     let unasked = is_unasked state (no_entries c.args.room) (state old.disk).faults old opened rests c.charge-charge.ensures.kept c.charge-charge.ensures.begins in
     let has = by_threads state c.args.lines.now c.args.workers c.args.turns old new runs (c.calls_tell.ensures runs.came.calls old unasked runs.came.are) (c.calls_take_few.ensures runs.came.calls old unasked runs.came.are) in
-    printed_of state c.args.lines.now old new has (run_of c.finish-disk.result.1) (c.finish-disk.ensures.finished ∙ ap (λ (n : ℕ). run_at n new.held) c.charge-charge.ensures.charge)
+    printed_of state c.args.lines.now c.args.workers c.args.turns old new has runs (run_of c.finish-disk.result.1) (c.finish-disk.ensures.finished ∙ ap (λ (n : ℕ). run_at n new.held) c.charge-charge.ensures.charge)
+
+pub returns-in-Ok-run_all-clause-ended : goal.returns-in-Ok-run_all-clause-ended
+returns-in-Ok-run_all-clause-ended g c =
+    ended_of g.D.Disk.state c.args.lines.now c.args.workers c.args.turns c.in-Ok.core c.in-Ok-run_all.core c.in-Ok-run_all.ensures (run_of c.finish-disk.result.1)
+    (c.finish-disk.ensures.finished ∙ ap (λ (n : ℕ). run_at n c.in-Ok-run_all.core.held) c.charge-charge.ensures.charge)
 
 pub returns-in-Ok-run_all-clause-counted : goal.returns-in-Ok-run_all-clause-counted
 returns-in-Ok-run_all-clause-counted g c =
@@ -83,7 +88,7 @@ returns-in-Ok-run_all-clause-headline g c = λ honest.
     let unasked = is_unasked state annals faults old opened rests c.charge-charge.ensures.kept c.charge-charge.ensures.begins in
     let goes_on = c.in-Ok.ensures.effect.effect.goes_on in
     let honest_then = goes_on.is_honest ∙ honest in
-    whole_headline c.seats_apart.ensures.opening c.outcomes_are_told.ensures.pages state (g.met.D.Disk g.world.𝓛 g.world.𝓜 g.world.𝓡 ((λ s x. x), (λ x. x), (λ x. x), λ x. x)).timed c.args.room c.args.lines.now c.args.workers c.args.turns (state c.args.disk) old new
+    whole_headline c.seats_apart.ensures.opening c.outcomes_are_told.ensures.pages c.runs_alone.ensures.alone state (g.met.D.Disk g.world.𝓛 g.world.𝓜 g.world.𝓡 ((λ s x. x), (λ x. x), (λ x. x), λ x. x)).timed c.args.room c.args.lines.now c.args.workers c.args.turns (state c.args.disk) old new
     (record {
       opens = opens;
       goes_on = goes_on;
@@ -93,7 +98,7 @@ returns-in-Ok-run_all-clause-headline g c = λ honest.
     })
     (no_entries_yet annals faults old.held opened) (c.in-Ok.ensures.keeps old.held.runs.sizes opens.pairs honest opens.reads) runs
     (λ opening m pace stands. c.calls_are_steps.ensures opening calls old m pace c.charge-charge.ensures.kept are honest_then stands)
-    (few_turned state calls annals faults old new opened (c.calls_help.ensures calls old unasked are))
+    (few_turned state calls annals faults old new opened (c.calls_help.ensures calls old unasked are)) (c.calls_help.ensures calls old unasked are).rests
     c.finish-disk.result.0 c.finish-disk.ensures.disk (run_of c.finish-disk.result.1) (c.finish-disk.ensures.finished ∙ ap (λ (n : ℕ). run_at n new.held) c.charge-charge.ensures.charge)
 
 pub returns-in-Ok-run_all-clause-untouched : goal.returns-in-Ok-run_all-clause-untouched

@@ -40,7 +40,7 @@ returns-clause-did g c =
     let w = c.worker_turn-answer.new.core in
     let turn = turn_by state caller c.take-core.new.caller c.take-core.result c.worker_turn-answer.new.core c.take-core.ensures c.number-seat.result c.number-seat.ensures kind.WorkerTurn (turned_of c.worker_turn-answer.result, c.worker_turn-answer.ensures) c.give.new.caller c.give.ensures in
     let its = subst (λ (n : ℕ). Helps state n (turned_of c.worker_turn-answer.result) b w) c.number-seat.ensures c.worker_turn-answer.ensures in
-    help_did state caller c.give.new.caller (turned_of c.worker_turn-answer.result) b w turn its (HasHelped c.requires.knows.0) c.requires.knows.1
+    help_did state caller c.give.new.caller (turned_of c.worker_turn-answer.result) b w turn its (HasHelped c.requires.knows.0 c.requires.knows.1) c.requires.knows.2
 
 pub returns-clause-helped : goal.returns-clause-helped
 returns-clause-helped g c =

@@ -6,7 +6,7 @@ pub do_lines-requires-clause-free : goal.do_lines-requires-clause-free
 do_lines-requires-clause-free g c = new_is_free c.args.script.now c.args.lock.now c.args.caller c.requires.fresh c.requires.new (omega arith)
 
 pub worker-requires-clause-knows : goal.worker-requires-clause-knows
-worker-requires-clause-knows g c = (0, new_has_helped c.args.script.now c.args.lock.now c.args.caller c.requires.fresh c.requires.new (omega arith))
+worker-requires-clause-knows g c = (0, 0, new_has_helped c.args.script.now c.args.lock.now c.args.caller c.requires.fresh c.requires.new (omega arith))
 
 pub returns-then-number-lt-CALLERS-clause-ends : goal.returns-then-number-lt-CALLERS-clause-ends
 returns-then-number-lt-CALLERS-clause-ends g c =

@@ -14,5 +14,6 @@ returns g c annals faults lines core is room = record {
   runs = ap (λ (b : BookState). b.stopped) is.book;
   rests = c.an_opened_core_rests.ensures annals faults core.held is;
   helped = λ seat above below. ap (λ (b : BookState). slice_index b.seats.turns (seat - callers)) is.book ∙ of_replicate (seats - callers) (seat - callers) 0;
+  took_none = λ seat. ap (λ (b : BookState). slice_index b.seats.quanta seat) is.book ∙ of_replicate seats seat 0;
   room = subst (λ (r : Room). HasRoomFor r lines) (sym (ap (λ (b : BookState). b.book.room) is.book)) room;
 }
