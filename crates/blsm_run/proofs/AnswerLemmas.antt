@@ -97,7 +97,7 @@ module _ {D : Type 0} (state : D → DiskState) (honest_tells : (d : D) → IsTr
   completes_ran o w history ending.Damaged status granted (a, runs) is =
       let s = said o a.name IsOpenable (HasRunOn state a.lines a.workers a.turns history ending.Damaged) (can o w (run a.name a.workers a.turns) granted a.asked).0 runs.disk in
       let whole = s.5.headline s.2 in
-      let never : true ≡ false = sym s.5.ended.1 ∙ whole.3.served.no_page in
+      let never : true ≡ false = sym s.5.ended.1 ∙ whole.4.served.no_page in
       cc
 
   pub completes : (o : Outside D) (w : Written) (outcome : Outcome) (status : Status) → Cause state o outcome → Tells w outcome status → IsGranted state o w → (status ≡ Done) ⊎ (status ≡ NoMemory)

@@ -1,65 +1,51 @@
-//! What a call answers: the text that it writes, and its status.
-ghost use Rattle.std.specs.Prelude.{◌≡◌, ◌++◌, decimal, Ok, Err};
+//! What a call answers: the text that it writes, a line in one call of the sink, and its status.
+ghost use Rattle.std.specs.Prelude.{◌≡◌, ◌+◌, ◌≤◌, ◌++◌, decimal, length, Ok, Err};
 ghost use Rattle.text_io.specs.Text.{Writes};
-ghost use Rattle.blsm_model.specs.Printed.{and_number};
 ghost use Rattle.blsm_run.specs.Outcome.{Tells, HasMadeAnswer, and_component, newline, outcome_of, place_text, report_text, status_of, status_of_ending, text_of};
 
 use crate::Status;
 use crate::outcome::{Answer, Refusal};
 use blsm_model::Component;
-use itoa::Buffer;
 use recover_open::{Place, Report};
 use refusal::Failed;
-use script_text::{print_history, print_summary};
+use script_text::{LONGEST, Piece, print_history, print_summary};
 use store_run::{Ending, Finished};
 use text_io::{Sink, write_all};
 
-fn print_number<K: Sink>(sink: &mut K, number: u64) -> Result<(), Failed>
-    ensures { Writes (decimal number) result (K.held sink.old) (K.held sink.new) (K.faults sink.old) (K.faults sink.new) }
-{
-    let mut buffer = Buffer::new();
-    let digits = buffer.format(number);
-    write_all(sink, digits.as_bytes())
-}
-
 // A line with a number at its end.
 fn print_numbered<K: Sink>(sink: &mut K, name: &[u8], number: u64) -> Result<(), Failed>
+    requires { length name.now ≤ 100 }
     ensures { Writes (name.now ++ decimal number ++ newline) result (K.held sink.old) (K.held sink.new) (K.faults sink.old) (K.faults sink.new) }
 {
-    write_all(sink, name)?;
-    print_number(sink, number)?;
-    write_all(sink, b"\n")
-}
-
-// A number behind a space.
-fn print_and_number<K: Sink>(sink: &mut K, number: u64) -> Result<(), Failed>
-    ensures { Writes (and_number number) result (K.held sink.old) (K.held sink.new) (K.faults sink.old) (K.faults sink.new) }
-{
-    write_all(sink, b" ")?;
-    print_number(sink, number)
+    let mut piece = Piece::new();
+    piece.add(name);
+    piece.add_number(number);
+    piece.add(b"\n");
+    write_all(sink, piece.as_slice())
 }
 
 // A component's entries and weight, behind its name.
-fn print_component<K: Sink>(sink: &mut K, name: &[u8], component: &Component) -> Result<(), Failed>
-    ensures { Writes (and_component name.now component.now) result (K.held sink.old) (K.held sink.new) (K.faults sink.old) (K.faults sink.new) }
+fn add_component(piece: &mut Piece, name: &[u8], component: &Component)
+    requires { length piece.old + length name.now + 42 ≤ LONGEST }
+    ensures text { piece.new ≡ piece.old ++ and_component name.now component.now }
+    ensures fits { length piece.new ≤ length piece.old + length name.now + 42 }
 {
-    write_all(sink, name)?;
-    print_and_number(sink, component.entries)?;
-    print_and_number(sink, component.weight)
+    piece.add_named_number(name, component.entries);
+    piece.add_and_number(component.weight);
 }
 
 fn print_report<K: Sink>(sink: &mut K, report: &Report) -> Result<(), Failed>
     ensures { Writes (report_text report.now) result (K.held sink.old) (K.held sink.new) (K.faults sink.old) (K.faults sink.new) }
 {
-    write_all(sink, b"ok version")?;
-    print_and_number(sink, report.version)?;
-    print_component(sink, b" c1", &report.c1)?;
-    print_component(sink, b" c1x", &report.c1x)?;
-    print_component(sink, b" c2", &report.c2)?;
-    write_all(sink, b" lanes")?;
-    print_and_number(sink, report.lane_a)?;
-    print_and_number(sink, report.lane_b)?;
-    write_all(sink, b"\n")
+    let mut piece = Piece::new();
+    piece.add_named_number(b"ok version", report.version);
+    add_component(&mut piece, b" c1", &report.c1);
+    add_component(&mut piece, b" c1x", &report.c1x);
+    add_component(&mut piece, b" c2", &report.c2);
+    piece.add_named_number(b" lanes", report.lane_a);
+    piece.add_and_number(report.lane_b);
+    piece.add(b"\n");
+    write_all(sink, piece.as_slice())
 }
 
 fn print_place<K: Sink>(sink: &mut K, place: Place) -> Result<(), Failed>

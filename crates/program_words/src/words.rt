@@ -90,7 +90,8 @@ fn request_of<'a>(command: &str, matches: &ArgMatches<'a>) -> Option<Request<'a>
 
 // Why words were refused with this error.
 fn why(error: &Error) -> Unread
-    ensures { result ≡ Unread.Refused → kind_of error.now ≢ ErrorKind.OutOfMemory }
+    ensures refused { result ≡ Unread.Refused → kind_of error.now ≢ ErrorKind.OutOfMemory }
+    ensures no_memory { result ≡ Unread.NoMemory → kind_of error.now ≡ ErrorKind.OutOfMemory }
 {
     match error.kind() {
         ErrorKind::OutOfMemory => Unread::NoMemory,

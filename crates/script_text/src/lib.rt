@@ -13,6 +13,7 @@ mod script;
 mod summary;
 
 pub use generator::{MADE_KEYS, generate, made_histories};
+pub use piece::{LONGEST, Piece};
 pub use print::print_history;
 pub use script::{MOST_LINES, MOST_ROWS_ASKED, Script, ScriptFault, read_script};
 pub use summary::print_summary;

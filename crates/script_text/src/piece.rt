@@ -34,11 +34,12 @@ pub const LINE_START: usize = NUMBER + AND_NUMBER + 1 + COMMAND + 4;
 /// What stands behind the reply: the quanta, and the end of the line.
 pub const LINE_END: usize = 2 + NUMBER + 1;
 
-/// The longest line that gives no rows.
+/// The longest line that gives no rows, in bytes.
 pub const LONGEST: usize = LINE_START + REPLY + LINE_END;
 
-// Some 1,060 bytes, so that one serves for all lines, and each function takes it by reference. Contracts see it as the list
-// of its bytes.
+/// The text of a line while it is gathered, of at most `LONGEST` bytes. Contracts see it as the list of its bytes.
+///
+/// It takes some 1,060 bytes, so one serves for all lines, and each function takes it by reference.
 #[derive(Debug, Drop)]
 pub struct Piece {
     bytes: ArrayVec<u8, LONGEST>,
@@ -53,6 +54,7 @@ impl Model for Piece {
 }
 
 impl Piece {
+    /// No text yet.
     pub fn new() -> Piece
         ensures { result ≡ [] }
     {
@@ -61,19 +63,21 @@ impl Piece {
         }
     }
 
-    // Empties it, for the next line.
+    /// Empties it, for the next line.
     pub fn clear(&mut self)
         ensures { self.new ≡ [] }
     {
         self.bytes.clear();
     }
 
+    /// Its bytes.
     pub fn as_slice(&self) -> &[u8]
         ensures { result.now ≡ self.now }
     {
         self.bytes.as_slice()
     }
 
+    /// Adds these bytes.
     pub fn add(&mut self, more: &[u8])
         requires { length self.old + length more.now ≤ LONGEST }
         ensures { self.new ≡ self.old ++ more.now }
@@ -84,6 +88,7 @@ impl Piece {
         }
     }
 
+    /// Adds a number in decimal, of 20 bytes at most.
     pub fn add_number(&mut self, n: u64)
         requires { length self.old + NUMBER ≤ LONGEST }
         ensures text { self.new ≡ self.old ++ decimal n }
@@ -103,7 +108,7 @@ impl Piece {
         self.add(word);
     }
 
-    // A number with a space before it.
+    /// Adds a number with a space before it.
     pub fn add_and_number(&mut self, n: u64)
         requires { length self.old + AND_NUMBER ≤ LONGEST }
         ensures text { self.new ≡ self.old ++ and_number n }
@@ -113,7 +118,7 @@ impl Piece {
         self.add_number(n);
     }
 
-    // A word, and a number behind a space.
+    /// Adds a word, and a number behind a space.
     pub fn add_named_number(&mut self, name: &[u8], n: u64)
         requires { length self.old + length name.now + AND_NUMBER ≤ LONGEST }
         ensures text { self.new ≡ self.old ++ (name.now ++ and_number n) }
@@ -123,7 +128,7 @@ impl Piece {
         self.add_and_number(n);
     }
 
-    // A word, and the sum of two numbers behind a space.
+    /// Adds a word, and the sum of two numbers behind a space.
     pub fn add_named_sum(&mut self, name: &[u8], first: u64, second: u64)
         requires { length self.old + length name.now + AND_SUM ≤ LONGEST }
         ensures text { self.new ≡ self.old ++ (name.now ++ and_number (first + second)) }
@@ -136,7 +141,7 @@ impl Piece {
         self.add(digits.as_bytes());
     }
 
-    // A key with a space before it.
+    /// Adds a key with a space before it.
     pub fn add_and_key(&mut self, key: &Key)
         requires { length self.old + AND_KEY ≤ LONGEST }
         ensures text { self.new ≡ self.old ++ and_word key.now }
@@ -154,7 +159,7 @@ impl Piece {
         self.add_and_word(spelling(text));
     }
 
-    // A value's count and text, with a space before each.
+    /// Adds a value's count and text, with a space before each.
     pub fn add_and_value(&mut self, value: &Value)
         requires { length self.old + AND_VALUE ≤ LONGEST }
         ensures text { self.new ≡ self.old ++ and_value value.now }

@@ -58,20 +58,39 @@ fn the_script_before_the_disk(rt: HostRuntime) {
     check_over(&rt, rt.alloc(), &MISSING, b"1 frob\n", &[], wanted);
 }
 
-// Makes the call over a sink whose first call fails.
-fn check_sink<R: Abort + Threads + Wait + Sync>(rt: &R, alloc: Global, words: &[&str]) {
+// Makes the call over a sink of which these calls fail.
+fn told_over<R: Abort + Threads + Wait + Sync>(
+    rt: &R,
+    alloc: Global,
+    words: &[&str],
+    fails: &[u64],
+) -> (MemSink, ExitCode) {
     let words = owned(rt, alloc, words);
     let mut shelf = shelf_with_smallest(rt, alloc);
     let Ok(mut source) = MemSource::new(alloc, b"1 frob\n", &[]) else {
         rt.abort()
     };
-    let Ok(mut sink) = MemSink::new(alloc, 100, &[1]) else {
+    let Ok(mut sink) = MemSink::new(alloc, 100, fails) else {
         rt.abort()
     };
     let code = call(rt, alloc, &words, &mut source, &mut sink, &mut shelf);
+    (sink, code)
+}
+
+// The first call of the sink fails.
+fn check_sink<R: Abort + Threads + Wait + Sync>(rt: &R, alloc: Global, words: &[&str]) {
+    let (sink, code) = told_over(rt, alloc, words, &[1]);
     assert!(rt; sink.bytes().is_empty());
     assert_eq!(rt; sink.faults(), 1);
     assert_eq!(rt; code, ExitCode::from(9));
+}
+
+// The second call would fail, and there is none.
+fn check_line<R: Abort + Threads + Wait + Sync>(rt: &R, alloc: Global, words: &[&str], wanted: u8) {
+    let (sink, code) = told_over(rt, alloc, words, &[2]);
+    assert!(rt; sink.bytes().ends_with(b"\n"));
+    assert_eq!(rt; sink.faults(), 0);
+    assert_eq!(rt; code, ExitCode::from(wanted));
 }
 
 #[test]
@@ -81,4 +100,13 @@ fn a_sink_that_fails_before_all(rt: HostRuntime) {
     check_sink(&rt, alloc, &["blsm", "run", NAME]);
     check_sink(&rt, alloc, &MISSING);
     check_sink(&rt, alloc, &["blsm", "check", NAME]);
+}
+
+#[test]
+fn a_line_is_one_call_of_the_sink(rt: HostRuntime) {
+    let alloc = rt.alloc();
+    check_line(&rt, alloc, &["blsm", "run"], 1);
+    check_line(&rt, alloc, &["blsm", "run", NAME], 2);
+    check_line(&rt, alloc, &MISSING, 2);
+    check_line(&rt, alloc, &["blsm", "check", NAME], 0);
 }
