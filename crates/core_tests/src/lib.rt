@@ -1,11 +1,17 @@
-//! Tests of the core of the tree over disks in memory: writes and what they cost, schedules of many seats beside the plain tree and a plain
-//! map, and stops at each call of the disk with what their images hold.
+//! Tests of the core of the tree over disks in memory: writes and what they cost, merges and holds, schedules of many seats beside a plain
+//! map, a plain store, sums of weights and stored lines, and stops at each call of the disk with what their images hold.
 #![tactic(auto)]
 
+#[cfg(test)]
+mod holds;
+#[cfg(test)]
+mod lines;
 #[cfg(test)]
 mod maps;
 #[cfg(test)]
 mod merges;
+#[cfg(test)]
+mod plays;
 #[cfg(test)]
 mod samples;
 #[cfg(test)]
@@ -14,5 +20,9 @@ mod schedules;
 mod stops;
 #[cfg(test)]
 mod stores;
+#[cfg(test)]
+mod told;
+#[cfg(test)]
+mod weights;
 #[cfg(test)]
 mod writes;

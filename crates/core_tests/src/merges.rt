@@ -86,6 +86,47 @@ fn writes_join_a_pass_or_wait(rt: HostRuntime) {
     assert_eq!(rt; (totals.passes, totals.deeps), (1, 0));
 }
 
+// A put that is merged down, a del, an add and a lookup.
+fn merge_down(rt: &impl Abort, alloc: Global, core: &mut Core<MemDisk>) {
+    write(alloc, core, 0, put(rt, b"x", 100, b"old"));
+    work(alloc, core, 100);
+    write(alloc, core, 0, del(rt, b"x"));
+    write(alloc, core, 0, add(rt, b"x", 7));
+    get(rt, alloc, core, b"x");
+}
+
+// Asserts what each command was told.
+fn check_down(rt: &impl Abort, annals: &Annals) {
+    for place in [0, 2, 3] {
+        check_reply(rt, annals, place, &ShortReply::Done);
+    }
+    check_reply(rt, annals, 1, &ShortReply::Did(6));
+    check_is(rt, annals, 4, 7, b"");
+}
+
+// Asserts that the work did two quanta, and no other command any.
+fn check_one_work(rt: &impl Abort, annals: &Annals) {
+    assert_eq!(rt; annals.len(), 5);
+    for place in 0..annals.len() as u32 {
+        let quanta = if place == 1 { 2 } else { 0 };
+        assert_eq!(rt; annals.quanta(place), quanta, "at {place}");
+    }
+}
+
+// A work brings a put down to the deepest component: begin, quantum, swap, rotation, quantum, swap.
+#[test]
+fn a_work_merges_down(rt: HostRuntime) {
+    let mut core = fresh(&rt, rt.alloc(), Geometry::default());
+    merge_down(&rt, rt.alloc(), &mut core);
+    let (_, annals, totals) = core.end();
+    check_down(&rt, &annals);
+    check_one_work(&rt, &annals);
+    assert_eq!(rt; (totals.peak, totals.high), (17, 65_536));
+    assert_eq!(rt; (totals.callers, totals.workers), (2, 0));
+    assert_eq!(rt; (totals.passes, totals.deeps), (1, 1));
+    assert_eq!(rt; totals.charge, 17 + 14);
+}
+
 // A C2 in which x has 100 and z has 1.
 fn merge_two(rt: &impl Abort, alloc: Global, core: &mut Core<MemDisk>) {
     write(alloc, core, 0, put(rt, b"x", 100, b"old"));

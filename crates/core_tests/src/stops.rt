@@ -3,10 +3,11 @@ ghost use Rattle.std.specs.Prelude.{◌≡◌};
 
 use crate::maps::{Map, apply, follow};
 use crate::samples::{Draws, add, del, key_of, put};
-use crate::stores::{File, geometry, make, work, write};
+use crate::stores::{File, check_reply, geometry, make, work, write};
 use blsm_model::{Annals, CALLERS, Geometry, Op, ShortReply, Totals, Why};
 use disk_mem::MemDisk;
 use disk_trait::Disk;
+use seat_book::Turned;
 use std::alloc::Global;
 use std::process::Abort;
 use tree_core::Core;
@@ -301,6 +302,43 @@ fn check_stop(rt: &impl Abort, alloc: Global, made: &File, calls: u64, draws: &m
     let left = run_until(rt, alloc, made, calls);
     check_images(rt, alloc, made.geo, &left, draws);
     check_stopped(rt, &left);
+}
+
+// A write that is done, a payment of a worker, which none makes, a write whose append fails, and a release.
+fn write_and_fail(rt: &impl Abort, alloc: Global, core: &mut Core<MemDisk>) {
+    make(alloc, core, 0, Kind::Admit(put(rt, b"a", 1, b"")));
+    make(alloc, core, CALLERS, Kind::Pay);
+    make(alloc, core, 0, Kind::Admit(put(rt, b"b", 2, b"")));
+    make(alloc, core, 0, Kind::Release);
+}
+
+// A store whose disk fails at the first call of the second append: an append is four calls.
+fn second_append_fails(rt: &impl Abort, alloc: Global) -> Core<MemDisk> {
+    let made = File::make(rt, alloc, Geometry::default());
+    let mut file = remade(rt, &made);
+    file.disk.stop_after(5);
+    file.start(rt, alloc)
+}
+
+// What the commands were told: one write is unsure, and the command after it is told the stop.
+fn check_unsure(rt: &impl Abort, left: &Left, why: Why) {
+    assert_eq!(rt; left.annals.len(), 3);
+    check_reply(rt, &left.annals, 0, &ShortReply::Done);
+    check_reply(rt, &left.annals, 1, &ShortReply::FaultUnsure);
+    check_reply(rt, &left.annals, 2, &ShortReply::Stopped(why));
+    assert_eq!(rt; left.totals.stopped, Some(why));
+    assert_eq!(rt; (left.totals.peak, left.totals.callers), (14, 0));
+    assert_eq!(rt; (left.totals.passes, left.totals.deeps), (0, 0));
+}
+
+// A write whose append fails is unsure, and the store is stopped, for workers too. A step that may not be made notes nothing.
+#[test]
+fn a_failed_append_stops_the_store(rt: HostRuntime) {
+    let mut core = second_append_fails(&rt, rt.alloc());
+    write_and_fail(&rt, rt.alloc(), &mut core);
+    let why = Why::Faulted(1);
+    assert!(rt; core.worker_turn(CALLERS) == Turned::Halted(why));
+    check_unsure(&rt, &left_of(core), why);
 }
 
 // Stops behind each number of calls of a part of the run, of five.

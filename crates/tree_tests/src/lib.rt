@@ -1,4 +1,4 @@
-//! Tests of the fractions, marks and gears of the merges, of the book of the seats and of the plain tree, by their public calls. One
+//! Tests of the fractions, marks and gears of the merges, and of the book of the seats, by their public calls. One
 //! crate holds them, so that the crates that they try are proved once each.
 #![tactic(auto)]
 
@@ -10,5 +10,3 @@ mod fractions;
 mod gears;
 #[cfg(test)]
 mod marks;
-#[cfg(test)]
-mod trees;

@@ -1,6 +1,0 @@
-use Rattle.std.proofs.Common.{◌≡◌, drop}
-use Rattle.tree_machine.specs.Machine.{all_true}
-use Rattle.plain_tree.proofs.seats.all_true.Given as goal
-
-abbrev pub invariant-loop-mark : goal.invariant-loop-mark
-invariant-loop-mark l = all_true (drop l.mark-index l.marks) ≡ all_true l.marks
