@@ -188,7 +188,7 @@ chain_is_steps {D} state opening (one ∷ calls) start end m pace timed keeps ar
     let step = one.0 in
     let mid = one.1 in
     let link = link_steps state opening step.seat step.kind start mid m pace are.0 honest whole in
-    let reaches = link_reaches state step.seat step.kind start mid are.0 keeps in
+    let reaches = link_reaches state step.seat step.kind start mid are.0 in
     let goes = reaches.goes_on in
     one_step state opening one calls start end m pace timed (link_sizes state step.seat step.kind start mid are.0 keeps) goes.clock reaches.calls goes.faults
     (λ stopped. ap (λ (d : D). (state d).clock) (link_rests state step.seat step.kind start mid are.0 (subst IsSome (ap (λ (b : BookState). b.stopped) whole.stands.book) stopped))) link

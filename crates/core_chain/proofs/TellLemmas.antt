@@ -39,8 +39,7 @@ use Rattle.tree_core.specs.declared.answers.Scan.{Scan}
 use Rattle.tree_core.specs.declared.answers.Scan.TheVariants as scan
 use Rattle.tree_session.specs.Faults.{NamesCount, NamesStop, Reaches, faults_of, faults_of_turn, faults_told, is_by_fault}
 use Rattle.tree_session.proofs.BookLemmas.{ended_empty, reply_names, reply_tells}
-use Rattle.tree_session.proofs.FaultLemmas.{admit_names, reaches_by, reaches_counted, reaches_none, reaches_then, reaches_wider}
-use Rattle.tree_session.proofs.GetLemmas.{get_calls}
+use Rattle.tree_session.proofs.FaultLemmas.{admit_names, reaches_by, reaches_none, reaches_then, reaches_wider}
 use Rattle.tree_session.proofs.HoldLemmas.{drop_names, drop_quiet, hold_names, hold_quiet}
 use Rattle.core_chain.specs.Start.{IsUnasked, steps_of}
 use Rattle.core_chain.specs.Tells.{ChainTells, asked_by, calls_of, calls_of_all, lookups_failed}
@@ -244,18 +243,17 @@ module _ {D : Type 0} (state : D → DiskState) where
   rests : (sizes : Sizes) (old new : CoreState D) → new.disk ≡ old.disk → Reaches (file_length sizes) 0 (state old.disk) (state new.disk)
   rests sizes old new same = subst (λ (d : D). Reaches (file_length sizes) 0 (state old.disk) (state d)) (sym same) (reaches_none (state old.disk))
 
-  pub link_reaches : (seat : ℕ) (k : Kind) (old new : CoreState D) → IsCall state seat k old new → IsCore old.held (state old.disk) → Reaches (file_length old.held.runs.sizes) (calls_of old.held.runs.sizes k) (state old.disk) (state new.disk)
-  link_reaches seat (kind.Admit op) old new call keeps = reaches_by call.1.effect
-  link_reaches seat kind.Pay old new call keeps = reaches_by call.1.effect
-  link_reaches seat (kind.Get key) old new call keeps =
-      reaches_counted (get_calls call.0 old.held (state old.disk) (state new.disk) call.1.cause keeps call.1.reads.effect.calls (λ none. ap (λ (d : D). (state d).clock) (call.1.untouched none))) (reaches_by call.1.reads.effect)
-  link_reaches seat (kind.Hold low high) old new call keeps = rests old.held.runs.sizes old new call.1.untouched
-  link_reaches seat (kind.Next n) old new call keeps = reaches_wider call.1.few (reaches_by call.1.reads.effect)
-  link_reaches seat kind.Release old new call keeps = rests old.held.runs.sizes old new call.1.untouched
-  link_reaches seat kind.WorkTurn old new call keeps = reaches_by call.1.effect
-  link_reaches seat (kind.WorkEnd n) old new call keeps = rests old.held.runs.sizes old new call.1.untouched
-  link_reaches seat kind.WorkerTurn old new call keeps = reaches_by call.1.effect
-  link_reaches seat kind.Leave old new call keeps = rests old.held.runs.sizes old new call.untouched
+  pub link_reaches : (seat : ℕ) (k : Kind) (old new : CoreState D) → IsCall state seat k old new → Reaches (file_length old.held.runs.sizes) (calls_of old.held.runs.sizes k) (state old.disk) (state new.disk)
+  link_reaches seat (kind.Admit op) old new call = reaches_by call.1.effect
+  link_reaches seat kind.Pay old new call = reaches_by call.1.effect
+  link_reaches seat (kind.Get key) old new call = reaches_by call.1.reads.effect
+  link_reaches seat (kind.Hold low high) old new call = rests old.held.runs.sizes old new call.1.untouched
+  link_reaches seat (kind.Next n) old new call = reaches_wider call.1.few (reaches_by call.1.reads.effect)
+  link_reaches seat kind.Release old new call = rests old.held.runs.sizes old new call.1.untouched
+  link_reaches seat kind.WorkTurn old new call = reaches_by call.1.effect
+  link_reaches seat (kind.WorkEnd n) old new call = rests old.held.runs.sizes old new call.1.untouched
+  link_reaches seat kind.WorkerTurn old new call = reaches_by call.1.effect
+  link_reaches seat kind.Leave old new call = rests old.held.runs.sizes old new call.untouched
 
   -- ---- the chain
 
@@ -263,7 +261,7 @@ module _ {D : Type 0} (state : D → DiskState) where
       → Reaches (file_length old.held.runs.sizes) (calls_of_all old.held.runs.sizes (steps_of calls)) (state old.disk) (state new.disk)
   chain_reaches [] old new are keeps = rests old.held.runs.sizes old new (ap (λ (core : CoreState D). core.disk) are)
   chain_reaches (one ∷ calls) old new are keeps =
-      reaches_then (link_reaches one.0.seat one.0.kind old one.1 are.0 keeps)
+      reaches_then (link_reaches one.0.seat one.0.kind old one.1 are.0)
       (subst (λ (sizes : Sizes). Reaches (file_length sizes) (calls_of_all sizes (steps_of calls)) (state one.1.disk) (state new.disk)) (link_sizes state one.0.seat one.0.kind old one.1 are.0 keeps)
       (chain_reaches calls one.1 new are.1 (link_keeps state one.0.seat one.0.kind old one.1 are.0 keeps)))
 
@@ -292,7 +290,7 @@ module _ {D : Type 0} (state : D → DiskState) where
       let all = chain_keeps state (λ now. SoFar start now)
       (λ seat k old new call before. record {
         kept = link_kept state start seat k old new call before.kept;
-        told = told_more (state start.disk) (state old.disk) (state new.disk) old.held.book new.held.book (link_reaches seat k old new call before.kept.keeps).goes_on.faults (link_tells seat k old new call) before.told;
+        told = told_more (state start.disk) (state old.disk) (state new.disk) old.held.book new.held.book (link_reaches seat k old new call).goes_on.faults (link_tells seat k old new call) before.told;
       }) calls start end are (so_far start unasked) in
       let told = all.told in
       let few : faults_told end.held.book.book.entries ≤ lookups_failed end.held.book.book.entries + one_if (is_by_fault end.held.book.stopped) = omega (arith, told.others) in

@@ -23,11 +23,11 @@ use Rattle.core_chain.specs.Start.{steps_of}
 -- ---- calls of the disk
 
 -- How many calls of the disk a step makes at most: an admission makes two swaps and an append; a payment and a turn read a quantum's pages and write
--- its run; a get looks into each page at most, and a next reads each page of its hold at most. The others are made in memory alone.
+-- its run; a get reads one page of each component at most, and a next reads each page of its hold at most. The others are made in memory alone.
 abbrev pub calls_of : Sizes → Kind → ℕ
 calls_of sizes (kind.Admit op) = 22
 calls_of sizes kind.Pay = sizes.quantum / 4 + 3
-calls_of sizes (kind.Get key) = page_share sizes
+calls_of sizes (kind.Get key) = 3
 calls_of sizes (kind.Hold low high) = 0
 calls_of sizes (kind.Next n) = page_share sizes
 calls_of sizes kind.Release = 0

@@ -22,6 +22,7 @@ use Rattle.paced_tree.proofs.Promises.{opened_is_paced}
 use Rattle.tree_file.specs.Tree.{Tree, lists_of, map_of_tree}
 use Rattle.tree_file.proofs.ListLemmas.{sorted_component, lists_light}
 use Rattle.tree_log.specs.Log.{IsLogOf}
+use Rattle.tree_runs.specs.Runs.{guide_at}
 use Rattle.tree_runs.specs.Holding.{AreOf, IsDeepOver}
 use Rattle.core_moves.specs.declared.held.Held.{Held}
 use Rattle.core_lists.specs.Standing.{HoldsMachine, IsPassAt, IsDeepAt, catalogue_of}
@@ -36,7 +37,7 @@ module _ (annals : Book) (faults : ℕ) (held : Held) (tree : Tree) (file : List
 
   -- C1' has nothing
   no_c1x : tree.c1x ≡ []
-  no_c1x = subst (λ (o : Option DeepState). IsDeepOver held.runs.sizes file held.runs.space o tree.c1x tree.c2) is.deep of.deep
+  no_c1x = subst (λ (o : Option DeepState). IsDeepOver held.runs.sizes file held.runs.space (guide_at held.runs.guides held.runs.tags.deep) o tree.c1x tree.c2) is.deep of.deep
 
   weight_c1 : entries_weight (entries_of tree.c1) ≡ held.runs.catalogue.c1.weight
   weight_c1 = of.holds.c1.weight_is ∙ ap (λ (k : Catalog). k.c1.weight) of.catalogue

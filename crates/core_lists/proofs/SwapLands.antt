@@ -25,7 +25,7 @@ use Rattle.gated_log.specs.Lane.{blocks}
 use Rattle.tree_file.specs.Tree.{Tree, lists_of}
 use Rattle.tree_file.specs.Places.{TurnsRoles}
 use Rattle.tree_log.specs.Log.{LogState, IsLogOf}
-use Rattle.tree_runs.specs.Runs.{made_by_pass}
+use Rattle.tree_runs.specs.Runs.{guide_at, made_by_pass}
 use Rattle.tree_runs.specs.Holding.{AreOf, IsPassSwapped, IsPassOver as RunsOver}
 use Rattle.core_moves.specs.declared.held.Held.{Held}
 use Rattle.core_moves.specs.Held.{is_run_full}
@@ -151,7 +151,7 @@ made_of_done held tree m file at sound done =
     taken_all cursor at_key list es comes same none =
         all_up_to at_key es (none_in (above at_key es) (sym (ap (λ (k : Option Key). is_empty (above k es)) comes) ∙ sym (ap (λ (l : Entries). is_empty (above cursor l)) same) ∙ none))
 
-    by : (pass : Option Merge) (snow : Option SnowState) → IsPassAt pass snow → RunsOver held.runs.sizes file held.runs.space snow held.log.a.entries tree.c1 → pass_is_done pass m.lists ≡ true
+    by : (pass : Option Merge) (snow : Option SnowState) → IsPassAt pass snow → RunsOver held.runs.sizes file held.runs.space (guide_at held.runs.guides held.runs.tags.pass) snow held.log.a.entries tree.c1 → pass_is_done pass m.lists ≡ true
         → (made_by_pass snow).weight ≡ entries_weight (folded_over held.log.a.entries (entries_of tree.c1))
     by None snow comes over none = absurd (false≢true none)
     by (Some pass) None comes over none = absurd comes

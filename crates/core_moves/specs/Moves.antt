@@ -1,17 +1,16 @@
 -- What each move of the core makes of what it has in memory, on any disk. Weights are in bytes.
-use Rattle.std.specs.Prelude.{◌≡◌, ◌⊎◌, ℕ, ◌+◌, ◌*◌, ◌≤◌, [], Some, is_some, not, ◌&&◌, nat_lt, if◌then◌else◌}
+use Rattle.std.specs.Prelude.{◌≡◌, ◌⊎◌, ℕ, ◌+◌, ◌*◌, ◌≤◌, [], is_some, not, ◌&&◌, nat_lt, if◌then◌else◌}
 use Rattle.blsm_model.specs.Format.{most_weight}
 use Rattle.blsm_model.specs.declared.key.Key.{Key}
 use Rattle.record_delta.specs.declared.record.Rec.{Rec}
 use Rattle.record_delta.specs.Records.{weight}
 use Rattle.record_delta.specs.Entries.{entries_weight}
 use Rattle.gear_sched.specs.Gears.{GearState, entered, forgiven, took_first, took_second, passing, pass_ended, rotated, deep_ended}
-use Rattle.snow_merge.specs.Pass.{started}
 use Rattle.seat_book.specs.State.{BookState, pass_counted_in, deep_counted_in, quantum_counted_in, peaked_in}
 use Rattle.tree_file.specs.Tree.{Tree}
 use Rattle.tree_file.specs.Places.{TurnsRoles}
 use Rattle.tree_log.specs.Log.{LogState, IsLogOf, Grows, Turns, turned_log, weight_of_tables, with_entry}
-use Rattle.tree_runs.specs.Runs.{made_by_pass, left_for_pass, left_for_deep}
+use Rattle.tree_runs.specs.Runs.{made_by_pass, left_for_pass, left_for_deep, pass_begun}
 use Rattle.tree_runs.specs.Holding.{SwapsDeep, SwapsPass, Rotates, KeepsAllButPass, KeepsAllButDeep, PassTakes, DeepTakes}
 use Rattle.core_moves.specs.declared.held.Held.{Held}
 use Rattle.core_moves.specs.Held.{IsPassDone, IsDeepDone, is_pass_over, is_deep_over, is_run_full, goes_ahead}
@@ -47,10 +46,10 @@ pub record RotatesIn (old new : Held) : Type 0 where
   pub spring : new.spring ≡ old.spring
   pub book : new.book ≡ old.book
 
--- a pass begins
+-- a pass begins, beside what the memory table weighs
 abbrev pub with_pass_begun : Held → Held
 with_pass_begun old = record old {
-  runs = record old.runs { pass = Some (started old.runs.tags.pass old.runs.catalogue.c1) };
+  runs = pass_begun (weight_of_tables old.log) old.runs;
   gears = passing old.gears old.runs.catalogue.c1.weight (weight_of_tables old.log);
 }
 

@@ -106,8 +106,9 @@ impl Held {
         ensures lists { (tree : Tree) (a : Entries) (file : List ℕ) → AreOf self.old.runs tree a file → AreOf self.new.runs tree a file }
     {
         let now = self.runs.catalogue();
-        self.gears.new_pass(now.c1.weight, self.log.weight());
-        self.runs.begin_pass();
+        let memory = self.log.weight();
+        self.gears.new_pass(now.c1.weight, memory);
+        self.runs.begin_pass(memory);
     }
 
     /// A pass begins where none runs, and a write of this weight, in bytes, would bring the spring past its low mark.

@@ -1,5 +1,5 @@
 -- A store that was just made is settled.
-use Rattle.std.specs.Prelude.{◌≡◌, ◌⊎◌, ℕ, zero, suc, ◌≤◌, false, [], ◌∷◌, IsTrue, length, replicate, slice_index_or, sum}
+use Rattle.std.specs.Prelude.{◌≡◌, ◌⊎◌, ℕ, zero, suc, ◌≤◌, false, [], ◌∷◌, IsTrue, List, length, replicate, slice_index_or, sum}
 use Rattle.std.proofs.Common.{◌∙◌, refl, ap, sym, subst, inl, inr, arith}
 use Rattle.std.proofs.lemmas.List.{get_or-replicate, get_or_past, length-replicate}
 use Rattle.std.proofs.lemmas.Bool.{cases_lt, false≢true}
@@ -22,7 +22,7 @@ use Rattle.page_space.specs.Space.{SpaceState, pages_with, pin_size, role_count,
 use Rattle.page_space.proofs.SpaceLemmas.{shape_unused}
 use Rattle.tree_log.specs.Log.{LogState}
 use Rattle.tree_machine.proofs.PlayLemmas.{of_replicate}
-use Rattle.tree_runs.specs.Runs.{RunsState, AreRead, AreRunning, HasOneTag, IsFilled, opened}
+use Rattle.tree_runs.specs.Runs.{GuideState, RunsState, AreRead, AreRunning, HasOneTag, IsFilled, opened}
 use Rattle.tree_core.specs.Parts.{AreSettled}
 
 -- ---- a map of which no page is in use
@@ -107,10 +107,10 @@ log_of a b lanes = record { a = a; b = b; lanes = lanes }
 abbrev annals_of : Room → Book
 annals_of room = record { entries = []; quanta = []; room = room }
 
-pub made_runs : (sizes : Sizes) (runs : RunsState) (catalogue : Catalog) (space : SpaceState) (pages : ℕ) → runs ≡ opened sizes catalogue space → catalogue ≡ first_catalog → space ≡ unused pages → pages ≡ page_count sizes
-    → runs ≡ opened sizes first_catalog (unused (page_count sizes))
-made_runs sizes runs catalogue space pages is first none many =
-    is ∙ ap (λ (c : Catalog). opened sizes c space) first ∙ ap (λ (s : SpaceState). opened sizes first_catalog s) (none ∙ ap unused many)
+pub made_runs : (sizes : Sizes) (runs : RunsState) (catalogue : Catalog) (space : SpaceState) (guides : List GuideState) (pages : ℕ) → runs ≡ opened sizes catalogue space guides → catalogue ≡ first_catalog → space ≡ unused pages
+    → pages ≡ page_count sizes → runs ≡ opened sizes first_catalog (unused (page_count sizes)) guides
+made_runs sizes runs catalogue space guides pages is first none many =
+    is ∙ ap (λ (c : Catalog). opened sizes c space guides) first ∙ ap (λ (s : SpaceState). opened sizes first_catalog s guides) (none ∙ ap unused many)
 
 pub made_log : (sizes : Sizes) (log : LogState) (a b : Contents) (lanes : LanesState) (room_a room_b : ℕ) → log ≡ log_of a b lanes → a ≡ empty_table room_a → b ≡ empty_table room_b → lanes ≡ empty_lanes sizes
     → room_a ≡ high_mark sizes → room_b ≡ high_mark sizes → log ≡ log_of (empty_table (high_mark sizes)) (empty_table (high_mark sizes)) (empty_lanes sizes)
@@ -121,10 +121,10 @@ made_log sizes log a b lanes room_a room_b is a_is b_is lanes_is for_a for_b =
     ∙ ap (λ (x : LanesState). log_of (empty_table (high_mark sizes)) (empty_table (high_mark sizes)) x) lanes_is
 
 -- The components of the first catalogue, empty tables and empty annals are a settled core's.
-first_settled : (sizes : Sizes) (room : Room) (d : DiskState) → IsGeometry sizes → (IsTrue d.tells_bytes → length d.bytes ≡ file_length sizes) → sum room.entries ≤ most_entries
-    → AreRunning d.is_honest d.bytes (opened sizes first_catalog (unused (page_count sizes)))
-    → AreSettled (opened sizes first_catalog (unused (page_count sizes))) (log_of (empty_table (high_mark sizes)) (empty_table (high_mark sizes)) (empty_lanes sizes)) (annals_of room) d
-first_settled sizes room d geometry long few running = record {
+first_settled : (sizes : Sizes) (guides : List GuideState) (room : Room) (d : DiskState) → IsGeometry sizes → (IsTrue d.tells_bytes → length d.bytes ≡ file_length sizes) → sum room.entries ≤ most_entries
+    → AreRunning d.is_honest d.bytes (opened sizes first_catalog (unused (page_count sizes)) guides)
+    → AreSettled (opened sizes first_catalog (unused (page_count sizes)) guides) (log_of (empty_table (high_mark sizes)) (empty_table (high_mark sizes)) (empty_lanes sizes)) (annals_of room) d
+first_settled sizes guides room d geometry long few running = record {
   pass = refl;
   deep = refl;
   running = running;
@@ -145,11 +145,11 @@ first_settled sizes room d geometry long few running = record {
   room = few;
 }
 
-pub settled_as : (sizes : Sizes) (runs : RunsState) (log : LogState) (annals : Book) (room : Room) (d : DiskState) → IsGeometry sizes → (IsTrue d.tells_bytes → length d.bytes ≡ file_length sizes)
-    → sum room.entries ≤ most_entries → AreRunning d.is_honest d.bytes runs → runs ≡ opened sizes first_catalog (unused (page_count sizes))
+pub settled_as : (sizes : Sizes) (guides : List GuideState) (runs : RunsState) (log : LogState) (annals : Book) (room : Room) (d : DiskState) → IsGeometry sizes → (IsTrue d.tells_bytes → length d.bytes ≡ file_length sizes)
+    → sum room.entries ≤ most_entries → AreRunning d.is_honest d.bytes runs → runs ≡ opened sizes first_catalog (unused (page_count sizes)) guides
     → log ≡ log_of (empty_table (high_mark sizes)) (empty_table (high_mark sizes)) (empty_lanes sizes) → annals ≡ annals_of room → AreSettled runs log annals d
-settled_as sizes runs log annals room d geometry long few running runs_are log_is annals_are =
+settled_as sizes guides runs log annals room d geometry long few running runs_are log_is annals_are =
     subst (λ (r : RunsState). AreSettled r log annals d) (sym runs_are)
-    (subst (λ (l : LogState). AreSettled (opened sizes first_catalog (unused (page_count sizes))) l annals d) (sym log_is)
-    (subst (λ (book : Book). AreSettled (opened sizes first_catalog (unused (page_count sizes))) (log_of (empty_table (high_mark sizes)) (empty_table (high_mark sizes)) (empty_lanes sizes)) book d) (sym annals_are)
-    (first_settled sizes room d geometry long few (subst (λ (r : RunsState). AreRunning d.is_honest d.bytes r) runs_are running))))
+    (subst (λ (l : LogState). AreSettled (opened sizes first_catalog (unused (page_count sizes)) guides) l annals d) (sym log_is)
+    (subst (λ (book : Book). AreSettled (opened sizes first_catalog (unused (page_count sizes)) guides) (log_of (empty_table (high_mark sizes)) (empty_table (high_mark sizes)) (empty_lanes sizes)) book d) (sym annals_are)
+    (first_settled sizes guides room d geometry long few (subst (λ (r : RunsState). AreRunning d.is_honest d.bytes r) runs_are running))))

@@ -21,7 +21,7 @@ use store_file::make_store;
 use tree_core::{Core, Parts};
 use tree_log::LoggedTables;
 use tree_machine::{Kind, Step};
-use tree_runs::{MergeRoom, Runs};
+use tree_runs::{GuideRoom, MergeRoom, Runs};
 
 /// How many entries each caller may note.
 pub const ENTRIES: u32 = 1_000;
@@ -92,7 +92,9 @@ impl File {
         let File { geo, disk } = self;
         let _half = geo.half();
         let space = Space::reserve(alloc, geo.pages() as u32)?;
-        let runs = Runs::open(&geo, first_catalogue(), space, MergeRoom::reserve(alloc)?);
+        let merges = MergeRoom::reserve(alloc)?;
+        let guides = GuideRoom::reserve(alloc, &geo)?;
+        let runs = Runs::open(&geo, first_catalogue(), space, merges, guides);
         let log = LoggedTables::open(
             Table::reserve(alloc, geo.high_mark())?,
             Table::reserve(alloc, geo.high_mark())?,

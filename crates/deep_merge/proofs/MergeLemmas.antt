@@ -2,6 +2,8 @@
 use Rattle.std.proofs.Common.{◌≡◌, ◌∙◌, ◌+◌, ◌≤◌, ℕ, true, List, [], Option, Some, None, refl, ap, subst, inl, inr, arith}
 use Rattle.blsm_model.specs.declared.key.Key.{Key}
 use Rattle.blsm_model.specs.Sizes.{Sizes}
+use Rattle.bloom_bits.specs.BitSet.{BitState}
+use Rattle.bloom_bits.specs.Fences.{FencesState}
 use Rattle.record_delta.specs.declared.record.Rec.{Rec}
 use Rattle.record_delta.specs.Records.{weight}
 use Rattle.record_delta.specs.Entries.{Entries, folded_over, settled_entries, first_of, above, up_to}
@@ -72,18 +74,18 @@ last_part : (m n : ℕ) → m + n ≡ 0 → n ≡ 0
 last_part m n is = omega arith
 
 -- Where nothing is left by the numbers, nothing is left of the lists.
-pub none_above : {news olds : List ℕ} (sizes : Sizes) (file : List ℕ) (space : SpaceState) (deep : DeepState) (newer older : Entries) → left_weight deep ≡ 0 → IsMerge sizes file space deep news olds newer older
+pub none_above : {news olds : List ℕ} (sizes : Sizes) (file : List ℕ) (space : SpaceState) (deep : DeepState) (filter : BitState) (fences : FencesState) (newer older : Entries) → left_weight deep ≡ 0 → IsMerge sizes file space deep filter fences news olds newer older
     → NoneAbove deep.at newer older
-none_above sizes file space deep newer older done merge = (
+none_above sizes file space deep filter fences newer older done merge = (
   input_done sizes file space deep.writer.role deep.at deep.c1x newer (first_part (left_in deep.at deep.c1x) (left_in deep.at deep.c2) done) merge.newer,
   input_done sizes file space deep.writer.role deep.at deep.c2 older (last_part (left_in deep.at deep.c1x) (left_in deep.at deep.c2) done) merge.older,
 )
 
 -- All was pushed.
-pub pushed_all : {news olds : List ℕ} (sizes : Sizes) (file : List ℕ) (space : SpaceState) (deep : DeepState) (newer older : Entries) → left_weight deep ≡ 0 → IsMerge sizes file space deep news olds newer older
-    → HasPushed sizes true file space deep.writer (settled_entries (folded_over newer older))
-pushed_all sizes file space deep newer older done merge =
-    let none = none_above sizes file space deep newer older done merge in
-    subst (λ (l : Entries). HasPushed sizes true file space deep.writer (settled_entries (folded_over l older))) (all_up_to deep.at newer none.0)
-    (subst (λ (l : Entries). HasPushed sizes true file space deep.writer (settled_entries (folded_over (up_to deep.at newer) l))) (all_up_to deep.at older none.1)
-    (subst (λ (l : Entries). HasPushed sizes true file space deep.writer l) merge.out_is merge.run.pushed))
+pub pushed_all : {news olds : List ℕ} (sizes : Sizes) (file : List ℕ) (space : SpaceState) (deep : DeepState) (filter : BitState) (fences : FencesState) (newer older : Entries) → left_weight deep ≡ 0 → IsMerge sizes file space deep filter fences news olds newer older
+    → HasPushed sizes true file space deep.writer filter fences (settled_entries (folded_over newer older))
+pushed_all sizes file space deep filter fences newer older done merge =
+    let none = none_above sizes file space deep filter fences newer older done merge in
+    subst (λ (l : Entries). HasPushed sizes true file space deep.writer filter fences (settled_entries (folded_over l older))) (all_up_to deep.at newer none.0)
+    (subst (λ (l : Entries). HasPushed sizes true file space deep.writer filter fences (settled_entries (folded_over (up_to deep.at newer) l))) (all_up_to deep.at older none.1)
+    (subst (λ (l : Entries). HasPushed sizes true file space deep.writer filter fences l) merge.out_is merge.run.pushed))

@@ -4,12 +4,14 @@ use Rattle.blsm_model.specs.declared.component.Component.{Component}
 use Rattle.blsm_model.specs.declared.key.Key.{Key}
 use Rattle.blsm_model.specs.Format.{least_weight, most_weight}
 use Rattle.blsm_model.specs.Sizes.{Sizes}
+use Rattle.bloom_bits.specs.BitSet.{BitState}
+use Rattle.bloom_bits.specs.Fences.{FencesState}
 use Rattle.record_delta.specs.Entries.{Entries, folded_over, settled_entries, is_above, up_to}
 use Rattle.page_space.specs.Space.{SpaceState}
 use Rattle.run_cursor.specs.Cursor.{CursorState, started as cursor_started}
 use Rattle.run_writer.specs.Writer.{WriterState, started as writer_started}
 use Rattle.merge_ends.specs.Input.{left_in, IsBehind, IsInput}
-use Rattle.merge_ends.specs.Output.{HasRoom, HasRun}
+use Rattle.merge_ends.specs.Output.{HasFences, HasRoom, HasRun}
 
 -- the run that is written, the cursors over C1' and C2, and the greatest key that was taken
 pub record DeepState : Type 0 where
@@ -31,16 +33,16 @@ abbrev pub pages_ahead : DeepState → ℕ
 pages_ahead deep = deep.c1x.pages + deep.c2.pages
 
 -- On any disk: a list was pushed, of keys that were taken, and the cursors have taken all up to the greatest of them.
-pub record IsRunning (sizes : Sizes) (honest : Bool) (file : List ℕ) (space : SpaceState) (deep : DeepState) : Type 0 where
-  pub run : HasRun sizes honest file space deep.writer deep.at
+pub record IsRunning (sizes : Sizes) (honest : Bool) (file : List ℕ) (space : SpaceState) (deep : DeepState) (filter : BitState) (fences : FencesState) : Type 0 where
+  pub run : HasRun sizes honest file space deep.writer filter fences deep.at
   pub newer : IsBehind deep.at deep.c1x
   pub older : IsBehind deep.at deep.c2
 
 -- Of both lists, which stand on these pages, what is up to the greatest key taken was taken, folded key by key, settled, and pushed: bases only. What is above it is left.
-pub record IsMerge (sizes : Sizes) (file : List ℕ) (space : SpaceState) (deep : DeepState) (newer_pages older_pages : List ℕ) (c1x c2 : Entries) : Type 0 where
+pub record IsMerge (sizes : Sizes) (file : List ℕ) (space : SpaceState) (deep : DeepState) (filter : BitState) (fences : FencesState) (newer_pages older_pages : List ℕ) (c1x c2 : Entries) : Type 0 where
   pub newer : IsInput sizes file space deep.writer.role deep.at deep.c1x newer_pages c1x
   pub older : IsInput sizes file space deep.writer.role deep.at deep.c2 older_pages c2
-  pub run : HasRun sizes true file space deep.writer deep.at
+  pub run : HasRun sizes true file space deep.writer filter fences deep.at
   pub out_is : run.out ≡ settled_entries (folded_over (up_to deep.at c1x) (up_to deep.at c2))
 
 -- What was taken, by the numbers: so much of C1' and so much of C2. The run weighs no more than by that.
@@ -60,7 +62,8 @@ pub record TakesGroup (old new : DeepState) (taken : ℕ) : Type 0 where
   pub light : taken ≤ 2 * most_weight
   pub some : (least_weight ≤ taken) ⊎ ((taken ≡ 0) × (left_weight new ≡ 0))
 
--- On any disk: the merge runs, and the run has room for all that is left.
-pub record MayGoOn (sizes : Sizes) (honest : Bool) (file : List ℕ) (space : SpaceState) (deep : DeepState) : Type 0 where
-  pub running : IsRunning sizes honest file space deep
+-- On any disk: the merge runs, and the run and its fences have room for all that is left.
+pub record MayGoOn (sizes : Sizes) (honest : Bool) (file : List ℕ) (space : SpaceState) (deep : DeepState) (filter : BitState) (fences : FencesState) : Type 0 where
+  pub running : IsRunning sizes honest file space deep filter fences
+  pub fences_fit : HasFences fences deep.writer (left_weight deep)
   pub room : HasRoom space deep.writer (left_weight deep)

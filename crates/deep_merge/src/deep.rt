@@ -1,11 +1,15 @@
 //! A deep merge.
-ghost use Rattle.std.specs.Prelude.{◌≡◌, ◌≢◌, ◌↔◌, ◌⊎◌, ◌+◌, ◌*◌, ◌/◌, ◌≤◌, ℕ, Bool, List, Option, Ok, Err, length, IsTrue, IsErr, IfOk, OnOk};
+ghost use Rattle.std.specs.Prelude.{◌≡◌, ◌≢◌, ◌↔◌, ◌⊎◌, ◌+◌, ◌*◌, ◌/◌, ◌≤◌, [], ℕ, Bool, List, Option, Ok, Err, length, IsTrue, IsErr, IfOk, OnOk};
 ghost use Rattle.std.specs.List.{Contains};
 ghost use Rattle.disk_trait.specs.Disk.{TellsFaultsBy};
 ghost use Rattle.blsm_model.specs.Components.{empty_component};
 ghost use Rattle.blsm_model.specs.Format.{most_weight};
 ghost use Rattle.blsm_model.specs.Sizes.{Sizes};
 ghost use Rattle.blsm_model.specs.Geometry.{page_count, file_length};
+ghost use Rattle.bloom_bits.specs.BitSet.{BitState, cleared};
+ghost use Rattle.bloom_bits.specs.Fences.{FencesState};
+ghost use Rattle.bloom_bits.specs.Filter.{rounded};
+ghost use Rattle.bloom_bits.specs.Guides.{Guide, KeepReserves, KeepSized};
 ghost use Rattle.record_delta.specs.Entries.{Entries, folded_over, settled_entries};
 ghost use Rattle.page_space.specs.Space.{SpaceState, HasRole, IsFree, role_size};
 ghost use Rattle.page_file.specs.Component.{numbers_of, HasList};
@@ -15,6 +19,7 @@ ghost use Rattle.merge_ends.specs.Quantum.{IsNext, NoneAbove, IsQuantum, Works, 
 ghost use Rattle.deep_merge.specs.Merge.{started, left_weight, pages_ahead, IsRunning, IsMerge, Takes, TakesGroup, MayGoOn};
 
 use crate::settled::put_settled;
+use bloom_bits::{Fences, Filter};
 use blsm_model::{Component, Geometry, Key};
 use disk_trait::Disk;
 use merge_ends::{an_input_stays, go_above, is_through};
@@ -44,19 +49,33 @@ impl Model for Deep {
 }
 
 impl Deep {
-    /// A merge of C1' and C2 that has taken nothing. It calls no device.
-    pub fn begin(c1x: &Component, c2: &Component, role: Role) -> Deep
+    /// A merge of C1' and C2 that has taken nothing. The run's filter gets so many bits, and filter and fences are empty. It calls no
+    /// device.
+    pub fn begin(
+        c1x: &Component,
+        c2: &Component,
+        role: Role,
+        bits: u64,
+        filter: &mut Filter,
+        fences: &mut Fences,
+    ) -> Deep
         requires newer { c1x.now.pages ≡ 0 → c1x.now ≡ empty_component }
         requires older { c2.now.pages ≡ 0 → c2.now ≡ empty_component }
+        requires bits { rounded bits ≤ filter.old.reserved }
         ensures started { result ≡ started role c1x.now c2.now }
-        ensures running { (sizes : Sizes) (honest : Bool) (file : List ℕ) (space : SpaceState) → IsRunning sizes honest file space result }
+        ensures reserves { KeepSized (rounded bits) filter.old filter.new fences.old fences.new }
+        ensures filter { filter.new ≡ cleared filter.old.reserved (rounded bits) }
+        ensures fences { fences.new ≡ record { reserved = fences.old.reserved; list = [] } }
+        ensures running { (sizes : Sizes) (honest : Bool) (file : List ℕ) (space : SpaceState) → IsRunning sizes honest file space result filter.new fences.new }
         // No page of either has the run's tag, and none is free.
         ensures merge { (sizes : Sizes) (file : List ℕ) (space : SpaceState) (newer older : Entries)
             → (list : HasList sizes c1x.now newer file) → ((n : ℕ) → Contains (numbers_of list.pages) n → (HasRole space role n → ⊥) × (IsFree space n → ⊥))
             → (below : HasList sizes c2.now older file) → ((n : ℕ) → Contains (numbers_of below.pages) n → (HasRole space role n → ⊥) × (IsFree space n → ⊥))
-            → IsMerge sizes file space result (numbers_of list.pages) (numbers_of below.pages) newer older }
+            → IsMerge sizes file space result filter.new fences.new (numbers_of list.pages) (numbers_of below.pages) newer older }
     {
         one_order();
+        filter.reset(bits);
+        fences.clear();
         Deep {
             writer: Writer::start(role),
             c1x: Cursor::start(c1x),
@@ -88,17 +107,20 @@ impl Deep {
         disk: &mut D,
         geo: &Geometry,
         space: &mut Space,
+        filter: &mut Filter,
+        fences: &mut Fences,
     ) -> Result<u64, Broken>
         requires pages { space.old.pages ≡ page_count geo.now }
         requires length { IsTrue (D.state disk.old).tells_bytes → length (D.state disk.old).bytes ≡ file_length geo.now }
-        requires runs { MayGoOn geo.now (D.state disk.old).is_honest (D.state disk.old).bytes space.old self.old }
-        ensures merge { (newer older : List ℕ) (c1x c2 : Entries) → IsTrue (D.state disk.old).is_honest → IsMerge geo.now (D.state disk.old).bytes space.old self.old newer older c1x c2
+        requires runs { MayGoOn geo.now (D.state disk.old).is_honest (D.state disk.old).bytes space.old self.old filter.old fences.old }
+        ensures merge { (newer older : List ℕ) (c1x c2 : Entries) → IsTrue (D.state disk.old).is_honest → IsMerge geo.now (D.state disk.old).bytes space.old self.old filter.old fences.old newer older c1x c2
             → result ≢ Err Broken.Fault
-            → (n : ℕ) × (result ≡ Ok n) × IsMerge geo.now (D.state disk.new).bytes space.new self.new newer older c1x c2
+            → (n : ℕ) × (result ≡ Ok n) × IsMerge geo.now (D.state disk.new).bytes space.new self.new filter.new fences.new newer older c1x c2
             × (IsNext self.old.at self.new.at c1x c2 n ⊎ (NoneAbove self.old.at c1x c2 × (self.new.at ≡ self.old.at) × (n ≡ 0))) }
-        ensures runs { OnOk result (MayGoOn geo.now (D.state disk.new).is_honest (D.state disk.new).bytes space.new self.new) }
+        ensures runs { OnOk result (MayGoOn geo.now (D.state disk.new).is_honest (D.state disk.new).bytes space.new self.new filter.new fences.new) }
         ensures takes { IfOk result (TakesGroup self.old self.new) }
         ensures size { OnOk result (role_size space.new self.old.writer.role + self.old.writer.component.pages ≡ role_size space.old self.old.writer.role + self.new.writer.component.pages) }
+        ensures reserves { KeepReserves filter.old filter.new fences.old fences.new }
         ensures role { self.new.writer.role ≡ self.old.writer.role }
         ensures works { Works geo.now self.old.writer.role 3 space.old space.new (D.state disk.old) (D.state disk.new) }
         ensures counted { OnOk result (Counts 0 (pages_ahead self.old) (pages_ahead self.new) self.old.writer.component.pages self.new.writer.component.pages (D.state disk.old) (D.state disk.new)) }
@@ -112,7 +134,16 @@ impl Deep {
         let Some((key, rec, weight)) = least_group(&self.c1x, &self.c2) else {
             return Ok(0);
         };
-        put_settled(&mut self.writer, disk, geo, space, &key, rec)?;
+        put_settled(
+            &mut self.writer,
+            disk,
+            geo,
+            space,
+            filter,
+            fences,
+            &key,
+            rec,
+        )?;
         self.at = Some(key);
         Ok(weight)
     }
@@ -127,19 +158,21 @@ impl Deep {
         disk: &mut D,
         geo: &Geometry,
         space: &mut Space,
+        filter: &mut Filter,
+        fences: &mut Fences,
     ) -> Result<u64, Broken>
         requires pages { space.old.pages ≡ page_count geo.now }
         requires length { IsTrue (D.state disk.old).tells_bytes → length (D.state disk.old).bytes ≡ file_length geo.now }
-        requires runs { MayGoOn geo.now (D.state disk.old).is_honest (D.state disk.old).bytes space.old self.old }
+        requires runs { MayGoOn geo.now (D.state disk.old).is_honest (D.state disk.old).bytes space.old self.old filter.old fences.old }
 
         // On an honest disk the merge stands as before, further on by one quantum.
-        ensures merge { (newer older : List ℕ) (c1x c2 : Entries) → IsTrue (D.state disk.old).is_honest → IsMerge geo.now (D.state disk.old).bytes space.old self.old newer older c1x c2
+        ensures merge { (newer older : List ℕ) (c1x c2 : Entries) → IsTrue (D.state disk.old).is_honest → IsMerge geo.now (D.state disk.old).bytes space.old self.old filter.old fences.old newer older c1x c2
             → result ≢ Err Broken.Fault
-            → (n : ℕ) × (result ≡ Ok n) × IsMerge geo.now (D.state disk.new).bytes space.new self.new newer older c1x c2
+            → (n : ℕ) × (result ≡ Ok n) × IsMerge geo.now (D.state disk.new).bytes space.new self.new filter.new fences.new newer older c1x c2
             × IsQuantum geo.now.quantum self.old.at self.new.at c1x c2 n }
 
         // On any disk what was taken and what is left add up, and it is a quantum or all that was left, and less than one group more.
-        ensures runs { OnOk result (MayGoOn geo.now (D.state disk.new).is_honest (D.state disk.new).bytes space.new self.new) }
+        ensures runs { OnOk result (MayGoOn geo.now (D.state disk.new).is_honest (D.state disk.new).bytes space.new self.new filter.new fences.new) }
         ensures takes { IfOk result (Takes self.old self.new) }
         ensures bound { IfOk result (λ n. n + 1 ≤ geo.now.quantum + 2 * most_weight) }
         ensures enough { IfOk result (λ n. (geo.now.quantum ≤ n) ⊎ (left_weight self.new ≡ 0)) }
@@ -147,6 +180,7 @@ impl Deep {
         ensures kept { IsErr result → self.new.at ≡ self.old.at }
 
         // Whatever it answers: it takes free pages, and writes its run's alone. Each group weighs 14 bytes at least, and makes three calls at most.
+        ensures reserves { KeepReserves filter.old filter.new fences.old fences.new }
         ensures role { self.new.writer.role ≡ self.old.writer.role }
         ensures works { Works geo.now self.old.writer.role (geo.now.quantum / 4 + 3) space.old space.new (D.state disk.old) (D.state disk.new) }
         ensures counts { Counts 1 (pages_ahead self.old) (pages_ahead self.new) self.old.writer.component.pages self.new.writer.component.pages (D.state disk.old) (D.state disk.new) }
@@ -157,7 +191,7 @@ impl Deep {
         let quantum = geo.quantum();
         let mut taken = 0;
         while taken < quantum {
-            let weight = match self.step(disk, geo, space) {
+            let weight = match self.step(disk, geo, space, filter, fences) {
                 Ok(weight) => weight,
                 Err(broken) => {
                     self.at = at;
@@ -180,13 +214,13 @@ impl Deep {
         requires length { IsTrue (D.state disk.old).tells_bytes → length (D.state disk.old).bytes ≡ file_length geo.now }
         ensures component { IfOk result (λ c. c ≡ self.old.writer.component) }
         // It reads as C1' folded over C2, settled, on pages that have the run's tag.
-        ensures list { (space : SpaceState) (newer older : List ℕ) (c1x c2 : Entries) → IsTrue (D.state disk.old).is_honest
-            → IsMerge geo.now (D.state disk.old).bytes space self.old newer older c1x c2
+        ensures list { (space : SpaceState) (filter : BitState) (fences : FencesState) (newer older : List ℕ) (c1x c2 : Entries) → IsTrue (D.state disk.old).is_honest
+            → IsMerge geo.now (D.state disk.old).bytes space self.old filter fences newer older c1x c2
             → IfOk result (λ c. (list : HasList geo.now c (settled_entries (folded_over c1x c2)) (D.state disk.new).bytes)
-            × ((n : ℕ) → Contains (numbers_of list.pages) n → HasRole space self.old.writer.role n)) }
+            × ((n : ℕ) → Contains (numbers_of list.pages) n → HasRole space self.old.writer.role n) × Guide filter fences list.pages) }
         ensures same { self.new ≡ self.old }
         // One call of the disk at most. No byte outside the run's pages changes, in no image of any moment.
-        ensures writes { (space : SpaceState) → IsRunning geo.now (D.state disk.old).is_honest (D.state disk.old).bytes space self.old
+        ensures writes { (space : SpaceState) (filter : BitState) (fences : FencesState) → IsRunning geo.now (D.state disk.old).is_honest (D.state disk.old).bytes space self.old filter fences
             → Writes (role_region geo.now space self.old.writer.role) (file_length geo.now) result (D.state disk.old) (D.state disk.new) }
     {
         where_a_run_writes();

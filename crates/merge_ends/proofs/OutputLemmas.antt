@@ -16,7 +16,7 @@ use Rattle.page_space.specs.Space.{SpaceState, IsFree, IsLeastFree, IsWithin, Cl
 use Rattle.page_file.specs.Entry.{keys_of, AreRising}
 use Rattle.run_writer.specs.Writer.{WriterState, has_place, put_in, turned, IsCounted}
 use Rattle.merge_step.proofs.TakenLemmas.{below_above}
-use Rattle.merge_ends.specs.Output.{TakesPages, HasRoom, EndBy}
+use Rattle.merge_ends.specs.Output.{TakesPages, HasRoom, EndBy, most_pages}
 
 -- ---- pages
 
@@ -62,6 +62,20 @@ room_for_one space writer n counted light none room =
     few : (pages weighs used m live pinned all : ℕ) → m ≤ 512 → (0 < pages → 4088 < used + m) → 3577 * (pages - 1) + used ≤ weighs
         → live + ((weighs + m) / 3577 + 1) + pinned ≤ all + pages → live + pinned < all
     few pages weighs used m live pinned all light full floor room =
+        elim (cases_lt 0 pages) [
+          | inl some ↦ let near = full some in omega arith
+          | inr none ↦ omega arith
+        ]
+
+-- and there is room for the fence of the page that it takes
+pub fence_for_one : (writer : WriterState) (n reserved fences : ℕ) → IsCounted writer → n ≤ 512 → has_place writer n ≡ false → most_pages (writer.component.weight + n) ≤ reserved
+    → fences ≡ writer.component.pages → fences < reserved
+fence_for_one writer n reserved fences counted light none room one_a_page =
+    let most = few writer.component.pages writer.component.weight (length writer.buffer.text) n reserved light (λ some. no_place writer n none some) counted.floor room in
+    omega (arith, most, one_a_page)
+  where
+    few : (pages weighs used m all : ℕ) → m ≤ 512 → (0 < pages → 4088 < used + m) → 3577 * (pages - 1) + used ≤ weighs → (weighs + m) / 3577 + 1 ≤ all → pages < all
+    few pages weighs used m all light full floor room =
         elim (cases_lt 0 pages) [
           | inl some ↦ let near = full some in omega arith
           | inr none ↦ omega arith

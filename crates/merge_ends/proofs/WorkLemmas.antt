@@ -8,6 +8,8 @@ use Rattle.disk_trait.specs.Reads.{OnlyReads}
 use Rattle.disk_trait.specs.Region.{IsWithin}
 use Rattle.blsm_model.specs.Sizes.{Sizes}
 use Rattle.blsm_model.specs.Geometry.{file_length}
+use Rattle.bloom_bits.specs.BitSet.{BitState}
+use Rattle.bloom_bits.specs.Fences.{FencesState}
 use Rattle.record_delta.specs.Entries.{Entries}
 use Rattle.page_space.specs.Space.{SpaceState}
 use Rattle.page_file.specs.File.{Writes}
@@ -64,12 +66,14 @@ works_written sizes role most space after old mid new result timed calm so_far t
 
 -- ---- what was pushed
 
-pub pushed_read : (sizes : Sizes) (honest : Bool) (old new : List ℕ) (space : SpaceState) (writer : WriterState) (out : Entries) → (IsTrue honest → new ≡ old)
-    → HasPushed sizes honest old space writer out → HasPushed sizes honest new space writer out
-pushed_read sizes honest old new space writer out same has = record {
+pub pushed_read : (sizes : Sizes) (honest : Bool) (old new : List ℕ) (space : SpaceState) (writer : WriterState) (filter : BitState) (fences : FencesState) (out : Entries) → (IsTrue honest → new ≡ old)
+    → HasPushed sizes honest old space writer filter fences out → HasPushed sizes honest new space writer filter fences out
+pushed_read sizes honest old new space writer filter fences out same has = record {
   run = has.run;
   held = has.held;
   is_run = has.is_run;
+  guide = has.guide;
+  one_a_page = has.one_a_page;
   counted = has.counted;
   tagged = has.tagged;
   entries_are = has.entries_are;

@@ -4,6 +4,8 @@ use Rattle.std.specs.List.{AllByRecursion}
 use Rattle.blsm_model.specs.declared.key.Key.{Key}
 use Rattle.blsm_model.specs.Format.{least_full}
 use Rattle.blsm_model.specs.Sizes.{Sizes}
+use Rattle.bloom_bits.specs.BitSet.{BitState}
+use Rattle.bloom_bits.specs.Fences.{FencesState}
 use Rattle.record_delta.specs.Entries.{Entries, is_above}
 use Rattle.page_space.specs.Space.{SpaceState, HasRole, IsFree, IsWithin, KeepsOtherRoles, seat_count}
 use Rattle.run_writer.specs.Writer.{WriterState, HasPushed}
@@ -28,12 +30,16 @@ pub record HasRoom (space : SpaceState) (writer : WriterState) (left : ℕ) : Ty
   pub within : IsWithin live share space
   pub room : live + most_pages (writer.component.weight + left) + seat_count * share ≤ space.pages + writer.component.pages
 
+-- there may be as many fences as the run may yet have pages
+abbrev pub HasFences : FencesState → WriterState → ℕ → Type 0
+HasFences fences writer left = most_pages (writer.component.weight + left) ≤ fences.reserved
+
 -- none of the keys is above this one
 abbrev pub EndBy : Option Key → Entries → Type 0
 EndBy at entries = AllByRecursion (λ e. is_above at e.0 ≡ false) entries
 
 -- On any disk: a list was pushed, none of whose keys is above this one.
-pub record HasRun (sizes : Sizes) (honest : Bool) (file : List ℕ) (space : SpaceState) (writer : WriterState) (at : Option Key) : Type 0 where
+pub record HasRun (sizes : Sizes) (honest : Bool) (file : List ℕ) (space : SpaceState) (writer : WriterState) (filter : BitState) (fences : FencesState) (at : Option Key) : Type 0 where
   pub out : Entries
-  pub pushed : HasPushed sizes honest file space writer out
+  pub pushed : HasPushed sizes honest file space writer filter fences out
   pub ends : EndBy at out

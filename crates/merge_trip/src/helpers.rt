@@ -1,11 +1,13 @@
 // Stores over disks in memory, and merges over them from their begin to their end.
 ghost use Rattle.std.specs.Prelude.{◌≡◌, ◌+◌, ◌<◌, ◌≤◌, ℕ, length, IfOk, IfSome};
 ghost use Rattle.blsm_model.specs.Geometry.{page_count, file_length};
+ghost use Rattle.bloom_bits.specs.Filter.{rounded};
 ghost use Rattle.disk_mem.specs.Recorded.{told};
 ghost use Rattle.page_space.specs.Space.{SpaceState, IsWithin, role_size, pin_size, seat_count};
 ghost use Rattle.merge_ends.specs.Output.{TakesPages};
 
 use crate::plain::{key_of, push};
+use bloom_bits::{Fences, Filter};
 use blsm_model::{Component, Geometry, Key};
 use deep_merge::Deep;
 use disk_mem::MemDisk;
@@ -22,6 +24,9 @@ use std::process::Abort;
 
 /// How much a table may weigh, in bytes.
 pub const RESERVED: u64 = 65_536;
+
+// The bits of a run's filter.
+const FILTER_BITS: u64 = 4_096;
 
 /// A disk of the length of a store.
 #[derive(Drop)]
@@ -116,6 +121,20 @@ fn free_map(rt: &impl Abort, alloc: Global, geo: &Geometry) -> Space
         }
         Err(_) => rt.abort(),
     }
+}
+
+// A run's filter, without keys.
+fn empty_filter(rt: &impl Abort, alloc: Global) -> Filter
+    ensures { result.reserved ≡ rounded 4096 }
+{
+    Filter::with_bits(alloc, FILTER_BITS).expect(rt, "memory")
+}
+
+// A run's fences, of which there are none; there may be one for each page of the store.
+fn empty_fences(rt: &impl Abort, alloc: Global, geo: &Geometry) -> Fences
+    ensures { result.reserved ≡ page_count geo.now }
+{
+    Fences::reserve(alloc, geo.pages() as u32).expect(rt, "memory")
 }
 
 /// A table with room for so much.
@@ -253,23 +272,31 @@ impl Store {
         } = self;
         let File { geo, mut disk } = file;
         assert!(rt; c1.pages != 0 || *c1 == no_component());
-        assert!(rt; live < 1_000_000 && c1.weight < 1_000_000);
         let _role = role.number();
         a_run_has_room();
-        let mut snow = Snow::begin(c1, role);
+        let mut filter = empty_filter(rt, alloc);
+        let mut fences = empty_fences(rt, alloc, &geo);
+        let mut snow = Snow::begin(c1, role, FILTER_BITS, &mut filter, &mut fences);
         let mut quanta = Vec::new(alloc);
         let mut total = 0u64;
         'quanta: for round in 0..1_000usize {
+            assert!(rt; live < 1_000_000 && c1.weight < 1_000_000 && total < 1_000_000);
             let _pages = space.pages();
             if snow.is_done(&own.table) && round >= coming.rounds.len() {
                 let run = snow.finish(&mut disk, &geo, &own.table).ok();
                 return ended(File { geo, disk }, space, live, role, run, quanta);
             }
-            assert!(rt; total < 1_000_000);
             let most = total + own.table.weight() + c1.weight;
             assert!(rt; live + most / 3_577 + 1 <= geo.pages());
             let at = snow.cursor();
-            let taken = match snow.quantum(&mut disk, &geo, &own.table, &mut space) {
+            let taken = match snow.quantum(
+                &mut disk,
+                &geo,
+                &own.table,
+                &mut space,
+                &mut filter,
+                &mut fences,
+            ) {
                 Ok(taken) => taken,
                 Err(broken) => {
                     assert_eq!(rt; broken, Broken::Fault);
@@ -315,23 +342,25 @@ impl Store {
         let File { geo, mut disk } = file;
         assert!(rt; c1x.pages != 0 || *c1x == no_component());
         assert!(rt; c2.pages != 0 || *c2 == no_component());
-        assert!(rt; live < 1_000_000 && c1x.weight < 1_000_000 && c2.weight < 1_000_000);
         let _role = role.number();
         a_run_has_room();
-        let mut deep = Deep::begin(c1x, c2, role);
+        let mut filter = empty_filter(rt, alloc);
+        let mut fences = empty_fences(rt, alloc, &geo);
+        let mut deep = Deep::begin(c1x, c2, role, FILTER_BITS, &mut filter, &mut fences);
         let mut quanta = Vec::new(alloc);
         let mut total = 0u64;
         'quanta: for _ in 0..1_000usize {
+            assert!(rt; live < 1_000_000 && total < 1_000_000);
+            assert!(rt; c1x.weight < 1_000_000 && c2.weight < 1_000_000);
             let _pages = space.pages();
             if deep.is_done() {
                 let run = deep.finish(&mut disk, &geo).ok();
                 return ended(File { geo, disk }, space, live, role, run, quanta);
             }
-            assert!(rt; total < 1_000_000);
             let most = total + c1x.weight + c2.weight;
             assert!(rt; live + most / 3_577 + 1 <= geo.pages());
             let at = deep.cursor();
-            let taken = match deep.quantum(&mut disk, &geo, &mut space) {
+            let taken = match deep.quantum(&mut disk, &geo, &mut space, &mut filter, &mut fences) {
                 Ok(taken) => taken,
                 Err(broken) => {
                     assert_eq!(rt; broken, Broken::Fault);

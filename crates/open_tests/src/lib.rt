@@ -1,5 +1,5 @@
-//! Tests of making a store and of opening one, over disks in memory: what an opening leaves of a store and of its map, damage by its place,
-//! faults, and stops at each call of the disk with what their images hold.
+//! Tests of making a store and of opening one, over disks in memory: what an opening leaves of a store and of its map, how few pages gets read
+//! then, damage by its place, faults, and stops at each call of the disk with what their images hold.
 #![tactic(auto)]
 
 #[cfg(test)]
@@ -8,6 +8,8 @@ mod damage;
 mod faults;
 #[cfg(test)]
 mod lanes;
+#[cfg(test)]
+mod lookups;
 #[cfg(test)]
 mod making;
 #[cfg(test)]

@@ -53,8 +53,8 @@ pub fn follow(rt: &impl Abort, alloc: Global, keys: usize, annals: &Annals) -> M
     map
 }
 
-// The value that the entry at a place tells.
-fn told_at(rt: &impl Abort, annals: &Annals, place: u32) -> Option<Value> {
+/// The value that the entry at a place tells.
+pub fn told_at(rt: &impl Abort, annals: &Annals, place: u32) -> Option<Value> {
     assert!(rt; (place as usize) < annals.len());
     match annals.short_reply(place) {
         Some(ShortReply::Is(value)) => Some(value.copy()),

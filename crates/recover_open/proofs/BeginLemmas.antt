@@ -14,21 +14,21 @@ use Rattle.tree_log.specs.Log.{LogState, IsLogOf}
 use Rattle.tree_reading.specs.declared.found.Found.{Found}
 use Rattle.tree_reading.specs.Damage.{catalogue_weight, room_for_a, room_for_b}
 use Rattle.tree_reading.specs.Reading.{HoldsFound, IsFound}
-use Rattle.tree_runs.specs.Runs.{RunsState, first_tags, opened}
-use Rattle.tree_runs.specs.Holding.{AreOf, AreTagged}
+use Rattle.tree_runs.specs.Runs.{GuideState, RunsState, first_tags, opened}
+use Rattle.tree_runs.specs.Holding.{AreGuided, AreOf, AreTagged}
 use Rattle.page_space.specs.Space.{SpaceState}
 use Rattle.tree_settling.specs.Settling.{IsDeepLight}
 use Rattle.recover_open.specs.Opening.{BeginsIn, HasBegun}
 
-abbrev runs_of : Found → RunsState
-runs_of found = opened found.geometry found.catalogue found.space
+abbrev runs_of : Found → List GuideState → RunsState
+runs_of found guides = opened found.geometry found.catalogue found.space guides
 
 abbrev log_in : Found → LogState
 log_in found = record { a = found.a; b = found.b; lanes = found.lanes }
 
 -- a deep merge that an opening goes on with has taken nothing
 abbrev pub BeginsLight : Type 0
-BeginsLight = (sizes : Sizes) (catalogue : Catalog) (space : SpaceState) → IsDeepLight (opened sizes catalogue space)
+BeginsLight = (sizes : Sizes) (catalogue : Catalog) (space : SpaceState) (guides : List GuideState) → IsDeepLight (opened sizes catalogue space guides)
 
 -- the table and what stands above it within the room
 within : (room_a table_a table_b components cap high : ℕ) → components ≤ cap → table_a ≤ min high (cap - components) → table_b ≤ min high (cap - components) - table_a
@@ -46,8 +46,8 @@ log_is found tree catalogue roles a b end_a end_b = record {
   b = b;
 }
 
-begun : BeginsLight → (found : Found) (honest : Bool) (file : List ℕ) → IsFound found honest file → HasBegun (runs_of found) (log_in found)
-begun light found honest file is =
+begun : BeginsLight → (found : Found) (guides : List GuideState) (honest : Bool) (file : List ℕ) → IsFound found honest file → HasBegun (runs_of found guides) (log_in found)
+begun light found guides honest file is =
     let a = is.replayed.a_is in
     let b = is.replayed.b_is in
     let tree : Tree = record { catalogue = found.catalogue; c1 = []; c1x = []; c2 = []; lane_a = is.replayed.lane_a; lane_b = is.replayed.lane_b } in
@@ -67,27 +67,27 @@ begun light found honest file is =
       log_of = log_is found tree refl is.roles a.table_is b.table_is a.place_is b.place_is;
       mark = is.head.fits.mark;
       full = omega (arith, is.head.fits.full, held_a, held_b, ap entries_weight a.table_is);
-      deep = light found.geometry found.catalogue found.space;
+      deep = light found.geometry found.catalogue found.space guides;
       reserved_a = omega (arith, is.reserved_a);
       reserved_b = omega (arith, is.reserved_b);
     }
 
-pub has_begun : BeginsLight → (found : Found) (honest : Bool) (file : List ℕ) (runs : RunsState) (log : LogState) → IsFound found honest file → runs ≡ runs_of found → log ≡ log_in found → HasBegun runs log
-has_begun light found honest file runs log is runs_are log_are =
-    subst (λ (r : RunsState). HasBegun r log) (sym runs_are) (subst (λ (l : LogState). HasBegun (runs_of found) l) (sym log_are) (begun light found honest file is))
+pub has_begun : BeginsLight → (found : Found) (guides : List GuideState) (honest : Bool) (file : List ℕ) (runs : RunsState) (log : LogState) → IsFound found honest file → runs ≡ runs_of found guides → log ≡ log_in found → HasBegun runs log
+has_begun light found guides honest file runs log is runs_are log_are =
+    subst (λ (r : RunsState). HasBegun r log) (sym runs_are) (subst (λ (l : LogState). HasBegun (runs_of found guides) l) (sym log_are) (begun light found guides honest file is))
 
 -- what an opening says of each tree in a file
-abbrev pub OpensOver : Found → RunsState → Type 0
-OpensOver found runs = (tree : Tree) (a : Entries) (file : List ℕ) → HoldsTree found.geometry tree file → tree.catalogue ≡ found.catalogue
+abbrev pub OpensOver : Found → List GuideState → RunsState → Type 0
+OpensOver found guides runs = (tree : Tree) (a : Entries) (file : List ℕ) → HoldsTree found.geometry tree file → tree.catalogue ≡ found.catalogue
     → AreTagged found.space first_tags.c1 tree.c1 → AreTagged found.space first_tags.c1x tree.c1x → AreTagged found.space first_tags.c2 tree.c2
-    → AreOf runs tree a file
+    → AreGuided guides first_tags tree → AreOf runs tree a file
 
-pub begins_in : (found : Found) (file : List ℕ) (runs : RunsState) (log : LogState) → found.lanes.roles ≡ found.catalogue.lanes → (holds : HoldsFound found file) → runs ≡ runs_of found → log ≡ log_in found
-    → OpensOver found runs → BeginsIn runs log holds.tree file
-begins_in found file runs log roles holds runs_are log_are opens =
+pub begins_in : (found : Found) (guides : List GuideState) (file : List ℕ) (runs : RunsState) (log : LogState) → found.lanes.roles ≡ found.catalogue.lanes → (holds : HoldsFound found file) → runs ≡ runs_of found guides → log ≡ log_in found
+    → OpensOver found guides runs → AreGuided guides first_tags holds.tree → BeginsIn runs log holds.tree file
+begins_in found guides file runs log roles holds runs_are log_are opens guided =
     let t = holds.tree in
     record {
-      are_of = opens t log.a.entries file holds.holds holds.catalogue (λ n has. (holds.c1_tag n).1 has) (λ n has. (holds.c1x_tag n).1 has) (λ n has. (holds.c2_tag n).1 has);
+      are_of = opens t log.a.entries file holds.holds holds.catalogue (λ n has. (holds.c1_tag n).1 has) (λ n has. (holds.c1x_tag n).1 has) (λ n has. (holds.c2_tag n).1 has) guided;
       log_of = subst (IsLogOf t) (sym log_are) (log_is found t holds.catalogue roles holds.table_a holds.table_b holds.end_a holds.end_b);
       fits = subst (λ (s : Sizes). FitsSizes s t) (sym (ap (λ (r : RunsState). r.sizes) runs_are)) holds.fits;
     }

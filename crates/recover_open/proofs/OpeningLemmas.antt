@@ -63,19 +63,18 @@ once_synced {old} {mid} {new} {ended_well} timed timed' passes marks same only r
 pub still_only : {mid new : DiskState} → IsTrue mid.is_honest → Only mid.bytes mid.images → ReadsInside mid new → Only new.bytes new.images
 still_only {mid} {new} honest only reads = λ c left. only c (reads.only.same.same.images honest c left) ∙ sym (reads.only.same.same.bytes honest)
 
--- a sync and reads leave the bytes, so the file is as long as it was found
-pub bytes_inside : {old mid new : DiskState} → Passes old mid → WritesNothing old mid → ReadsInside mid new → IsTrue old.is_honest → new.bytes ≡ old.bytes
-bytes_inside {old} {mid} {new} passes same reads honest = reads.only.same.same.bytes (subst IsTrue (sym passes.goes_on.is_honest) honest) ∙ same.bytes honest
-
-pub length_before : {old mid : DiskState} → Passes old mid → WritesNothing old mid → (result : Result Found Unreadable)
+-- the file is as long as the geometry that was found says, as it was before
+pub was_long : {old mid : DiskState} (result : Result Found Unreadable) → Passes old mid → WritesNothing old mid
     → IfOk result (λ found. IsTrue mid.tells_bytes → length mid.bytes ≡ file_length found.geometry) → IfOk result (λ found. IsTrue old.tells_bytes → length old.bytes ≡ file_length found.geometry)
-length_before {old} {mid} passes same (Ok found) long = λ tells. sym (same.length tells) ∙ long (subst IsTrue (sym passes.goes_on.tells_bytes) tells)
-length_before {old} {mid} passes same (Err why) long = tt
+was_long (Ok found) passes same long = λ tells. sym (same.length tells) ∙ long (subst IsTrue (sym passes.goes_on.tells_bytes) tells)
+was_long (Err why) passes same long = tt
 
-pub length_after : {old mid new : DiskState} → Passes old mid → ReadsInside mid new → (result : Result Found Unreadable)
+pub still_long : {old mid new : DiskState} (result : Result Found Unreadable) → Passes old mid → ReadsInside mid new
     → IfOk result (λ found. IsTrue mid.tells_bytes → length mid.bytes ≡ file_length found.geometry) → IfOk result (λ found. IsTrue old.tells_bytes → length new.bytes ≡ file_length found.geometry)
-length_after {old} {mid} {new} passes reads (Ok found) long = λ tells. let told = subst IsTrue (sym passes.goes_on.tells_bytes) tells in reads.only.same.same.length told ∙ long told
-length_after {old} {mid} {new} passes reads (Err why) long = tt
+still_long (Ok found) passes reads long = λ tells.
+    let told = subst IsTrue (sym passes.goes_on.tells_bytes) tells in
+    reads.only.same.same.length told ∙ long told
+still_long (Err why) passes reads long = tt
 
 -- what holds holds once it is done
 pub when_done : (result : Result Found Unreadable) {P : Type 0} → P → OnOk result P

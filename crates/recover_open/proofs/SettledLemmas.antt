@@ -1,5 +1,5 @@
--- What was begun with may be settled, and what that leads to.
-use Rattle.std.specs.Prelude.{◌≡◌, ℕ, ◌+◌, Bool, IsTrue, List, [], length}
+-- What was begun with may be settled, and what that leads to, behind a reading that filled the filters and fences.
+use Rattle.std.specs.Prelude.{◌≡◌, ℕ, ◌+◌, ◌≤◌, Bool, IsTrue, List, [], length, Result, Ok, Err, IfOk, IfErr}
 use Rattle.std.proofs.Common.{◌∙◌, refl, ap, sym, subst, arith}
 use Rattle.std.proofs.lemmas.List.{nil_from_length}
 use Rattle.blsm_model.specs.declared.key.Key.{Key}
@@ -7,17 +7,25 @@ use Rattle.blsm_model.specs.declared.row.Value.{Value}
 use Rattle.blsm_model.specs.Geometry.{file_length}
 use Rattle.blsm_model.specs.Sizes.{Sizes}
 use Rattle.catalog_swap.specs.Slots.{AreSameSlots}
+use Rattle.catalog_swap.specs.declared.catalog.Catalog.{Catalog}
 use Rattle.disk_trait.specs.Disk.{DiskState, Only}
+use Rattle.disk_trait.specs.Effects.{Affects, affects_more, affects_wider}
+use Rattle.disk_trait.specs.Moments.{IsTimed, leaves_only_run, leaves_only_weaken}
+use Rattle.disk_trait.specs.Reads.{OnlyReads, only_reads_each, only_reads_same}
 use Rattle.gated_log.specs.Lane.{blocks}
 use Rattle.record_delta.specs.Entries.{Entries, entries_weight}
-use Rattle.tree_file.specs.Tree.{Tree, HoldsTree, map_of_tree}
+use Rattle.tree_file.specs.Tree.{Tree, HoldsTree, ReadsAsMap, map_of_tree}
 use Rattle.tree_log.specs.Log.{LogState, weight_of_tables}
 use Rattle.tree_log.proofs.LogLemmas.{lane_ends}
 use Rattle.tree_reading.specs.declared.found.Found.{Found}
-use Rattle.tree_reading.specs.Reading.{HoldsFound}
+use Rattle.tree_reading.specs.declared.found.Unreadable.{Unreadable}
+use Rattle.tree_reading.specs.declared.found.Unreadable.TheVariants.{Fault}
+use Rattle.tree_reading.specs.Reading.{HoldsFound, IsWhy}
 use Rattle.tree_runs.specs.Runs.{RunsState, AreRunning}
-use Rattle.tree_settling.specs.Settling.{IsSettled, KeepsMap, MaySettle, SettlesOn, ShowsMap, components_of}
-use Rattle.recover_open.specs.Opening.{BeginsIn, HasBegun, StandsEmpty, weight_of_tree}
+use Rattle.tree_settling.specs.Settling.{IsSettled, KeepsMap, LeavesMaps, MaySettle, SettlesOn, ShowsMap, anywhere, components_of}
+use Rattle.recover_open.specs.declared.beginning.Begun.{Begun}
+use Rattle.recover_open.specs.Opening.{BeginsIn, HasBegun, IsReady, StandsEmpty, weight_of_tree}
+use Rattle.recover_open.proofs.TreeLemmas.{found_reads, why_fault}
 
 pub may_settle : (runs : RunsState) (log : LogState) (d : DiskState) → HasBegun runs log → ((honest : Bool) (file : List ℕ) → AreRunning honest file runs)
     → (IsTrue d.tells_bytes → length d.bytes ≡ file_length runs.sizes) → MaySettle runs log d
@@ -42,16 +50,15 @@ same_slots : (file : List ℕ) → AreSameSlots file file
 same_slots file = record { slot = λ version. refl }
 
 -- A disk of which a crash leaves what a read gives stands on what was found.
-pub shows_begun : (found : Found) (runs : RunsState) (log : LogState) (d : DiskState) → runs.sizes ≡ found.geometry → Only d.bytes d.images → (holds : HoldsFound found d.bytes)
-    → BeginsIn runs log holds.tree d.bytes → ShowsMap runs log (map_of_tree holds.tree) d
-shows_begun found runs log d sizes only holds begins =
+shows_begun : (runs : RunsState) (log : LogState) (tree : Tree) (d : DiskState) → Only d.bytes d.images → BeginsIn runs log tree d.bytes → ShowsMap runs log (map_of_tree tree) d
+shows_begun runs log tree d only begins =
     let here = begins.are_of.holds in
     record {
-      tree = holds.tree;
+      tree = tree;
       over = record {
         stands = record {
           reads = here;
-          each = λ c left. subst (HoldsTree runs.sizes holds.tree) (sym (only c left)) here;
+          each = λ c left. subst (HoldsTree runs.sizes tree) (sym (only c left)) here;
           settled = record { newest = here.newest; each = λ c left. subst (AreSameSlots d.bytes) (sym (only c left)) (same_slots d.bytes) };
         };
         are_of = begins.are_of;
@@ -60,9 +67,6 @@ shows_begun found runs log d sizes only holds begins =
       fits = begins.fits;
       map_is = refl;
     }
-
-pub keeps_found : (sizes : Sizes) (runs : RunsState) (pairs : List (Key × Value)) (old new : DiskState) → runs.sizes ≡ sizes → KeepsMap runs.sizes pairs old new → KeepsMap sizes pairs old new
-keeps_found sizes runs pairs old new is keeps = subst (λ (s : Sizes). KeepsMap s pairs old new) is keeps
 
 -- a lane that ends at its start has no entries
 none_at_start : (entries : Entries) → length (blocks entries) ≡ 0 → entries ≡ []
@@ -82,7 +86,7 @@ begun_weighs runs log image file begins =
       ap entries_weight begins.log_of.b,
     )
 
-pub stands_empty : (runs runs' : RunsState) (log log' : LogState) (image : Tree) (old new : DiskState) → IsTrue old.is_honest → BeginsIn runs log image old.bytes
+stands_empty : (runs runs' : RunsState) (log log' : LogState) (image : Tree) (old new : DiskState) → IsTrue old.is_honest → BeginsIn runs log image old.bytes
     → ShowsMap runs log (map_of_tree image) old → SettlesOn runs runs' log log' old new → IsSettled runs' log' → StandsEmpty runs' log' image new
 stands_empty runs runs' log log' image old new honest begins showed on settled =
     let shows = on.shows (map_of_tree image) honest showed in
@@ -94,3 +98,75 @@ stands_empty runs runs' log log' image old new honest begins showed on settled =
       map_is = shows.map_is;
       light = omega (arith, on.light, begun_weighs runs log image old.bytes begins);
     }
+
+-- ---- behind a second reading
+
+-- a reading, as a run of calls of which nothing is said where it writes
+pub reads_anywhere : {end calls : ℕ} {old new : DiskState} → OnlyReads end calls old new → Affects anywhere end calls old new
+reads_anywhere run = affects_wider (λ i never. absurd never) (omega arith) (omega arith) run.effect
+
+-- A reading keeps the map that the file reads as.
+pub keeps_reading : {end calls : ℕ} {old new : DiskState} (sizes : Sizes) (pairs : List (Key × Value)) → OnlyReads end calls old new → IsTrue old.is_honest → Only old.bytes old.images
+    → ReadsAsMap sizes pairs old.bytes → KeepsMap sizes pairs old new
+keeps_reading {end} {calls} {old} {new} sizes pairs run honest only reads = record {
+  each = leaves_only_weaken (λ c left. subst (ReadsAsMap sizes pairs) (sym (only c left)) reads) (only_reads_each run honest);
+  reads = subst (ReadsAsMap sizes pairs) (sym (only_reads_same run honest)) reads;
+}
+
+-- What a reading filled the filters and fences from was begun with, and then settled.
+pub record IsSettledBehind (found : Found) (result : Result Begun Unreadable) (runs : RunsState) (log : LogState) (calls : ℕ) (old mid new : DiskState) : Type 0 where
+  pub timed : IsTimed mid
+  pub reads : OnlyReads (file_length found.geometry) calls old mid
+  pub calm : mid.faults ≡ old.faults
+  pub sizes : runs.sizes ≡ found.geometry
+  pub begins : IsTrue old.is_honest → (holds : HoldsFound found old.bytes) → BeginsIn runs log holds.tree old.bytes
+  pub leaves : LeavesMaps runs log mid new
+  pub on : IfOk result (λ ready. SettlesOn runs ready.runs log ready.log mid new)
+  pub settled : IfOk result (λ ready. IsSettled ready.runs ready.log × (ready.runs.catalogue.version ≤ runs.catalogue.version + 5))
+  pub why : (pairs : List (Key × Value)) → IsTrue mid.is_honest → ShowsMap runs log pairs mid → IfErr result (λ why. why ≡ Fault)
+
+module _ {found : Found} {result : Result Begun Unreadable} {runs : RunsState} {log : LogState} {calls : ℕ} {old mid new : DiskState} (is : IsSettledBehind found result runs log calls old mid new) where
+  still : IsTrue old.is_honest → IsTrue mid.is_honest
+  still honest = subst IsTrue (sym is.reads.effect.goes_on.is_honest) honest
+
+  begins_still : IsTrue old.is_honest → (holds : HoldsFound found old.bytes) → BeginsIn runs log holds.tree mid.bytes
+  begins_still honest holds = subst (BeginsIn runs log holds.tree) (sym (only_reads_same is.reads honest)) (is.begins honest holds)
+
+  shows : IsTrue old.is_honest → Only old.bytes old.images → (holds : HoldsFound found old.bytes) → ShowsMap runs log (map_of_tree holds.tree) mid
+  shows honest only holds =
+      shows_begun runs log holds.tree mid (λ c left. only c (is.reads.same.same.images honest c left) ∙ sym (only_reads_same is.reads honest)) (begins_still honest holds)
+
+  pub settled_keeps : IsTrue old.is_honest → Only old.bytes old.images → (holds : HoldsFound found old.bytes) → KeepsMap found.geometry (map_of_tree holds.tree) old new
+  settled_keeps honest only holds =
+      let pairs = map_of_tree holds.tree in
+      let first = keeps_reading found.geometry pairs is.reads honest only (found_reads found old.bytes holds) in
+      let second = subst (λ (s : Sizes). KeepsMap s pairs mid new) is.sizes (is.leaves.keeps pairs (still honest) (shows honest only holds)) in
+      record { each = leaves_only_run first.each second.each; reads = second.reads }
+
+  pub settled_stands : IsTrue old.is_honest → Only old.bytes old.images → (holds : HoldsFound found old.bytes) → IfOk result (λ begun. StandsEmpty begun.runs begun.log holds.tree new)
+  settled_stands honest only holds = by result is.on is.settled
+    where
+      by : (r : Result Begun Unreadable) → IfOk r (λ ready. SettlesOn runs ready.runs log ready.log mid new)
+          → IfOk r (λ ready. IsSettled ready.runs ready.log × (ready.runs.catalogue.version ≤ runs.catalogue.version + 5)) → IfOk r (λ begun. StandsEmpty begun.runs begun.log holds.tree new)
+      by (Ok ready) on settled = stands_empty runs ready.runs log ready.log holds.tree mid new (still honest) (begins_still honest holds) (shows honest only holds) on settled.0
+      by (Err why) on settled = tt
+
+  pub settled_why : IsTrue old.is_honest → Only old.bytes old.images → HoldsFound found old.bytes → IfErr result (λ why. IsWhy why old.bytes)
+  settled_why honest only holds = why_fault result old.bytes (is.why (map_of_tree holds.tree) (still honest) (shows honest only holds))
+
+  pub settled_ready : runs.catalogue ≡ found.catalogue → IfOk result (λ begun. IsReady found.geometry found.catalogue.version begun.runs begun.log new)
+  settled_ready same = by result is.on is.settled
+    where
+      by : (r : Result Begun Unreadable) → IfOk r (λ ready. SettlesOn runs ready.runs log ready.log mid new)
+          → IfOk r (λ ready. IsSettled ready.runs ready.log × (ready.runs.catalogue.version ≤ runs.catalogue.version + 5))
+          → IfOk r (λ begun. IsReady found.geometry found.catalogue.version begun.runs begun.log new)
+      by (Ok ready) on settled = record {
+        may = on.may;
+        settled = settled.0;
+        sizes_are = on.sizes ∙ is.sizes;
+        commits = omega (arith, settled.1, ap (λ (k : Catalog). k.version) same);
+      }
+      by (Err why) on settled = tt
+
+  pub settled_effect : Affects anywhere (file_length found.geometry) (calls + is.leaves.calls) old new
+  settled_effect = affects_more {most = calls} is.timed is.calm (reads_anywhere is.reads) is.leaves.effect (λ i here. here) (omega (arith, ap file_length is.sizes)) (omega arith)

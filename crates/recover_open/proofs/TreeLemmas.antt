@@ -95,3 +95,11 @@ faults_on {old} {mid} {new} result calm faults = record {
   stands = λ other. faults.stands other ∙ calm;
   failed = λ same. subst (λ (n : ℕ). HasRisen n new.faults) calm (faults.failed same);
 }
+
+-- a call that answers what another one refused
+pub why_then : (e : Unreadable) (result : Result Begun Unreadable) (file : List ℕ) → result ≡ Err e → IsWhy e file → IfErr result (λ why. IsWhy why file)
+why_then e result file is why = subst (λ (r : Result Begun Unreadable). IfErr r (λ why. IsWhy why file)) (sym is) why
+
+pub told_then : {T : Type 0} (e : Unreadable) (result : Result Begun Unreadable) (inner : Result T Unreadable) (old new : DiskState) → inner ≡ Err e → result ≡ Err e
+    → TellsFaultsBy (Err Fault) inner old new → TellsFaultsBy (Err Fault) result old new
+told_then e result inner old new was is told = record { stands = λ other. told.stands (λ same. other (cc)); failed = λ fault. told.failed (cc) }

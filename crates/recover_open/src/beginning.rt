@@ -1,19 +1,24 @@
 //! What was read of a store becomes components and a log that are settled.
-ghost use Rattle.std.specs.Prelude.{◌≡◌, ◌≢◌, ℕ, Bool, List, Err, length, IsTrue, IfOk, IfErr};
+ghost use Rattle.std.specs.Prelude.{◌≡◌, ◌+◌, ◌≤◌, ◌<◌, ◌^◌, ℕ, Bool, List, Err, length, IsTrue, IfOk, IfErr};
 ghost use Rattle.disk_trait.specs.Disk.{Only, TellsFaultsBy};
 ghost use Rattle.disk_trait.specs.Effects.{Affects};
 ghost use Rattle.blsm_model.specs.Geometry.{file_length};
+ghost use Rattle.blsm_model.specs.declared.key.Key.{Key};
+ghost use Rattle.blsm_model.specs.declared.row.Value.{Value};
 ghost use Rattle.tree_file.specs.Tree.{map_of_tree};
-ghost use Rattle.tree_reading.specs.Reading.{HoldsFound, IsFound};
-ghost use Rattle.tree_runs.specs.Runs.{AreRunning};
-ghost use Rattle.tree_settling.specs.Settling.{KeepsMap, anywhere};
+ghost use Rattle.tree_reading.specs.Reading.{HoldsFound, IsFound, IsWhy};
+ghost use Rattle.tree_runs.specs.Runs.{AreGuides, AreRunning, first_tags};
+ghost use Rattle.tree_runs.specs.Holding.{AreGuided};
+ghost use Rattle.tree_settling.specs.Settling.{IsSettled, KeepsMap, LeavesMaps, MaySettle, SettlesOn, ShowsMap, anywhere};
 ghost use Rattle.recover_open.specs.Opening.{BeginsIn, HasBegun, IsReady, StandsEmpty};
 
+use crate::filters::guides_of;
 use disk_trait::Disk;
 use page_file::Broken;
+use std::alloc::Global;
 use tree_log::LoggedTables;
 use tree_reading::{Found, Place, Unreadable};
-use tree_runs::{MergeRoom, Runs};
+use tree_runs::{GuideRoom, MergeRoom, Runs};
 use tree_settling::{an_opening_has_all_before_it, settle};
 
 /// The components and the log of a store that was read.
@@ -23,14 +28,15 @@ pub(crate) struct Begun {
     pub(crate) log: LoggedTables,
 }
 
-// Begins with what was found. A deep merge runs where C1' has pages.
-fn begin(found: Found, room: MergeRoom) -> Begun
-    requires { (honest : Bool) × (file : List ℕ) × IsFound found honest file }
+// Begins with what was found, and the filters and fences of its components. A deep merge runs where C1' has pages.
+fn begin(found: Found, room: MergeRoom, guides: GuideRoom) -> Begun
+    requires found { (honest : Bool) × (file : List ℕ) × IsFound found honest file }
+    requires guides { AreGuides found.geometry guides }
     ensures sizes { result.runs.sizes ≡ found.geometry }
     ensures catalogue { result.runs.catalogue ≡ found.catalogue }
     ensures numbers { HasBegun result.runs result.log }
     ensures running { (honest : Bool) (file : List ℕ) → AreRunning honest file result.runs }
-    ensures lists { (file : List ℕ) → (holds : HoldsFound found file) → BeginsIn result.runs result.log holds.tree file }
+    ensures lists { (file : List ℕ) → (holds : HoldsFound found file) → AreGuided guides first_tags holds.tree → BeginsIn result.runs result.log holds.tree file }
 {
     let Found {
         geometry,
@@ -43,13 +49,33 @@ fn begin(found: Found, room: MergeRoom) -> Begun
     } = found;
     let _half = geometry.half();
     an_opening_has_all_before_it();
-    let runs = Runs::open(&geometry, catalogue, space, room);
+    let runs = Runs::open(&geometry, catalogue, space, room, guides);
     let log = LoggedTables::open(a, b, lanes);
     Begun { runs, log }
 }
 
-/// Begins with what was found, and settles it.
+// Settles what was begun with.
+fn settle_begun<D: Disk>(disk: &mut D, begun: Begun) -> Result<Begun, Unreadable>
+    requires may { MaySettle begun.runs begun.log (D.state disk.old) }
+    requires version { begun.runs.catalogue.version + 5 < 2 ^ 64 }
+    ensures leaves { LeavesMaps begun.runs begun.log (D.state disk.old) (D.state disk.new) }
+    ensures on { IfOk result (λ ready. SettlesOn begun.runs ready.runs begun.log ready.log (D.state disk.old) (D.state disk.new)) }
+    ensures settled { IfOk result (λ ready. IsSettled ready.runs ready.log × (ready.runs.catalogue.version ≤ begun.runs.catalogue.version + 5)) }
+    ensures why { (pairs : List (Key × Value)) → IsTrue (D.state disk.old).is_honest → ShowsMap begun.runs begun.log pairs (D.state disk.old)
+        → IfErr result (λ why. why ≡ Unreadable.Fault) }
+    ensures faults { TellsFaultsBy (Err Unreadable.Fault) result (D.state disk.old) (D.state disk.new) }
+{
+    let Begun { mut runs, mut log } = begun;
+    match settle(disk, &mut runs, &mut log) {
+        Ok(()) => Ok(Begun { runs, log }),
+        Err(Broken::Damaged(page)) => Err(Unreadable::Damaged(Place::Page(page))),
+        Err(Broken::Fault) => Err(Unreadable::Fault),
+    }
+}
+
+/// Begins with what was found, whose filters and fences it fills first, and settles it.
 pub(crate) fn settle_found<D: Disk>(
+    alloc: Global,
     disk: &mut D,
     found: Found,
     room: MergeRoom,
@@ -62,14 +88,10 @@ pub(crate) fn settle_found<D: Disk>(
     ensures stands { IsTrue (D.state disk.old).is_honest → Only (D.state disk.old).bytes (D.state disk.old).images → (holds : HoldsFound found (D.state disk.old).bytes)
         → IfOk result (λ begun. StandsEmpty begun.runs begun.log holds.tree (D.state disk.new)) }
     ensures why { IsTrue (D.state disk.old).is_honest → Only (D.state disk.old).bytes (D.state disk.old).images → HoldsFound found (D.state disk.old).bytes
-        → IfErr result (λ why. why ≡ Unreadable.Fault) }
+        → IfErr result (λ why. IsWhy why (D.state disk.old).bytes) }
     ensures effect { (calls : ℕ) × Affects anywhere (file_length found.geometry) calls (D.state disk.old) (D.state disk.new) }
     ensures faults { TellsFaultsBy (Err Unreadable.Fault) result (D.state disk.old) (D.state disk.new) }
 {
-    let Begun { mut runs, mut log } = begin(found, room);
-    match settle(disk, &mut runs, &mut log) {
-        Ok(()) => Ok(Begun { runs, log }),
-        Err(Broken::Damaged(page)) => Err(Unreadable::Damaged(Place::Page(page))),
-        Err(Broken::Fault) => Err(Unreadable::Fault),
-    }
+    let guides = guides_of(alloc, disk, &found)?;
+    settle_begun(disk, begin(found, room, guides))
 }

@@ -2,6 +2,7 @@
 #![tactic(auto)]
 
 mod beginning;
+mod filters;
 mod making;
 mod opening;
 

@@ -80,7 +80,7 @@ fn open_tree<D: Disk>(alloc: Global, disk: &mut D, room: MergeRoom) -> Result<Be
 {
     one_tree();
     let found = read_synced(alloc, disk)?;
-    settle_found(disk, found, room)
+    settle_found(alloc, disk, found, room)
 }
 
 /// Why a store was not opened, and the disk.
@@ -92,11 +92,11 @@ pub struct NotOpened<D: Drop> {
     pub why: Unreadable,
 }
 
-/// Opens the store on a disk as a core with these rooms for the callers. It syncs first, reads the store, and settles it by its merges: then C1'
-/// and both tables are empty, and the history has no entry.
+/// Opens the store on a disk as a core with these rooms for the callers. It syncs first, reads the store, fills the filters and fences of its
+/// components from their pages, and settles it by its merges: then C1' and both tables are empty, and the history has no entry.
 ///
 /// `NotAStore`, `Damaged` and `Worn` come as `read_tree` tells them, `Fault` just where the disk's count of faults rose, and `NoMemory` where memory
-/// was refused. The disk is given back, with what it had.
+/// was refused, also that for filters and fences, whose size is known once the geometry is read. The disk is given back, with what it had.
 pub fn open_store<D: Disk + Drop>(
     alloc: Global,
     disk: D,

@@ -1,39 +1,40 @@
--- What a cursor's head says of a key among the entries that were ahead, and among those that were given.
-use Rattle.std.proofs.Common.{◌≡◌, List, [], ◌∷◌, ◌++◌, Option, Some, None, refl, ap, sym, ◌∙◌}
-use Rattle.std.specs.Prelude.{cond, ℕ}
-use Rattle.std.specs.FinMap.{find as find_in}
-use Rattle.std.specs.List.{AllByRecursion}
+-- What some entries say of a key whose list they are part of: those that are left of a page, and those of the one page that its fences name.
+use Rattle.std.proofs.Common.{◌≡◌, ◌≢◌, ℕ, ◌+◌, ◌<◌, ◌≤◌, Bool, true, false, List, [], ◌∷◌, ◌++◌, length, Option, Some, None, Result, Ok, Err, IfOk, refl, ap, sym, subst, ◌∙◌, length-append, arith}
+use Rattle.std.specs.Prelude.{cond}
+use Rattle.std.specs.FinMap.{find as find_in, slice_cmp-IsAntisymmetric, nat_cmp-IsAntisymmetric}
+use Rattle.std.specs.List.{AllByRecursion, Contains, between}
 use Rattle.std.specs.List.Sorted.{IsStrictlySortedBy}
-use Rattle.std.specs.Ordering.{is_eq}
+use Rattle.std.specs.Ordering.{is_eq, ordering_reverse}
 use Rattle.std.specs.declared.cmp.Ordering.{Ordering}
 use Rattle.std.specs.declared.cmp.Ordering.TheVariants.{Less, Equal, Greater}
+use Rattle.std.proofs.lemmas.Bool.{false≢true}
 use Rattle.std.proofs.lemmas.Cmp.{nat_list_cmp_total}
-use Rattle.std.proofs.lemmas.List.{append-nil}
-use Rattle.std.proofs.lemmas.List.Elements.{All-nil, All-cons, All-head, All-tail, All-append}
+use Rattle.std.proofs.lemmas.List.Elements.{All-head, All-tail, Contains-append_left, Contains-append_right}
 use Rattle.blsm_model.specs.declared.key.Key.{Key}
 use Rattle.blsm_model.specs.Keys.{key_cmp}
 use Rattle.blsm_model.specs.Sizes.{Sizes}
+use Rattle.blsm_model.specs.Components.{no_page}
+use Rattle.blsm_model.specs.Geometry.{page_count}
+use Rattle.bloom_bits.specs.Fences.{IsBelowAll, IsPlaceOf}
+use Rattle.bloom_bits.specs.Guides.{fence_of, fences_of}
 use Rattle.record_delta.specs.declared.record.Rec.{Rec}
-use Rattle.page_file.specs.Entry.{keys_of, AreRising}
-use Rattle.run_cursor.specs.Cursor.{CursorState, from_head, compared, HasAhead, IsAdvanced}
-use Rattle.run_cursor.specs.Lookup.{IsAbove, IsReached}
+use Rattle.record_delta.specs.Entries.{Entries}
+use Rattle.entry_codec.specs.Spelling.{BeginsWith}
+use Rattle.page_file.specs.Entry.{IsPageEntry, entries_bytes, AreEntries, AreRising, keys_of}
+use Rattle.page_file.specs.declared.file.Broken.{Broken}
+use Rattle.page_file.specs.declared.file.Broken.TheVariants.{Fault, Damaged}
+use Rattle.page_file.specs.Page.{IsPageOf, used_by}
+use Rattle.page_file.proofs.PageLemmas.{page_same}
+use Rattle.page_file.specs.File.{page_at}
+use Rattle.page_file.specs.Component.{RunPage, AreChained, entries_of, first_number}
+use Rattle.run_cursor.specs.Below.{BeginsBelow, NoneBelow}
+use Rattle.run_cursor.specs.Lookup.{IsOnPage}
+use Rattle.run_cursor.proofs.CursorLemmas.{same_first, on_page}
 
--- the head that a key was compared with
-pub record ComparedWith (key : Key) (head : Option (Key × Rec)) (order : Ordering) : Type 0 where
-  pub entry : Key × Rec
-  pub head_is : head ≡ Some entry
-  pub order_is : key_cmp key entry.0 ≡ order
-
-pub compared_with : (key : Key) (head : Option (Key × Rec)) (order : Ordering) → compared key head ≡ Some order → ComparedWith key head order
-compared_with key None order is = absurd (cc)
-compared_with key (Some e) order is = record { entry = e; head_is = refl; order_is = cc }
-
-pub not_compared : (key : Key) (head : Option (Key × Rec)) (order : Option Ordering) → order ≡ compared key head → ((o : Ordering) → order ≡ Some o → ⊥) → head ≡ None
-not_compared key None order is none = refl
-not_compared key (Some e) order is none = absurd (none (key_cmp key e.0) is)
+-- ---- the order of keys
 
 -- a key that is below all of a list's isn't among them
-none_below : (key : Key) (es : List (Key × Rec)) → AllByRecursion (λ (k : Key). key_cmp key k ≡ Less) (keys_of es) → find_in key_cmp key es ≡ None
+none_below : (key : Key) (es : Entries) → AllByRecursion (λ (k : Key). key_cmp key k ≡ Less) (keys_of es) → find_in key_cmp key es ≡ None
 none_below key [] below = refl
 none_below key (e ∷ es) below = ap (λ o. cond (is_eq o) (Some e.1) (find_in key_cmp key es)) below.0 ∙ none_below key es below.1
 
@@ -41,74 +42,251 @@ below_all : (key low : Key) (keys : List Key) → key_cmp key low ≡ Less → A
 below_all key low [] less above = tt
 below_all key low (k ∷ keys) less above = (nat_list_cmp_total.trans key low k less above.0, below_all key low keys less above.1)
 
-rising_keys : (head : Option (Key × Rec)) (es : List (Key × Rec)) → AreRising (from_head head es) → AreRising es
+-- nor where it is below the first
+below_first : (key : Key) (e : Key × Rec) (es : Entries) → AreRising (e ∷ es) → key_cmp key e.0 ≡ Less → find_in key_cmp key (e ∷ es) ≡ None
 unfolding IsStrictlySortedBy
-rising_keys None es rise = rise
-rising_keys (Some h) es rise = rise.1
+below_first key e es rise less = none_below key (e ∷ es) (less, below_all key e.0 (keys_of es) less rise.0)
 
--- what the cursor came to, where these entries were ahead: the head, or that there were none
-pub record CameTo (sizes : Sizes) (new : CursorState) (rest : List (Key × Rec)) (key : Key) (file : List ℕ) (head : Key × Rec) : Type 0 where
-  pub more : List (Key × Rec)
-  pub ahead : HasAhead sizes new more file
-  pub further : key_cmp key head.0 ≡ Greater → find_in key_cmp key rest ≡ find_in key_cmp key more
-  pub here : key_cmp key head.0 ≡ Equal → find_in key_cmp key rest ≡ Some head.1
-  pub absent : key_cmp key head.0 ≡ Less → find_in key_cmp key rest ≡ None
-
-pub came_to : (sizes : Sizes) (old new : CursorState) (rest : List (Key × Rec)) (pages : List ℕ) (key : Key) (file : List ℕ) (head : Key × Rec) → AreRising (from_head old.head rest)
-    → IsAdvanced sizes new pages rest file → new.head ≡ Some head → CameTo sizes new rest key file head
+rising_tail : (e : Key × Rec) (es : Entries) → AreRising (e ∷ es) → AreRising es
 unfolding IsStrictlySortedBy
-came_to sizes old new [] pages key file head rise advanced is = absurd (let none = advanced.0 in cc)
-came_to sizes old new (e ∷ es) pages key file head rise advanced is =
-    let some = advanced.0 in
-    let same : e ≡ head = cc in
-    let keys = rising_keys old.head (e ∷ es) rise in
-    record {
-      more = es;
-      ahead = advanced.1;
-      further = λ above. ap (λ o. cond (is_eq o) (Some e.1) (find_in key_cmp key es)) (ap (λ (f : Key × Rec). key_cmp key f.0) same ∙ above);
-      here = λ equal. ap (λ o. cond (is_eq o) (Some e.1) (find_in key_cmp key es)) (ap (λ (f : Key × Rec). key_cmp key f.0) same ∙ equal) ∙ ap (λ (f : Key × Rec). Some f.1) same;
-      absent = λ below. let less = ap (λ (f : Key × Rec). key_cmp key f.0) same ∙ below in
-          ap (λ o. cond (is_eq o) (Some e.1) (find_in key_cmp key es)) less ∙ none_below key es (below_all key e.0 (keys_of es) less keys.0);
-    }
-
--- where the cursor came to the end, no entries were ahead
-pub none_ahead : (sizes : Sizes) (new : CursorState) (rest : List (Key × Rec)) (pages : List ℕ) (key : Key) (file : List ℕ) → IsAdvanced sizes new pages rest file → new.head ≡ None → find_in key_cmp key rest ≡ None
-none_ahead sizes new [] pages key file advanced is = refl
-none_ahead sizes new (e ∷ es) pages key file advanced is = absurd (let some = advanced.0 in cc)
+rising_tail e es rise = rise.1
 
 -- a key that is above some entries has the record that it has among those behind them
-pub past : (key : Key) (front back : List (Key × Rec)) → IsAbove key front → find_in key_cmp key (front ++ back) ≡ find_in key_cmp key back
+abbrev pub IsAbove : Key → Entries → Type 0
+IsAbove key entries = AllByRecursion (λ (e : Key × Rec). key_cmp key e.0 ≡ Greater) entries
+
+past : (key : Key) (front back : Entries) → IsAbove key front → find_in key_cmp key (front ++ back) ≡ find_in key_cmp key back
 past key [] back above = refl
-past key (e ∷ es) back above =
-    ap (λ o. cond (is_eq o) (Some e.1) (find_in key_cmp key (es ++ back))) (All-head (λ (f : Key × Rec). key_cmp key f.0 ≡ Greater) e es above)
-    ∙ past key es back (All-tail (λ (f : Key × Rec). key_cmp key f.0 ≡ Greater) e es above)
+past key (e ∷ es) back above = ap (λ o. cond (is_eq o) (Some e.1) (find_in key_cmp key (es ++ back))) above.0 ∙ past key es back above.1
 
-pub none_above : (key : Key) (given : List (Key × Rec)) → IsAbove key given → find_in key_cmp key given ≡ None
-none_above key given above = ap (find_in key_cmp key) (sym (append-nil given)) ∙ past key given [] above
+-- one that isn't among those behind has the one that it has among those in front
+before : (key : Key) (front back : Entries) → find_in key_cmp key back ≡ None → find_in key_cmp key (front ++ back) ≡ find_in key_cmp key front
+before key [] back none = none
+before key (e ∷ es) back none = ap (λ r. cond (is_eq (key_cmp key e.0)) (Some e.1) r) (before key es back none)
 
-less_stops : (o : Ordering) → o ≡ Less → o ≡ Greater → ⊥
-less_stops o less greater = cc
+-- ---- what is left of a page
 
-equal_stops : (o : Ordering) → o ≡ Equal → o ≡ Greater → ⊥
-equal_stops o equal greater = cc
+-- these entries have the bytes that are left, and the record that the list has of the key
+pub record Left (key : Key) (entries : Entries) (rest : List ℕ) : Type 0 where
+  pub left : Entries
+  pub each : AreEntries left
+  pub rise : AreRising left
+  pub rest_is : rest ≡ entries_bytes left
+  pub same : find_in key_cmp key entries ≡ find_in key_cmp key left
 
--- what one entry more says of a key that is above those before it
-pub record Says (key : Key) (given : List (Key × Rec)) (head : Key × Rec) : Type 0 where
-  pub further : key_cmp key head.0 ≡ Greater → IsAbove key (given ++ head ∷ [])
-  pub here : key_cmp key head.0 ≡ Equal → (Some head.1 ≡ find_in key_cmp key (given ++ head ∷ [])) × IsReached key (given ++ head ∷ [])
-  pub absent : key_cmp key head.0 ≡ Less → (None ≡ find_in key_cmp key (given ++ head ∷ [])) × IsReached key (given ++ head ∷ [])
+pub all_left : (key : Key) (entries : Entries) (bytes : List ℕ) → AreEntries entries → AreRising entries → bytes ≡ entries_bytes entries → Left key entries bytes
+all_left key entries bytes each rise is = record { left = entries; each = each; rise = rise; rest_is = is; same = refl }
 
-pub says : (key : Key) (given : List (Key × Rec)) (head : Key × Rec) → IsAbove key given → Says key given head
-says key given head above = record {
-  further = λ greater.
-      All-append (λ (e : Key × Rec). key_cmp key e.0 ≡ Greater) given (head ∷ []) above
-      (All-cons (λ (e : Key × Rec). key_cmp key e.0 ≡ Greater) head [] greater (All-nil (λ (e : Key × Rec). key_cmp key e.0 ≡ Greater)));
-  here = λ equal. (
-    sym (past key given (head ∷ []) above ∙ ap (λ o. cond (is_eq o) (Some head.1) None) equal),
-    record { below = given; last = head; entries_are = refl; above = above; not_above = equal_stops (key_cmp key head.0) equal },
-  );
-  absent = λ less. (
-    sym (past key given (head ∷ []) above ∙ ap (λ o. cond (is_eq o) (Some head.1) None) less),
-    record { below = given; last = head; entries_are = refl; above = above; not_above = less_stops (key_cmp key head.0) less },
-  );
+pub one_fewer : (key : Key) (entries : Entries) (rest behind : List ℕ) (len : ℕ) → Left key entries rest → BeginsBelow key rest len behind → Left key entries behind
+one_fewer key entries rest behind len l b =
+    let f = same_first l.left b.entry behind l.each b.right (sym l.rest_is ∙ b.parts) in
+    record {
+      left = f.more;
+      each = All-tail IsPageEntry b.entry f.more (subst AreEntries f.here_is l.each);
+      rise = rising_tail b.entry f.more (subst AreRising f.here_is l.rise);
+      rest_is = f.rest_is;
+      same = l.same ∙ ap (find_in key_cmp key) f.here_is ∙ ap (λ o. cond (is_eq o) (Some b.entry.1) (find_in key_cmp key f.more)) b.above;
+    }
+
+-- where no entry is at the front, none is left
+pub left_none : (key : Key) (entries : Entries) (rest : List ℕ) → Left key entries rest → ((k : Key) (r : Rec) → BeginsWith rest k r → ⊥) → None ≡ find_in key_cmp key entries
+left_none key entries rest l none = sym (l.same ∙ nothing l.left l.each l.rest_is)
+  where
+    nothing : (left : Entries) → AreEntries left → rest ≡ entries_bytes left → find_in key_cmp key left ≡ None
+    nothing [] each is = refl
+    nothing (e ∷ es) each is = absurd (none e.0 e.1 (record { entry = All-head IsPageEntry e es each; rest = entries_bytes es; parts = is }))
+
+-- where one is, which the key isn't above, it is the key's or there is none
+pub record Decides (key : Key) (entries : Entries) (found : Key) (rec : Rec) : Type 0 where
+  pub here : key_cmp key found ≡ Equal → Some rec ≡ find_in key_cmp key entries
+  pub absent : (key_cmp key found ≢ Equal) → None ≡ find_in key_cmp key entries
+
+pub first_decides : (key : Key) (entries : Entries) (rest : List ℕ) (found : Key) (rec : Rec) → Left key entries rest → NoneBelow key rest → BeginsWith rest found rec → Decides key entries found rec
+first_decides key entries rest found rec l none b =
+    let f = same_first l.left (found, rec) b.rest l.each b.entry (sym l.rest_is ∙ b.parts) in
+    let same : find_in key_cmp key entries ≡ find_in key_cmp key ((found, rec) ∷ f.more) = l.same ∙ ap (find_in key_cmp key) f.here_is in
+    record {
+      here = λ equal. sym (same ∙ ap (λ o. cond (is_eq o) (Some rec) (find_in key_cmp key f.more)) equal);
+      absent = λ other. sym (same ∙ below_first key (found, rec) f.more (subst AreRising f.here_is l.rise) (less other (none (found, rec) b.rest b.entry b.parts)));
+    }
+  where
+    by : (o : Ordering) → o ≢ Equal → o ≢ Greater → o ≡ Less
+    by Less equal greater = refl
+    by Equal equal greater = absurd (equal refl)
+    by Greater equal greater = absurd (greater refl)
+
+    less : key_cmp key found ≢ Equal → key_cmp key found ≢ Greater → key_cmp key found ≡ Less
+    less equal greater = by (key_cmp key found) equal greater
+
+-- ---- the page that the fences name
+
+tied : (a b : Key) → key_cmp a b ≡ Equal → a ≡ b
+tied a b e = slice_cmp-IsAntisymmetric nat_cmp-IsAntisymmetric a b e
+
+-- a key that no entry has isn't found
+pub not_found : (key : Key) (es : Entries) → (Contains (keys_of es) key → ⊥) → find_in key_cmp key es ≡ None
+not_found key [] none = refl
+not_found key (e ∷ es) none =
+    elim (key_cmp key e.0) as (λ o. key_cmp key e.0 ≡ o → cond (is_eq o) (Some e.1) (find_in key_cmp key es) ≡ None) [
+      | Less ↦ λ is. not_found key es (λ has. none (Contains-append_right (e.0 ∷ []) (keys_of es) key has))
+      | Equal ↦ λ is. absurd (none (subst (Contains (e.0 ∷ keys_of es)) (sym (tied key e.0 is)) (Contains-append_left (e.0 ∷ []) (keys_of es) e.0 (0, omega arith, refl))))
+      | Greater ↦ λ is. not_found key es (λ has. none (Contains-append_right (e.0 ∷ []) (keys_of es) key has))
+    ] refl
+
+-- a page of the list has this number, and the list's record of the key
+pub record OnPage (sizes : Sizes) (key : Key) (n : ℕ) (pages : List RunPage) (file : List ℕ) : Type 0 where
+  pub next : Option ℕ
+  pub entries : Entries
+  pub inside : n < page_count sizes
+  pub valid : IsPageOf (page_count sizes) next entries (page_at sizes n file)
+  pub same : find_in key_cmp key (entries_of pages) ≡ find_in key_cmp key entries
+
+-- each key of one list is below those of another, behind which it rises
+front_part : {X : Type 0} (P : X → Type 0) (xs ys : List X) → AllByRecursion P (xs ++ ys) → AllByRecursion P xs
+front_part P [] ys all = tt
+front_part P (x ∷ xs) ys all = (all.0, front_part P xs ys all.1)
+
+back_part : {X : Type 0} (P : X → Type 0) (xs ys : List X) → AllByRecursion P (xs ++ ys) → AllByRecursion P ys
+back_part P [] ys all = all
+back_part P (x ∷ xs) ys all = back_part P xs ys all.1
+
+keys_below : (low : Key) (es : Entries) → AllByRecursion (λ (k : Key). key_cmp low k ≡ Less) (keys_of es) → AllByRecursion (λ (y : Key × Rec). key_cmp low y.0 ≡ Less) es
+keys_below low [] all = tt
+keys_below low (e ∷ es) all = (all.0, keys_below low es all.1)
+
+rising_apart : (xs ys : Entries) → AreRising (xs ++ ys) → AllByRecursion (λ (x : Key × Rec). AllByRecursion (λ (y : Key × Rec). key_cmp x.0 y.0 ≡ Less) ys) xs
+unfolding IsStrictlySortedBy
+rising_apart [] ys rise = tt
+rising_apart (x ∷ xs) ys rise = (back_part (λ (y : Key × Rec). key_cmp x.0 y.0 ≡ Less) xs ys (keys_below x.0 (xs ++ ys) rise.0), rising_apart xs ys rise.1)
+
+rising_behind : (xs ys : Entries) → AreRising (xs ++ ys) → AreRising ys
+rising_behind [] ys rise = rise
+rising_behind (x ∷ xs) ys rise = rising_behind xs ys (rising_tail x (xs ++ ys) rise)
+
+-- so a key that is above all that is below the latter is above the former
+all_above : (key : Key) (xs ys : Entries) → AllByRecursion (λ (x : Key × Rec). AllByRecursion (λ (y : Key × Rec). key_cmp x.0 y.0 ≡ Less) ys) xs
+    → ((x : Key) → AllByRecursion (λ (y : Key × Rec). key_cmp x y.0 ≡ Less) ys → key_cmp key x ≡ Greater) → IsAbove key xs
+all_above key [] ys apart above = tt
+all_above key (x ∷ xs) ys apart above = (above x.0 apart.0, all_above key xs ys apart.1 above)
+
+-- a key that isn't below one is above a lesser one
+above_lesser : (key first x : Key) → key_cmp key first ≢ Less → key_cmp x first ≡ Less → key_cmp key x ≡ Greater
+above_lesser key first x not_below less = nat_list_cmp_total.antisymm key x ∙ ap ordering_reverse (by (key_cmp first key) refl)
+  where
+    by : (o : Ordering) → key_cmp first key ≡ o → key_cmp x key ≡ Less
+    by Less is = nat_list_cmp_total.trans x first key less is
+    by Equal is = subst (λ (k : Key). key_cmp x k ≡ Less) (tied first key is) less
+    by Greater is = absurd (not_below (nat_list_cmp_total.antisymm key first ∙ ap ordering_reverse is))
+
+-- ---- where no fence isn't above the key
+
+none_on_page : (key : Key) (number : ℕ) (es rest : Entries) (fences : List (Key × ℕ)) → 1 ≤ length es → AreRising (es ++ rest) → IsBelowAll key (fence_of number es ++ fences) → find_in key_cmp key (es ++ rest) ≡ None
+none_on_page key number [] rest fences some rise below = absurd (omega (arith, some))
+none_on_page key number (e ∷ es) rest fences some rise below = below_first key e (es ++ rest) rise (All-head (λ (f : Key × ℕ). key_cmp key f.0 ≡ Less) (e.0, number) fences below)
+
+pub none_on : (sizes : Sizes) (key : Key) (file : List ℕ) (pages : List RunPage) (end : Option ℕ) → AreChained sizes pages end file → AreRising (entries_of pages) → IsBelowAll key (fences_of pages)
+    → find_in key_cmp key (entries_of pages) ≡ None
+none_on sizes key file [] end chain rise below = refl
+none_on sizes key file (p ∷ ps) end chain rise below = let some = chain.1.content.head.some in none_on_page key p.number p.entries (entries_of ps) (fences_of ps) some rise below
+
+-- ---- where one is the last that isn't
+
+-- the page, and what is below all entries of the list is below the key
+record Named (sizes : Sizes) (key : Key) (n : ℕ) (pages : List RunPage) (file : List ℕ) : Type 0 where
+  pub on : OnPage sizes key n pages file
+  pub above : (x : Key) → AllByRecursion (λ (y : Key × Rec). key_cmp x y.0 ≡ Less) (entries_of pages) → key_cmp key x ≡ Greater
+
+no_fence : {X : Type 0} (before : List X) (x : X) (behind : List X) → [] ≡ before ++ x ∷ behind → ⊥
+no_fence before x behind is = omega (arith, ap length is, length-append before (x ∷ behind))
+
+named_first : (sizes : Sizes) (key : Key) (n : ℕ) (file : List ℕ) (number : ℕ) (es : Entries) (ps : List RunPage) (end : Option ℕ)
+    → 1 ≤ length es → number < page_count sizes → IsPageOf (page_count sizes) (first_number ps end) es (page_at sizes number file) → AreChained sizes ps end file → AreRising (es ++ entries_of ps)
+    → (IsPlaceOf key n (fences_of ps) → Named sizes key n ps file)
+    → (before : List (Key × ℕ)) (first : Key) (behind : List (Key × ℕ)) → fence_of number es ++ fences_of ps ≡ before ++ (first, n) ∷ behind → key_cmp key first ≢ Less → IsBelowAll key behind
+    → Named sizes key n (record { number = number; entries = es } ∷ ps) file
+named_first sizes key n file number [] ps end some inside valid chain rise later before first behind parts not_below below = absurd (omega (arith, some))
+named_first sizes key n file number (e ∷ es) ps end some inside valid chain rise later [] first behind parts not_below below =
+    let rest_is : fences_of ps ≡ behind = cc in
+    let fence_is : (e.0, number) ≡ (first, n) = cc in
+    let number_is : number ≡ n = ap (λ (f : Key × ℕ). f.1) fence_is in
+    let first_is : e.0 ≡ first = ap (λ (f : Key × ℕ). f.0) fence_is in
+    let none = none_on sizes key file ps end chain (rising_behind (e ∷ es) (entries_of ps) rise) (subst (IsBelowAll key) (sym rest_is) below) in
+    record {
+      on = record {
+        next = first_number ps end;
+        entries = e ∷ es;
+        inside = subst (λ m. m < page_count sizes) number_is inside;
+        valid = subst (λ m. IsPageOf (page_count sizes) (first_number ps end) (e ∷ es) (page_at sizes m file)) number_is valid;
+        same = before key (e ∷ es) (entries_of ps) none;
+      };
+      above = λ x all. above_lesser key first x not_below (subst (λ (k : Key). key_cmp x k ≡ Less) first_is all.0);
+    }
+named_first sizes key n file number (e ∷ es) ps end some inside valid chain rise later (b ∷ bs) first behind parts not_below below =
+    let rest_is : fences_of ps ≡ bs ++ (first, n) ∷ behind = cc in
+    let one = later (record { before = bs; first = first; behind = behind; parts = rest_is; not_below = not_below; below_others = below }) in
+    record {
+      on = record {
+        next = one.on.next;
+        entries = one.on.entries;
+        inside = one.on.inside;
+        valid = one.on.valid;
+        same = past key (e ∷ es) (entries_of ps) (all_above key (e ∷ es) (entries_of ps) (rising_apart (e ∷ es) (entries_of ps) rise) one.above) ∙ one.on.same;
+      };
+      above = λ x all. one.above x (back_part (λ (y : Key × Rec). key_cmp x y.0 ≡ Less) (e ∷ es) (entries_of ps) all);
+    }
+
+named : (sizes : Sizes) (key : Key) (n : ℕ) (file : List ℕ) (pages : List RunPage) (end : Option ℕ) → AreChained sizes pages end file → AreRising (entries_of pages) → IsPlaceOf key n (fences_of pages)
+    → Named sizes key n pages file
+named sizes key n file [] end chain rise place = absurd (no_fence place.before (place.first, n) place.behind place.parts)
+named sizes key n file (p ∷ ps) end chain rise place =
+    let some = chain.1.content.head.some in
+    named_first sizes key n file p.number p.entries ps end some chain.0 chain.1 chain.2 rise
+    (λ later. named sizes key n file ps end chain.2 (rising_behind p.entries (entries_of ps) rise) later)
+    place.before place.first place.behind place.parts place.not_below place.below_others
+
+pub on_page_of : (sizes : Sizes) (key : Key) (n : ℕ) (file : List ℕ) (pages : List RunPage) (end : Option ℕ) → AreChained sizes pages end file → AreRising (entries_of pages) → IsPlaceOf key n (fences_of pages)
+    → OnPage sizes key n pages file
+on_page_of sizes key n file pages end chain rise place = (named sizes key n file pages end chain rise place).on
+
+-- ---- what a lookup answers
+
+eq_is : (o : Ordering) → is_eq o ≡ true → o ≡ Equal
+eq_is Less test = absurd (false≢true test)
+eq_is Equal test = refl
+eq_is Greater test = absurd (false≢true test)
+
+pub same_key : (key found : Key) (order : Ordering) (test : Bool) → order ≡ key_cmp key found → test ≡ is_eq order → test ≡ true → key_cmp key found ≡ Equal
+same_key key found order test is tests holds = eq_is (key_cmp key found) (ap is_eq (sym is) ∙ sym tests ∙ holds)
+
+pub other_key : (key found : Key) (order : Ordering) (test : Bool) → order ≡ key_cmp key found → test ≡ is_eq order → test ≡ false → key_cmp key found ≢ Equal
+other_key key found order test is tests fails equal = false≢true (sym fails ∙ tests ∙ ap is_eq (is ∙ equal))
+
+pub no_pages : (key : Key) (pages : List RunPage) (n : ℕ) → length pages ≡ n → n ≡ 0 → find_in key_cmp key (entries_of pages) ≡ None
+no_pages key [] n long none = refl
+no_pages key (p ∷ ps) n long none = absurd (omega (arith, long, none))
+
+pub some_pages : (pages : List RunPage) (n : ℕ) → length pages ≡ n → (n ≡ 0 → ⊥) → pages ≡ [] → ⊥
+some_pages pages n long some none = some (sym long ∙ ap (length {A = RunPage}) none)
+
+-- the answer of the page that the fences name is the list's
+pub listed : (H : Type 0) (sizes : Sizes) (key : Key) (n : ℕ) (pages : List RunPage) (file : List ℕ) (result : Result (Option Rec) Broken) → H → page_count sizes ≤ no_page → OnPage sizes key n pages file
+    → IfOk result (λ found. H → IsOnPage sizes n key found file)
+    → ((m : ℕ) → result ≡ Err (Damaged m) → H → (m ≡ n) × ((next : Option ℕ) (entries : Entries) → n < page_count sizes → IsPageOf (page_count sizes) next entries (page_at sizes n file) → ⊥))
+    → result ≢ Err Fault → result ≡ Ok (find_in key_cmp key (entries_of pages))
+listed H sizes key n pages file (Ok found) honest few on told damaged other =
+    let page = told honest in
+    let same = page_same (page_count sizes) page.next on.next page.entries on.entries (page_at sizes n file) few page.valid on.valid in
+    ap Ok (page.found_is ∙ ap (find_in key_cmp key) same.1 ∙ sym on.same)
+listed H sizes key n pages file (Err Fault) honest few on told damaged other = absurd (other refl)
+listed H sizes key n pages file (Err (Damaged m)) honest few on told damaged other = absurd ((damaged m refl honest).1 on.next on.entries on.inside on.valid)
+
+-- the page's answer, where its entries' bytes were looked through
+pub on_this : (sizes : Sizes) (n : ℕ) (key : Key) (found : Option Rec) (file page : List ℕ) (used : ℕ) (next : Option ℕ) (entries : Entries) → n < page_count sizes → IsPageOf (page_count sizes) next entries page → page ≡ page_at sizes n file
+    → used ≡ used_by entries → ((es : Entries) → AreEntries es → AreRising es → between 8 (8 + used) page ≡ entries_bytes es → found ≡ find_in key_cmp key es) → IsOnPage sizes n key found file
+on_this sizes n key found file page used next entries inside valid reads used_is looked = record {
+  next = next;
+  entries = entries;
+  inside = inside;
+  valid = subst (IsPageOf (page_count sizes) next entries) reads valid;
+  found_is = looked entries valid.content.each valid.content.rise (ap (λ u. between 8 (8 + u) page) used_is ∙ on_page (page_count sizes) next entries page valid);
 }

@@ -4,5 +4,5 @@ pub mod FindLemmas
 pub mod GivenLemmas
 mod AheadLemmas
 mod FullLemmas
+mod RebuildLemmas
 pub mod BelowLemmas
-pub mod SkipLemmas

@@ -1,8 +1,7 @@
 -- What contracts see of a cursor, and where it stands in its component.
-use Rattle.std.specs.Prelude.{◌≡◌, ◌↔◌, ℕ, ◌+◌, ◌-◌, ◌*◌, ◌<◌, ◌≤◌, List, [], ◌∷◌, ◌++◌, length, drop, Option, Some, None, IsSome, ⊤}
-use Rattle.std.specs.List.{Contains, between, last_or}
+use Rattle.std.specs.Prelude.{◌≡◌, ◌↔◌, ℕ, ◌+◌, ◌-◌, ◌*◌, ◌<◌, ◌≤◌, List, [], ◌∷◌, ◌++◌, length, Option, Some, None, IsSome, ⊤}
+use Rattle.std.specs.List.{Contains, between}
 use Rattle.blsm_model.specs.Format.{page_length, least_full}
-use Rattle.std.specs.declared.cmp.Ordering.{Ordering}
 use Rattle.std.specs.declared.cmp.Ordering.TheVariants.{Less}
 use Rattle.blsm_model.specs.declared.component.Component.{Component}
 use Rattle.blsm_model.specs.declared.key.Key.{Key}
@@ -35,15 +34,6 @@ started run = record { head = None; behind = []; next = run.first; pages = run.p
 abbrev pub from_head : Option (Key × Rec) → Entries → Entries
 from_head None entries = entries
 from_head (Some head) entries = head ∷ entries
-
--- how a key compares with the head's, and the head's record
-abbrev pub compared : Key → Option (Key × Rec) → Option Ordering
-compared key None = None
-compared key (Some head) = Some (key_cmp key head.0)
-
-abbrev pub record_at : Option (Key × Rec) → Option Rec
-record_at None = None
-record_at (Some head) = Some head.1
 
 -- What each cursor keeps: there are entries behind the head on its page, which rise from the head on, and no more of them than the
 -- component's numbers say; on its last page just as many.
@@ -114,22 +104,6 @@ abbrev pub Rises : Option (Key × Rec) → Option (Key × Rec) → Type 0
 Rises (Some old) (Some new) = key_cmp old.0 new.0 ≡ Less
 Rises (Some old) None = ⊤
 Rises None new = ⊤
-
--- ---- over several entries
-
--- the cursor with its head as it was, and so many entries in so many bytes fewer behind it
-abbrev pub passed : ℕ → ℕ → CursorState → CursorState
-passed count len cursor = record cursor { behind = drop len cursor.behind; entries = cursor.entries - count; weight = cursor.weight - len }
-
--- the cursor went on over these entries of its page, to the last of them
-pub record IsSkipped (old new : CursorState) (over : Entries) : Type 0 where
-  pub each : AreEntries over
-  pub head_is : new.head ≡ last_or old.head over
-  pub behind_is : old.behind ≡ entries_bytes over ++ new.behind
-  pub next_is : new.next ≡ old.next
-  pub pages_is : new.pages ≡ old.pages
-  pub entries_is : old.entries ≡ length over + new.entries
-  pub weight_is : old.weight ≡ entries_weight over + new.weight
 
 -- ---- what the pages weigh
 

@@ -1,45 +1,36 @@
--- What a component's entries say of a key, as far as they are read.
-use Rattle.page_file.specs.Component.{HasList}
-use Rattle.std.specs.Prelude.{◌≡◌, ◌≢◌, ◌⊎◌, ℕ, ◌+◌, ◌≤◌, List, [], ◌∷◌, ◌++◌, Option}
-use Rattle.std.specs.declared.cmp.Ordering.TheVariants.{Greater}
+-- What one page of a component says of a key.
+use Rattle.std.specs.Prelude.{◌≡◌, ◌⊎◌, ℕ, ◌<◌, ◌≤◌, List, [], Option, None}
 use Rattle.std.specs.FinMap.{find}
-use Rattle.std.specs.List.{All}
-use Rattle.blsm_model.specs.declared.component.Component.{Component}
 use Rattle.blsm_model.specs.declared.key.Key.{Key}
 use Rattle.blsm_model.specs.Keys.{key_cmp}
 use Rattle.blsm_model.specs.Sizes.{Sizes}
+use Rattle.blsm_model.specs.Geometry.{page_count}
+use Rattle.bloom_bits.specs.BitSet.{BitState}
+use Rattle.bloom_bits.specs.Fences.{FencesState, IsPlaceOf}
+use Rattle.bloom_bits.specs.Guides.{Guide}
 use Rattle.record_delta.specs.declared.record.Rec.{Rec}
-use Rattle.run_cursor.specs.Cursor.{CursorState, IsDamageAt}
-use Rattle.run_cursor.specs.Given.{HasGiven}
+use Rattle.record_delta.specs.Entries.{Entries}
+use Rattle.page_file.specs.Component.{RunPage}
+use Rattle.page_file.specs.Page.{IsPageOf}
+use Rattle.page_file.specs.File.{page_at}
 
--- the key is above each of these entries
-abbrev pub IsAbove : Key → List (Key × Rec) → Type 0
-IsAbove key entries = All (λ e. key_cmp key e.0 ≡ Greater) entries
+-- Filter and fences are those of these pages; where there are none, nobody asks them.
+abbrev pub IsGuided : BitState → FencesState → List RunPage → Type 0
+IsGuided filter fences pages = (pages ≡ [] → ⊥) → Guide filter fences pages
 
--- the key is above all of these entries but the last, and not above that
-pub record IsReached (key : Key) (entries : List (Key × Rec)) : Type 0 where
-  pub below : List (Key × Rec)
-  pub last : Key × Rec
-  pub entries_are : entries ≡ below ++ last ∷ []
-  pub above : IsAbove key below
-  pub not_above : key_cmp key last.0 ≢ Greater
+-- in this file the page is a valid one, and what was found is the record that its entries have of the key
+pub record IsOnPage (sizes : Sizes) (n : ℕ) (key : Key) (found : Option Rec) (file : List ℕ) : Type 0 where
+  pub next : Option ℕ
+  pub entries : Entries
+  pub inside : n < page_count sizes
+  pub valid : IsPageOf (page_count sizes) next entries (page_at sizes n file)
+  pub found_is : found ≡ find key_cmp key entries
 
--- This was found of the key, by so many calls of the disk. In this file the component begins with these entries, and what was found is the
--- record that they have of the key. They reach the key, or the component reads as them and the key is above them all.
-pub record IsFound (sizes : Sizes) (run : Component) (key : Key) (found : Option Rec) (calls : ℕ) (file : List ℕ) : Type 0 where
-  pub cursor : CursorState
-  pub given : List (Key × Rec)
-  pub begins : HasGiven sizes run cursor given file
-  pub found_is : found ≡ find key_cmp key given
-  pub enough : IsReached key given ⊎ (HasList sizes run given file × IsAbove key given)
-  -- one for each of their pages
-  pub calls_are : calls + cursor.pages ≤ run.pages
+-- it was found on the page that the fences name, by so many calls of the disk, or nothing was looked for
+abbrev pub IsFoundBy : Sizes → List (Key × ℕ) → Key → Option Rec → ℕ → List ℕ → Type 0
+IsFoundBy sizes fences key found calls file = ((found ≡ None) × (calls ≡ 0)) ⊎ ((n : ℕ) × IsPlaceOf key n fences × IsOnPage sizes n key found file × (calls ≤ 1))
 
--- In this file the component begins with entries that the key is above, and behind their pages the page of this number isn't a valid
--- one, or doesn't go on.
-pub record IsFirstDamage (sizes : Sizes) (run : Component) (key : Key) (n : ℕ) (file : List ℕ) : Type 0 where
-  pub cursor : CursorState
-  pub given : List (Key × Rec)
-  pub begins : HasGiven sizes run cursor given file
-  pub above : IsAbove key given
-  pub damage : IsDamageAt sizes cursor n file
+-- the fences name this page for the key, and it isn't a valid page of the store
+pub record IsDamaged (sizes : Sizes) (fences : List (Key × ℕ)) (key : Key) (n : ℕ) (file : List ℕ) : Type 0 where
+  pub place : IsPlaceOf key n fences
+  pub damaged : (next : Option ℕ) (entries : Entries) → n < page_count sizes → IsPageOf (page_count sizes) next entries (page_at sizes n file) → ⊥

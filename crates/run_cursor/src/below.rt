@@ -1,17 +1,14 @@
-//! The entries at the front of a page's bytes that are below a key. They are found without a copy of a key or a record.
-ghost use Rattle.std.specs.Prelude.{ℕ, List, IfSome, IfNone};
-ghost use Rattle.run_cursor.specs.Below.{BeginsBelow, NoneBelow, AreBelow};
+//! The record of a key among the entries in bytes. It is found without a copy of the keys and records before it.
+ghost use Rattle.std.specs.Prelude.{◌≡◌, ℕ, List, IfSome, IfNone};
+ghost use Rattle.std.specs.FinMap.{find as find_in};
+ghost use Rattle.blsm_model.specs.Keys.{key_cmp};
+ghost use Rattle.record_delta.specs.Entries.{Entries};
+ghost use Rattle.page_file.specs.Entry.{entries_bytes, AreEntries, AreRising};
+ghost use Rattle.run_cursor.specs.Below.{BeginsBelow, NoneBelow};
 
-use entry_codec::peek_key;
-
-/// Some entries at the front of bytes.
-#[derive(Clone, Copy)]
-pub struct Front {
-    /// How many there are.
-    pub count: u64,
-    /// How many bytes they have.
-    pub len: usize,
-}
+use blsm_model::Key;
+use entry_codec::{decode, peek_key};
+use record_delta::Rec;
 
 // The length in bytes of the entry at the front, and the bytes behind it, if its key is below this one.
 fn first_below<'a>(bytes: &'a [u8], key: &[u8]) -> Option<(usize, &'a [u8])>
@@ -28,18 +25,18 @@ fn first_below<'a>(bytes: &'a [u8], key: &[u8]) -> Option<(usize, &'a [u8])>
     }
 }
 
-/// The entries at the front whose keys are below this one, without the last of them; `None` where there are none.
-pub fn before_last_below(bytes: &[u8], key: &[u8]) -> Option<Front>
-    ensures below { IfSome result (λ front. (rest : List ℕ) × AreBelow key.now bytes.now front.count front.len rest × NoneBelow key.now rest) }
-    ensures none { IfNone result (NoneBelow key.now bytes.now) }
+/// The record of a key among entries whose keys rise, if one of them has it.
+pub fn record_among(bytes: &[u8], key: &Key) -> Option<Rec>
+    ensures { (entries : Entries) → AreEntries entries → AreRising entries → bytes.now ≡ entries_bytes entries → result ≡ find_in key_cmp key.now entries }
 {
-    let (mut last, mut rest) = first_below(bytes, key)?;
-    let mut front = Front { count: 0, len: 0 };
-    while let Some((len, behind)) = first_below(rest, key) {
-        front.count += 1;
-        front.len += last;
-        last = len;
+    let mut rest = bytes;
+    while let Some((_, behind)) = first_below(rest, key.as_bytes()) {
         rest = behind;
     }
-    Some(front)
+    let (found, rec, _) = decode(rest)?;
+    if key.cmp(&found).is_eq() {
+        Some(rec)
+    } else {
+        None
+    }
 }

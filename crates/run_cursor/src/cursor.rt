@@ -14,18 +14,14 @@ ghost use Rattle.page_file.specs.Page.{IsPageOf};
 ghost use Rattle.blsm_model.specs.Components.{empty_component};
 ghost use Rattle.page_file.specs.File.{Reads};
 ghost use Rattle.page_file.specs.Component.{numbers_of, HasList};
-ghost use Rattle.run_cursor.specs.Cursor.{started, from_head, HasAhead, IsAdvanced, AreInNumber, PageGoesOn, GoesOnAt, IsStepped, IsSkipped, IsDamageAt, Rises, AreFull, turned, passed, compared, record_at};
-ghost use Rattle.run_cursor.specs.Below.{NoneBelow};
-ghost use Rattle.run_cursor.specs.Lookup.{IsAbove};
+ghost use Rattle.run_cursor.specs.Cursor.{started, from_head, HasAhead, IsAdvanced, AreInNumber, PageGoesOn, GoesOnAt, IsStepped, IsDamageAt, Rises, AreFull, turned};
 ghost use Rattle.run_cursor.specs.Given.{HasGiven, HasGivenMore};
 
-use crate::below::{Front, before_last_below};
 use blsm_model::{Component, Geometry, Key};
 use disk_trait::Disk;
 use entry_codec::{decode, peek_key};
 use page_file::{Broken, PAGE_HEAD_LEN, PAGE_LEN, PageHead, number_of, read_page};
 use record_delta::{Rec, Stream};
-use std::cmp::Ordering;
 use std::marker::Model;
 
 /// A place among the entries of a component: at one of them, its head, before the first one, or at the end. It keeps the page
@@ -129,50 +125,6 @@ impl Cursor {
         self.at += length;
         self.entries -= 1;
         self.weight -= length as u64;
-    }
-
-    // Goes over entries behind the head on its page, and leaves the head as it was.
-    fn pass(&mut self, over: Front)
-        requires { (entries : Entries) × (rest : List ℕ) × AreEntries entries × (self.old.behind ≡ entries_bytes entries ++ rest)
-            × (over.count ≡ length entries) × (over.len ≡ length (entries_bytes entries)) }
-        ensures passed { self.new ≡ passed over.count over.len self.old }
-        ensures fits { (over.count ≤ self.old.entries) × (over.len ≤ self.old.weight) }
-    {
-        self.at += over.len;
-        self.entries -= over.count;
-        self.weight -= over.len as u64;
-    }
-
-    /// How a key compares with the head's; `None` where there is no head.
-    pub(crate) fn compare(&self, key: &Key) -> Option<Ordering>
-        ensures { result ≡ compared key.now self.now.head }
-    {
-        match &self.head {
-            Some((found, _)) => Some(key.cmp(found)),
-            None => None,
-        }
-    }
-
-    /// The head's record; `None` where there is no head.
-    pub(crate) fn record(&self) -> Option<Rec>
-        ensures { result ≡ record_at self.now.head }
-    {
-        match &self.head {
-            Some((_, rec)) => Some(rec.copy()),
-            None => None,
-        }
-    }
-
-    /// Goes on over the entries behind the head on its page that are below a key, to the last of them; where there are none, it
-    /// stays. It calls no device, and of all these it reads the last one's record alone.
-    pub(crate) fn skip_below(&mut self, key: &Key)
-        ensures over { (over : Entries) × IsSkipped self.old self.new over × IsAbove key.now over }
-        ensures all { NoneBelow key.now self.new.behind }
-    {
-        if let Some(over) = before_last_below(&self.page[self.at..self.end], key.as_bytes()) {
-            self.pass(over);
-            self.step();
-        }
     }
 
     // Whether the first key of a valid page is above the head's.

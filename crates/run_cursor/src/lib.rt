@@ -3,9 +3,11 @@
 
 mod below;
 mod cursor;
+mod guides;
 mod laws;
 mod lookup;
 
 pub use cursor::Cursor;
+pub use guides::rebuild;
 pub use laws::what_is_ahead;
 pub use lookup::find;

@@ -1,58 +1,76 @@
 //! The record of a key among a component's entries.
-ghost use Rattle.record_delta.specs.Entries.{Entries};
-ghost use Rattle.page_file.specs.Component.{HasList};
-ghost use Rattle.std.specs.Prelude.{◌≡◌, ◌≢◌, ◌-◌, ℕ, Ok, Err, length, IsTrue, IfOk};
+ghost use Rattle.std.specs.Prelude.{◌≡◌, ◌≢◌, ◌<◌, ◌≤◌, ◌-◌, ℕ, List, Option, Ok, Err, length, IsTrue, IfOk, OnOk};
 ghost use Rattle.std.specs.FinMap.{find as find_in};
+ghost use Rattle.blsm_model.specs.declared.key.Key.{Key};
+ghost use Rattle.blsm_model.specs.Components.{no_page};
 ghost use Rattle.blsm_model.specs.Keys.{key_cmp};
-ghost use Rattle.blsm_model.specs.Geometry.{file_length};
-ghost use Rattle.blsm_model.specs.Components.{empty_component};
-ghost use Rattle.page_file.specs.File.{Reads};
-ghost use Rattle.run_cursor.specs.Lookup.{IsFound, IsFirstDamage};
+ghost use Rattle.blsm_model.specs.Geometry.{page_count, file_length};
+ghost use Rattle.bloom_bits.specs.Filter.{HasKeys, AreCovered};
+ghost use Rattle.page_file.specs.Component.{RunPage, ReadsAs, entries_of};
+ghost use Rattle.record_delta.specs.Entries.{Entries};
+ghost use Rattle.page_file.specs.File.{page_at, Reads};
+ghost use Rattle.page_file.specs.Page.{IsPageOf};
+ghost use Rattle.run_cursor.specs.Lookup.{IsGuided, IsOnPage, IsFoundBy, IsDamaged};
 
-use crate::Cursor;
+use crate::below::record_among;
+use bloom_bits::{Fences, Filter};
 use blsm_model::{Component, Geometry, Key};
 use disk_trait::Disk;
-use page_file::Broken;
+use page_file::{Broken, PAGE_HEAD_LEN, PAGE_LEN, PageHead, read_page};
 use record_delta::Rec;
-use std::cmp::Ordering;
 
-/// The record of a key in a component, if it has one. It reads the component's pages from the first up to the one where the key
-/// is or would be, with one call of the disk for each, and takes no memory. What the pages behind have it doesn't see.
+/// The record of a key in a component, if it has one. The filter is asked first, then the fences, and then the one page that they
+/// name is read: it makes one call of the disk at most, and none where the filter says no. It takes no memory.
 ///
-/// `Damaged` names the first of these pages that isn't a valid one or doesn't go on as the component's order and numbers say; it never
-/// comes where the component reads as a list. `Fault` comes only where the disk's count of faults rose.
+/// `Damaged` names that page, where it isn't a valid one; it never comes where the component reads as a list whose keys the filter has and
+/// whose pages the fences name. `Fault` comes only where the disk's count of faults rose.
 pub fn find<D: Disk>(
     disk: &mut D,
     geo: &Geometry,
     run: &Component,
+    filter: &Filter,
+    fences: &Fences,
     key: &Key,
 ) -> Result<Option<Rec>, Broken>
-    requires empty { run.now.pages ≡ 0 → run.now ≡ empty_component }
     requires length { IsTrue (D.state disk.old).tells_bytes → length (D.state disk.old).bytes ≡ file_length geo.now }
 
-    // Where the component reads as a list, the answer is the list's.
-    ensures list { (entries : Entries) → IsTrue (D.state disk.old).is_honest → HasList geo.now run.now entries (D.state disk.old).bytes
-        → result ≢ Err Broken.Fault → result ≡ Ok (find_in key_cmp key.now entries) }
-    // Whatever its pages have, the answer is what the entries say that it begins with, up to the key or to its end; and what is damaged,
-    // the bytes behind them show.
+    // Where filter and fences are those of the pages that the component reads as, or it has none, the answer is that of their list.
+    ensures list { (pages : List RunPage) → IsTrue (D.state disk.old).is_honest → ReadsAs geo.now run.now pages (D.state disk.old).bytes
+        → IsGuided filter.now fences.now pages → result ≢ Err Broken.Fault → result ≡ Ok (find_in key_cmp key.now (entries_of pages)) }
+    // Whatever they are, the answer is what the page says that the fences name, or that there is none, with no call; and where it is damaged,
+    // its bytes show it.
     ensures told { IfOk result (λ found. IsTrue (D.state disk.old).is_honest
-        → IsFound geo.now run.now key.now found ((D.state disk.new).clock - (D.state disk.old).clock) (D.state disk.old).bytes) }
+        → IsFoundBy geo.now fences.now.list key.now found ((D.state disk.new).clock - (D.state disk.old).clock) (D.state disk.old).bytes) }
     ensures damaged { (n : ℕ) → result ≡ Err (Broken.Damaged n) → IsTrue (D.state disk.old).is_honest
-        → IsFirstDamage geo.now run.now key.now n (D.state disk.old).bytes }
+        → IsDamaged geo.now fences.now.list key.now n (D.state disk.old).bytes }
 
-    // It only reads, with one call for each page at most.
-    ensures reads { Reads (file_length geo.now) run.now.pages result (D.state disk.old) (D.state disk.new) }
+    // It only reads, once at most, and not where the keys of the filter don't cover this one.
+    ensures no_call { (keys : List Key) → HasKeys filter.now keys → (AreCovered (length filter.now.bits) keys key.now → ⊥) → disk.new ≡ disk.old }
+    ensures reads { Reads (file_length geo.now) 1 result (D.state disk.old) (D.state disk.new) }
 {
-    let mut cursor = Cursor::start(run);
-    loop {
-        cursor.advance(disk, geo)?;
-        let Some(order) = cursor.compare(key) else {
-            return Ok(None);
-        };
-        match order {
-            Ordering::Less => return Ok(None),
-            Ordering::Equal => return Ok(cursor.record()),
-            Ordering::Greater => cursor.skip_below(key),
-        }
+    if run.pages == 0 || !filter.may(key) {
+        return Ok(None);
     }
+    match fences.page_of(key) {
+        Some(page) => find_on(disk, geo, page, key),
+        None => Ok(None),
+    }
+}
+
+// The record of a key on a page, if it has one. A page that the store doesn't have is a damaged one.
+fn find_on<D: Disk>(disk: &mut D, geo: &Geometry, n: u32, key: &Key) -> Result<Option<Rec>, Broken>
+    requires length { IsTrue (D.state disk.old).tells_bytes → length (D.state disk.old).bytes ≡ file_length geo.now }
+    ensures few { page_count geo.now ≤ no_page }
+    ensures page { IfOk result (λ found. IsTrue (D.state disk.old).is_honest → IsOnPage geo.now n key.now found (D.state disk.old).bytes) }
+    ensures damaged { (m : ℕ) → result ≡ Err (Broken.Damaged m) → IsTrue (D.state disk.old).is_honest
+        → (m ≡ n) × ((next : Option ℕ) (entries : Entries) → n < page_count geo.now → IsPageOf (page_count geo.now) next entries (page_at geo.now n (D.state disk.old).bytes) → ⊥) }
+    ensures reads { Reads (file_length geo.now) 1 result (D.state disk.old) (D.state disk.new) }
+{
+    if u64::from(n) >= geo.pages() {
+        return Err(Broken::Damaged(n));
+    }
+    let mut page = [0; PAGE_LEN];
+    read_page(disk, geo, n, &mut page)?;
+    let used = PageHead::read(&page).used as usize;
+    Ok(record_among(&page[PAGE_HEAD_LEN..PAGE_HEAD_LEN + used], key))
 }

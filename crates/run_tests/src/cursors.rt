@@ -5,7 +5,7 @@ ghost use Rattle.blsm_model.specs.Geometry.{file_length};
 ghost use Rattle.disk_mem.specs.Recorded.{told};
 
 use crate::drafts::Draft;
-use crate::samples::{FIRST_PAGE, NO_PAGE, blank, fail, smallest};
+use crate::samples::{FIRST_PAGE, Guide, NO_PAGE, blank, fail, guide_of, smallest};
 use blsm_model::{Component, Geometry, Key, Text, Value};
 use disk_mem::MemDisk;
 use disk_trait::Disk;
@@ -145,14 +145,17 @@ fn finds(
     disk: &mut MemDisk,
     geo: &Geometry,
     run: &Component,
+    guide: &Guide,
     key: &Key,
     rec: Option<Rec>,
 )
-    requires empty { run.now.pages ≡ 0 → run.now ≡ empty_component }
     requires length { length (told disk.old).bytes ≡ file_length geo.now }
     ensures { length (told disk.new).bytes ≡ file_length geo.now }
 {
-    assert_eq!(rt; find(disk, geo, run, key), Ok(rec));
+    assert_eq!(rt;
+        find(disk, geo, run, &guide.filter, &guide.fences, key),
+        Ok(rec)
+    );
 }
 
 #[test]
@@ -163,7 +166,16 @@ fn an_empty_component(rt: HostRuntime) {
     let mut cursor = Cursor::start(&run);
     assert_eq!(rt; cursor.left(), 0);
     goes_on(&rt, &mut disk, &geo, &mut cursor, None, 0);
-    finds(&rt, &mut disk, &geo, &run, &key(&rt, &key_bytes(0)), None);
+    let guide = guide_of(&rt, rt.alloc(), &mut disk, &geo, &run);
+    finds(
+        &rt,
+        &mut disk,
+        &geo,
+        &run,
+        &guide,
+        &key(&rt, &key_bytes(0)),
+        None,
+    );
     what_is_ahead();
 }
 
@@ -171,16 +183,33 @@ fn an_empty_component(rt: HostRuntime) {
 fn a_key_is_found_or_not(rt: HostRuntime) {
     let geo = smallest(&rt);
     let mut disk = disk_of_three(&rt, rt.alloc(), &geo);
+    let guide = guide_of(&rt, rt.alloc(), &mut disk, &geo, &THREE);
     for place in 0..15u16 {
         let (key, rec) = entry_of(&rt, place);
-        finds(&rt, &mut disk, &geo, &THREE, &key, Some(rec));
+        finds(&rt, &mut disk, &geo, &THREE, &guide, &key, Some(rec));
     }
     for place in 0..14u16 {
         let between = key_bytes(place.saturating_mul(2).saturating_add(1));
-        finds(&rt, &mut disk, &geo, &THREE, &key(&rt, &between), None);
+        finds(
+            &rt,
+            &mut disk,
+            &geo,
+            &THREE,
+            &guide,
+            &key(&rt, &between),
+            None,
+        );
     }
     for absent in [b"a".as_slice(), b"kz", b"ll", b"m"] {
-        finds(&rt, &mut disk, &geo, &THREE, &key(&rt, absent), None);
+        finds(
+            &rt,
+            &mut disk,
+            &geo,
+            &THREE,
+            &guide,
+            &key(&rt, absent),
+            None,
+        );
     }
 }
 
@@ -198,8 +227,17 @@ fn one_page(rt: HostRuntime) {
         weight: 14,
     };
     let (last, tomb) = entry_of(&rt, 14);
-    finds(&rt, &mut disk, &geo, &run, &last, Some(tomb));
-    finds(&rt, &mut disk, &geo, &run, &key(&rt, &key_bytes(0)), None);
+    let guide = guide_of(&rt, rt.alloc(), &mut disk, &geo, &run);
+    finds(&rt, &mut disk, &geo, &run, &guide, &last, Some(tomb));
+    finds(
+        &rt,
+        &mut disk,
+        &geo,
+        &run,
+        &guide,
+        &key(&rt, &key_bytes(0)),
+        None,
+    );
 }
 
 // Bytes of a page that are changed, numbers of the component, which page is damaged then, and how many entries come before.
@@ -356,18 +394,20 @@ fn answers(
     rt: &impl Abort,
     disk: &mut MemDisk,
     geo: &Geometry,
-    run: &Component,
-    name: &[u8],
+    guide: &Guide,
+    name: &Key,
     expected: Result<Option<Rec>, Broken>,
 )
     requires { length (told disk.old).bytes ≡ file_length geo.now }
     ensures { length (told disk.new).bytes ≡ file_length geo.now }
 {
-    assert!(rt; run.pages > 0);
-    assert_eq!(rt; find(disk, geo, run, &key(rt, name)), expected);
+    assert_eq!(rt;
+        find(disk, geo, &THREE, &guide.filter, &guide.fences, name),
+        expected
+    );
 }
 
-// The cursor stops at the damage. A lookup tells of it where its key is behind, and doesn't see it where the key is before.
+// The cursor stops at the damage.
 fn is_damaged(rt: &impl Abort, disk: &mut MemDisk, geo: &Geometry, damage: &Damage)
     requires { length (told disk.old).bytes ≡ file_length geo.now }
 {
@@ -380,13 +420,6 @@ fn is_damaged(rt: &impl Abort, disk: &mut MemDisk, geo: &Geometry, damage: &Dama
         damage.bytes,
         damage.run
     );
-    answers(rt, disk, geo, &damage.run, b"z", Err(broken));
-    let before = if damage.given == 0 {
-        Err(broken)
-    } else {
-        Ok(None)
-    };
-    answers(rt, disk, geo, &damage.run, b"a", before);
 }
 
 #[test]
@@ -399,16 +432,69 @@ fn damage_names_the_page(rt: HostRuntime) {
     }
 }
 
+// Changes each of the three pages: the first one's next page is itself, the second has no entries, and behind the last
+// one's is a byte.
+fn change_each(rt: &impl Abort, disk: &mut MemDisk, geo: &Geometry)
+    requires { length (told disk.old).bytes ≡ file_length geo.now }
+    ensures { length (told disk.new).bytes ≡ file_length geo.now }
+{
+    change(rt, disk, geo, 5, &[(7, 5)]);
+    change(rt, disk, geo, 2, &[(1, 0)]);
+    change(rt, disk, geo, 9, &[(22, 1)]);
+}
+
+// What a lookup of the key of this place answers, whose page is a valid one, or isn't.
+fn answers_at(
+    rt: &impl Abort,
+    disk: &mut MemDisk,
+    geo: &Geometry,
+    guide: &Guide,
+    place: u16,
+    damaged: Option<u32>,
+)
+    requires { length (told disk.old).bytes ≡ file_length geo.now }
+    ensures { length (told disk.new).bytes ≡ file_length geo.now }
+{
+    let (name, rec) = entry_of(rt, place);
+    let expected = match damaged {
+        Some(page) => Err(Broken::Damaged(page)),
+        None => Ok(Some(rec)),
+    };
+    answers(rt, disk, geo, guide, &name, expected);
+}
+
+// A lookup names the page of its fence, where that isn't a valid one. It doesn't mind another page, nor one that doesn't go on.
+#[test]
+fn a_lookup_names_its_page(rt: HostRuntime) {
+    let geo = smallest(&rt);
+    let mut disk = disk_of_three(&rt, rt.alloc(), &geo);
+    let guide = guide_of(&rt, rt.alloc(), &mut disk, &geo, &THREE);
+    change_each(&rt, &mut disk, &geo);
+    answers_at(&rt, &mut disk, &geo, &guide, 0, None);
+    answers_at(&rt, &mut disk, &geo, &guide, 6, None);
+    answers_at(&rt, &mut disk, &geo, &guide, 7, Some(2));
+    answers_at(&rt, &mut disk, &geo, &guide, 13, Some(2));
+    answers_at(&rt, &mut disk, &geo, &guide, 14, Some(9));
+}
+
 // The second read of a page fails. The cursor stays at the seventh entry, and goes on from there.
 #[test]
 fn a_fault_leaves_the_cursor(rt: HostRuntime) {
     let geo = smallest(&rt);
     let mut disk = disk_of_three(&rt, rt.alloc(), &geo);
-    fail(&rt, &mut disk, 7);
-    fail(&rt, &mut disk, 12);
+    let guide = guide_of(&rt, rt.alloc(), &mut disk, &geo, &THREE);
+    fail(&rt, &mut disk, 10);
+    fail(&rt, &mut disk, 14);
     assert_eq!(rt; walk(&rt, &mut disk, &geo, &THREE), (7, Err(Broken::Fault)));
     assert_eq!(rt; disk.faults(), 1);
     assert_eq!(rt; walk(&rt, &mut disk, &geo, &THREE), (15, Ok(())));
-    answers(&rt, &mut disk, &geo, &THREE, b"l", Err(Broken::Fault));
+    answers(
+        &rt,
+        &mut disk,
+        &geo,
+        &guide,
+        &key(&rt, b"l"),
+        Err(Broken::Fault),
+    );
     assert_eq!(rt; disk.faults(), 2);
 }

@@ -1,16 +1,19 @@
 // The smallest store, disks in memory of its length, and runs on them.
 ghost use Rattle.std.specs.Prelude.{◌≡◌, length};
+ghost use Rattle.blsm_model.specs.Components.{empty_component};
 ghost use Rattle.blsm_model.specs.Geometry.{page_count, file_length};
 ghost use Rattle.disk_mem.specs.Recorded.{told};
 ghost use Rattle.run_writer.specs.Writer.{IsInside};
 
-use blsm_model::{Geometry, Key};
+use bloom_bits::{Fences, Filter};
+use blsm_model::{Component, Geometry, Key};
 use disk_mem::MemDisk;
 use disk_trait::Disk;
 use page_file::Broken;
 use page_space::Space;
 use record_delta::Rec;
 use refusal::Failed;
+use run_cursor::rebuild;
 use run_writer::Writer;
 use std::alloc::Global;
 use std::process::Abort;
@@ -73,13 +76,49 @@ pub fn validity(is_valid: bool, page: u32) -> Result<(), Broken> {
     }
 }
 
-/// Pushes an entry onto a run, where a page is free.
+/// A run's filter and its fences.
+#[derive(Drop)]
+pub struct Guide {
+    pub filter: Filter,
+    pub fences: Fences,
+}
+
+/// A filter of 4,096 bits without keys, and no fence, with room for those of all pages.
+pub fn empty_guide(rt: &impl Abort, alloc: Global) -> Guide {
+    let mut filter = Filter::with_bits(alloc, 4_096).expect(rt, "memory");
+    filter.reset(4_096);
+    Guide {
+        filter,
+        fences: Fences::reserve(alloc, PAGES).expect(rt, "memory"),
+    }
+}
+
+/// The filter and the fences of a component, by one call of the disk for each of its pages.
+pub fn guide_of(
+    rt: &impl Abort,
+    alloc: Global,
+    disk: &mut MemDisk,
+    geo: &Geometry,
+    run: &Component,
+) -> Guide
+    requires empty { run.now.pages ≡ 0 → run.now ≡ empty_component }
+    requires length { length (told disk.old).bytes ≡ file_length geo.now }
+    ensures { length (told disk.new).bytes ≡ file_length geo.now }
+{
+    let mut filter = Filter::with_bits(alloc, run.weight).expect(rt, "memory");
+    let mut fences = Fences::reserve(alloc, run.pages).expect(rt, "memory");
+    assert_eq!(rt; rebuild(disk, geo, run, &mut filter, &mut fences), Ok(()));
+    Guide { filter, fences }
+}
+
+/// Pushes an entry onto a run, where a page is free and its fences have room.
 pub fn push_entry(
     rt: &impl Abort,
     writer: &mut Writer,
     disk: &mut MemDisk,
     geo: &Geometry,
     space: &mut Space,
+    guide: &mut Guide,
     key: &Key,
     rec: &Rec,
 ) -> Result<(), Failed>
@@ -91,5 +130,14 @@ pub fn push_entry(
     assert!(rt; u64::from(space.pages()) == geo.pages());
     assert!(rt; u64::from(writer.component().pages) < geo.pages());
     assert!(rt; space.has_free());
-    writer.push(disk, geo, space, key, rec)
+    assert!(rt; guide.fences.takes(key));
+    writer.push(
+        disk,
+        geo,
+        space,
+        &mut guide.filter,
+        &mut guide.fences,
+        key,
+        rec,
+    )
 }

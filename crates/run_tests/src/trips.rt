@@ -3,7 +3,7 @@ ghost use Rattle.std.specs.Prelude.{◌≡◌, ◌≢◌, length};
 ghost use Rattle.blsm_model.specs.Geometry.{file_length};
 ghost use Rattle.disk_mem.specs.Recorded.{told};
 
-use crate::samples::{blank, free_map, push_entry, smallest};
+use crate::samples::{Guide, blank, empty_guide, free_map, push_entry, smallest};
 use blsm_model::{Component, Geometry, Key, Text, Value};
 use disk_mem::MemDisk;
 use page_space::{Role, Space};
@@ -32,6 +32,7 @@ fn write(
     disk: &mut MemDisk,
     geo: &Geometry,
     space: &mut Space,
+    guide: &mut Guide,
     count: u32,
 ) -> Component
     requires { length (told disk.old).bytes ≡ file_length geo.now }
@@ -40,7 +41,7 @@ fn write(
     let mut writer = Writer::start(Role::new(1));
     for n in 0..count {
         let (key, rec) = entry(rt, n.saturating_mul(2));
-        assert!(rt; push_entry(rt, &mut writer, disk, geo, space, &key, &rec).is_ok());
+        assert!(rt; push_entry(rt, &mut writer, disk, geo, space, guide, &key, &rec).is_ok());
     }
     writer.end(disk, geo).expect(rt, "a run")
 }
@@ -69,28 +70,38 @@ fn walk(rt: &impl Abort, disk: &mut MemDisk, geo: &Geometry, run: &Component)
 }
 
 // A lookup of the key of a number finds its entry, or none.
-fn finds(rt: &impl Abort, disk: &mut MemDisk, geo: &Geometry, run: &Component, n: u32, has: bool)
-    requires pages { run.now.pages ≢ 0 }
+fn finds(
+    rt: &impl Abort,
+    disk: &mut MemDisk,
+    geo: &Geometry,
+    run: &Component,
+    guide: &Guide,
+    n: u32,
+    has: bool,
+)
     requires length { length (told disk.old).bytes ≡ file_length geo.now }
     ensures { length (told disk.new).bytes ≡ file_length geo.now }
 {
     let (key, rec) = entry(rt, n);
     let expected = if has { Some(rec) } else { None };
-    assert_eq!(rt; find(disk, geo, run, &key), Ok(expected));
+    assert_eq!(rt;
+        find(disk, geo, run, &guide.filter, &guide.fences, &key),
+        Ok(expected)
+    );
 }
 
 // Lookups find eight of the keys, and none of those behind them, which aren't there.
-fn look_up(rt: &impl Abort, disk: &mut MemDisk, geo: &Geometry, run: &Component)
-    requires pages { run.now.pages ≢ 0 }
+fn look_up(rt: &impl Abort, disk: &mut MemDisk, geo: &Geometry, run: &Component, guide: &Guide)
     requires length { length (told disk.old).bytes ≡ file_length geo.now }
 {
     'keys: for n in 0..8u32 {
-        finds(rt, disk, geo, run, n.saturating_mul(500), true);
+        finds(rt, disk, geo, run, guide, n.saturating_mul(500), true);
         finds(
             rt,
             disk,
             geo,
             run,
+            guide,
             n.saturating_mul(500).saturating_add(1),
             false,
         );
@@ -102,9 +113,10 @@ fn a_run_of_2000_entries_is_read_back(rt: HostRuntime) {
     let geo = smallest(&rt);
     let mut disk = blank(&rt, rt.alloc(), &geo, 2_000_000);
     let mut space = free_map(&rt, rt.alloc(), &geo);
-    let run = write(&rt, &mut disk, &geo, &mut space, 2_000);
+    let mut guide = empty_guide(&rt, rt.alloc());
+    let run = write(&rt, &mut disk, &geo, &mut space, &mut guide, 2_000);
     assert_eq!(rt; run.entries, 2_000);
     assert!(rt; run.pages != 0);
     walk(&rt, &mut disk, &geo, &run);
-    look_up(&rt, &mut disk, &geo, &run);
+    look_up(&rt, &mut disk, &geo, &run, &guide);
 }

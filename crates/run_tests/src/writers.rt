@@ -1,14 +1,17 @@
 // Runs of the smallest store, over disks in memory, read back page by page.
 ghost use Rattle.page_file.specs.Component.{HasList};
-ghost use Rattle.std.specs.Prelude.{◌≡◌, ◌<◌, length, IfOk, IsTrue};
+ghost use Rattle.std.specs.Prelude.{◌≡◌, ◌≤◌, ◌<◌, length, IfOk, IsTrue};
 ghost use Rattle.record_delta.specs.declared.record.Rec.{Rec};
 ghost use Rattle.blsm_model.specs.declared.key.Key.{Key};
 ghost use Rattle.blsm_model.specs.Geometry.{page_count, file_length};
+ghost use Rattle.bloom_bits.specs.Filter.{rounded};
+ghost use Rattle.bloom_bits.specs.Guides.{Guide as RunGuide};
 ghost use Rattle.disk_mem.specs.Recorded.{told};
 ghost use Rattle.page_file.specs.Entry.{AreRising};
 ghost use Rattle.run_writer.specs.Writer.{IsInside};
 
-use crate::samples::{NO_PAGE, blank, fail, free_map, push_entry, smallest};
+use crate::samples::{Guide, NO_PAGE, blank, empty_guide, fail, free_map, push_entry, smallest};
+use bloom_bits::{Fences, Filter};
 use blsm_model::{Component, Geometry, Key, Text, Value};
 use disk_mem::MemDisk;
 use disk_trait::Disk;
@@ -61,6 +64,7 @@ fn push(
     disk: &mut MemDisk,
     geo: &Geometry,
     space: &mut Space,
+    guide: &mut Guide,
     n: u32,
     lengths: Lengths,
 ) -> Result<(), Failed>
@@ -71,7 +75,7 @@ fn push(
 {
     let key = key(rt, n, lengths.key);
     let rec = base(rt, n, lengths.text);
-    push_entry(rt, writer, disk, geo, space, &key, &rec)
+    push_entry(rt, writer, disk, geo, space, guide, &key, &rec)
 }
 
 // Pushes the entry of a number, which doesn't fail.
@@ -81,6 +85,7 @@ fn push_one(
     disk: &mut MemDisk,
     geo: &Geometry,
     space: &mut Space,
+    guide: &mut Guide,
     n: u32,
     lengths: Lengths,
 )
@@ -89,7 +94,7 @@ fn push_one(
     ensures inside { IsInside (page_count geo.now) writer.new }
     ensures length { length (told disk.new).bytes ≡ file_length geo.now }
 {
-    assert!(rt; push(rt, writer, disk, geo, space, n, lengths).is_ok());
+    assert!(rt; push(rt, writer, disk, geo, space, guide, n, lengths).is_ok());
 }
 
 // Pushes the entries of the first numbers.
@@ -99,6 +104,7 @@ fn push_all(
     disk: &mut MemDisk,
     geo: &Geometry,
     space: &mut Space,
+    guide: &mut Guide,
     count: u32,
     lengths: Lengths,
 )
@@ -108,32 +114,37 @@ fn push_all(
     ensures length { length (told disk.new).bytes ≡ file_length geo.now }
 {
     for n in 0..count {
-        push_one(rt, writer, disk, geo, space, n, lengths);
+        push_one(rt, writer, disk, geo, space, guide, n, lengths);
     }
 }
 
-// Writes a list as a run: what the clauses say of one push, and of the end, makes the component that reads as the list. It gives
-// up where no page is free.
+// Writes a list as a run: what the clauses say of one push, and of the end, makes the component that reads as the list, with its filter and its
+// fences. It gives up where no page is free, or no room is for a fence.
 fn write_all<D: Disk>(
     disk: &mut D,
     geo: &Geometry,
     space: &mut Space,
     role: Role,
+    filter: &mut Filter,
+    fences: &mut Fences,
     entries: &[(Key, Rec)],
 ) -> Result<Component, Failed>
     requires pages { space.old.pages ≡ page_count geo.now }
     requires rise { AreRising entries.now }
+    requires bits { rounded 0 ≤ filter.old.reserved }
     requires length { IsTrue (D.state disk.old).tells_bytes → length (D.state disk.old).bytes ≡ file_length geo.now }
-    ensures list { IfOk result (λ c. IsTrue (D.state disk.old).is_honest → HasList geo.now c entries.now (D.state disk.new).bytes) }
+    ensures list { IfOk result (λ c. IsTrue (D.state disk.old).is_honest → (list : HasList geo.now c entries.now (D.state disk.new).bytes) × RunGuide filter.new fences.new list.pages) }
 {
+    filter.reset(0);
+    fences.clear();
     let mut writer = Writer::start(role);
     for entry in entries {
         let _pages = space.pages();
-        if !space.has_free() {
+        if !space.has_free() || !fences.takes(&entry.0) {
             return Err(Failed);
         }
         a_run_has_room();
-        writer.push(disk, geo, space, &entry.0, &entry.1)?;
+        writer.push(disk, geo, space, filter, fences, &entry.0, &entry.1)?;
     }
     writer.end(disk, geo)
 }
@@ -203,7 +214,17 @@ fn write_run(
 {
     let mut space = free_map(rt, alloc, geo);
     let mut writer = Writer::start(Role::new(3));
-    push_all(rt, &mut writer, disk, geo, &mut space, count, lengths);
+    let mut guide = empty_guide(rt, alloc);
+    push_all(
+        rt,
+        &mut writer,
+        disk,
+        geo,
+        &mut space,
+        &mut guide,
+        count,
+        lengths,
+    );
     writer.end(disk, geo).expect(rt, "a run")
 }
 
@@ -328,7 +349,17 @@ fn runs_of_no_entry_and_of_one(rt: HostRuntime) {
     end_none(&rt, &mut writer, &mut disk, &geo);
     is_no_page(&rt, &mut disk, &geo, &mut space);
     let lengths = Lengths { key: 5, text: 7 };
-    push_one(&rt, &mut writer, &mut disk, &geo, &mut space, 1, lengths);
+    let mut guide = empty_guide(&rt, rt.alloc());
+    push_one(
+        &rt,
+        &mut writer,
+        &mut disk,
+        &geo,
+        &mut space,
+        &mut guide,
+        1,
+        lengths,
+    );
     // It is on the disk only once the run has ended.
     assert!(rt; !is_page_of(&rt, &mut disk, &geo, 0, 1, 2, lengths, None));
     end_one(&rt, &mut writer, &mut disk, &geo);
@@ -353,7 +384,17 @@ fn the_least_free_pages_are_taken(rt: HostRuntime) {
     let mut space = map_of_two(&rt, rt.alloc(), &geo);
     let lengths = Lengths { key: 4, text: 432 };
     let mut writer = Writer::start(Role::new(4));
-    push_all(&rt, &mut writer, &mut disk, &geo, &mut space, 20, lengths);
+    let mut guide = empty_guide(&rt, rt.alloc());
+    push_all(
+        &rt,
+        &mut writer,
+        &mut disk,
+        &geo,
+        &mut space,
+        &mut guide,
+        20,
+        lengths,
+    );
     assert!(rt; writer.end(&mut disk, &geo).is_ok());
     assert!(rt; is_page_of(&rt, &mut disk, &geo, 1, 0, 9, lengths, Some(3)));
     assert!(rt; is_page_of(&rt, &mut disk, &geo, 3, 9, 18, lengths, Some(4)));
@@ -381,6 +422,7 @@ fn push_fails(
     disk: &mut MemDisk,
     geo: &Geometry,
     space: &mut Space,
+    guide: &mut Guide,
     lengths: Lengths,
 )
     requires inside { IsInside (page_count geo.now) writer.old }
@@ -389,7 +431,7 @@ fn push_fails(
     ensures length { length (told disk.new).bytes ≡ file_length geo.now }
 {
     let before = writer.component();
-    let outcome = push(rt, writer, disk, geo, space, 9, lengths);
+    let outcome = push(rt, writer, disk, geo, space, guide, 9, lengths);
     assert_eq!(rt; outcome, Err(Failed));
     assert_eq!(rt; writer.component(), before);
     assert_eq!(rt; disk.faults(), 1);
@@ -414,10 +456,37 @@ fn a_write_that_fails_is_told(rt: HostRuntime) {
     let mut space = free_map(&rt, rt.alloc(), &geo);
     let lengths = Lengths { key: 4, text: 432 };
     let mut writer = Writer::start(Role::new(1));
-    push_all(&rt, &mut writer, &mut disk, &geo, &mut space, 9, lengths);
-    push_fails(&rt, &mut writer, &mut disk, &geo, &mut space, lengths);
+    let mut guide = empty_guide(&rt, rt.alloc());
+    push_all(
+        &rt,
+        &mut writer,
+        &mut disk,
+        &geo,
+        &mut space,
+        &mut guide,
+        9,
+        lengths,
+    );
+    push_fails(
+        &rt,
+        &mut writer,
+        &mut disk,
+        &geo,
+        &mut space,
+        &mut guide,
+        lengths,
+    );
     // The page that was taken stays claimed, so the next one is page 2.
-    push_one(&rt, &mut writer, &mut disk, &geo, &mut space, 9, lengths);
+    push_one(
+        &rt,
+        &mut writer,
+        &mut disk,
+        &geo,
+        &mut space,
+        &mut guide,
+        9,
+        lengths,
+    );
     end_twice(&rt, &mut writer, &mut disk, &geo);
     assert!(rt; is_page_of(&rt, &mut disk, &geo, 0, 0, 9, lengths, Some(2)));
     assert!(rt; is_page_of(&rt, &mut disk, &geo, 2, 9, 10, lengths, None));
@@ -435,10 +504,22 @@ fn a_list_of_one_entry(rt: HostRuntime) {
         entries: 1,
         weight: 417,
     };
+    let mut filter = Filter::with_bits(rt.alloc(), 64).expect(&rt, "memory");
+    let mut fences = Fences::reserve(rt.alloc(), 1).expect(&rt, "memory");
     assert_eq!(rt;
-        write_all(&mut disk, &geo, &mut space, Role::new(2), &entries),
+        write_all(
+            &mut disk,
+            &geo,
+            &mut space,
+            Role::new(2),
+            &mut filter,
+            &mut fences,
+            &entries
+        ),
         Ok(one)
     );
+    assert!(rt; filter.may(&entries[0].0));
+    assert_eq!(rt; fences.page_of(&entries[0].0), Some(0));
     a_run_has_room();
     where_a_run_writes();
 }

@@ -1,5 +1,5 @@
 -- Runs that grow: their keys rise, no page is there twice, and they don't have all pages.
-use Rattle.std.proofs.Common.{◌≡◌, Bool, false, ℕ, zero, suc, ◌<◌, ◌≤◌, List, [], ◌∷◌, ◌++◌, length, refl, ap, sym, subst, ◌∙◌, ◌⊎◌, ⊎_elim, inl, inr, arith}
+use Rattle.std.proofs.Common.{◌≡◌, Bool, false, ℕ, zero, suc, ◌+◌, ◌<◌, ◌≤◌, List, [], ◌∷◌, ◌++◌, length, refl, ap, sym, subst, ◌∙◌, ◌⊎◌, ⊎_elim, inl, inr, length-append, arith}
 use Rattle.record_delta.specs.Entries.{Entries}
 use Rattle.std.specs.List.{Contains, AllByRecursion, IsDistinct}
 use Rattle.std.specs.Prelude.{nat_eq, IsTrue}
@@ -15,9 +15,13 @@ use Rattle.page_space.specs.PageSet.{Members, IsIn}
 use Rattle.page_space.specs.Space.{SpaceState, IsFree, HasFree, IsSpace, Claims, role_count}
 use Rattle.page_file.specs.Entry.{AreRising}
 use Rattle.page_file.specs.Component.{RunPage, numbers_of, entries_of}
+use Rattle.bloom_bits.specs.BitSet.{BitState}
+use Rattle.bloom_bits.specs.Fences.{FencesState, IsAboveAll}
+use Rattle.bloom_bits.specs.Guides.{Guide}
 use Rattle.run_writer.specs.Run.{Run, page_of, pages_of, IsRun, AreTagged}
 use Rattle.run_writer.specs.Writer.{WriterState, IsCounted, Holds, Stands, HasPushed}
 use Rattle.run_writer.proofs.RunLemmas.{empty_run, pushed_here, pushed_on, entries_here, entries_on, no_pages}
+use Rattle.run_writer.proofs.GuideLemmas.{Adds, guide_here, guide_on, fences_below}
 
 -- a run with pages has an entry in its open page
 pub has_open : (writer : WriterState) (run : Run) → Holds writer run → 0 < writer.component.pages → run.entries ≡ [] → ⊥
@@ -125,12 +129,14 @@ has_room space role run shape within free tagged is_run =
 
 -- ---- the list that was pushed
 
-pub nothing_pushed : (sizes : Sizes) (honest : Bool) (file : List ℕ) (space : SpaceState) (writer : WriterState) → Holds writer empty_run → IsRun empty_run → IsCounted writer
-    → HasPushed sizes honest file space writer []
-nothing_pushed sizes honest file space writer held is_run counted = record {
+pub nothing_pushed : (sizes : Sizes) (honest : Bool) (file : List ℕ) (space : SpaceState) (writer : WriterState) (filter : BitState) (fences : FencesState) → Holds writer empty_run → IsRun empty_run → IsCounted writer
+    → Guide filter fences [] → HasPushed sizes honest file space writer filter fences []
+nothing_pushed sizes honest file space writer filter fences held is_run counted guide = record {
   run = empty_run;
   held = held;
   is_run = is_run;
+  guide = guide;
+  one_a_page = ap length guide.fences_are ∙ held.pages_is;
   counted = counted;
   tagged = λ n has. absurd (none n has);
   entries_are = refl;
@@ -140,19 +146,20 @@ nothing_pushed sizes honest file space writer held is_run counted = record {
     none : (n : ℕ) → Contains {X = ℕ} [] n → ⊥
     none n (k, within, is) = omega (arith, within)
 
-pub room_for_more : (sizes : Sizes) (honest : Bool) (file : List ℕ) (space : SpaceState) (writer : WriterState) (entries : List (Key × Rec)) → HasPushed sizes honest file space writer entries
-    → IsSpace space → HasFree space → writer.component.pages < space.pages
-room_for_more sizes honest file space writer entries has shape free =
+pub room_for_more : (sizes : Sizes) (honest : Bool) (file : List ℕ) (space : SpaceState) (writer : WriterState) (filter : BitState) (fences : FencesState) (entries : List (Key × Rec))
+    → HasPushed sizes honest file space writer filter fences entries → IsSpace space → HasFree space → writer.component.pages < space.pages
+room_for_more sizes honest file space writer filter fences entries has shape free =
     omega (arith, has_room space writer.role has.run shape has.counted.role free has.tagged has.is_run, has.held.pages_is)
 
 -- the list with one entry more
 list_more : (key : Key) (rec : Rec) (es : Entries) (entries : List (Key × Rec)) → es ≡ entries → es ++ (key, rec) ∷ [] ≡ (entries ++ (key, rec) ∷ [])
 list_more key rec es entries are = ap (λ (l : Entries). l ++ (key, rec) ∷ []) are
 
-pub more_here : (sizes : Sizes) (honest : Bool) (file : List ℕ) (space : SpaceState) (writer new : WriterState) (key : Key) (rec : Rec) (entries : List (Key × Rec))
-    → AreRising ((entries ++ (key, rec) ∷ [])) → 0 < writer.component.pages → ((run : Run) → Holds writer run → Holds new (pushed_here key rec run)) → new.role ≡ writer.role → IsCounted new
-    → HasPushed sizes honest file space writer entries → HasPushed sizes honest file space new (entries ++ (key, rec) ∷ [])
-more_here sizes honest file space writer new key rec entries rise some holds role counted has =
+pub more_here : (sizes : Sizes) (honest : Bool) (file : List ℕ) (space : SpaceState) (writer new : WriterState) (filter after : BitState) (fences : FencesState) (key : Key) (rec : Rec) (entries : List (Key × Rec))
+    → AreRising ((entries ++ (key, rec) ∷ [])) → 0 < writer.component.pages → ((run : Run) → Holds writer run → Holds new (pushed_here key rec run)) → Adds key filter after → new.role ≡ writer.role
+    → new.component.pages ≡ writer.component.pages → IsCounted new
+    → HasPushed sizes honest file space writer filter fences entries → HasPushed sizes honest file space new after fences (entries ++ (key, rec) ∷ [])
+more_here sizes honest file space writer new filter after fences key rec entries rise some holds adds role pages counted has =
     let run = has.run in
     let open_one = has_open writer run has.held some in
     let is = list_more key rec (entries_of (pages_of run)) entries has.entries_are in
@@ -160,25 +167,38 @@ more_here sizes honest file space writer new key rec entries rise some holds rol
       run = pushed_here key rec run;
       held = holds run has.held;
       is_run = grows_here key rec run has.is_run open_one (subst AreRising (sym is) rise);
+      guide = guide_here filter after fences key rec run adds open_one has.guide;
+      one_a_page = has.one_a_page ∙ sym pages;
       counted = counted;
       tagged = subst (λ r. AreTagged space r (pushed_here key rec run)) (sym role) (tagged_here space writer.role key rec run has.tagged open_one);
       entries_are = entries_here key rec run ∙ is;
       stands = has.stands;
     }
 
-pub more_on : (sizes : Sizes) (honest : Bool) (old_file file : List ℕ) (old space : SpaceState) (writer new : WriterState) (page : ℕ) (key : Key) (rec : Rec) (entries : List (Key × Rec))
+pub more_on : (sizes : Sizes) (honest : Bool) (old_file file : List ℕ) (old space : SpaceState) (writer new : WriterState) (filter after : BitState) (fences fences_after : FencesState) (page : ℕ) (key : Key) (rec : Rec) (entries : List (Key × Rec))
     → AreRising ((entries ++ (key, rec) ∷ [])) → IsFree old page → Claims writer.role page old space → ((run : Run) → Holds writer run → Holds new (pushed_on page key rec run))
-    → ((run : Run) → Holds writer run → IsRun run → IsTrue honest → Stands sizes run old_file → Stands sizes (pushed_on page key rec run) file) → new.role ≡ writer.role → IsCounted new
-    → HasPushed sizes honest old_file old writer entries → HasPushed sizes honest file space new (entries ++ (key, rec) ∷ [])
-more_on sizes honest old_file file old space writer new page key rec entries rise free claims holds closed role counted has =
+    → Adds key filter after → fences_after.list ≡ fences.list ++ (key, page) ∷ []
+    → ((run : Run) → Holds writer run → IsRun run → IsTrue honest → Stands sizes run old_file → Stands sizes (pushed_on page key rec run) file) → new.role ≡ writer.role
+    → new.component.pages ≡ writer.component.pages + 1 → IsCounted new
+    → HasPushed sizes honest old_file old writer filter fences entries → HasPushed sizes honest file space new after fences_after (entries ++ (key, rec) ∷ [])
+more_on sizes honest old_file file old space writer new filter after fences fences_after page key rec entries rise free claims holds adds fenced closed role pages counted has =
     let run = has.run in
     let is = list_more key rec (entries_of (pages_of run)) entries has.entries_are in
     record {
       run = pushed_on page key rec run;
       held = holds run has.held;
       is_run = grows_on old writer.role page key rec run has.is_run has.tagged free (subst AreRising (sym is) rise);
+      guide = guide_on filter after fences fences_after page key rec run adds fenced has.guide;
+      one_a_page = omega (arith, ap length fenced, length-append fences.list ((key, page) ∷ []), has.one_a_page, pages);
       counted = counted;
       tagged = subst (λ r. AreTagged space r (pushed_on page key rec run)) (sym role) (tagged_on old space writer.role page key rec run has.tagged claims);
       entries_are = entries_on page key rec run ∙ is;
       stands = λ told. closed run has.held has.is_run told (has.stands told);
     }
+
+-- a key that comes next is above the fences
+pub next_above : (sizes : Sizes) (honest : Bool) (file : List ℕ) (space : SpaceState) (writer : WriterState) (filter : BitState) (fences : FencesState) (entries : Entries) (key : Key) (rec : Rec)
+    → HasPushed sizes honest file space writer filter fences entries → AreRising (entries ++ (key, rec) ∷ []) → IsAboveAll key fences.list
+next_above sizes honest file space writer filter fences entries key rec has rise =
+    let rising : AreRising (entries_of (pages_of has.run) ++ (key, rec) ∷ []) = subst (λ (l : Entries). AreRising (l ++ (key, rec) ∷ [])) (sym has.entries_are) rise in
+    subst (IsAboveAll key) (sym has.guide.fences_are) (fences_below key rec (pages_of has.run) rising)

@@ -1,6 +1,7 @@
 mod BufferLemmas
 mod RunLemmas
 mod WriterLemmas
+mod GuideLemmas
 mod GrowthLemmas
 mod RegionLemmas
 mod Examples

@@ -15,6 +15,8 @@ use Rattle.page_file.specs.File.{pages_region}
 use Rattle.page_file.specs.Component.{RunPage, numbers_of}
 use Rattle.page_file.proofs.PageLemmas.{others_apart, same_pages}
 use Rattle.page_file.proofs.ComponentLemmas.{chain_kept}
+use Rattle.bloom_bits.specs.BitSet.{BitState}
+use Rattle.bloom_bits.specs.Fences.{FencesState}
 use Rattle.run_writer.specs.Run.{Run, page_of, pages_of, IsRun}
 use Rattle.run_writer.specs.Writer.{WriterState, open_region, role_region, loose_region, IsInside, Holds, Stands, HasPushed}
 use Rattle.run_writer.proofs.GrowthLemmas.{here, further, has_open, only_one, in_range, differs_from_last}
@@ -32,13 +34,13 @@ open_is_one writer run held some =
 pub open_within : (sizes : Sizes) (writer : WriterState) (run : Run) → Holds writer run → IsWithin (open_region sizes writer) (pages_region sizes (numbers_of (pages_of run)))
 open_within sizes writer run held i inside = (writer.number, open_is_one writer run held inside.0, inside.1)
 
-pub open_tagged : (sizes : Sizes) (honest : Bool) (file : List ℕ) (space : SpaceState) (writer : WriterState) (entries : List (Key × Rec)) → HasPushed sizes honest file space writer entries
+pub open_tagged : (sizes : Sizes) (honest : Bool) (file : List ℕ) (space : SpaceState) (writer : WriterState) (filter : BitState) (fences : FencesState) (entries : List (Key × Rec)) → HasPushed sizes honest file space writer filter fences entries
     → IsWithin (open_region sizes writer) (role_region sizes space writer.role)
-open_tagged sizes honest file space writer entries has i inside = (writer.number, has.tagged writer.number (open_is_one writer has.run has.held inside.0), inside.1)
+open_tagged sizes honest file space writer filter fences entries has i inside = (writer.number, has.tagged writer.number (open_is_one writer has.run has.held inside.0), inside.1)
 
-pub open_inside : (sizes : Sizes) (honest : Bool) (file : List ℕ) (space : SpaceState) (writer : WriterState) (entries : List (Key × Rec)) → HasPushed sizes honest file space writer entries
+pub open_inside : (sizes : Sizes) (honest : Bool) (file : List ℕ) (space : SpaceState) (writer : WriterState) (filter : BitState) (fences : FencesState) (entries : List (Key × Rec)) → HasPushed sizes honest file space writer filter fences entries
     → IsSpace space → space.pages ≡ page_count sizes → IsInside (page_count sizes) writer
-open_inside sizes honest file space writer entries has shape pages some =
+open_inside sizes honest file space writer filter fences entries has shape pages some =
     let below = in_range _ writer.number (has.tagged writer.number (open_is_one writer has.run has.held some)) in
     omega (arith, below, shape.of_role writer.role has.counted.role, pages)
 
@@ -70,13 +72,15 @@ still_stands sizes writer run old new held is_run same stands =
     chain_kept sizes run.closed (Some run.number) old new (same_pages sizes (numbers_of run.closed) old new (same_wider (closed_apart sizes writer run held is_run) same)) stands
 
 -- The list that was pushed stays where no byte of its role's pages changes but of the open one, and these keep the tag.
-pub pushed_kept : (sizes : Sizes) (honest : Bool) (old new : List ℕ) (space after : SpaceState) (writer : WriterState) (entries : List (Key × Rec))
+pub pushed_kept : (sizes : Sizes) (honest : Bool) (old new : List ℕ) (space after : SpaceState) (writer : WriterState) (filter : BitState) (fences : FencesState) (entries : List (Key × Rec))
     → ((n : ℕ) → HasRole space writer.role n → HasRole after writer.role n) → (IsTrue honest → IsSameOutside (loose_region sizes space writer) old new)
-    → HasPushed sizes honest old space writer entries → HasPushed sizes honest new after writer entries
-pushed_kept sizes honest old new space after writer entries tags same has = record {
+    → HasPushed sizes honest old space writer filter fences entries → HasPushed sizes honest new after writer filter fences entries
+pushed_kept sizes honest old new space after writer filter fences entries tags same has = record {
   run = has.run;
   held = has.held;
   is_run = has.is_run;
+  guide = has.guide;
+  one_a_page = has.one_a_page;
   counted = has.counted;
   tagged = λ n in_run. tags n (has.tagged n in_run);
   entries_are = has.entries_are;

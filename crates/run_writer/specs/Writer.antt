@@ -5,16 +5,19 @@ use Rattle.blsm_model.specs.Format.{least_full}
 use Rattle.blsm_model.specs.declared.key.Key.{Key}
 use Rattle.blsm_model.specs.declared.component.Component.{Component}
 use Rattle.blsm_model.specs.Sizes.{Sizes}
+use Rattle.bloom_bits.specs.BitSet.{BitState}
+use Rattle.bloom_bits.specs.Fences.{FencesState}
+use Rattle.bloom_bits.specs.Guides.{Guide}
 use Rattle.record_delta.specs.declared.record.Rec.{Rec}
 use Rattle.record_delta.specs.Records.{weight}
 use Rattle.record_delta.specs.Entries.{Entries, entries_weight}
 use Rattle.page_space.specs.Space.{SpaceState, HasRole, role_count}
 use Rattle.blsm_model.specs.Components.{no_page}
 use Rattle.page_file.specs.Page.{most_used, page_number}
-use Rattle.page_file.specs.File.{page_at, page_region}
+use Rattle.page_file.specs.File.{page_region}
 use Rattle.blsm_model.specs.Components.{empty_component}
 use Rattle.page_file.specs.Component.{first_number, entries_of, AreChained}
-use Rattle.run_writer.specs.Buffer.{BufferState, empty_buffer, with_entry, sealed, IsBufferOf}
+use Rattle.run_writer.specs.Buffer.{BufferState, empty_buffer, with_entry, IsBufferOf}
 use Rattle.run_writer.specs.Run.{Run, pages_of, IsRun, AreTagged}
 
 -- The role of the run's pages, the component that the run is so far, the number of the open page, and its buffer.
@@ -88,12 +91,14 @@ pub record Holds (writer : WriterState) (run : Run) : Type 0 where
 abbrev pub Stands : Sizes → Run → List ℕ → Type 0
 Stands sizes run file = AreChained sizes run.closed (Some run.number) file
 
--- This list was pushed so far: the writer holds a run whose entries these are, each page of the run has the writer's tag, and where
--- nobody else changes the file the closed pages stand in it.
-pub record HasPushed (sizes : Sizes) (honest : Bool) (file : List ℕ) (space : SpaceState) (writer : WriterState) (entries : Entries) : Type 0 where
+-- This list was pushed so far: the writer holds a run whose entries these are, filter and fences are those of its pages, each page of the run
+-- has the writer's tag, and where nobody else changes the file the closed pages stand in it.
+pub record HasPushed (sizes : Sizes) (honest : Bool) (file : List ℕ) (space : SpaceState) (writer : WriterState) (filter : BitState) (fences : FencesState) (entries : Entries) : Type 0 where
   pub run : Run
   pub held : Holds writer run
   pub is_run : IsRun run
+  pub guide : Guide filter fences (pages_of run)
+  pub one_a_page : length fences.list ≡ writer.component.pages
   pub counted : IsCounted writer
   pub tagged : AreTagged space writer.role run
   pub entries_are : entries_of (pages_of run) ≡ entries

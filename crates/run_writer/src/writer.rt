@@ -4,6 +4,9 @@ ghost use Rattle.std.specs.List.{Contains};
 ghost use Rattle.blsm_model.specs.Format.{least_full};
 ghost use Rattle.blsm_model.specs.Sizes.{Sizes};
 ghost use Rattle.blsm_model.specs.Geometry.{page_count, file_length};
+ghost use Rattle.bloom_bits.specs.BitSet.{BitState};
+ghost use Rattle.bloom_bits.specs.Fences.{FencesState, IsAboveAll};
+ghost use Rattle.bloom_bits.specs.Guides.{Guide, KeepReserves};
 ghost use Rattle.record_delta.specs.Entries.{Entries};
 ghost use Rattle.record_delta.specs.Records.{weight};
 ghost use Rattle.entry_codec.specs.Spelling.{IsEntry};
@@ -15,6 +18,7 @@ ghost use Rattle.run_writer.specs.Buffer.{sealed};
 ghost use Rattle.run_writer.specs.Writer.{started, has_place, open_region, IsInside, IsCounted, put_in, turned, HasPushed};
 
 use crate::buffer::PageBuffer;
+use bloom_bits::{Fences, Filter};
 use blsm_model::{Component, Geometry, Key, Op};
 use disk_trait::Disk;
 use page_file::{MOST_USED, no_component, write_page};
@@ -61,7 +65,7 @@ impl Writer {
     /// The writer of the empty run. The pages that it takes get this tag.
     pub fn start(role: Role) -> Writer
         ensures started { result ≡ started role }
-        ensures pushed { (sizes : Sizes) (honest : Bool) (file : List ℕ) (space : SpaceState) → HasPushed sizes honest file space result [] }
+        ensures pushed { (sizes : Sizes) (honest : Bool) (file : List ℕ) (space : SpaceState) (filter : BitState) (fences : FencesState) → Guide filter fences [] → HasPushed sizes honest file space result filter fences [] }
     {
         let component = no_component();
         // A role is one of five.
@@ -164,33 +168,37 @@ impl Writer {
         self.component.weight += weight(key, rec);
     }
 
-    /// Pushes one entry more. Where it doesn't fit into the 4,088 bytes of the open page, or there is none, the least free page is
+    /// Pushes one entry more: its key goes into the filter, and, where it is a page's first one, into the fences. Where it doesn't fit into the 4,088 bytes of the open page, or there is none, the least free page is
     /// taken and gets the role's tag, the open page is written with its number, and that page is the open one.
     ///
-    /// A page must be free then. While the run's pages keep their tag the run doesn't have all pages (`a_run_has_room`).
+    /// A page must be free then, and there must be room for its fence. While the run's pages keep their tag the run doesn't have all pages
+    /// (`a_run_has_room`), and has a fence for each of them (`a_run_has_fences`).
     ///
-    /// After an `Err`, whose cause is a fault of the disk, the writer is as it was; the page that was taken keeps its tag, and
+    /// After an `Err`, whose cause is a fault of the disk, the writer, the filter and the fences are as they were; the page that was taken keeps its tag, and
     /// nobody knows what the open page's place on the disk has.
     pub fn push<D: Disk>(
         &mut self,
         disk: &mut D,
         geo: &Geometry,
         space: &mut Space,
+        filter: &mut Filter,
+        fences: &mut Fences,
         key: &Key,
         rec: &Rec,
     ) -> Result<(), Failed>
         requires pages { space.old.pages ≡ page_count geo.now }
         requires free { has_place self.old (weight key.now rec.now) ≡ false → HasFree space.old }
         requires room { has_place self.old (weight key.now rec.now) ≡ false → self.old.component.pages < page_count geo.now }
+        requires fence { has_place self.old (weight key.now rec.now) ≡ false → (length fences.old.list < fences.old.reserved) × IsAboveAll key.now fences.old.list }
         requires inside { IsInside (page_count geo.now) self.old }
         requires length { IsTrue (D.state disk.old).tells_bytes → length (D.state disk.old).bytes ≡ file_length geo.now }
 
         // The list that was pushed so far has one entry more. After an `Err` it is the list as before.
         ensures pushed { (entries : Entries) → AreRising ((entries ++ (key.now, rec.now) ∷ []))
-            → HasPushed geo.now (D.state disk.old).is_honest (D.state disk.old).bytes space.old self.old entries
-            → OnOk result (HasPushed geo.now (D.state disk.new).is_honest (D.state disk.new).bytes space.new self.new (entries ++ (key.now, rec.now) ∷ [])) }
-        ensures unpushed { (entries : Entries) → HasPushed geo.now (D.state disk.old).is_honest (D.state disk.old).bytes space.old self.old entries
-            → OnErr result (HasPushed geo.now (D.state disk.new).is_honest (D.state disk.new).bytes space.new self.new entries) }
+            → HasPushed geo.now (D.state disk.old).is_honest (D.state disk.old).bytes space.old self.old filter.old fences.old entries
+            → OnOk result (HasPushed geo.now (D.state disk.new).is_honest (D.state disk.new).bytes space.new self.new filter.new fences.new (entries ++ (key.now, rec.now) ∷ [])) }
+        ensures unpushed { (entries : Entries) → HasPushed geo.now (D.state disk.old).is_honest (D.state disk.old).bytes space.old self.old filter.old fences.old entries
+            → OnErr result (HasPushed geo.now (D.state disk.new).is_honest (D.state disk.new).bytes space.new self.new filter.new fences.new entries) }
 
         // An entry that fits goes into the open page, with no call of the disk. For one that doesn't the least free page is claimed.
         ensures here { IsTrue (has_place self.old (weight key.now rec.now))
@@ -200,6 +208,7 @@ impl Writer {
             × OnOk result (self.new ≡ put_in key.now rec.now (turned page self.old)) }
         ensures inside { IsInside (page_count geo.now) self.new }
         ensures kept { OnErr result (self.new ≡ self.old) }
+        ensures reserves { KeepReserves filter.old filter.new fences.old fences.new }
 
         // One call of the disk at most, and none where no page was open. No byte outside that page changes, in no image of any moment.
         ensures none { self.old.component.pages ≡ 0 → disk.new ≡ disk.old }
@@ -207,10 +216,13 @@ impl Writer {
     {
         if self.has_place(key, rec) {
             self.put(key, rec);
+            filter.add(key);
             return Ok(());
         }
         self.turn(disk, geo, space)?;
+        fences.push(key, self.number);
         self.put(key, rec);
+        filter.add(key);
         Ok(())
     }
 
@@ -224,10 +236,10 @@ impl Writer {
         requires length { IsTrue (D.state disk.old).tells_bytes → length (D.state disk.old).bytes ≡ file_length geo.now }
 
         ensures component { IfOk result (λ c. c ≡ self.old.component) }
-        ensures list { (space : SpaceState) (entries : Entries) → IsTrue (D.state disk.old).is_honest
-            → HasPushed geo.now (D.state disk.old).is_honest (D.state disk.old).bytes space self.old entries
+        ensures list { (space : SpaceState) (filter : BitState) (fences : FencesState) (entries : Entries) → IsTrue (D.state disk.old).is_honest
+            → HasPushed geo.now (D.state disk.old).is_honest (D.state disk.old).bytes space self.old filter fences entries
             → IfOk result (λ c. (list : HasList geo.now c entries (D.state disk.new).bytes)
-            × ((n : ℕ) → Contains (numbers_of list.pages) n → HasRole space self.old.role n)) }
+            × ((n : ℕ) → Contains (numbers_of list.pages) n → HasRole space self.old.role n) × Guide filter fences list.pages) }
         ensures same { self.new ≡ self.old }
 
         // One call of the disk at most, and none where no page was open. No byte outside that page changes, in no image of any moment.

@@ -7,6 +7,8 @@ use Rattle.record_delta.specs.Records.{weight}
 use Rattle.record_delta.specs.Entries.{is_above, Entries, AreSorted, entries_weight, folded_over, first_of, above, up_to}
 use Rattle.run_cursor.specs.Cursor.{CursorState, from_head}
 use Rattle.blsm_model.specs.Sizes.{Sizes}
+use Rattle.bloom_bits.specs.BitSet.{BitState}
+use Rattle.bloom_bits.specs.Fences.{FencesState}
 use Rattle.page_space.specs.Space.{SpaceState}
 use Rattle.run_writer.specs.Writer.{WriterState, HasPushed}
 use Rattle.merge_step.specs.Group.{group_of}
@@ -87,19 +89,19 @@ last_part : (m n : ℕ) → m + n ≡ 0 → n ≡ 0
 last_part m n is = omega arith
 
 -- Where nothing is left by the numbers, nothing is left of the lists.
-pub none_above : {pages : List ℕ} (sizes : Sizes) (file : List ℕ) (space : SpaceState) (snow : SnowState) (a c1 : Entries) → left_weight snow a ≡ 0 → IsPass sizes file space snow pages a c1 → NoneAbove snow.at a c1
-none_above sizes file space snow a c1 done pass = (
+pub none_above : {pages : List ℕ} (sizes : Sizes) (file : List ℕ) (space : SpaceState) (snow : SnowState) (filter : BitState) (fences : FencesState) (a c1 : Entries) → left_weight snow a ≡ 0 → IsPass sizes file space snow filter fences pages a c1 → NoneAbove snow.at a c1
+none_above sizes file space snow filter fences a c1 done pass = (
   weightless (above snow.at a) (first_part (entries_weight (above snow.at a)) (left_in snow.at snow.c1) done),
   input_done sizes file space snow.writer.role snow.at snow.c1 c1 (last_part (entries_weight (above snow.at a)) (left_in snow.at snow.c1) done) pass.older,
 )
 
 -- All was pushed.
-pub pushed_all : {pages : List ℕ} (sizes : Sizes) (file : List ℕ) (space : SpaceState) (snow : SnowState) (a c1 : Entries) → left_weight snow a ≡ 0 → IsPass sizes file space snow pages a c1
-    → HasPushed sizes true file space snow.writer (folded_over a c1)
-pushed_all sizes file space snow a c1 done pass =
-    let none = none_above sizes file space snow a c1 done pass in
-    subst (λ (l : Entries). HasPushed sizes true file space snow.writer (folded_over l c1)) (all_up_to snow.at a none.0)
-    (subst (λ (l : Entries). HasPushed sizes true file space snow.writer (folded_over (up_to snow.at a) l)) (all_up_to snow.at c1 none.1) pass.pushed)
+pub pushed_all : {pages : List ℕ} (sizes : Sizes) (file : List ℕ) (space : SpaceState) (snow : SnowState) (filter : BitState) (fences : FencesState) (a c1 : Entries) → left_weight snow a ≡ 0 → IsPass sizes file space snow filter fences pages a c1
+    → HasPushed sizes true file space snow.writer filter fences (folded_over a c1)
+pushed_all sizes file space snow filter fences a c1 done pass =
+    let none = none_above sizes file space snow filter fences a c1 done pass in
+    subst (λ (l : Entries). HasPushed sizes true file space snow.writer filter fences (folded_over l c1)) (all_up_to snow.at a none.0)
+    (subst (λ (l : Entries). HasPushed sizes true file space snow.writer filter fences (folded_over (up_to snow.at a) l)) (all_up_to snow.at c1 none.1) pass.pushed)
 
 -- what is above a key weighs no more than all
 pub above_light : (at : Option Key) (es : Entries) → entries_weight (above at es) ≤ entries_weight es

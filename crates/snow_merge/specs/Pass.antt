@@ -4,12 +4,14 @@ use Rattle.blsm_model.specs.declared.component.Component.{Component}
 use Rattle.blsm_model.specs.declared.key.Key.{Key}
 use Rattle.blsm_model.specs.Format.{least_weight, most_weight}
 use Rattle.blsm_model.specs.Sizes.{Sizes}
+use Rattle.bloom_bits.specs.BitSet.{BitState}
+use Rattle.bloom_bits.specs.Fences.{FencesState}
 use Rattle.record_delta.specs.Entries.{Entries, entries_weight, folded_over, is_above, above, up_to}
 use Rattle.page_space.specs.Space.{SpaceState}
 use Rattle.run_cursor.specs.Cursor.{CursorState, started as cursor_started}
 use Rattle.run_writer.specs.Writer.{WriterState, started as writer_started, HasPushed}
 use Rattle.merge_ends.specs.Input.{left_in, IsBehind, IsInput}
-use Rattle.merge_ends.specs.Output.{HasRoom, HasRun}
+use Rattle.merge_ends.specs.Output.{HasFences, HasRoom, HasRun}
 
 -- the run that is written, the cursor over C1, and the greatest key that was taken
 pub record SnowState : Type 0 where
@@ -26,14 +28,14 @@ abbrev pub left_weight : SnowState → Entries → ℕ
 left_weight snow a = entries_weight (above snow.at a) + left_in snow.at snow.c1
 
 -- On any disk: a list was pushed, of keys that were taken, and the cursor has taken all up to the greatest of them.
-pub record IsRunning (sizes : Sizes) (honest : Bool) (file : List ℕ) (space : SpaceState) (snow : SnowState) : Type 0 where
-  pub run : HasRun sizes honest file space snow.writer snow.at
+pub record IsRunning (sizes : Sizes) (honest : Bool) (file : List ℕ) (space : SpaceState) (snow : SnowState) (filter : BitState) (fences : FencesState) : Type 0 where
+  pub run : HasRun sizes honest file space snow.writer filter fences snow.at
   pub behind : IsBehind snow.at snow.c1
 
 -- Of table A and of C1's list, which stands on these pages, what is up to the greatest key taken was taken, folded key by key, and pushed; what is above it is left.
-pub record IsPass (sizes : Sizes) (file : List ℕ) (space : SpaceState) (snow : SnowState) (pages : List ℕ) (a c1 : Entries) : Type 0 where
+pub record IsPass (sizes : Sizes) (file : List ℕ) (space : SpaceState) (snow : SnowState) (filter : BitState) (fences : FencesState) (pages : List ℕ) (a c1 : Entries) : Type 0 where
   pub older : IsInput sizes file space snow.writer.role snow.at snow.c1 pages c1
-  pub pushed : HasPushed sizes true file space snow.writer (folded_over (up_to snow.at a) (up_to snow.at c1))
+  pub pushed : HasPushed sizes true file space snow.writer filter fences (folded_over (up_to snow.at a) (up_to snow.at c1))
 
 -- What was taken, by the numbers: so much of table A and so much of C1. The run weighs no more than by that.
 pub record Takes (old new : SnowState) (a : Entries) (taken : ℕ) : Type 0 where
@@ -52,7 +54,8 @@ pub record TakesGroup (old new : SnowState) (a : Entries) (taken : ℕ) : Type 0
   pub light : taken ≤ 2 * most_weight
   pub some : (least_weight ≤ taken) ⊎ ((taken ≡ 0) × (left_weight new a ≡ 0))
 
--- On any disk: the pass runs, and the run has room for all that is left.
-pub record MayGoOn (sizes : Sizes) (honest : Bool) (file : List ℕ) (space : SpaceState) (snow : SnowState) (a : Entries) : Type 0 where
-  pub running : IsRunning sizes honest file space snow
+-- On any disk: the pass runs, and the run and its fences have room for all that is left.
+pub record MayGoOn (sizes : Sizes) (honest : Bool) (file : List ℕ) (space : SpaceState) (snow : SnowState) (filter : BitState) (fences : FencesState) (a : Entries) : Type 0 where
+  pub running : IsRunning sizes honest file space snow filter fences
+  pub fences_fit : HasFences fences snow.writer (left_weight snow a)
   pub room : HasRoom space snow.writer (left_weight snow a)

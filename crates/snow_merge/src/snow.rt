@@ -6,6 +6,10 @@ ghost use Rattle.blsm_model.specs.Components.{empty_component};
 ghost use Rattle.blsm_model.specs.Format.{most_weight};
 ghost use Rattle.blsm_model.specs.Sizes.{Sizes};
 ghost use Rattle.blsm_model.specs.Geometry.{page_count, file_length};
+ghost use Rattle.bloom_bits.specs.BitSet.{BitState, cleared};
+ghost use Rattle.bloom_bits.specs.Fences.{FencesState};
+ghost use Rattle.bloom_bits.specs.Filter.{rounded};
+ghost use Rattle.bloom_bits.specs.Guides.{Guide, KeepReserves, KeepSized};
 ghost use Rattle.record_delta.specs.Entries.{Entries, entries_weight, folded_over, above};
 ghost use Rattle.page_space.specs.Space.{SpaceState, HasRole, IsFree, role_size};
 ghost use Rattle.page_file.specs.Component.{numbers_of, HasList};
@@ -14,6 +18,7 @@ ghost use Rattle.run_writer.specs.Writer.{IsInside, role_region};
 ghost use Rattle.merge_ends.specs.Quantum.{IsNext, NoneAbove, IsQuantum, Works, Counts};
 ghost use Rattle.snow_merge.specs.Pass.{started, left_weight, IsRunning, IsPass, Takes, TakesGroup, MayGoOn};
 
+use bloom_bits::{Fences, Filter};
 use blsm_model::{Component, Geometry, Key};
 use disk_trait::Disk;
 use mem_table::{Above, Table};
@@ -43,17 +48,29 @@ impl Model for Snow {
 }
 
 impl Snow {
-    /// A pass over C1 that has taken nothing. It calls no device.
-    pub fn begin(c1: &Component, role: Role) -> Snow
-        requires { c1.now.pages ≡ 0 → c1.now ≡ empty_component }
+    /// A pass over C1 that has taken nothing. The run's filter gets so many bits, and filter and fences are empty. It calls no device.
+    pub fn begin(
+        c1: &Component,
+        role: Role,
+        bits: u64,
+        filter: &mut Filter,
+        fences: &mut Fences,
+    ) -> Snow
+        requires empty { c1.now.pages ≡ 0 → c1.now ≡ empty_component }
+        requires bits { rounded bits ≤ filter.old.reserved }
         ensures started { result ≡ started role c1.now }
-        ensures running { (sizes : Sizes) (honest : Bool) (file : List ℕ) (space : SpaceState) → IsRunning sizes honest file space result }
+        ensures running { (sizes : Sizes) (honest : Bool) (file : List ℕ) (space : SpaceState) → IsRunning sizes honest file space result filter.new fences.new }
+        ensures reserves { KeepSized (rounded bits) filter.old filter.new fences.old fences.new }
+        ensures filter { filter.new ≡ cleared filter.old.reserved (rounded bits) }
+        ensures fences { fences.new ≡ record { reserved = fences.old.reserved; list = [] } }
         // No page of C1 has the run's tag, and none is free.
         ensures pass { (sizes : Sizes) (file : List ℕ) (space : SpaceState) (a entries : Entries) → (list : HasList sizes c1.now entries file)
             → ((n : ℕ) → Contains (numbers_of list.pages) n → (HasRole space role n → ⊥) × (IsFree space n → ⊥))
-            → IsPass sizes file space result (numbers_of list.pages) a entries }
+            → IsPass sizes file space result filter.new fences.new (numbers_of list.pages) a entries }
     {
         one_order();
+        filter.reset(bits);
+        fences.clear();
         Snow {
             writer: Writer::start(role),
             c1: Cursor::start(c1),
@@ -85,17 +102,20 @@ impl Snow {
         geo: &Geometry,
         a: &Table,
         space: &mut Space,
+        filter: &mut Filter,
+        fences: &mut Fences,
     ) -> Result<u64, Broken>
         requires pages { space.old.pages ≡ page_count geo.now }
         requires length { IsTrue (D.state disk.old).tells_bytes → length (D.state disk.old).bytes ≡ file_length geo.now }
-        requires runs { MayGoOn geo.now (D.state disk.old).is_honest (D.state disk.old).bytes space.old self.old a.now.entries }
-        ensures pass { (pages : List ℕ) (c1 : Entries) → IsTrue (D.state disk.old).is_honest → IsPass geo.now (D.state disk.old).bytes space.old self.old pages a.now.entries c1
+        requires runs { MayGoOn geo.now (D.state disk.old).is_honest (D.state disk.old).bytes space.old self.old filter.old fences.old a.now.entries }
+        ensures pass { (pages : List ℕ) (c1 : Entries) → IsTrue (D.state disk.old).is_honest → IsPass geo.now (D.state disk.old).bytes space.old self.old filter.old fences.old pages a.now.entries c1
             → result ≢ Err Broken.Fault
-            → (n : ℕ) × (result ≡ Ok n) × IsPass geo.now (D.state disk.new).bytes space.new self.new pages a.now.entries c1
+            → (n : ℕ) × (result ≡ Ok n) × IsPass geo.now (D.state disk.new).bytes space.new self.new filter.new fences.new pages a.now.entries c1
             × (IsNext self.old.at self.new.at a.now.entries c1 n ⊎ (NoneAbove self.old.at a.now.entries c1 × (self.new.at ≡ self.old.at) × (n ≡ 0))) }
-        ensures runs { OnOk result (MayGoOn geo.now (D.state disk.new).is_honest (D.state disk.new).bytes space.new self.new a.now.entries) }
+        ensures runs { OnOk result (MayGoOn geo.now (D.state disk.new).is_honest (D.state disk.new).bytes space.new self.new filter.new fences.new a.now.entries) }
         ensures takes { IfOk result (TakesGroup self.old self.new a.now.entries) }
         ensures size { OnOk result (role_size space.new self.old.writer.role + self.old.writer.component.pages ≡ role_size space.old self.old.writer.role + self.new.writer.component.pages) }
+        ensures reserves { KeepReserves filter.old filter.new fences.old fences.new }
         ensures role { self.new.writer.role ≡ self.old.writer.role }
         ensures works { Works geo.now self.old.writer.role 2 space.old space.new (D.state disk.old) (D.state disk.new) }
         ensures counted { OnOk result (Counts 0 self.old.c1.pages self.new.c1.pages self.old.writer.component.pages self.new.writer.component.pages (D.state disk.old) (D.state disk.new)) }
@@ -113,7 +133,16 @@ impl Snow {
         let Some((key, rec, weight)) = least_group(&table, &self.c1) else {
             return Ok(0);
         };
-        put(&mut self.writer, disk, geo, space, &key, &rec)?;
+        put(
+            &mut self.writer,
+            disk,
+            geo,
+            space,
+            filter,
+            fences,
+            &key,
+            &rec,
+        )?;
         self.at = Some(key);
         Ok(weight)
     }
@@ -129,19 +158,21 @@ impl Snow {
         geo: &Geometry,
         a: &Table,
         space: &mut Space,
+        filter: &mut Filter,
+        fences: &mut Fences,
     ) -> Result<u64, Broken>
         requires pages { space.old.pages ≡ page_count geo.now }
         requires length { IsTrue (D.state disk.old).tells_bytes → length (D.state disk.old).bytes ≡ file_length geo.now }
-        requires runs { MayGoOn geo.now (D.state disk.old).is_honest (D.state disk.old).bytes space.old self.old a.now.entries }
+        requires runs { MayGoOn geo.now (D.state disk.old).is_honest (D.state disk.old).bytes space.old self.old filter.old fences.old a.now.entries }
 
         // On an honest disk the pass stands as before, further on by one quantum.
-        ensures pass { (pages : List ℕ) (c1 : Entries) → IsTrue (D.state disk.old).is_honest → IsPass geo.now (D.state disk.old).bytes space.old self.old pages a.now.entries c1
+        ensures pass { (pages : List ℕ) (c1 : Entries) → IsTrue (D.state disk.old).is_honest → IsPass geo.now (D.state disk.old).bytes space.old self.old filter.old fences.old pages a.now.entries c1
             → result ≢ Err Broken.Fault
-            → (n : ℕ) × (result ≡ Ok n) × IsPass geo.now (D.state disk.new).bytes space.new self.new pages a.now.entries c1
+            → (n : ℕ) × (result ≡ Ok n) × IsPass geo.now (D.state disk.new).bytes space.new self.new filter.new fences.new pages a.now.entries c1
             × IsQuantum geo.now.quantum self.old.at self.new.at a.now.entries c1 n }
 
         // On any disk what was taken and what is left add up, and it is a quantum or all that was left, and less than one group more.
-        ensures runs { OnOk result (MayGoOn geo.now (D.state disk.new).is_honest (D.state disk.new).bytes space.new self.new a.now.entries) }
+        ensures runs { OnOk result (MayGoOn geo.now (D.state disk.new).is_honest (D.state disk.new).bytes space.new self.new filter.new fences.new a.now.entries) }
         ensures takes { IfOk result (Takes self.old self.new a.now.entries) }
         ensures bound { IfOk result (λ n. n + 1 ≤ geo.now.quantum + 2 * most_weight) }
         ensures enough { IfOk result (λ n. (geo.now.quantum ≤ n) ⊎ (left_weight self.new a.now.entries ≡ 0)) }
@@ -149,6 +180,7 @@ impl Snow {
         ensures kept { IsErr result → self.new.at ≡ self.old.at }
 
         // Whatever it answers: it takes free pages, and writes its run's alone. Each group weighs 14 bytes at least, and makes two calls at most.
+        ensures reserves { KeepReserves filter.old filter.new fences.old fences.new }
         ensures role { self.new.writer.role ≡ self.old.writer.role }
         ensures works { Works geo.now self.old.writer.role (geo.now.quantum / 7 + 2) space.old space.new (D.state disk.old) (D.state disk.new) }
         ensures counts { Counts 1 self.old.c1.pages self.new.c1.pages self.old.writer.component.pages self.new.writer.component.pages (D.state disk.old) (D.state disk.new) }
@@ -160,7 +192,7 @@ impl Snow {
         let quantum = geo.quantum();
         let mut taken = 0;
         while taken < quantum {
-            let weight = match self.step(disk, geo, a, space) {
+            let weight = match self.step(disk, geo, a, space, filter, fences) {
                 Ok(weight) => weight,
                 Err(broken) => {
                     self.at = at;
@@ -188,13 +220,13 @@ impl Snow {
         requires length { IsTrue (D.state disk.old).tells_bytes → length (D.state disk.old).bytes ≡ file_length geo.now }
         ensures component { IfOk result (λ c. c ≡ self.old.writer.component) }
         // It reads as table A folded over C1, on pages that have the run's tag.
-        ensures list { (space : SpaceState) (pages : List ℕ) (c1 : Entries) → IsTrue (D.state disk.old).is_honest
-            → IsPass geo.now (D.state disk.old).bytes space self.old pages a.now.entries c1
+        ensures list { (space : SpaceState) (filter : BitState) (fences : FencesState) (pages : List ℕ) (c1 : Entries) → IsTrue (D.state disk.old).is_honest
+            → IsPass geo.now (D.state disk.old).bytes space self.old filter fences pages a.now.entries c1
             → IfOk result (λ c. (list : HasList geo.now c (folded_over a.now.entries c1) (D.state disk.new).bytes)
-            × ((n : ℕ) → Contains (numbers_of list.pages) n → HasRole space self.old.writer.role n)) }
+            × ((n : ℕ) → Contains (numbers_of list.pages) n → HasRole space self.old.writer.role n) × Guide filter fences list.pages) }
         ensures same { self.new ≡ self.old }
         // One call of the disk at most. No byte outside the run's pages changes, in no image of any moment.
-        ensures writes { (space : SpaceState) → IsRunning geo.now (D.state disk.old).is_honest (D.state disk.old).bytes space self.old
+        ensures writes { (space : SpaceState) (filter : BitState) (fences : FencesState) → IsRunning geo.now (D.state disk.old).is_honest (D.state disk.old).bytes space self.old filter fences
             → Writes (role_region geo.now space self.old.writer.role) (file_length geo.now) result (D.state disk.old) (D.state disk.new) }
     {
         where_a_run_writes();

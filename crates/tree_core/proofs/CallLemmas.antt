@@ -22,9 +22,10 @@ use Rattle.tree_machine.specs.Steps.{Answer, Left, Replied, Turn, work_reply}
 use Rattle.tree_machine.specs.declared.step.Kind.{Kind}
 use Rattle.tree_machine.specs.declared.step.Kind.TheVariants as kind
 use Rattle.tree_machine.specs.declared.step.Step.{Step}
+use Rattle.tree_runs.specs.Lookups.{HidesOlder}
 use Rattle.tree_runs.specs.Runs.{page_share}
 use Rattle.core_moves.specs.Moves.{with_book}
-use Rattle.tree_core.specs.Answers.{answer_to_pay, reply_to_drop, reply_to_get, reply_to_hold, reply_to_next, reply_to_write}
+use Rattle.tree_core.specs.Answers.{answer_to_pay, newest_in, reply_to_drop, reply_to_get, reply_to_hold, reply_to_next, reply_to_write}
 use Rattle.tree_core.specs.Calls.{Admits, AreCalls, CameSince, EndsWork, Gets, GoesOnAs, Helps, HoldsRange, IsCall, Leaves, LetsGo, Pays, ReadsOn, TurnsOnce}
 use Rattle.tree_core.specs.Causes.{AdmitsBecause, CallsNone, DropsBecause, FindsBecause, HasBegun, HoldsBecause, LooksNone, PaysBecause, PaysNone, ScansBecause, ScansNone, TurnsBecause, TurnsNone}
 use Rattle.tree_core.specs.Core.{CoreState, HoldsPace, facts_of_held}
@@ -99,12 +100,12 @@ pub gets : {D : Type 0} (state : D → DiskState) (seat : ℕ) (key : Key) (answ
     (numbers : (pace : Pace) → HoldsPace old.held pace (state old.disk) → MovesPace seat (kind.Get key) (Replied (reply_to_get answer)) new.held (state new.disk) pace)
     (steps : (opening : List (Key × Value)) (m : Machine) (pace : Pace) → IsTrue (state old.disk).is_honest → StandsFor opening old.held m pace (state old.disk) → IsTrue (may m seat (kind.Get key)) → IsStep opening seat (kind.Get key) (Replied (reply_to_get answer)) new.held (state old.disk) (state new.disk) m pace)
     (cause : FindsBecause answer old.held (state old.disk) (state new.disk)) (held : new.held ≡ with_book (noted_in seat (op.Get key) (reply_to_get answer) old.held.book) old.held)
-    (reads : OnlyReads (file_length old.held.runs.sizes) (old.held.runs.catalogue.c1.pages + old.held.runs.catalogue.c1x.pages + old.held.runs.catalogue.c2.pages) (state old.disk) (state new.disk))
+    (reads : OnlyReads (file_length old.held.runs.sizes) 3 (state old.disk) (state new.disk)) (hidden : HidesOlder (newest_in key old.held) → new.disk ≡ old.disk)
     (untouched : LooksNone answer → new.disk ≡ old.disk) (holds : KeepsHolds old new) (follows : Follows seat (facts_of_held old.held) (facts_of_held new.held))
     (lasts : (start : CoreState D) → StandsSince state start old → StandsSince state start new) (begins : StandsSince state new new)
     → Gets state seat key answer old new
-gets {D} state seat key answer old new can numbers steps cause held reads untouched holds follows lasts begins =
-    record { goes = goes_beside state seat (kind.Get key) (Replied (reply_to_get answer)) old new can numbers follows lasts begins refl holds (λ honest. stays (only_reads_same reads honest)) steps; cause = cause; held = held; reads = reads; untouched = untouched }
+gets {D} state seat key answer old new can numbers steps cause held reads hidden untouched holds follows lasts begins =
+    record { goes = goes_beside state seat (kind.Get key) (Replied (reply_to_get answer)) old new can numbers follows lasts begins refl holds (λ honest. stays (only_reads_same reads honest)) steps; cause = cause; held = held; reads = reads; hidden = hidden; untouched = untouched }
   where
     stays : (state new.disk).bytes ≡ (state old.disk).bytes → IsSameOutside (beside_pins old.held.runs.sizes old.held.runs.space.pins) (state old.disk).bytes (state new.disk).bytes
     stays same = subst (λ (file : List ℕ). IsSameOutside (beside_pins old.held.runs.sizes old.held.runs.space.pins) (state old.disk).bytes file) (sym same) (same_file (beside_pins old.held.runs.sizes old.held.runs.space.pins) (state old.disk).bytes)

@@ -28,7 +28,7 @@ use Rattle.tree_machine.specs.declared.step.Kind.TheVariants as kind
 use Rattle.paced_tree.proofs.Promises.{step_is_paced}
 use Rattle.tree_file.specs.Tree.{Tree, HoldsTree}
 use Rattle.tree_file.proofs.StandLemmas.{stands_read}
-use Rattle.tree_runs.specs.Holding.{AreOf}
+use Rattle.tree_runs.specs.Holding.{AreGuided, AreOf}
 use Rattle.tree_runs.specs.Laws.{RunsStay}
 use Rattle.core_moves.specs.declared.held.Held.{Held}
 use Rattle.core_moves.specs.Moves.{with_book}
@@ -104,7 +104,7 @@ get_step {end} {most} {d} {d2} opening seat key r outcome held m pace reads hone
 
 pub get_steps : {end most : ℕ} {d d2 : DiskState} (opening : List (Key × Value)) (seat : ℕ) (key : Key) (found : Lookup) (held : Held) (m : Machine) (pace : Pace) → OnlyReads end most d d2 → IsTrue d.is_honest
     → FindsBecause found held d d2 → (found ≡ lookup.Fault → d2.faults < 2 ^ 64)
-    → ((tree : Tree) → HoldsTree held.runs.sizes tree d.bytes → tree.catalogue ≡ held.runs.catalogue → held.book.stopped ≡ None → found ≢ lookup.Fault → reply_to_get found ≡ answer_to_get (found_in key held tree))
+    → ((tree : Tree) → HoldsTree held.runs.sizes tree d.bytes → tree.catalogue ≡ held.runs.catalogue → AreGuided held.runs.guides held.runs.tags tree → held.book.stopped ≡ None → found ≢ lookup.Fault → reply_to_get found ≡ answer_to_get (found_in key held tree))
     → StandsFor opening held m pace d → may m seat (kind.Get key) ≡ true
     → IsStep opening seat (kind.Get key) (Replied (reply_to_get found)) (with_book (noted_in seat (Get key) (reply_to_get found) held.book) held) d d2 m pace
 get_steps {end} {most} {d} {d2} opening seat key found held m pace reads honest because counted value s can = by found because counted value
@@ -117,10 +117,10 @@ get_steps {end} {most} {d} {d2} opening seat key found held m pace reads honest 
 
     -- what was found is what the machine has
     there : (r : Reply) → held.book.stopped ≡ None
-        → ((tree : Tree) → HoldsTree held.runs.sizes tree d.bytes → tree.catalogue ≡ held.runs.catalogue → r ≡ answer_to_get (found_in key held tree)) → r ≡ answer_to_get (value_in m.lists key)
+        → ((tree : Tree) → HoldsTree held.runs.sizes tree d.bytes → tree.catalogue ≡ held.runs.catalogue → AreGuided held.runs.guides held.runs.tags tree → r ≡ answer_to_get (found_in key held tree)) → r ≡ answer_to_get (value_in m.lists key)
     there r none is =
         let over = s.runs none in
-        is over.tree over.over.stands.reads over.over.are_of.catalogue
+        is over.tree over.over.stands.reads over.over.are_of.catalogue over.over.are_of.guided
         ∙ ap answer_to_get (lookup_is_the_machines held over.tree m d.bytes key (record { are_of = over.over.are_of; holds = over.holds }))
 
     well : (r : Reply) → held.book.stopped ≡ None → r ≡ answer_to_get (value_in m.lists key)
@@ -128,11 +128,11 @@ get_steps {end} {most} {d} {d2} opening seat key found held m pace reads honest 
     well r none is = get_step opening seat key r Well held m pace reads honest s can (running Well none ∙ ap (λ (x : Reply). replied seat (Get key) x m) (sym is)) tt refl
 
     by : (f : Lookup) → FindsBecause f held d d2 → (f ≡ lookup.Fault → d2.faults < 2 ^ 64)
-        → ((tree : Tree) → HoldsTree held.runs.sizes tree d.bytes → tree.catalogue ≡ held.runs.catalogue → held.book.stopped ≡ None → f ≢ lookup.Fault → reply_to_get f ≡ answer_to_get (found_in key held tree))
+        → ((tree : Tree) → HoldsTree held.runs.sizes tree d.bytes → tree.catalogue ≡ held.runs.catalogue → AreGuided held.runs.guides held.runs.tags tree → held.book.stopped ≡ None → f ≢ lookup.Fault → reply_to_get f ≡ answer_to_get (found_in key held tree))
         → IsStep opening seat (kind.Get key) (Replied (reply_to_get f)) (with_book (noted_in seat (Get key) (reply_to_get f) held.book) held) d d2 m pace
-    by (lookup.Is x) because counted is = well (reply.Is x) because.0 (there (reply.Is x) because.0 (λ tree holds catalogue. is tree holds catalogue because.0 (λ same. cc same)))
-    by lookup.Absent because counted is = well reply.Absent because.0 (there reply.Absent because.0 (λ tree holds catalogue. is tree holds catalogue because.0 (λ same. cc same)))
-    by (lookup.Damaged page) because counted is = well (reply.Damaged page) because.0 (there (reply.Damaged page) because.0 (λ tree holds catalogue. is tree holds catalogue because.0 (λ same. cc same)))
+    by (lookup.Is x) because counted is = well (reply.Is x) because.0 (there (reply.Is x) because.0 (λ tree holds catalogue guided. is tree holds catalogue guided because.0 (λ same. cc same)))
+    by lookup.Absent because counted is = well reply.Absent because.0 (there reply.Absent because.0 (λ tree holds catalogue guided. is tree holds catalogue guided because.0 (λ same. cc same)))
+    by (lookup.Damaged page) because counted is = well (reply.Damaged page) because.0 (there (reply.Damaged page) because.0 (λ tree holds catalogue guided. is tree holds catalogue guided because.0 (λ same. cc same)))
     by lookup.Fault because counted is =
         get_step opening seat key reply.Fault (FailedAfter 0 d2.faults) held m pace reads honest s can (running (FailedAfter 0 d2.faults) because.0)
         (ap (λ (o : Option Why). not (is_some o) && true) (stopped_is ∙ because.0), omega arith, rose d.faults d2.faults reads.effect.goes_on.faults (counted refl) because.1, refl) refl

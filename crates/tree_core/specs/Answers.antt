@@ -2,6 +2,7 @@
 use Rattle.std.specs.Prelude.{Option, if◌then◌else◌}
 use Rattle.blsm_model.specs.declared.key.Key.{Key}
 use Rattle.blsm_model.specs.declared.row.Value.{Value}
+use Rattle.record_delta.specs.declared.record.Rec.{Rec}
 use Rattle.record_delta.specs.Records.{settled}
 use Rattle.record_delta.specs.Entries.{over_any, record_of_key}
 use Rattle.page_file.specs.Component.{entries_of}
@@ -62,8 +63,12 @@ reply_to_drop release.Done = reply.Done
 reply_to_drop release.NoHold = reply.NoHold
 reply_to_drop (release.Stopped why) = reply.Stopped why
 
--- what the tables have of a key, over what the components of this tree have of it
+-- what the memory table has of a key: table B's record over table A's
+abbrev pub newest_in : Key → Held → Option Rec
+newest_in key held = over_any (record_of_key key held.log.b.entries) (record_of_key key held.log.a.entries)
+
+-- and that over what the components of this tree have of it
 abbrev pub found_in : Key → Held → Tree → Option Value
 found_in key held tree =
-    settled (over_any (over_any (record_of_key key held.log.b.entries) (record_of_key key held.log.a.entries))
+    settled (over_any (newest_in key held)
     (over_any (record_of_key key (entries_of tree.c1)) (over_any (record_of_key key (entries_of tree.c1x)) (record_of_key key (entries_of tree.c2)))))

@@ -19,9 +19,10 @@ use Rattle.tree_machine.specs.Steps.{Answer, Left, Replied, Turn, work_reply}
 use Rattle.tree_machine.specs.declared.step.Kind.{Kind}
 use Rattle.tree_machine.specs.declared.step.Kind.TheVariants as kind
 use Rattle.tree_machine.specs.declared.step.Step.{Step}
+use Rattle.tree_runs.specs.Lookups.{HidesOlder}
 use Rattle.tree_runs.specs.Runs.{page_share}
 use Rattle.core_moves.specs.Moves.{with_book}
-use Rattle.tree_core.specs.Answers.{answer_to_pay, reply_to_drop, reply_to_get, reply_to_hold, reply_to_next, reply_to_write}
+use Rattle.tree_core.specs.Answers.{answer_to_pay, newest_in, reply_to_drop, reply_to_get, reply_to_hold, reply_to_next, reply_to_write}
 use Rattle.tree_core.specs.Causes.{AdmitsBecause, CallsNone, DropsBecause, FindsBecause, HasBegun, HoldsBecause, LooksNone, PaysBecause, PaysNone, ScansBecause, ScansNone, TurnsBecause, TurnsNone}
 use Rattle.tree_core.specs.Core.{CoreState, HoldsPace, facts_of_held}
 use Rattle.tree_core.specs.Holds.{LeavesOthers, StandsWhole}
@@ -65,7 +66,8 @@ pub record Gets {D : Type 0} (state : D → DiskState) (seat : ℕ) (key : Key) 
   pub goes : GoesOnAs state seat (kind.Get key) (Replied (reply_to_get answer)) old new
   pub cause : FindsBecause answer old.held (state old.disk) (state new.disk)
   pub held : new.held ≡ with_book (noted_in seat (op.Get key) (reply_to_get answer) old.held.book) old.held
-  pub reads : OnlyReads (file_length old.held.runs.sizes) (old.held.runs.catalogue.c1.pages + old.held.runs.catalogue.c1x.pages + old.held.runs.catalogue.c2.pages) (state old.disk) (state new.disk)
+  pub reads : OnlyReads (file_length old.held.runs.sizes) 3 (state old.disk) (state new.disk)
+  pub hidden : HidesOlder (newest_in key old.held) → new.disk ≡ old.disk
   pub untouched : LooksNone answer → new.disk ≡ old.disk
 
 pub record HoldsRange {D : Type 0} (state : D → DiskState) (seat : ℕ) (low high : Key) (answer : Holding) (old new : CoreState D) : Type 0 where

@@ -1,5 +1,5 @@
 //! Lookups.
-ghost use Rattle.std.specs.Prelude.{◌≡◌, ◌≢◌, ◌+◌, ◌<◌, ◌^◌, ℕ, List, None, IsTrue};
+ghost use Rattle.std.specs.Prelude.{◌≡◌, ◌≢◌, ◌<◌, ◌^◌, ℕ, List, None, IsTrue};
 ghost use Rattle.blsm_model.specs.declared.key.Key.{Key};
 ghost use Rattle.blsm_model.specs.declared.row.Value.{Value};
 ghost use Rattle.blsm_model.specs.declared.op.Op.TheVariants.{Get};
@@ -16,12 +16,14 @@ ghost use Rattle.tree_machine.specs.Plays.{may};
 ghost use Rattle.tree_machine.specs.Steps.{Replied};
 ghost use Rattle.blsm_model.specs.Histories.{answer_to_get};
 ghost use Rattle.tree_file.specs.Tree.{Tree, HoldsTree};
+ghost use Rattle.tree_runs.specs.Holding.{AreGuided};
+ghost use Rattle.tree_runs.specs.Lookups.{HidesOlder};
 ghost use Rattle.core_moves.specs.Moves.{with_book};
 ghost use Rattle.core_moves.specs.Needs.{IsOn};
 ghost use Rattle.tree_core.specs.Answers.{reply_to_get};
 ghost use Rattle.tree_core.specs.Causes.{FindsBecause, IsFound, LooksNone};
 ghost use Rattle.tree_core.specs.declared.answers.Lookup.TheVariants as lookup;
-ghost use Rattle.tree_core.specs.Answers.{found_in};
+ghost use Rattle.tree_core.specs.Answers.{found_in, newest_in};
 ghost use Rattle.tree_core.specs.Core.{CoreState, HoldsPace, facts_of_held};
 ghost use Rattle.tree_core.specs.Holds.{KeepsHolds};
 ghost use Rattle.tree_core.specs.Standing.{StandsFor};
@@ -63,15 +65,15 @@ fn reply_of(lookup: &Lookup) -> ShortReply
     }
 }
 
-// What the tables and the components have of the key.
+// What the tables and the components have of the key: one page of each component is read at most, and none below a base or a tombstone.
 fn look_up<D: Disk>(held: &Held, disk: &mut D, key: &Key) -> Lookup
     requires on { held.now.book.stopped ≡ None → IsOn held.now (D.state disk.old) }
     ensures cause { FindsBecause result held.now (D.state disk.old) (D.state disk.new) }
     ensures value { (tree : Tree) → IsTrue (D.state disk.old).is_honest → HoldsTree held.now.runs.sizes tree (D.state disk.old).bytes → tree.catalogue ≡ held.now.runs.catalogue
-        → held.now.book.stopped ≡ None → result ≢ lookup.Fault → reply_to_get result ≡ answer_to_get (found_in key.now held.now tree) }
+        → AreGuided held.now.runs.guides held.now.runs.tags tree → held.now.book.stopped ≡ None → result ≢ lookup.Fault → reply_to_get result ≡ answer_to_get (found_in key.now held.now tree) }
     ensures counted { result ≡ lookup.Fault → (D.state disk.new).faults < 2 ^ 64 }
-    ensures reads { OnlyReads (file_length held.now.runs.sizes)
-        (held.now.runs.catalogue.c1.pages + held.now.runs.catalogue.c1x.pages + held.now.runs.catalogue.c2.pages) (D.state disk.old) (D.state disk.new) }
+    ensures reads { OnlyReads (file_length held.now.runs.sizes) 3 (D.state disk.old) (D.state disk.new) }
+    ensures hidden { HidesOlder (newest_in key.now held.now) → disk.new ≡ disk.old }
     ensures untouched { LooksNone result → disk.new ≡ disk.old }
 {
     if let Some(why) = held.book.stopped() {
@@ -90,7 +92,8 @@ fn look_up<D: Disk>(held: &Held, disk: &mut D, key: &Key) -> Lookup
 }
 
 impl<D: Disk + Drop> Core<D> {
-    /// Looks a key up. It notes one entry; a lookup that fails doesn't stop the store.
+    /// Looks a key up. It reads one page of each component at most, so three, and none where the memory table has a base or a tombstone of the
+    /// key. It notes one entry; a lookup that fails doesn't stop the store.
     pub fn get(&mut self, seat: u32, key: &Key) -> Lookup
         requires { IsTrue (may_note_in seat 0 self.old.held.book) }
         ensures numbers { (pace : Pace) → HoldsPace self.old.held pace (D.state self.old.disk)
@@ -100,8 +103,8 @@ impl<D: Disk + Drop> Core<D> {
             → IsStep opening seat (kind.Get key.now) (Replied (reply_to_get result)) self.new.held (D.state self.old.disk) (D.state self.new.disk) m pace }
         ensures cause { FindsBecause result self.old.held (D.state self.old.disk) (D.state self.new.disk) }
         ensures held { self.new.held ≡ with_book (noted_in seat (Get key.now) (reply_to_get result) self.old.held.book) self.old.held }
-        ensures reads { OnlyReads (file_length self.old.held.runs.sizes)
-            (self.old.held.runs.catalogue.c1.pages + self.old.held.runs.catalogue.c1x.pages + self.old.held.runs.catalogue.c2.pages) (D.state self.old.disk) (D.state self.new.disk) }
+        ensures reads { OnlyReads (file_length self.old.held.runs.sizes) 3 (D.state self.old.disk) (D.state self.new.disk) }
+        ensures hidden { HidesOlder (newest_in key.now self.old.held) → self.new.disk ≡ self.old.disk }
         ensures holds { KeepsHolds self.old self.new }
         ensures follows { Follows seat (facts_of_held self.old.held) (facts_of_held self.new.held) }
         ensures lasts { (start : CoreState D) → StandsSince D.state start self.old → StandsSince D.state start self.new }

@@ -14,8 +14,8 @@ use Rattle.deep_merge.specs.Merge.{DeepState}
 use Rattle.tree_machine.proofs.QuantumLemmas.{weight_parts}
 use Rattle.tree_file.specs.Tree.{Tree, HoldsTree}
 use Rattle.tree_file.specs.Places.{appended_a, appended_b}
-use Rattle.tree_runs.specs.Runs.{RunsState, PassHasTag, DeepHasTag}
-use Rattle.tree_runs.specs.Holding.{AreOf, AreTagged, IsPassOver, IsDeepOver, cursor_of_pass}
+use Rattle.tree_runs.specs.Runs.{GuideState, RunsState, guide_at, PassHasTag, DeepHasTag}
+use Rattle.tree_runs.specs.Holding.{AreOf, AreTagged, IsGuidedBy, IsPassOver, IsDeepOver, cursor_of_pass}
 use Rattle.tree_runs.specs.Laws.{used_region, IsBesideRuns, HeadIsBeside, RunsStay, ListsStay, EntriesJoin, EntriesWait, LeftGrows}
 use Rattle.tree_runs.proofs.KeptMerges.{KeepsRun, KeepsPages, KeepsPushed, KeepsAhead, pass_runs_still, deep_runs_still, pass_over_still, deep_over_still}
 
@@ -34,8 +34,8 @@ pages_used runs tag = record { tagged = λ n has. has; apart = λ i out there. o
 pub runs_stay : KeepsPushed → RunsStay
 runs_stay pushed runs honest old new same running = record {
   in_order = running.in_order;
-  pass = pass_runs_still pushed runs.tags.pass runs.pass (keeps_used runs honest old new runs.tags.pass same) running.in_order.pass_tag running.pass;
-  deep = deep_runs_still pushed runs.tags.deep runs.deep (keeps_used runs honest old new runs.tags.deep same) running.in_order.deep_tag running.deep;
+  pass = pass_runs_still pushed runs.tags.pass (guide_at runs.guides runs.tags.pass) runs.pass (keeps_used runs honest old new runs.tags.pass same) running.in_order.pass_tag running.pass;
+  deep = deep_runs_still pushed runs.tags.deep (guide_at runs.guides runs.tags.deep) runs.deep (keeps_used runs honest old new runs.tags.deep same) running.in_order.deep_tag running.deep;
 }
 
 -- which tag a running merge's pages have
@@ -56,12 +56,12 @@ deep_has_it None = tt
 deep_has_it (Some merge) = refl
 
 -- a pass over a table that grew ahead of its cursor
-grown_over : (sizes : Sizes) (file : List ℕ) (space : SpaceState) (snow : Option SnowState) (a grown : Entries) (c1 : List RunPage) → up_to (cursor_of_pass snow) grown ≡ up_to (cursor_of_pass snow) a
-    → IsPassOver sizes file space snow a c1 → IsPassOver sizes file space snow grown c1
-grown_over sizes file space None a grown c1 behind over = tt
-grown_over sizes file space (Some snow) a grown c1 behind over = record {
+grown_over : (sizes : Sizes) (file : List ℕ) (space : SpaceState) (guide : GuideState) (snow : Option SnowState) (a grown : Entries) (c1 : List RunPage) → up_to (cursor_of_pass snow) grown ≡ up_to (cursor_of_pass snow) a
+    → IsPassOver sizes file space guide snow a c1 → IsPassOver sizes file space guide snow grown c1
+grown_over sizes file space guide None a grown c1 behind over = tt
+grown_over sizes file space guide (Some snow) a grown c1 behind over = record {
   older = over.older;
-  pushed = subst (λ (es : Entries). HasPushed sizes true file space snow.writer (folded_over es (up_to snow.at (entries_of c1)))) (sym behind) over.pushed;
+  pushed = subst (λ (es : Entries). HasPushed sizes true file space snow.writer guide.filter guide.fences (folded_over es (up_to snow.at (entries_of c1)))) (sym behind) over.pushed;
 }
 
 -- over the tree's lists and this table, where the file holds a tree of the same components
@@ -74,12 +74,17 @@ over_tree pushed ahead runs tree next a grown old new same behind is holds catal
   c1 = subst (λ (ps : List RunPage). AreTagged runs.space runs.tags.c1 ps) (sym c1) is.c1;
   c1x = subst (λ (ps : List RunPage). AreTagged runs.space runs.tags.c1x ps) (sym c1x) is.c1x;
   c2 = subst (λ (ps : List RunPage). AreTagged runs.space runs.tags.c2 ps) (sym c2) is.c2;
-  pass = subst (λ (ps : List RunPage). IsPassOver runs.sizes new runs.space runs.pass grown ps) (sym c1)
-      (grown_over runs.sizes new runs.space runs.pass a grown tree.c1 behind
-      (pass_over_still pushed ahead runs.pass a tree.c1 (keeps_used runs true old new (tag_of_pass runs.pass) (λ told. same)) (pages_used runs runs.tags.c1) (pass_has_it runs.pass) is.c1 is.pass));
-  deep = subst (λ (ps : List RunPage). IsDeepOver runs.sizes new runs.space runs.deep ps next.c2) (sym c1x)
-      (subst (λ (ps : List RunPage). IsDeepOver runs.sizes new runs.space runs.deep tree.c1x ps) (sym c2)
-      (deep_over_still pushed ahead runs.deep tree.c1x tree.c2 (keeps_used runs true old new (tag_of_deep runs.deep) (λ told. same)) (pages_used runs runs.tags.c1x) (pages_used runs runs.tags.c2) (deep_has_it runs.deep) is.c1x is.c2 is.deep));
+  pass = subst (λ (ps : List RunPage). IsPassOver runs.sizes new runs.space (guide_at runs.guides runs.tags.pass) runs.pass grown ps) (sym c1)
+      (grown_over runs.sizes new runs.space (guide_at runs.guides runs.tags.pass) runs.pass a grown tree.c1 behind
+      (pass_over_still pushed ahead (guide_at runs.guides runs.tags.pass) runs.pass a tree.c1 (keeps_used runs true old new (tag_of_pass runs.pass) (λ told. same)) (pages_used runs runs.tags.c1) (pass_has_it runs.pass) is.c1 is.pass));
+  deep = subst (λ (ps : List RunPage). IsDeepOver runs.sizes new runs.space (guide_at runs.guides runs.tags.deep) runs.deep ps next.c2) (sym c1x)
+      (subst (λ (ps : List RunPage). IsDeepOver runs.sizes new runs.space (guide_at runs.guides runs.tags.deep) runs.deep tree.c1x ps) (sym c2)
+      (deep_over_still pushed ahead (guide_at runs.guides runs.tags.deep) runs.deep tree.c1x tree.c2 (keeps_used runs true old new (tag_of_deep runs.deep) (λ told. same)) (pages_used runs runs.tags.c1x) (pages_used runs runs.tags.c2) (deep_has_it runs.deep) is.c1x is.c2 is.deep));
+  guided = record {
+    c1 = subst (λ (ps : List RunPage). IsGuidedBy (guide_at runs.guides runs.tags.c1) ps) (sym c1) is.guided.c1;
+    c1x = subst (λ (ps : List RunPage). IsGuidedBy (guide_at runs.guides runs.tags.c1x) ps) (sym c1x) is.guided.c1x;
+    c2 = subst (λ (ps : List RunPage). IsGuidedBy (guide_at runs.guides runs.tags.c2) ps) (sym c2) is.guided.c2;
+  };
 }
 
 pub lists_stay : KeepsPushed → KeepsAhead → ListsStay

@@ -1,27 +1,32 @@
 -- Lookups in one component after the other.
-use Rattle.std.specs.Prelude.{◌≡◌, ◌≢◌, ℕ, ◌+◌, IsTrue, List, Option, Result, Ok, Err}
-use Rattle.std.proofs.Common.{◌∙◌, ap, sym, subst, refl, arith}
+use Rattle.std.specs.Prelude.{◌≡◌, ◌≢◌, ◌⊎◌, ℕ, ◌+◌, ◌≤◌, IsTrue, List, length, Option, Result, Ok, Err}
+use Rattle.std.proofs.Common.{◌∙◌, inl, inr, ap, sym, subst, refl, arith}
 use Rattle.refusal.specs.Count.{HasRisen}
 use Rattle.disk_trait.specs.Disk.{DiskState}
 use Rattle.disk_trait.specs.Moments.{IsTimed}
-use Rattle.disk_trait.specs.Reads.{only_reads_more, only_reads_wider, only_reads_same}
+use Rattle.disk_trait.specs.Reads.{OnlyReads, only_reads_more, only_reads_start, only_reads_wider, only_reads_same}
 use Rattle.blsm_model.specs.declared.component.Component.{Component}
 use Rattle.blsm_model.specs.declared.key.Key.{Key}
 use Rattle.blsm_model.specs.Sizes.{Sizes}
 use Rattle.blsm_model.specs.Geometry.{file_length}
 use Rattle.record_delta.specs.declared.record.Rec.{Rec}
-use Rattle.record_delta.specs.Entries.{Entries, over_any, record_of_key}
+use Rattle.record_delta.specs.Entries.{over_any, record_of_key}
 use Rattle.page_file.specs.declared.file.Broken.{Broken}
 use Rattle.page_file.specs.declared.file.Broken.TheVariants.{Fault}
 use Rattle.page_file.specs.File.{Reads}
-use Rattle.page_file.specs.Component.{RunPage, ReadsAs, HasList, entries_of}
+use Rattle.page_file.specs.Component.{RunPage, ReadsAs, entries_of}
+use Rattle.bloom_bits.specs.BitSet.{BitState}
+use Rattle.bloom_bits.specs.Filter.{AreCovered, HasKeys}
 use Rattle.catalog_swap.specs.declared.catalog.Catalog.{Catalog}
 use Rattle.tree_machine.proofs.FoldLemmas.{over_any_assoc}
 use Rattle.tree_file.specs.Tree.{Tree, HoldsTree}
+use Rattle.tree_runs.specs.Lookups.{CountsYes, HidesOlder}
+use Rattle.tree_runs.specs.Runs.{GuideState, Tags, guide_at}
+use Rattle.tree_runs.specs.Holding.{AreGuided, IsGuidedBy}
 
--- the component's record of the key, in this file
-abbrev pub IsRecordIn : Sizes → Component → Key → List ℕ → Option Rec → Type 0
-IsRecordIn sizes component key file rec = (entries : Entries) × HasList sizes component entries file × (rec ≡ record_of_key key entries)
+-- the component's record of the key, in this file, where filter and fences are those of its pages
+abbrev pub IsRecordIn : Sizes → Component → GuideState → Key → List ℕ → Option Rec → Type 0
+IsRecordIn sizes component guide key file rec = (pages : List RunPage) × ReadsAs sizes component pages file × IsGuidedBy guide pages × (rec ≡ record_of_key key (entries_of pages))
 
 -- the record of the first over that of the second
 abbrev pub AreBoth : (List ℕ → Option Rec → Type 0) → (List ℕ → Option Rec → Type 0) → List ℕ → Option Rec → Type 0
@@ -32,11 +37,12 @@ pub record Looks (sizes : Sizes) (pages : ℕ) (Has : List ℕ → Option Rec �
   pub list : (older : Option Rec) → IsTrue old.is_honest → Has old.bytes older → result ≢ Err Fault → result ≡ Ok (over_any newer older)
   pub reads : Reads (file_length sizes) pages result old new
 
-pub looks_in : {newer : Option Rec} {result : Result (Option Rec) Broken} {old new : DiskState} (sizes : Sizes) (component : Component) (key : Key)
-    → ((entries : Entries) → IsTrue old.is_honest → HasList sizes component entries old.bytes → result ≢ Err Fault → result ≡ Ok (over_any newer (record_of_key key entries)))
-    → Reads (file_length sizes) component.pages result old new → Looks sizes component.pages (IsRecordIn sizes component key) newer result old new
-looks_in {newer} {result} sizes component key list reads = record {
-  list = λ older honest has other. subst (λ (o : Option Rec). result ≡ Ok (over_any newer o)) (sym has.2) (list has.0 honest has.1 other);
+pub looks_in : {newer : Option Rec} {result : Result (Option Rec) Broken} {old new : DiskState} (sizes : Sizes) (calls : ℕ) (component : Component) (guide : GuideState) (key : Key)
+    → ((pages : List RunPage) → IsTrue old.is_honest → ReadsAs sizes component pages old.bytes → IsGuidedBy guide pages → result ≢ Err Fault
+    → result ≡ Ok (over_any newer (record_of_key key (entries_of pages))))
+    → Reads (file_length sizes) calls result old new → Looks sizes calls (IsRecordIn sizes component guide key) newer result old new
+looks_in {newer} {result} sizes calls component guide key list reads = record {
+  list = λ older honest has other. subst (λ (o : Option Rec). result ≡ Ok (over_any newer o)) (sym has.3) (list has.0 honest has.1 has.2 other);
   reads = reads;
 }
 
@@ -84,20 +90,47 @@ looks_failed {First} {Second} {newer} {broken} {result} {old} {new} sizes p q on
 
 -- ---- all three
 
--- what a lookup in C1, C1' and C2 gives
-abbrev pub LooksUp : Sizes → Catalog → Key → Option Rec → Result (Option Rec) Broken → DiskState → DiskState → Type 0
-LooksUp sizes now key newer result old new =
-    Looks sizes (now.c1.pages + now.c1x.pages + now.c2.pages) (AreBoth (AreBoth (IsRecordIn sizes now.c1 key) (IsRecordIn sizes now.c1x key)) (IsRecordIn sizes now.c2 key)) newer result old new
+-- how often each component may be asked, where its filter says yes or no
+pub record Calls : Type 0 where
+  pub c1 : ℕ
+  pub c1x : ℕ
+  pub c2 : ℕ
 
-pub looked_up : {now : Catalog} {newer : Option Rec} {result : Result (Option Rec) Broken} {old new : DiskState} (sizes : Sizes) (key : Key) → LooksUp sizes now key newer result old new
-    → (tree : Tree) → IsTrue old.is_honest → HoldsTree sizes tree old.bytes → tree.catalogue ≡ now → result ≢ Err Fault
+pub record AreCounted (calls : Calls) (guides : List GuideState) (tags : Tags) (key : Key) : Type 0 where
+  pub c1 : CountsYes (guide_at guides tags.c1).filter key calls.c1
+  pub c1x : CountsYes (guide_at guides tags.c1x).filter key calls.c1x
+  pub c2 : CountsYes (guide_at guides tags.c2).filter key calls.c2
+
+-- once each
+abbrev pub each_once : Calls
+each_once = record { c1 = 1; c1x = 1; c2 = 1 }
+
+pub once_is_enough : (guides : List GuideState) (tags : Tags) (key : Key) → AreCounted each_once guides tags key
+once_is_enough guides tags key = record { c1 = inl (omega arith); c1x = inl (omega arith); c2 = inl (omega arith) }
+
+-- what a lookup in C1, C1' and C2 gives
+abbrev pub LooksUp : Calls → Sizes → Catalog → List GuideState → Tags → Key → Option Rec → Result (Option Rec) Broken → DiskState → DiskState → Type 0
+LooksUp calls sizes now guides tags key newer result old new =
+    Looks sizes (calls.c1 + calls.c1x + calls.c2)
+    (AreBoth (AreBoth (IsRecordIn sizes now.c1 (guide_at guides tags.c1) key) (IsRecordIn sizes now.c1x (guide_at guides tags.c1x) key)) (IsRecordIn sizes now.c2 (guide_at guides tags.c2) key))
+    newer result old new
+
+pub looked_up : {newer : Option Rec} {result : Result (Option Rec) Broken} {old new : DiskState} (calls : Calls) (sizes : Sizes) (now : Catalog) (guides : List GuideState) (tags : Tags) (key : Key)
+    → LooksUp calls sizes now guides tags key newer result old new
+    → (tree : Tree) → IsTrue old.is_honest → HoldsTree sizes tree old.bytes → tree.catalogue ≡ now → AreGuided guides tags tree → result ≢ Err Fault
     → result ≡ Ok (over_any newer (over_any (record_of_key key (entries_of tree.c1)) (over_any (record_of_key key (entries_of tree.c1x)) (record_of_key key (entries_of tree.c2)))))
-looked_up {now} {newer} {result} {old} {new} sizes key looks tree honest holds is other =
+looked_up {newer} {result} {old} {new} calls sizes now guides tags key looks tree honest holds is guided other =
     looks.list (over_any (over_any one two) three) honest (
       over_any one two,
       three,
-      (one, two, has tree.c1 now.c1 (subst (λ (k : Catalog). ReadsAs sizes k.c1 tree.c1 old.bytes) is holds.c1), has tree.c1x now.c1x (subst (λ (k : Catalog). ReadsAs sizes k.c1x tree.c1x old.bytes) is holds.c1x), refl),
-      has tree.c2 now.c2 (subst (λ (k : Catalog). ReadsAs sizes k.c2 tree.c2 old.bytes) is holds.c2),
+      (
+        one,
+        two,
+        has tree.c1 now.c1 (guide_at guides tags.c1) (subst (λ (k : Catalog). ReadsAs sizes k.c1 tree.c1 old.bytes) is holds.c1) guided.c1,
+        has tree.c1x now.c1x (guide_at guides tags.c1x) (subst (λ (k : Catalog). ReadsAs sizes k.c1x tree.c1x old.bytes) is holds.c1x) guided.c1x,
+        refl,
+      ),
+      has tree.c2 now.c2 (guide_at guides tags.c2) (subst (λ (k : Catalog). ReadsAs sizes k.c2 tree.c2 old.bytes) is holds.c2) guided.c2,
       refl,
     ) other
     ∙ ap (λ (o : Option Rec). Ok (over_any newer o)) (over_any_assoc one two three)
@@ -111,5 +144,79 @@ looked_up {now} {newer} {result} {old} {new} sizes key looks tree honest holds i
     three : Option Rec
     three = record_of_key key (entries_of tree.c2)
 
-    has : (pages : List RunPage) (component : Component) → ReadsAs sizes component pages old.bytes → IsRecordIn sizes component key old.bytes (record_of_key key (entries_of pages))
-    has pages component reads = (entries_of pages, record { pages = pages; reads = reads; entries_are = refl }, refl)
+    has : (pages : List RunPage) (component : Component) (guide : GuideState) → ReadsAs sizes component pages old.bytes → IsGuidedBy guide pages
+        → IsRecordIn sizes component guide key old.bytes (record_of_key key (entries_of pages))
+    has pages component guide reads guided = (pages, reads, guided, refl)
+
+-- ---- how often one is asked
+
+-- it is asked once at most, and where its filter says no not at all
+pub asked : {A : Type 0} {end : ℕ} {result : Result A Broken} {old new : DiskState} → IsTimed old → (n : ℕ) → (1 ≤ n) ⊎ (new ≡ old) → Reads end 1 result old new → Reads end n result old new
+asked timed n (inl some) reads = record { effect = only_reads_wider (omega arith) some reads.effect; stands = reads.stands; failed = reads.failed }
+asked {A} {end} {result} {old} {new} timed n (inr same) reads = record {
+  effect = subst (λ (d : DiskState). OnlyReads end n old d) (sym same) (only_reads_start old timed);
+  stands = reads.stands;
+  failed = reads.failed;
+}
+
+-- a record that hides all older ones is what the lookup goes on with
+pub hides_still : {newer found : Option Rec} → ◌≡◌ {A = Result (Option Rec) Broken} (Ok found) (Ok newer) → HidesOlder newer → HidesOlder found
+hides_still {newer} {found} is hides = subst HidesOlder (sym (same_found found newer is)) hides
+
+pub not_failed : {A : Type 0} {newer : A} {broken : Broken} → ◌≡◌ {A = Result A Broken} (Err broken) (Ok newer) → ⊥
+not_failed is = cc
+
+same_broken : {A : Type 0} (broken other : Broken) → ◌≡◌ {A = Result A Broken} (Err broken) (Err other) → broken ≡ other
+same_broken broken other is = cc
+
+-- what a filter that was asked says of its lookup's calls
+pub answered : {A : Type 0} {end : ℕ} {result : Result A Broken} {old new : DiskState} (filter other : BitState) (key : Key) (n : ℕ) → other ≡ filter
+    → ((keys : List Key) → HasKeys other keys → (AreCovered (length other.bits) keys key → ⊥) → new ≡ old) → IsTimed old → CountsYes filter key n → Reads end 1 result old new → Reads end n result old new
+answered {A} {end} {result} {old} {new} filter other key n is quiet timed (inl some) reads = asked timed n (inl some) reads
+answered {A} {end} {result} {old} {new} filter other key n is quiet timed (inr quietly) reads =
+    asked timed n
+    (inr (quiet quietly.0 (subst (λ (f : BitState). HasKeys f quietly.0) (sym is) quietly.1) (subst (λ (f : BitState). AreCovered (length f.bits) quietly.0 key → ⊥) (sym is) quietly.2)))
+    reads
+
+-- the same calls, told otherwise
+pub reads_failed : {A B : Type 0} {end n : ℕ} {broken : Broken} {result : Result A Broken} {old new : DiskState} (outcome : Result B Broken) → result ≡ Err broken → outcome ≡ Err broken → Reads end n result old new
+    → Reads end n outcome old new
+reads_failed {A} {B} {end} {n} {broken} {result} {old} {new} outcome was is reads = record {
+  effect = reads.effect;
+  stands = λ other. reads.stands (λ fault. other (is ∙ ap (λ (b : Broken). Err b) (same_broken {A = A} broken Fault (sym was ∙ fault))));
+  failed = λ fault. reads.failed (was ∙ ap (λ (b : Broken). Err b) (same_broken {A = B} broken Fault (sym is ∙ fault)));
+}
+
+pub reads_found : {A B : Type 0} {end n : ℕ} {found : A} {result : Result A Broken} {old new : DiskState} (other : B) → result ≡ Ok found → Reads end n result old new → Reads end n (Ok other) old new
+reads_found {A} {B} {end} {n} {found} {result} {old} {new} other was reads = record {
+  effect = reads.effect;
+  stands = λ well. reads.stands (λ fault. not_both found (sym was ∙ fault));
+  failed = λ fault. absurd (not_both other fault);
+}
+  where
+    not_both : {C : Type 0} (value : C) → ◌≡◌ {A = Result C Broken} (Ok value) (Err Fault) → ⊥
+    not_both value wrong = cc
+
+-- calls that went well, and others
+pub reads_then : {A B : Type 0} {end m n total : ℕ} {value : A} {result : Result B Broken} {old mid new : DiskState} → IsTimed mid → Reads end m (Ok value) old mid → Reads end n result mid new → m + n ≤ total
+    → Reads end total result old new
+reads_then {A} {B} {end} {m} {n} {total} {value} {result} {old} {mid} {new} timed one two most = record {
+  effect = only_reads_more timed calm one.effect two.effect (omega arith) most;
+  stands = λ other. two.stands other ∙ calm;
+  failed = λ is. subst (λ (k : ℕ). HasRisen k new.faults) calm (two.failed is);
+}
+  where
+    well : ◌≡◌ {A = Result A Broken} (Ok value) (Err Fault) → ⊥
+    well wrong = cc
+
+    calm : mid.faults ≡ old.faults
+    calm = one.stands well
+
+-- the file stays as long
+pub reads_long : {A : Type 0} {end n : ℕ} {result : Result A Broken} {old new : DiskState} → Reads end n result old new → (IsTrue old.tells_bytes → length old.bytes ≡ end) → IsTrue new.tells_bytes → length new.bytes ≡ end
+reads_long reads long tells =
+    let told = subst IsTrue reads.effect.effect.goes_on.tells_bytes tells in
+    reads.effect.same.same.length told ∙ long told
+
+pub no_unit_fault : (value : Unit {0}) → ◌≡◌ {A = Result (Unit {0}) Broken} (Ok value) (Err Fault) → ⊥
+no_unit_fault value wrong = cc

@@ -17,7 +17,7 @@ use Rattle.scan_view.specs.Hold.{HoldState, HasRows, held_from, pages_held}
 use Rattle.scan_view.specs.Holds.{pages_behind}
 use Rattle.scan_view.specs.Pins.{IsUnpinned, HasHeld, Pins}
 use Rattle.tree_file.specs.Tree.{Tree, live_pages}
-use Rattle.tree_runs.specs.Runs.{RunsState, AreRuns, AreRunning, page_share}
+use Rattle.tree_runs.specs.Runs.{RunsState, AreRuns, AreRunning, guide_at, page_share}
 use Rattle.tree_runs.specs.Holding.{AreOf}
 use Rattle.tree_runs.proofs.KeptMerges.{KeepsRun, KeepsPages, KeepsPushed, KeepsAhead, pass_runs_still, deep_runs_still, pass_over_still, deep_over_still}
 use Rattle.tree_runs.proofs.ReleasedTags.{none_has}
@@ -68,14 +68,15 @@ runs_repinned runs after is are = record {
     roles = omega (arith, size_now is 0, size_now is 1, size_now is 2, size_now is 3, size_now is 4, are.within.roles);
     seats = is.share;
   };
+  guides = are.guides;
 }
 
 pub running_repinned : KeepsPushed → (runs : RunsState) (after : SpaceState) → Repinned runs after → (honest : Bool) (file : List ℕ) → AreRunning honest file runs
     → AreRunning honest file (record runs { space = after })
 running_repinned pushed runs after is honest file running = record {
   in_order = runs_repinned runs after is running.in_order;
-  pass = pass_runs_still pushed runs.tags.pass runs.pass (keeps_run file runs.tags.pass is) running.in_order.pass_tag running.pass;
-  deep = deep_runs_still pushed runs.tags.deep runs.deep (keeps_run file runs.tags.deep is) running.in_order.deep_tag running.deep;
+  pass = pass_runs_still pushed runs.tags.pass (guide_at runs.guides runs.tags.pass) runs.pass (keeps_run file runs.tags.pass is) running.in_order.pass_tag running.pass;
+  deep = deep_runs_still pushed runs.tags.deep (guide_at runs.guides runs.tags.deep) runs.deep (keeps_run file runs.tags.deep is) running.in_order.deep_tag running.deep;
 }
 
 pub lists_repinned : KeepsPushed → KeepsAhead → (runs : RunsState) (after : SpaceState) → Repinned runs after → (tree : Tree) (a : Entries) (file : List ℕ) → AreOf runs tree a file
@@ -86,9 +87,10 @@ lists_repinned pushed ahead runs after is tree a file of = record {
   c1 = λ n has. has_now is runs.tags.c1 n (of.c1 n has);
   c1x = λ n has. has_now is runs.tags.c1x n (of.c1x n has);
   c2 = λ n has. has_now is runs.tags.c2 n (of.c2 n has);
-  pass = pass_over_still pushed ahead runs.pass a tree.c1 (keeps_run file (tag_of_pass runs.pass) is) (keeps_pages runs.tags.c1 is) (pass_has_it runs.pass) of.c1 of.pass;
-  deep = deep_over_still pushed ahead runs.deep tree.c1x tree.c2 (keeps_run file (tag_of_deep runs.deep) is) (keeps_pages runs.tags.c1x is) (keeps_pages runs.tags.c2 is)
+  pass = pass_over_still pushed ahead (guide_at runs.guides runs.tags.pass) runs.pass a tree.c1 (keeps_run file (tag_of_pass runs.pass) is) (keeps_pages runs.tags.c1 is) (pass_has_it runs.pass) of.c1 of.pass;
+  deep = deep_over_still pushed ahead (guide_at runs.guides runs.tags.deep) runs.deep tree.c1x tree.c2 (keeps_run file (tag_of_deep runs.deep) is) (keeps_pages runs.tags.c1x is) (keeps_pages runs.tags.c2 is)
       (deep_has_it runs.deep) of.c1x of.c2 of.deep;
+  guided = of.guided;
 }
 
 -- ---- a hold's pins

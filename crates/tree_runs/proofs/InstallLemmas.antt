@@ -1,12 +1,12 @@
 -- What the components and merges keep when a run becomes a component.
-use Rattle.std.specs.Prelude.{◌≡◌, ◌≢◌, ℕ, Option, Some, None, refl}
+use Rattle.std.specs.Prelude.{◌≡◌, ◌≢◌, ℕ, List, Option, Some, None, refl}
 use Rattle.std.proofs.Common.{sym, subst, ap, ◌∙◌, arith}
 use Rattle.blsm_model.specs.Components.{empty_component}
 use Rattle.blsm_model.specs.declared.component.Component.{Component}
 use Rattle.catalog_swap.specs.declared.catalog.Catalog.{Catalog}
 use Rattle.page_space.specs.Space.{SpaceState, role_size}
 use Rattle.deep_merge.specs.Merge.{DeepState, started as deep_started}
-use Rattle.tree_runs.specs.Runs.{RunsState, Tags, AreRuns, AreTags, HasOneTag, IsFilled, IsHeld, RestsEmpty, made_by_pass, made_by_deep}
+use Rattle.tree_runs.specs.Runs.{GuideState, RunsState, Tags, AreGuides, AreRuns, AreTags, HasOneTag, IsFilled, IsHeld, RestsEmpty, made_by_pass, made_by_deep}
 use Rattle.tree_runs.proofs.ReleasedTags.{Released, has_before, size_still, sizes_released}
 use Rattle.tree_runs.proofs.CountLemmas.{pins_same}
 use Rattle.tree_runs.proofs.PinLemmas.{unpinned_still, released_unpinned}
@@ -98,7 +98,7 @@ one_tag_still is once page one other has also = once page one other (has_before 
 
 pub runs_for_deep : (old : RunsState) (next : Catalog) (mid after : SpaceState) → AreRuns old → HasParts next old.catalogue.c1 empty_component (made_by_deep old.deep)
     → Released old.tags.c1x old.space mid → Released old.tags.c2 mid after
-    → AreRuns (record { sizes = old.sizes; catalogue = next; space = after; tags = record old.tags { c2 = old.tags.deep; deep = old.tags.c2 }; pass = old.pass; deep = None })
+    → AreRuns (record { sizes = old.sizes; catalogue = next; space = after; tags = record old.tags { c2 = old.tags.deep; deep = old.tags.c2 }; pass = old.pass; deep = None; guides = old.guides })
 runs_for_deep old next mid after are parts first second = record {
   geometry = are.geometry;
   pages = second.pages ∙ first.pages ∙ are.pages;
@@ -131,6 +131,7 @@ runs_for_deep old next mid after are parts first second = record {
     );
     seats = pins_same old.space after _ (second.pins ∙ first.pins) are.within.seats;
   };
+  guides = are.guides;
 }
   where
     tags : Tags
@@ -140,7 +141,7 @@ runs_for_deep old next mid after are parts first second = record {
 
 pub runs_for_pass : (old : RunsState) (next : Catalog) (after : SpaceState) → AreRuns old → HasParts next (made_by_pass old.pass) old.catalogue.c1x old.catalogue.c2
     → Released old.tags.c1 old.space after
-    → AreRuns (record { sizes = old.sizes; catalogue = next; space = after; tags = record old.tags { c1 = old.tags.pass; pass = old.tags.c1 }; pass = None; deep = old.deep })
+    → AreRuns (record { sizes = old.sizes; catalogue = next; space = after; tags = record old.tags { c1 = old.tags.pass; pass = old.tags.c1 }; pass = None; deep = old.deep; guides = old.guides })
 runs_for_pass old next after are parts gone = record {
   geometry = are.geometry;
   pages = gone.pages ∙ are.pages;
@@ -169,6 +170,7 @@ runs_for_pass old next after are parts gone = record {
     );
     seats = pins_same old.space after _ gone.pins are.within.seats;
   };
+  guides = are.guides;
 }
   where
     tags : Tags
@@ -179,8 +181,8 @@ c1x_empty : (old : RunsState) → AreRuns old → old.deep ≡ None → old.cata
 c1x_empty old are rests = subst (λ (d : Option DeepState). RestsEmpty d old.catalogue.c1x) rests are.rests
 
 -- or it becomes C1', and C1 is empty
-pub runs_for_rotated_pass : (old : RunsState) (next : Catalog) (after : SpaceState) → AreRuns old → HasParts next empty_component (made_by_pass old.pass) old.catalogue.c2 → old.deep ≡ None
-    → Released old.tags.c1 old.space after
+pub runs_for_rotated_pass : (old : RunsState) (next : Catalog) (after : SpaceState) (guides : List GuideState) → AreRuns old → HasParts next empty_component (made_by_pass old.pass) old.catalogue.c2 → old.deep ≡ None
+    → Released old.tags.c1 old.space after → AreGuides old.sizes guides
     → AreRuns (record {
       sizes = old.sizes;
       catalogue = next;
@@ -188,8 +190,9 @@ pub runs_for_rotated_pass : (old : RunsState) (next : Catalog) (after : SpaceSta
       tags = record old.tags { c1 = old.tags.c1x; c1x = old.tags.pass; pass = old.tags.c1 };
       pass = None;
       deep = Some (deep_started old.tags.deep next.c1x next.c2);
+      guides = guides;
     })
-runs_for_rotated_pass old next after are parts rests gone = record {
+runs_for_rotated_pass old next after guides are parts rests gone reserved = record {
   geometry = are.geometry;
   pages = gone.pages ∙ are.pages;
   shape = gone.shape;
@@ -219,6 +222,59 @@ runs_for_rotated_pass old next after are parts rests gone = record {
     );
     seats = pins_same old.space after _ gone.pins are.within.seats;
   };
+  guides = reserved;
+}
+  where
+    tags : Tags
+    tags = old.tags
+
+    none : old.catalogue.c1x.pages ≡ 0
+    none = ap (λ (k : Component). k.pages) (c1x_empty old are rests)
+
+    no_run : (made_by_deep old.deep).pages ≡ 0
+    no_run = ap (λ (d : Option DeepState). (made_by_deep d).pages) rests
+
+-- ---- C1 becomes C1'
+
+pub runs_for_rotation : (old : RunsState) (next : Catalog) (guides : List GuideState) → AreRuns old → HasParts next empty_component old.catalogue.c1 old.catalogue.c2 → old.deep ≡ None → AreGuides old.sizes guides
+    → AreRuns (record {
+      sizes = old.sizes;
+      catalogue = next;
+      space = old.space;
+      tags = record old.tags { c1 = old.tags.c1x; c1x = old.tags.c1 };
+      pass = old.pass;
+      deep = Some (deep_started old.tags.deep next.c1x next.c2);
+      guides = guides;
+    })
+runs_for_rotation old next guides are parts rests reserved = record {
+  geometry = are.geometry;
+  pages = are.pages;
+  shape = are.shape;
+  tags = tags_for_rotation tags are.tags;
+  one_tag = are.one_tag;
+  c1 = subst (λ (k : Component). IsHeld old.space tags.c1x k) (sym parts.c1_is) (nothing_held old.space tags.c1x (are.c1x.size ∙ none));
+  c1x = subst (λ (k : Component). IsHeld old.space tags.c1 k) (sym parts.c1x_is) are.c1;
+  c2 = subst (λ (k : Component). IsHeld old.space tags.c2 k) (sym parts.c2_is) are.c2;
+  pass = are.pass;
+  deep = nothing_held old.space tags.deep (are.deep.size ∙ no_run);
+  pass_tag = are.pass_tag;
+  deep_tag = refl;
+  rests = tt;
+  pass_unpinned = are.pass_unpinned;
+  deep_unpinned = are.deep_unpinned;
+  within = record {
+    roles = omega (
+      arith,
+      are.within.roles,
+      none,
+      no_run,
+      ap (λ (k : Component). k.pages) parts.c1_is,
+      ap (λ (k : Component). k.pages) parts.c1x_is,
+      ap (λ (k : Component). k.pages) parts.c2_is,
+    );
+    seats = are.within.seats;
+  };
+  guides = reserved;
 }
   where
     tags : Tags

@@ -6,6 +6,8 @@ use Rattle.disk_trait.specs.Region.{Region, nowhere, AreApart, IsSameOutside, sa
 use Rattle.blsm_model.specs.Format.{page_length}
 use Rattle.blsm_model.specs.declared.key.Key.{Key}
 use Rattle.blsm_model.specs.Sizes.{Sizes}
+use Rattle.bloom_bits.specs.BitSet.{BitState}
+use Rattle.bloom_bits.specs.Fences.{FencesState}
 use Rattle.record_delta.specs.Entries.{Entries, folded_over, up_to}
 use Rattle.page_space.specs.Space.{SpaceState, HasRole}
 use Rattle.page_file.specs.Component.{RunPage, numbers_of, entries_of}
@@ -17,7 +19,7 @@ use Rattle.merge_ends.specs.Output.{HasRun}
 use Rattle.snow_merge.specs.Pass.{SnowState}
 use Rattle.deep_merge.specs.Merge.{DeepState}
 use Rattle.tree_runs.proofs.ReleasedTags.{Released, has_before, has_still}
-use Rattle.tree_runs.specs.Runs.{HasOneTag, PassHasTag, DeepHasTag, PassRuns, DeepRuns}
+use Rattle.tree_runs.specs.Runs.{GuideState, HasOneTag, PassHasTag, DeepHasTag, PassRuns, DeepRuns}
 use Rattle.tree_runs.specs.Holding.{AreElsewhere, AreTagged, IsPassOver, IsDeepOver}
 
 -- From one file and map to other ones: the pages that have a run's tag had it, and those that had it keep it and read the same.
@@ -35,8 +37,8 @@ pub record KeepsPages (sizes : Sizes) (space after : SpaceState) (region : Regio
 -- The list that was pushed stays where other pages are written and other tags change hands: a law of runs.
 abbrev pub KeepsPushed : Type 0
 KeepsPushed =
-    (sizes : Sizes) (honest : Bool) (old new : List ℕ) (space after : SpaceState) (writer : WriterState) (entries : Entries) → ((n : ℕ) → HasRole space writer.role n → HasRole after writer.role n)
-    → (IsTrue honest → IsSameOutside (loose_region sizes space writer) old new) → HasPushed sizes honest old space writer entries → HasPushed sizes honest new after writer entries
+    (sizes : Sizes) (honest : Bool) (old new : List ℕ) (space after : SpaceState) (writer : WriterState) (filter : BitState) (fences : FencesState) (entries : Entries) → ((n : ℕ) → HasRole space writer.role n → HasRole after writer.role n)
+    → (IsTrue honest → IsSameOutside (loose_region sizes space writer) old new) → HasPushed sizes honest old space writer filter fences entries → HasPushed sizes honest new after writer filter fences entries
 
 -- What a cursor has ahead it still has where the pages that it hasn't read read the same: a law of cursors.
 abbrev pub KeepsAhead : Type 0
@@ -45,23 +47,24 @@ KeepsAhead =
     → (now : HasAhead sizes cursor rest new) × (now.coming ≡ before.coming)
 
 module _ (pushed_kept : KeepsPushed) {sizes : Sizes} {honest : Bool} {region : Region} {old new : List ℕ} {space after : SpaceState} where
-  pushed_still : {tag : ℕ} {writer : WriterState} (entries : Entries) → KeepsRun sizes honest region old new space after tag → writer.role ≡ tag → HasPushed sizes honest old space writer entries
-      → HasPushed sizes honest new after writer entries
-  pushed_still {tag} {writer} entries keeps role pushed =
-      pushed_kept sizes honest old new space after writer entries (λ n has. subst (λ (r : ℕ). HasRole after r n) (sym role) (keeps.tagged n (subst (λ (r : ℕ). HasRole space r n) role has)))
+  pushed_still : {tag : ℕ} {writer : WriterState} {filter : BitState} {fences : FencesState} (entries : Entries) → KeepsRun sizes honest region old new space after tag → writer.role ≡ tag
+      → HasPushed sizes honest old space writer filter fences entries → HasPushed sizes honest new after writer filter fences entries
+  pushed_still {tag} {writer} {filter} {fences} entries keeps role pushed =
+      pushed_kept sizes honest old new space after writer filter fences entries (λ n has. subst (λ (r : ℕ). HasRole after r n) (sym role) (keeps.tagged n (subst (λ (r : ℕ). HasRole space r n) role has)))
       (λ told. same_wider (λ i here. inr (λ page. keeps.apart i here (subst (λ (r : ℕ). role_region sizes space r i) role page))) (keeps.same told)) pushed
 
-  run_still : {tag : ℕ} {writer : WriterState} {at : Option Key} → KeepsRun sizes honest region old new space after tag → writer.role ≡ tag → HasRun sizes honest old space writer at → HasRun sizes honest new after writer at
+  run_still : {tag : ℕ} {writer : WriterState} {filter : BitState} {fences : FencesState} {at : Option Key} → KeepsRun sizes honest region old new space after tag → writer.role ≡ tag
+      → HasRun sizes honest old space writer filter fences at → HasRun sizes honest new after writer filter fences at
   run_still keeps role run = record { out = run.out; pushed = pushed_still run.out keeps role run.pushed; ends = run.ends }
 
   -- on any disk
-  pub pass_runs_still : (tag : ℕ) (snow : Option SnowState) → KeepsRun sizes honest region old new space after tag → PassHasTag tag snow → PassRuns sizes honest old space snow → PassRuns sizes honest new after snow
-  pass_runs_still tag None keeps role runs = tt
-  pass_runs_still tag (Some snow) keeps role runs = record { run = run_still keeps role runs.run; behind = runs.behind }
+  pub pass_runs_still : (tag : ℕ) (guide : GuideState) (snow : Option SnowState) → KeepsRun sizes honest region old new space after tag → PassHasTag tag snow → PassRuns sizes honest old space guide snow → PassRuns sizes honest new after guide snow
+  pass_runs_still tag guide None keeps role runs = tt
+  pass_runs_still tag guide (Some snow) keeps role runs = record { run = run_still keeps role runs.run; behind = runs.behind }
 
-  pub deep_runs_still : (tag : ℕ) (merge : Option DeepState) → KeepsRun sizes honest region old new space after tag → DeepHasTag tag merge → DeepRuns sizes honest old space merge → DeepRuns sizes honest new after merge
-  deep_runs_still tag None keeps role runs = tt
-  deep_runs_still tag (Some merge) keeps role runs = record { run = run_still keeps role runs.run; newer = runs.newer; older = runs.older }
+  pub deep_runs_still : (tag : ℕ) (guide : GuideState) (merge : Option DeepState) → KeepsRun sizes honest region old new space after tag → DeepHasTag tag merge → DeepRuns sizes honest old space guide merge → DeepRuns sizes honest new after guide merge
+  deep_runs_still tag guide None keeps role runs = tt
+  deep_runs_still tag guide (Some merge) keeps role runs = record { run = run_still keeps role runs.run; newer = runs.newer; older = runs.older }
 
 -- the lists, on an honest disk
 module _ (pushed_kept : KeepsPushed) (ahead_kept : KeepsAhead) {sizes : Sizes} {region : Region} {old new : List ℕ} {space after : SpaceState} where
@@ -84,20 +87,20 @@ module _ (pushed_kept : KeepsPushed) (ahead_kept : KeepsAhead) {sizes : Sizes} {
       same : AreSamePages sizes (numbers_of input.ahead.coming) old new
       same n has = part_apart (page_start sizes n) page_length (λ i here page. stays.apart i here (n, tagged n (input.among n has), page)) (keeps.same refl)
 
-  pub pass_over_still : {tag of_c1 : ℕ} (snow : Option SnowState) (a : Entries) (c1 : List RunPage) (keeps : KeepsRun sizes true region old new space after tag) → KeepsPages sizes space after region of_c1
-      → PassHasTag tag snow → AreTagged space of_c1 c1 → IsPassOver sizes old space snow a c1 → IsPassOver sizes new after snow a c1
-  pass_over_still None a c1 keeps stays role tagged over = tt
-  pass_over_still (Some snow) a c1 keeps stays role tagged over = record {
+  pub pass_over_still : {tag of_c1 : ℕ} (guide : GuideState) (snow : Option SnowState) (a : Entries) (c1 : List RunPage) (keeps : KeepsRun sizes true region old new space after tag) → KeepsPages sizes space after region of_c1
+      → PassHasTag tag snow → AreTagged space of_c1 c1 → IsPassOver sizes old space guide snow a c1 → IsPassOver sizes new after guide snow a c1
+  pass_over_still guide None a c1 keeps stays role tagged over = tt
+  pass_over_still guide (Some snow) a c1 keeps stays role tagged over = record {
     older = input_still c1 keeps role stays tagged over.older;
     pushed = pushed_still pushed_kept (folded_over (up_to snow.at a) (up_to snow.at (entries_of c1))) keeps role over.pushed;
   }
 
-  pub deep_over_still : {tag of_c1x of_c2 : ℕ} (merge : Option DeepState) (c1x c2 : List RunPage) (keeps : KeepsRun sizes true region old new space after tag) → KeepsPages sizes space after region of_c1x
-      → KeepsPages sizes space after region of_c2 → DeepHasTag tag merge → AreTagged space of_c1x c1x → AreTagged space of_c2 c2 → IsDeepOver sizes old space merge c1x c2
-      → IsDeepOver sizes new after merge c1x c2
+  pub deep_over_still : {tag of_c1x of_c2 : ℕ} (guide : GuideState) (merge : Option DeepState) (c1x c2 : List RunPage) (keeps : KeepsRun sizes true region old new space after tag) → KeepsPages sizes space after region of_c1x
+      → KeepsPages sizes space after region of_c2 → DeepHasTag tag merge → AreTagged space of_c1x c1x → AreTagged space of_c2 c2 → IsDeepOver sizes old space guide merge c1x c2
+      → IsDeepOver sizes new after guide merge c1x c2
   unfolding run_still
-  deep_over_still None c1x c2 keeps newer older role tagged tagged_c2 over = over
-  deep_over_still (Some merge) c1x c2 keeps newer older role tagged tagged_c2 over = record {
+  deep_over_still guide None c1x c2 keeps newer older role tagged tagged_c2 over = over
+  deep_over_still guide (Some merge) c1x c2 keeps newer older role tagged tagged_c2 over = record {
     newer = input_still c1x keeps role newer tagged over.newer;
     older = input_still c2 keeps role older tagged_c2 over.older;
     run = run_still pushed_kept keeps role over.run;

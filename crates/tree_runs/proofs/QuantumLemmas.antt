@@ -1,15 +1,16 @@
 -- A quantum of a merge: what the components, the other merge and the tree keep, and what the one that took it has.
-use Rattle.std.specs.Prelude.{◌≡◌, ◌≢◌, ℕ, ◌+◌, ◌/◌, ◌<◌, Bool, IsTrue, List, Option, Some, Result, Ok, Err, OnOk}
+use Rattle.std.specs.Prelude.{◌≡◌, ◌≢◌, ℕ, ◌+◌, ◌/◌, ◌<◌, ◌≤◌, Bool, IsTrue, List, Option, Some, Result, Ok, Err, OnOk}
 use Rattle.std.proofs.Common.{◌∙◌, ap, sym, subst, arith}
 use Rattle.disk_trait.specs.Disk.{DiskState}
 use Rattle.disk_trait.specs.Moments.{IsTimed, LeavesOnly}
 use Rattle.blsm_model.specs.Sizes.{Sizes}
+use Rattle.blsm_model.specs.Geometry.{capacity}
 use Rattle.record_delta.specs.Entries.{Entries}
 use Rattle.page_space.specs.Space.{SpaceState, IsSpace, role_size, role_count}
 use Rattle.page_file.specs.declared.file.Broken.{Broken}
 use Rattle.page_file.specs.declared.file.Broken.TheVariants.{Fault}
 use Rattle.page_file.specs.Component.{numbers_of, entries_of}
-use Rattle.merge_ends.specs.Output.{TakesPages}
+use Rattle.merge_ends.specs.Output.{HasRoom, TakesPages}
 use Rattle.merge_ends.specs.Quantum.{IsQuantum, Works}
 use Rattle.snow_merge.specs.Pass as pass
 use Rattle.snow_merge.specs.Pass.{SnowState, IsPass}
@@ -19,9 +20,10 @@ use Rattle.tree_file.specs.Tree.{Tree, HoldsTree}
 use Rattle.tree_file.specs.Places.{StandsOn}
 use Rattle.tree_file.proofs.StandLemmas.{stands_beside}
 use Rattle.scan_view.proofs.StayLemmas.{unpinned_on}
-use Rattle.tree_runs.specs.Runs.{RunsState, Tags, AreRuns, AreRunning, HasOneTag, IsFilled, PassRuns, DeepRuns, PassHasTag, DeepHasTag, made_by_pass, made_by_deep, pages_in_use, page_share}
+use Rattle.tree_runs.specs.Runs.{GuideState, RunsState, Tags, AreGuides, AreRuns, AreRunning, Fits, HasOneTag, IsFilled, PassRuns, DeepRuns, PassHasTag, DeepHasTag, guide_at, left_for_pass, left_for_deep, made_by_pass, made_by_deep, pages_in_use, page_share}
 use Rattle.tree_runs.specs.Holding.{IsPassOver, IsDeepOver, StandOver, KeepsAllButPass, KeepsAllButDeep, PassTook, DeepTook}
 use Rattle.tree_runs.proofs.CountLemmas.{within_more, other_size}
+use Rattle.tree_runs.proofs.GuideLemmas.{WritesGuide, all_guided_still}
 use Rattle.tree_runs.proofs.KeptMerges.{KeepsPushed, KeepsAhead, deep_runs_still, pass_runs_still, deep_over_still, pass_over_still}
 use Rattle.tree_runs.proofs.StayLemmas.{one_tag_after, tag_kept, keeps_other, pages_other, role_is_beside, not_live, run_filled}
 
@@ -59,19 +61,56 @@ tree_stays runs tree a role most after old new are tag shape works honest timed 
     (λ n has. tag_kept works.takes runs.tags.c2 tag.c2 n (stand.are_of.c2 n has))))
     honest timed stand.stands
 
+-- ---- room
+
+-- a run and what is left for it weigh the capacity at most
+pub pass_light : (runs : RunsState) (snow : SnowState) (a : Entries) → runs.pass ≡ Some snow → Fits runs a → snow.writer.component.weight + pass.left_weight snow a ≤ capacity runs.sizes
+pass_light runs snow a is fits =
+    let made = subst (λ (p : Option SnowState). (made_by_pass p).weight + left_for_pass p a + ((made_by_deep runs.deep).weight + left_for_deep runs.deep) ≤ capacity runs.sizes) is fits.made in
+    omega (arith, made)
+
+pub deep_light : (runs : RunsState) (merge : DeepState) (a : Entries) → runs.deep ≡ Some merge → Fits runs a → merge.writer.component.weight + deep.left_weight merge ≤ capacity runs.sizes
+deep_light runs merge a is fits =
+    let made = subst (λ (d : Option DeepState). (made_by_pass runs.pass).weight + left_for_pass runs.pass a + ((made_by_deep d).weight + left_for_deep d) ≤ capacity runs.sizes) is fits.made in
+    omega (arith, made)
+
+-- so there are pages for it
+pub pass_has_room : (runs : RunsState) (snow : SnowState) (a : Entries) → runs.pass ≡ Some snow → AreRuns runs → Fits runs a → HasRoom runs.space snow.writer (pass.left_weight snow a)
+pass_has_room runs snow a is are fits =
+    let made = subst (λ (p : Option SnowState). (made_by_pass p).weight + left_for_pass p a + ((made_by_deep runs.deep).weight + left_for_deep runs.deep) ≤ capacity runs.sizes) is fits.made in
+    let pages = ap (λ (p : Option SnowState). (made_by_pass p).pages) is in
+    record {
+      live = pages_in_use runs;
+      share = page_share runs.sizes;
+      within = are.within;
+      room = omega (arith, fits.live, made, pages, are.pages, are.c1.filled.full, are.c1x.filled.full, are.c2.filled.full, are.deep.filled.full);
+    }
+
+pub deep_has_room : (runs : RunsState) (merge : DeepState) (a : Entries) → runs.deep ≡ Some merge → AreRuns runs → Fits runs a → HasRoom runs.space merge.writer (deep.left_weight merge)
+deep_has_room runs merge a is are fits =
+    let made = subst (λ (d : Option DeepState). (made_by_pass runs.pass).weight + left_for_pass runs.pass a + ((made_by_deep d).weight + left_for_deep d) ≤ capacity runs.sizes) is fits.made in
+    let pages = ap (λ (d : Option DeepState). (made_by_deep d).pages) is in
+    record {
+      live = pages_in_use runs;
+      share = page_share runs.sizes;
+      within = are.within;
+      room = omega (arith, fits.live, made, pages, are.pages, are.c1.filled.full, are.c1x.filled.full, are.c2.filled.full, are.pass.filled.full);
+    }
+
 -- ---- the pass
 
-abbrev pub passed : RunsState → SpaceState → SnowState → RunsState
-passed runs space snow = record runs { space = space; pass = Some snow }
+abbrev pub passed : RunsState → SpaceState → List GuideState → SnowState → RunsState
+passed runs space guides snow = record runs { space = space; pass = Some snow; guides = guides }
 
-pub passed_is : {old new : RunsState} (space : SpaceState) (snow : SnowState) → KeepsAllButPass old new → new.space ≡ space → new.pass ≡ Some snow → new ≡ passed old space snow
-passed_is space snow keeps s p = λ j. record { sizes = keeps.sizes j; catalogue = keeps.catalogue j; space = s j; tags = keeps.tags j; pass = p j; deep = keeps.deep j }
+pub passed_is : {old new : RunsState} (space : SpaceState) (guides : List GuideState) (snow : SnowState) → KeepsAllButPass old new → new.space ≡ space → new.guides ≡ guides → new.pass ≡ Some snow
+    → new ≡ passed old space guides snow
+passed_is space guides snow keeps s g p = λ j. record { sizes = keeps.sizes j; catalogue = keeps.catalogue j; space = s j; tags = keeps.tags j; pass = p j; deep = keeps.deep j; guides = g j }
 
 -- what its quantum ensures
-pub record PassQuantum (sizes : Sizes) (space after : SpaceState) (snow next : SnowState) (a : Entries) (result : Result ℕ Broken) (old new : DiskState) : Type 0 where
-  pub took : (pages : List ℕ) (c1 : Entries) → IsTrue old.is_honest → IsPass sizes old.bytes space snow pages a c1 → result ≢ Err Fault
-      → (n : ℕ) × (result ≡ Ok n) × IsPass sizes new.bytes after next pages a c1 × IsQuantum sizes.quantum snow.at next.at a c1 n
-  pub runs : OnOk result (pass.MayGoOn sizes new.is_honest new.bytes after next a)
+pub record PassQuantum (sizes : Sizes) (space after : SpaceState) (guide guide_after : GuideState) (snow next : SnowState) (a : Entries) (result : Result ℕ Broken) (old new : DiskState) : Type 0 where
+  pub took : (pages : List ℕ) (c1 : Entries) → IsTrue old.is_honest → IsPass sizes old.bytes space snow guide.filter guide.fences pages a c1 → result ≢ Err Fault
+      → (n : ℕ) × (result ≡ Ok n) × IsPass sizes new.bytes after next guide_after.filter guide_after.fences pages a c1 × IsQuantum sizes.quantum snow.at next.at a c1 n
+  pub runs : OnOk result (pass.MayGoOn sizes new.is_honest new.bytes after next guide_after.filter guide_after.fences a)
   pub size : OnOk result (role_size after snow.writer.role + snow.writer.component.pages ≡ role_size space snow.writer.role + next.writer.component.pages)
   pub role : next.writer.role ≡ snow.writer.role
   pub works : Works sizes snow.writer.role (sizes.quantum / 7 + 2) space after old new
@@ -79,15 +118,15 @@ pub record PassQuantum (sizes : Sizes) (space after : SpaceState) (snow next : S
 pass_role : (runs : RunsState) (snow : SnowState) → runs.pass ≡ Some snow → AreRuns runs → snow.writer.role ≡ runs.tags.pass
 pass_role runs snow is are = subst (λ (p : Option SnowState). PassHasTag runs.tags.pass p) is are.pass_tag
 
-pub pass_works : (runs : RunsState) (after : SpaceState) (snow next : SnowState) (a : Entries) (result : Result ℕ Broken) (old new : DiskState) → runs.pass ≡ Some snow → AreRuns runs
-    → PassQuantum runs.sizes runs.space after snow next a result old new → Works runs.sizes runs.tags.pass (runs.sizes.quantum / 7 + 2) runs.space after old new
-pass_works runs after snow next a result old new is are quantum =
+pub pass_works : (runs : RunsState) (after : SpaceState) (guide guide_after : GuideState) (snow next : SnowState) (a : Entries) (result : Result ℕ Broken) (old new : DiskState) → runs.pass ≡ Some snow → AreRuns runs
+    → PassQuantum runs.sizes runs.space after guide guide_after snow next a result old new → Works runs.sizes runs.tags.pass (runs.sizes.quantum / 7 + 2) runs.space after old new
+pass_works runs after guide guide_after snow next a result old new is are quantum =
     subst (λ (r : ℕ). Works runs.sizes r (runs.sizes.quantum / 7 + 2) runs.space after old new) (pass_role runs snow is are) quantum.works
 
-pass_in_order : (runs : RunsState) (after : SpaceState) (snow next : SnowState) → runs.pass ≡ Some snow → AreRuns runs → IsSpace after
+pass_in_order : (runs : RunsState) (after : SpaceState) (guides : List GuideState) (snow next : SnowState) → runs.pass ≡ Some snow → AreRuns runs → IsSpace after
     → TakesPages runs.tags.pass runs.space after → role_size after runs.tags.pass + snow.writer.component.pages ≡ role_size runs.space runs.tags.pass + next.writer.component.pages
-    → next.writer.role ≡ runs.tags.pass → IsFilled next.writer.component → AreRuns (passed runs after next)
-pass_in_order runs after snow next is are shape takes size role filled =
+    → next.writer.role ≡ runs.tags.pass → IsFilled next.writer.component → AreGuides runs.sizes guides → AreRuns (passed runs after guides next)
+pass_in_order runs after guides snow next is are shape takes size role filled reserved =
     let made = ap (λ (p : Option SnowState). (made_by_pass p).pages) is in
     record {
       geometry = are.geometry;
@@ -105,38 +144,41 @@ pass_in_order runs after snow next is are shape takes size role filled =
       rests = are.rests;
       pass_unpinned = unpinned_on runs.space after runs.tags.pass runs.tags.pass takes are.pass_unpinned;
       deep_unpinned = unpinned_on runs.space after runs.tags.pass runs.tags.deep takes are.deep_unpinned;
-      within = within_more snow.writer.component.pages next.writer.component.pages (pages_in_use runs) (pages_in_use (passed runs after next)) (page_share runs.sizes) takes are.tags.pass_below size (omega (arith, made)) are.within;
+      within = within_more snow.writer.component.pages next.writer.component.pages (pages_in_use runs) (pages_in_use (passed runs after guides next)) (page_share runs.sizes) takes are.tags.pass_below size (omega (arith, made)) are.within;
+      guides = reserved;
     }
 
 -- On any disk.
-pub pass_ran : KeepsPushed → (runs : RunsState) (after : SpaceState) (snow next : SnowState) (a : Entries) (result : Result ℕ Broken) (old new : DiskState) → runs.pass ≡ Some snow
-    → AreRunning old.is_honest old.bytes runs → IsSpace after → PassQuantum runs.sizes runs.space after snow next a result old new
-    → OnOk result (AreRunning new.is_honest new.bytes (passed runs after next))
-pass_ran pushed runs after snow next a result old new is running shape quantum =
+pub pass_ran : KeepsPushed → (runs : RunsState) (after : SpaceState) (guides : List GuideState) (guide : GuideState) (snow next : SnowState) (a : Entries) (result : Result ℕ Broken) (old new : DiskState) → runs.pass ≡ Some snow
+    → AreRunning old.is_honest old.bytes runs → IsSpace after → WritesGuide runs.sizes runs.tags.pass runs.guides guides guide
+    → PassQuantum runs.sizes runs.space after (guide_at runs.guides runs.tags.pass) guide snow next a result old new
+    → OnOk result (AreRunning new.is_honest new.bytes (passed runs after guides next))
+pass_ran pushed runs after guides guide snow next a result old new is running shape writes quantum =
     both_ok result quantum.runs quantum.size
     (λ goes size. record {
-      in_order = pass_in_order runs after snow next is running.in_order shape works.takes
+      in_order = pass_in_order runs after guides snow next is running.in_order shape works.takes
           (subst (λ (r : ℕ). role_size after r + snow.writer.component.pages ≡ role_size runs.space r + next.writer.component.pages) role size) (quantum.role ∙ role)
-          (run_filled runs.sizes new.is_honest new.bytes after next.writer goes.running.run.out goes.running.run.pushed);
-      pass = goes.running;
-      deep = deep_runs_still pushed runs.tags.deep runs.deep
+          (run_filled runs.sizes new.is_honest new.bytes after next.writer guide.filter guide.fences goes.running.run.out goes.running.run.pushed) writes.reserved;
+      pass = subst (λ (g : GuideState). PassRuns runs.sizes new.is_honest new.bytes after g (Some next)) (sym writes.here) goes.running;
+      deep = subst (λ (g : GuideState). DeepRuns runs.sizes new.is_honest new.bytes after g runs.deep) (sym (writes.others runs.tags.deep (λ same. running.in_order.tags.pass_deep (sym same))))
+          (deep_runs_still pushed runs.tags.deep (guide_at runs.guides runs.tags.deep) runs.deep
           (keeps_other runs.sizes runs.tags.deep (λ same. running.in_order.tags.pass_deep (sym same)) (one_tag_after works.takes running.in_order.one_tag) works.takes
           (λ told. works.effect.bytes (subst IsTrue works.effect.goes_on.is_honest told)))
-          running.in_order.deep_tag (subst (λ (b : Bool). DeepRuns runs.sizes b old.bytes runs.space runs.deep) (sym works.effect.goes_on.is_honest) running.deep);
+          running.in_order.deep_tag (subst (λ (b : Bool). DeepRuns runs.sizes b old.bytes runs.space (guide_at runs.guides runs.tags.deep) runs.deep) (sym works.effect.goes_on.is_honest) running.deep));
     })
   where
     role : snow.writer.role ≡ runs.tags.pass
     role = pass_role runs snow is running.in_order
 
     works : Works runs.sizes runs.tags.pass (runs.sizes.quantum / 7 + 2) runs.space after old new
-    works = pass_works runs after snow next a result old new is running.in_order quantum
+    works = pass_works runs after (guide_at runs.guides runs.tags.pass) guide snow next a result old new is running.in_order quantum
 
 -- On an honest disk.
-pub pass_stands : KeepsPushed → KeepsAhead → (runs : RunsState) (after : SpaceState) (snow next : SnowState) (a : Entries) (result : Result ℕ Broken) (old new : DiskState) → runs.pass ≡ Some snow → AreRuns runs → IsSpace after
-    → PassQuantum runs.sizes runs.space after snow next a result old new → IsTimed new → (tree : Tree) → IsTrue old.is_honest → StandOver runs tree a old → result ≢ Err Fault
-    → (n : ℕ) × (result ≡ Ok n) × StandOver (passed runs after next) tree a new × PassTook runs.sizes.quantum runs.pass (Some next) a (entries_of tree.c1) n
-pass_stands pushed ahead runs after snow next a result old new is are shape quantum timed tree honest stand other =
-    let over = subst (λ (p : Option SnowState). IsPassOver runs.sizes old.bytes runs.space p a tree.c1) is stand.are_of.pass in
+pub pass_stands : KeepsPushed → KeepsAhead → (runs : RunsState) (after : SpaceState) (guides : List GuideState) (guide : GuideState) (snow next : SnowState) (a : Entries) (result : Result ℕ Broken) (old new : DiskState) → runs.pass ≡ Some snow → AreRuns runs → IsSpace after
+    → WritesGuide runs.sizes runs.tags.pass runs.guides guides guide → PassQuantum runs.sizes runs.space after (guide_at runs.guides runs.tags.pass) guide snow next a result old new → IsTimed new → (tree : Tree) → IsTrue old.is_honest → StandOver runs tree a old → result ≢ Err Fault
+    → (n : ℕ) × (result ≡ Ok n) × StandOver (passed runs after guides next) tree a new × PassTook runs.sizes.quantum runs.pass (Some next) a (entries_of tree.c1) n
+pass_stands pushed ahead runs after guides guide snow next a result old new is are shape writes quantum timed tree honest stand other =
+    let over = subst (λ (p : Option SnowState). IsPassOver runs.sizes old.bytes runs.space (guide_at runs.guides runs.tags.pass) p a tree.c1) is stand.are_of.pass in
     let took = quantum.took (numbers_of tree.c1) (entries_of tree.c1) honest over other in
     let stood = (tree_stays runs tree a runs.tags.pass (runs.sizes.quantum / 7 + 2) after old new are (pass_is_run runs are) shape works honest timed stand).0 in (
       took.0,
@@ -149,33 +191,36 @@ pass_stands pushed ahead runs after snow next a result old new is are shape quan
           c1 = λ n has. tag_kept works.takes runs.tags.c1 are.tags.c1_pass n (stand.are_of.c1 n has);
           c1x = λ n has. tag_kept works.takes runs.tags.c1x are.tags.c1x_pass n (stand.are_of.c1x n has);
           c2 = λ n has. tag_kept works.takes runs.tags.c2 are.tags.c2_pass n (stand.are_of.c2 n has);
-          pass = took.2;
-          deep = deep_over_still pushed ahead runs.deep tree.c1x tree.c2 (keeps_other runs.sizes runs.tags.deep (λ same. are.tags.pass_deep (sym same)) one_tag works.takes (λ told. works.effect.bytes honest))
-              (pages_other runs.sizes runs.tags.c1x are.tags.c1x_pass one_tag works.takes) (pages_other runs.sizes runs.tags.c2 are.tags.c2_pass one_tag works.takes) are.deep_tag stand.are_of.c1x stand.are_of.c2 stand.are_of.deep;
+          pass = subst (λ (g : GuideState). IsPassOver runs.sizes new.bytes after g (Some next) a tree.c1) (sym writes.here) took.2;
+          deep = subst (λ (g : GuideState). IsDeepOver runs.sizes new.bytes after g runs.deep tree.c1x tree.c2) (sym (writes.others runs.tags.deep (λ same. are.tags.pass_deep (sym same))))
+              (deep_over_still pushed ahead (guide_at runs.guides runs.tags.deep) runs.deep tree.c1x tree.c2 (keeps_other runs.sizes runs.tags.deep (λ same. are.tags.pass_deep (sym same)) one_tag works.takes (λ told. works.effect.bytes honest))
+              (pages_other runs.sizes runs.tags.c1x are.tags.c1x_pass one_tag works.takes) (pages_other runs.sizes runs.tags.c2 are.tags.c2_pass one_tag works.takes) are.deep_tag stand.are_of.c1x stand.are_of.c2 stand.are_of.deep);
+          guided = all_guided_still runs.guides guides runs.tags tree writes.others are.tags.c1_pass are.tags.c1x_pass are.tags.c2_pass stand.are_of.guided;
         };
       },
       subst (λ (p : Option SnowState). PassTook runs.sizes.quantum p (Some next) a (entries_of tree.c1) took.0) (sym is) took.3,
     )
   where
     works : Works runs.sizes runs.tags.pass (runs.sizes.quantum / 7 + 2) runs.space after old new
-    works = pass_works runs after snow next a result old new is are quantum
+    works = pass_works runs after (guide_at runs.guides runs.tags.pass) guide snow next a result old new is are quantum
 
     one_tag : HasOneTag after
     one_tag = one_tag_after works.takes are.one_tag
 
 -- ---- the deep merge
 
-abbrev pub deepened : RunsState → SpaceState → DeepState → RunsState
-deepened runs space merge = record runs { space = space; deep = Some merge }
+abbrev pub deepened : RunsState → SpaceState → List GuideState → DeepState → RunsState
+deepened runs space guides merge = record runs { space = space; deep = Some merge; guides = guides }
 
-pub deepened_is : {old new : RunsState} (space : SpaceState) (merge : DeepState) → KeepsAllButDeep old new → new.space ≡ space → new.deep ≡ Some merge → new ≡ deepened old space merge
-deepened_is space merge keeps s d = λ j. record { sizes = keeps.sizes j; catalogue = keeps.catalogue j; space = s j; tags = keeps.tags j; pass = keeps.pass j; deep = d j }
+pub deepened_is : {old new : RunsState} (space : SpaceState) (guides : List GuideState) (merge : DeepState) → KeepsAllButDeep old new → new.space ≡ space → new.guides ≡ guides → new.deep ≡ Some merge
+    → new ≡ deepened old space guides merge
+deepened_is space guides merge keeps s g d = λ j. record { sizes = keeps.sizes j; catalogue = keeps.catalogue j; space = s j; tags = keeps.tags j; pass = keeps.pass j; deep = d j; guides = g j }
 
 -- what its quantum ensures
-pub record DeepQuantum (sizes : Sizes) (space after : SpaceState) (merge next : DeepState) (result : Result ℕ Broken) (old new : DiskState) : Type 0 where
-  pub took : (newer older : List ℕ) (c1x c2 : Entries) → IsTrue old.is_honest → IsMerge sizes old.bytes space merge newer older c1x c2 → result ≢ Err Fault
-      → (n : ℕ) × (result ≡ Ok n) × IsMerge sizes new.bytes after next newer older c1x c2 × IsQuantum sizes.quantum merge.at next.at c1x c2 n
-  pub runs : OnOk result (deep.MayGoOn sizes new.is_honest new.bytes after next)
+pub record DeepQuantum (sizes : Sizes) (space after : SpaceState) (guide guide_after : GuideState) (merge next : DeepState) (result : Result ℕ Broken) (old new : DiskState) : Type 0 where
+  pub took : (newer older : List ℕ) (c1x c2 : Entries) → IsTrue old.is_honest → IsMerge sizes old.bytes space merge guide.filter guide.fences newer older c1x c2 → result ≢ Err Fault
+      → (n : ℕ) × (result ≡ Ok n) × IsMerge sizes new.bytes after next guide_after.filter guide_after.fences newer older c1x c2 × IsQuantum sizes.quantum merge.at next.at c1x c2 n
+  pub runs : OnOk result (deep.MayGoOn sizes new.is_honest new.bytes after next guide_after.filter guide_after.fences)
   pub size : OnOk result (role_size after merge.writer.role + merge.writer.component.pages ≡ role_size space merge.writer.role + next.writer.component.pages)
   pub role : next.writer.role ≡ merge.writer.role
   pub works : Works sizes merge.writer.role (sizes.quantum / 4 + 3) space after old new
@@ -183,15 +228,15 @@ pub record DeepQuantum (sizes : Sizes) (space after : SpaceState) (merge next : 
 deep_role : (runs : RunsState) (merge : DeepState) → runs.deep ≡ Some merge → AreRuns runs → merge.writer.role ≡ runs.tags.deep
 deep_role runs merge is are = subst (λ (d : Option DeepState). DeepHasTag runs.tags.deep d) is are.deep_tag
 
-pub deep_works : (runs : RunsState) (after : SpaceState) (merge next : DeepState) (result : Result ℕ Broken) (old new : DiskState) → runs.deep ≡ Some merge → AreRuns runs
-    → DeepQuantum runs.sizes runs.space after merge next result old new → Works runs.sizes runs.tags.deep (runs.sizes.quantum / 4 + 3) runs.space after old new
-deep_works runs after merge next result old new is are quantum =
+pub deep_works : (runs : RunsState) (after : SpaceState) (guide guide_after : GuideState) (merge next : DeepState) (result : Result ℕ Broken) (old new : DiskState) → runs.deep ≡ Some merge → AreRuns runs
+    → DeepQuantum runs.sizes runs.space after guide guide_after merge next result old new → Works runs.sizes runs.tags.deep (runs.sizes.quantum / 4 + 3) runs.space after old new
+deep_works runs after guide guide_after merge next result old new is are quantum =
     subst (λ (r : ℕ). Works runs.sizes r (runs.sizes.quantum / 4 + 3) runs.space after old new) (deep_role runs merge is are) quantum.works
 
-deep_in_order : (runs : RunsState) (after : SpaceState) (merge next : DeepState) → runs.deep ≡ Some merge → AreRuns runs → IsSpace after → TakesPages runs.tags.deep runs.space after
+deep_in_order : (runs : RunsState) (after : SpaceState) (guides : List GuideState) (merge next : DeepState) → runs.deep ≡ Some merge → AreRuns runs → IsSpace after → TakesPages runs.tags.deep runs.space after
     → role_size after runs.tags.deep + merge.writer.component.pages ≡ role_size runs.space runs.tags.deep + next.writer.component.pages
-    → next.writer.role ≡ runs.tags.deep → IsFilled next.writer.component → AreRuns (deepened runs after next)
-deep_in_order runs after merge next is are shape takes size role filled =
+    → next.writer.role ≡ runs.tags.deep → IsFilled next.writer.component → AreGuides runs.sizes guides → AreRuns (deepened runs after guides next)
+deep_in_order runs after guides merge next is are shape takes size role filled reserved =
     let made = ap (λ (d : Option DeepState). (made_by_deep d).pages) is in
     record {
       geometry = are.geometry;
@@ -209,38 +254,41 @@ deep_in_order runs after merge next is are shape takes size role filled =
       rests = tt;
       pass_unpinned = unpinned_on runs.space after runs.tags.deep runs.tags.pass takes are.pass_unpinned;
       deep_unpinned = unpinned_on runs.space after runs.tags.deep runs.tags.deep takes are.deep_unpinned;
-      within = within_more merge.writer.component.pages next.writer.component.pages (pages_in_use runs) (pages_in_use (deepened runs after next)) (page_share runs.sizes) takes are.tags.deep_below size (omega (arith, made)) are.within;
+      within = within_more merge.writer.component.pages next.writer.component.pages (pages_in_use runs) (pages_in_use (deepened runs after guides next)) (page_share runs.sizes) takes are.tags.deep_below size (omega (arith, made)) are.within;
+      guides = reserved;
     }
 
 -- On any disk.
-pub deep_ran : KeepsPushed → (runs : RunsState) (after : SpaceState) (merge next : DeepState) (result : Result ℕ Broken) (old new : DiskState) → runs.deep ≡ Some merge
-    → AreRunning old.is_honest old.bytes runs → IsSpace after → DeepQuantum runs.sizes runs.space after merge next result old new
-    → OnOk result (AreRunning new.is_honest new.bytes (deepened runs after next))
-deep_ran pushed runs after merge next result old new is running shape quantum =
+pub deep_ran : KeepsPushed → (runs : RunsState) (after : SpaceState) (guides : List GuideState) (guide : GuideState) (merge next : DeepState) (result : Result ℕ Broken) (old new : DiskState) → runs.deep ≡ Some merge
+    → AreRunning old.is_honest old.bytes runs → IsSpace after → WritesGuide runs.sizes runs.tags.deep runs.guides guides guide
+    → DeepQuantum runs.sizes runs.space after (guide_at runs.guides runs.tags.deep) guide merge next result old new
+    → OnOk result (AreRunning new.is_honest new.bytes (deepened runs after guides next))
+deep_ran pushed runs after guides guide merge next result old new is running shape writes quantum =
     both_ok result quantum.runs quantum.size
     (λ goes size. record {
-      in_order = deep_in_order runs after merge next is running.in_order shape works.takes
+      in_order = deep_in_order runs after guides merge next is running.in_order shape works.takes
           (subst (λ (r : ℕ). role_size after r + merge.writer.component.pages ≡ role_size runs.space r + next.writer.component.pages) role size) (quantum.role ∙ role)
-          (run_filled runs.sizes new.is_honest new.bytes after next.writer goes.running.run.out goes.running.run.pushed);
-      pass = pass_runs_still pushed runs.tags.pass runs.pass
+          (run_filled runs.sizes new.is_honest new.bytes after next.writer guide.filter guide.fences goes.running.run.out goes.running.run.pushed) writes.reserved;
+      pass = subst (λ (g : GuideState). PassRuns runs.sizes new.is_honest new.bytes after g runs.pass) (sym (writes.others runs.tags.pass running.in_order.tags.pass_deep))
+          (pass_runs_still pushed runs.tags.pass (guide_at runs.guides runs.tags.pass) runs.pass
           (keeps_other runs.sizes runs.tags.pass running.in_order.tags.pass_deep (one_tag_after works.takes running.in_order.one_tag) works.takes
           (λ told. works.effect.bytes (subst IsTrue works.effect.goes_on.is_honest told)))
-          running.in_order.pass_tag (subst (λ (b : Bool). PassRuns runs.sizes b old.bytes runs.space runs.pass) (sym works.effect.goes_on.is_honest) running.pass);
-      deep = goes.running;
+          running.in_order.pass_tag (subst (λ (b : Bool). PassRuns runs.sizes b old.bytes runs.space (guide_at runs.guides runs.tags.pass) runs.pass) (sym works.effect.goes_on.is_honest) running.pass));
+      deep = subst (λ (g : GuideState). DeepRuns runs.sizes new.is_honest new.bytes after g (Some next)) (sym writes.here) goes.running;
     })
   where
     role : merge.writer.role ≡ runs.tags.deep
     role = deep_role runs merge is running.in_order
 
     works : Works runs.sizes runs.tags.deep (runs.sizes.quantum / 4 + 3) runs.space after old new
-    works = deep_works runs after merge next result old new is running.in_order quantum
+    works = deep_works runs after (guide_at runs.guides runs.tags.deep) guide merge next result old new is running.in_order quantum
 
 -- On an honest disk.
-pub deep_stands : KeepsPushed → KeepsAhead → (runs : RunsState) (after : SpaceState) (merge next : DeepState) (result : Result ℕ Broken) (old new : DiskState) → runs.deep ≡ Some merge → AreRuns runs → IsSpace after
-    → DeepQuantum runs.sizes runs.space after merge next result old new → IsTimed new → (tree : Tree) (a : Entries) → IsTrue old.is_honest → StandOver runs tree a old → result ≢ Err Fault
-    → (n : ℕ) × (result ≡ Ok n) × StandOver (deepened runs after next) tree a new × DeepTook runs.sizes.quantum runs.deep (Some next) (entries_of tree.c1x) (entries_of tree.c2) n
-deep_stands pushed ahead runs after merge next result old new is are shape quantum timed tree a honest stand other =
-    let over = subst (λ (d : Option DeepState). IsDeepOver runs.sizes old.bytes runs.space d tree.c1x tree.c2) is stand.are_of.deep in
+pub deep_stands : KeepsPushed → KeepsAhead → (runs : RunsState) (after : SpaceState) (guides : List GuideState) (guide : GuideState) (merge next : DeepState) (result : Result ℕ Broken) (old new : DiskState) → runs.deep ≡ Some merge → AreRuns runs → IsSpace after
+    → WritesGuide runs.sizes runs.tags.deep runs.guides guides guide → DeepQuantum runs.sizes runs.space after (guide_at runs.guides runs.tags.deep) guide merge next result old new → IsTimed new → (tree : Tree) (a : Entries) → IsTrue old.is_honest → StandOver runs tree a old → result ≢ Err Fault
+    → (n : ℕ) × (result ≡ Ok n) × StandOver (deepened runs after guides next) tree a new × DeepTook runs.sizes.quantum runs.deep (Some next) (entries_of tree.c1x) (entries_of tree.c2) n
+deep_stands pushed ahead runs after guides guide merge next result old new is are shape writes quantum timed tree a honest stand other =
+    let over = subst (λ (d : Option DeepState). IsDeepOver runs.sizes old.bytes runs.space (guide_at runs.guides runs.tags.deep) d tree.c1x tree.c2) is stand.are_of.deep in
     let took = quantum.took (numbers_of tree.c1x) (numbers_of tree.c2) (entries_of tree.c1x) (entries_of tree.c2) honest over other in
     let stood = (tree_stays runs tree a runs.tags.deep (runs.sizes.quantum / 4 + 3) after old new are (deep_is_run runs are) shape works honest timed stand).0 in (
       took.0,
@@ -253,16 +301,18 @@ deep_stands pushed ahead runs after merge next result old new is are shape quant
           c1 = λ n has. tag_kept works.takes runs.tags.c1 are.tags.c1_deep n (stand.are_of.c1 n has);
           c1x = λ n has. tag_kept works.takes runs.tags.c1x are.tags.c1x_deep n (stand.are_of.c1x n has);
           c2 = λ n has. tag_kept works.takes runs.tags.c2 are.tags.c2_deep n (stand.are_of.c2 n has);
-          pass = pass_over_still pushed ahead runs.pass a tree.c1 (keeps_other runs.sizes runs.tags.pass are.tags.pass_deep one_tag works.takes (λ told. works.effect.bytes honest))
-              (pages_other runs.sizes runs.tags.c1 are.tags.c1_deep one_tag works.takes) are.pass_tag stand.are_of.c1 stand.are_of.pass;
-          deep = took.2;
+          pass = subst (λ (g : GuideState). IsPassOver runs.sizes new.bytes after g runs.pass a tree.c1) (sym (writes.others runs.tags.pass are.tags.pass_deep))
+              (pass_over_still pushed ahead (guide_at runs.guides runs.tags.pass) runs.pass a tree.c1 (keeps_other runs.sizes runs.tags.pass are.tags.pass_deep one_tag works.takes (λ told. works.effect.bytes honest))
+              (pages_other runs.sizes runs.tags.c1 are.tags.c1_deep one_tag works.takes) are.pass_tag stand.are_of.c1 stand.are_of.pass);
+          deep = subst (λ (g : GuideState). IsDeepOver runs.sizes new.bytes after g (Some next) tree.c1x tree.c2) (sym writes.here) took.2;
+          guided = all_guided_still runs.guides guides runs.tags tree writes.others are.tags.c1_deep are.tags.c1x_deep are.tags.c2_deep stand.are_of.guided;
         };
       },
       subst (λ (d : Option DeepState). DeepTook runs.sizes.quantum d (Some next) (entries_of tree.c1x) (entries_of tree.c2) took.0) (sym is) took.3,
     )
   where
     works : Works runs.sizes runs.tags.deep (runs.sizes.quantum / 4 + 3) runs.space after old new
-    works = deep_works runs after merge next result old new is are quantum
+    works = deep_works runs after (guide_at runs.guides runs.tags.deep) guide merge next result old new is are quantum
 
     one_tag : HasOneTag after
     one_tag = one_tag_after works.takes are.one_tag

@@ -9,6 +9,8 @@ use Rattle.disk_trait.specs.Region.{AreApart, IsSameOutside}
 use Rattle.blsm_model.specs.Components.{empty_component}
 use Rattle.blsm_model.specs.Sizes.{Sizes}
 use Rattle.blsm_model.specs.Geometry.{page_count}
+use Rattle.bloom_bits.specs.BitSet.{BitState}
+use Rattle.bloom_bits.specs.Fences.{FencesState}
 use Rattle.record_delta.specs.Entries.{Entries, entries_weight}
 use Rattle.page_space.specs.Space.{SpaceState, IsSpace, IsFree, HasRole, pages_with, role_count}
 use Rattle.page_space.specs.PageSet.{Members, IsIn}
@@ -140,5 +142,6 @@ empty_run writer run held none = by (pages_of run) refl
     by (p ∷ ps) is = absurd (omega (arith, none, held.pages_is, ap (λ (ps : List RunPage). length ps) is))
 
 -- what is true of a run's numbers, on any disk
-pub run_filled : (sizes : Sizes) (honest : Bool) (file : List ℕ) (space : SpaceState) (writer : WriterState) (entries : Entries) → HasPushed sizes honest file space writer entries → IsFilled writer.component
-run_filled sizes honest file space writer entries has = record { none = empty_run writer has.run has.held; full = omega (arith, has.counted.floor) }
+pub run_filled : (sizes : Sizes) (honest : Bool) (file : List ℕ) (space : SpaceState) (writer : WriterState) (filter : BitState) (fences : FencesState) (entries : Entries)
+    → HasPushed sizes honest file space writer filter fences entries → IsFilled writer.component
+run_filled sizes honest file space writer filter fences entries has = record { none = empty_run writer has.run has.held; full = omega (arith, has.counted.floor) }

@@ -18,7 +18,7 @@ use Rattle.snow_merge.specs.Pass.{SnowState}
 use Rattle.deep_merge.specs.Merge.{DeepState}
 use Rattle.tree_file.specs.Tree.{Tree, HoldsTree, live_pages}
 use Rattle.tree_file.specs.Places.{StandsOn, Becomes, ReadsNext, with_components, with_pass}
-use Rattle.tree_runs.specs.Runs.{RunsState, AreRuns, AreRunning, PassRuns, DeepRuns, made_by_pass, made_by_deep}
+use Rattle.tree_runs.specs.Runs.{RunsState, AreRuns, AreRunning, PassRuns, DeepRuns, guide_at, made_by_pass, made_by_deep}
 use Rattle.tree_runs.specs.Holding.{AreTagged, AreOf, StandOver, IsDeepSwapped, IsPassSwapped, is_full, with_deep_run, with_pass_run, with_rotation}
 use Rattle.tree_runs.specs.Swaps.{MayFollow}
 use Rattle.tree_runs.proofs.SwapLemmas.{deep_tag, pass_tag, run_others, stands_finished, one_page, one_page_entries}
@@ -46,25 +46,25 @@ few_pages_of_run : (runs : RunsState) (tag : ℕ) (component : Component) → Ar
 few_pages_of_run runs tag component are below is =
     omega (arith, is, count_by-le-length (λ (b : Bool). b) (pages_with runs.space tag), are.shape.of_role tag below, are.pages)
 
-deep_suits : {now : List ℕ} (honest : Bool) (file : List ℕ) (runs : RunsState) (made : Component) (run : List RunPage) → AreRuns runs → DeepRuns runs.sizes honest file runs.space runs.deep → made ≡ made_by_deep runs.deep
+deep_suits : {now : List ℕ} (honest : Bool) (file : List ℕ) (runs : RunsState) (made : Component) (run : List RunPage) → AreRuns runs → DeepRuns runs.sizes honest file runs.space (guide_at runs.guides runs.tags.deep) runs.deep → made ≡ made_by_deep runs.deep
     → ReadsAs runs.sizes made run now → Suits runs.sizes made
 deep_suits {now} honest file runs made run are running is reads = by runs.deep running is
   where
     few : made.pages ≤ page_count runs.sizes
     few = few_pages_of_run runs runs.tags.deep made are are.tags.deep_below (are.deep.size ∙ sym (ap (λ (k : Component). k.pages) is))
 
-    by : (deep : Option DeepState) → DeepRuns runs.sizes honest file runs.space deep → made ≡ made_by_deep deep → Suits runs.sizes made
+    by : (deep : Option DeepState) → DeepRuns runs.sizes honest file runs.space (guide_at runs.guides runs.tags.deep) deep → made ≡ made_by_deep deep → Suits runs.sizes made
     by None going is = subst (λ (k : Component). Suits runs.sizes k) (sym is) (empty_suits runs.sizes)
     by (Some deep) going is = run_suits runs.sizes deep.writer made run now are.geometry going.run.pushed.counted is reads few
 
-pass_suits : {now : List ℕ} (honest : Bool) (file : List ℕ) (runs : RunsState) (made : Component) (run : List RunPage) → AreRuns runs → PassRuns runs.sizes honest file runs.space runs.pass → made ≡ made_by_pass runs.pass
+pass_suits : {now : List ℕ} (honest : Bool) (file : List ℕ) (runs : RunsState) (made : Component) (run : List RunPage) → AreRuns runs → PassRuns runs.sizes honest file runs.space (guide_at runs.guides runs.tags.pass) runs.pass → made ≡ made_by_pass runs.pass
     → ReadsAs runs.sizes made run now → Suits runs.sizes made
 pass_suits {now} honest file runs made run are running is reads = by runs.pass running is
   where
     few : made.pages ≤ page_count runs.sizes
     few = few_pages_of_run runs runs.tags.pass made are are.tags.pass_below (are.pass.size ∙ sym (ap (λ (k : Component). k.pages) is))
 
-    by : (pass : Option SnowState) → PassRuns runs.sizes honest file runs.space pass → made ≡ made_by_pass pass → Suits runs.sizes made
+    by : (pass : Option SnowState) → PassRuns runs.sizes honest file runs.space (guide_at runs.guides runs.tags.pass) pass → made ≡ made_by_pass pass → Suits runs.sizes made
     by None going is = subst (λ (k : Component). Suits runs.sizes k) (sym is) (empty_suits runs.sizes)
     by (Some pass) going is = run_suits runs.sizes pass.writer made run now are.geometry going.run.pushed.counted is reads few
 

@@ -1,5 +1,5 @@
 -- What the components and merges of a tree are on an honest disk, whose file holds the tree.
-use Rattle.std.specs.Prelude.{◌≡◌, ◌⊎◌, ⊤, ℕ, Bool, IsTrue, ◌+◌, List, [], ◌∷◌, Option, Some, None, if◌then◌else◌, nat_le}
+use Rattle.std.specs.Prelude.{◌≡◌, ◌≢◌, ◌⊎◌, ⊤, ℕ, Bool, IsTrue, ◌+◌, List, [], ◌∷◌, Option, Some, None, if◌then◌else◌, nat_le}
 use Rattle.std.specs.List.{Contains}
 use Rattle.disk_trait.specs.Region.{Region, span}
 use Rattle.disk_trait.specs.Disk.{DiskState}
@@ -14,6 +14,7 @@ use Rattle.catalog_swap.specs.declared.catalog.Catalog.{Catalog}
 use Rattle.record_delta.specs.Entries.{Entries, folded_over, settled_entries}
 use Rattle.page_space.specs.Space.{SpaceState, HasRole, IsFree, KeepsOtherPins}
 use Rattle.page_file.specs.Component.{RunPage, entries_of, numbers_of}
+use Rattle.run_cursor.specs.Lookup.{IsGuided}
 use Rattle.run_writer.specs.Writer.{role_region}
 use Rattle.catalog_swap.specs.Slots.{slot_of, slot_length}
 use Rattle.catalog_swap.specs.Swap.{prepared}
@@ -24,7 +25,7 @@ use Rattle.deep_merge.specs.Merge as deep
 use Rattle.deep_merge.specs.Merge.{DeepState, IsMerge, started as deep_started}
 use Rattle.tree_file.specs.Tree.{Tree, HoldsTree}
 use Rattle.tree_file.specs.Places.{StandsOn, HoldsEither, StandsOnEither}
-use Rattle.tree_runs.specs.Runs.{RunsState, Tags, made_by_pass, made_by_deep}
+use Rattle.tree_runs.specs.Runs.{GuideState, RunsState, Tags, deep_bits, emptied, guide_at, made_by_pass, made_by_deep}
 
 -- each of these pages has the tag
 abbrev pub AreTagged : SpaceState → ℕ → List RunPage → Type 0
@@ -35,24 +36,37 @@ abbrev pub AreElsewhere : SpaceState → ℕ → List RunPage → Type 0
 AreElsewhere space tag pages = (n : ℕ) → Contains (numbers_of pages) n → (HasRole space tag n → ⊥) × (IsFree space n → ⊥)
 
 -- the pass runs over table A and C1
-abbrev pub IsPassOver : Sizes → List ℕ → SpaceState → Option SnowState → Entries → List RunPage → Type 0
-IsPassOver sizes file space None a c1 = ⊤
-IsPassOver sizes file space (Some snow) a c1 = IsPass sizes file space snow (numbers_of c1) a (entries_of c1)
+abbrev pub IsPassOver : Sizes → List ℕ → SpaceState → GuideState → Option SnowState → Entries → List RunPage → Type 0
+IsPassOver sizes file space guide None a c1 = ⊤
+IsPassOver sizes file space guide (Some snow) a c1 = IsPass sizes file space snow guide.filter guide.fences (numbers_of c1) a (entries_of c1)
 
 -- the deep merge runs over C1' and C2; where none runs C1' is empty
-abbrev pub IsDeepOver : Sizes → List ℕ → SpaceState → Option DeepState → (c1x c2 : List RunPage) → Type 0
-IsDeepOver sizes file space None c1x c2 = c1x ≡ []
-IsDeepOver sizes file space (Some merge) c1x c2 = IsMerge sizes file space merge (numbers_of c1x) (numbers_of c2) (entries_of c1x) (entries_of c2)
+abbrev pub IsDeepOver : Sizes → List ℕ → SpaceState → GuideState → Option DeepState → (c1x c2 : List RunPage) → Type 0
+IsDeepOver sizes file space guide None c1x c2 = c1x ≡ []
+IsDeepOver sizes file space guide (Some merge) c1x c2 =
+    IsMerge sizes file space merge guide.filter guide.fences (numbers_of c1x) (numbers_of c2) (entries_of c1x) (entries_of c2)
 
--- In this file the tree has this catalogue, its components' pages have their tags, and the merges run over its lists and this table A.
+-- The filter and the fences are those of these pages; where there are none, nobody asks them, so they may be older ones.
+abbrev pub IsGuidedBy : GuideState → List RunPage → Type 0
+IsGuidedBy guide pages = IsGuided guide.filter guide.fences pages
+
+-- each component's are those of its pages
+pub record AreGuided (guides : List GuideState) (tags : Tags) (tree : Tree) : Type 0 where
+  pub c1 : IsGuidedBy (guide_at guides tags.c1) tree.c1
+  pub c1x : IsGuidedBy (guide_at guides tags.c1x) tree.c1x
+  pub c2 : IsGuidedBy (guide_at guides tags.c2) tree.c2
+
+-- In this file the tree has this catalogue, its components' pages have their tags, filters and fences, and the merges run over its lists and this
+-- table A.
 pub record AreOf (runs : RunsState) (tree : Tree) (a : Entries) (file : List ℕ) : Type 0 where
   pub holds : HoldsTree runs.sizes tree file
   pub catalogue : tree.catalogue ≡ runs.catalogue
   pub c1 : AreTagged runs.space runs.tags.c1 tree.c1
   pub c1x : AreTagged runs.space runs.tags.c1x tree.c1x
   pub c2 : AreTagged runs.space runs.tags.c2 tree.c2
-  pub pass : IsPassOver runs.sizes file runs.space runs.pass a tree.c1
-  pub deep : IsDeepOver runs.sizes file runs.space runs.deep tree.c1x tree.c2
+  pub pass : IsPassOver runs.sizes file runs.space (guide_at runs.guides runs.tags.pass) runs.pass a tree.c1
+  pub deep : IsDeepOver runs.sizes file runs.space (guide_at runs.guides runs.tags.deep) runs.deep tree.c1x tree.c2
+  pub guided : AreGuided runs.guides runs.tags tree
 
 -- The disk stands on the tree, and these are of it.
 pub record StandOver (runs : RunsState) (tree : Tree) (a : Entries) (d : DiskState) : Type 0 where
@@ -120,13 +134,19 @@ swap_region sizes space tag now = λ i. role_region sizes space tag i ⊎ commit
 
 -- ---- what a call leaves
 
--- A quantum of the pass changes the pass alone, and the pages that it takes. So the other merge and the catalogue are as they were.
+-- the filter and the fences of each other tag are as they were
+abbrev pub KeepsOtherGuides : ℕ → List GuideState → List GuideState → Type 0
+KeepsOtherGuides tag old new = (other : ℕ) → other ≢ tag → guide_at new other ≡ guide_at old other
+
+-- A quantum of the pass changes the pass alone, the pages that it takes, and its run's filter and fences. So the other merge and the catalogue are
+-- as they were.
 pub record KeepsAllButPass (old new : RunsState) : Type 0 where
   pub sizes : new.sizes ≡ old.sizes
   pub catalogue : new.catalogue ≡ old.catalogue
   pub tags : new.tags ≡ old.tags
   pub deep : new.deep ≡ old.deep
   pub takes : TakesPages old.tags.pass old.space new.space
+  pub guides : KeepsOtherGuides old.tags.pass old.guides new.guides
 
 pub record KeepsAllButDeep (old new : RunsState) : Type 0 where
   pub sizes : new.sizes ≡ old.sizes
@@ -134,6 +154,7 @@ pub record KeepsAllButDeep (old new : RunsState) : Type 0 where
   pub tags : new.tags ≡ old.tags
   pub pass : new.pass ≡ old.pass
   pub takes : TakesPages old.tags.deep old.space new.space
+  pub guides : KeepsOtherGuides old.tags.deep old.guides new.guides
 
 -- The seat pins other pages now. Nothing else has changed.
 pub record Repins (seat : ℕ) (old new : RunsState) : Type 0 where
@@ -168,7 +189,8 @@ abbrev pub cursor_of_deep : Option DeepState → Option Key
 cursor_of_deep None = None
 cursor_of_deep (Some merge) = merge.at
 
--- the deep merge's run is C2 now: its tag is C2's, and the tag of the old C2 is free for the next run
+-- The deep merge's run is C2 now: its tag is C2's, and the tag of the old C2 is free for the next run. Filters and fences go with their tags, so
+-- none of them moves.
 pub record SwapsDeep (old new : RunsState) : Type 0 where
   pub sizes : new.sizes ≡ old.sizes
   pub catalogue : new.catalogue ≡ with_deep_run (made_by_deep old.deep) old.catalogue
@@ -176,6 +198,7 @@ pub record SwapsDeep (old new : RunsState) : Type 0 where
   pub pass : new.pass ≡ old.pass
   pub deep : new.deep ≡ None
   pub pins : new.space.pins ≡ old.space.pins
+  pub guides : new.guides ≡ old.guides
 
 -- C1 is C1' now, and a deep merge begins
 pub record Rotates (old new : RunsState) : Type 0 where
@@ -185,6 +208,7 @@ pub record Rotates (old new : RunsState) : Type 0 where
   pub pass : new.pass ≡ old.pass
   pub deep : new.deep ≡ Some (deep_started old.tags.deep old.catalogue.c1 old.catalogue.c2)
   pub pins : new.space.pins ≡ old.space.pins
+  pub guides : new.guides ≡ emptied old.tags.deep (deep_bits old.sizes old.catalogue.c1 old.catalogue.c2) old.guides
 
 -- the pass's run is C1 now, or C1' with a deep merge that begins
 abbrev pub tags_after_pass : Bool → Tags → Tags
@@ -198,6 +222,8 @@ pub record SwapsPass (old new : RunsState) : Type 0 where
   pub pass : new.pass ≡ None
   pub deep : new.deep ≡ (if is_full old.sizes (made_by_pass old.pass) then Some (deep_started old.tags.deep (made_by_pass old.pass) old.catalogue.c2) else old.deep)
   pub pins : new.space.pins ≡ old.space.pins
+  pub guides : new.guides
+      ≡ (if is_full old.sizes (made_by_pass old.pass) then emptied old.tags.deep (deep_bits old.sizes (made_by_pass old.pass) old.catalogue.c2) old.guides else old.guides)
 
 -- what a swap leaves of the disk: the old tree or the next, in each image of each moment; once it is done the disk stands on the next
 pub record LeavesSwapped (old new : RunsState) (one next : Tree) (a : Entries) (done : Bool) (before after : DiskState) : Type 0 where

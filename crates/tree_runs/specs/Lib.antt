@@ -2,3 +2,4 @@ pub mod Runs
 pub mod Holding
 pub mod Laws
 pub mod Swaps
+pub mod Lookups

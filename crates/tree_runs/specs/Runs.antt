@@ -1,13 +1,17 @@
 -- What contracts see of the components of a tree and of its merges, and what they keep on every disk. Weights are in bytes.
-use Rattle.std.specs.Prelude.{◌≡◌, ◌≢◌, ⊤, ℕ, ◌+◌, ◌-◌, ◌*◌, ◌/◌, ◌<◌, ◌≤◌, Bool, List, Option, Some, None, if◌then◌else◌, nat_eq}
+use Rattle.std.specs.Prelude.{◌≡◌, ◌≢◌, ⊤, ℕ, ◌+◌, ◌-◌, ◌*◌, ◌/◌, ◌<◌, ◌≤◌, Bool, List, [], length, Option, Some, None, if◌then◌else◌, min, nat_eq, slice_index_or, slice_set}
 use Rattle.blsm_model.specs.declared.component.Component.{Component}
 use Rattle.blsm_model.specs.Components.{empty_component}
 use Rattle.blsm_model.specs.Format.{least_full}
 use Rattle.blsm_model.specs.Sizes.{Sizes, IsGeometry}
 use Rattle.blsm_model.specs.Geometry.{page_count, capacity}
+use Rattle.bloom_bits.specs.BitSet.{BitState, cleared}
+use Rattle.bloom_bits.specs.Fences.{FencesState}
+use Rattle.bloom_bits.specs.Filter.{rounded}
 use Rattle.catalog_swap.specs.declared.catalog.Catalog.{Catalog}
 use Rattle.record_delta.specs.Entries.{Entries}
 use Rattle.page_space.specs.Space.{SpaceState, IsSpace, HasRole, IsWithin, role_count, role_size, pin_size, seat_count}
+use Rattle.merge_ends.specs.Output.{most_pages}
 use Rattle.scan_view.specs.Pins.{IsUnpinned}
 use Rattle.snow_merge.specs.Pass as pass
 use Rattle.snow_merge.specs.Pass.{SnowState}
@@ -22,7 +26,13 @@ pub record Tags : Type 0 where
   pub pass : ℕ
   pub deep : ℕ
 
--- The sizes of the store; its catalogue as last committed; the free-page map and what its tags stand for; and the merges that run.
+-- the filter and the fences of the pages that have one tag
+pub record GuideState : Type 0 where
+  pub filter : BitState
+  pub fences : FencesState
+
+-- The sizes of the store; its catalogue as last committed; the free-page map and what its tags stand for; the merges that run; and, by their
+-- tags, the filters and fences of the components and of the runs.
 pub record RunsState : Type 0 where
   pub sizes : Sizes
   pub catalogue : Catalog
@@ -30,6 +40,46 @@ pub record RunsState : Type 0 where
   pub tags : Tags
   pub pass : Option SnowState
   pub deep : Option DeepState
+  pub guides : List GuideState
+
+-- ---- filters and fences, by tag
+
+abbrev pub no_guide : GuideState
+no_guide = record { filter = cleared 0 0; fences = record { reserved = 0; list = [] } }
+
+abbrev pub guide_at : List GuideState → ℕ → GuideState
+guide_at guides tag = slice_index_or guides tag no_guide
+
+-- a tag's filter has so many bits now, and neither it nor the tag's fences have anything; as much is reserved as was
+abbrev pub empty_guide : ℕ → GuideState → GuideState
+empty_guide bits guide = record { filter = cleared guide.filter.reserved (rounded bits); fences = record { reserved = guide.fences.reserved; list = [] } }
+
+abbrev pub emptied : ℕ → ℕ → List GuideState → List GuideState
+emptied tag bits guides = slice_set guides tag (empty_guide bits (guide_at guides tag))
+
+-- The bits of a run's filter are as many as its input weighs bytes, and never more than there is room for: for a pass C1, the memory table
+-- and one half that may come while it runs, for a deep merge C1' and C2.
+abbrev pub pass_bits : Sizes → Component → ℕ → ℕ
+pass_bits sizes c1 memory = min (c1.weight + memory + sizes.half) (capacity sizes)
+
+abbrev pub deep_bits : Sizes → (c1x c2 : Component) → ℕ
+deep_bits sizes c1x c2 = min (c1x.weight + c2.weight) (capacity sizes)
+
+-- there is room for as many bits as the components may weigh bytes, and for the fences of as many pages as so much may fill
+pub record IsReserved (sizes : Sizes) (guide : GuideState) : Type 0 where
+  pub bits : guide.filter.reserved ≡ rounded (capacity sizes)
+  pub pages : guide.fences.reserved ≡ most_pages (capacity sizes)
+
+-- one that was just reserved
+abbrev pub fresh_guide : Sizes → GuideState
+fresh_guide sizes = record { filter = cleared (rounded (capacity sizes)) (rounded 0); fences = record { reserved = most_pages (capacity sizes); list = [] } }
+
+-- so for each tag
+pub record AreGuides (sizes : Sizes) (guides : List GuideState) : Type 0 where
+  pub five : length guides ≡ role_count
+  pub each : (tag : ℕ) → tag < role_count → IsReserved sizes (guide_at guides tag)
+
+-- ---- beginnings
 
 -- after an opening: the tags in their order
 abbrev pub first_tags : Tags
@@ -39,18 +89,38 @@ first_tags = record { c1 = 0; c1x = 1; c2 = 2; pass = 3; deep = 4 }
 abbrev pub due_deep : ℕ → Catalog → Option DeepState
 due_deep tag catalogue = if nat_eq catalogue.c1x.pages 0 then None else Some (deep.started tag catalogue.c1x catalogue.c2)
 
+-- and the filters and fences, of which those of its run are empty
+abbrev pub due_guides : Sizes → Catalog → List GuideState → List GuideState
+due_guides sizes catalogue guides =
+    if nat_eq catalogue.c1x.pages 0 then guides else emptied first_tags.deep (deep_bits sizes catalogue.c1x catalogue.c2) guides
+
 -- No pass runs, and a deep merge just where C1' has pages.
-abbrev pub opened : Sizes → Catalog → SpaceState → RunsState
-opened sizes catalogue space = record {
+abbrev pub opened : Sizes → Catalog → SpaceState → List GuideState → RunsState
+opened sizes catalogue space guides = record {
   sizes = sizes;
   catalogue = catalogue;
   space = space;
   tags = first_tags;
   pass = None;
   deep = due_deep first_tags.deep catalogue;
+  guides = due_guides sizes catalogue guides;
+}
+
+-- a pass over C1 begins, beside a memory table of this weight
+abbrev pub pass_begun : ℕ → RunsState → RunsState
+pass_begun memory runs = record runs {
+  pass = Some (pass.started runs.tags.pass runs.catalogue.c1);
+  guides = emptied runs.tags.pass (pass_bits runs.sizes runs.catalogue.c1 memory) runs.guides;
 }
 
 -- ---- what is read off it
+
+-- the filter, and the fences, of the pages that have a tag
+abbrev pub filter_of : RunsState → ℕ → BitState
+filter_of runs tag = (guide_at runs.guides tag).filter
+
+abbrev pub fences_of_tag : RunsState → ℕ → FencesState
+fences_of_tag runs tag = (guide_at runs.guides tag).fences
 
 abbrev pub made_by_pass : Option SnowState → Component
 made_by_pass None = empty_component
@@ -145,6 +215,7 @@ pub record AreRuns (runs : RunsState) : Type 0 where
   pub deep_unpinned : IsUnpinned runs.space runs.tags.deep
   -- the tags' pages are these, and no seat pins more than its share
   pub within : IsWithin (pages_in_use runs) (page_share runs.sizes) runs.space
+  pub guides : AreGuides runs.sizes runs.guides
 
 -- What a reader of a store's file knows on every disk: the pages of C1, C1' and C2, and no others, have the tags 0, 1 and 2, none of them
 -- two, and no seat pins one.
@@ -161,18 +232,18 @@ pub record AreRead (sizes : Sizes) (catalogue : Catalog) (space : SpaceState) : 
   pub no_pins : (seat : ℕ) → seat < seat_count → pin_size space seat ≡ 0
 
 -- Where the file is honest the runs' closed pages stand in it; on any disk the merges' cursors and runs are in order.
-abbrev pub PassRuns : Sizes → Bool → List ℕ → SpaceState → Option SnowState → Type 0
-PassRuns sizes honest file space None = ⊤
-PassRuns sizes honest file space (Some snow) = pass.IsRunning sizes honest file space snow
+abbrev pub PassRuns : Sizes → Bool → List ℕ → SpaceState → GuideState → Option SnowState → Type 0
+PassRuns sizes honest file space guide None = ⊤
+PassRuns sizes honest file space guide (Some snow) = pass.IsRunning sizes honest file space snow guide.filter guide.fences
 
-abbrev pub DeepRuns : Sizes → Bool → List ℕ → SpaceState → Option DeepState → Type 0
-DeepRuns sizes honest file space None = ⊤
-DeepRuns sizes honest file space (Some merge) = deep.IsRunning sizes honest file space merge
+abbrev pub DeepRuns : Sizes → Bool → List ℕ → SpaceState → GuideState → Option DeepState → Type 0
+DeepRuns sizes honest file space guide None = ⊤
+DeepRuns sizes honest file space guide (Some merge) = deep.IsRunning sizes honest file space merge guide.filter guide.fences
 
 pub record AreRunning (honest : Bool) (file : List ℕ) (runs : RunsState) : Type 0 where
   pub in_order : AreRuns runs
-  pub pass : PassRuns runs.sizes honest file runs.space runs.pass
-  pub deep : DeepRuns runs.sizes honest file runs.space runs.deep
+  pub pass : PassRuns runs.sizes honest file runs.space (guide_at runs.guides runs.tags.pass) runs.pass
+  pub deep : DeepRuns runs.sizes honest file runs.space (guide_at runs.guides runs.tags.deep) runs.deep
 
 -- what the pages must hold: the components, and the two runs with what is left for them
 pub record Fits (runs : RunsState) (a : Entries) : Type 0 where

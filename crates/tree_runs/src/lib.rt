@@ -2,6 +2,7 @@
 //! quantum, and is swapped in by one commit of the catalogue. Whoever owns the disk, the memory table and the log drives it.
 #![tactic(auto)]
 
+mod guides;
 mod holds;
 mod laws;
 mod lookup;
@@ -9,5 +10,6 @@ mod quanta;
 mod runs;
 mod swaps;
 
+pub use guides::GuideRoom;
 pub use laws::{a_quantum_is_the_machines, each_claims_its_own, others_may_write};
 pub use runs::{MergeRoom, Runs};

@@ -56,7 +56,15 @@ impl Runs {
         let merges = &mut *self.merges;
         match &mut merges.pass {
             Some(snow) => {
-                let taken = snow.quantum(disk, &self.geometry, a, &mut self.space);
+                let guide = &mut self.guides[self.pass.number() as usize];
+                let taken = snow.quantum(
+                    disk,
+                    &self.geometry,
+                    a,
+                    &mut self.space,
+                    &mut guide.filter,
+                    &mut guide.fences,
+                );
                 // A map keeps its shape.
                 let _pages = self.space.pages();
                 taken
@@ -95,7 +103,14 @@ impl Runs {
         let merges = &mut *self.merges;
         match &mut merges.deep {
             Some(deep) => {
-                let taken = deep.quantum(disk, &self.geometry, &mut self.space);
+                let guide = &mut self.guides[self.deep.number() as usize];
+                let taken = deep.quantum(
+                    disk,
+                    &self.geometry,
+                    &mut self.space,
+                    &mut guide.filter,
+                    &mut guide.fences,
+                );
                 let _pages = self.space.pages();
                 taken
             }

@@ -5,12 +5,12 @@ ghost use Rattle.blsm_model.specs.Sizes.{Sizes};
 ghost use Rattle.record_delta.specs.Entries.{Entries};
 ghost use Rattle.page_space.specs.Space.{SpaceState};
 ghost use Rattle.page_file.specs.Component.{RunPage, ReadsAs};
-ghost use Rattle.snow_merge.specs.Pass.{started};
 ghost use Rattle.tree_file.specs.Tree.{Tree, HoldsTree};
-ghost use Rattle.tree_runs.specs.Runs.{opened, due_deep, first_tags, AreRead, AreRuns, AreRunning, DeepRuns, left_for_pass, left_for_deep};
-ghost use Rattle.tree_runs.specs.Holding.{AreElsewhere, AreOf, AreTagged, IsDeepOver, cursor_of_pass};
+ghost use Rattle.tree_runs.specs.Runs.{opened, due_deep, due_guides, first_tags, guide_at, pass_begun, AreGuides, AreRead, AreRuns, AreRunning, DeepRuns, GuideState, left_for_pass, left_for_deep};
+ghost use Rattle.tree_runs.specs.Holding.{AreElsewhere, AreGuided, AreOf, AreTagged, IsDeepOver, KeepsOtherGuides, cursor_of_pass};
 
-use blsm_model::{Component, Geometry, Key};
+use crate::guides::{Guide, GuideRoom, begin_deep, begin_snow};
+use blsm_model::{Geometry, Key};
 use catalog_swap::Catalog;
 use deep_merge::Deep;
 use mem_table::Table;
@@ -48,8 +48,8 @@ impl MergeRoom {
     }
 }
 
-/// The components of a tree as its catalogue has them, which pages of the file they have, and the merges that run. Contracts see the merges'
-/// runs and cursors. What the pages hold the clauses say of the file of an honest disk (`AreOf`).
+/// The components of a tree as its catalogue has them, which pages of the file they have, the merges that run, and the filters and fences of them
+/// all. Contracts see the merges' runs and cursors. What the pages hold the clauses say of the file of an honest disk (`AreOf`).
 #[derive(Debug, Drop)]
 pub struct Runs {
     pub(crate) geometry: Geometry,
@@ -61,6 +61,8 @@ pub struct Runs {
     pub(crate) pass: Role,
     pub(crate) deep: Role,
     pub(crate) merges: Box<Merges>,
+    // For each tag, those of the pages that have it.
+    pub(crate) guides: Vec<Guide>,
 }
 
 impl Model for Runs {
@@ -75,25 +77,34 @@ impl Model for Runs {
       tags = record { c1 = r.c1; c1x = r.c1x; c2 = r.c2; pass = r.pass; deep = r.deep };
       pass = r.merges.value.pass;
       deep = r.merges.value.deep;
+      guides = r.guides.items;
     } };
 }
 
 impl Runs {
-    /// The components of a tree that was read from its file, whose map gives the pages of C1, C1' and C2 the tags 0, 1 and 2. Where C1' has
-    /// pages, as a crash may leave them, its deep merge begins. It calls no device.
-    pub fn open(geometry: &Geometry, catalogue: Catalog, space: Space, room: MergeRoom) -> Runs
+    /// The components of a tree that was read from its file, whose map gives the pages of C1, C1' and C2 the tags 0, 1 and 2; under these tags are
+    /// their filters and fences. Where C1' has pages, as a crash may leave them, its deep merge begins. It calls no device.
+    pub fn open(
+        geometry: &Geometry,
+        catalogue: Catalog,
+        space: Space,
+        room: MergeRoom,
+        guides: GuideRoom,
+    ) -> Runs
         requires read { AreRead geometry.now catalogue space }
-        ensures opened { result ≡ opened geometry.now catalogue space }
+        requires guides { AreGuides geometry.now guides }
+        ensures opened { result ≡ opened geometry.now catalogue space guides }
         ensures running { (honest : Bool) (file : List ℕ) → AreRunning honest file result }
         ensures lists { (tree : Tree) (a : Entries) (file : List ℕ) → HoldsTree geometry.now tree file → tree.catalogue ≡ catalogue
             → AreTagged space first_tags.c1 tree.c1 → AreTagged space first_tags.c1x tree.c1x → AreTagged space first_tags.c2 tree.c2
-            → AreOf result tree a file }
+            → AreGuided guides first_tags tree → AreOf result tree a file }
     {
         let deep = Role::new(4);
+        let mut guides = guides.guides;
         let mut merges = room.merges;
         let here = &mut *merges;
         here.pass = None;
-        here.deep = due_deep(&catalogue, deep);
+        here.deep = due_deep(geometry, &catalogue, deep, &mut guides);
         Runs {
             geometry: *geometry,
             catalogue,
@@ -104,19 +115,27 @@ impl Runs {
             pass: Role::new(3),
             deep,
             merges,
+            guides,
         }
     }
 
-    /// A pass over C1 begins. It calls no device.
-    pub fn begin_pass(&mut self)
+    /// A pass over C1 begins, beside a memory table that weighs so many bytes: its run's filter gets as many bits as both weigh with one half
+    /// more, and never more than there is room for. It calls no device.
+    pub fn begin_pass(&mut self, memory: u64)
         requires rests { self.old.pass ≡ None }
         requires runs { AreRuns self.old }
-        ensures begun { self.new ≡ record self.old { pass = Some (started self.old.tags.pass self.old.catalogue.c1) } }
+        ensures begun { self.new ≡ pass_begun memory self.old }
         ensures running { (honest : Bool) (file : List ℕ) → AreRunning honest file self.old → AreRunning honest file self.new }
         ensures lists { (tree : Tree) (a : Entries) (file : List ℕ) → AreOf self.old tree a file → AreOf self.new tree a file }
     {
         let merges = &mut *self.merges;
-        merges.pass = Some(Snow::begin(&self.catalogue.c1, self.pass));
+        merges.pass = Some(begin_snow(
+            &self.geometry,
+            &self.catalogue.c1,
+            memory,
+            self.pass,
+            &mut self.guides,
+        ));
     }
 
     /// Whether a pass runs.
@@ -178,18 +197,28 @@ impl Runs {
     }
 }
 
-// The deep merge that a catalogue asks for: one that has taken nothing, where C1' has pages.
-fn due_deep(catalogue: &Catalog, role: Role) -> Option<Deep>
+// The deep merge that a catalogue asks for: one that has taken nothing, where C1' has pages. Its run's filter and fences are empty then.
+fn due_deep(
+    geo: &Geometry,
+    catalogue: &Catalog,
+    role: Role,
+    guides: &mut Vec<Guide>,
+) -> Option<Deep>
+    requires guides { AreGuides geo.now guides.old.items }
+    requires role { role ≡ first_tags.deep }
     requires older { catalogue.now.c2.pages ≡ 0 → catalogue.now.c2 ≡ empty_component }
     ensures begun { result ≡ due_deep role catalogue.now }
-    ensures running { (sizes : Sizes) (honest : Bool) (file : List ℕ) (space : SpaceState) → DeepRuns sizes honest file space result }
+    ensures guides { guides.new.items ≡ due_guides geo.now catalogue.now guides.old.items }
+    ensures reserved { AreGuides geo.now guides.new.items }
+    ensures others { KeepsOtherGuides role guides.old.items guides.new.items }
+    ensures running { (sizes : Sizes) (honest : Bool) (file : List ℕ) (space : SpaceState) → DeepRuns sizes honest file space (guide_at guides.new.items role) result }
     ensures merge { (sizes : Sizes) (file : List ℕ) (space : SpaceState) (c1x c2 : List RunPage)
         → ReadsAs sizes catalogue.now.c1x c1x file → AreElsewhere space role c1x → ReadsAs sizes catalogue.now.c2 c2 file → AreElsewhere space role c2
-        → IsDeepOver sizes file space result c1x c2 }
+        → IsDeepOver sizes file space (guide_at guides.new.items role) result c1x c2 }
 {
     if catalogue.c1x.pages == 0 {
         None
     } else {
-        Some(Deep::begin(&catalogue.c1x, &catalogue.c2, role))
+        Some(begin_deep(geo, &catalogue.c1x, &catalogue.c2, role, guides))
     }
 }

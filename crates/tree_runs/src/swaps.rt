@@ -4,6 +4,7 @@ ghost use Rattle.disk_trait.specs.Disk.{TellsFaults};
 ghost use Rattle.disk_trait.specs.Effects.{Affects};
 ghost use Rattle.blsm_model.specs.Geometry.{file_length};
 ghost use Rattle.blsm_model.specs.Lanes.{AreRoles};
+ghost use Rattle.bloom_bits.specs.Guides.{Guide};
 ghost use Rattle.record_delta.specs.Entries.{Entries, folded_over, settled_entries};
 ghost use Rattle.page_file.specs.Component.{RunPage, HasList, entries_of};
 ghost use Rattle.page_file.specs.File.{Writes};
@@ -11,14 +12,14 @@ ghost use Rattle.run_writer.specs.Writer.{role_region};
 ghost use Rattle.scan_view.specs.Pins.{beside_pins};
 ghost use Rattle.tree_file.specs.Tree.{Tree, HoldsTree};
 ghost use Rattle.tree_file.specs.Places.{StandsOn, Becomes, ReadsNext, with_components, with_pass};
-ghost use Rattle.tree_runs.specs.Runs.{AreRuns, AreRunning, PassRuns, DeepRuns, Fits, left_for_pass, left_for_deep, made_by_pass, made_by_deep};
-ghost use Rattle.tree_runs.specs.Holding.{AreOf, AreTagged, IsPassOver, IsDeepOver, StandOver, LeavesSwapped, SwapsDeep, SwapsPass, Rotates, IsDeepSwapped, IsPassSwapped, IsRotated, is_full, commit_region, with_deep_run, with_pass_run, with_rotation};
+ghost use Rattle.tree_runs.specs.Runs.{AreRuns, AreRunning, PassRuns, DeepRuns, fences_of_tag, filter_of, guide_at, left_for_pass, left_for_deep, made_by_pass, made_by_deep};
+ghost use Rattle.tree_runs.specs.Holding.{AreOf, AreTagged, IsGuidedBy, IsPassOver, IsDeepOver, StandOver, LeavesSwapped, SwapsDeep, SwapsPass, Rotates, IsDeepSwapped, IsPassSwapped, IsRotated, is_full, commit_region, with_deep_run, with_pass_run, with_rotation};
 ghost use Rattle.tree_runs.specs.Swaps.{MayFollow};
 
+use crate::guides::begin_deep;
 use crate::runs::Runs;
 use blsm_model::{Component, Geometry};
 use catalog_swap::{Catalog, commit, prepare};
-use deep_merge::Deep;
 use disk_trait::Disk;
 use mem_table::Table;
 use page_file::no_component;
@@ -181,10 +182,12 @@ impl Runs {
         requires next { next.now ≡ with_deep_run (made_by_deep self.old.deep) self.old.catalogue }
         ensures swaps { SwapsDeep self.old self.new }
         ensures runs { AreRuns self.new }
-        ensures goes_on { (honest : Bool) (file : List ℕ) → PassRuns self.old.sizes honest file self.old.space self.old.pass → PassRuns self.old.sizes honest file self.new.space self.new.pass }
+        ensures goes_on { (honest : Bool) (file : List ℕ) → PassRuns self.old.sizes honest file self.old.space (guide_at self.old.guides self.old.tags.pass) self.old.pass
+            → PassRuns self.old.sizes honest file self.new.space (guide_at self.new.guides self.new.tags.pass) self.new.pass }
         ensures lists { (tree : Tree) (run : List RunPage) (a : Entries) (file : List ℕ) → HoldsTree self.old.sizes (with_components next.now tree.c1 [] run tree) file
             → AreTagged self.old.space self.old.tags.c1 tree.c1 → AreTagged self.old.space self.old.tags.deep run
-            → IsPassOver self.old.sizes file self.old.space self.old.pass a tree.c1 → AreOf self.new (with_components next.now tree.c1 [] run tree) a file }
+            → IsGuidedBy (guide_at self.old.guides self.old.tags.c1) tree.c1 → IsGuidedBy (guide_at self.old.guides self.old.tags.deep) run
+            → IsPassOver self.old.sizes file self.old.space (guide_at self.old.guides self.old.tags.pass) self.old.pass a tree.c1 → AreOf self.new (with_components next.now tree.c1 [] run tree) a file }
     {
         what_is_ahead();
         where_a_run_writes();
@@ -203,10 +206,12 @@ impl Runs {
         requires next { next.now ≡ with_pass_run self.old.sizes (made_by_pass self.old.pass) self.old.catalogue }
         ensures swaps { SwapsPass self.old self.new }
         ensures runs { AreRuns self.new }
-        ensures goes_on { (honest : Bool) (file : List ℕ) → DeepRuns self.old.sizes honest file self.old.space self.old.deep → DeepRuns self.old.sizes honest file self.new.space self.new.deep }
+        ensures goes_on { (honest : Bool) (file : List ℕ) → DeepRuns self.old.sizes honest file self.old.space (guide_at self.old.guides self.old.tags.deep) self.old.deep
+            → DeepRuns self.old.sizes honest file self.new.space (guide_at self.new.guides self.new.tags.deep) self.new.deep }
         ensures lists { (tree : Tree) (run : List RunPage) (a : Entries) (file : List ℕ) → HoldsTree self.old.sizes (with_pass next.now run tree.c1x tree.c2 tree) file
             → AreTagged self.old.space self.old.tags.c1x tree.c1x → AreTagged self.old.space self.old.tags.c2 tree.c2 → AreTagged self.old.space self.old.tags.pass run
-            → IsDeepOver self.old.sizes file self.old.space self.old.deep tree.c1x tree.c2 → AreOf self.new (with_pass next.now run tree.c1x tree.c2 tree) a file }
+            → IsGuidedBy (guide_at self.old.guides self.old.tags.pass) run → IsGuidedBy (guide_at self.old.guides self.old.tags.c1x) tree.c1x → IsGuidedBy (guide_at self.old.guides self.old.tags.c2) tree.c2
+            → IsDeepOver self.old.sizes file self.old.space (guide_at self.old.guides self.old.tags.deep) self.old.deep tree.c1x tree.c2 → AreOf self.new (with_pass next.now run tree.c1x tree.c2 tree) a file }
     {
         what_is_ahead();
         where_a_run_writes();
@@ -225,9 +230,10 @@ impl Runs {
         requires next { next.now ≡ with_pass_run self.old.sizes (made_by_pass self.old.pass) self.old.catalogue }
         ensures swaps { SwapsPass self.old self.new }
         ensures runs { AreRuns self.new }
-        ensures goes_on { (honest : Bool) (file : List ℕ) → DeepRuns self.old.sizes honest file self.new.space self.new.deep }
+        ensures goes_on { (honest : Bool) (file : List ℕ) → DeepRuns self.old.sizes honest file self.new.space (guide_at self.new.guides self.new.tags.deep) self.new.deep }
         ensures lists { (tree : Tree) (run : List RunPage) (a : Entries) (file : List ℕ) → HoldsTree self.old.sizes (with_pass next.now [] run tree.c2 tree) file
             → AreTagged self.old.space self.old.tags.c2 tree.c2 → AreTagged self.old.space self.old.tags.pass run
+            → IsGuidedBy (guide_at self.old.guides self.old.tags.c2) tree.c2 → IsGuidedBy (guide_at self.old.guides self.old.tags.pass) run
             → AreOf self.new (with_pass next.now [] run tree.c2 tree) a file }
     {
         self.catalogue = *next;
@@ -235,7 +241,13 @@ impl Runs {
         (self.c1, self.c1x, self.pass) = (self.c1x, self.pass, self.c1);
         let merges = &mut *self.merges;
         merges.pass = None;
-        merges.deep = Some(Deep::begin(&next.c1x, &next.c2, self.deep));
+        merges.deep = Some(begin_deep(
+            &self.geometry,
+            &next.c1x,
+            &next.c2,
+            self.deep,
+            &mut self.guides,
+        ));
     }
 
     // C1 is C1', whose tag was on no page, and a deep merge begins.
@@ -245,15 +257,22 @@ impl Runs {
         requires next { next.now ≡ with_rotation self.old.catalogue }
         ensures rotates { Rotates self.old self.new }
         ensures runs { AreRuns self.new }
-        ensures goes_on { (honest : Bool) (file : List ℕ) → DeepRuns self.old.sizes honest file self.new.space self.new.deep }
+        ensures goes_on { (honest : Bool) (file : List ℕ) → DeepRuns self.old.sizes honest file self.new.space (guide_at self.new.guides self.new.tags.deep) self.new.deep }
         ensures lists { (tree : Tree) (a : Entries) (file : List ℕ) → HoldsTree self.old.sizes (with_components next.now [] tree.c1 tree.c2 tree) file
             → AreTagged self.old.space self.old.tags.c1 tree.c1 → AreTagged self.old.space self.old.tags.c2 tree.c2
+            → IsGuidedBy (guide_at self.old.guides self.old.tags.c1) tree.c1 → IsGuidedBy (guide_at self.old.guides self.old.tags.c2) tree.c2
             → AreOf self.new (with_components next.now [] tree.c1 tree.c2 tree) a file }
     {
         self.catalogue = *next;
         (self.c1, self.c1x) = (self.c1x, self.c1);
         let merges = &mut *self.merges;
-        merges.deep = Some(Deep::begin(&next.c1x, &next.c2, self.deep));
+        merges.deep = Some(begin_deep(
+            &self.geometry,
+            &next.c1x,
+            &next.c2,
+            self.deep,
+            &mut self.guides,
+        ));
     }
 
     // Writes the last page of the deep merge's run.
@@ -262,8 +281,8 @@ impl Runs {
         requires length { IsTrue (D.state disk.old).tells_bytes → length (D.state disk.old).bytes ≡ file_length self.old.sizes }
         requires running { AreRunning (D.state disk.old).is_honest (D.state disk.old).bytes self.old }
         ensures component { IfOk result (λ c. c ≡ made_by_deep self.old.deep) }
-        ensures list { (c1x c2 : List RunPage) → IsTrue (D.state disk.old).is_honest → IsDeepOver self.old.sizes (D.state disk.old).bytes self.old.space self.old.deep c1x c2
-            → IfOk result (λ c. (list : HasList self.old.sizes c (settled_entries (folded_over (entries_of c1x) (entries_of c2))) (D.state disk.new).bytes) × AreTagged self.old.space self.old.tags.deep list.pages) }
+        ensures list { (c1x c2 : List RunPage) → IsTrue (D.state disk.old).is_honest → IsDeepOver self.old.sizes (D.state disk.old).bytes self.old.space (guide_at self.old.guides self.old.tags.deep) self.old.deep c1x c2
+            → IfOk result (λ c. (list : HasList self.old.sizes c (settled_entries (folded_over (entries_of c1x) (entries_of c2))) (D.state disk.new).bytes) × AreTagged self.old.space self.old.tags.deep list.pages × Guide (filter_of self.old self.old.tags.deep) (fences_of_tag self.old self.old.tags.deep) list.pages) }
         ensures same { self.new ≡ self.old }
         ensures writes { Writes (role_region self.old.sizes self.old.space self.old.tags.deep) (file_length self.old.sizes) result (D.state disk.old) (D.state disk.new) }
     {
@@ -283,8 +302,8 @@ impl Runs {
         requires length { IsTrue (D.state disk.old).tells_bytes → length (D.state disk.old).bytes ≡ file_length self.old.sizes }
         requires running { AreRunning (D.state disk.old).is_honest (D.state disk.old).bytes self.old }
         ensures component { IfOk result (λ c. c ≡ made_by_pass self.old.pass) }
-        ensures list { (c1 : List RunPage) → IsTrue (D.state disk.old).is_honest → IsPassOver self.old.sizes (D.state disk.old).bytes self.old.space self.old.pass a.now.entries c1
-            → IfOk result (λ c. (list : HasList self.old.sizes c (folded_over a.now.entries (entries_of c1)) (D.state disk.new).bytes) × AreTagged self.old.space self.old.tags.pass list.pages) }
+        ensures list { (c1 : List RunPage) → IsTrue (D.state disk.old).is_honest → IsPassOver self.old.sizes (D.state disk.old).bytes self.old.space (guide_at self.old.guides self.old.tags.pass) self.old.pass a.now.entries c1
+            → IfOk result (λ c. (list : HasList self.old.sizes c (folded_over a.now.entries (entries_of c1)) (D.state disk.new).bytes) × AreTagged self.old.space self.old.tags.pass list.pages × Guide (filter_of self.old self.old.tags.pass) (fences_of_tag self.old self.old.tags.pass) list.pages) }
         ensures same { self.new ≡ self.old }
         ensures writes { Writes (role_region self.old.sizes self.old.space self.old.tags.pass) (file_length self.old.sizes) result (D.state disk.old) (D.state disk.new) }
     {

@@ -223,13 +223,9 @@ reaches_then {end} {most} {more} {old} {mid} {new} first second = record {
     still : IsTrue old.tells_bytes → IsTrue mid.tells_bytes
     still tells = subst IsTrue (sym first.goes_on.tells_bytes) tells
 
--- the same run, whose calls are bounded otherwise
-pub reaches_counted : {end most fewer : ℕ} {old new : DiskState} → new.clock ≤ old.clock + fewer → Reaches end most old new → Reaches end fewer old new
-reaches_counted calls run = record { goes_on = run.goes_on; calls = calls; syncs = run.syncs; sure = run.sure; no_shorter = run.no_shorter; no_longer = run.no_longer }
-
 -- with more calls
 pub reaches_wider : {end most most' : ℕ} {old new : DiskState} → most ≤ most' → Reaches end most old new → Reaches end most' old new
-reaches_wider within run = reaches_counted (omega (arith, run.calls, within)) run
+reaches_wider within run = record { goes_on = run.goes_on; calls = omega (arith, run.calls, within); syncs = run.syncs; sure = run.sure; no_shorter = run.no_shorter; no_longer = run.no_longer }
 
 -- ---- calls of the core
 

@@ -17,12 +17,12 @@ use Rattle.deep_merge.specs.Merge.{DeepState, started as deep_started}
 use Rattle.mem_table.specs.Tables.{Contents}
 use Rattle.page_file.specs.Component.{RunPage, entries_of}
 use Rattle.record_delta.specs.Entries.{Entries, entries_weight, folded_over, replayed}
-use Rattle.snow_merge.specs.Pass.{SnowState, started}
+use Rattle.snow_merge.specs.Pass.{SnowState}
 use Rattle.snow_merge.proofs.PassLemmas.{above_light, pushed_all}
 use Rattle.tree_file.specs.Tree.{Tree, HoldsTree, FitsSizes}
 use Rattle.tree_file.specs.Places.{HoldsEither, StandsOn, TurnsRoles}
 use Rattle.tree_log.specs.Log.{LogState, IsLogOf, turned_log, weight_of_tables}
-use Rattle.tree_runs.specs.Runs.{RunsState, AreRunning, Fits, left_for_deep, left_for_pass, made_by_deep, made_by_pass}
+use Rattle.tree_runs.specs.Runs.{GuideState, RunsState, AreRunning, Fits, guide_at, left_for_deep, left_for_pass, made_by_deep, made_by_pass, pass_begun}
 use Rattle.tree_runs.specs.Holding.{AreOf, IsDeepOver, IsPassOver, IsPassSwapped, LeavesSwapped, StandOver, SwapsPass, is_full, with_pass_run}
 use Rattle.tree_settling.specs.Settling.{LeavesMaps, MaySettle, MergesGoOn, ShowsMap, anywhere, components_of}
 use Rattle.tree_settling.proofs.NextLemmas.{Follows, pass_follows}
@@ -31,38 +31,35 @@ use Rattle.tree_settling.proofs.TakenLemmas.{well_then}
 
 -- ---- a pass that begins
 
-abbrev pub with_pass_begun : RunsState → RunsState
-with_pass_begun runs = record runs { pass = Some (started runs.tags.pass runs.catalogue.c1) }
-
 -- it runs over the trees that the components are of
-pub begun_over : (runs begun : RunsState) (tree : Tree) (a : Entries) (d : DiskState) → begun ≡ with_pass_begun runs
+pub begun_over : (memory : ℕ) (runs begun : RunsState) (tree : Tree) (a : Entries) (d : DiskState) → begun ≡ pass_begun memory runs
     → ((tree : Tree) (a : Entries) (file : List ℕ) → AreOf runs tree a file → AreOf begun tree a file) → StandOver runs tree a d → StandOver begun tree a d
-begun_over runs begun tree a d is lists over = record {
+begun_over memory runs begun tree a d is lists over = record {
   stands = subst (λ (s : Sizes). StandsOn s tree d) (sym (ap (λ (r : RunsState). r.sizes) is)) over.stands;
   are_of = lists tree a d.bytes over.are_of;
 }
 
 -- and has room
-pub begun_fits : (runs begun : RunsState) (log : LogState) (a : Contents) (d : DiskState) → begun ≡ with_pass_begun runs → a ≡ log.a → MaySettle runs log d → Fits begun a.entries
-begun_fits runs begun log a d is table may =
+pub begun_fits : (memory : ℕ) (runs begun : RunsState) (log : LogState) (a : Contents) (d : DiskState) → begun ≡ pass_begun memory runs → a ≡ log.a → MaySettle runs log d → Fits begun a.entries
+begun_fits memory runs begun log a d is table may =
     subst (λ (r : RunsState). Fits r a.entries) (sym is)
-    (subst (λ (t : Contents). Fits (with_pass_begun runs) t.entries) (sym table)
+    (subst (λ (t : Contents). Fits (pass_begun memory runs) t.entries) (sym table)
     (record { live = omega (arith, may.full); made = omega (arith, may.full, may.deep, above_light None log.a.entries) }))
 
 -- its run will weigh no more than what it takes
-pub begun_light : (runs begun : RunsState) (a : Entries) → begun ≡ with_pass_begun runs
+pub begun_light : (memory : ℕ) (runs begun : RunsState) (a : Entries) → begun ≡ pass_begun memory runs
     → (made_by_pass begun.pass).weight + left_for_pass begun.pass a ≤ entries_weight a + runs.catalogue.c1.weight
-begun_light runs begun a is =
+begun_light memory runs begun a is =
     subst (λ (r : RunsState). (made_by_pass r.pass).weight + left_for_pass r.pass a ≤ entries_weight a + runs.catalogue.c1.weight) (sym is) (omega (arith, above_light None a))
 
 -- ---- a pass that is done
 
 -- What it wrote weighs what its run does.
-pass_weighs : (sizes : Sizes) (runs : RunsState) (pass : Option SnowState) (a : Entries) (c1 : List RunPage) (file : List ℕ) → IsTrue (is_some pass) → left_for_pass pass a ≡ 0
-    → IsPassOver sizes file runs.space pass a c1 → entries_weight (folded_over a (entries_of c1)) ≡ (made_by_pass pass).weight
-pass_weighs sizes runs None a c1 file some none over = absurd (false≢true some)
-pass_weighs sizes runs (Some snow) a c1 file some none over =
-    let pushed = pushed_all sizes file runs.space snow a (entries_of c1) none over in
+pass_weighs : (sizes : Sizes) (runs : RunsState) (guide : GuideState) (pass : Option SnowState) (a : Entries) (c1 : List RunPage) (file : List ℕ) → IsTrue (is_some pass) → left_for_pass pass a ≡ 0
+    → IsPassOver sizes file runs.space guide pass a c1 → entries_weight (folded_over a (entries_of c1)) ≡ (made_by_pass pass).weight
+pass_weighs sizes runs guide None a c1 file some none over = absurd (false≢true some)
+pass_weighs sizes runs guide (Some snow) a c1 file some none over =
+    let pushed = pushed_all sizes file runs.space snow guide.filter guide.fences a (entries_of c1) none over in
     ap entries_weight (sym pushed.entries_are) ∙ pushed.held.weight_is
 
 -- ---- the next catalogue, by the numbers
@@ -106,11 +103,11 @@ next_deep sizes tag made now deep rests = by (is_full sizes made)
 -- ---- the swap
 
 -- what is known of it once it has answered
-pub record IsPassSwap (done : Bool) (a : Contents) (runs begun mid new : RunsState) (log : LogState) (before d after : DiskState) : Type 0 where
+pub record IsPassSwap (done : Bool) (memory : ℕ) (a : Contents) (runs begun mid new : RunsState) (log : LogState) (before d after : DiskState) : Type 0 where
   pub timed : IsTimed d
   pub table : a ≡ log.a
   pub rests : runs.deep ≡ None
-  pub begins : begun ≡ with_pass_begun runs
+  pub begins : begun ≡ pass_begun memory runs
   pub begun_lists : (tree : Tree) (a : Entries) (file : List ℕ) → AreOf runs tree a file → AreOf begun tree a file
   pub goes : MergesGoOn a.entries begun mid before d
   pub deep : mid.deep ≡ begun.deep
@@ -121,7 +118,7 @@ pub record IsPassSwap (done : Bool) (a : Contents) (runs begun mid new : RunsSta
   pub calls : ℕ
   pub effect : Affects anywhere (file_length mid.sizes) calls d after
 
-module _ (done : Bool) (a : Contents) (runs begun mid new : RunsState) (log : LogState) (before d after : DiskState) (swap : IsPassSwap done a runs begun mid new log before d after) where
+module _ (done : Bool) (memory : ℕ) (a : Contents) (runs begun mid new : RunsState) (log : LogState) (before d after : DiskState) (swap : IsPassSwap done memory a runs begun mid new log before d after) where
   pub same_sizes : mid.sizes ≡ runs.sizes
   same_sizes = swap.goes.sizes ∙ ap (λ (r : RunsState). r.sizes) swap.begins
 
@@ -133,7 +130,7 @@ module _ (done : Bool) (a : Contents) (runs begun mid new : RunsState) (log : Lo
 
   -- the disk stands on the tree when the pass begins, and before the swap
   over_begun : (pairs : List (Key × Value)) (shows : ShowsMap runs log pairs before) → StandOver begun shows.tree a.entries before
-  over_begun pairs shows = begun_over runs begun shows.tree a.entries before swap.begins swap.begun_lists (subst (λ (t : Contents). StandOver runs shows.tree t.entries before) (sym swap.table) shows.over)
+  over_begun pairs shows = begun_over memory runs begun shows.tree a.entries before swap.begins swap.begun_lists (subst (λ (t : Contents). StandOver runs shows.tree t.entries before) (sym swap.table) shows.over)
 
   over_mid : (pairs : List (Key × Value)) → IsTrue before.is_honest → (shows : ShowsMap runs log pairs before) → StandOver mid shows.tree a.entries d
   over_mid pairs honest shows = swap.goes.stands shows.tree honest (over_begun pairs shows)
@@ -148,8 +145,8 @@ module _ (done : Bool) (a : Contents) (runs begun mid new : RunsState) (log : Lo
       let table : a.entries ≡ replayed shows.tree.lane_a = ap (λ (t : Contents). t.entries) swap.table ∙ shows.log_of.a in
       let swapped = subst (λ (es : Entries). IsPassSwapped (is_full mid.sizes (made_by_pass mid.pass)) es shows.tree x.0) table x.1 in
       let weighs : entries_weight (folded_over (replayed shows.tree.lane_a) (entries_of shows.tree.c1)) ≡ (made_by_pass mid.pass).weight =
-      ap (λ (es : Entries). entries_weight (folded_over es (entries_of shows.tree.c1))) (sym table) ∙ pass_weighs mid.sizes mid mid.pass a.entries shows.tree.c1 d.bytes swap.some swap.none over.are_of.pass in
-      let empty : shows.tree.c1x ≡ [] = subst (λ (o : Option DeepState). IsDeepOver mid.sizes d.bytes mid.space o shows.tree.c1x shows.tree.c2) rests_still over.are_of.deep in (
+      ap (λ (es : Entries). entries_weight (folded_over es (entries_of shows.tree.c1))) (sym table) ∙ pass_weighs mid.sizes mid (guide_at mid.guides mid.tags.pass) mid.pass a.entries shows.tree.c1 d.bytes swap.some swap.none over.are_of.pass in
+      let empty : shows.tree.c1x ≡ [] = subst (λ (o : Option DeepState). IsDeepOver mid.sizes d.bytes mid.space (guide_at mid.guides mid.tags.deep) o shows.tree.c1x shows.tree.c2) rests_still over.are_of.deep in (
         x.0,
         swapped,
         x.2,
@@ -205,7 +202,7 @@ module _ (done : Bool) (a : Contents) (runs begun mid new : RunsState) (log : Lo
         ap weight_of_tables turned,
         swap.goes.pass,
         swap.none,
-        begun_light runs begun a.entries swap.begins,
+        begun_light memory runs begun a.entries swap.begins,
         ap (λ (t : Contents). entries_weight t.entries) swap.table,
       )
 
@@ -250,13 +247,13 @@ module _ (done : Bool) (a : Contents) (runs begun mid new : RunsState) (log : Lo
 
 -- ---- where it failed before the swap
 
-pub begun_left : (runs begun : RunsState) (log : LogState) (a : Contents) (old new : DiskState) → begun ≡ with_pass_begun runs
+pub begun_left : (memory : ℕ) (runs begun : RunsState) (log : LogState) (a : Contents) (old new : DiskState) → begun ≡ pass_begun memory runs
     → ((tree : Tree) (a : Entries) (file : List ℕ) → AreOf runs tree a file → AreOf begun tree a file) → a ≡ log.a
     → ((tree : Tree) → IsTrue old.is_honest → StandOver begun tree a.entries old → StandsOn begun.sizes tree new × LeavesOnly old new (HoldsTree begun.sizes tree))
     → (calls : ℕ) × Affects anywhere (file_length begun.sizes) calls old new → LeavesMaps runs log old new
-begun_left runs begun log a old new begins lists table keeps effect =
+begun_left memory runs begun log a old new begins lists table keeps effect =
     left_map runs log a old new table
-    (λ tree honest over. subst (λ (s : Sizes). StandsOn s tree new × LeavesOnly old new (HoldsTree s tree)) same (keeps tree honest (begun_over runs begun tree a.entries old begins lists over)))
+    (λ tree honest over. subst (λ (s : Sizes). StandsOn s tree new × LeavesOnly old new (HoldsTree s tree)) same (keeps tree honest (begun_over memory runs begun tree a.entries old begins lists over)))
     (effect.0, subst (λ (s : Sizes). Affects anywhere (file_length s) effect.0 old new) same effect.1)
   where
     same : begun.sizes ≡ runs.sizes

@@ -57,7 +57,7 @@ fn finish_pass<D: Disk>(disk: &mut D, runs: &mut Runs, log: &mut LoggedTables) -
     ensures version { OnOk result (runs.new.catalogue.version ≤ runs.old.catalogue.version + 1) }
     ensures faults { TellsFaultsBy (Err Broken.Fault) result (D.state disk.old) (D.state disk.new) }
 {
-    runs.begin_pass();
+    runs.begin_pass(log.weight_of_a());
     let a = log.a();
     take_pass(disk, runs, a)?;
     runs.swap_pass(disk, a)?;

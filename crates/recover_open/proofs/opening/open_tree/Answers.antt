@@ -1,8 +1,8 @@
 use Rattle.std.proofs.Common.{sym, subst, IsTrue, List, ℕ}
-use Rattle.std.specs.Prelude.{IfOk}
-use Rattle.tree_reading.specs.Reading.{HoldsFound}
+use Rattle.std.specs.Prelude.{IfErr, IfOk}
+use Rattle.tree_reading.specs.Reading.{HoldsFound, IsWhy}
 use Rattle.recover_open.specs.Opening.{StandsEmpty}
-use Rattle.recover_open.proofs.TreeLemmas.{found_reads, ready_as, stands_as, why_fault, keeps_read, keeps_settled, keeps_same, stays_on, faults_on}
+use Rattle.recover_open.proofs.TreeLemmas.{found_reads, ready_as, stands_as, keeps_read, keeps_settled, keeps_same, stays_on, faults_on}
 use Rattle.recover_open.proofs.opening.open_tree.Goals as goal
 
 pub returns-in_err-found-clause-keeps : goal.returns-in_err-found-clause-keeps
@@ -36,7 +36,7 @@ returns-clause-refused g c = λ honest.
     let r = c.read_synced.ensures in
     let honest' = subst IsTrue (sym r.effect.effect.goes_on.is_honest) honest in
     let holds = subst (HoldsFound f) (sym (r.same honest)) (c.in_ok-found.ensures.holds honest) in
-    why_fault c.settle_found.result _ (c.settle_found.ensures.why honest' (c.in_ok-found.ensures.only honest) holds)
+    subst (λ (file : List ℕ). IfErr c.settle_found.result (λ why. IsWhy why file)) (r.same honest) (c.settle_found.ensures.why honest' (c.in_ok-found.ensures.only honest) holds)
 
 pub returns-clause-keeps : goal.returns-clause-keeps
 returns-clause-keeps g c = λ sizes pairs honest reads.

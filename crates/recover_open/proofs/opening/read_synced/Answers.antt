@@ -1,19 +1,21 @@
-use Rattle.std.proofs.Common.{IsTrue, sym, subst}
-use Rattle.recover_open.proofs.OpeningLemmas.{bytes_inside, length_after, length_before, reads_inside, sync_inside, synced_inside, synced_kept, once_synced, still_only, when_done}
+use Rattle.std.proofs.Common.{◌∙◌, IsTrue, sym, subst}
+use Rattle.disk_trait.specs.Reads.{only_reads_same}
+use Rattle.recover_open.proofs.OpeningLemmas.{reads_inside, sync_inside, synced_inside, synced_kept, once_synced, still_long, still_only, was_long, when_done}
 use Rattle.recover_open.proofs.opening.read_synced.Goals as goal
 
 pub returns-clause-length : goal.returns-clause-length
 returns-clause-length g c =
     let r = c.read_tree.ensures in
-    length_after c.sync.ensures.passes (reads_inside c.read_tree.result r.effect r.looked r.length) c.read_tree.result r.length
+    still_long c.read_tree.result c.sync.ensures.passes (reads_inside c.read_tree.result r.effect r.looked r.length) r.length
 
 pub returns-clause-was_long : goal.returns-clause-was_long
-returns-clause-was_long g c = length_before c.sync.ensures.passes c.sync.ensures.same c.read_tree.result c.read_tree.ensures.length
+returns-clause-was_long g c = was_long c.read_tree.result c.sync.ensures.passes c.sync.ensures.same c.read_tree.ensures.length
 
 pub returns-clause-same : goal.returns-clause-same
 returns-clause-same g c = λ honest.
+    let e = c.sync.ensures in
     let r = c.read_tree.ensures in
-    bytes_inside c.sync.ensures.passes c.sync.ensures.same (reads_inside c.read_tree.result r.effect r.looked r.length) honest
+    only_reads_same (reads_inside c.read_tree.result r.effect r.looked r.length).only (subst IsTrue (sym e.passes.goes_on.is_honest) honest) ∙ e.same.bytes honest
 
 pub returns-clause-only : goal.returns-clause-only
 returns-clause-only g c =

@@ -2,8 +2,13 @@ use Rattle.std.proofs.Common.{◌≡◌, ◌∙◌, inl, inr, ◌+◌, List, [],
 use Rattle.std.proofs.lemmas.Bool.{cases_Bool}
 use Rattle.std.proofs.lemmas.List.{take_more, take_all}
 use Rattle.refusal.specs.declared.Failed.{Failed}
+use Rattle.blsm_model.specs.Sizes.{Sizes}
 use Rattle.blsm_model.specs.declared.component.Component.{Component}
 use Rattle.blsm_model.specs.declared.key.Key.{Key}
+use Rattle.bloom_bits.specs.BitSet.{BitState}
+use Rattle.bloom_bits.specs.Fences.{FencesState}
+use Rattle.bloom_bits.specs.Guides.{Guide}
+use Rattle.page_file.specs.Component.{RunPage, HasList}
 use Rattle.record_delta.specs.declared.record.Rec.{Rec}
 use Rattle.disk_trait.specs.Effects.{affects_length}
 use Rattle.disk_trait.specs.Moments.{goes_on_start, goes_on_run}
@@ -22,14 +27,14 @@ loop-entry-init g c =
       inside = λ some. absurd (omega (arith, some, ap (λ (w : WriterState). w.component.pages) started));
       goes_on = goes_on_start (g.D.Disk.state c.args.disk.now);
       long = c.requires.length;
-      pushed = c.start-writer.ensures.pushed _ _ _ _;
+      pushed = c.start-writer.ensures.pushed _ _ _ _ c.reset.new.self c.clear.new.self (record { keys = c.reset.ensures.none; fences_are = ap (λ (f : FencesState). f.list) c.clear.ensures });
     }
 
 pub push-requires-clause-room : goal.push-requires-clause-room
 push-requires-clause-room g c = λ none.
     let inv = c.loop-entry.invariant in
     let free : HasFree c.loop-entry.space = c.has_free.ensures.0 c.if-not-has_free.false in
-    omega (arith, c.a_run_has_room.ensures.room _ _ _ c.loop-entry.space c.loop-entry.writer _ inv.pushed c.pages-pages.ensures.shape free, inv.pages)
+    omega (arith, c.a_run_has_room.ensures.room _ _ _ c.loop-entry.space c.loop-entry.writer _ _ _ inv.pushed c.pages-pages.ensures.shape free, inv.pages)
 
 pub loop-entry-preserved : goal.loop-entry-preserved
 loop-entry-preserved g c =
@@ -48,19 +53,21 @@ loop-entry-preserved g c =
       inside = c.push.ensures.inside;
       goes_on = goes_on_run inv.goes_on c.push.ensures.writes.effect.goes_on;
       long = λ tells. affects_length c.push.ensures.writes.effect (subst IsTrue (sym inv.goes_on.tells_bytes) tells) (inv.long tells);
-      pushed = subst (λ (l : List (Key × Rec)). HasPushed c.args.geo.now (g.D.Disk.state c.push.new.disk).is_honest (g.D.Disk.state c.push.new.disk).bytes c.push.new.space c.push.new.self l) (sym more) (c.in_ok-push.ensures.pushed (take i entries) rise inv.pushed);
+      pushed = subst (λ (l : List (Key × Rec)). HasPushed c.args.geo.now (g.D.Disk.state c.push.new.disk).is_honest (g.D.Disk.state c.push.new.disk).bytes c.push.new.space c.push.new.self c.push.new.filter c.push.new.fences l) (sym more) (c.in_ok-push.ensures.pushed (take i entries) rise inv.pushed);
     }
 
-told : (r : Result Component Failed) (A : Type 0) (P : Component → Type 0) (Q : (c : Component) → P c → Type 0) → (A → IfOk r (λ c. (p : P c) × Q c p)) → IfOk r (λ c. A → P c)
-told (Ok c) A P Q all = λ a. (all a).0
-told (Err e) A P Q all = tt
+told : {sizes : Sizes} {file : List ℕ} {entries : List (Key × Rec)} {filter : BitState} {fences : FencesState} (r : Result Component Failed) (A : Type 0) (Q : List RunPage → Type 0)
+    → (A → IfOk r (λ c. (list : HasList sizes c entries file) × Q list.pages × Guide filter fences list.pages))
+    → IfOk r (λ c. A → (list : HasList sizes c entries file) × Guide filter fences list.pages)
+told (Ok c) A Q all = λ a. ((all a).0, (all a).2)
+told (Err e) A Q all = tt
 
 pub returns : goal.returns
 returns g c =
     let inv = c.loop-entry.invariant in
     let disk = g.D.Disk.state c.loop-entry.disk in
     let whole : take c.loop-entry.entry-index c.args.entries.now ≡ c.args.entries.now = take_all c.loop-entry.entry-index c.args.entries.now c.loop-entry-test.false in
-    let has = subst (λ (l : List (Key × Rec)). HasPushed c.args.geo.now disk.is_honest disk.bytes c.loop-entry.space c.loop-entry.writer l) whole inv.pushed in
+    let has = subst (λ (l : List (Key × Rec)). HasPushed c.args.geo.now disk.is_honest disk.bytes c.loop-entry.space c.loop-entry.writer c.loop-entry.filter c.loop-entry.fences l) whole inv.pushed in
     record {
-      list = told c.end.result _ _ _ (λ honest. c.end.ensures.list c.loop-entry.space c.args.entries.now (subst IsTrue (sym inv.goes_on.is_honest) honest) has);
+      list = told c.end.result _ _ (λ honest. c.end.ensures.list c.loop-entry.space c.loop-entry.filter c.loop-entry.fences c.args.entries.now (subst IsTrue (sym inv.goes_on.is_honest) honest) has);
     }

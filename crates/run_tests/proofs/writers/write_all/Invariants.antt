@@ -11,5 +11,5 @@ invariant-loop-entry g l = record {
   inside : IsInside (page_count l.geo) l.writer;
   goes_on : GoesOn (g.D.Disk.state l.fn.disk) (g.D.Disk.state l.disk);
   long : IsTrue (g.D.Disk.state l.fn.disk).tells_bytes → length (g.D.Disk.state l.disk).bytes ≡ file_length l.geo;
-  pushed : HasPushed l.geo (g.D.Disk.state l.disk).is_honest (g.D.Disk.state l.disk).bytes l.space l.writer (take l.entry-index l.entries);
+  pushed : HasPushed l.geo (g.D.Disk.state l.disk).is_honest (g.D.Disk.state l.disk).bytes l.space l.writer l.filter l.fences (take l.entry-index l.entries);
 }

@@ -4,14 +4,13 @@ use Rattle.blsm_model.specs.Book.{noted}
 use Rattle.blsm_model.specs.Format.{callers}
 use Rattle.blsm_model.specs.declared.history.Entry.{Entry}
 use Rattle.blsm_model.specs.declared.op.Op.TheVariants.{Get}
-use Rattle.tree_runs.specs.Runs.{page_share}
 use Rattle.core_moves.specs.declared.held.Held.{Held}
 use Rattle.tree_core.specs.Answers.{reply_to_get}
 use Rattle.tree_session.specs.Faults.{faults_of}
 use Rattle.tree_session.specs.Lines.{Rests}
 use Rattle.tree_session.proofs.BookLemmas.{count_none}
-use Rattle.tree_session.proofs.FaultLemmas.{get_names, get_tells, proceeds_by, reaches_by, reaches_counted}
-use Rattle.tree_session.proofs.GetLemmas.{get_calls, get_rows}
+use Rattle.tree_session.proofs.FaultLemmas.{get_names, get_tells, proceeds_by, reaches_by}
+use Rattle.tree_session.proofs.GetLemmas.{get_rows}
 use Rattle.tree_session.proofs.session.look_up.Goals as goal
 
 pub returns : goal.returns
@@ -34,8 +33,7 @@ returns g c =
       rests = subst (λ (h : Held). Rests h) (sym held) (record { idle = λ seat. c.requires.rests.idle seat; even = λ runs seat. c.requires.rests.even runs seat });
       proceeds =
           let effect = c.get-found.ensures.reads.effect in
-          let calls = get_calls c.get-found.result old.held (state old.disk) (state new.disk) c.get-found.ensures.cause c.keeps.ensures.core effect.calls (λ none. ap (λ (d : g.row.D.Denot). (state d).clock) (c.get-found.ensures.untouched none)) in
-          proceeds_by state (faults_of reply) (page_share old.held.runs.sizes) old old new c.keeps.ensures.begins (λ from since. c.get-found.ensures.lasts from since) (reaches_counted calls (reaches_by effect))
+          proceeds_by state (faults_of reply) 3 old old new c.keeps.ensures.begins (λ from since. c.get-found.ensures.lasts from since) (reaches_by effect)
           (get_tells c.get-found.result old.held new.held (state old.disk) (state new.disk) c.get-found.ensures.cause (ap (λ (h : Held). h.book.stopped) held))
           (ap (λ (h : Held). sum (drop callers h.book.seats.quanta)) held);
     }

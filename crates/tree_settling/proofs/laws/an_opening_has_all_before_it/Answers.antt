@@ -14,4 +14,4 @@ light catalogue true = omega arith
 light catalogue false = omega arith
 
 pub returns : goal.returns
-returns c = λ sizes catalogue space. light catalogue (nat_eq catalogue.c1x.pages 0)
+returns c = λ sizes catalogue space guides. light catalogue (nat_eq catalogue.c1x.pages 0)

@@ -11,11 +11,11 @@ pub take_pass-requires-clause-running : goal.take_pass-requires-clause-running
 take_pass-requires-clause-running g c = c.begin_pass.ensures.running (g.D.Disk.state c.args.disk.now).is_honest (g.D.Disk.state c.args.disk.now).bytes c.requires.may.running
 
 pub take_pass-requires-clause-fits : goal.take_pass-requires-clause-fits
-take_pass-requires-clause-fits g c = begun_fits c.args.runs.now c.begin_pass.new.self c.args.log.now c.a-a.result.now (g.D.Disk.state c.args.disk.now) c.begin_pass.ensures.begun c.a-a.ensures c.requires.may
+take_pass-requires-clause-fits g c = begun_fits c.weight_of_a.result c.args.runs.now c.begin_pass.new.self c.args.log.now c.a-a.result.now (g.D.Disk.state c.args.disk.now) c.begin_pass.ensures.begun c.a-a.ensures c.requires.may
 
 pub returns-in_err-take_pass-clause-leaves : goal.returns-in_err-take_pass-clause-leaves
 returns-in_err-take_pass-clause-leaves g c =
-    begun_left c.args.runs.now c.begin_pass.new.self c.args.log.now c.a-a.result.now (g.D.Disk.state c.args.disk.now) (g.D.Disk.state c.take_pass.new.disk) c.begin_pass.ensures.begun
+    begun_left c.weight_of_a.result c.args.runs.now c.begin_pass.new.self c.args.log.now c.a-a.result.now (g.D.Disk.state c.args.disk.now) (g.D.Disk.state c.take_pass.new.disk) c.begin_pass.ensures.begun
     c.begin_pass.ensures.lists c.a-a.ensures c.take_pass.ensures.keeps c.take_pass.ensures.effect
 
 pub returns-in_err-take_pass-clause-ends : goal.returns-in_err-take_pass-clause-ends
@@ -23,12 +23,12 @@ returns-in_err-take_pass-clause-ends g c = λ pairs honest shows.
     let failed = err_from_is_err_and c.from_residual.result c.from_residual.ensures.1 in
     ends_from c.in_err-take_pass.field-0.0 c.from_residual.result c.take_pass.result c.in_err-take_pass.was (failed.1 ∙ ap (λ e. Err e) failed.2)
     (c.take_pass.ensures.ends shows.tree honest
-    (begun_over c.args.runs.now c.begin_pass.new.self shows.tree c.a-a.result.now.entries (g.D.Disk.state c.args.disk.now) c.begin_pass.ensures.begun c.begin_pass.ensures.lists
+    (begun_over c.weight_of_a.result c.args.runs.now c.begin_pass.new.self shows.tree c.a-a.result.now.entries (g.D.Disk.state c.args.disk.now) c.begin_pass.ensures.begun c.begin_pass.ensures.lists
     (subst (λ (t : Contents). StandOver c.args.runs.now shows.tree t.entries (g.D.Disk.state c.args.disk.now)) (sym c.a-a.ensures) shows.over)))
 
 pub returns-in_err-swap_pass-clause-leaves : goal.returns-in_err-swap_pass-clause-leaves
 returns-in_err-swap_pass-clause-leaves g c =
-    pass_leaves false c.a-a.result.now c.args.runs.now c.begin_pass.new.self c.take_pass.new.runs c.swap_pass.new.self c.args.log.now (g.D.Disk.state c.args.disk.now) (g.D.Disk.state c.take_pass.new.disk)
+    pass_leaves false c.weight_of_a.result c.a-a.result.now c.args.runs.now c.begin_pass.new.self c.take_pass.new.runs c.swap_pass.new.self c.args.log.now (g.D.Disk.state c.args.disk.now) (g.D.Disk.state c.take_pass.new.disk)
     (g.D.Disk.state c.swap_pass.new.disk)
     (record {
       timed = g.met.D.Disk.timed c.take_pass.new.disk;
@@ -56,7 +56,7 @@ returns-clause-on g c =
     let before = g.D.Disk.state c.args.disk.now in
     let mid = g.D.Disk.state c.take_pass.new.disk in
     let after = g.D.Disk.state c.swap_pass.new.disk in
-    let swap : IsPassSwap true c.a-a.result.now c.args.runs.now c.begin_pass.new.self c.take_pass.new.runs c.swap_pass.new.self c.args.log.now before mid after =
+    let swap : IsPassSwap true c.weight_of_a.result c.a-a.result.now c.args.runs.now c.begin_pass.new.self c.take_pass.new.runs c.swap_pass.new.self c.args.log.now before mid after =
     record {
       timed = g.met.D.Disk.timed c.take_pass.new.disk;
       table = c.a-a.ensures;
@@ -72,17 +72,17 @@ returns-clause-on g c =
       effect = affects_anywhere c.swap_pass.ensures.effect;
     } in
     record {
-      leaves = pass_leaves true c.a-a.result.now c.args.runs.now c.begin_pass.new.self c.take_pass.new.runs c.swap_pass.new.self c.args.log.now before mid after swap;
+      leaves = pass_leaves true c.weight_of_a.result c.a-a.result.now c.args.runs.now c.begin_pass.new.self c.take_pass.new.runs c.swap_pass.new.self c.args.log.now before mid after swap;
       shows =
-          pass_shows true c.a-a.result.now c.args.runs.now c.begin_pass.new.self c.take_pass.new.runs c.swap_pass.new.self c.args.log.now before mid after swap c.turn.new.self refl
+          pass_shows true c.weight_of_a.result c.a-a.result.now c.args.runs.now c.begin_pass.new.self c.take_pass.new.runs c.swap_pass.new.self c.args.log.now before mid after swap c.turn.new.self refl
           c.in_ok-swap_pass.ensures.swaps c.turn.ensures.is_of;
       may =
-          pass_may true c.a-a.result.now c.args.runs.now c.begin_pass.new.self c.take_pass.new.runs c.swap_pass.new.self c.args.log.now before mid after swap c.turn.new.self c.requires.may
+          pass_may true c.weight_of_a.result c.a-a.result.now c.args.runs.now c.begin_pass.new.self c.take_pass.new.runs c.swap_pass.new.self c.args.log.now before mid after swap c.turn.new.self c.requires.may
           c.in_ok-swap_pass.ensures.swaps c.turn.ensures.is_of c.turn.ensures.log c.in_ok-swap_pass.ensures.running;
       light =
-          pass_light true c.a-a.result.now c.args.runs.now c.begin_pass.new.self c.take_pass.new.runs c.swap_pass.new.self c.args.log.now before mid after swap c.turn.new.self
+          pass_light true c.weight_of_a.result c.a-a.result.now c.args.runs.now c.begin_pass.new.self c.take_pass.new.runs c.swap_pass.new.self c.args.log.now before mid after swap c.turn.new.self
           c.in_ok-swap_pass.ensures.swaps c.turn.ensures.log;
-      sizes = c.in_ok-swap_pass.ensures.swaps.sizes ∙ same_sizes true c.a-a.result.now c.args.runs.now c.begin_pass.new.self c.take_pass.new.runs c.swap_pass.new.self c.args.log.now before mid after swap;
+      sizes = c.in_ok-swap_pass.ensures.swaps.sizes ∙ same_sizes true c.weight_of_a.result c.a-a.result.now c.args.runs.now c.begin_pass.new.self c.take_pass.new.runs c.swap_pass.new.self c.args.log.now before mid after swap;
       calm = c.in_ok-swap_pass.ensures.faults ∙ c.in_ok-take_pass.ensures.goes_on.well.calm;
     }
 

@@ -10,12 +10,12 @@ pub assemble-requires-clause-settled : goal.assemble-requires-clause-settled
 assemble-requires-clause-settled c =
     let geo = c.args.self.geo in
     let few : sum (c.room.result).entries ≤ most_entries = subst (λ (room : Room). sum room.entries ≤ most_entries) (sym c.room.ensures) (omega arith) in
-    settled_as geo c.open-runs.result c.open-log.result c.in_ok-annals.annals c.room.result (told c.args.self.disk) c.half-half.ensures.fits (λ tells. c.args.self.long) few (c.open-runs.ensures.running (told c.args.self.disk).is_honest (told c.args.self.disk).bytes)
-    (made_runs geo c.open-runs.result c.first_catalogue.result c.in_ok-space.space c.pages.result c.open-runs.ensures.opened c.first_catalogue.ensures c.in_ok-space.ensures.unused c.pages.ensures.pages)
-    (made_log geo c.open-log.result c.in_ok-reserve-2.field-0 c.in_ok-reserve-3.field-0 c.resume.result c.high_mark.result c.high_mark-2.result c.open-log.ensures c.in_ok-reserve-2.ensures c.in_ok-reserve-3.ensures
+    settled_as geo c.in_ok-guides.guides c.open-runs.result c.open-log.result c.in_ok-annals.annals c.room.result (told c.args.self.disk) c.half-half.ensures.fits (λ tells. c.args.self.long) few (c.open-runs.ensures.running (told c.args.self.disk).is_honest (told c.args.self.disk).bytes)
+    (made_runs geo c.open-runs.result c.first_catalogue.result c.in_ok-space.space c.in_ok-guides.guides c.pages.result c.open-runs.ensures.opened c.first_catalogue.ensures c.in_ok-space.ensures.unused c.pages.ensures.pages)
+    (made_log geo c.open-log.result c.in_ok-reserve.field-0 c.in_ok-reserve-2.field-0 c.resume.result c.high_mark.result c.high_mark-2.result c.open-log.ensures c.in_ok-reserve.ensures c.in_ok-reserve-2.ensures
     c.resume.ensures c.high_mark.ensures.mark c.high_mark-2.ensures.mark)
     c.in_ok-annals.ensures
 
 pub open-runs-requires : goal.open-runs-requires
 open-runs-requires c =
-    record { read = first_read c.args.self.geo c.first_catalogue.result c.in_ok-space.space c.pages.result c.half-half.ensures.fits c.first_catalogue.ensures c.in_ok-space.ensures.unused c.pages.ensures.pages }
+    record { read = first_read c.args.self.geo c.first_catalogue.result c.in_ok-space.space c.pages.result c.half-half.ensures.fits c.first_catalogue.ensures c.in_ok-space.ensures.unused c.pages.ensures.pages; guides = c.in_ok-guides.ensures }

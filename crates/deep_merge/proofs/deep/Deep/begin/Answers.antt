@@ -1,5 +1,6 @@
 use Rattle.std.proofs.Common.{◌∙◌, ℕ, true, None, [], List, sym, ap, subst}
 use Rattle.std.specs.List.{Contains}
+use Rattle.bloom_bits.specs.Fences.{FencesState}
 use Rattle.record_delta.specs.Entries.{Entries, above, up_to, folded_over, settled_entries}
 use Rattle.page_space.specs.Space.{HasRole}
 use Rattle.page_file.specs.Component.{RunPage, numbers_of}
@@ -33,7 +34,7 @@ returns-clause-merge c = λ sizes file space newer older list elsewhere below be
         apart = λ n has tagged. (below_elsewhere n (subst (λ (ps : List RunPage). Contains (numbers_of ps) n) behind.1 has)).0 (subst (λ (r : ℕ). HasRole space r n) role tagged);
         in_use = λ n has. (below_elsewhere n (subst (λ (ps : List RunPage). Contains (numbers_of ps) n) behind.1 has)).1;
       };
-      run = record { out = []; pushed = c.start.ensures.pushed sizes true file space; ends = tt };
+      run = record { out = []; pushed = c.start.ensures.pushed sizes true file space c.reset.new.self c.clear.new.self (record { keys = c.reset.ensures.none; fences_are = ap (λ (f : FencesState). f.list) c.clear.ensures }); ends = tt };
       out_is =
           sym (ap (λ (l : Entries). settled_entries (folded_over l (up_to None older))) (up_to_none newer) ∙ ap (λ (l : Entries). settled_entries l) (up_to_none older));
     }

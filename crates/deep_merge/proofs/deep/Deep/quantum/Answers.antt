@@ -34,6 +34,7 @@ loop-taken-init g c = record {
   works = works_start c.args.geo.now c.args.self.now.writer.role (c.args.geo.now.quantum / 4 + 3) c.args.space.now (g.D.Disk.state c.args.disk.now) (g.met.D.Disk.timed c.args.disk.now);
   counts = record { onward = omega arith; grows = omega arith; calls = omega arith };
   faults = refl;
+  reserves = record { bits = refl; fences_are = refl; size_is = refl };
   merge = λ news olds newer older honest merge. (merge, record { taken_is = omega arith; last = inl refl });
 }
 
@@ -109,7 +110,7 @@ returns-then-weight-eq0-clause-merge g c = λ news olds newer older honest merge
       record {
         has_taken = subst (λ (n : ℕ). HasTaken least c.args.self.now.at c.step.new.self.at newer older n) none
             (has_step c.a_merge_goes_on.ensures least c.args.self.now.at c.loop-taken.self.at c.step.new.self.at newer older c.loop-taken.taken went.0 was.0.newer.sorted was.0.older.sorted few was.1 went.3);
-        enough = inr (none_above c.args.geo.now (g.D.Disk.state c.step.new.disk).bytes c.step.new.space c.step.new.self newer older
+        enough = inr (none_above c.args.geo.now (g.D.Disk.state c.step.new.disk).bytes c.step.new.space c.step.new.self c.step.new.filter c.step.new.fences newer older
             (no_weight c.in-Ok.weight c.in-Ok.ensures.takes.some c.if-weight-eq0.true) went.2);
       },
     )
@@ -147,6 +148,7 @@ loop-taken-preserved g c =
         calls = omega (arith, inv.counts.calls, counted.calls, inv.counts.onward, counted.onward, inv.counts.grows, counted.grows);
       };
       faults = c.in-Ok.ensures.faults.stands (ok_not_fault c.in-Ok.weight) ∙ inv.faults;
+      reserves = record { bits = c.step.ensures.reserves.bits ∙ inv.reserves.bits; fences_are = c.step.ensures.reserves.fences_are ∙ inv.reserves.fences_are; size_is = c.step.ensures.reserves.size_is ∙ inv.reserves.size_is };
       merge = λ news olds newer older honest merge.
           let was = inv.merge news olds newer older honest merge in
           let went = c.in-Ok.ensures.merge news olds newer older (subst IsTrue (sym inv.works.effect.goes_on.is_honest) honest) was.0 (ok_not_fault c.in-Ok.weight) in (

@@ -31,7 +31,7 @@ calm_of a is fault = not_both a Fault fault is
 pub returns-in_err-go_above-clause-merge : goal.returns-in_err-go_above-clause-merge
 returns-in_err-go_above-clause-merge g c = λ news olds newer older honest merge other.
     let p = err_from_is_err_and c.from_residual.result c.from_residual.ensures.1 in
-    let old = subst (λ (s : DeepState). IsMerge c.args.geo.now (g.D.Disk.state c.args.disk.now).bytes c.args.space.now s news olds newer older) (sym c.self.view_is) merge in
+    let old = subst (λ (s : DeepState). IsMerge c.args.geo.now (g.D.Disk.state c.args.disk.now).bytes c.args.space.now s c.args.filter.now c.args.fences.now news olds newer older) (sym c.self.view_is) merge in
     absurd (not_both c.go_above.result c.in_err-go_above.field-0.0 c.in_err-go_above.was
     (c.go_above.ensures.input c.args.space.now c.self.inside.writer.role news newer honest old.newer
     (λ fault. other (p.1 ∙ ap Err (p.2 ∙ fault_is c.go_above.result c.in_err-go_above.field-0.0 c.in_err-go_above.was fault)))).0)
@@ -46,7 +46,7 @@ returns-in_err-go_above-2-clause-merge g c = λ news olds newer older honest mer
     let space = c.args.space.now in
     let role = c.self.inside.writer.role in
     let p = err_from_is_err_and c.from_residual-in_err-go_above-2.result c.from_residual-in_err-go_above-2.ensures.1 in
-    let old = subst (λ (s : DeepState). IsMerge sizes (g.D.Disk.state c.args.disk.now).bytes space s news olds newer older) (sym c.self.view_is) merge in
+    let old = subst (λ (s : DeepState). IsMerge sizes (g.D.Disk.state c.args.disk.now).bytes space s c.args.filter.now c.args.fences.now news olds newer older) (sym c.self.view_is) merge in
     let first = c.go_above.ensures.reads.effect in
     let below = subst (λ (b : List ℕ). IsInput sizes b space role c.self.inside.at c.self.inside.c2 olds older) (sym (only_reads_same first honest)) old.older in
     absurd (not_both c.go_above-2.result c.in_err-go_above-2.field-0.0 c.in_err-go_above-2.was
@@ -87,19 +87,20 @@ returns-in_default-clause-runs g c =
     let first = c.go_above.ensures.reads.effect in
     let second = c.go_above-2.ensures.reads.effect in
     let writer = c.self.inside.writer in
-    let old = subst (λ (s : DeepState). MayGoOn sizes before.is_honest before.bytes space s) (sym c.self.view_is) c.requires.runs in
+    let old = subst (λ (s : DeepState). MayGoOn sizes before.is_honest before.bytes space s c.args.filter.now c.args.fences.now) (sym c.self.view_is) c.requires.runs in
     let out = old.running.run.out in
     record {
       running = record {
         run = record {
           out = out;
-          pushed = subst (λ (h : Bool). HasPushed sizes h mid.bytes space writer out) (sym (second.effect.goes_on.is_honest ∙ first.effect.goes_on.is_honest))
-              (pushed_read sizes before.is_honest before.bytes mid.bytes space writer out (λ told. only_reads_same second (first.effect.goes_on.is_honest ∙ told) ∙ only_reads_same first told) old.running.run.pushed);
+          pushed = subst (λ (h : Bool). HasPushed sizes h mid.bytes space writer c.args.filter.now c.args.fences.now out) (sym (second.effect.goes_on.is_honest ∙ first.effect.goes_on.is_honest))
+              (pushed_read sizes before.is_honest before.bytes mid.bytes space writer c.args.filter.now c.args.fences.now out (λ told. only_reads_same second (first.effect.goes_on.is_honest ∙ told) ∙ only_reads_same first told) old.running.run.pushed);
           ends = old.running.run.ends;
         };
         newer = inl c.in_ok-go_above.ensures.ready.0;
         older = inl c.in_ok-go_above-2.ensures.ready.0;
       };
+      fences_fit = omega (arith, c.in_ok-go_above.ensures.ready.1, c.in_ok-go_above-2.ensures.ready.1, old.fences_fit);
       room = room_less space writer _ _ (omega (arith, c.in_ok-go_above.ensures.ready.1, c.in_ok-go_above-2.ensures.ready.1)) old.room;
     }
 
@@ -111,7 +112,7 @@ returns-in_default-clause-merge g c = λ news olds newer older honest merge othe
     let at = c.self.inside.at in
     let before = (g.D.Disk.state c.args.disk.now).bytes in
     let new = (g.D.Disk.state c.go_above-2.new.disk).bytes in
-    let old = subst (λ (s : DeepState). IsMerge sizes before space s news olds newer older) (sym c.self.view_is) merge in
+    let old = subst (λ (s : DeepState). IsMerge sizes before space s c.args.filter.now c.args.fences.now news olds newer older) (sym c.self.view_is) merge in
     let first = c.go_above.ensures.reads.effect in
     let second = c.go_above-2.ensures.reads.effect in
     let still = first.effect.goes_on.is_honest ∙ honest in
@@ -132,7 +133,7 @@ returns-in_default-clause-merge g c = λ news olds newer older honest merge othe
         older = lower;
         run = record {
           out = old.run.out;
-          pushed = pushed_read sizes true before new space c.self.inside.writer old.run.out (λ told. same ∙ only_reads_same first honest) old.run.pushed;
+          pushed = pushed_read sizes true before new space c.self.inside.writer c.args.filter.now c.args.fences.now old.run.out (λ told. same ∙ only_reads_same first honest) old.run.pushed;
           ends = old.run.ends;
         };
         out_is = old.out_is;
@@ -147,11 +148,41 @@ put_settled-requires-clause-room g c =
     let sizes = c.args.geo.now in
     let space = c.args.space.now in
     let before = g.D.Disk.state c.args.disk.now in
-    let old = subst (λ (s : DeepState). MayGoOn sizes before.is_honest before.bytes space s) (sym c.self.view_is) c.requires.runs in
+    let old = subst (λ (s : DeepState). MayGoOn sizes before.is_honest before.bytes space s c.args.filter.now c.args.fences.now) (sym c.self.view_is) c.requires.runs in
     let newer = c.in_ok-go_above.ensures.ready in
     let older = c.in_ok-go_above-2.ensures.ready in
     let taken = group_taken c.a_merge_goes_on.ensures c.go_above.new.cursor c.go_above-2.new.cursor c.self.inside.at c.in-Some.key c.in-Some.rec c.in-Some.weight newer.0 older.0 (sym c.in-Some.ensures.group) in
     room_less space c.self.inside.writer _ _ (omega (arith, taken.taken_is, taken.newer_left, taken.older_left, newer.1, older.1, c.in-Some.ensures.light.1)) old.room
+
+pub put_settled-requires-clause-fences : goal.put_settled-requires-clause-fences
+put_settled-requires-clause-fences g c =
+    let sizes = c.args.geo.now in
+    let space = c.args.space.now in
+    let before = g.D.Disk.state c.args.disk.now in
+    let old = subst (λ (s : DeepState). MayGoOn sizes before.is_honest before.bytes space s c.args.filter.now c.args.fences.now) (sym c.self.view_is) c.requires.runs in
+    let newer = c.in_ok-go_above.ensures.ready in
+    let older = c.in_ok-go_above-2.ensures.ready in
+    let taken = group_taken c.a_merge_goes_on.ensures c.go_above.new.cursor c.go_above-2.new.cursor c.self.inside.at c.in-Some.key c.in-Some.rec c.in-Some.weight newer.0 older.0 (sym c.in-Some.ensures.group) in
+    omega (arith, taken.taken_is, taken.newer_left, taken.older_left, newer.1, older.1, c.in-Some.ensures.light.1, old.fences_fit)
+
+pub put_settled-requires-clause-run : goal.put_settled-requires-clause-run
+put_settled-requires-clause-run g c =
+    let sizes = c.args.geo.now in
+    let space = c.args.space.now in
+    let before = g.D.Disk.state c.args.disk.now in
+    let old = subst (λ (s : DeepState). MayGoOn sizes before.is_honest before.bytes space s c.args.filter.now c.args.fences.now) (sym c.self.view_is) c.requires.runs in
+    let newer = c.in_ok-go_above.ensures.ready in
+    let older = c.in_ok-go_above-2.ensures.ready in
+    let taken = group_taken c.a_merge_goes_on.ensures c.go_above.new.cursor c.go_above-2.new.cursor c.self.inside.at c.in-Some.key c.in-Some.rec c.in-Some.weight newer.0 older.0 (sym c.in-Some.ensures.group) in
+    let mid = g.D.Disk.state c.go_above-2.new.disk in
+    let first = c.go_above.ensures.reads.effect in
+    let second = c.go_above-2.ensures.reads.effect in
+    let writer = c.self.inside.writer in
+    let out = old.running.run.out in
+    let pushed = subst (λ (h : Bool). HasPushed sizes h mid.bytes space writer c.args.filter.now c.args.fences.now out) (sym (second.effect.goes_on.is_honest ∙ first.effect.goes_on.is_honest))
+    (pushed_read sizes before.is_honest before.bytes mid.bytes space writer c.args.filter.now c.args.fences.now out (λ told. only_reads_same second (first.effect.goes_on.is_honest ∙ told) ∙ only_reads_same first told) old.running.run.pushed) in
+    let rise = subst AreRising pushed.entries_are pushed.is_run.rise in
+    (out, pushed, λ any. rising_more c.self.inside.at out c.in-Some.key any rise old.running.run.ends taken.above_at)
 
 pub returns-in_err-put_settled-clause-works : goal.returns-in_err-put_settled-clause-works
 returns-in_err-put_settled-clause-works g c =
@@ -210,12 +241,12 @@ returns-clause-runs g c =
     let second = c.go_above-2.ensures.reads.effect in
     let ready_newer = c.in_ok-go_above.ensures.ready in
     let ready_older = c.in_ok-go_above-2.ensures.ready in
-    let old = subst (λ (s : DeepState). MayGoOn sizes before.is_honest before.bytes space s) (sym c.self.view_is) c.requires.runs in
+    let old = subst (λ (s : DeepState). MayGoOn sizes before.is_honest before.bytes space s c.args.filter.now c.args.fences.now) (sym c.self.view_is) c.requires.runs in
     let group = sym c.in-Some.ensures.group in
     let taken = group_taken c.a_merge_goes_on.ensures newer older at key rec weighs ready_newer.0 ready_older.0 group in
     let out = old.running.run.out in
-    let pushed = subst (λ (h : Bool). HasPushed sizes h mid.bytes space writer out) (sym (second.effect.goes_on.is_honest ∙ first.effect.goes_on.is_honest))
-    (pushed_read sizes before.is_honest before.bytes mid.bytes space writer out (λ told. only_reads_same second (first.effect.goes_on.is_honest ∙ told) ∙ only_reads_same first told) old.running.run.pushed) in
+    let pushed = subst (λ (h : Bool). HasPushed sizes h mid.bytes space writer c.args.filter.now c.args.fences.now out) (sym (second.effect.goes_on.is_honest ∙ first.effect.goes_on.is_honest))
+    (pushed_read sizes before.is_honest before.bytes mid.bytes space writer c.args.filter.now c.args.fences.now out (λ told. only_reads_same second (first.effect.goes_on.is_honest ∙ told) ∙ only_reads_same first told) old.running.run.pushed) in
     let rise = subst AreRising pushed.entries_are pushed.is_run.rise in
     let left = left_weight (record { writer = c.put_settled.new.writer; c1x = newer; c2 = older; at = Some key }) in
     record {
@@ -228,6 +259,7 @@ returns-clause-runs g c =
         newer = behind_group at newer key ready_newer.0 (newer_stays newer.head older.head key rec weighs group);
         older = behind_group at older key ready_older.0 (older_stays newer.head older.head key rec weighs group);
       };
+      fences_fit = omega (arith, taken.taken_is, taken.newer_left, taken.older_left, ready_newer.1, ready_older.1, c.in-Some.ensures.light.1, old.fences_fit, c.in_ok-put_settled.ensures.light, c.put_settled.ensures.reserves.fences_are);
       room = c.in_ok-put_settled.ensures.room left
           (room_less space writer _ _ (omega (arith, taken.taken_is, taken.newer_left, taken.older_left, ready_newer.1, ready_older.1, c.in-Some.ensures.light.1)) old.room);
     }
@@ -252,7 +284,7 @@ returns-clause-merge g c = λ news olds upper lower honest merge other.
     let second = c.go_above-2.ensures.reads.effect in
     let still = first.effect.goes_on.is_honest ∙ honest in
     let same = only_reads_same second still in
-    let old = subst (λ (s : DeepState). IsMerge sizes before.bytes space s news olds upper lower) (sym c.self.view_is) merge in
+    let old = subst (λ (s : DeepState). IsMerge sizes before.bytes space s c.args.filter.now c.args.fences.now news olds upper lower) (sym c.self.view_is) merge in
     let upper_mid = (c.go_above.ensures.input space role news upper honest old.newer (calm_of c.go_above.result c.in_ok-go_above.was)).1 in
     let below = subst (λ (b : List ℕ). IsInput sizes b space role at c.self.inside.c2 olds lower) (sym (only_reads_same first honest)) old.older in
     let lower_here = (c.go_above-2.ensures.input space role olds lower still below (calm_of c.go_above-2.result c.in_ok-go_above-2.was)).1 in
@@ -264,8 +296,8 @@ returns-clause-merge g c = λ news olds upper lower honest merge other.
     let mid_honest : mid.is_honest ≡ true = second.effect.goes_on.is_honest ∙ still in
     let after_honest : after.is_honest ≡ true = c.put_settled.ensures.writes.effect.goes_on.is_honest ∙ mid_honest in
     let out = old.run.out in
-    let pushed = subst (λ (h : Bool). HasPushed sizes h mid.bytes space writer out) (sym mid_honest)
-    (pushed_read sizes true before.bytes mid.bytes space writer out (λ told. same ∙ only_reads_same first honest) old.run.pushed) in
+    let pushed = subst (λ (h : Bool). HasPushed sizes h mid.bytes space writer c.args.filter.now c.args.fences.now out) (sym mid_honest)
+    (pushed_read sizes true before.bytes mid.bytes space writer c.args.filter.now c.args.fences.now out (λ told. same ∙ only_reads_same first honest) old.run.pushed) in
     let rise = subst AreRising pushed.entries_are pushed.is_run.rise in
     let change = c.put_settled.ensures.writes.effect.bytes mid_honest in
     let takes = c.put_settled.ensures.takes in
@@ -279,7 +311,7 @@ returns-clause-merge g c = λ news olds upper lower honest merge other.
             (input_further sizes after.bytes after_space role at key older lower taken.above_at (c.an_input_stays.ensures sizes mid.bytes after.bytes space after_space role at older olds lower change takes lower_here));
         run = record {
           out = out ++ settled_entries ((key, rec) ∷ []);
-          pushed = subst (λ (h : Bool). HasPushed sizes h after.bytes after_space c.put_settled.new.writer (out ++ settled_entries ((key, rec) ∷ []))) after_honest
+          pushed = subst (λ (h : Bool). HasPushed sizes h after.bytes after_space c.put_settled.new.writer c.put_settled.new.filter c.put_settled.new.fences (out ++ settled_entries ((key, rec) ∷ []))) after_honest
               (c.in_ok-put_settled.ensures.pushed out (λ any. rising_more at out key any rise old.run.ends taken.above_at) pushed);
           ends = ends_settled at out key rec old.run.ends taken.above_at;
         };

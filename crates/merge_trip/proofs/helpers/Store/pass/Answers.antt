@@ -13,11 +13,11 @@ pub finish-requires-clause-inside : goal.finish-requires-clause-inside
 finish-requires-clause-inside g c =
     let inv = c.quanta.invariant in
     let d = told c.quanta.disk in
-    c.a_run_has_room.ensures.inside c.args.self.file.geo d.is_honest d.bytes c.quanta.space c.quanta.snow.writer inv.running.run.out inv.running.run.pushed c.pages-pages.ensures.shape inv.pages
+    c.a_run_has_room.ensures.inside c.args.self.file.geo d.is_honest d.bytes c.quanta.space c.quanta.snow.writer c.quanta.filter c.quanta.fences inv.running.run.out inv.running.run.pushed c.pages-pages.ensures.shape inv.pages
 
 pub invariant_of-ended : goal.invariant_of-ended
 invariant_of-ended g c = record {
-  long = affects_length (c.finish.ensures.writes c.quanta.space c.quanta.invariant.running).effect refl c.quanta.invariant.long;
+  long = affects_length (c.finish.ensures.writes c.quanta.space c.quanta.filter c.quanta.fences c.quanta.invariant.running).effect refl c.quanta.invariant.long;
 }
 
 pub ended-requires-clause-taken : goal.ended-requires-clause-taken
@@ -38,6 +38,7 @@ quantum-requires-clause-runs g c =
     let self = c.args.self in
     record {
       running = inv.running;
+      fences_fit = omega (arith, light, inv.light, inv.left, inv.reserved, c.weight.ensures.weight, c.pages.ensures.pages);
       room = record {
         live = self.live + c.quanta.snow.writer.component.pages;
         share = 0;
@@ -75,4 +76,5 @@ quanta-preserved g c =
       role = c.quantum.ensures.role ∙ inv.role;
       light = omega (arith, took.light, inv.light);
       left = omega (arith, took.c1, inv.left);
+      reserved = c.quantum.ensures.reserves.fences_are ∙ inv.reserved;
     }

@@ -7,11 +7,11 @@ use Rattle.run_writer.proofs.WriterLemmas.{ended}
 use Rattle.run_writer.proofs.writer.Writer.end.Goals as goal
 
 pub returns-clause-list : goal.returns-clause-list
-returns-clause-list g c = λ space entries honest has.
+returns-clause-list g c = λ space filter fences entries honest has.
     let old = (g.D.Disk.state c.args.disk.now).bytes in
     let new = (g.D.Disk.state c.write_open.new.disk).bytes in
     let component_is = ap (λ (w : WriterState). w.component) c.self.view_is in
     let reads = subst (λ (component : Component). ReadsAs c.args.geo.now component (pages_of has.run) new) (sym component_is)
     (ended c.args.geo.now c.args.self.now has.run old new
     (record { same = c.write_open.ensures.writes.effect.bytes honest; inside = c.requires.inside; reads = c.in_ok-write_open.ensures.reads honest; below = tt; full = λ some names. absurd (cc) }) has.held has.is_run (has.stands honest)) in
-    (record { pages = pages_of has.run; reads = reads; entries_are = has.entries_are }, has.tagged)
+    (record { pages = pages_of has.run; reads = reads; entries_are = has.entries_are }, has.tagged, has.guide)

@@ -5,7 +5,7 @@ use Rattle.run_writer.proofs.GrowthLemmas.{nothing_pushed}
 use Rattle.run_writer.proofs.writer.Writer.start.Goals as goal
 
 pub returns-clause-pushed : goal.returns-clause-pushed
-returns-clause-pushed c = λ sizes honest file space.
+returns-clause-pushed c = λ sizes honest file space filter fences guide.
     let is : _ ≡ started c.args.role = λ i. record { role = c.args.role; component = c.no_component-component.ensures.empty i; number = (c.no_component-component.ensures.empty i).first; buffer = c.new.ensures i } in
     let counted : IsCounted (started c.args.role) = record {
       role = omega (arith, c.number-number.ensures.number, c.number-number.ensures.in_range);
@@ -16,4 +16,4 @@ returns-clause-pushed c = λ sizes honest file space.
       floor = omega arith;
     } in
     let empty = holds_none c.args.role in
-    subst (λ (w : WriterState). HasPushed sizes honest file space w []) (sym is) (nothing_pushed sizes honest file space (started c.args.role) empty.0 empty.1 counted)
+    subst (λ (w : WriterState). HasPushed sizes honest file space w filter fences []) (sym is) (nothing_pushed sizes honest file space (started c.args.role) filter fences empty.0 empty.1 counted guide)

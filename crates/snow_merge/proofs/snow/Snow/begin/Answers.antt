@@ -1,5 +1,6 @@
 use Rattle.std.proofs.Common.{ℕ, true, None, List, sym, ap, subst}
 use Rattle.std.specs.List.{Contains}
+use Rattle.bloom_bits.specs.Fences.{FencesState}
 use Rattle.record_delta.specs.Entries.{Entries, above, up_to, folded_over}
 use Rattle.page_space.specs.Space.{HasRole}
 use Rattle.page_file.specs.Component.{RunPage, numbers_of}
@@ -24,6 +25,6 @@ returns-clause-pass c = λ sizes file space a entries list elsewhere.
         in_use = λ n has. (elsewhere n (subst (λ (ps : List RunPage). Contains (numbers_of ps) n) ahead.1 has)).1;
       };
       pushed =
-          subst (λ (l : Entries). HasPushed sizes true file space c.start.result (folded_over l (up_to None entries))) (sym (up_to_none a))
-          (subst (λ (l : Entries). HasPushed sizes true file space c.start.result l) (sym (up_to_none entries)) (c.start.ensures.pushed sizes true file space));
+          subst (λ (l : Entries). HasPushed sizes true file space c.start.result c.reset.new.self c.clear.new.self (folded_over l (up_to None entries))) (sym (up_to_none a))
+          (subst (λ (l : Entries). HasPushed sizes true file space c.start.result c.reset.new.self c.clear.new.self l) (sym (up_to_none entries)) (c.start.ensures.pushed sizes true file space c.reset.new.self c.clear.new.self (record { keys = c.reset.ensures.none; fences_are = ap (λ (f : FencesState). f.list) c.clear.ensures })));
     }

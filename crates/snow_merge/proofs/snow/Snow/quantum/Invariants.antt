@@ -1,6 +1,7 @@
 use Rattle.std.proofs.Common.{◌-◌, ◌≡◌, ◌+◌, ◌*◌, ◌/◌, ◌≤◌, length, IsTrue, List, ℕ}
 use Rattle.blsm_model.specs.Format.{most_weight}
 use Rattle.blsm_model.specs.Geometry.{page_count, file_length}
+use Rattle.bloom_bits.specs.Guides.{KeepReserves}
 use Rattle.record_delta.specs.Entries.{Entries}
 use Rattle.page_space.specs.Space.{role_size}
 use Rattle.merge_ends.specs.Quantum.{HasTaken, Works, Counts}
@@ -12,7 +13,7 @@ invariant-loop-taken g l = record {
   quantum : l.quantum ≡ l.geo.quantum;
   pages : l.space.pages ≡ page_count l.geo;
   long : IsTrue (g.D.Disk.state l.disk).tells_bytes → length (g.D.Disk.state l.disk).bytes ≡ file_length l.geo;
-  runs : MayGoOn l.geo (g.D.Disk.state l.disk).is_honest (g.D.Disk.state l.disk).bytes l.space l.self l.a.entries;
+  runs : MayGoOn l.geo (g.D.Disk.state l.disk).is_honest (g.D.Disk.state l.disk).bytes l.space l.self l.filter l.fences l.a.entries;
   takes : Takes l.fn.self l.self l.a.entries l.taken;
   bound : l.taken + 1 ≤ l.geo.quantum + 2 * most_weight;
   size : role_size l.space l.fn.self.writer.role + l.fn.self.writer.component.pages ≡ role_size l.fn.space l.fn.self.writer.role + l.self.writer.component.pages;
@@ -21,8 +22,9 @@ invariant-loop-taken g l = record {
   works : Works l.geo l.fn.self.writer.role (l.geo.quantum / 7 + 2) l.fn.space l.space (g.D.Disk.state l.fn.disk) (g.D.Disk.state l.disk);
   counts : Counts 0 l.fn.self.c1.pages l.self.c1.pages l.fn.self.writer.component.pages l.self.writer.component.pages (g.D.Disk.state l.fn.disk) (g.D.Disk.state l.disk);
   faults : (g.D.Disk.state l.disk).faults ≡ (g.D.Disk.state l.fn.disk).faults;
-  pass : (pages : List ℕ) (c1 : Entries) → IsTrue (g.D.Disk.state l.fn.disk).is_honest → IsPass l.geo (g.D.Disk.state l.fn.disk).bytes l.fn.space l.fn.self pages l.a.entries c1
-      → IsPass l.geo (g.D.Disk.state l.disk).bytes l.space l.self pages l.a.entries c1 × HasTaken l.geo.quantum l.fn.self.at l.self.at l.a.entries c1 l.taken;
+  reserves : KeepReserves l.fn.filter l.filter l.fn.fences l.fences;
+  pass : (pages : List ℕ) (c1 : Entries) → IsTrue (g.D.Disk.state l.fn.disk).is_honest → IsPass l.geo (g.D.Disk.state l.fn.disk).bytes l.fn.space l.fn.self l.fn.filter l.fn.fences pages l.a.entries c1
+      → IsPass l.geo (g.D.Disk.state l.disk).bytes l.space l.self l.filter l.fences pages l.a.entries c1 × HasTaken l.geo.quantum l.fn.self.at l.self.at l.a.entries c1 l.taken;
 }
 
 abbrev pub decreases-loop-taken : goal.decreases-loop-taken

@@ -44,7 +44,7 @@ returns-clause-steps g c = λ opening m pace honest stands can.
     let book = noted c.args.seat held.book c.note.new.self c.copy.result c.args.key.now (as_reply c.reply_of.result) (reply_to_get found) c.note.ensures c.copy.ensures c.reply_of.ensures in
     subst (λ (s : CoreState g.row.D.Denot). IsStep opening c.args.seat (kind.Get c.args.key.now) (Replied (reply_to_get found)) (with_book c.note.new.self held) (g.D.Disk.state s.disk) d2 m pace) c.self.view_is
     (subst (λ (b : BookState). IsStep opening c.args.seat (kind.Get c.args.key.now) (Replied (reply_to_get found)) (with_book b held) d d2 m pace) (sym book)
-    (get_steps opening c.args.seat c.args.key.now found held m pace ensures.reads told ensures.cause ensures.counted (λ tree holds catalogue. ensures.value tree told holds catalogue) stood can))
+    (get_steps opening c.args.seat c.args.key.now found held m pace ensures.reads told ensures.cause ensures.counted (λ tree holds catalogue guided. ensures.value tree told holds catalogue guided) stood can))
 
 pub returns-clause-follows : goal.returns-clause-follows
 returns-clause-follows g c =

@@ -1,19 +1,22 @@
-use Rattle.std.proofs.Common.{rules, ◌∙◌, ◌≡◌, Option, Some, None, ap, sym, subst, refl}
+use Rattle.std.proofs.Common.{rules, ◌∙◌, ◌≡◌, ℕ, Option, Some, None, ap, sym, subst, refl}
+use Rattle.std.specs.Prelude.{List}
 use Rattle.blsm_model.specs.declared.component.Component.{Component}
+use Rattle.blsm_model.specs.Sizes.{Sizes}
 use Rattle.catalog_swap.specs.declared.catalog.Catalog.{Catalog}
 use Rattle.page_space.specs.Space.{IsWithin}
-use Rattle.page_file.specs.Component.{entries_of, numbers_of, ReadsAs}
-use Rattle.snow_merge.specs.Pass.{SnowState, IsRunning, IsPass, started}
-use Rattle.tree_runs.specs.Runs.{RunsState, AreRuns, AreRunning, IsHeld, made_by_pass, pages_in_use, page_share}
-use Rattle.tree_runs.specs.Holding.{AreOf}
+use Rattle.page_file.specs.Component.{ReadsAs}
+use Rattle.snow_merge.specs.Pass.{SnowState, started}
+use Rattle.tree_runs.specs.Runs.{GuideState, RunsState, AreGuides, AreRuns, AreRunning, DeepRuns, IsHeld, PassRuns, guide_at, made_by_pass, pages_in_use, page_share}
+use Rattle.tree_runs.specs.Holding.{AreOf, IsDeepOver, IsPassOver, KeepsOtherGuides}
+use Rattle.tree_runs.proofs.GuideLemmas.{all_guided_still}
 use Rattle.tree_runs.proofs.KeptMerges.{elsewhere}
 use Rattle.tree_runs.proofs.runs.Runs.begin_pass.Goals as goal
 
-abbrev begun_with : RunsState → SnowState → RunsState
-begun_with runs snow = record runs { pass = Some snow }
+abbrev begun_with : RunsState → SnowState → List GuideState → RunsState
+begun_with runs snow guides = record runs { pass = Some snow; guides = guides }
 
-runs_begun : (runs : RunsState) → runs.pass ≡ None → AreRuns runs → AreRuns (begun_with runs (started runs.tags.pass runs.catalogue.c1))
-runs_begun runs rests are = record {
+runs_begun : (runs : RunsState) (guides : List GuideState) → runs.pass ≡ None → AreRuns runs → AreGuides runs.sizes guides → AreRuns (begun_with runs (started runs.tags.pass runs.catalogue.c1) guides)
+runs_begun runs guides rests are reserved = record {
   geometry = are.geometry;
   pages = are.pages;
   shape = are.shape;
@@ -30,6 +33,7 @@ runs_begun runs rests are = record {
   pass_unpinned = are.pass_unpinned;
   deep_unpinned = are.deep_unpinned;
   within = subst (λ (p : Option SnowState). IsWithin (pages_in_use (record runs { pass = p })) (page_share runs.sizes) runs.space) rests are.within;
+  guides = reserved;
 }
 
 pub returns-clause-begun : goal.returns-clause-begun
@@ -38,30 +42,49 @@ returns-clause-begun c = search rules
 pub returns-clause-running : goal.returns-clause-running
 returns-clause-running c = λ honest file running.
     let runs = c.args.self.now in
-    let starts : c.begin.result ≡ started runs.tags.pass runs.catalogue.c1 = search rules in
-    subst (λ (r : RunsState). AreRunning honest file r) (sym (returns-clause-begun c)) (record {
-      in_order = runs_begun runs c.requires.rests c.requires.runs;
-      pass = subst (λ (s : SnowState). IsRunning runs.sizes honest file runs.space s) starts (c.begin.ensures.running runs.sizes honest file runs.space);
-      deep = running.deep;
-    })
+    let are = c.requires.runs in
+    let inside = c.self.inside in
+    let guides = c.begin_snow.new.guides.items in
+    let starts : c.begin_snow.result ≡ started runs.tags.pass runs.catalogue.c1 = search rules in
+    let tagged : inside.pass ≡ runs.tags.pass = search rules in
+    let had : inside.guides.items ≡ runs.guides = search rules in
+    let same = ap (λ (r : RunsState). r.guides) (returns-clause-begun c) in
+    let others = subst (λ (t : ℕ). KeepsOtherGuides t runs.guides guides) tagged (subst (λ (gs : List GuideState). KeepsOtherGuides inside.pass gs guides) had c.begin_snow.ensures.others) in
+    let reserved = subst (λ (s : Sizes). AreGuides s guides) (ap (λ (r : RunsState). r.sizes) c.self.view_is) c.begin_snow.ensures.reserved in
+    subst (λ (r : RunsState). AreRunning honest file r) (sym (returns-clause-begun c))
+    (subst (λ (gs : List GuideState). AreRunning honest file (begun_with runs (started runs.tags.pass runs.catalogue.c1) gs)) same
+    (record {
+      in_order = runs_begun runs guides c.requires.rests are reserved;
+      pass = subst (λ (s : SnowState). PassRuns runs.sizes honest file runs.space (guide_at guides runs.tags.pass) (Some s)) starts
+          (subst (λ (t : ℕ). PassRuns runs.sizes honest file runs.space (guide_at guides t) (Some c.begin_snow.result)) tagged (c.begin_snow.ensures.running runs.sizes honest file runs.space));
+      deep = subst (λ (g : GuideState). DeepRuns runs.sizes honest file runs.space g runs.deep) (sym (others runs.tags.deep (λ is. are.tags.pass_deep (sym is)))) running.deep;
+    }))
 
 pub returns-clause-lists : goal.returns-clause-lists
 returns-clause-lists c = λ tree a file is.
     let runs = c.args.self.now in
     let are = c.requires.runs in
-    let starts : c.begin.result ≡ started runs.tags.pass runs.catalogue.c1 = search rules in
-    let same : runs.catalogue.c1 ≡ c.self.inside.catalogue.c1 = search rules in
-    let c1 : tree.catalogue.c1 ≡ c.self.inside.catalogue.c1 = ap (λ (k : Catalog). k.c1) is.catalogue ∙ same in
-    let tagged : c.self.inside.pass ≡ runs.tags.pass = search rules in
-    subst (λ (r : RunsState). AreOf r tree a file) (sym (returns-clause-begun c)) (record {
+    let inside = c.self.inside in
+    let guides = c.begin_snow.new.guides.items in
+    let starts : c.begin_snow.result ≡ started runs.tags.pass runs.catalogue.c1 = search rules in
+    let tagged : inside.pass ≡ runs.tags.pass = search rules in
+    let had : inside.guides.items ≡ runs.guides = search rules in
+    let same = ap (λ (r : RunsState). r.guides) (returns-clause-begun c) in
+    let others = subst (λ (t : ℕ). KeepsOtherGuides t runs.guides guides) tagged (subst (λ (gs : List GuideState). KeepsOtherGuides inside.pass gs guides) had c.begin_snow.ensures.others) in
+    let now : runs.catalogue.c1 ≡ inside.catalogue.c1 = search rules in
+    let c1 : tree.catalogue.c1 ≡ inside.catalogue.c1 = ap (λ (k : Catalog). k.c1) is.catalogue ∙ now in
+    subst (λ (r : RunsState). AreOf r tree a file) (sym (returns-clause-begun c))
+    (subst (λ (gs : List GuideState). AreOf (begun_with runs (started runs.tags.pass runs.catalogue.c1) gs) tree a file) same
+    (record {
       holds = is.holds;
       catalogue = is.catalogue;
       c1 = is.c1;
       c1x = is.c1x;
       c2 = is.c2;
-      pass = subst (λ (s : SnowState). IsPass runs.sizes file runs.space s (numbers_of tree.c1) a (entries_of tree.c1)) starts
-          (c.begin.ensures.pass runs.sizes file runs.space a (entries_of tree.c1)
-          (record { pages = tree.c1; reads = subst (λ (c : Component). ReadsAs runs.sizes c tree.c1 file) c1 is.holds.c1; entries_are = refl })
-          (elsewhere runs.space runs.tags.c1 c.self.inside.pass tree.c1 are.one_tag (λ same. are.tags.c1_pass (same ∙ tagged)) is.c1));
-      deep = is.deep;
-    })
+      pass = subst (λ (s : SnowState). IsPassOver runs.sizes file runs.space (guide_at guides runs.tags.pass) (Some s) a tree.c1) starts
+          (subst (λ (t : ℕ). IsPassOver runs.sizes file runs.space (guide_at guides t) (Some c.begin_snow.result) a tree.c1) tagged
+          (c.begin_snow.ensures.pass runs.sizes file runs.space a tree.c1 (subst (λ (k : Component). ReadsAs runs.sizes k tree.c1 file) c1 is.holds.c1)
+          (elsewhere runs.space runs.tags.c1 inside.pass tree.c1 are.one_tag (λ same. are.tags.c1_pass (same ∙ tagged)) is.c1)));
+      deep = subst (λ (g : GuideState). IsDeepOver runs.sizes file runs.space g runs.deep tree.c1x tree.c2) (sym (others runs.tags.deep (λ is. are.tags.pass_deep (sym is)))) is.deep;
+      guided = all_guided_still runs.guides guides runs.tags tree others are.tags.c1_pass are.tags.c1x_pass are.tags.c2_pass is.guided;
+    }))

@@ -2,6 +2,7 @@ use Rattle.std.proofs.Common.{◌≡◌, ◌∙◌, ℕ, Option, Some, ap, sym, 
 use Rattle.std.specs.Prelude.{IfOk}
 use Rattle.std.specs.List.{Contains}
 use Rattle.blsm_model.specs.Geometry.{page_count, file_length}
+use Rattle.bloom_bits.specs.Guides.{Guide}
 use Rattle.record_delta.specs.Entries.{folded_over}
 use Rattle.page_space.specs.Space.{HasRole}
 use Rattle.page_file.specs.Component.{HasList, entries_of, numbers_of}
@@ -9,7 +10,7 @@ use Rattle.page_file.specs.File.{Writes}
 use Rattle.run_writer.specs.Writer.{IsInside, role_region}
 use Rattle.snow_merge.specs.Pass.{SnowState, IsPass, IsRunning}
 use Rattle.tree_runs.specs.declared.runs.Merges.{Merges}
-use Rattle.tree_runs.specs.Runs.{RunsState, PassRuns, PassHasTag}
+use Rattle.tree_runs.specs.Runs.{RunsState, PassRuns, PassHasTag, fences_of_tag, filter_of, guide_at}
 use Rattle.tree_runs.specs.Holding.{AreTagged, IsPassOver}
 use Rattle.tree_runs.proofs.runs.Runs.finish_pass.Goals as goal
 
@@ -18,10 +19,10 @@ finish-requires-clause-inside g c =
     let now = c.args.self.now in
     let d = g.D.Disk.state c.args.disk.now in
     let is : now.pass ≡ Some c.in-Some.snow = sym (ap (λ (s : RunsState). s.pass) c.self.view_is) ∙ sym (ap (λ (m : Merges). m.pass) c.deref_mut-merges.ensures.value) ∙ c.in-Some.is in
-    let runs = subst (λ (o : Option SnowState). PassRuns now.sizes d.is_honest d.bytes now.space o) is c.requires.running.pass in
+    let runs = subst (λ (o : Option SnowState). PassRuns now.sizes d.is_honest d.bytes now.space (guide_at now.guides now.tags.pass) o) is c.requires.running.pass in
     let order = c.requires.running.in_order in
     subst (λ (s : RunsState). IsInside (page_count s.sizes) c.in-Some.snow.writer) (sym c.self.view_is)
-    (c.a_run_has_room.ensures.inside now.sizes d.is_honest d.bytes now.space c.in-Some.snow.writer runs.run.out runs.run.pushed order.shape order.pages)
+    (c.a_run_has_room.ensures.inside now.sizes d.is_honest d.bytes now.space c.in-Some.snow.writer (filter_of now now.tags.pass) (fences_of_tag now now.tags.pass) runs.run.out runs.run.pushed order.shape order.pages)
 
 pub returns-clause-list : goal.returns-clause-list
 returns-clause-list g c = λ c1 honest over.
@@ -30,11 +31,11 @@ returns-clause-list g c = λ c1 honest over.
     let new = g.D.Disk.state c.finish.new.disk in
     let is : now.pass ≡ Some c.in-Some.snow = sym (ap (λ (s : RunsState). s.pass) c.self.view_is) ∙ sym (ap (λ (m : Merges). m.pass) c.deref_mut-merges.ensures.value) ∙ c.in-Some.is in
     let role = subst (λ (o : Option SnowState). PassHasTag now.tags.pass o) is c.requires.running.in_order.pass_tag in
-    let merge = subst (λ (o : Option SnowState). IsPassOver now.sizes old.bytes now.space o c.args.a.now.entries c1) is over in
-    let here = subst (λ (s : RunsState). IsPass s.sizes old.bytes now.space c.in-Some.snow (numbers_of c1) c.args.a.now.entries (entries_of c1)) (sym c.self.view_is) merge in
-    subst (λ (s : RunsState). IfOk c.finish.result (λ k. (x : HasList s.sizes k (folded_over c.args.a.now.entries (entries_of c1)) new.bytes) × AreTagged now.space now.tags.pass x.pages)) c.self.view_is
-    (subst (λ (r : ℕ). IfOk c.finish.result (λ k. (x : HasList c.self.inside.geometry k (folded_over c.args.a.now.entries (entries_of c1)) new.bytes) × ((n : ℕ) → Contains (numbers_of x.pages) n → HasRole now.space r n))) role
-    (c.finish.ensures.list now.space (numbers_of c1) (entries_of c1) honest here))
+    let merge = subst (λ (o : Option SnowState). IsPassOver now.sizes old.bytes now.space (guide_at now.guides now.tags.pass) o c.args.a.now.entries c1) is over in
+    let here = subst (λ (s : RunsState). IsPass s.sizes old.bytes now.space c.in-Some.snow (filter_of now now.tags.pass) (fences_of_tag now now.tags.pass) (numbers_of c1) c.args.a.now.entries (entries_of c1)) (sym c.self.view_is) merge in
+    subst (λ (s : RunsState). IfOk c.finish.result (λ k. (x : HasList s.sizes k (folded_over c.args.a.now.entries (entries_of c1)) new.bytes) × AreTagged now.space now.tags.pass x.pages × Guide (filter_of now now.tags.pass) (fences_of_tag now now.tags.pass) x.pages)) c.self.view_is
+    (subst (λ (r : ℕ). IfOk c.finish.result (λ k. (x : HasList c.self.inside.geometry k (folded_over c.args.a.now.entries (entries_of c1)) new.bytes) × ((n : ℕ) → Contains (numbers_of x.pages) n → HasRole now.space r n) × Guide (filter_of now now.tags.pass) (fences_of_tag now now.tags.pass) x.pages)) role
+    (c.finish.ensures.list now.space (filter_of now now.tags.pass) (fences_of_tag now now.tags.pass) (numbers_of c1) (entries_of c1) honest here))
 
 pub returns-clause-writes : goal.returns-clause-writes
 returns-clause-writes g c =
@@ -43,7 +44,7 @@ returns-clause-writes g c =
     let new = g.D.Disk.state c.finish.new.disk in
     let is : now.pass ≡ Some c.in-Some.snow = sym (ap (λ (s : RunsState). s.pass) c.self.view_is) ∙ sym (ap (λ (m : Merges). m.pass) c.deref_mut-merges.ensures.value) ∙ c.in-Some.is in
     let role = subst (λ (o : Option SnowState). PassHasTag now.tags.pass o) is c.requires.running.in_order.pass_tag in
-    let runs = subst (λ (o : Option SnowState). PassRuns now.sizes old.is_honest old.bytes now.space o) is c.requires.running.pass in
-    let here = subst (λ (s : RunsState). IsRunning s.sizes old.is_honest old.bytes now.space c.in-Some.snow) (sym c.self.view_is) runs in
+    let runs = subst (λ (o : Option SnowState). PassRuns now.sizes old.is_honest old.bytes now.space (guide_at now.guides now.tags.pass) o) is c.requires.running.pass in
+    let here = subst (λ (s : RunsState). IsRunning s.sizes old.is_honest old.bytes now.space c.in-Some.snow (filter_of now now.tags.pass) (fences_of_tag now now.tags.pass)) (sym c.self.view_is) runs in
     subst (λ (s : RunsState). Writes (role_region s.sizes now.space now.tags.pass) (file_length s.sizes) c.finish.result old new) c.self.view_is
-    (subst (λ (r : ℕ). Writes (role_region c.self.inside.geometry now.space r) (file_length c.self.inside.geometry) c.finish.result old new) role (c.finish.ensures.writes now.space here))
+    (subst (λ (r : ℕ). Writes (role_region c.self.inside.geometry now.space r) (file_length c.self.inside.geometry) c.finish.result old new) role (c.finish.ensures.writes now.space (filter_of now now.tags.pass) (fences_of_tag now now.tags.pass) here))

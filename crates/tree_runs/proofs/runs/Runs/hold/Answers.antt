@@ -22,6 +22,7 @@ before c = record {
   tags = record { c1 = c.self.inside.c1; c1x = c.self.inside.c1x; c2 = c.self.inside.c2; pass = c.self.inside.pass; deep = c.self.inside.deep };
   pass = c.self.inside.merges.value.pass;
   deep = c.self.inside.merges.value.deep;
+  guides = c.self.inside.guides.items;
 }
 
 repinned : (c : goal.After-pages-pages) → Repinned (before c) c.build-hold.new.space

@@ -5,8 +5,8 @@ use Rattle.blsm_model.specs.Components.{empty_component}
 use Rattle.tree_file.specs.Tree.{HoldsTree}
 use Rattle.tree_file.specs.Places.{with_pass}
 use Rattle.tree_runs.specs.declared.runs.Merges.{Merges}
-use Rattle.tree_runs.specs.Runs.{RunsState, AreRuns, DeepRuns, made_by_pass}
-use Rattle.tree_runs.specs.Holding.{AreTagged, IsDeepOver, with_pass_run, is_full}
+use Rattle.tree_runs.specs.Runs.{RunsState, AreRuns, DeepRuns, guide_at, made_by_pass}
+use Rattle.tree_runs.specs.Holding.{AreTagged, IsDeepOver, IsGuidedBy, with_pass_run, is_full}
 use Rattle.tree_runs.proofs.ReleasedTags.{Released, has_still}
 use Rattle.tree_runs.proofs.InstallLemmas.{HasParts, runs_for_pass}
 use Rattle.tree_runs.proofs.KeptMerges.{keeps_one, pages_one, deep_runs_still, deep_over_still}
@@ -32,25 +32,25 @@ pub returns-clause-goes_on : goal.returns-clause-goes_on
 returns-clause-goes_on c = λ honest file runs.
     let inside = c.self.inside in
     let are = subst (λ (s : RunsState). AreRuns s) (sym c.self.view_is) c.requires.runs in
-    let was = subst (λ (s : RunsState). DeepRuns s.sizes honest file s.space s.deep) (sym c.self.view_is) runs in
+    let was = subst (λ (s : RunsState). DeepRuns s.sizes honest file s.space (guide_at s.guides s.tags.deep) s.deep) (sym c.self.view_is) runs in
     let e = c.release.ensures in
     let gone : Released inside.c1 inside.space c.release.new.self = record { this = e.this; others = e.others; pins = e.pins; pages = e.pages; shape = e.shape; freed = e.freed; size = e.size } in
-    let still = deep_runs_still c.where_a_run_writes.ensures.pushed inside.deep inside.merges.value.deep
+    let still = deep_runs_still c.where_a_run_writes.ensures.pushed inside.deep (guide_at inside.guides.items inside.deep) inside.merges.value.deep
     (keeps_one {sizes = inside.geometry} {honest = honest} file inside.deep gone (λ i. are.tags.c1_deep (sym i))) are.deep_tag was in
-    subst (λ (s : RunsState). DeepRuns s.sizes honest file c.release.new.self c.deref_mut-merges.result.now.deep) c.self.view_is
-    (subst (λ (m : Merges). DeepRuns inside.geometry honest file c.release.new.self m.deep) (sym c.deref_mut-merges.ensures.value) still)
+    subst (λ (s : RunsState). DeepRuns s.sizes honest file c.release.new.self (guide_at inside.guides.items inside.deep) c.deref_mut-merges.result.now.deep) c.self.view_is
+    (subst (λ (m : Merges). DeepRuns inside.geometry honest file c.release.new.self (guide_at inside.guides.items inside.deep) m.deep) (sym c.deref_mut-merges.ensures.value) still)
 
 pub returns-clause-lists : goal.returns-clause-lists
-returns-clause-lists c = λ tree run a file holds c1x c2 made over.
+returns-clause-lists c = λ tree run a file holds c1x c2 made guided_run guided_c1x guided_c2 over.
     let inside = c.self.inside in
     let are = subst (λ (s : RunsState). AreRuns s) (sym c.self.view_is) c.requires.runs in
-    let was = subst (λ (s : RunsState). IsDeepOver s.sizes file s.space s.deep tree.c1x tree.c2) (sym c.self.view_is) over in
+    let was = subst (λ (s : RunsState). IsDeepOver s.sizes file s.space (guide_at s.guides s.tags.deep) s.deep tree.c1x tree.c2) (sym c.self.view_is) over in
     let c1x_was = subst (λ (s : RunsState). AreTagged s.space s.tags.c1x tree.c1x) (sym c.self.view_is) c1x in
     let c2_was = subst (λ (s : RunsState). AreTagged s.space s.tags.c2 tree.c2) (sym c.self.view_is) c2 in
     let made_was = subst (λ (s : RunsState). AreTagged s.space s.tags.pass run) (sym c.self.view_is) made in
     let e = c.release.ensures in
     let gone : Released inside.c1 inside.space c.release.new.self = record { this = e.this; others = e.others; pins = e.pins; pages = e.pages; shape = e.shape; freed = e.freed; size = e.size } in
-    let still = deep_over_still c.where_a_run_writes.ensures.pushed c.what_is_ahead.ensures inside.merges.value.deep tree.c1x tree.c2
+    let still = deep_over_still c.where_a_run_writes.ensures.pushed c.what_is_ahead.ensures (guide_at inside.guides.items inside.deep) inside.merges.value.deep tree.c1x tree.c2
     (keeps_one {sizes = inside.geometry} {honest = true} file inside.deep gone (λ i. are.tags.c1_deep (sym i)))
     (pages_one inside.c1x gone (λ i. are.tags.c1_c1x (sym i))) (pages_one inside.c2 gone (λ i. are.tags.c1_c2 (sym i))) are.deep_tag c1x_was c2_was was in
     record {
@@ -60,5 +60,10 @@ returns-clause-lists c = λ tree run a file holds c1x c2 made over.
       c1x = λ n has. has_still gone inside.c1x n (λ i. are.tags.c1_c1x (sym i)) (c1x_was n has);
       c2 = λ n has. has_still gone inside.c2 n (λ i. are.tags.c1_c2 (sym i)) (c2_was n has);
       pass = tt;
-      deep = subst (λ (m : Merges). IsDeepOver inside.geometry file c.release.new.self m.deep tree.c1x tree.c2) (sym c.deref_mut-merges.ensures.value) still;
+      deep = subst (λ (m : Merges). IsDeepOver inside.geometry file c.release.new.self (guide_at inside.guides.items inside.deep) m.deep tree.c1x tree.c2) (sym c.deref_mut-merges.ensures.value) still;
+      guided = record {
+        c1 = subst (λ (s : RunsState). IsGuidedBy (guide_at s.guides s.tags.pass) run) (sym c.self.view_is) guided_run;
+        c1x = subst (λ (s : RunsState). IsGuidedBy (guide_at s.guides s.tags.c1x) tree.c1x) (sym c.self.view_is) guided_c1x;
+        c2 = subst (λ (s : RunsState). IsGuidedBy (guide_at s.guides s.tags.c2) tree.c2) (sym c.self.view_is) guided_c2;
+      };
     }

@@ -1,12 +1,12 @@
-use Rattle.std.proofs.Common.{◌≡◌, ◌∙◌, Bool, true, [], None, ap, sym, subst, refl, arith}
+use Rattle.std.proofs.Common.{◌≡◌, ◌∙◌, Bool, true, [], Some, None, ap, sym, subst, refl, arith}
 use Rattle.std.specs.Prelude.{if◌then◌else◌}
 use Rattle.catalog_swap.specs.declared.catalog.Catalog.{Catalog}
 use Rattle.blsm_model.specs.Components.{empty_component}
-use Rattle.page_file.specs.Component.{entries_of}
 use Rattle.tree_file.specs.Tree.{HoldsTree}
 use Rattle.tree_file.specs.Places.{with_pass}
-use Rattle.tree_runs.specs.Runs.{RunsState, AreRuns, made_by_pass}
-use Rattle.tree_runs.specs.Holding.{AreTagged, with_pass_run, is_full}
+use Rattle.tree_runs.specs.Runs.{RunsState, AreRuns, DeepRuns, guide_at, made_by_pass}
+use Rattle.tree_runs.specs.Holding.{AreTagged, IsGuidedBy, with_pass_run, is_full}
+use Rattle.tree_runs.proofs.GuideLemmas.{guided_still}
 use Rattle.tree_runs.proofs.ReleasedTags.{Released, has_still}
 use Rattle.tree_runs.proofs.InstallLemmas.{HasParts, one_tag_still, runs_for_rotated_pass}
 use Rattle.tree_runs.proofs.KeptMerges.{elsewhere}
@@ -27,10 +27,10 @@ returns-clause-runs c =
       c1x_is = ap (λ (k : Catalog). k.c1x) is ∙ ap (λ (b : Bool). if b then made_by_pass inside.merges.value.pass else inside.catalogue.c1x) heavy;
       c2_is = ap (λ (k : Catalog). k.c2) is;
     } in
-    rw c.begin.ensures.started (runs_for_rotated_pass _ c.args.next.now c.release.new.self are parts rests gone)
+    rw c.begin_deep.ensures.started (runs_for_rotated_pass _ c.args.next.now c.release.new.self c.begin_deep.new.guides.items are parts rests gone c.begin_deep.ensures.reserved)
 
 pub returns-clause-lists : goal.returns-clause-lists
-returns-clause-lists c = λ tree run a file holds c2 made.
+returns-clause-lists c = λ tree run a file holds c2 made guided_c2 guided_run.
     let inside = c.self.inside in
     let after = c.release.new.self in
     let are = subst (λ (s : RunsState). AreRuns s) (sym c.self.view_is) c.requires.runs in
@@ -49,7 +49,18 @@ returns-clause-lists c = λ tree run a file holds c2 made.
       c1x = c1x_now;
       c2 = c2_now;
       pass = tt;
-      deep = c.begin.ensures.merge inside.geometry file after (entries_of run) (entries_of tree.c2)
-          (record { pages = run; reads = next_holds.c1x; entries_are = refl }) (elsewhere after inside.pass inside.deep run once are.tags.pass_deep c1x_now)
-          (record { pages = tree.c2; reads = next_holds.c2; entries_are = refl }) (elsewhere after inside.c2 inside.deep tree.c2 once are.tags.c2_deep c2_now);
+      deep = c.begin_deep.ensures.merge inside.geometry file after run tree.c2 next_holds.c1x (elsewhere after inside.pass inside.deep run once are.tags.pass_deep c1x_now)
+          next_holds.c2 (elsewhere after inside.c2 inside.deep tree.c2 once are.tags.c2_deep c2_now);
+      guided = record {
+        c1 = λ some. absurd (some refl);
+        c1x = guided_still inside.guides.items c.begin_deep.new.guides.items inside.pass run c.begin_deep.ensures.others are.tags.pass_deep
+            (subst (λ (s : RunsState). IsGuidedBy (guide_at s.guides s.tags.pass) run) (sym c.self.view_is) guided_run);
+        c2 = guided_still inside.guides.items c.begin_deep.new.guides.items inside.c2 tree.c2 c.begin_deep.ensures.others are.tags.c2_deep
+            (subst (λ (s : RunsState). IsGuidedBy (guide_at s.guides s.tags.c2) tree.c2) (sym c.self.view_is) guided_c2);
+      };
     }
+
+pub returns-clause-goes_on : goal.returns-clause-goes_on
+returns-clause-goes_on c = λ honest file.
+    subst (λ (s : RunsState). DeepRuns s.sizes honest file c.release.new.self (guide_at c.begin_deep.new.guides.items c.self.inside.deep) (Some c.begin_deep.result)) c.self.view_is
+    (c.begin_deep.ensures.running c.self.inside.geometry honest file c.release.new.self)

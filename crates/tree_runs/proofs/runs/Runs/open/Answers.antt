@@ -1,5 +1,5 @@
 use Rattle.std.proofs.Common.{rules, ◌≡◌, ◌∙◌, ℕ, Bool, true, false, Option, Some, None, sym, subst, ap, refl, arith}
-use Rattle.std.specs.Prelude.{if◌then◌else◌, nat_eq}
+use Rattle.std.specs.Prelude.{List, if◌then◌else◌, nat_eq}
 use Rattle.std.proofs.lemmas.Bool.{eqb-true}
 use Rattle.blsm_model.specs.Components.{empty_component}
 use Rattle.blsm_model.specs.Sizes.{Sizes}
@@ -8,8 +8,9 @@ use Rattle.catalog_swap.specs.declared.catalog.Catalog.{Catalog}
 use Rattle.page_space.specs.Space.{SpaceState}
 use Rattle.page_file.specs.Component.{ReadsAs}
 use Rattle.deep_merge.specs.Merge.{DeepState, started}
-use Rattle.tree_runs.specs.Runs.{RunsState, AreRead, AreRuns, AreRunning, AreTags, DeepHasTag, DeepRuns, IsHeld, RestsEmpty, due_deep, first_tags, made_by_deep, opened}
-use Rattle.tree_runs.specs.Holding.{AreOf, IsDeepOver}
+use Rattle.tree_runs.specs.Runs.{GuideState, RunsState, AreGuides, AreRead, AreRuns, AreRunning, AreTags, DeepHasTag, DeepRuns, IsHeld, RestsEmpty, due_deep, due_guides, first_tags, guide_at, made_by_deep, opened}
+use Rattle.tree_runs.specs.Holding.{AreGuided, AreOf, IsDeepOver, KeepsOtherGuides}
+use Rattle.tree_runs.proofs.GuideLemmas.{all_guided_still}
 use Rattle.tree_runs.proofs.InstallLemmas.{nothing_held}
 use Rattle.tree_runs.proofs.KeptMerges.{elsewhere}
 use Rattle.tree_runs.proofs.PinLemmas.{none_pinned}
@@ -53,8 +54,9 @@ begun_empty false tag catalogue empty = tt
 
 -- ---- what the components keep from their opening on
 
-runs_opened : (sizes : Sizes) (catalogue : Catalog) (space : SpaceState) → AreRead sizes catalogue space → AreRuns (opened sizes catalogue space)
-runs_opened sizes catalogue space read = record {
+runs_opened : (sizes : Sizes) (catalogue : Catalog) (space : SpaceState) (guides : List GuideState) → AreRead sizes catalogue space → AreGuides sizes (due_guides sizes catalogue guides)
+    → AreRuns (opened sizes catalogue space guides)
+runs_opened sizes catalogue space guides read reserved = record {
   geometry = read.geometry;
   pages = read.pages;
   shape = read.shape;
@@ -74,6 +76,7 @@ runs_opened sizes catalogue space read = record {
     roles = omega (arith, read.c1.size, read.c1x.size, read.c2.size, read.pass, read.deep);
     seats = λ seat below. omega (arith, read.no_pins seat below);
   };
+  guides = reserved;
 }
   where
     rests : Bool
@@ -89,21 +92,34 @@ pub returns-clause-running : goal.returns-clause-running
 returns-clause-running c = λ honest file.
     let sizes = c.args.geometry.now in
     let space = c.args.space in
-    let begins = c.due_deep-here.ensures.begun ∙ ap (λ (tag : ℕ). due_deep tag c.args.catalogue) c.new-deep.ensures in
+    let tag = c.new-deep.ensures in
+    let after = c.due_deep-here.new.guides.items in
+    let begins = c.due_deep-here.ensures.begun ∙ ap (λ (tag : ℕ). due_deep tag c.args.catalogue) tag in
+    let same = ap (λ (r : RunsState). r.guides) (returns-clause-opened c) in
+    let goes = subst (λ (t : ℕ). DeepRuns sizes honest file space (guide_at after t) (due_deep 4 c.args.catalogue)) tag
+    (subst (λ (d : Option DeepState). DeepRuns sizes honest file space (guide_at after c.new-deep.result) d) begins (c.due_deep-here.ensures.running sizes honest file space)) in
     subst (λ (r : RunsState). AreRunning honest file r) (sym (returns-clause-opened c)) (record {
-      in_order = runs_opened sizes c.args.catalogue space c.requires.read;
+      in_order = runs_opened sizes c.args.catalogue space c.args.guides c.requires.read (subst (λ (gs : List GuideState). AreGuides sizes gs) same c.due_deep-here.ensures.reserved);
       pass = tt;
-      deep = subst (λ (d : Option DeepState). DeepRuns sizes honest file space d) begins (c.due_deep-here.ensures.running sizes honest file space);
+      deep = subst (λ (gs : List GuideState). DeepRuns sizes honest file space (guide_at gs 4) (due_deep 4 c.args.catalogue)) same goes;
     })
 
 pub returns-clause-lists : goal.returns-clause-lists
-returns-clause-lists c = λ tree a file holds is c1 c1x c2.
+returns-clause-lists c = λ tree a file holds is c1 c1x c2 guided.
     let sizes = c.args.geometry.now in
     let space = c.args.space in
-    let begins = c.due_deep-here.ensures.begun ∙ ap (λ (tag : ℕ). due_deep tag c.args.catalogue) c.new-deep.ensures in
+    let tag = c.new-deep.ensures in
+    let after = c.due_deep-here.new.guides.items in
+    let begins = c.due_deep-here.ensures.begun ∙ ap (λ (tag : ℕ). due_deep tag c.args.catalogue) tag in
+    let same = ap (λ (r : RunsState). r.guides) (returns-clause-opened c) in
     let once = c.requires.read.one_tag in
     let newer = subst (λ (k : Catalog). ReadsAs sizes k.c1x tree.c1x file) is holds.c1x in
     let older = subst (λ (k : Catalog). ReadsAs sizes k.c2 tree.c2 file) is holds.c2 in
+    let over = subst (λ (t : ℕ). IsDeepOver sizes file space (guide_at after t) (due_deep 4 c.args.catalogue) tree.c1x tree.c2) tag
+    (subst (λ (d : Option DeepState). IsDeepOver sizes file space (guide_at after c.new-deep.result) d tree.c1x tree.c2) begins
+    (c.due_deep-here.ensures.merge sizes file space tree.c1x tree.c2
+    newer (elsewhere space 1 c.new-deep.result tree.c1x once (omega (arith, tag)) c1x)
+    older (elsewhere space 2 c.new-deep.result tree.c2 once (omega (arith, tag)) c2))) in
     subst (λ (r : RunsState). AreOf r tree a file) (sym (returns-clause-opened c)) (record {
       holds = holds;
       catalogue = is;
@@ -111,8 +127,7 @@ returns-clause-lists c = λ tree a file holds is c1 c1x c2.
       c1x = c1x;
       c2 = c2;
       pass = tt;
-      deep = subst (λ (d : Option DeepState). IsDeepOver sizes file space d tree.c1x tree.c2) begins
-          (c.due_deep-here.ensures.merge sizes file space tree.c1x tree.c2
-          newer (elsewhere space 1 c.new-deep.result tree.c1x once (omega (arith, c.new-deep.ensures)) c1x)
-          older (elsewhere space 2 c.new-deep.result tree.c2 once (omega (arith, c.new-deep.ensures)) c2));
+      deep = subst (λ (gs : List GuideState). IsDeepOver sizes file space (guide_at gs 4) (due_deep 4 c.args.catalogue) tree.c1x tree.c2) same over;
+      guided = subst (λ (gs : List GuideState). AreGuided gs first_tags tree) same
+          (all_guided_still c.args.guides after first_tags tree (subst (λ (gs : List GuideState). KeepsOtherGuides c.new-deep.result gs after) c.guides.view_is c.due_deep-here.ensures.others) (omega (arith, tag)) (omega (arith, tag)) (omega (arith, tag)) guided);
     })

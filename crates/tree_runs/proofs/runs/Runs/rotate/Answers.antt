@@ -9,7 +9,7 @@ use Rattle.blsm_model.specs.Geometry.{file_length}
 use Rattle.snow_merge.specs.Pass.{SnowState}
 use Rattle.tree_file.specs.Tree.{HoldsTree}
 use Rattle.tree_file.specs.Places.{with_components, StandsOn}
-use Rattle.tree_runs.specs.Runs.{RunsState, PassRuns, DeepRuns}
+use Rattle.tree_runs.specs.Runs.{RunsState, PassRuns, DeepRuns, guide_at}
 use Rattle.tree_runs.specs.Holding.{commit_region}
 use Rattle.tree_runs.proofs.PinLemmas.{commit_beside}
 use Rattle.tree_runs.proofs.SwapLemmas.{leaves_swapped}
@@ -54,8 +54,8 @@ returns-clause-running g c =
     let rotates = c.install_rotation.ensures.rotates in
     record {
       in_order = c.install_rotation.ensures.runs;
-      pass = subst (λ (o : Option SnowState). PassRuns after.sizes new.is_honest new.bytes after.space o) (sym (rotates.pass ∙ c.requires.rests.0)) tt;
-      deep = subst (λ (s : Sizes). DeepRuns s new.is_honest new.bytes after.space after.deep) (sym rotates.sizes) (c.install_rotation.ensures.goes_on new.is_honest new.bytes);
+      pass = subst (λ (o : Option SnowState). PassRuns after.sizes new.is_honest new.bytes after.space (guide_at after.guides after.tags.pass) o) (sym (rotates.pass ∙ c.requires.rests.0)) tt;
+      deep = subst (λ (s : Sizes). DeepRuns s new.is_honest new.bytes after.space (guide_at after.guides after.tags.deep) after.deep) (sym rotates.sizes) (c.install_rotation.ensures.goes_on new.is_honest new.bytes);
     }
 
 pub returns-clause-lists : goal.returns-clause-lists
@@ -74,6 +74,6 @@ returns-clause-lists g c = λ tree a honest over.
       record { c1 = refl; c1x = refl; c2 = refl; lane_a = refl; lane_b = refl },
       leaves_swapped now after tree next_tree first becomes (λ well. record {
         stands = subst (λ (s : Sizes). StandsOn s next_tree new) (sym c.install_rotation.ensures.rotates.sizes) stands;
-        are_of = c.install_rotation.ensures.lists tree a new.bytes stands.reads over.are_of.c1 over.are_of.c2;
+        are_of = c.install_rotation.ensures.lists tree a new.bytes stands.reads over.are_of.c1 over.are_of.c2 over.are_of.guided.c1 over.are_of.guided.c2;
       }),
     )

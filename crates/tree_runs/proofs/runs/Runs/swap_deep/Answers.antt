@@ -8,8 +8,8 @@ use Rattle.blsm_model.specs.Geometry.{file_length}
 use Rattle.deep_merge.specs.Merge.{DeepState}
 use Rattle.tree_file.specs.Tree.{HoldsTree}
 use Rattle.tree_file.specs.Places.{with_components, StandsOn}
-use Rattle.tree_runs.specs.Runs.{RunsState, PassRuns, DeepRuns}
-use Rattle.tree_runs.specs.Holding.{AreTagged, IsPassOver, with_deep_run}
+use Rattle.tree_runs.specs.Runs.{RunsState, PassRuns, DeepRuns, guide_at}
+use Rattle.tree_runs.specs.Holding.{AreTagged, IsGuidedBy, IsPassOver, with_deep_run}
 use Rattle.tree_runs.specs.Holding.{commit_region}
 use Rattle.tree_runs.proofs.PinLemmas.{run_beside, swap_beside}
 use Rattle.tree_runs.proofs.KeptMerges.{pass_runs_still, pass_over_still}
@@ -85,13 +85,13 @@ returns-clause-running g c =
     (subst (λ (s : RunsState). Affects (commit_region s.sizes s.catalogue) (file_length s.sizes) 8 mid new) (c.self.view_is ∙ c.finish_deep.ensures.same) c.commit_next.ensures.effect) in
     let still : new.is_honest ≡ old.is_honest = effect.goes_on.is_honest in
     let keeps = swap_keeps new.is_honest now now.tags.deep now.tags.pass (λ told. subst IsTrue still told) are c.requires.roles (λ is. are.tags.pass_deep (sym is)) effect in
-    let was = subst (λ (h : Bool). PassRuns now.sizes h old.bytes now.space now.pass) (sym still) c.requires.running.pass in
-    let here = pass_runs_still c.where_a_run_writes.ensures.pushed now.tags.pass now.pass keeps are.pass_tag was in
-    let there = c.install_deep.ensures.goes_on new.is_honest new.bytes (subst (λ (s : RunsState). PassRuns s.sizes new.is_honest new.bytes s.space s.pass) (sym c.finish_deep.ensures.same) here) in
+    let was = subst (λ (h : Bool). PassRuns now.sizes h old.bytes now.space (guide_at now.guides now.tags.pass) now.pass) (sym still) c.requires.running.pass in
+    let here = pass_runs_still c.where_a_run_writes.ensures.pushed now.tags.pass (guide_at now.guides now.tags.pass) now.pass keeps are.pass_tag was in
+    let there = c.install_deep.ensures.goes_on new.is_honest new.bytes (subst (λ (s : RunsState). PassRuns s.sizes new.is_honest new.bytes s.space (guide_at s.guides s.tags.pass) s.pass) (sym c.finish_deep.ensures.same) here) in
     record {
       in_order = c.install_deep.ensures.runs;
-      pass = subst (λ (s : Sizes). PassRuns s new.is_honest new.bytes after.space after.pass) (sym swaps.sizes) there;
-      deep = subst (λ (o : Option DeepState). DeepRuns after.sizes new.is_honest new.bytes after.space o) (sym swaps.deep) tt;
+      pass = subst (λ (s : Sizes). PassRuns s new.is_honest new.bytes after.space (guide_at after.guides after.tags.pass) after.pass) (sym swaps.sizes) there;
+      deep = subst (λ (o : Option DeepState). DeepRuns after.sizes new.is_honest new.bytes after.space (guide_at after.guides after.tags.deep) o) (sym swaps.deep) tt;
     }
 
 pub returns-clause-lists : goal.returns-clause-lists
@@ -113,15 +113,16 @@ returns-clause-lists g c = λ tree a honest over.
     let stands = both.1.stands (ap is_ok c.in_ok-commit_next.was) in
     let effect = swap_effect now now.tags.deep (g.met.D.Disk.timed c.finish_deep.new.disk) c.in_ok-made.ensures.writes.stands c.finish_deep.ensures.writes.effect
     (subst (λ (s : RunsState). Affects (commit_region s.sizes s.catalogue) (file_length s.sizes) 8 mid new) same c.commit_next.ensures.effect) in
-    let pass = pass_over_still c.where_a_run_writes.ensures.pushed c.what_is_ahead.ensures now.pass a tree.c1
+    let pass = pass_over_still c.where_a_run_writes.ensures.pushed c.what_is_ahead.ensures (guide_at now.guides now.tags.pass) now.pass a tree.c1
     (swap_keeps true now now.tags.deep now.tags.pass (λ told. honest) are c.requires.roles (λ is. are.tags.pass_deep (sym is)) effect)
     (swap_pages now now.tags.deep now.tags.c1 are c.requires.roles (λ is. are.tags.c1_deep (sym is))) are.pass_tag over.are_of.c1 over.are_of.pass in
-    let found = subst (λ (s : RunsState). HoldsTree s.sizes next_tree new.bytes × AreTagged s.space s.tags.c1 tree.c1 × AreTagged s.space s.tags.deep list.0.pages × IsPassOver s.sizes new.bytes s.space s.pass a tree.c1)
-    (sym c.finish_deep.ensures.same) (stands.reads, over.are_of.c1, list.1, pass) in (
+    let found = subst (λ (s : RunsState). HoldsTree s.sizes next_tree new.bytes × AreTagged s.space s.tags.c1 tree.c1 × AreTagged s.space s.tags.deep list.0.pages
+    × IsGuidedBy (guide_at s.guides s.tags.c1) tree.c1 × IsGuidedBy (guide_at s.guides s.tags.deep) list.0.pages × IsPassOver s.sizes new.bytes s.space (guide_at s.guides s.tags.pass) s.pass a tree.c1)
+    (sym c.finish_deep.ensures.same) (stands.reads, over.are_of.c1, list.1, over.are_of.guided.c1, λ some. list.2, pass) in (
       next_tree,
       deep_swapped tree next list.0,
       leaves_swapped now after tree next_tree both.0 both.1 (λ well. record {
         stands = subst (λ (s : Sizes). StandsOn s next_tree new) (sym (c.install_deep.ensures.swaps.sizes ∙ ap (λ (s : RunsState). s.sizes) c.finish_deep.ensures.same)) stands;
-        are_of = c.install_deep.ensures.lists tree list.0.pages a new.bytes found.0 found.1 found.2 found.3;
+        are_of = c.install_deep.ensures.lists tree list.0.pages a new.bytes found.0 found.1 found.2 found.3 found.4 found.5;
       }),
     )

@@ -12,8 +12,8 @@ use Rattle.page_file.specs.Component.{entries_of}
 use Rattle.snow_merge.specs.Pass.{SnowState}
 use Rattle.tree_file.specs.Tree.{HoldsTree}
 use Rattle.tree_file.specs.Places.{with_pass, StandsOn}
-use Rattle.tree_runs.specs.Runs.{RunsState, PassRuns, DeepRuns, made_by_pass}
-use Rattle.tree_runs.specs.Holding.{AreTagged, IsDeepOver, IsPassSwapped, with_pass_run, is_full}
+use Rattle.tree_runs.specs.Runs.{RunsState, PassRuns, DeepRuns, guide_at, made_by_pass}
+use Rattle.tree_runs.specs.Holding.{AreTagged, IsDeepOver, IsGuidedBy, IsPassSwapped, with_pass_run, is_full}
 use Rattle.tree_runs.specs.Holding.{commit_region}
 use Rattle.tree_runs.proofs.PinLemmas.{run_beside, swap_beside}
 use Rattle.tree_runs.proofs.KeptMerges.{deep_runs_still, deep_over_still}
@@ -98,8 +98,8 @@ returns-then-rotates-clause-running g c =
     let swaps = c.install_rotated_pass.ensures.swaps in
     record {
       in_order = c.install_rotated_pass.ensures.runs;
-      pass = subst (λ (o : Option SnowState). PassRuns after.sizes new.is_honest new.bytes after.space o) (sym swaps.pass) tt;
-      deep = subst (λ (s : Sizes). DeepRuns s new.is_honest new.bytes after.space after.deep) (sym swaps.sizes) (c.install_rotated_pass.ensures.goes_on new.is_honest new.bytes);
+      pass = subst (λ (o : Option SnowState). PassRuns after.sizes new.is_honest new.bytes after.space (guide_at after.guides after.tags.pass) o) (sym swaps.pass) tt;
+      deep = subst (λ (s : Sizes). DeepRuns s new.is_honest new.bytes after.space (guide_at after.guides after.tags.deep) after.deep) (sym swaps.sizes) (c.install_rotated_pass.ensures.goes_on new.is_honest new.bytes);
     }
 
 pub returns-then-rotates-clause-lists : goal.returns-then-rotates-clause-lists
@@ -123,13 +123,14 @@ returns-then-rotates-clause-lists g c = λ tree honest over.
     let both = pass_becomes now tree made next true full finished c.in_ok-made.ensures.component list.0 list.1 next_is switches in
     let next_tree = with_pass next [] list.0.pages tree.c2 tree in
     let stands = both.1.stands (ap is_ok c.in_ok-commit_next.was) in
-    let found = subst (λ (s : RunsState). HoldsTree s.sizes next_tree new.bytes × AreTagged s.space s.tags.c2 tree.c2 × AreTagged s.space s.tags.pass list.0.pages)
-    (sym c.finish_pass.ensures.same) (stands.reads, over.are_of.c2, list.1) in (
+    let found = subst (λ (s : RunsState). HoldsTree s.sizes next_tree new.bytes × AreTagged s.space s.tags.c2 tree.c2 × AreTagged s.space s.tags.pass list.0.pages
+    × IsGuidedBy (guide_at s.guides s.tags.c2) tree.c2 × IsGuidedBy (guide_at s.guides s.tags.pass) list.0.pages)
+    (sym c.finish_pass.ensures.same) (stands.reads, over.are_of.c2, list.1, over.are_of.guided.c2, λ some. list.2) in (
       next_tree,
       subst (λ (b : Bool). IsPassSwapped b a tree next_tree) (sym full_now) (pass_swapped true a tree next list.0.pages list.0.entries_are),
       λ table. leaves_swapped now after tree next_tree both.0 both.1 (λ well. record {
         stands = subst (λ (s : Sizes). StandsOn s next_tree new) (sym (c.install_rotated_pass.ensures.swaps.sizes ∙ ap (λ (s : RunsState). s.sizes) c.finish_pass.ensures.same)) stands;
-        are_of = c.install_rotated_pass.ensures.lists tree list.0.pages table new.bytes found.0 found.1 found.2;
+        are_of = c.install_rotated_pass.ensures.lists tree list.0.pages table new.bytes found.0 found.1 found.2 found.3 found.4;
       }),
     )
 
@@ -157,13 +158,13 @@ returns-else-rotates-clause-running g c =
     (subst (λ (s : RunsState). Affects (commit_region s.sizes s.catalogue) (file_length s.sizes) 8 mid new) (c.self.view_is ∙ c.finish_pass.ensures.same) c.commit_next.ensures.effect) in
     let still : new.is_honest ≡ old.is_honest = effect.goes_on.is_honest in
     let keeps = swap_keeps new.is_honest now now.tags.pass now.tags.deep (λ told. subst IsTrue still told) are c.requires.roles are.tags.pass_deep effect in
-    let was = subst (λ (h : Bool). DeepRuns now.sizes h old.bytes now.space now.deep) (sym still) c.requires.running.deep in
-    let here = deep_runs_still c.where_a_run_writes.ensures.pushed now.tags.deep now.deep keeps are.deep_tag was in
-    let there = c.install_pass.ensures.goes_on new.is_honest new.bytes (subst (λ (s : RunsState). DeepRuns s.sizes new.is_honest new.bytes s.space s.deep) (sym c.finish_pass.ensures.same) here) in
+    let was = subst (λ (h : Bool). DeepRuns now.sizes h old.bytes now.space (guide_at now.guides now.tags.deep) now.deep) (sym still) c.requires.running.deep in
+    let here = deep_runs_still c.where_a_run_writes.ensures.pushed now.tags.deep (guide_at now.guides now.tags.deep) now.deep keeps are.deep_tag was in
+    let there = c.install_pass.ensures.goes_on new.is_honest new.bytes (subst (λ (s : RunsState). DeepRuns s.sizes new.is_honest new.bytes s.space (guide_at s.guides s.tags.deep) s.deep) (sym c.finish_pass.ensures.same) here) in
     record {
       in_order = c.install_pass.ensures.runs;
-      pass = subst (λ (o : Option SnowState). PassRuns after.sizes new.is_honest new.bytes after.space o) (sym swaps.pass) tt;
-      deep = subst (λ (s : Sizes). DeepRuns s new.is_honest new.bytes after.space after.deep) (sym swaps.sizes) there;
+      pass = subst (λ (o : Option SnowState). PassRuns after.sizes new.is_honest new.bytes after.space (guide_at after.guides after.tags.pass) o) (sym swaps.pass) tt;
+      deep = subst (λ (s : Sizes). DeepRuns s new.is_honest new.bytes after.space (guide_at after.guides after.tags.deep) after.deep) (sym swaps.sizes) there;
     }
 
 pub returns-else-rotates-clause-lists : goal.returns-else-rotates-clause-lists
@@ -190,17 +191,18 @@ returns-else-rotates-clause-lists g c = λ tree honest over.
     let stands = both.1.stands (ap is_ok c.in_ok-commit_next.was) in
     let effect = swap_effect now now.tags.pass (g.met.D.Disk.timed c.finish_pass.new.disk) c.in_ok-made.ensures.writes.stands c.finish_pass.ensures.writes.effect
     (subst (λ (s : RunsState). Affects (commit_region s.sizes s.catalogue) (file_length s.sizes) 8 mid new) same c.commit_next.ensures.effect) in
-    let deep = deep_over_still c.where_a_run_writes.ensures.pushed c.what_is_ahead.ensures now.deep tree.c1x tree.c2
+    let deep = deep_over_still c.where_a_run_writes.ensures.pushed c.what_is_ahead.ensures (guide_at now.guides now.tags.deep) now.deep tree.c1x tree.c2
     (swap_keeps true now now.tags.pass now.tags.deep (λ told. honest) are c.requires.roles are.tags.pass_deep effect)
     (swap_pages now now.tags.pass now.tags.c1x are c.requires.roles (λ is. are.tags.c1x_pass (sym is)))
     (swap_pages now now.tags.pass now.tags.c2 are c.requires.roles (λ is. are.tags.c2_pass (sym is))) are.deep_tag over.are_of.c1x over.are_of.c2 over.are_of.deep in
     let found = subst (λ (s : RunsState). HoldsTree s.sizes next_tree new.bytes × AreTagged s.space s.tags.c1x tree.c1x × AreTagged s.space s.tags.c2 tree.c2 × AreTagged s.space s.tags.pass list.0.pages
-    × IsDeepOver s.sizes new.bytes s.space s.deep tree.c1x tree.c2)
-    (sym c.finish_pass.ensures.same) (stands.reads, over.are_of.c1x, over.are_of.c2, list.1, deep) in (
+    × IsGuidedBy (guide_at s.guides s.tags.pass) list.0.pages × IsGuidedBy (guide_at s.guides s.tags.c1x) tree.c1x × IsGuidedBy (guide_at s.guides s.tags.c2) tree.c2
+    × IsDeepOver s.sizes new.bytes s.space (guide_at s.guides s.tags.deep) s.deep tree.c1x tree.c2)
+    (sym c.finish_pass.ensures.same) (stands.reads, over.are_of.c1x, over.are_of.c2, list.1, λ some. list.2, over.are_of.guided.c1x, over.are_of.guided.c2, deep) in (
       next_tree,
       subst (λ (b : Bool). IsPassSwapped b a tree next_tree) (sym light_now) (pass_swapped false a tree next list.0.pages list.0.entries_are),
       λ table. leaves_swapped now after tree next_tree both.0 both.1 (λ well. record {
         stands = subst (λ (s : Sizes). StandsOn s next_tree new) (sym (c.install_pass.ensures.swaps.sizes ∙ ap (λ (s : RunsState). s.sizes) c.finish_pass.ensures.same)) stands;
-        are_of = c.install_pass.ensures.lists tree list.0.pages table new.bytes found.0 found.1 found.2 found.3 found.4;
+        are_of = c.install_pass.ensures.lists tree list.0.pages table new.bytes found.0 found.1 found.2 found.3 found.4 found.5 found.6 found.7;
       }),
     )

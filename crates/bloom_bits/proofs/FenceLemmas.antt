@@ -1,0 +1,115 @@
+-- Where a key is among fences.
+use Rattle.std.proofs.Common.{◌≡◌, ◌≢◌, ◌↔◌, ℕ, ◌+◌, ◌<◌, ◌≤◌, true, false, List, [], ◌∷◌, ◌++◌, length, take, drop, get_or, refl, ap, sym, subst, ◌∙◌, inl, inr, length-append, length-drop, arith}
+use Rattle.std.specs.List.{AllPairs}
+use Rattle.std.specs.List.Sorted.{IsPartitionedBy, IsPartitionPoint}
+use Rattle.std.specs.Ordering.{is_le, is_lt, ordering_reverse}
+use Rattle.std.specs.declared.cmp.Ordering.{Ordering}
+use Rattle.std.specs.declared.cmp.Ordering.TheVariants.{Less, Equal, Greater}
+use Rattle.std.proofs.lemmas.Bool.{true≢false, cases_lt}
+use Rattle.std.proofs.lemmas.Cmp.{nat_list_cmp_total, alike_right}
+use Rattle.std.proofs.lemmas.List.{take-append-drop, drop_more, get_or-drop, get_or_default}
+use Rattle.std.proofs.lemmas.List.Quantifiers.{all_pairs_push}
+use Rattle.blsm_model.specs.declared.key.Key.{Key}
+use Rattle.blsm_model.specs.Keys.{key_cmp}
+use Rattle.bloom_bits.specs.Fences.{IsAboveAll, IsBelowAll, IsPlaceOf, AreFences}
+
+-- ---- the order of keys
+
+above_if_not_le : (o : Ordering) → is_le o ≡ false → ordering_reverse o ≡ Less
+above_if_not_le Less test = absurd (true≢false test)
+above_if_not_le Equal test = absurd (true≢false test)
+above_if_not_le Greater test = refl
+
+-- the test of a key that isn't below a first key, and of one that is
+below : (first key : Key) → is_le (key_cmp first key) ≡ false → key_cmp key first ≡ Less
+below first key test = nat_list_cmp_total.antisymm key first ∙ above_if_not_le (key_cmp first key) test
+
+not_below : (first key : Key) → is_le (key_cmp first key) ≡ true → key_cmp key first ≢ Less
+not_below first key test less = true≢false (sym test ∙ ap is_le (nat_list_cmp_total.antisymm first key ∙ ap ordering_reverse less))
+
+-- a key that isn't below one isn't below a lesser one
+le_before : (a b key : Key) → key_cmp a b ≡ Less → is_le (key_cmp b key) ≡ true → is_le (key_cmp a key) ≡ true
+le_before a b key less test =
+    elim (key_cmp b key) as (λ o. key_cmp b key ≡ o → is_le o ≡ true → is_le (key_cmp a key) ≡ true) [
+      | Less ↦ λ is test. ap is_le (nat_list_cmp_total.trans a b key less is)
+      | Equal ↦ λ is test. ap is_le (sym (alike_right nat_list_cmp_total b key a is) ∙ less)
+      | Greater ↦ λ is test. absurd (true≢false (sym test))
+    ] refl test
+
+-- ---- a place
+
+pub partitioned : (fences : List (Key × ℕ)) (key : Key) → AllPairs (λ f g. key_cmp f.0 g.0 ≡ Less) fences → IsPartitionedBy (λ f. is_le (key_cmp f.0 key)) fences
+partitioned fences key rise i j d before within test =
+    elim (cases_lt i j) [
+      | inl lt ↦ le_before (get_or fences i d).0 (get_or fences j d).0 key (rise i j d lt within) test
+      | inr ge ↦ let same : j ≡ i = omega arith in subst (λ k. is_le (key_cmp (get_or fences k d).0 key) ≡ true) same test
+    ]
+
+-- so many fences aren't above the key, and those behind them are
+abbrev pub IsSplit : List (Key × ℕ) → Key → ℕ → Type 0
+IsSplit fences key n = IsPartitionPoint (λ (f : Key × ℕ). is_le (key_cmp f.0 key) ≡ true) (λ (f : Key × ℕ). is_le (key_cmp f.0 key) ≡ false) fences n
+
+-- the last of them is the key's place
+pub place_at : (fences : List (Key × ℕ)) (key : Key) (at : ℕ) (d : Key × ℕ) → IsSplit fences key (at + 1) → at < length fences → IsPlaceOf key (get_or fences at d).1 fences
+place_at fences key at d split within =
+    record {
+      before = take at fences;
+      first = (get_or fences at d).0;
+      behind = drop (at + 1) fences;
+      parts = sym (take-append-drop at fences) ∙ ap (λ l. take at fences ++ l) (drop_more fences at d within);
+      not_below = not_below (get_or fences at d).0 key (split.0 at d (omega arith) (omega arith));
+      below_others = λ k e inside.
+          let is : get_or (drop (at + 1) fences) k e ≡ get_or fences ((at + 1) + k) e = get_or-drop (at + 1) fences k e in
+          let far : (at + 1) + k < length fences = behind_within fences (at + 1) k inside in
+          ap (λ (f : Key × ℕ). key_cmp key f.0) is ∙ below (get_or fences ((at + 1) + k) e).0 key (split.1 ((at + 1) + k) e (omega arith) far);
+    }
+  where
+    behind_within : (l : List (Key × ℕ)) (n k : ℕ) → k < length (drop n l) → n + k < length l
+    behind_within l n k inside = omega (arith, length-drop n l)
+
+-- where none isn't above the key, it is below them all
+pub none_before : (fences : List (Key × ℕ)) (key : Key) → IsSplit fences key 0 → IsBelowAll key fences
+none_before fences key split = λ k d within. below (get_or fences k d).0 key (split.1 k d (omega arith) within)
+
+-- and where one isn't, it is not
+pub some_before : (fences : List (Key × ℕ)) (key : Key) (at : ℕ) → IsSplit fences key (at + 1) → at < length fences → IsBelowAll key fences → ⊥
+some_before [] key at split within below_all = absurd (omega arith)
+some_before (f ∷ fences) key at split within below_all = not_below f.0 key (split.0 0 f (omega arith) (omega arith)) (below_all 0 f (omega arith))
+
+-- ---- one fence more
+
+pub fences_pushed : (fences : List (Key × ℕ)) (reserved places after : ℕ) (key : Key) (page : ℕ) → AreFences fences reserved places → length fences < reserved → IsAboveAll key fences → after ≡ places → AreFences (fences ++ (key, page) ∷ []) reserved after
+fences_pushed fences reserved places after key page are room above same =
+    record {
+      rise = all_pairs_push (λ f g. key_cmp f.0 g.0 ≡ Less) fences (key, page) are.rise above;
+      fits = omega (arith, length-append fences ((key, page) ∷ []));
+      room = omega (arith, are.room);
+    }
+
+pub no_fences : (reserved places : ℕ) → reserved ≤ places → AreFences [] reserved places
+no_fences reserved places room = record { rise = λ i j d before within. absurd (omega arith); fits = omega arith; room = room }
+
+-- ---- whether a fence may be pushed
+
+less_is : (o : Ordering) → is_lt o ≡ true → o ≡ Less
+less_is Less test = refl
+less_is Equal test = absurd (true≢false (sym test))
+less_is Greater test = absurd (true≢false (sym test))
+
+-- the key is above all fences just where it is above the last
+pub above_last : (fences : List (Key × ℕ)) (key : Key) (n : ℕ) (last : Key × ℕ) → AllPairs (λ f g. key_cmp f.0 g.0 ≡ Less) fences → n + 1 ≡ length fences → last ≡ get_or fences n last
+    → (is_lt (key_cmp last.0 key) ≡ true) ↔ IsAboveAll key fences
+above_last fences key n last rise long is = (to, λ above. ap (λ (f : Key × ℕ). is_lt (key_cmp f.0 key)) is ∙ ap is_lt (above n last (omega (arith, long))))
+  where
+    to : is_lt (key_cmp last.0 key) ≡ true → IsAboveAll key fences
+    to test k d within =
+        elim (cases_lt k n) [
+          | inl before ↦
+              let lesser : key_cmp (get_or fences k d).0 last.0 ≡ Less =
+              subst (λ (f : Key × ℕ). key_cmp (get_or fences k d).0 f.0 ≡ Less) (get_or_default fences n d last (omega (arith, long)) ∙ sym is) (rise k n d before (omega (arith, long))) in
+              nat_list_cmp_total.trans (get_or fences k d).0 last.0 key lesser (less_is (key_cmp last.0 key) test)
+          | inr behind ↦
+              let same : n ≡ k = omega (arith, long, within) in
+              subst (λ i. key_cmp (get_or fences i d).0 key ≡ Less) same
+              (subst (λ (f : Key × ℕ). key_cmp f.0 key ≡ Less) (sym (get_or_default fences n d last (omega (arith, long)) ∙ sym is)) (less_is (key_cmp last.0 key) test))
+        ]

@@ -1,0 +1,121 @@
+-- Which bits are set once keys are added, and what they tell of a key.
+use Rattle.std.proofs.Common.{◌≡◌, ◌↔◌, ◌⊎◌, ℕ, ◌+◌, ◌<◌, ◌≤◌, Bool, true, false, List, [], ◌∷◌, ◌++◌, length, take, get_or, replicate, refl, ap, sym, subst, ◌∙◌, inl, inr, arith}
+use Rattle.std.specs.List.{Contains}
+use Rattle.std.proofs.lemmas.Bool.{cases_eq, cases_lt, false≢true}
+use Rattle.std.proofs.lemmas.List.{length-replicate, get_or-replicate, get_or_past, get_or-set_same, get_or-set_other, take_more, take_all, length-set}
+use Rattle.std.proofs.lemmas.List.Elements.{Contains-push, Contains-push_cases, Contains-append_left}
+use Rattle.blsm_model.specs.declared.key.Key.{Key}
+use Rattle.bloom_bits.specs.BitSet.{BitState, IsSet, with_bit, cleared}
+use Rattle.bloom_bits.specs.Filter.{bit_positions, IsOfOne, HasKeys, AreCovered}
+
+-- ---- one bit more, and several
+
+bit_more : (bits : List Bool) (p place : ℕ) → p < length bits → IsSet (with_bit bits p) place ↔ (IsSet bits place ⊎ (p ≡ place))
+bit_more bits p place within = (to, from)
+  where
+    to : IsSet (with_bit bits p) place → IsSet bits place ⊎ (p ≡ place)
+    to is_set =
+        elim (cases_eq place p) [
+          | inl same ↦ inr (sym same)
+          | inr differs ↦ inl (sym (get_or-set_other bits p place true false differs) ∙ is_set)
+        ]
+
+    from : IsSet bits place ⊎ (p ≡ place) → IsSet (with_bit bits p) place
+    from (inr same) = subst (λ q. IsSet (with_bit bits p) q) same (get_or-set_same bits p true false within)
+    from (inl was) =
+        elim (cases_eq place p) [
+          | inl same ↦ subst (λ q. IsSet (with_bit bits p) q) (sym same) (get_or-set_same bits p true false within)
+          | inr differs ↦ get_or-set_other bits p place true false differs ∙ was
+        ]
+
+-- these bits have the places of a list beside those that they had
+pub record AreWith (old new : List Bool) (places : List ℕ) : Type 0 where
+  pub long : length new ≡ length old
+  pub set_are : (place : ℕ) → IsSet new place ↔ (IsSet old place ⊎ Contains places place)
+
+pub with_none : (bits : List Bool) → AreWith bits bits []
+with_none bits = record { long = refl; set_are = λ place. (λ is_set. inl is_set, λ either. elim either [ inl was ↦ was | inr its ↦ absurd (omega (arith, its.1)) ]) }
+
+pub with_more : (old new after : List Bool) (places : List ℕ) (n d : ℕ) → AreWith old new (take n places) → n < length places → get_or places n d < length new
+    → after ≡ with_bit new (get_or places n d) → AreWith old after (take (n + 1) places)
+with_more old new after places n d before in_list within after_is =
+    record { long = ap length after_is ∙ length-set new (get_or places n d) true ∙ before.long; set_are = λ place. (to place, from place) }
+  where
+    p : ℕ
+    p = get_or places n d
+
+    more_has : (place : ℕ) → Contains (take n places) place → Contains (take (n + 1) places) place
+    more_has place has = subst (λ (l : List ℕ). Contains l place) (sym (take_more places n d in_list)) (Contains-append_left (take n places) (p ∷ []) place has)
+
+    last_has : (place : ℕ) → p ≡ place → Contains (take (n + 1) places) place
+    last_has place same = subst (λ q. Contains (take (n + 1) places) q) same (subst (λ (l : List ℕ). Contains l p) (sym (take_more places n d in_list)) (Contains-push (take n places) p))
+
+    back : (place : ℕ) → IsSet new place ⊎ (p ≡ place) → IsSet after place
+    back place either = subst (λ (b : List Bool). IsSet b place) (sym after_is) ((bit_more new p place within).1 either)
+
+    to : (place : ℕ) → IsSet after place → IsSet old place ⊎ Contains (take (n + 1) places) place
+    to place is_set =
+        elim ((bit_more new p place within).0 (subst (λ (b : List Bool). IsSet b place) after_is is_set)) [
+          | inl was ↦ elim ((before.set_are place).0 was) [ inl first ↦ inl first | inr has ↦ inr (more_has place has) ]
+          | inr same ↦ inr (last_has place same)
+        ]
+
+    from : (place : ℕ) → IsSet old place ⊎ Contains (take (n + 1) places) place → IsSet after place
+    from place (inl first) = back place (inl ((before.set_are place).1 (inl first)))
+    from place (inr has) =
+        elim (Contains-push_cases (take n places) p place (subst (λ (l : List ℕ). Contains l place) (take_more places n d in_list) has)) [
+          | inl earlier ↦ back place (inl ((before.set_are place).1 (inr earlier)))
+          | inr same ↦ back place (inr same)
+        ]
+
+pub with_all : (old new : List Bool) (places want : List ℕ) (n : ℕ) → AreWith old new (take n places) → length places ≤ n → places ≡ want → AreWith old new want
+with_all old new places want n are all same = subst (AreWith old new) (take_all n places all ∙ same) are
+
+-- ---- the keys of a filter
+
+none_set : (n place : ℕ) → IsSet (replicate n false) place → ⊥
+none_set n place is_set =
+    elim (cases_lt place n) [
+      | inl below ↦ false≢true (sym (get_or-replicate n place false false below) ∙ is_set)
+      | inr past ↦ false≢true (sym (get_or_past (replicate n false) place false (omega (arith, length-replicate {A = Bool} n false))) ∙ is_set)
+    ]
+
+-- no bit is set, so there is no key
+pub no_keys : (filter : BitState) (reserved n : ℕ) → filter ≡ cleared reserved n → HasKeys filter []
+no_keys filter reserved n is = subst (λ (f : BitState). HasKeys f []) (sym is) (record { just = λ place. (λ is_set. absurd (none_set n place is_set), λ one. absurd (none_of one.0 one.1)) })
+  where
+    none_of : (key : Key) → Contains {X = Key} [] key → ⊥
+    none_of key has = omega (arith, has.1)
+
+pub keys_more : (old new : BitState) (keys : List Key) (key : Key) → AreWith old.bits new.bits (bit_positions (length old.bits) key) → HasKeys old keys → HasKeys new (keys ++ key ∷ [])
+keys_more old new keys key more has = record { just = λ place. (to place, from place) }
+  where
+    now : (k : Key) (place : ℕ) → Contains (bit_positions (length old.bits) k) place → Contains (bit_positions (length new.bits) k) place
+    now k place = subst (λ n. Contains (bit_positions n k) place) (sym more.long)
+
+    before : (k : Key) (place : ℕ) → Contains (bit_positions (length new.bits) k) place → Contains (bit_positions (length old.bits) k) place
+    before k place = subst (λ n. Contains (bit_positions n k) place) more.long
+
+    to : (place : ℕ) → IsSet new.bits place → IsOfOne (length new.bits) (keys ++ key ∷ []) place
+    to place is_set =
+        elim ((more.set_are place).0 is_set) [
+          | inl was ↦ let one = (has.just place).0 was in (one.0, Contains-append_left keys (key ∷ []) one.0 one.1, now one.0 place one.2)
+          | inr its ↦ (key, Contains-push keys key, now key place its)
+        ]
+
+    from : (place : ℕ) → IsOfOne (length new.bits) (keys ++ key ∷ []) place → IsSet new.bits place
+    from place one =
+        elim (Contains-push_cases keys key one.0 one.1) [
+          | inl earlier ↦ (more.set_are place).1 (inl ((has.just place).1 (one.0, earlier, before one.0 place one.2)))
+          | inr same ↦ (more.set_are place).1 (inr (subst (λ k. Contains (bit_positions (length old.bits) k) place) (sym same) (before one.0 place one.2)))
+        ]
+
+-- all places of the key are set
+abbrev pub AreSet : BitState → Key → Type 0
+AreSet filter key = (place : ℕ) → Contains (bit_positions (length filter.bits) key) place → IsSet filter.bits place
+
+pub covered : (filter : BitState) (keys : List Key) (key : Key) → HasKeys filter keys → AreSet filter key ↔ AreCovered (length filter.bits) keys key
+covered filter keys key has = (λ are_set place its. (has.just place).0 (are_set place its), λ are place its. (has.just place).1 (are place its))
+
+pub added_are : (filter : BitState) (keys : List Key) (key : Key) → HasKeys filter keys → Contains keys key → AreSet filter key
+added_are filter keys key has added = λ place its. (has.just place).1 (key, added, its)

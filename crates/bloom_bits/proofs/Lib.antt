@@ -1,0 +1,4 @@
+pub mod BitSetLemmas
+pub mod FilterLemmas
+pub mod FenceLemmas
+pub mod Examples

@@ -1,0 +1,33 @@
+-- What the filter and the fences of a sorted run say of its pages.
+use Rattle.std.specs.Prelude.{◌≡◌, ℕ, List, [], ◌∷◌, ◌++◌, length}
+use Rattle.blsm_model.specs.declared.key.Key.{Key}
+use Rattle.record_delta.specs.Entries.{Entries}
+use Rattle.page_file.specs.Entry.{keys_of}
+use Rattle.page_file.specs.Component.{RunPage, entries_of}
+use Rattle.bloom_bits.specs.BitSet.{BitState}
+use Rattle.bloom_bits.specs.Filter.{HasKeys}
+use Rattle.bloom_bits.specs.Fences.{FencesState}
+
+-- a page's first key, with its number; a page has an entry at least
+abbrev pub fence_of : ℕ → Entries → List (Key × ℕ)
+fence_of number [] = []
+fence_of number (e ∷ es) = (e.0, number) ∷ []
+
+abbrev pub fences_of : List RunPage → List (Key × ℕ)
+fences_of [] = []
+fences_of (p ∷ ps) = fence_of p.number p.entries ++ fences_of ps
+
+-- The filter has the keys of all the pages' entries, and no others; the fences are those of the pages.
+pub record Guide (filter : BitState) (fences : FencesState) (pages : List RunPage) : Type 0 where
+  pub keys : HasKeys filter (keys_of (entries_of pages))
+  pub fences_are : fences.list ≡ fences_of pages
+
+-- both may have as many bits and fences as before, and the filter has so many bits
+pub record KeepSized (size : ℕ) (filter filter_after : BitState) (fences fences_after : FencesState) : Type 0 where
+  pub bits : filter_after.reserved ≡ filter.reserved
+  pub fences_are : fences_after.reserved ≡ fences.reserved
+  pub size_is : length filter_after.bits ≡ size
+
+-- it has as many as before
+abbrev pub KeepReserves : (filter filter_after : BitState) (fences fences_after : FencesState) → Type 0
+KeepReserves filter filter_after fences fences_after = KeepSized (length filter.bits) filter filter_after fences fences_after

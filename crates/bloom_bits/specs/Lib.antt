@@ -1,0 +1,5 @@
+pub mod Hash
+pub mod BitSet
+pub mod Filter
+pub mod Fences
+pub mod Guides
