@@ -5,6 +5,8 @@
 #[cfg(test)]
 mod damage;
 #[cfg(test)]
+mod depths;
+#[cfg(test)]
 mod faults;
 #[cfg(test)]
 mod lanes;

@@ -1,8 +1,8 @@
 // A store of more than a hundred pages is opened again and read whole by gets alone, whose calls of the disk are counted.
 use crate::maps::told_at;
 use crate::samples::value;
-use crate::stops::{calls_of, calls_of_opening};
-use crate::stores::{copy, geometry, made, make, open, report, work, write};
+use crate::stops::calls_of;
+use crate::stores::{geometry, made, make, open, report, work, write};
 use blsm_model::{Annals, CALLERS, Geometry, Key, Op, Text, Value};
 use disk_mem::MemDisk;
 use page_file::no_component;
@@ -58,32 +58,30 @@ fn change_first(rt: &impl Abort, alloc: Global, core: &mut Core<MemDisk>) {
 }
 
 // All keys are in C2, on more than a hundred pages, and those that were changed in a lane.
-fn check_wide(rt: &impl Abort, alloc: Global, disk: &MemDisk) {
-    let found = report(rt, alloc, &mut copy(rt, disk));
+fn check_wide(rt: &impl Abort, alloc: Global, disk: &mut MemDisk) {
+    let found = report(rt, alloc, disk);
     assert_eq!(rt; (found.c1, found.c1x), (no_component(), no_component()));
     assert_eq!(rt; found.c2.entries, KEYS as u64);
     assert!(rt; 100 < found.c2.pages, "{} pages", found.c2.pages);
     assert_eq!(rt; found.lane_a.saturating_add(found.lane_b), CHANGED as u64);
 }
 
-// The disk of the store, on which no call was answered.
+// The disk of the store, behind the calls that made it. An image of it would take long, since each sync among them copies the file.
 fn make_wide(rt: &impl Abort, alloc: Global) -> MemDisk {
     let geo = geometry(rt, Geometry::MIN_HALF, 4, 16_384, 4_096);
     let mut core = open(rt, alloc, made(rt, alloc, &geo));
     fill_c2(rt, alloc, &mut core);
     change_first(rt, alloc, &mut core);
-    let (disk, _, totals) = core.end();
+    let (mut disk, _, totals) = core.end();
     assert!(rt; totals.stopped.is_none());
-    let disk = copy(rt, &disk);
-    check_wide(rt, alloc, &disk);
+    check_wide(rt, alloc, &mut disk);
     disk
 }
 
-// Opens the store on a disk and gets all keys with this last byte. Answers what was noted, and how many calls of the disk the gets took.
-fn get_all(rt: &impl Abort, alloc: Global, disk: &MemDisk, last: u8) -> (Annals, u64) {
-    let opening = calls_of_opening(rt, alloc, disk);
-    let mut core = open(rt, alloc, copy(rt, disk));
-    for number in 0..KEYS {
+// Opens the store and gets the first keys with this last byte, so many. Answers what was noted, and how many calls its disk had in all.
+fn get_first(rt: &impl Abort, alloc: Global, keys: usize, last: u8) -> (Annals, u64) {
+    let mut core = open(rt, alloc, make_wide(rt, alloc));
+    for number in 0..keys {
         make(
             alloc,
             &mut core,
@@ -92,8 +90,15 @@ fn get_all(rt: &impl Abort, alloc: Global, disk: &MemDisk, last: u8) -> (Annals,
         );
     }
     let (disk, annals, _) = core.end();
-    assert_eq!(rt; annals.len(), KEYS);
-    (annals, calls_of(disk).saturating_sub(opening))
+    assert_eq!(rt; annals.len(), keys);
+    (annals, calls_of(disk))
+}
+
+// Gets all keys with this last byte. Answers what was noted, and how many calls of the disk the gets took.
+fn get_all(rt: &impl Abort, alloc: Global, last: u8) -> (Annals, u64) {
+    let (_, before) = get_first(rt, alloc, 0, last);
+    let (annals, calls) = get_first(rt, alloc, KEYS, last);
+    (annals, calls.saturating_sub(before))
 }
 
 // The value that a key has.
@@ -106,8 +111,7 @@ fn value_of(rt: &impl Abort, number: usize) -> Value {
 #[test]
 fn each_key_is_got_by_a_read_of_one_page_a_component(rt: HostRuntime) {
     let alloc = rt.alloc();
-    let disk = make_wide(&rt, alloc);
-    let (annals, calls) = get_all(&rt, alloc, &disk, PRESENT);
+    let (annals, calls) = get_all(&rt, alloc, PRESENT);
     for number in 0..KEYS {
         let found = told_at(&rt, &annals, number as u32);
         assert!(rt; found == Some(value_of(&rt, number)), "of key {number}");
@@ -119,8 +123,7 @@ fn each_key_is_got_by_a_read_of_one_page_a_component(rt: HostRuntime) {
 #[test]
 fn keys_between_them_are_absent_by_the_filters(rt: HostRuntime) {
     let alloc = rt.alloc();
-    let disk = make_wide(&rt, alloc);
-    let (annals, calls) = get_all(&rt, alloc, &disk, ABSENT);
+    let (annals, calls) = get_all(&rt, alloc, ABSENT);
     for number in 0..KEYS {
         assert!(rt;
             told_at(&rt, &annals, number as u32).is_none(),

@@ -10,16 +10,16 @@ use tree_core::Core;
 /// How many keys there are.
 pub const KEYS: usize = 16;
 
-// C2 gets 2, 6 and 8.
-fn fill_c2(rt: &impl Abort, alloc: Global, core: &mut Core<MemDisk>) {
+/// C2 gets 2, 6 and 8.
+pub fn fill_c2(rt: &impl Abort, alloc: Global, core: &mut Core<MemDisk>) {
     write(alloc, core, 0, put(rt, 2, 5, 0));
     write(alloc, core, 0, long(rt, 6, 1));
     write(alloc, core, 0, long(rt, 8, 2));
     work(alloc, core, 16);
 }
 
-// A pass over 1, 2, 5 and 6 is swapped in and rotated. One quantum of the deep merge takes all but 8.
-fn fill_c1x(rt: &impl Abort, alloc: Global, core: &mut Core<MemDisk>) {
+/// A pass over 1, 2, 5 and 6 is swapped in and rotated. One quantum of the deep merge takes all but 8.
+pub fn fill_c1x(rt: &impl Abort, alloc: Global, core: &mut Core<MemDisk>) {
     admit(alloc, core, 1, long(rt, 1, 10));
     admit(alloc, core, 2, add(rt, 2, 7));
     admit(alloc, core, 3, long(rt, 5, 3));

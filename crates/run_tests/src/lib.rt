@@ -7,6 +7,8 @@ mod cursors;
 #[cfg(test)]
 mod drafts;
 #[cfg(test)]
+mod filters;
+#[cfg(test)]
 mod pages;
 #[cfg(test)]
 mod samples;

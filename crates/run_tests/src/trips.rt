@@ -12,8 +12,8 @@ use run_cursor::{Cursor, find};
 use run_writer::Writer;
 use std::process::Abort;
 
-// The entry of a number: a key of four bytes, and a base whose text has 432, a delta, or a tombstone.
-fn entry(rt: &impl Abort, n: u32) -> (Key, Rec) {
+/// The entry of a number: a key of four bytes, and a base whose text has 432, a delta, or a tombstone.
+pub fn entry(rt: &impl Abort, n: u32) -> (Key, Rec) {
     let key = Key::from_bytes(&n.to_be_bytes()).expect(rt, "a key");
     let rec = match n % 8 {
         6 => Rec::Delta(u64::from(n)),
@@ -26,8 +26,8 @@ fn entry(rt: &impl Abort, n: u32) -> (Key, Rec) {
     (key, rec)
 }
 
-// Writes the entries of the first even numbers.
-fn write(
+/// Writes the entries of the first even numbers.
+pub fn write(
     rt: &impl Abort,
     disk: &mut MemDisk,
     geo: &Geometry,

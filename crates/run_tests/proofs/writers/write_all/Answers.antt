@@ -1,4 +1,4 @@
-use Rattle.std.proofs.Common.{◌≡◌, ◌∙◌, inl, inr, ◌+◌, List, [], ◌∷◌, ◌++◌, take, sym, ap, subst, arith, IsTrue, IfOk, Result, Ok, Err}
+use Rattle.std.proofs.Common.{◌≡◌, ◌∙◌, inl, inr, ℕ, ◌+◌, List, [], ◌∷◌, ◌++◌, take, sym, ap, subst, arith, IsTrue, IfOk, Result, Ok, Err}
 use Rattle.std.proofs.lemmas.Bool.{cases_Bool}
 use Rattle.std.proofs.lemmas.List.{take_more, take_all}
 use Rattle.refusal.specs.declared.Failed.{Failed}
@@ -56,11 +56,11 @@ loop-entry-preserved g c =
       pushed = subst (λ (l : List (Key × Rec)). HasPushed c.args.geo.now (g.D.Disk.state c.push.new.disk).is_honest (g.D.Disk.state c.push.new.disk).bytes c.push.new.space c.push.new.self c.push.new.filter c.push.new.fences l) (sym more) (c.in_ok-push.ensures.pushed (take i entries) rise inv.pushed);
     }
 
-told : {sizes : Sizes} {file : List ℕ} {entries : List (Key × Rec)} {filter : BitState} {fences : FencesState} (r : Result Component Failed) (A : Type 0) (Q : List RunPage → Type 0)
+told : (sizes : Sizes) (file : List ℕ) (entries : List (Key × Rec)) (filter : BitState) (fences : FencesState) (r : Result Component Failed) (A : Type 0) (Q : List RunPage → Type 0)
     → (A → IfOk r (λ c. (list : HasList sizes c entries file) × Q list.pages × Guide filter fences list.pages))
     → IfOk r (λ c. A → (list : HasList sizes c entries file) × Guide filter fences list.pages)
-told (Ok c) A Q all = λ a. ((all a).0, (all a).2)
-told (Err e) A Q all = tt
+told sizes file entries filter fences (Ok c) A Q all = λ a. ((all a).0, (all a).2)
+told sizes file entries filter fences (Err e) A Q all = tt
 
 pub returns : goal.returns
 returns g c =
@@ -69,5 +69,5 @@ returns g c =
     let whole : take c.loop-entry.entry-index c.args.entries.now ≡ c.args.entries.now = take_all c.loop-entry.entry-index c.args.entries.now c.loop-entry-test.false in
     let has = subst (λ (l : List (Key × Rec)). HasPushed c.args.geo.now disk.is_honest disk.bytes c.loop-entry.space c.loop-entry.writer c.loop-entry.filter c.loop-entry.fences l) whole inv.pushed in
     record {
-      list = told c.end.result _ _ (λ honest. c.end.ensures.list c.loop-entry.space c.loop-entry.filter c.loop-entry.fences c.args.entries.now (subst IsTrue (sym inv.goes_on.is_honest) honest) has);
+      list = told c.args.geo.now (g.D.Disk.state c.end.new.disk).bytes c.args.entries.now c.loop-entry.filter c.loop-entry.fences c.end.result _ _ (λ honest. c.end.ensures.list c.loop-entry.space c.loop-entry.filter c.loop-entry.fences c.args.entries.now (subst IsTrue (sym inv.goes_on.is_honest) honest) has);
     }
