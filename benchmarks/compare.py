@@ -1,12 +1,14 @@
 #!/usr/bin/env python3
 """Runs scripts over the program and over LevelDB, on files in one folder, and prints a table of what each took.
 
-    compare.py BLSM FOLDER [--seed 7] [--counts 5000,20000,60000] [--full 5000] [--callers 1] [--workers 0] [--runs 3]
+    compare.py BLSM FOLDER [--seed 7] [--counts 5000,20000,60000] [--full 5000] [--gets 20000] [--callers 1] [--workers 0] [--runs 3]
+               [--beside BLSM]
 
-It wants g++, strace, and LevelDB's headers and library (Debian: libleveldb-dev). The scripts are the generator's, of so many commands (--counts), and a mix
-of so many (--full) over a store that puts of new keys had filled to nine tenths of its capacity; a work merges all whenever no more writes would fit. The
-lines are dealt out among the callers in turn, and each caller of either store has a thread of its own. LevelDB runs twice: as it comes, and with a write
-buffer as large as the program's memory table.
+It wants g++, strace, and LevelDB's headers and library (Debian: libleveldb-dev). The scripts are the generator's, of so many commands (--counts), a mix of
+so many (--full) over a store that puts of new keys had filled to nine tenths of its capacity, and a get of each of so many keys (--gets) over the store of
+them; a work merges all whenever no more writes would fit. The lines are dealt out among the callers in turn, and each caller of either store has a thread
+of its own. LevelDB runs twice: as it comes, and with a write buffer as large as the program's memory table. Another build of the program may run beside
+(--beside).
 
 Each store is run once under strace, which counts the calls that sync, write or read its files (LevelDB reads its tables by calls in that run, and else by a
 map of memory), and then some times without it: user and system time are of the run that took the least of both, wall time is the least, peak memory the
@@ -106,6 +108,25 @@ def filled(seed: int, count: int) -> Script:
         present.write(command)
     places = list(itertools.islice(scattered(), len(filling)))
     return Script(f"{count:,} at nine tenths", list(mixed(drawn, places, present, count)), filling)
+
+
+def gets(count: int) -> Script:
+    """A get of each of so many keys, in an order that has nothing to do with the one in which they were put; the store is merged before."""
+    keys = [f"key{place:06}" for place in sorted(range(count), key=lambda place: (place * 40503 % 65537, place))]
+    filling = [f"put {key} {place} {'x' * 20}" for place, key in enumerate(sorted(keys))]
+    return Script(f"{count:,} gets alone", [f"get {key}" for key in keys], worked(filling))
+
+
+def worked(filling: Sequence[str]) -> list[str]:
+    """The writes, with a work before each that would not fit, and one at the end."""
+    commands, charge, present = [], 0, 0
+    for command in filling:
+        if charge + weight(command) > GEOMETRY.limit("put"):
+            commands.append(f"work {ALL_TURNS}")
+            charge = present
+        charge, present = charge + weight(command), present + weight(command)
+        commands.append(command)
+    return [*commands, f"work {ALL_TURNS}"]
 
 
 def scattered() -> Iterator[int]:
@@ -226,10 +247,12 @@ def compiled(name: str, folder: Path, libraries: Sequence[str] = ()) -> str:
     return program
 
 
-def stores_of(program: str, folder: Path, workers: int) -> list[Store]:
-    file = folder / "store.blsm"
-    words = [program, "run", "--workers", str(workers), str(file)]
-    stores: list[Store] = [Blsm("blsm", file, words, words, [program, "make", str(file)], workers)]
+def stores_of(programs: Mapping[str, str], folder: Path, workers: int) -> list[Store]:
+    stores: list[Store] = []
+    for name, program in programs.items():
+        file = folder / f"store{len(stores)}.blsm"
+        words = [program, "run", "--workers", str(workers), str(file)]
+        stores.append(Blsm(name, file, words, words, [program, "make", str(file)], workers))
     leveldb = compiled("leveldb_run", folder, ["-lleveldb", "-pthread"])
     for name, options in (("LevelDB", []), (f"LevelDB, buffer {GEOMETRY.high_mark:,}", ["--buffer", str(GEOMETRY.high_mark)])):
         path = folder / f"store{len(stores)}.leveldb"
@@ -330,7 +353,7 @@ class Row:
 
     def note(self) -> str:
         """What the program's history says beside."""
-        quanta = [int(line.rsplit(" q", 1)[1]) for line in self.text.splitlines() if " => " in line and is_write(line.split(" ", 2)[2])]
+        quanta = [0] + [int(line.rsplit(" q", 1)[1]) for line in self.text.splitlines() if " => " in line and is_write(line.split(" ", 2)[2])]
         refused = sum(" => full " in line for line in self.text.splitlines())
         return f"{sum(quanta):,} quanta of writes, {max(quanta)} at most; {refused} writes refused; {self.text.splitlines()[-1]}"
 
@@ -387,6 +410,8 @@ def asked() -> argparse.Namespace:
     words.add_argument("--seed", type=int, default=7)
     words.add_argument("--counts", default="5000,20000,60000")
     words.add_argument("--full", type=int, default=5000, help="commands over a store at nine tenths of its capacity; 0 leaves that out")
+    words.add_argument("--gets", type=int, default=20000, help="gets over a store of as many keys; 0 leaves that out")
+    words.add_argument("--beside", help="another build of the program")
     words.add_argument("--callers", type=int, default=1, choices=range(1, judge.CALLERS + 1), metavar="1..16")
     words.add_argument("--workers", type=int, default=0, choices=range(9), metavar="0..8")
     words.add_argument("--runs", type=int, default=3)
@@ -398,12 +423,16 @@ def main() -> None:
     folder = Path(words.folder).resolve()
     folder.mkdir(parents=True, exist_ok=True)
     measure = compiled("measure", folder)
-    stores = stores_of(str(Path(words.program).resolve()), folder, words.workers)
+    programs = {"blsm": str(Path(words.program).resolve())}
+    if words.beside:
+        programs["blsm, beside"] = str(Path(words.beside).resolve())
+    stores = stores_of(programs, folder, words.workers)
     version = run([str(folder / "leveldb_run"), "--version"], Path(os.devnull)).strip()
     print(f"{machine(folder)}; LevelDB {version}; seed {words.seed}, callers {words.callers}, workers {words.workers}, runs {words.runs}\n")
     print(line_of(HEAD) + "\n" + line_of(["---"] * len(HEAD)))
     scripts = [generated(words.seed, int(count)) for count in words.counts.split(",") if count]
     scripts += [filled(words.seed, words.full)] if words.full else []
+    scripts += [gets(words.gets)] if words.gets else []
     notes = []
     for script in scripts:
         try:

@@ -4,6 +4,9 @@
 """
 
 import os
+import re
+import shutil
+import subprocess
 import sys
 import tempfile
 import unittest
@@ -222,6 +225,44 @@ class Built(unittest.TestCase):
         self.path.write_bytes(bytes(100))
         with self.assertRaises(blsm.NotAStore):
             Store.open(self.path)
+
+
+@unittest.skipUnless(HAS_PROGRAM, WHY)
+@unittest.skipUnless(shutil.which("strace"), "strace isn't there")
+class Folders(unittest.TestCase):
+    """The folder that names a file is synced once the file was made, as the system is called. No clause can say it."""
+
+    def setUp(self) -> None:
+        self.room = tempfile.TemporaryDirectory()
+        self.addCleanup(self.room.cleanup)
+        self.here = Path(self.room.name).resolve()
+
+    def synced(self, path: Path) -> list[str]:
+        """The paths that a making of this file syncs, in order."""
+        calls = self.here / "calls"
+        done = subprocess.run(["strace", "-f", "-y", "-o", str(calls), "-e", "trace=fsync,fdatasync", BUILT, "make", str(path)], stdout=subprocess.DEVNULL, stderr=subprocess.PIPE, text=True)
+        if not calls.exists() or "ptrace" in done.stderr:
+            self.skipTest("calls can't be traced here")
+        self.assertEqual(done.returncode, 0, done.stderr)
+        return re.findall(r"f(?:data)?sync\(\d+<([^>]*)>\) += 0", calls.read_text())
+
+    def test_the_folder_of_a_file_that_was_made(self) -> None:
+        folder = self.here / "folder"
+        folder.mkdir()
+        synced = self.synced(folder / "a.blsm")
+        self.assertIn(str(folder), synced)
+        self.assertIn(str(folder / "a.blsm"), synced)
+        self.assertNotIn(str(self.here), synced)
+
+    def test_the_folder_of_a_links_target(self) -> None:
+        folder, other = self.here / "folder", self.here / "other"
+        folder.mkdir()
+        other.mkdir()
+        (other / "a.blsm").touch()
+        (folder / "link").symlink_to(other / "a.blsm")
+        synced = self.synced(folder / "link")
+        self.assertIn(str(other), synced)
+        self.assertNotIn(str(folder), synced)
 
 
 if __name__ == "__main__":

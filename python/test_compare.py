@@ -18,6 +18,14 @@ class Scripts(unittest.TestCase):
     def test_lines_are_dealt_in_turn(self) -> None:
         self.assertEqual(compare.dealt(["get a", "get b", "get c"], 2), "1 get a\n2 get b\n1 get c\n")
 
+    def test_gets_alone_are_of_the_keys_that_were_put(self) -> None:
+        script = compare.gets(300)
+        put = {command.split(" ")[1] for command in script.filling if command.startswith("put ")}
+        self.assertEqual(len(put), 300)
+        self.assertEqual(sorted(command.split(" ", 1)[1] for command in script.commands), sorted(put))
+        self.assertTrue(script.filling[-1].startswith("work "))
+        self.assertEqual(script.durable(), 0)
+
     def test_a_store_is_filled_to_nine_tenths_by_new_keys(self) -> None:
         script = compare.filled(7, 1)
         sizes = [weight(tuple(command.split(" "))) for command in script.filling]

@@ -20,6 +20,7 @@ use Rattle.tree_machine.specs.Machine.{Turned}
 use Rattle.tree_machine.specs.Machine as machine
 use Rattle.seat_book.specs.State.{is_closed_in, noted_in}
 use Rattle.tree_runs.specs.Runs.{left_for_pass, left_for_deep}
+use Rattle.tree_runs.specs.Holding.{PinsComponents}
 use Rattle.core_moves.specs.declared.held.Held.{Held}
 use Rattle.core_moves.specs.Held.{charge_in}
 use Rattle.core_moves.specs.Moves.{with_book, with_debts_forgiven}
@@ -135,11 +136,13 @@ FindsBecause _ old before after = (old.book.stopped ≡ None) × (after.faults �
 
 -- ---- holds
 
--- What holding a range is due to. A hold that was made is the one of this moment; one for which memory was refused leaves the earlier one, and its pins.
+-- What holding a range is due to. A hold that was made is the one of this moment, and pins just the components' pages; one for which memory was refused
+-- leaves the earlier one, and its pins.
 abbrev pub HoldsBecause : {D : Type 0} → Holding → ℕ → Key → Key → CoreState D → CoreState D → Type 0
 HoldsBecause holding.Held seat low high old new =
     (old.held.book.stopped ≡ None)
     × (hold_of seat new.holds ≡ Some (held_from low high old.held.log.b.entries old.held.log.a.entries old.held.runs.catalogue.c1 old.held.runs.catalogue.c1x old.held.runs.catalogue.c2))
+    × PinsComponents seat old.held.runs new.held.runs
 HoldsBecause holding.NoMemory seat low high old new = (old.held.book.stopped ≡ None) × (new.holds ≡ old.holds) × (new.held.runs ≡ old.held.runs)
 HoldsBecause (holding.Stopped why) seat low high old new = (old.held.book.stopped ≡ Some why) × (new.holds ≡ old.holds) × (new.held.runs ≡ old.held.runs)
 

@@ -116,6 +116,7 @@ impl<D: Disk + Drop> Core<D> {
     /// The caller owes merge work for it then. It notes one entry.
     ///
     /// The caller must owe nothing, unless the store is stopped, and have room for the entry and no open work.
+    #[inline(never)]
     pub fn admit(&mut self, seat: u32, op: &Op) -> Admission
         requires write { IsTrue (is_write op.now) }
         requires note { IsTrue (may_note_in seat 0 self.old.held.book) }

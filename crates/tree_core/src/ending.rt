@@ -24,6 +24,7 @@ use disk_trait::Disk;
 
 impl<D: Disk + Drop> Core<D> {
     /// Notes the end of a caller's work of `n` turns, and gives its reply. The entry has the quanta of its turns.
+    #[inline(never)]
     pub fn work_end(&mut self, seat: u32, n: u32) -> ShortReply
         requires { IsTrue (may_end_in seat n self.old.held.book) }
         ensures numbers { (pace : Pace) → HoldsPace self.old.held pace (D.state self.old.disk)
@@ -44,6 +45,7 @@ impl<D: Disk + Drop> Core<D> {
     }
 
     /// A caller leaves. Once all sixteen have, the store is closed to workers.
+    #[inline(never)]
     pub fn leave(&mut self, seat: u32)
         requires { seat < callers }
         ensures numbers { (pace : Pace) → HoldsPace self.old.held pace (D.state self.old.disk)

@@ -172,6 +172,7 @@ impl<D: Disk + Drop> Core<D> {
     /// notes one entry, and calls no disk.
     ///
     /// Where memory is refused the earlier hold stays.
+    #[inline(never)]
     pub fn hold(&mut self, alloc: Global, seat: u32, low: &Key, high: &Key) -> Holding
         requires { IsTrue (may_note_in seat 0 self.old.held.book) }
         ensures numbers { (pace : Pace) → HoldsPace self.old.held pace (D.state self.old.disk)
@@ -197,6 +198,7 @@ impl<D: Disk + Drop> Core<D> {
 
     /// Gives the next `n` rows of the caller's hold, 1 to 32, or as many as are left. It notes one entry. It only reads, and a failure leaves the
     /// place and doesn't stop the store.
+    #[inline(never)]
     pub fn next_rows(&mut self, seat: u32, n: u32) -> Scan
         requires note { IsTrue (may_note_in seat n self.old.held.book) }
         requires some { 0 < n }
@@ -223,6 +225,7 @@ impl<D: Disk + Drop> Core<D> {
     }
 
     /// Drops the caller's hold, and what it pinned. It notes one entry, and calls no disk.
+    #[inline(never)]
     pub fn drop_hold(&mut self, seat: u32) -> Release
         requires { IsTrue (may_note_in seat 0 self.old.held.book) }
         ensures numbers { (pace : Pace) → HoldsPace self.old.held pace (D.state self.old.disk)

@@ -94,6 +94,7 @@ fn look_up<D: Disk>(held: &Held, disk: &mut D, key: &Key) -> Lookup
 impl<D: Disk + Drop> Core<D> {
     /// Looks a key up. It reads one page of each component at most, so three, and none where the memory table has a base or a tombstone of the
     /// key. It notes one entry; a lookup that fails doesn't stop the store.
+    #[inline(never)]
     pub fn get(&mut self, seat: u32, key: &Key) -> Lookup
         requires { IsTrue (may_note_in seat 0 self.old.held.book) }
         ensures numbers { (pace : Pace) → HoldsPace self.old.held pace (D.state self.old.disk)

@@ -57,6 +57,7 @@ fn take<D: Disk>(held: &mut Held, disk: &mut D, seat: u32, plan: Plan) -> Result
 impl<D: Disk + Drop> Core<D> {
     /// Does at most one merge quantum for what the caller owes, once what may be forgiven of it is forgiven. The quantum counts for the
     /// entry of the caller's last write.
+    #[inline(never)]
     pub fn pay(&mut self, seat: u32) -> Payment
         requires { seat < callers }
         ensures numbers { (pace : Pace) → HoldsPace self.old.held pace (D.state self.old.disk)

@@ -186,6 +186,7 @@ impl<D: Disk + Drop> Core<D> {
     /// entries, or rotates a C1 that has some; with nothing of these to do it is idle.
     ///
     /// The caller must owe nothing, unless the store is stopped, and its open work must have had fewer than 100,000 turns.
+    #[inline(never)]
     pub fn work_turn(&mut self, seat: u32) -> Turned
         requires open { IsTrue (may_turn_in seat self.old.held.book) }
         requires even { self.old.held.book.stopped ≡ None → first_debt self.old.held.gears seat + second_debt self.old.held.gears seat ≡ 0 }
@@ -217,6 +218,7 @@ impl<D: Disk + Drop> Core<D> {
     }
 
     /// A worker does one turn: as a caller's, but it begins a pass past the low mark of the spring only, and rotates nothing.
+    #[inline(never)]
     pub fn worker_turn(&mut self, seat: u32) -> Turned
         requires { (callers ≤ seat) × (seat < seats) }
         ensures numbers { (pace : Pace) → HoldsPace self.old.held pace (D.state self.old.disk)

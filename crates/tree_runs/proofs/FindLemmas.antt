@@ -20,7 +20,7 @@ use Rattle.bloom_bits.specs.Filter.{AreCovered, HasKeys}
 use Rattle.catalog_swap.specs.declared.catalog.Catalog.{Catalog}
 use Rattle.tree_machine.proofs.FoldLemmas.{over_any_assoc}
 use Rattle.tree_file.specs.Tree.{Tree, HoldsTree}
-use Rattle.tree_runs.specs.Lookups.{CountsYes, HidesOlder}
+use Rattle.tree_runs.specs.Lookups.{AreAsked, CountsAsked, CountsYes, HidesOlder}
 use Rattle.tree_runs.specs.Runs.{GuideState, Tags, guide_at}
 use Rattle.tree_runs.specs.Holding.{AreGuided, IsGuidedBy}
 
@@ -46,7 +46,7 @@ looks_in {newer} {result} sizes calls component guide key list reads = record {
   reads = reads;
 }
 
-no_fault : (found : Option Rec) → ◌≡◌ {A = Result (Option Rec) Broken} (Ok found) (Err Fault) → ⊥
+pub no_fault : (found : Option Rec) → ◌≡◌ {A = Result (Option Rec) Broken} (Ok found) (Err Fault) → ⊥
 no_fault found wrong = cc
 
 same_found : (found other : Option Rec) → ◌≡◌ {A = Result (Option Rec) Broken} (Ok found) (Ok other) → found ≡ other
@@ -96,17 +96,18 @@ pub record Calls : Type 0 where
   pub c1x : ℕ
   pub c2 : ℕ
 
-pub record AreCounted (calls : Calls) (guides : List GuideState) (tags : Tags) (key : Key) : Type 0 where
-  pub c1 : CountsYes (guide_at guides tags.c1).filter key calls.c1
-  pub c1x : CountsYes (guide_at guides tags.c1x).filter key calls.c1x
-  pub c2 : CountsYes (guide_at guides tags.c2).filter key calls.c2
+-- each where what is newer doesn't hide it
+pub record AreCounted (calls : Calls) (guides : List GuideState) (tags : Tags) (key : Key) (newer above below : Option Rec) : Type 0 where
+  pub c1 : CountsAsked newer (guide_at guides tags.c1).filter key calls.c1
+  pub c1x : CountsAsked above (guide_at guides tags.c1x).filter key calls.c1x
+  pub c2 : CountsAsked below (guide_at guides tags.c2).filter key calls.c2
 
 -- once each
 abbrev pub each_once : Calls
 each_once = record { c1 = 1; c1x = 1; c2 = 1 }
 
-pub once_is_enough : (guides : List GuideState) (tags : Tags) (key : Key) → AreCounted each_once guides tags key
-once_is_enough guides tags key = record { c1 = inl (omega arith); c1x = inl (omega arith); c2 = inl (omega arith) }
+pub once_is_enough : (guides : List GuideState) (tags : Tags) (key : Key) (newer above below : Option Rec) → AreCounted each_once guides tags key newer above below
+once_is_enough guides tags key newer above below = record { c1 = inr (inl (omega arith)); c1x = inr (inl (omega arith)); c2 = inr (inl (omega arith)) }
 
 -- what a lookup in C1, C1' and C2 gives
 abbrev pub LooksUp : Calls → Sizes → Catalog → List GuideState → Tags → Key → Option Rec → Result (Option Rec) Broken → DiskState → DiskState → Type 0
@@ -148,6 +149,29 @@ looked_up {newer} {result} {old} {new} calls sizes now guides tags key looks tre
         → IsRecordIn sizes component guide key old.bytes (record_of_key key (entries_of pages))
     has pages component guide reads guided = (pages, reads, guided, refl)
 
+-- what was found in C1, and then in C1', of a tree that is read
+pub found_first : {found : Option Rec} {file : List ℕ} (newer : Option Rec) (sizes : Sizes) (was now : Catalog) (guides : List GuideState) (before tags : Tags) (key : Key) (tree : Tree)
+    → was ≡ now → before ≡ tags → HoldsTree sizes tree file → tree.catalogue ≡ now → AreGuided guides tags tree
+    → ((pages : List RunPage) → ReadsAs sizes was.c1 pages file → IsGuidedBy (guide_at guides before.c1) pages
+    → ◌≡◌ {A = Result (Option Rec) Broken} (Ok found) (Ok (over_any newer (record_of_key key (entries_of pages)))))
+    → found ≡ over_any newer (record_of_key key (entries_of tree.c1))
+found_first {found} {file} newer sizes was now guides before tags key tree same same_tags holds is guided finds =
+    same_found found (over_any newer (record_of_key key (entries_of tree.c1)))
+    (finds tree.c1 (subst (λ (k : Catalog). ReadsAs sizes k.c1 tree.c1 file) (is ∙ sym same) holds.c1)
+    (subst (λ (t : Tags). IsGuidedBy (guide_at guides t.c1) tree.c1) (sym same_tags) guided.c1))
+
+pub found_second : {found : Option Rec} {file after : List ℕ} (newer above : Option Rec) (sizes : Sizes) (was now : Catalog) (guides : List GuideState) (before tags : Tags) (key : Key) (tree : Tree)
+    → was ≡ now → before ≡ tags → after ≡ file → HoldsTree sizes tree file → tree.catalogue ≡ now → AreGuided guides tags tree → above ≡ newer
+    → ((pages : List RunPage) → ReadsAs sizes was.c1x pages after → IsGuidedBy (guide_at guides before.c1x) pages
+    → ◌≡◌ {A = Result (Option Rec) Broken} (Ok found) (Ok (over_any above (record_of_key key (entries_of pages)))))
+    → found ≡ over_any newer (record_of_key key (entries_of tree.c1x))
+found_second {found} {file} {after} newer above sizes was now guides before tags key tree same same_tags stays holds is guided so_far finds =
+    let here = record_of_key key (entries_of tree.c1x) in
+    same_found found (over_any above here)
+    (finds tree.c1x (subst (λ (f : List ℕ). ReadsAs sizes was.c1x tree.c1x f) (sym stays) (subst (λ (k : Catalog). ReadsAs sizes k.c1x tree.c1x file) (is ∙ sym same) holds.c1x))
+    (subst (λ (t : Tags). IsGuidedBy (guide_at guides t.c1x) tree.c1x) (sym same_tags) guided.c1x))
+    ∙ ap (λ (r : Option Rec). over_any r here) so_far
+
 -- ---- how often one is asked
 
 -- it is asked once at most, and where its filter says no not at all
@@ -158,6 +182,12 @@ asked {A} {end} {result} {old} {new} timed n (inr same) reads = record {
   stands = reads.stands;
   failed = reads.failed;
 }
+
+-- nor where what is newer hides it
+pub asked_below : {A : Type 0} {end : ℕ} {result : Result A Broken} {old new : DiskState} (newer : Option Rec) (filter : BitState) (key : Key) (n : ℕ) → IsTimed old
+    → ((n : ℕ) → CountsYes filter key n → Reads end n result old new) → (HidesOlder newer → new ≡ old) → CountsAsked newer filter key n → Reads end n result old new
+asked_below newer filter key n timed reads none (inl hides) = asked timed n (inr (none hides)) (reads 1 (inl (omega arith)))
+asked_below newer filter key n timed reads none (inr counts) = reads n counts
 
 -- a record that hides all older ones is what the lookup goes on with
 pub hides_still : {newer found : Option Rec} → ◌≡◌ {A = Result (Option Rec) Broken} (Ok found) (Ok newer) → HidesOlder newer → HidesOlder found

@@ -16,6 +16,7 @@ use Rattle.page_space.specs.Space.{SpaceState, HasRole, IsFree, KeepsOtherPins}
 use Rattle.page_file.specs.Component.{RunPage, entries_of, numbers_of}
 use Rattle.run_cursor.specs.Lookup.{IsGuided}
 use Rattle.run_writer.specs.Writer.{role_region}
+use Rattle.scan_view.specs.Pins.{Pins}
 use Rattle.catalog_swap.specs.Slots.{slot_of, slot_length}
 use Rattle.catalog_swap.specs.Swap.{prepared}
 use Rattle.merge_ends.specs.Output.{TakesPages}
@@ -162,6 +163,10 @@ pub record Repins (seat : ℕ) (old new : RunsState) : Type 0 where
   pub others : KeepsOtherPins seat old.space new.space
   pub roles : new.space.roles ≡ old.space.roles
   pub pages : new.space.pages ≡ old.space.pages
+
+-- The seat pins just the pages of the components, and none that it pinned before. Nothing else of the map has changed.
+abbrev pub PinsComponents : ℕ → RunsState → RunsState → Type 0
+PinsComponents seat old new = Pins seat old.tags.c1 old.tags.c1x old.tags.c2 old.space new.space
 
 -- a quantum of the pass took so much, by the numbers, or as the lists have it
 abbrev pub PassTakes : Option SnowState → Option SnowState → Entries → ℕ → Type 0

@@ -12,7 +12,7 @@ ghost use Rattle.scan_view.specs.Pins.{HasHeld};
 ghost use Rattle.tree_file.specs.Tree.{Tree};
 ghost use Rattle.tree_machine.specs.Lists.{rows_in};
 ghost use Rattle.tree_runs.specs.Runs.{AreRuns, AreRunning, page_share};
-ghost use Rattle.tree_runs.specs.Holding.{AreOf, Repins};
+ghost use Rattle.tree_runs.specs.Holding.{AreOf, PinsComponents, Repins};
 
 use crate::runs::Runs;
 use blsm_model::Key;
@@ -48,6 +48,7 @@ impl Runs {
         // It has no more pages than a hold may pin.
         ensures few { IfOk result (λ hold. pages_behind (Some hold) ≤ page_share self.old.sizes) }
         ensures pins { OnOk result (Repins seat self.old self.new) }
+        ensures exact { OnOk result (PinsComponents seat self.old self.new) }
         ensures kept { OnErr result (self.new ≡ self.old) }
         ensures running { (honest : Bool) (file : List ℕ) → AreRunning honest file self.old → AreRunning honest file self.new }
         ensures lists { (tree : Tree) (table : Entries) (file : List ℕ) → AreOf self.old tree table file → AreOf self.new tree table file }

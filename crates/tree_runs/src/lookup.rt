@@ -8,7 +8,7 @@ ghost use Rattle.page_file.specs.File.{Reads};
 ghost use Rattle.tree_file.specs.Tree.{Tree, HoldsTree};
 ghost use Rattle.tree_runs.specs.Runs.{AreRuns, filter_of, guide_at};
 ghost use Rattle.tree_runs.specs.Holding.{AreGuided, IsGuidedBy};
-ghost use Rattle.tree_runs.specs.Lookups.{CountsYes, HidesOlder};
+ghost use Rattle.tree_runs.specs.Lookups.{AreAsked, CountsYes, HidesOlder};
 
 use crate::runs::Runs;
 use blsm_model::{Component, Key};
@@ -41,12 +41,16 @@ impl Runs {
         // It makes as many calls at most as filters say yes, and none below a base or a tombstone.
         ensures asks { (c1 c1x c2 : ℕ) → CountsYes (filter_of self.now self.now.tags.c1) key.now c1 → CountsYes (filter_of self.now self.now.tags.c1x) key.now c1x
             → CountsYes (filter_of self.now self.now.tags.c2) key.now c2 → Reads (file_length self.now.sizes) (c1 + c1x + c2) result (D.state disk.old) (D.state disk.new) }
+        // Where it reads the tree, it asks no component below the first base or tombstone.
+        ensures ends { (tree : Tree) (c1 c1x c2 : ℕ) → IsTrue (D.state disk.old).is_honest → HoldsTree self.now.sizes tree (D.state disk.old).bytes
+            → tree.catalogue ≡ self.now.catalogue → AreGuided self.now.guides self.now.tags tree → AreAsked newer key.now self.now tree c1 c1x c2
+            → Reads (file_length self.now.sizes) (c1 + c1x + c2) result (D.state disk.old) (D.state disk.new) }
         ensures reads { Reads (file_length self.now.sizes) 3 result (D.state disk.old) (D.state disk.new) }
         ensures none { HidesOlder newer → disk.new ≡ disk.old }
     {
-        let record = self.find_below(disk, &self.catalogue.c1, self.c1, key, newer)?;
-        let record = self.find_below(disk, &self.catalogue.c1x, self.c1x, key, record)?;
-        self.find_below(disk, &self.catalogue.c2, self.c2, key, record)
+        let found = self.find_below(disk, &self.catalogue.c1, self.c1, key, newer)?;
+        let found = self.find_below(disk, &self.catalogue.c1x, self.c1x, key, found)?;
+        self.find_below(disk, &self.catalogue.c2, self.c2, key, found)
     }
 
     // The record so far over the one that a component has of the key, whose pages have this tag. Nothing is read where it is a base or a

@@ -1,11 +1,11 @@
-use Rattle.std.specs.Prelude.{Some, IfOk}
+use Rattle.std.specs.Prelude.{Some, IfOk, OnOk}
 use Rattle.std.proofs.Common.{◌≤◌, ◌+◌, ap, refl, sym, subst}
 use Rattle.blsm_model.specs.Geometry.{capacity}
 use Rattle.blsm_model.specs.Sizes.{Sizes}
 use Rattle.catalog_swap.specs.declared.catalog.Catalog.{Catalog}
 use Rattle.page_file.specs.Component.{HasList, ReadsAs, entries_of}
 use Rattle.scan_view.specs.Holds.{pages_behind}
-use Rattle.scan_view.specs.Pins.{HasHeld}
+use Rattle.scan_view.specs.Pins.{HasHeld, Pins}
 use Rattle.tree_file.specs.Tree.{live_pages}
 use Rattle.tree_machine.specs.Lists.{rows_in}
 use Rattle.tree_runs.specs.Runs.{RunsState, AreRuns, AreRunning, page_share}
@@ -48,6 +48,9 @@ returns-clause-rows c = λ tree table file of.
     (ap (λ (r : RunsState). r.sizes) c.self.view_is)
     (rows_pinned runs.sizes c.build-hold.new.space.pins c.args.seat _ file (live_pages tree) c.build-hold.result
     (c.build-hold.ensures.rows runs.sizes (entries_of tree.c1) (entries_of tree.c1x) (entries_of tree.c2) file one two three) pinned)
+
+pub returns-clause-exact : goal.returns-clause-exact
+returns-clause-exact c = subst (λ (r : RunsState). OnOk c.build-hold.result (Pins c.args.seat r.tags.c1 r.tags.c1x r.tags.c2 r.space c.build-hold.new.space)) c.self.view_is c.build-hold.ensures.pins
 
 pub returns-clause-running : goal.returns-clause-running
 returns-clause-running c = λ honest file running.
