@@ -1,9 +1,11 @@
 -- On an honest disk each call is a step of the machine, and so a chain of them is a list of steps.
-use Rattle.std.proofs.Common.{◌≡◌, ◌∙◌, ℕ, ◌+◌, ◌≤◌, Bool, true, cond, List, [], ◌∷◌, length, refl, ap, sym, subst, arith}
-use Rattle.std.specs.Prelude.{IsSome, IsTrue, false, map, suc, take, zero}
+use Rattle.std.proofs.Common.{◌≡◌, ◌∙◌, ⊎_elim, ℕ, ◌+◌, ◌≤◌, Bool, true, cond, List, [], ◌∷◌, None, Some, length, refl, ap, sym, subst, arith}
+use Rattle.std.specs.Prelude.{IsSome, IsTrue, Option, false, map, suc, take, zero}
+use Rattle.std.proofs.lemmas.Bool.{false≢true}
 use mathlib.Core.List.{IsPrefix}
 use Rattle.blsm_model.specs.Sizes.{Sizes}
 use Rattle.blsm_model.specs.declared.history.Entry.{Entry}
+use Rattle.blsm_model.specs.declared.history.Why.{Why}
 use Rattle.blsm_model.specs.declared.key.Key.{Key}
 use Rattle.blsm_model.specs.declared.row.Value.{Value}
 use Rattle.disk_trait.specs.Disk.{DiskState}
@@ -12,24 +14,28 @@ use Rattle.pacing.specs.Pace.{Pace}
 use Rattle.paced_tree.specs.After.{pace_after}
 use Rattle.paced_tree.specs.Kept.{paced_all, paced_one}
 use Rattle.seat_book.specs.State.{BookState}
-use Rattle.tree_machine.specs.Machine.{Machine}
+use Rattle.tree_machine.specs.Machine as machine
+use Rattle.tree_machine.specs.Machine.{Machine, Turned, is_closed}
 use Rattle.tree_machine.specs.Outcomes.{AreTold, IsPossible, is_broken}
-use Rattle.tree_machine.specs.Plays.{may, played, played_one, stepped_as}
-use Rattle.tree_machine.specs.Steps.{Outcome}
+use Rattle.tree_machine.specs.Plays.{is_help, may, played, played_one, stepped_as}
+use Rattle.tree_machine.specs.Steps.{Answer, Outcome, Turn, swaps_due, worker_turning}
 use Rattle.tree_machine.specs.declared.step.Kind.{Kind}
+use Rattle.tree_machine.specs.declared.step.Kind.TheVariants as kind
 use Rattle.tree_machine.specs.declared.step.Step.{Step}
 use Rattle.tree_machine.proofs.FrameLemmas.{step_fixed}
 use Rattle.core_lists.specs.Shown.{ShowsHistory}
 use Rattle.core_lists.proofs.ShowingLemmas.{prefix_self, prefix_then, showing_is_kept}
 use Rattle.tree_core.specs.Calls.{AreCalls, IsCall}
+use Rattle.tree_core.specs.Causes.{TurnsNone}
 use Rattle.tree_core.specs.Core.{CoreState, IsCore}
 use Rattle.tree_core.specs.Holds.{StandsWhole}
 use Rattle.tree_core.specs.Steps.{IsPlayed}
+use Rattle.tree_core.proofs.BegunLemmas.{due_agree}
 use Rattle.tree_core.proofs.PlayLemmas.{history_grows, may_agrees, none_is_played, prefix_length}
 use Rattle.core_chain.specs.Start.{steps_of}
-use Rattle.core_chain.specs.Steps.{AllMay, AreTimed, ChainIsSteps, RestOnceStopped, clock_after, outcomes_in}
+use Rattle.core_chain.specs.Steps.{AllMay, AreTimed, ChainIsSteps, IsOver, RestOnceOver, clock_after, outcomes_in}
 use Rattle.core_chain.specs.Tells.{calls_of}
-use Rattle.core_chain.proofs.LinkLemmas.{goes_of, link_keeps, link_rests, link_sizes}
+use Rattle.core_chain.proofs.LinkLemmas.{goes_of, link_keeps, link_rests}
 use Rattle.core_chain.proofs.TellLemmas.{link_reaches}
 
 -- ---- one link
@@ -56,6 +62,52 @@ link_steps state opening seat k old new m pace call honest whole =
       stands = record { stands = is.step.stands; rows = is.rows };
       images = is.step.images;
     }
+
+-- ---- how it calls the disk
+
+-- no more often than the step may where the machine stands
+few_calls : {D : Type 0} (state : D → DiskState) (opening : List (Key × Value)) (seat : ℕ) (k : Kind) (old new : CoreState D) (m : Machine) (pace : Pace) → IsCall state seat k old new → IsCore old.held (state old.disk) → IsTrue (state old.disk).is_honest
+    → StandsWhole state opening old m pace → (state new.disk).clock ≤ (state old.disk).clock + calls_of m.gears.sizes (swaps_due m) k
+few_calls {D} state opening seat k old new m pace call keeps honest whole =
+    subst (λ (s : Sizes). (state new.disk).clock ≤ (state old.disk).clock + calls_of s (swaps_due m) k) (sym whole.stands.sizes) (by old.held.book.stopped refl)
+  where
+    by : (o : Option Why) → old.held.book.stopped ≡ o → (state new.disk).clock ≤ (state old.disk).clock + calls_of old.held.runs.sizes (swaps_due m) k
+    by None runs =
+        subst (λ (n : ℕ). (state new.disk).clock ≤ (state old.disk).clock + calls_of old.held.runs.sizes n k) (sym (due_agree opening old.held m pace (state old.disk) whole.stands keeps runs)) (link_reaches state seat k old new call).calls
+    by (Some why) is = let same = ap (λ (d : D). (state d).clock) (link_rests state seat k old new call (subst (λ (o : Option Why). IsSome o) (sym is) refl)) in omega (arith, same)
+
+abbrev turned_in : Answer → Turned
+turned_in (Turn turned) = turned
+turned_in _ = machine.Idle
+
+-- a worker's turn is told that all callers left, or what stopped the store
+closed_ends : (stopped : Option Why) (m : Machine) (seat : ℕ) (outcome : Outcome) → TurnsNone (worker_turning stopped true m seat outcome).ended
+closed_ends (Some why) m seat outcome = tt
+closed_ends None m seat outcome = tt
+
+closed_rests : {D : Type 0} (state : D → DiskState) (opening : List (Key × Value)) (seat : ℕ) (k : Kind) (old new : CoreState D) (m : Machine) (pace : Pace) → IsCall state seat k old new → IsTrue (state old.disk).is_honest
+    → StandsWhole state opening old m pace → is_closed m ≡ true → is_help k ≡ true → new.disk ≡ old.disk
+closed_rests state opening seat kind.WorkerTurn old new m pace call honest whole closed helps =
+    let step = (call.1.goes.steps opening m pace honest whole).step in
+    let ended : call.0 ≡ (worker_turning m.stopped (is_closed m) m seat step.outcome).ended = ap turned_in step.answers in
+    call.1.untouched (subst (λ (t : Turned). TurnsNone t) (sym ended) (subst (λ (b : Bool). TurnsNone (worker_turning m.stopped b m seat step.outcome).ended) (sym closed) (closed_ends m.stopped m seat step.outcome)))
+closed_rests state opening seat (kind.Admit op) old new m pace call honest whole closed helps = absurd (false≢true helps)
+closed_rests state opening seat kind.Pay old new m pace call honest whole closed helps = absurd (false≢true helps)
+closed_rests state opening seat (kind.Get key) old new m pace call honest whole closed helps = absurd (false≢true helps)
+closed_rests state opening seat (kind.Hold low high) old new m pace call honest whole closed helps = absurd (false≢true helps)
+closed_rests state opening seat (kind.Next n) old new m pace call honest whole closed helps = absurd (false≢true helps)
+closed_rests state opening seat kind.Release old new m pace call honest whole closed helps = absurd (false≢true helps)
+closed_rests state opening seat kind.WorkTurn old new m pace call honest whole closed helps = absurd (false≢true helps)
+closed_rests state opening seat (kind.WorkEnd n) old new m pace call honest whole closed helps = absurd (false≢true helps)
+closed_rests state opening seat kind.Leave old new m pace call honest whole closed helps = absurd (false≢true helps)
+
+-- and not at all where nothing is left to do
+over_rests : {D : Type 0} (state : D → DiskState) (opening : List (Key × Value)) (seat : ℕ) (k : Kind) (old new : CoreState D) (m : Machine) (pace : Pace) → IsCall state seat k old new → IsTrue (state old.disk).is_honest
+    → StandsWhole state opening old m pace → IsOver m k → new.disk ≡ old.disk
+over_rests state opening seat k old new m pace call honest whole over = ⊎_elim
+    (λ (stopped : IsSome m.stopped). link_rests state seat k old new call (subst IsSome (ap (λ (b : BookState). b.stopped) whole.stands.book) stopped))
+    (λ (closed : IsTrue (is_closed m) × IsTrue (is_help k)). closed_rests state opening seat k old new m pace call honest whole closed.0 closed.1)
+    over
 
 -- ---- the chain
 
@@ -101,7 +153,7 @@ module _ {D : Type 0} (state : D → DiskState) (opening : List (Key × Value)) 
 
 -- one call, and then the others
 module _ {D : Type 0} (state : D → DiskState) (opening : List (Key × Value)) (first : Step × CoreState D) (calls : List (Step × CoreState D)) (start end : CoreState D) (m : Machine) (pace : Pace) (timed : IsTimed (state end.disk))
-    (sizes : first.1.held.runs.sizes ≡ start.held.runs.sizes) (rises : (state start.disk).clock ≤ (state first.1.disk).clock) (few : (state first.1.disk).clock ≤ (state start.disk).clock + calls_of start.held.runs.sizes first.0.kind) (faults : (state start.disk).faults ≤ (state first.1.disk).faults) (quiet : IsSome m.stopped → (state first.1.disk).clock ≡ (state start.disk).clock)
+    (rises : (state start.disk).clock ≤ (state first.1.disk).clock) (few : (state first.1.disk).clock ≤ (state start.disk).clock + calls_of m.gears.sizes (swaps_due m) first.0.kind) (faults : (state start.disk).faults ≤ (state first.1.disk).faults) (quiet : IsOver m first.0.kind → (state first.1.disk).clock ≡ (state start.disk).clock)
     (one : IsLink state opening first.0.seat first.0.kind start first.1 m pace)
     (rest : ChainIsSteps state opening calls first.1 end (stepped_as m first.0.seat first.0.kind one.outcome).state (pace_after m pace first.0.seat first.0.kind one.outcome)) where
   abbrev next : Machine
@@ -167,8 +219,8 @@ module _ {D : Type 0} (state : D → DiskState) (opening : List (Key × Value)) 
     made = made;
     steps_are = ap (λ (xs : List Step). first.0 ∷ xs) rest.steps_are;
     clocks_are = ap (λ (xs : List ℕ). (state first.1.disk).clock ∷ xs) rest.clocks_are;
-    timed = (rises, few, subst (λ (s : Sizes). AreTimed s (state first.1.disk).clock rest.made (state end.disk).clock) sizes rest.timed);
-    rests = (quiet, subst (λ (x : Machine). RestOnceStopped x (state first.1.disk).clock rest.made) (sym played_is) rest.rests);
+    timed = (rises, few, subst (λ (x : Machine). AreTimed x (state first.1.disk).clock rest.made (state end.disk).clock) (sym played_is) rest.timed);
+    rests = (quiet, subst (λ (x : Machine). RestOnceOver x (state first.1.disk).clock rest.made) (sym played_is) rest.rests);
     may = (one.may, rest_may);
     told = ((state first.1.disk).faults, faults, λ can. one.possible, rest_told);
     whole = (one.whole, rest.whole);
@@ -190,8 +242,8 @@ chain_is_steps {D} state opening (one ∷ calls) start end m pace timed keeps ar
     let link = link_steps state opening step.seat step.kind start mid m pace are.0 honest whole in
     let reaches = link_reaches state step.seat step.kind start mid are.0 in
     let goes = reaches.goes_on in
-    one_step state opening one calls start end m pace timed (link_sizes state step.seat step.kind start mid are.0 keeps) goes.clock reaches.calls goes.faults
-    (λ stopped. ap (λ (d : D). (state d).clock) (link_rests state step.seat step.kind start mid are.0 (subst IsSome (ap (λ (b : BookState). b.stopped) whole.stands.book) stopped))) link
+    one_step state opening one calls start end m pace timed goes.clock (few_calls state opening step.seat step.kind start mid m pace are.0 keeps honest whole) goes.faults
+    (λ over. ap (λ (d : D). (state d).clock) (over_rests state opening step.seat step.kind start mid m pace are.0 honest whole over)) link
     (chain_is_steps state opening calls mid end (stepped_as m step.seat step.kind link.outcome).state (pace_after m pace step.seat step.kind link.outcome) timed (link_keeps state step.seat step.kind start mid are.0 keeps) are.1
     (subst IsTrue (sym goes.is_honest) honest) link.stands)
 

@@ -27,7 +27,7 @@ use Rattle.tree_machine.specs.declared.step.Step.{Step}
 use Rattle.core_moves.specs.declared.held.Held.{Held}
 use Rattle.tree_core.specs.Answers.{reply_to_drop, reply_to_get, reply_to_hold, reply_to_next, reply_to_write}
 use Rattle.tree_core.specs.Calls.{Admits, AreCalls, EndsWork, Gets, Helps, IsCall, Leaves, Pays, ReadsOn, TurnsOnce}
-use Rattle.tree_core.specs.Causes.{FindsBecause, HasFailed, PaysBecause, PaysNone, ScansBecause, ScansNone, TurnsBecause, TurnsNone}
+use Rattle.tree_core.specs.Causes.{FindsBecause, HasFailed, PaysBecause, PaysNone, ScansBecause, ScansNone, TurnsBecause, TurnsNone, swaps_due_in}
 use Rattle.tree_core.specs.Core.{CoreState, IsCore}
 use Rattle.tree_core.specs.declared.answers.Admission.{Admission}
 use Rattle.tree_core.specs.declared.answers.Admission.TheVariants as admission
@@ -243,7 +243,7 @@ module _ {D : Type 0} (state : D → DiskState) where
   rests : (sizes : Sizes) (old new : CoreState D) → new.disk ≡ old.disk → Reaches (file_length sizes) 0 (state old.disk) (state new.disk)
   rests sizes old new same = subst (λ (d : D). Reaches (file_length sizes) 0 (state old.disk) (state d)) (sym same) (reaches_none (state old.disk))
 
-  pub link_reaches : (seat : ℕ) (k : Kind) (old new : CoreState D) → IsCall state seat k old new → Reaches (file_length old.held.runs.sizes) (calls_of old.held.runs.sizes k) (state old.disk) (state new.disk)
+  pub link_reaches : (seat : ℕ) (k : Kind) (old new : CoreState D) → IsCall state seat k old new → Reaches (file_length old.held.runs.sizes) (calls_of old.held.runs.sizes (swaps_due_in old.held) k) (state old.disk) (state new.disk)
   link_reaches seat (kind.Admit op) old new call = reaches_by call.1.effect
   link_reaches seat kind.Pay old new call = reaches_by call.1.effect
   link_reaches seat (kind.Get key) old new call = reaches_by call.1.reads.effect
@@ -258,11 +258,11 @@ module _ {D : Type 0} (state : D → DiskState) where
   -- ---- the chain
 
   pub chain_reaches : (calls : List (Step × CoreState D)) (old new : CoreState D) → AreCalls state calls old new → IsCore old.held (state old.disk)
-      → Reaches (file_length old.held.runs.sizes) (calls_of_all old.held.runs.sizes (steps_of calls)) (state old.disk) (state new.disk)
+      → Reaches (file_length old.held.runs.sizes) (calls_of_all old calls) (state old.disk) (state new.disk)
   chain_reaches [] old new are keeps = rests old.held.runs.sizes old new (ap (λ (core : CoreState D). core.disk) are)
   chain_reaches (one ∷ calls) old new are keeps =
       reaches_then (link_reaches one.0.seat one.0.kind old one.1 are.0)
-      (subst (λ (sizes : Sizes). Reaches (file_length sizes) (calls_of_all sizes (steps_of calls)) (state one.1.disk) (state new.disk)) (link_sizes state one.0.seat one.0.kind old one.1 are.0 keeps)
+      (subst (λ (sizes : Sizes). Reaches (file_length sizes) (calls_of_all one.1 calls) (state one.1.disk) (state new.disk)) (link_sizes state one.0.seat one.0.kind old one.1 are.0 keeps)
       (chain_reaches calls one.1 new are.1 (link_keeps state one.0.seat one.0.kind old one.1 are.0 keeps)))
 
   -- what its type keeps, and what was told

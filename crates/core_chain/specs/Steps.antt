@@ -1,17 +1,17 @@
 -- On an honest disk a chain of calls is a list of steps of the machine, one for each call, and each is timed by the disk's clock.
-use Rattle.std.specs.Prelude.{◌≡◌, ⊤, ℕ, zero, suc, ◌+◌, ◌≤◌, IsSome, IsTrue, List, [], ◌∷◌, length, map, take}
+use Rattle.std.specs.Prelude.{◌≡◌, ◌⊎◌, ⊤, ℕ, zero, suc, ◌+◌, ◌≤◌, IsSome, IsTrue, List, [], ◌∷◌, length, map, take}
 use mathlib.Core.List.{IsPrefix}
-use Rattle.blsm_model.specs.Sizes.{Sizes}
 use Rattle.blsm_model.specs.declared.key.Key.{Key}
 use Rattle.blsm_model.specs.declared.row.Value.{Value}
 use Rattle.disk_trait.specs.Disk.{DiskState}
 use Rattle.disk_trait.specs.Moments.{LeavesOnly}
 use Rattle.pacing.specs.Pace.{Pace}
 use Rattle.paced_tree.specs.Kept.{paced_all}
-use Rattle.tree_machine.specs.Machine.{Machine}
+use Rattle.tree_machine.specs.Machine.{Machine, is_closed}
 use Rattle.tree_machine.specs.Outcomes.{AreTold, NoneBroken}
-use Rattle.tree_machine.specs.Plays.{may_step, played, played_one}
-use Rattle.tree_machine.specs.Steps.{Outcome}
+use Rattle.tree_machine.specs.Plays.{is_help, may_step, played, played_one}
+use Rattle.tree_machine.specs.Steps.{Outcome, swaps_due}
+use Rattle.tree_machine.specs.declared.step.Kind.{Kind}
 use Rattle.tree_machine.specs.declared.step.Step.{Step}
 use Rattle.core_lists.specs.Shown.{ShowsHistory}
 use Rattle.tree_core.specs.Core.{CoreState}
@@ -33,15 +33,20 @@ clock_after before zero made = before
 clock_after before (suc k) [] = before
 clock_after before (suc k) (one ∷ more) = clock_after one.2 k more
 
--- clocks rise, each by no more than its step may call the disk
-abbrev pub AreTimed : Sizes → ℕ → List (Step × Outcome × ℕ) → ℕ → Type 0
-AreTimed sizes before [] after = after ≡ before
-AreTimed sizes before (one ∷ more) after = (before ≤ one.2) × (one.2 ≤ before + calls_of sizes one.0.kind) × AreTimed sizes one.2 more after
+-- Clocks rise, each by no more than its step may call the disk where the machine stands: with the swaps that are due there.
+abbrev pub AreTimed : Machine → ℕ → List (Step × Outcome × ℕ) → ℕ → Type 0
+AreTimed m before [] after = after ≡ before
+AreTimed m before (one ∷ more) after =
+    (before ≤ one.2) × (one.2 ≤ before + calls_of m.gears.sizes (swaps_due m) one.0.kind) × AreTimed (played_one m (one.0, one.1)) one.2 more after
 
--- a step of a store that is stopped calls no disk, so the clock stands
-abbrev pub RestOnceStopped : Machine → ℕ → List (Step × Outcome × ℕ) → Type 0
-RestOnceStopped m before [] = ⊤
-RestOnceStopped m before (one ∷ more) = (IsSome m.stopped → one.2 ≡ before) × RestOnceStopped (played_one m (one.0, one.1)) one.2 more
+-- Nothing is left to do for this step: the store is stopped, or all callers left and it is a worker's.
+abbrev pub IsOver : Machine → Kind → Type 0
+IsOver m k = IsSome m.stopped ⊎ (IsTrue (is_closed m) × IsTrue (is_help k))
+
+-- Such a step calls no disk, so the clock stands.
+abbrev pub RestOnceOver : Machine → ℕ → List (Step × Outcome × ℕ) → Type 0
+RestOnceOver m before [] = ⊤
+RestOnceOver m before (one ∷ more) = (IsOver m one.0.kind → one.2 ≡ before) × RestOnceOver (played_one m (one.0, one.1)) one.2 more
 
 -- each of them might be made where it stands
 abbrev pub AllMay : Machine → List (Step × Outcome) → Type 0
@@ -56,8 +61,8 @@ pub record ChainIsSteps {D : Type 0} (state : D → DiskState) (opening : List (
   pub made : List (Step × Outcome × ℕ)
   pub steps_are : map (λ one. one.0) made ≡ steps_of calls
   pub clocks_are : clocks_in made ≡ map (λ one. (state one.1.disk).clock) calls
-  pub timed : AreTimed start.held.runs.sizes (state start.disk).clock made (state end.disk).clock
-  pub rests : RestOnceStopped m (state start.disk).clock made
+  pub timed : AreTimed m (state start.disk).clock made (state end.disk).clock
+  pub rests : RestOnceOver m (state start.disk).clock made
   -- none was passed over, the disk's count of faults tells the outcomes, and no page was found damaged
   pub may : AllMay m (outcomes_in made)
   pub told : AreTold m (state start.disk).faults (outcomes_in made) (state end.disk).faults

@@ -1,5 +1,5 @@
 -- What a chain of calls tells, whoever made them, on every disk: of faults and of the stop, of the commands, and how it called the disk.
-use Rattle.std.specs.Prelude.{◌≡◌, ℕ, ◌+◌, ◌/◌, ◌<◌, ◌≤◌, false, List, [], ◌∷◌, ◌++◌, sum_by}
+use Rattle.std.specs.Prelude.{◌≡◌, ℕ, ◌+◌, ◌*◌, ◌/◌, ◌<◌, ◌≤◌, false, List, [], ◌∷◌, ◌++◌, sum_by}
 use Rattle.std.specs.List.{AllByRecursion}
 use Rattle.refusal.specs.Count.{HasRisenBy}
 use Rattle.blsm_model.specs.Format.{callers}
@@ -16,29 +16,32 @@ use Rattle.tree_machine.specs.declared.step.Kind.{Kind}
 use Rattle.tree_machine.specs.declared.step.Kind.TheVariants as kind
 use Rattle.tree_machine.specs.declared.step.Step.{Step}
 use Rattle.tree_runs.specs.Runs.{page_share}
+use Rattle.tree_core.specs.Causes.{swaps_due_in}
 use Rattle.tree_core.specs.Core.{CoreState}
 use Rattle.tree_session.specs.Faults.{NamesStop, Reaches, TellsFaults, TellsNone, faults_told, is_by_fault}
 use Rattle.core_chain.specs.Start.{steps_of}
 
 -- ---- calls of the disk
 
--- How many calls of the disk a step makes at most: an admission makes two swaps and an append; a payment and a turn read a quantum's pages and write
--- its run; a get reads one page of each component at most, and a next reads each page of its hold at most. The others are made in memory alone.
-abbrev pub calls_of : Sizes → Kind → ℕ
-calls_of sizes (kind.Admit op) = 22
-calls_of sizes kind.Pay = sizes.quantum / 4 + 3
-calls_of sizes (kind.Get key) = 3
-calls_of sizes (kind.Hold low high) = 0
-calls_of sizes (kind.Next n) = page_share sizes
-calls_of sizes kind.Release = 0
-calls_of sizes kind.WorkTurn = sizes.quantum / 4 + 9
-calls_of sizes (kind.WorkEnd n) = 0
-calls_of sizes kind.WorkerTurn = sizes.quantum / 4 + 9
-calls_of sizes kind.Leave = 0
+-- How many calls of the disk a step makes at most, before which so many swaps are due: an admission makes four for its append and nine for each of
+-- them; a payment and a turn read a quantum's pages and write its run; a get reads one page of each component at most, and a next reads each page of
+-- its hold at most. The others are made in memory alone.
+abbrev pub calls_of : Sizes → ℕ → Kind → ℕ
+calls_of sizes due (kind.Admit op) = 4 + 9 * due
+calls_of sizes due kind.Pay = sizes.quantum / 4 + 3
+calls_of sizes due (kind.Get key) = 3
+calls_of sizes due (kind.Hold low high) = 0
+calls_of sizes due (kind.Next n) = page_share sizes
+calls_of sizes due kind.Release = 0
+calls_of sizes due kind.WorkTurn = sizes.quantum / 4 + 9
+calls_of sizes due (kind.WorkEnd n) = 0
+calls_of sizes due kind.WorkerTurn = sizes.quantum / 4 + 9
+calls_of sizes due kind.Leave = 0
 
-abbrev pub calls_of_all : Sizes → List Step → ℕ
-calls_of_all sizes [] = 0
-calls_of_all sizes (step ∷ steps) = calls_of sizes step.kind + calls_of_all sizes steps
+-- of a chain of calls, each by the core before it
+abbrev pub calls_of_all : {D : Type 0} → CoreState D → List (Step × CoreState D) → ℕ
+calls_of_all core [] = 0
+calls_of_all core (one ∷ calls) = calls_of core.held.runs.sizes (swaps_due_in core.held) one.0.kind + calls_of_all one.1 calls
 
 -- ---- commands
 
@@ -84,4 +87,4 @@ pub record ChainTells {D : Type 0} (state : D → DiskState) (calls : List (Step
   -- a reply that the store is stopped names what stopped it
   pub names : AllByRecursion (λ e. NamesStop e.reply end.held.book.stopped) end.held.book.book.entries
   -- the disk was called no more often than the steps may, and within the store's file
-  pub effect : Reaches (file_length start.held.runs.sizes) (calls_of_all start.held.runs.sizes (steps_of calls)) (state start.disk) (state end.disk)
+  pub effect : Reaches (file_length start.held.runs.sizes) (calls_of_all start calls) (state start.disk) (state end.disk)

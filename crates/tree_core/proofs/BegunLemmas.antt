@@ -1,48 +1,51 @@
--- A write that failed has committed the swaps that were due, or fewer.
-use Rattle.std.specs.Prelude.{◌≡◌, ◌⊎◌, ℕ, ◌+◌, ◌<◌, Bool, true, false, not, ◌&&◌, ◌==◌, nat_lt, is_some, Option}
+-- A write that failed has committed the swaps that were due, or fewer. They are those of the machine.
+use Rattle.std.specs.Prelude.{◌≡◌, ◌⊎◌, ℕ, ◌+◌, ◌<◌, ◌≤◌, Bool, true, false, not, ◌&&◌, ◌==◌, nat_lt, is_some, List, None, Option}
 use Rattle.std.proofs.Common.{◌∙◌, ⊎_elim, cond, refl, ap, sym, arith}
-use Rattle.std.proofs.lemmas.Bool.{eqb-true, eq-eqb}
+use Rattle.std.proofs.lemmas.Bool.{eqb-true, eq-eqb, false≢true}
 use Rattle.catalog_swap.specs.declared.catalog.Catalog.{Catalog}
 use Rattle.blsm_model.specs.declared.key.Key.{Key}
+use Rattle.blsm_model.specs.declared.row.Value.{Value}
 use Rattle.disk_trait.specs.Disk.{DiskState}
 use Rattle.record_delta.specs.declared.record.Rec.{Rec}
 use Rattle.record_delta.specs.Records.{weight}
+use Rattle.pacing.specs.Pace.{Pace}
 use Rattle.snow_merge.specs.Pass.{SnowState}
 use Rattle.seat_book.specs.State.{BookState}
 use Rattle.tree_log.specs.Log.{LogState}
+use Rattle.tree_machine.specs.Machine.{Machine, deep_done, pass_done}
+use Rattle.tree_machine.specs.Steps.{one_if, swaps_due}
 use Rattle.tree_machine.proofs.FoldLemmas.{both, both_hold}
 use Rattle.tree_runs.specs.Runs.{left_for_pass, left_for_deep}
 use Rattle.core_moves.specs.declared.held.Held.{Held}
 use Rattle.core_moves.specs.Held.{IsPassDone, IsDeepDone}
 use Rattle.core_moves.specs.Moves.{SettlesDeep, SettlesPass, SwapsDeepIn, SwapsPassIn, begun_in, with_book, with_pass_begun}
+use Rattle.core_lists.specs.Lists.{Agrees}
+use Rattle.core_lists.proofs.TestLemmas.{tests_agree_with_lists}
 use Rattle.tree_core.specs.declared.answers.Admission.TheVariants as admission
-use Rattle.tree_core.specs.Causes.{HasBegun, one_where, swaps_due_in}
+use Rattle.tree_core.specs.Causes.{HasBegun, calls_to_admit, is_deep_due, is_pass_due, one_where, swaps_due_in}
 use Rattle.tree_core.specs.declared.admission.Taking.TheVariants as taking
+use Rattle.tree_core.specs.Core.{IsCore}
+use Rattle.tree_core.specs.Standing.{StandsFor}
 use Rattle.tree_core.specs.Taking.{IsReadied, Takes}
 
-abbrev is_deep : Held → Bool
-is_deep held = is_some held.runs.deep && (left_for_deep held.runs.deep == 0)
-
-abbrev is_pass : Held → Bool
-is_pass held = is_some held.runs.pass && (left_for_pass held.runs.pass held.log.a.entries == 0)
-
-deep_is : (held : Held) → IsDeepDone held → is_deep held ≡ true
+-- whether a swap is due
+pub deep_is : (held : Held) → IsDeepDone held → is_deep_due held ≡ true
 deep_is held done = both (is_some held.runs.deep) (left_for_deep held.runs.deep == 0) done.0 (eq-eqb (left_for_deep held.runs.deep) 0 done.1)
 
-pass_is : (held : Held) → IsPassDone held → is_pass held ≡ true
+pub pass_is : (held : Held) → IsPassDone held → is_pass_due held ≡ true
 pass_is held done = both (is_some held.runs.pass) (left_for_pass held.runs.pass held.log.a.entries == 0) done.0 (eq-eqb (left_for_pass held.runs.pass held.log.a.entries) 0 done.1)
 
-not_deep : (held : Held) → (IsDeepDone held → ⊥) → is_deep held ≡ false
-not_deep held none = by (is_deep held) refl
+not_deep : (held : Held) → (IsDeepDone held → ⊥) → is_deep_due held ≡ false
+not_deep held none = by (is_deep_due held) refl
   where
-    by : (b : Bool) → is_deep held ≡ b → b ≡ false
+    by : (b : Bool) → is_deep_due held ≡ b → b ≡ false
     by true is = let parts = both_hold (is_some held.runs.deep) (left_for_deep held.runs.deep == 0) is in absurd (none (parts.0, eqb-true (left_for_deep held.runs.deep) 0 parts.1))
     by false is = refl
 
-not_pass : (held : Held) → (IsPassDone held → ⊥) → is_pass held ≡ false
-not_pass held none = by (is_pass held) refl
+not_pass : (held : Held) → (IsPassDone held → ⊥) → is_pass_due held ≡ false
+not_pass held none = by (is_pass_due held) refl
   where
-    by : (b : Bool) → is_pass held ≡ b → b ≡ false
+    by : (b : Bool) → is_pass_due held ≡ b → b ≡ false
     by true is = let parts = both_hold (is_some held.runs.pass) (left_for_pass held.runs.pass held.log.a.entries == 0) is in absurd (none (parts.0, eqb-true (left_for_pass held.runs.pass held.log.a.entries) 0 parts.1))
     by false is = refl
 
@@ -56,22 +59,22 @@ unmoved old new due none same =
     omega (arith, zero, still)
 
 -- the deep merge's swap is one commit, and leaves the pass as it was
-deep_counts : (old new : Held) → SettlesDeep old new → (version new ≡ version old + one_where (is_deep old)) × (is_pass new ≡ is_pass old)
+pub deep_counts : (old new : Held) → SettlesDeep old new → (version new ≡ version old + one_where (is_deep_due old)) × (is_pass_due new ≡ is_pass_due old)
 deep_counts old new settles = ⊎_elim
     (λ (done : IsDeepDone old × SwapsDeepIn old new). (
       ap (λ (c : Catalog). c.version) done.1.runs.catalogue ∙ ap (λ (b : Bool). version old + one_where b) (sym (deep_is old done.0)),
       ap (λ (s : Option SnowState). is_some s && (left_for_pass s new.log.a.entries == 0)) done.1.runs.pass ∙ ap (λ (l : LogState). is_some old.runs.pass && (left_for_pass old.runs.pass l.a.entries == 0)) done.1.log,
     ))
     (λ (rests : (IsDeepDone old → ⊥) × (new ≡ old)). (
-      unmoved old new (is_deep old) (not_deep old rests.0) rests.1,
-      ap (λ (held : Held). is_pass held) rests.1,
+      unmoved old new (is_deep_due old) (not_deep old rests.0) rests.1,
+      ap (λ (held : Held). is_pass_due held) rests.1,
     ))
     settles
 
-pass_counts : (old new : Held) → SettlesPass old new → version new ≡ version old + one_where (is_pass old)
+pass_counts : (old new : Held) → SettlesPass old new → version new ≡ version old + one_where (is_pass_due old)
 pass_counts old new settles = ⊎_elim
     (λ (done : IsPassDone old × SwapsPassIn old new). ap (λ (c : Catalog). c.version) done.1.runs.catalogue ∙ ap (λ (b : Bool). version old + one_where b) (sym (pass_is old done.0)))
-    (λ (rests : (IsPassDone old → ⊥) × (new ≡ old)). unmoved old new (is_pass old) (not_pass old rests.0) rests.1)
+    (λ (rests : (IsPassDone old → ⊥) × (new ≡ old)). unmoved old new (is_pass_due old) (not_pass old rests.0) rests.1)
     settles
 
 -- a begin commits nothing
@@ -85,16 +88,16 @@ begin_counts w held = by (not (is_some held.runs.pass) && nat_lt held.runs.sizes
 pub begun_append : (w : ℕ) (old new : Held) → IsReadied w old new → version new ≡ version old + swaps_due_in old
 begun_append w old new r =
     let deep = deep_counts old r.settled r.deep in
-    let pass : version r.ready ≡ version r.settled + one_where (is_pass old) = pass_counts r.settled r.ready r.pass ∙ ap (λ (b : Bool). version r.settled + one_where b) deep.1 in
+    let pass : version r.ready ≡ version r.settled + one_where (is_pass_due old) = pass_counts r.settled r.ready r.pass ∙ ap (λ (b : Bool). version r.settled + one_where b) deep.1 in
     let all : version new ≡ version r.ready = ap (λ (held : Held). version held) r.begun ∙ begin_counts w r.ready in
     omega (arith, all, pass, deep.0)
 
 pub lost_before : (old new : Held) → ((new ≡ old) × IsDeepDone old) ⊎ (SettlesDeep old new × IsPassDone new) → version new < version old + swaps_due_in old
 lost_before old new lost = ⊎_elim
-    (λ (first : (new ≡ old) × IsDeepDone old). let due : one_where (is_deep old) ≡ 1 = ap one_where (deep_is old first.1) in let same : version new ≡ version old = ap (λ (held : Held). version held) first.0 in omega (arith, due, same))
+    (λ (first : (new ≡ old) × IsDeepDone old). let due : one_where (is_deep_due old) ≡ 1 = ap one_where (deep_is old first.1) in let same : version new ≡ version old = ap (λ (held : Held). version held) first.0 in omega (arith, due, same))
     (λ (second : SettlesDeep old new × IsPassDone new).
     let deep = deep_counts old new second.0 in
-    let due : one_where (is_pass old) ≡ 1 = ap one_where (sym deep.1 ∙ pass_is new second.1) in
+    let due : one_where (is_pass_due old) ≡ 1 = ap one_where (sym deep.1 ∙ pass_is new second.1) in
     omega (arith, due, deep.0))
     lost
 
@@ -102,3 +105,35 @@ pub begun_by : (begun : Bool) (seat : ℕ) (key : Key) (rec : Rec) (old new : He
     → HasBegun (admission.Fault begun) old (with_book b new)
 begun_by true seat key rec old new b after r = begun_append (weight key rec) old new r
 begun_by false seat key rec old new b after lost = lost_before old new lost
+
+-- ---- how many they are
+
+at_most_one : (b : Bool) → one_where b ≤ 1
+at_most_one true = omega arith
+at_most_one false = omega arith
+
+-- two at most, with the append's calls
+pub few_to_admit : (held : Held) → calls_to_admit held ≤ 22
+few_to_admit held =
+    let deep = at_most_one (is_deep_due held) in
+    let pass = at_most_one (is_pass_due held) in
+    omega (arith, deep, pass)
+
+-- ---- by the machine
+
+same_count : (done due : Bool) → (done ≡ true → due ≡ true) → (due ≡ true → done ≡ true) → one_if done ≡ one_where due
+same_count true true p q = refl
+same_count false false p q = refl
+same_count true false p q = absurd (false≢true (p refl))
+same_count false true p q = absurd (false≢true (q refl))
+
+pub due_agree : (opening : List (Key × Value)) (old : Held) (m : Machine) (pace : Pace) (d : DiskState) → StandsFor opening old m pace d → IsCore old d → old.book.stopped ≡ None → swaps_due m ≡ swaps_due_in old
+due_agree opening old m pace d stands keeps runs =
+    let over = stands.runs runs in
+    let agrees : Agrees old m = tests_agree_with_lists old over.tree m d.bytes keeps.pace (record { are_of = over.over.are_of; holds = over.holds }) stands.paced.stands.sound (keeps.holds.live runs).paced.numbers in
+    let deep = same_count (deep_done m) (is_deep_due old) (λ done. deep_is old (agrees.deep_is_done.1 done))
+    (λ due. let parts = both_hold (is_some old.runs.deep) (left_for_deep old.runs.deep == 0) due in agrees.deep_is_done.0 (parts.0, eqb-true (left_for_deep old.runs.deep) 0 parts.1)) in
+    let pass = same_count (pass_done m) (is_pass_due old) (λ done. pass_is old (agrees.pass_is_done.1 done))
+    (λ due. let parts = both_hold (is_some old.runs.pass) (left_for_pass old.runs.pass old.log.a.entries == 0) due in
+    agrees.pass_is_done.0 (parts.0, eqb-true (left_for_pass old.runs.pass old.log.a.entries) 0 parts.1)) in
+    omega (arith, deep, pass)

@@ -27,7 +27,7 @@ use Rattle.tree_runs.specs.Runs.{page_share}
 use Rattle.core_moves.specs.Moves.{with_book}
 use Rattle.tree_core.specs.Answers.{answer_to_pay, newest_in, reply_to_drop, reply_to_get, reply_to_hold, reply_to_next, reply_to_write}
 use Rattle.tree_core.specs.Calls.{Admits, AreCalls, CameSince, EndsWork, Gets, GoesOnAs, Helps, HoldsRange, IsCall, Leaves, LetsGo, Pays, ReadsOn, TurnsOnce}
-use Rattle.tree_core.specs.Causes.{AdmitsBecause, CallsNone, DropsBecause, FindsBecause, HasBegun, HoldsBecause, LooksNone, PaysBecause, PaysNone, ScansBecause, ScansNone, TurnsBecause, TurnsNone}
+use Rattle.tree_core.specs.Causes.{AdmitsBecause, CallsNone, DropsBecause, FindsBecause, HasBegun, HoldsBecause, LooksNone, PaysBecause, PaysNone, ScansBecause, ScansNone, TurnsBecause, TurnsNone, calls_to_admit}
 use Rattle.tree_core.specs.Core.{CoreState, HoldsPace, facts_of_held}
 use Rattle.tree_core.specs.Holds.{KeepsHolds, LeavesOthers, StandsWhole}
 use Rattle.tree_core.specs.Notes.{CountsPayment, CountsTurn, HasLeft, HelpsOnce, Lessens, NotesNone, NotesOne, OwesNothing, Settles}
@@ -74,7 +74,7 @@ pub admits : {D : Type 0} (state : D → DiskState) (seat : ℕ) (op : Op) (answ
     (steps : (opening : List (Key × Value)) (m : Machine) (pace : Pace) → IsTrue (state old.disk).is_honest → StandsFor opening old.held m pace (state old.disk) → IsTrue (may m seat (kind.Admit op)) → IsStep opening seat (kind.Admit op) (Replied (reply_to_write answer)) new.held (state old.disk) (state new.disk) m pace)
     (cause : AdmitsBecause answer seat op old.held new.held (state old.disk) (state new.disk)) (begun : HasBegun answer old.held new.held)
     (notes : NotesOne seat op (reply_to_write answer) old.held.book new.held.book)
-    (effect : Affects (beside_pins old.held.runs.sizes old.held.runs.space.pins) (file_length old.held.runs.sizes) 22 (state old.disk) (state new.disk))
+    (effect : Affects (beside_pins old.held.runs.sizes old.held.runs.space.pins) (file_length old.held.runs.sizes) (calls_to_admit old.held) (state old.disk) (state new.disk))
     (untouched : CallsNone answer → new.disk ≡ old.disk) (holds : KeepsHolds old new) (follows : Follows seat (facts_of_held old.held) (facts_of_held new.held))
     (lasts : (start : CoreState D) → StandsSince state start old → StandsSince state start new) (begins : StandsSince state new new)
     → Admits state seat op answer old new

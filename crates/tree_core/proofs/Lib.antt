@@ -21,7 +21,7 @@ pub mod PaymentSteps
 pub mod TurnMoves
 pub mod TurnLemmas
 pub mod TurnSteps
-mod BegunLemmas
+pub mod BegunLemmas
 mod NotingLemmas
 mod HoldSteps
 mod HoldStepsByCall

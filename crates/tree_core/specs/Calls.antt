@@ -23,7 +23,7 @@ use Rattle.tree_runs.specs.Lookups.{HidesOlder}
 use Rattle.tree_runs.specs.Runs.{page_share}
 use Rattle.core_moves.specs.Moves.{with_book}
 use Rattle.tree_core.specs.Answers.{answer_to_pay, newest_in, reply_to_drop, reply_to_get, reply_to_hold, reply_to_next, reply_to_write}
-use Rattle.tree_core.specs.Causes.{AdmitsBecause, CallsNone, DropsBecause, FindsBecause, HasBegun, HoldsBecause, LooksNone, PaysBecause, PaysNone, ScansBecause, ScansNone, TurnsBecause, TurnsNone}
+use Rattle.tree_core.specs.Causes.{AdmitsBecause, CallsNone, DropsBecause, FindsBecause, HasBegun, HoldsBecause, LooksNone, PaysBecause, PaysNone, ScansBecause, ScansNone, TurnsBecause, TurnsNone, calls_to_admit}
 use Rattle.tree_core.specs.Core.{CoreState, HoldsPace, facts_of_held}
 use Rattle.tree_core.specs.Holds.{LeavesOthers, StandsWhole}
 use Rattle.tree_core.specs.Notes.{CountsPayment, CountsTurn, HasLeft, HelpsOnce, Lessens, NotesNone, NotesOne, OwesNothing, Settles}
@@ -50,7 +50,7 @@ pub record Admits {D : Type 0} (state : D → DiskState) (seat : ℕ) (op : Op) 
   pub cause : AdmitsBecause answer seat op old.held new.held (state old.disk) (state new.disk)
   pub begun : HasBegun answer old.held new.held
   pub notes : NotesOne seat op (reply_to_write answer) old.held.book new.held.book
-  pub effect : Affects (beside_pins old.held.runs.sizes old.held.runs.space.pins) (file_length old.held.runs.sizes) 22 (state old.disk) (state new.disk)
+  pub effect : Affects (beside_pins old.held.runs.sizes old.held.runs.space.pins) (file_length old.held.runs.sizes) (calls_to_admit old.held) (state old.disk) (state new.disk)
   pub untouched : CallsNone answer → new.disk ≡ old.disk
 
 pub record Pays {D : Type 0} (state : D → DiskState) (seat : ℕ) (answer : Payment) (old new : CoreState D) : Type 0 where

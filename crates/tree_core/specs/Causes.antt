@@ -1,5 +1,5 @@
 -- Why a call answers what it does, on every disk.
-use Rattle.std.specs.Prelude.{◌≡◌, ⊤, ℕ, ◌+◌, ◌<◌, ◌≤◌, Bool, true, false, ◌&&◌, ◌==◌, IsTrue, is_some, None, Some}
+use Rattle.std.specs.Prelude.{◌≡◌, ⊤, ℕ, ◌+◌, ◌*◌, ◌<◌, ◌≤◌, Bool, true, false, ◌&&◌, ◌==◌, IsTrue, is_some, None, Some}
 use Rattle.refusal.specs.Count.{HasRisen}
 use Rattle.blsm_model.specs.declared.op.Op.{Op}
 use Rattle.blsm_model.specs.declared.history.Why.TheVariants as why
@@ -78,9 +78,18 @@ abbrev pub one_where : Bool → ℕ
 one_where true = 1
 one_where false = 0
 
+abbrev pub is_deep_due : Held → Bool
+is_deep_due held = is_some held.runs.deep && (left_for_deep held.runs.deep == 0)
+
+abbrev pub is_pass_due : Held → Bool
+is_pass_due held = is_some held.runs.pass && (left_for_pass held.runs.pass held.log.a.entries == 0)
+
 abbrev pub swaps_due_in : Held → ℕ
-swaps_due_in held =
-    one_where (is_some held.runs.deep && (left_for_deep held.runs.deep == 0)) + one_where (is_some held.runs.pass && (left_for_pass held.runs.pass held.log.a.entries == 0))
+swaps_due_in held = one_where (is_deep_due held) + one_where (is_pass_due held)
+
+-- how many calls of the disk it makes at most: nine for each of these swaps, and four for its append
+abbrev pub calls_to_admit : Held → ℕ
+calls_to_admit held = 4 + 9 * swaps_due_in held
 
 -- The append of a write that failed had begun exactly where each of them was committed.
 abbrev pub HasBegun : Admission → Held → Held → Type 0

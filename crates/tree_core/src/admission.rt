@@ -22,7 +22,7 @@ ghost use Rattle.tree_machine.specs.Stands.{WritesFit};
 ghost use Rattle.tree_machine.specs.Steps.{is_del, Replied};
 ghost use Rattle.core_pace.specs.Events.{MayWrite};
 ghost use Rattle.tree_core.specs.Answers.{reply_to_write};
-ghost use Rattle.tree_core.specs.Causes.{AdmitsBecause, CallsNone, HasBegun};
+ghost use Rattle.tree_core.specs.Causes.{AdmitsBecause, CallsNone, HasBegun, calls_to_admit};
 ghost use Rattle.tree_core.specs.Core.{CoreState, HoldsPace, facts_of_held};
 ghost use Rattle.tree_core.specs.Holds.{KeepsHolds};
 ghost use Rattle.tree_core.specs.Notes.{NotesOne};
@@ -53,7 +53,7 @@ fn take<D: Disk>(held: &mut Held, disk: &mut D, seat: u32, op: &Op, write: &Writ
     ensures lists { (opening : List (Key × Value)) (m : Machine) (pace : Pace) → IsTrue (D.state disk.old).is_honest → StandsFor opening held.old m pace (D.state disk.old)
         → held.old.book.stopped ≡ None → IsTrue (may m seat (kind.Admit op.now)) → WritesFit (kind.Admit op.now)
         → TakesOver result opening seat op.now m pace held.new (D.state disk.old) (D.state disk.new) }
-    ensures effect { Affects (beside_pins held.old.runs.sizes held.old.runs.space.pins) (file_length held.old.runs.sizes) 22 (D.state disk.old) (D.state disk.new) }
+    ensures effect { Affects (beside_pins held.old.runs.sizes held.old.runs.space.pins) (file_length held.old.runs.sizes) (calls_to_admit held.old) (D.state disk.old) (D.state disk.new) }
     ensures faults { TellsTaking result (D.state disk.old) (D.state disk.new) }
 {
     let rec = Rec::of_write(write);
@@ -129,7 +129,7 @@ impl<D: Disk + Drop> Core<D> {
         ensures cause { AdmitsBecause result seat op.now self.old.held self.new.held (D.state self.old.disk) (D.state self.new.disk) }
         ensures begun { HasBegun result self.old.held self.new.held }
         ensures notes { NotesOne seat op.now (reply_to_write result) self.old.held.book self.new.held.book }
-        ensures effect { Affects (beside_pins self.old.held.runs.sizes self.old.held.runs.space.pins) (file_length self.old.held.runs.sizes) 22 (D.state self.old.disk) (D.state self.new.disk) }
+        ensures effect { Affects (beside_pins self.old.held.runs.sizes self.old.held.runs.space.pins) (file_length self.old.held.runs.sizes) (calls_to_admit self.old.held) (D.state self.old.disk) (D.state self.new.disk) }
         ensures holds { KeepsHolds self.old self.new }
         ensures follows { Follows seat (facts_of_held self.old.held) (facts_of_held self.new.held) }
         ensures lasts { (start : CoreState D) → StandsSince D.state start self.old → StandsSince D.state start self.new }

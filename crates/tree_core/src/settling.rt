@@ -1,5 +1,5 @@
 //! What is due before a write: the merges that are done are swapped in.
-ghost use Rattle.std.specs.Prelude.{◌≡◌, is_ok, IsTrue, IsErr, OnOk, OnErr};
+ghost use Rattle.std.specs.Prelude.{◌≡◌, ◌*◌, is_ok, IsTrue, IsErr, OnOk, OnErr};
 ghost use Rattle.blsm_model.specs.Geometry.{file_length};
 ghost use Rattle.disk_trait.specs.Disk.{TellsFaults};
 ghost use Rattle.disk_trait.specs.Effects.{Affects};
@@ -10,6 +10,7 @@ ghost use Rattle.core_moves.specs.Held.{IsPassDone, IsDeepDone, is_run_full};
 ghost use Rattle.core_moves.specs.Needs.{IsOn, IsReady};
 ghost use Rattle.core_moves.specs.Moves.{SettlesDeep, SettlesPass, TurnsLog};
 ghost use Rattle.core_lists.specs.Admissions.{DeepSettlesTree};
+ghost use Rattle.tree_core.specs.Causes.{is_deep_due, is_pass_due, one_where};
 ghost use Rattle.tree_core.specs.Taking.{PassMakesTree};
 
 use core_moves::Held;
@@ -26,7 +27,7 @@ pub(crate) fn settle_deep<D: Disk>(held: &mut Held, disk: &mut D) -> Result<(), 
         × LeavesSwapped held.old.runs held.new.runs tree next held.new.log.a.entries (is_ok result) (D.state disk.old) (D.state disk.new) }
     ensures on { OnOk result (IsOn held.new (D.state disk.new)) }
     ensures kept { OnErr result (held.new ≡ held.old) }
-    ensures effect { Affects (beside_pins held.old.runs.sizes held.old.runs.space.pins) (file_length held.old.runs.sizes) 9 (D.state disk.old) (D.state disk.new) }
+    ensures effect { Affects (beside_pins held.old.runs.sizes held.old.runs.space.pins) (file_length held.old.runs.sizes) (9 * one_where (is_deep_due held.old)) (D.state disk.old) (D.state disk.new) }
     ensures faults { TellsFaults result (D.state disk.old) (D.state disk.new) }
 {
     if held.runs.is_deep_done() {
@@ -48,7 +49,7 @@ pub(crate) fn settle_pass<D: Disk>(held: &mut Held, disk: &mut D) -> Result<(), 
         × LeavesSwapped held.old.runs held.new.runs tree next held.new.log.a.entries (is_ok result) (D.state disk.old) (D.state disk.new) }
     ensures on { OnOk result (IsOn held.new (D.state disk.new)) }
     ensures kept { OnErr result (held.new ≡ held.old) }
-    ensures effect { Affects (beside_pins held.old.runs.sizes held.old.runs.space.pins) (file_length held.old.runs.sizes) 9 (D.state disk.old) (D.state disk.new) }
+    ensures effect { Affects (beside_pins held.old.runs.sizes held.old.runs.space.pins) (file_length held.old.runs.sizes) (9 * one_where (is_pass_due held.old)) (D.state disk.old) (D.state disk.new) }
     ensures faults { TellsFaults result (D.state disk.old) (D.state disk.new) }
 {
     if held.runs.is_pass_done(held.log.a()) {

@@ -38,8 +38,8 @@ most_quanta sizes (Work n) = n
 most_quanta sizes op = work_bound sizes (total_weight (writes_of op))
 
 -- How many calls of the disk it takes at most, where its caller takes so many quanta for it: a get reads one page of each component at most, a next
--- reads each page of its hold at most, a turn of a work moves once, and a write is admitted and then paid for, in vain once at most. A hold is made, and
--- dropped, in memory alone.
+-- reads each page of its hold at most, a turn of a work moves once, and a write is admitted, with four calls and nine for each of two swaps, and then
+-- paid for, in vain once at most. A hold is made, and dropped, in memory alone.
 abbrev pub most_calls : Sizes → Op → ℕ → ℕ
 most_calls sizes (Get key) quanta = 3
 most_calls sizes (Hold low high) quanta = 0

@@ -27,7 +27,7 @@ module _ {D : Type 0} (state : D → DiskState) (lines : List Line) (workers tur
   told : (i : ℕ) → i < callers + workers → (map (λ (e : Entry). e.op) (Rattle.blsm_model.specs.Facts.entries_of i end.held.book.book.entries) ≡ lines_of i lines)
       × (i < callers → IsGone (is_some end.held.book.stopped) ((facts_of end).part i))
       × (callers ≤ i → 0 < turns → 0 < ((facts_of end).part i).turns)
-      × (callers ≤ i → (((facts_of end).part i).turns ≤ turns) × (((facts_of end).part i).quanta ≤ turns))
+      × (callers ≤ i → (((facts_of end).part i).turns ≤ turns) × (((facts_of end).part i).quanta ≤ ((facts_of end).part i).turns))
   told i below = ended_in_value (CameSince state) lines turns lock i d end known (told_of (CameSince state) lines turns lock (callers - 1 + workers) i start c d opened ends (omega (arith, below)))
 
   their_entries : AreCallers end.held.book.book.entries
@@ -63,7 +63,8 @@ module _ {D : Type 0} (state : D → DiskState) (lines : List Line) (workers tur
         let at : callers + i - callers ≡ i = omega arith in (
           subst (λ (n : ℕ). slice_index end.held.book.seats.turns n ≤ turns) at
               (subst (λ (n : ℕ). n ≤ turns) (worker_turns (callers + i) end.held.book (omega arith)) most.0),
-          most.1,
+          subst (λ (n : ℕ). slice_index end.held.book.seats.quanta (callers + i) ≤ slice_index end.held.book.seats.turns n) at
+              (subst (λ (n : ℕ). slice_index end.held.book.seats.quanta (callers + i) ≤ n) (worker_turns (callers + i) end.held.book (omega arith)) most.1),
         );
     rested = λ seat above below.
         let eases = spare_in_value (CameSince state) lines turns lock seat (callers - 1 + workers) c d end known ends (omega (arith, opened.next, above)) (omega (arith, below)) in

@@ -83,7 +83,7 @@ module _ {D : Type 0} (lines : List Line) (lock : Lock (CoreState D)) (c : Calle
   same_number {state} d es went = ⊎_elim (λ (still : (d ≡ c) × (es ≡ [])). ap (λ (h : Caller (CoreState D)). h.number) still.0) (λ (did : DidOn state c es d). did.noted.number) went
 
   tells : {state : D → DiskState} (turns : ℕ) (d : Caller (CoreState D)) (es : List Entry) (P : Bool → Part → Type 0) (went : WentOn state c es d) → (k : KnowsOf P d) → map (λ (e : Entry). e.op) es ≡ lines_of c.number lines
-      → (c.number < callers → IsGone d.me.0.halted ((facts_of k.value).part d.number)) → (callers ≤ c.number → 0 < turns → 0 < ((facts_of k.value).part d.number).turns) → (callers ≤ c.number → (((facts_of k.value).part d.number).turns ≤ turns) × (((facts_of k.value).part d.number).quanta ≤ turns)) → TellsEnd lines turns c.number d
+      → (c.number < callers → IsGone d.me.0.halted ((facts_of k.value).part d.number)) → (callers ≤ c.number → 0 < turns → 0 < ((facts_of k.value).part d.number).turns) → (callers ≤ c.number → (((facts_of k.value).part d.number).turns ≤ turns) × (((facts_of k.value).part d.number).quanta ≤ ((facts_of k.value).part d.number).turns)) → TellsEnd lines turns c.number d
   tells turns d es P went k ops gone helped few =
       let number = same_number d es went in (
         k.value,
@@ -92,7 +92,7 @@ module _ {D : Type 0} (lines : List Line) (lock : Lock (CoreState D)) (c : Calle
           asked = ap (map (λ (e : Entry). e.op)) (ap (λ (n : ℕ). entries_of n k.value.held.book.book.entries) (sym number) ∙ (sym (ap (its_entries facts_of) k.own) ∙ noted_all d es went)) ∙ ops;
           gone = λ below. subst (λ (n : ℕ). IsGone d.me.0.halted ((facts_of k.value).part n)) number (gone below);
           helped = λ above some. subst (λ (n : ℕ). 0 < ((facts_of k.value).part n).turns) number (helped above some);
-          few = λ above. subst (λ (n : ℕ). (((facts_of k.value).part n).turns ≤ turns) × (((facts_of k.value).part n).quanta ≤ turns)) number (few above);
+          few = λ above. subst (λ (n : ℕ). (((facts_of k.value).part n).turns ≤ turns) × (((facts_of k.value).part n).quanta ≤ ((facts_of k.value).part n).turns)) number (few above);
         },
       )
 
@@ -109,4 +109,4 @@ module _ {D : Type 0} (lines : List Line) (lock : Lock (CoreState D)) (c : Calle
       let is : ((facts_of k.value).part d.number).turns ≡ took = k.part.0 ∙ turns_few took (omega (arith, told.1, few)) in
       tells turns d [] (HasHelped (turns_after took 0) (0 + took)) helped.went k (sym (lines_none c.number lines runnable above)) (λ below. absurd (omega (arith, below, above)))
       (λ up some. ⊎_elim (λ (all : took ≡ turns). omega (arith, all, some, is)) (λ early. omega (arith, early.0, is)) told.3)
-      (λ up. (omega (arith, is, told.1), omega (arith, k.part.1, told.1)))
+      (λ up. (omega (arith, is, told.1), omega (arith, k.part.1, is)))

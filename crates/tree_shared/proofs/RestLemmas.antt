@@ -143,7 +143,7 @@ module _ {D : Type 0} (st : CoreState D → CoreState D → Type 0) (lines : Lis
       → (map (λ (e : Entry). e.op) (entries_of i end.held.book.book.entries) ≡ lines_of i lines)
       × (i < callers → IsGone (is_some end.held.book.stopped) ((facts_of end).part i))
       × (callers ≤ i → 0 < turns → 0 < ((facts_of end).part i).turns)
-      × (callers ≤ i → (((facts_of end).part i).turns ≤ turns) × (((facts_of end).part i).quanta ≤ turns))
+      × (callers ≤ i → (((facts_of end).part i).turns ≤ turns) × (((facts_of end).part i).quanta ≤ ((facts_of end).part i).turns))
   ended_in_value i d end known t =
       let fits = at (Fits facts_of d.me.0.seen end) (i, t.0) d.me.0.own t.1 known.knows.own in
       let eases = fits.0.part in (
@@ -154,7 +154,7 @@ module _ {D : Type 0} (st : CoreState D → CoreState D → Type 0) (lines : Lis
           ⊎_elim (λ (was : d.me.0.halted ≡ true). inl (known.knows.halted was)) (λ (none : ((facts_of t.0).part i).debt1 + ((facts_of t.0).part i).debt2 ≡ 0). inr (omega (arith, none, eases.debt1, eases.debt2))) gone.2,
         )),
         (λ above some. subst (λ (n : ℕ). 0 < n) (sym eases.turns) (t.2.helped above some)),
-        (λ above. let few = t.2.few above in (omega (arith, eases.turns, few.0), omega (arith, eases.quanta, few.1))),
+        (λ above. let few = t.2.few above in (omega (arith, eases.turns, few.0), omega (arith, eases.quanta, eases.turns, few.1))),
       )
 
   -- a number that nobody had

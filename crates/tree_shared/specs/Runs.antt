@@ -66,7 +66,7 @@ pub record HasEnded {D : Type 0} (lines : List Line) (turns : ℕ) (halted : Boo
   pub asked : map (λ (e : Entry). e.op) (entries_of i core.held.book.book.entries) ≡ lines_of i lines
   pub gone : i < callers → IsGone halted ((facts_of core).part i)
   pub helped : callers ≤ i → 0 < turns → 0 < ((facts_of core).part i).turns
-  pub few : callers ≤ i → (((facts_of core).part i).turns ≤ turns) × (((facts_of core).part i).quanta ≤ turns)
+  pub few : callers ≤ i → (((facts_of core).part i).turns ≤ turns) × (((facts_of core).part i).quanta ≤ ((facts_of core).part i).turns)
 
 -- a caller has this number, and knows what its job left
 abbrev pub TellsEnd : {D : Type 0} → List Line → ℕ → ℕ → Held (CoreState D) → Type 0
@@ -87,7 +87,7 @@ pub record Ends {D : Type 0} (lines : List Line) (turns : ℕ) (lock : Lock (Cor
 
 -- ---- a run
 
--- Each caller did its lines and left, and each worker took a turn, where they take any, no more turns than it may, and no more quanta than that. No
+-- Each caller did its lines and left, and each worker took a turn, where they take any, no more turns than it may, and no more quanta than turns. No
 -- other worker's seat took any. From the start on some calls of the core led here.
 pub record RunsAll {D : Type 0} (state : D → DiskState) (lines : List Line) (workers turns : ℕ) (start end : CoreState D) : Type 0 where
   pub of_script : IsOfScript lines end.held.book.book.entries
@@ -97,5 +97,5 @@ pub record RunsAll {D : Type 0} (state : D → DiskState) (lines : List Line) (w
   pub idle : (seat : ℕ) → seat < callers → (work_in seat end.held.book).turns ≡ 0
   pub even : end.held.book.stopped ≡ None → (seat : ℕ) → seat < callers → OwesNothing seat end.held
   pub helped : 0 < turns → (i : ℕ) → i < workers → 0 < slice_index end.held.book.seats.turns i
-  pub few : (i : ℕ) → i < workers → (slice_index end.held.book.seats.turns i ≤ turns) × (slice_index end.held.book.seats.quanta (callers + i) ≤ turns)
+  pub few : (i : ℕ) → i < workers → (slice_index end.held.book.seats.turns i ≤ turns) × (slice_index end.held.book.seats.quanta (callers + i) ≤ slice_index end.held.book.seats.turns i)
   pub rested : (seat : ℕ) → callers + workers ≤ seat → seat < seats → (turns_in seat end.held.book ≡ 0) × (slice_index end.held.book.seats.quanta seat ≡ 0)

@@ -1,11 +1,12 @@
 use Rattle.std.specs.Prelude.{is_ok, IsTrue}
-use Rattle.std.proofs.Common.{◌≡◌, ◌∙◌, inl, inr, ℕ, ◌+◌, true, false, ap, sym, subst, arith}
+use Rattle.std.proofs.Common.{◌≡◌, ◌∙◌, inl, inr, ℕ, ◌+◌, ◌*◌, true, false, ap, sym, subst, arith}
 use Rattle.refusal.specs.Count.{HasRisen}
 use Rattle.blsm_model.specs.declared.key.Key.{Key}
 use Rattle.blsm_model.specs.Histories.{writes_of}
 use Rattle.blsm_model.specs.Legal.{total_weight}
 use Rattle.blsm_model.specs.Values.{key_of}
 use Rattle.gear_sched.specs.Gears.{first_debt, second_debt}
+use Rattle.disk_trait.specs.Effects.{affects_wider}
 use Rattle.record_delta.specs.declared.record.Rec.{Rec}
 use Rattle.record_delta.specs.Records.{record_of, weight}
 use Rattle.pacing.specs.Steps.{deep_settled}
@@ -19,6 +20,8 @@ use Rattle.core_pace.specs.Events.{MayWrite}
 use Rattle.core_pace.proofs.NeedLemmas.{way_is_free}
 use Rattle.core_pace.proofs.EventLemmas.{settled_between, moves_are_told}
 use Rattle.core_pace.proofs.CallLemmas.{paced_is_between, between_is_ready, settled_is_not_done, admission_fits}
+use Rattle.tree_core.specs.Causes.{calls_to_admit, is_pass_due, one_where, swaps_due_in}
+use Rattle.tree_core.proofs.BegunLemmas.{deep_counts}
 use Rattle.tree_core.proofs.KeepLemmas.{begin_keeps_pins, deep_keeps_pins, pass_keeps_pins, same_pins, then_pins}
 use Rattle.tree_core.proofs.TakingLemmas.{ok_of, err_of, calm_of, risen_of, begun_on, fits_as, at_write, affects_then, weighs}
 use Rattle.tree_core.proofs.TakingLists.{Begins, MayTake, settled_by, begun_by, Appends, deep_whole, lost_deep, pass_whole, lost_pass, done_leaves, doubt_leaves, writes_over}
@@ -44,6 +47,9 @@ returns-then-is_err-clause-lists g c = λ opening m pace honest stands runs may 
     let begins : Begins opening old m pace before = record { honest = honest; stands = stands; runs = runs; numbers = c.requires.runs.pace; paced = c.requires.runs.live.paced } in
     let whole = deep_whole opening old m pace before begins left (is_ok c.settle_deep.result) after (inl (c.settle_deep.ensures.due failed)) c.settle_deep.ensures.lists in
     (lost_deep opening old m pace before begins left (err_of c.settle_deep.result failed c.settle_deep.ensures.kept) (c.settle_deep.ensures.due failed), whole.0, whole.1)
+
+pub returns-then-is_err-clause-effect : goal.returns-then-is_err-clause-effect
+returns-then-is_err-clause-effect g c = affects_wider (λ i here. here) (omega arith) (omega arith) c.settle_deep.ensures.effect
 
 -- ---- the pass's swap
 
@@ -87,10 +93,12 @@ returns-then-is_err-2-clause-lists g c = λ opening m pace honest stands runs ma
 pub returns-then-is_err-2-clause-effect : goal.returns-then-is_err-2-clause-effect
 returns-then-is_err-2-clause-effect g c =
     let ok = sym c.is_err.ensures.value ∙ c.if-is_err.false in
-    affects_then c.args.held.now c.settle_deep.new.held 22
-    (deep_keeps_pins c.args.held.now c.settle_deep.new.held (ok_of c.settle_deep.result ok c.settle_deep.ensures.settles)) (g.met.D.Disk.timed c.settle_deep.new.disk)
+    let settles = ok_of c.settle_deep.result ok c.settle_deep.ensures.settles in
+    let pass_stays : one_where (is_pass_due c.settle_deep.new.held) ≡ one_where (is_pass_due c.args.held.now) = ap one_where (deep_counts c.args.held.now c.settle_deep.new.held settles).1 in
+    affects_then c.args.held.now c.settle_deep.new.held (calls_to_admit c.args.held.now)
+    (deep_keeps_pins c.args.held.now c.settle_deep.new.held settles) (g.met.D.Disk.timed c.settle_deep.new.disk)
     (calm_of c.settle_deep.result (g.D.Disk.state c.args.disk.now) (g.D.Disk.state c.settle_deep.new.disk) ok c.settle_deep.ensures.faults)
-    c.settle_deep.ensures.effect c.settle_pass.ensures.effect (omega arith)
+    c.settle_deep.ensures.effect c.settle_pass.ensures.effect (omega (arith, pass_stays))
 
 pub returns-then-is_err-2-clause-faults : goal.returns-then-is_err-2-clause-faults
 returns-then-is_err-2-clause-faults g c =
@@ -196,15 +204,17 @@ returns-in-Ok-clause-effect g c =
     let before = g.D.Disk.state c.args.disk.now in
     let mid = g.D.Disk.state c.settle_deep.new.disk in
     let last = g.D.Disk.state c.settle_pass.new.disk in
-    let same = deep_keeps_pins c.args.held.now c.settle_deep.new.held (ok_of c.settle_deep.result ok c.settle_deep.ensures.settles) in
+    let settles = ok_of c.settle_deep.result ok c.settle_deep.ensures.settles in
+    let pass_stays : one_where (is_pass_due c.settle_deep.new.held) ≡ one_where (is_pass_due c.args.held.now) = ap one_where (deep_counts c.args.held.now c.settle_deep.new.held settles).1 in
+    let same = deep_keeps_pins c.args.held.now c.settle_deep.new.held settles in
     let same_then = pass_keeps_pins c.settle_deep.new.held c.settle_pass.new.held (ok_of c.settle_pass.result ok_then c.settle_pass.ensures.settles) in
     let calm = calm_of c.settle_deep.result before mid ok c.settle_deep.ensures.faults in
-    affects_then c.args.held.now c.begin_for.new.self 22
+    affects_then c.args.held.now c.begin_for.new.self (calls_to_admit c.args.held.now)
     (then_pins c.args.held.now c.settle_pass.new.held c.begin_for.new.self (then_pins c.args.held.now c.settle_deep.new.held c.settle_pass.new.held same same_then)
     (then_pins c.settle_pass.new.held (begun_in c.weight.result c.settle_pass.new.held) c.begin_for.new.self (begin_keeps_pins c.weight.result c.settle_pass.new.held)
     (same_pins (begun_in c.weight.result c.settle_pass.new.held) c.begin_for.new.self c.begin_for.ensures.begun))) (g.met.D.Disk.timed c.settle_pass.new.disk)
     (calm_of c.settle_pass.result mid last ok_then c.settle_pass.ensures.faults ∙ calm)
-    (affects_then c.args.held.now c.settle_deep.new.held 18 same (g.met.D.Disk.timed c.settle_deep.new.disk) calm c.settle_deep.ensures.effect c.settle_pass.ensures.effect (omega arith))
+    (affects_then c.args.held.now c.settle_deep.new.held (9 * swaps_due_in c.args.held.now) same (g.met.D.Disk.timed c.settle_deep.new.disk) calm c.settle_deep.ensures.effect c.settle_pass.ensures.effect (omega (arith, pass_stays)))
     c.write.ensures.effect (omega arith)
 
 pub returns-in-Ok-clause-faults : goal.returns-in-Ok-clause-faults
@@ -259,13 +269,15 @@ returns-in-Err-clause-effect g c =
     let before = g.D.Disk.state c.args.disk.now in
     let mid = g.D.Disk.state c.settle_deep.new.disk in
     let last = g.D.Disk.state c.settle_pass.new.disk in
-    let same = deep_keeps_pins c.args.held.now c.settle_deep.new.held (ok_of c.settle_deep.result ok c.settle_deep.ensures.settles) in
+    let settles = ok_of c.settle_deep.result ok c.settle_deep.ensures.settles in
+    let pass_stays : one_where (is_pass_due c.settle_deep.new.held) ≡ one_where (is_pass_due c.args.held.now) = ap one_where (deep_counts c.args.held.now c.settle_deep.new.held settles).1 in
+    let same = deep_keeps_pins c.args.held.now c.settle_deep.new.held settles in
     let same_then = pass_keeps_pins c.settle_deep.new.held c.settle_pass.new.held (ok_of c.settle_pass.result ok_then c.settle_pass.ensures.settles) in
     let calm = calm_of c.settle_deep.result before mid ok c.settle_deep.ensures.faults in
-    affects_then c.args.held.now c.begin_for.new.self 22
+    affects_then c.args.held.now c.begin_for.new.self (calls_to_admit c.args.held.now)
     (then_pins c.args.held.now c.settle_pass.new.held c.begin_for.new.self (then_pins c.args.held.now c.settle_deep.new.held c.settle_pass.new.held same same_then)
     (then_pins c.settle_pass.new.held (begun_in c.weight.result c.settle_pass.new.held) c.begin_for.new.self (begin_keeps_pins c.weight.result c.settle_pass.new.held)
     (same_pins (begun_in c.weight.result c.settle_pass.new.held) c.begin_for.new.self c.begin_for.ensures.begun))) (g.met.D.Disk.timed c.settle_pass.new.disk)
     (calm_of c.settle_pass.result mid last ok_then c.settle_pass.ensures.faults ∙ calm)
-    (affects_then c.args.held.now c.settle_deep.new.held 18 same (g.met.D.Disk.timed c.settle_deep.new.disk) calm c.settle_deep.ensures.effect c.settle_pass.ensures.effect (omega arith))
+    (affects_then c.args.held.now c.settle_deep.new.held (9 * swaps_due_in c.args.held.now) same (g.met.D.Disk.timed c.settle_deep.new.disk) calm c.settle_deep.ensures.effect c.settle_pass.ensures.effect (omega (arith, pass_stays)))
     c.write.ensures.effect (omega arith)

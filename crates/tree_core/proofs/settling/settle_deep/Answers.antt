@@ -1,6 +1,9 @@
 use Rattle.std.specs.Prelude.{true}
-use Rattle.std.proofs.Common.{◌∙◌, refl, sym}
+use Rattle.std.proofs.Common.{◌≡◌, ◌∙◌, ap, arith, refl, sym}
 use Rattle.std.proofs.lemmas.Bool.{false≢true}
+use Rattle.disk_trait.specs.Effects.{affects_wider}
+use Rattle.tree_core.specs.Causes.{is_deep_due, one_where}
+use Rattle.tree_core.proofs.BegunLemmas.{deep_is}
 use Rattle.tree_core.proofs.SettlingLemmas.{rests_over}
 use Rattle.tree_core.proofs.settling.settle_deep.Goals as goal
 
@@ -21,3 +24,8 @@ swap_deep-requires-clause-done g c = c.is_deep_done.ensures.0 c.if-is_deep_done.
 
 pub returns-then-is_deep_done-clause-due : goal.returns-then-is_deep_done-clause-due
 returns-then-is_deep_done-clause-due g c = λ failed. c.is_deep_done.ensures.0 c.if-is_deep_done.true
+
+pub returns-then-is_deep_done-clause-effect : goal.returns-then-is_deep_done-clause-effect
+returns-then-is_deep_done-clause-effect g c =
+    let due : one_where (is_deep_due c.args.held.now) ≡ 1 = ap one_where (deep_is c.args.held.now (c.is_deep_done.ensures.0 c.if-is_deep_done.true)) in
+    affects_wider (λ i here. here) (omega arith) (omega (arith, due)) c.swap_deep.ensures.effect

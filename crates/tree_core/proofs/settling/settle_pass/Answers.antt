@@ -1,9 +1,12 @@
 use Rattle.std.specs.Prelude.{◌≡◌, IsTrue, is_some, true}
-use Rattle.std.proofs.Common.{◌∙◌, inl, inr, refl, sym, subst}
+use Rattle.std.proofs.Common.{◌∙◌, inl, inr, ap, arith, refl, sym, subst}
 use Rattle.std.proofs.lemmas.Bool.{false≢true}
 use Rattle.std.proofs.lemmas.Result.{on_ok_weaker}
+use Rattle.disk_trait.specs.Effects.{affects_wider}
 use Rattle.mem_table.specs.Tables.{Contents}
 use Rattle.tree_runs.specs.Runs.{left_for_pass}
+use Rattle.tree_core.specs.Causes.{is_pass_due, one_where}
+use Rattle.tree_core.proofs.BegunLemmas.{pass_is}
 use Rattle.tree_core.proofs.SettlingLemmas.{rests_over}
 use Rattle.tree_core.proofs.settling.settle_pass.Goals as goal
 
@@ -56,3 +59,9 @@ returns-else-is_pass_done-clause-lists g c = λ tree honest over. (
   },
   rests_over c.args.held.now.runs tree c.args.held.now.log.a.entries true (g.D.Disk.state c.args.disk.now) (g.met.D.Disk.timed c.args.disk.now) over,
 )
+
+pub returns-then-is_pass_done-clause-effect : goal.returns-then-is_pass_done-clause-effect
+returns-then-is_pass_done-clause-effect g c =
+    let is = subst (λ (t : Contents). IsTrue (is_some c.args.held.now.runs.pass) × (left_for_pass c.args.held.now.runs.pass t.entries ≡ 0)) c.a.ensures (c.is_pass_done.ensures.0 c.if-is_pass_done.true) in
+    let due : one_where (is_pass_due c.args.held.now) ≡ 1 = ap one_where (pass_is c.args.held.now is) in
+    affects_wider (λ i here. here) (omega arith) (omega (arith, due)) c.swap_pass.ensures.effect

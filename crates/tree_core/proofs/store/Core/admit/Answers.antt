@@ -4,7 +4,7 @@ use Rattle.std.proofs.lemmas.Bool.{false≢true}
 use Rattle.blsm_model.specs.Format.{least_weight, most_weight}
 use Rattle.blsm_model.specs.Facts.{Follows}
 use Rattle.blsm_model.specs.Book.{Book, HasRoom}
-use Rattle.blsm_model.specs.Geometry.{charge_limit}
+use Rattle.blsm_model.specs.Geometry.{charge_limit, file_length}
 use Rattle.blsm_model.specs.Histories.{writes_of}
 use Rattle.blsm_model.specs.Legal.{total_weight}
 use Rattle.blsm_model.specs.Stored.{as_reply}
@@ -13,12 +13,14 @@ use Rattle.blsm_model.specs.declared.op.Op.{Op}
 use Rattle.blsm_model.specs.declared.history.Why.TheVariants.{Faulted}
 use Rattle.blsm_model.specs.declared.history.Reply.{Reply}
 use Rattle.blsm_model.specs.declared.history.Reply.TheVariants.{Done, Full, FaultLost, FaultUnsure, Stopped}
+use Rattle.disk_trait.specs.Effects.{Affects}
 use Rattle.gear_sched.specs.Gears.{first_debt, second_debt}
 use Rattle.record_delta.specs.Records.{record_of}
 use Rattle.seat_book.specs.State.{BookState, may_note_in, noted_in, stopped_in}
 use Rattle.seat_book.proofs.WordLemmas.{note_has_room}
 use Rattle.tree_machine.specs.Steps.{Replied, is_del}
 use Rattle.tree_machine.specs.declared.step.Kind.TheVariants as kind
+use Rattle.scan_view.specs.Pins.{beside_pins}
 use Rattle.core_moves.specs.Held.{charge_in}
 use Rattle.core_moves.specs.Moves.{with_book}
 use Rattle.core_pace.specs.Events.{MayWrite}
@@ -32,7 +34,7 @@ use Rattle.tree_core.proofs.AdmissionSteps.{IsAsked, write_fits, stopped_steps, 
 use Rattle.tree_core.specs.declared.admission.Taking.TheVariants.{Taken, Failed}
 use Rattle.tree_core.specs.declared.answers.Admission.TheVariants as admission
 use Rattle.tree_core.specs.Answers.{reply_to_write}
-use Rattle.tree_core.specs.Causes.{HasBegun}
+use Rattle.tree_core.specs.Causes.{HasBegun, calls_to_admit}
 use Rattle.tree_core.proofs.BegunLemmas.{begun_by}
 use Rattle.tree_core.specs.Notes.{NotesOne}
 use Rattle.tree_core.proofs.NotingLemmas.{notes_at_once, notes_by, notes_stopped}
@@ -585,3 +587,13 @@ invariant_of-self-in-Failed g c =
           (failed_moves begun seat op write (Faulted after.faults) held new c.self.invariant.0.pace after c.write_of-write.ensures.write (c.self.invariant.0.holds.live ran).paced (room_for held.book seat op may) c.in-Failed.ensures.takes)),
       few_on c.self.inside.held.runs.sizes c.args.self.now.held.runs.sizes _ c.self.inside.holds (ap (λ (s : CoreState g.row.D.Denot). s.held.runs.sizes) c.self.view_is) (returns-in-Failed-clause-holds g c).sizes c.self.invariant.1,
     )
+
+-- ---- how it called the disk
+
+pub returns-in-Taken-clause-effect : goal.returns-in-Taken-clause-effect
+returns-in-Taken-clause-effect g c =
+    subst (λ (s : CoreState g.row.D.Denot). Affects (beside_pins s.held.runs.sizes s.held.runs.space.pins) (file_length s.held.runs.sizes) (calls_to_admit s.held) (g.D.Disk.state s.disk) (g.D.Disk.state c.take.new.disk)) c.self.view_is c.take.ensures.effect
+
+pub returns-in-Failed-clause-effect : goal.returns-in-Failed-clause-effect
+returns-in-Failed-clause-effect g c =
+    subst (λ (s : CoreState g.row.D.Denot). Affects (beside_pins s.held.runs.sizes s.held.runs.space.pins) (file_length s.held.runs.sizes) (calls_to_admit s.held) (g.D.Disk.state s.disk) (g.D.Disk.state c.take.new.disk)) c.self.view_is c.take.ensures.effect
