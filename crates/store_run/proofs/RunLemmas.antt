@@ -117,7 +117,7 @@ by_threads state lines workers turns old new runs tells takes = record {
   by_callers = takes.closed runs.idle;
   names = tells.names;
   tells = tells.tells;
-  calls = calls_of_all old.held.runs.sizes (steps_of runs.came.calls);
+  calls = calls_of_all old runs.came.calls;
   effect = tells.effect;
 }
 
@@ -133,14 +133,14 @@ few_sum (x ∷ xs) (suc n) t few none =
     let rest = few_sum xs n t (λ i below. few (suc i) (omega (arith, below))) (λ i above below. none (suc i) (omega (arith, above)) (omega (arith, below))) in
     omega (arith, first, rest, sum_by-cons (λ (m : ℕ). m) x xs, suc-mul n t)
 
--- a worker took a quantum in each of its turns at most, and nobody else took any but callers
+-- a worker took no more quanta than turns, so no more than the turns that it may, and nobody else took any but callers
 pub workers_took : {D : Type 0} (state : D → DiskState) (lines : List Line) (workers turns : ℕ) (old new : CoreState D) → RunsAll state lines workers turns old new → sum (drop callers new.held.book.seats.quanta) ≤ workers * turns
 workers_took state lines workers turns old new runs =
     let quanta = new.held.book.seats.quanta in
     let long : length quanta ≡ seats = runs.keeps.holds.told.told.booked.seats in
     let at : (i : ℕ) → slice_index (drop callers quanta) i ≡ slice_index quanta (callers + i) = λ i. get_or-drop callers quanta i 0 in
     few_sum (drop callers quanta) workers turns
-    (λ i below. omega (arith, at i, (runs.few i below).1))
+    (λ i below. omega (arith, at i, (runs.few i below).0, (runs.few i below).1))
     (λ i above below. at i ∙ (runs.rested (callers + i) (omega (arith, above)) (omega (arith, below, length-drop callers quanta, long))).1)
 
 -- how they ended is told of the core that is left

@@ -39,7 +39,7 @@ use Rattle.core_lists.specs.Shown.{ShowsHistory, doubted, lanes_weight}
 use Rattle.tree_reading.specs.Damage.{most_version}
 use Rattle.recover_open.specs.Opening.{KeepsMapOf, weight_of_tree}
 use Rattle.core_chain.specs.Quanta.{helps_in}
-use Rattle.core_chain.specs.Steps.{AllMay, AreTimed, RestOnceStopped, clock_after, outcomes_in}
+use Rattle.core_chain.specs.Steps.{AllMay, AreTimed, RestOnceOver, clock_after, outcomes_in}
 use Rattle.store_run.specs.Run.{HaveEnded, Run, finds_damage}
 
 -- The file is a store of these sizes that reads as this map, with a version that is taken.
@@ -105,11 +105,12 @@ pub record IsServed {D : Type 0} (state : D → DiskState) (sizes : Sizes) (run 
 
 -- The moments of the steps, of which one is one hold of the lock: once the first n had ended, each image shows all entries that they had noted.
 pub record HaveMoments (sizes : Sizes) (opening : List (Key × Value)) (run : Run) (begin : Machine) (made : List (Step × Outcome)) (opened last : DiskState) : Type 0 where
-  -- the steps, each with the disk's clock when it had ended: clocks rise, by no more than a step may call the disk, and stand once the store is stopped
+  -- the steps, each with the disk's clock when it had ended: clocks rise, by no more than a step may call the disk there, and stand where the store is
+  -- stopped, and at a worker's turn where it is closed
   pub steps : List (Step × Outcome × ℕ)
   pub same : outcomes_in steps ≡ made
-  pub timed : AreTimed sizes opened.clock steps last.clock
-  pub rests : RestOnceStopped begin opened.clock steps
+  pub timed : AreTimed begin opened.clock steps last.clock
+  pub rests : RestOnceOver begin opened.clock steps
   -- each might be made where it stands
   pub may : AllMay begin made
   pub shows : (n t : ℕ) (c : List ℕ) → clock_after opened.clock n steps ≤ t → last.images_since t c

@@ -56,7 +56,7 @@ pub record IsRunOf (sizes : Sizes) (lines : List Line) (workers turns : ℕ) (ru
   -- a write took no more quanta than its work bound, a work of n turns no more than n, and the others none; their sum is printed
   pub few : TookFew sizes run.entries run.quanta
   pub callers : run.totals.callers ≡ sum run.quanta
-  -- a worker took a quantum in each of its turns at most, and without workers none was taken so
+  -- the workers took no more quanta than the turns that they may take, so none where there are none
   pub helped : run.totals.workers ≤ workers * turns
   -- a reply that the store is stopped names what stopped it
   pub stops : AllByRecursion (λ e. NamesStop e.reply run.totals.stopped) run.entries
@@ -70,13 +70,13 @@ pub record IsRunInOrder (sizes : Sizes) (lines : List Line) (run : Run) : Type 0
   pub in_order : asked_in run.entries ≡ asked lines
 
 -- How callers and workers ended: each caller left, with no open work, and owes nothing unless the store is stopped; each worker took a turn, where it
--- takes any, and no more than it may, with a quantum in each at most. No other worker's seat took any.
+-- takes any, and no more than it may, and no more quanta than turns. No other worker's seat took any.
 pub record HaveEnded (workers turns : ℕ) (gears : GearState) (book : BookState) : Type 0 where
   pub left : (seat : ℕ) → seat < callers → HasLeft seat book
   pub idle : (seat : ℕ) → seat < callers → (work_in seat book).turns ≡ 0
   pub even : book.stopped ≡ None → (seat : ℕ) → seat < callers → first_debt gears seat + second_debt gears seat ≡ 0
   pub helped : 0 < turns → (i : ℕ) → i < workers → 0 < slice_index book.seats.turns i
-  pub few : (i : ℕ) → i < workers → (slice_index book.seats.turns i ≤ turns) × (slice_index book.seats.quanta (callers + i) ≤ turns)
+  pub few : (i : ℕ) → i < workers → (slice_index book.seats.turns i ≤ turns) × (slice_index book.seats.quanta (callers + i) ≤ slice_index book.seats.turns i)
   pub rested : (seat : ℕ) → callers + workers ≤ seat → seat < seats → (turns_in seat book ≡ 0) × (slice_index book.seats.quanta seat ≡ 0)
 
 -- The same of what is printed, on every disk: it is what a core left that they ended so.
