@@ -6,8 +6,12 @@
 FOLDER is made, and has a small repository for the crates as they stand here and one for each revision, with the program of
 memory_table.txt, which `rt run` proves and builds; `rustc -O` builds memory_table.rs. Keys have eight bytes, texts a hundred. Prints
 for each number of keys and each order in which they come, least of five runs, in nanoseconds: an insertion, a lookup that copies the
-record out, a step from a key to the next one. Then the program as it stands here runs with 500,000,000 bytes of memory at most, for
-a table of the largest high mark, 134,217,728.
+record out, a step from a key to the next one. Where `chrt` may give it, the programs run ahead of all other work (real-time, 10), so
+that a busy machine disturbs them less; the programs of the revisions take turns. Then the program as it stands here runs with
+500,000,000 bytes of memory at most, for a table of the largest high mark, 134,217,728.
+
+A lookup's record is used by a call of its own (`seen`): otherwise the compiler leaves its bytes uncopied, in some revisions and not in
+others.
 """
 import os
 import re
@@ -63,17 +67,30 @@ def build(folder, revision):
     return os.path.join(crate, "out/table_times")
 
 
-def measure(program):
-    """The least nanoseconds of each operation, by number of keys and order."""
-    least = {}
+def ahead():
+    """What runs a program ahead of others: nothing where that isn't allowed."""
+    words = ["chrt", "-f", "10"]
+    try:
+        allowed = subprocess.run([*words, "true"], stderr=subprocess.DEVNULL).returncode == 0
+    except FileNotFoundError:
+        allowed = False
+    return words if allowed else []
+
+
+def measure(programs):
+    """The least nanoseconds of each operation, by program, number of keys and order."""
+    first = ahead()
+    times = {name: {} for name in programs}
     for _ in range(RUNS):
-        for line in subprocess.check_output([program], text=True).splitlines():
-            order, count, fill, look, walk, _, found, passed = line.split()
-            assert int(found) == LOOKUPS and passed == count, line
-            each = (int(fill) // int(count), int(look) // LOOKUPS, int(walk) // int(count))
-            before = least.get((int(count), order), each)
-            least[int(count), order] = tuple(map(min, each, before))
-    return least
+        for name, program in programs.items():
+            least = times[name]
+            for line in subprocess.check_output([*first, program], text=True).splitlines():
+                order, count, fill, look, walk, _, found, passed = line.split()
+                assert int(found) == LOOKUPS and passed == count, line
+                each = (int(fill) // int(count), int(look) // LOOKUPS, int(walk) // int(count))
+                before = least.get((int(count), order), each)
+                least[int(count), order] = tuple(map(min, each, before))
+    return times
 
 
 def main():
@@ -87,7 +104,7 @@ def main():
     rust = os.path.join(folder, "btree")
     subprocess.check_call(["rustc", "-O", "-o", rust, os.path.join(HERE, "benchmarks/memory_table.rs")])
     programs["BTreeMap"] = rust
-    times = {name: measure(program) for name, program in programs.items()}
+    times = measure(programs)
     print("| Keys | Order | " + " | ".join(f"{name}: insertion, lookup, step" for name in times) + " |")
     print("|---" * (2 + len(times)) + "|")
     for count, order in times["here"]:

@@ -1,5 +1,6 @@
 -- A string beside one in chunks, and the first bytes of one.
 use Rattle.std.proofs.Common.{◌≡◌, ◌≢◌, ℕ, zero, suc, ◌+◌, ◌-◌, ◌*◌, ◌<◌, ◌≤◌, min, List, [], ◌∷◌, ◌++◌, length, take, drop, inl, inr, refl, ap, sym, ◌∙◌, arith}
+use Rattle.std.specs.Int.{w64, from_be_bytes}
 use Rattle.std.specs.Ordering.{nat_cmp, ordering_then}
 use Rattle.std.specs.declared.cmp.Ordering.{Ordering}
 use Rattle.std.specs.declared.cmp.Ordering.TheVariants.{Less, Equal, Greater}
@@ -8,6 +9,7 @@ use Rattle.std.proofs.lemmas.Bool.{cases_lt}
 use Rattle.std.proofs.lemmas.List.{length-take, take_all, take_min, drop_all, drop_min, take-take, append-nil}
 use Rattle.entry_store.specs.declared.chunks.Chunk.{Chunk}
 use Rattle.entry_store.specs.Chains.{times, chunks_for, chunk_at, next_of, chain, walk, text_of}
+use Rattle.entry_store.proofs.NumberLemmas.{AreBytes, AreBytes-take, eight_ordered}
 use Rattle.entry_store.proofs.ChainLemmas.{chain_is, chain-add, times-append, text_is, text_empty, chunks_none, chunks_more, first_in}
 
 -- ---- lists
@@ -32,7 +34,7 @@ then_assoc Equal b c = refl
 then_assoc Greater b c = refl
 
 -- the first bytes decide, and then the rest
-cmp_parts : (n : ℕ) (xs ys : List ℕ) → slice_cmp nat_cmp xs ys ≡ ordering_then (slice_cmp nat_cmp (take n xs) (take n ys)) (slice_cmp nat_cmp (drop n xs) (drop n ys))
+pub cmp_parts : (n : ℕ) (xs ys : List ℕ) → slice_cmp nat_cmp xs ys ≡ ordering_then (slice_cmp nat_cmp (take n xs) (take n ys)) (slice_cmp nat_cmp (drop n xs) (drop n ys))
 cmp_parts zero xs ys = refl
 cmp_parts (suc n) [] [] = refl
 cmp_parts (suc n) [] (y ∷ ys) = refl
@@ -69,11 +71,47 @@ cmp_chunk xs front rest many is fits last =
           | inr le ↦ let none : 16 - length front ≡ 0 = omega (arith, fits, le) in ap (λ k. drop k rest) none
         ]
 
+stands : (o rest : Ordering) → o ≢ Equal → ordering_then o rest ≡ o
+stands Less rest differs = refl
+stands Equal rest differs = absurd (differs refl)
+stands Greater rest differs = refl
+
+-- the first bytes decide alone where they differ
+pub cmp_decided : (n : ℕ) (xs ys : List ℕ) (o : Ordering) → o ≡ slice_cmp nat_cmp (take n xs) (take n ys) → o ≢ Equal → o ≡ slice_cmp nat_cmp xs ys
+cmp_decided n xs ys o is differs =
+    sym (cmp_parts n xs ys ∙ ap (λ p. ordering_then p (slice_cmp nat_cmp (drop n xs) (drop n ys))) (sym is) ∙ stands o (slice_cmp nat_cmp (drop n xs) (drop n ys)) differs)
+
+-- by eight bytes and their numbers
+pub by_fronts : (xs ys : List ℕ) (x y : ℕ) (o : Ordering) → 8 ≤ length xs → 8 ≤ length ys → AreBytes xs → AreBytes ys → x ≡ from_be_bytes w64 (take 8 xs) → y ≡ from_be_bytes w64 (take 8 ys)
+    → o ≡ nat_cmp x y → o ≡ slice_cmp nat_cmp (take 8 xs) (take 8 ys)
+by_fronts xs ys x y o xs_long ys_long xs_fit ys_fit x_is y_is is =
+    is
+    ∙ ap (λ n. nat_cmp n y) x_is
+    ∙ ap (nat_cmp (from_be_bytes w64 (take 8 xs))) y_is
+    ∙ eight_ordered (take 8 xs) (take 8 ys) (omega (arith, xs_long, length-take 8 xs)) (omega (arith, ys_long, length-take 8 ys)) (AreBytes-take 8 xs xs_fit) (AreBytes-take 8 ys ys_fit)
+
+-- and say nothing where they are the same
+pub cmp_behind : (n : ℕ) (xs ys : List ℕ) → slice_cmp nat_cmp (take n xs) (take n ys) ≡ Equal → slice_cmp nat_cmp (drop n xs) (drop n ys) ≡ slice_cmp nat_cmp xs ys
+cmp_behind n xs ys level = sym (cmp_parts n xs ys ∙ ap (λ p. ordering_then p (slice_cmp nat_cmp (drop n xs) (drop n ys))) level)
+
 pub cmp_nothing : (xs : List ℕ) → length xs ≢ 0 → Greater ≡ slice_cmp nat_cmp xs []
 cmp_nothing [] some = absurd (some refl)
 cmp_nothing (x ∷ xs) some = refl
 
 -- ---- the first bytes of a string in chunks
+
+-- the first eight are those of the first chunk
+pub text_front : (cs : List Chunk) (p bytes : ℕ) → 8 ≤ bytes → length (chunk_at cs p).bytes ≡ 16 → take 8 (text_of (chunks_for bytes) cs p bytes) ≡ take 8 (chunk_at cs p).bytes
+text_front cs p bytes enough long =
+    let many : ℕ = min bytes 16 in
+    let here : List ℕ = (chunk_at cs p).bytes in
+    let rest : List ℕ = text_of (chunks_for (bytes - many)) cs (next_of cs p) (bytes - many) in
+    let none : 8 - length (take many here) ≡ 0 = omega (arith, length-take many here, long, enough) in
+    ap (take 8) (text_is (chunks_for bytes) (chunks_for (bytes - many)) cs p bytes (chunks_more bytes many (omega (arith, enough)) refl))
+    ∙ take_over 8 (take many here) rest
+    ∙ ap (λ k. take 8 (take many here) ++ take k rest) none
+    ∙ append-nil (take 8 (take many here))
+    ∙ take-take 8 many here (omega (arith, enough))
 
 -- are those of its first chunks
 pub text_taken : (n : ℕ) (cs : List Chunk) (p k bytes : ℕ) → k ≤ bytes → bytes ≤ 16 * n → ((q : ℕ) → 1 ≤ times q (chain n cs p) → length (chunk_at cs q).bytes ≡ 16)

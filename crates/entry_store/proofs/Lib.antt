@@ -1,4 +1,5 @@
 pub mod ChainLemmas
+pub mod NumberLemmas
+pub mod CompareLemmas
 pub mod StoreLemmas
 pub mod SetLemmas
-pub mod CompareLemmas

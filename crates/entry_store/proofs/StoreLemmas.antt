@@ -15,6 +15,7 @@ use Rattle.entry_store.specs.declared.store.Kind.{Kind}
 use Rattle.entry_store.specs.declared.store.Kind.TheVariants as kind
 use Rattle.entry_store.specs.Chains.{AreLinked, chunks_for, chunk_at, next_of, chain, walk, text_of, times}
 use Rattle.entry_store.specs.Stores.{rec_with, HasText, len_of, size_of, string_in, entry_in, entries_in, in_use, free_chunks, is_free, IsHead, IsStore, IsHeadOf}
+use Rattle.entry_store.proofs.CompareLemmas.{text_taken}
 use Rattle.entry_store.proofs.ChainLemmas.{length-text, chain-add, chain_stays, text_stays, times-append, rising_chain}
 
 pub all_at : {X : Type 0} (P : X → Type 0) (xs : List X) (i : ℕ) (d : X) → i < length xs → AllByRecursion P xs → P (get_or xs i d)
@@ -46,6 +47,19 @@ module _ (cs : List Chunk) (heads : List Head) (free reserved head_places : ℕ)
 
   pub length_string : length (string_in cs h) ≡ len_of h
   length_string = length-text (size_of h) cs h.first (len_of h) (λ q one. s.full q (chain_inside q one)) (sixteen (len_of h))
+
+  -- its chunks, read as whole ones
+  whole_full : (q : ℕ) → 1 ≤ times q (chain (size_of h) cs h.first) → length (chunk_at cs q).bytes ≡ 16
+  whole_full q one = s.full q (chain_inside q one)
+
+  pub string_whole : take (len_of h) (text_of (size_of h) cs h.first (16 * size_of h)) ≡ string_in cs h
+  string_whole = text_taken (size_of h) cs h.first (len_of h) (16 * size_of h) (sixteen (len_of h)) (omega arith) whole_full
+
+  pub length_whole : length (text_of (size_of h) cs h.first (16 * size_of h)) ≡ 16 * size_of h
+  length_whole = length-text (size_of h) cs h.first (16 * size_of h) whole_full (omega arith)
+
+  pub room_whole : 16 * size_of h ≤ 512
+  room_whole = omega (arith, head_is.key_most, head_is.text_most)
 
   pub entry_there : (d : Key × Rec) → get_or (entries_in cs heads) i d ≡ entry_in cs h
   entry_there d = get_or-map (entry_in cs) heads i h d within ∙ ap (entry_in cs) (sym is)

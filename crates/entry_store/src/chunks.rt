@@ -1,5 +1,6 @@
 //! Strings of bytes in chunks of sixteen, linked by numbers.
-ghost use Rattle.std.specs.Prelude.{◌≡◌, ℕ, ◌+◌, ◌-◌, ◌*◌, ◌^◌, ◌<◌, ◌≤◌, ◌++◌, length, take};
+ghost use Rattle.std.specs.Prelude.{◌≡◌, ℕ, ◌+◌, ◌-◌, ◌*◌, ◌^◌, ◌<◌, ◌≤◌, ◌++◌, length, get_or, take};
+ghost use Rattle.std.specs.Int.{w64, from_be_bytes};
 ghost use Rattle.std.specs.Ordering.{nat_cmp};
 ghost use Rattle.std.specs.Cmp.Lexicographic.{slice_cmp};
 ghost use Rattle.entry_store.specs.Chains.{AreLinked, chunks_for, chunk_at, next_of, chain, walk, text_of, times, linked};
@@ -12,6 +13,9 @@ pub(crate) const CHUNK: usize = 16;
 
 /// The most bytes of a key with its text.
 pub(crate) const MOST: usize = 499;
+
+/// How many bytes the chunks of so many have.
+pub(crate) const ROOM: usize = 512;
 
 /// Some bytes, and the chunk that comes next.
 #[derive(Clone, Copy, Debug, Drop)]
@@ -54,26 +58,71 @@ pub(crate) fn fill(chunks: &mut [Chunk], at: u32, bytes: &[u8]) -> u32
     fill(chunks, next, &bytes[many..])
 }
 
-// Reads a string from its chunks.
-pub(crate) fn read(chunks: &[Chunk], at: u32, len: usize, into: &mut ArrayVec<u8, MOST>)
-    requires inside { (q : ℕ) → 1 ≤ times q (chain (chunks_for len) chunks.now at) → q < length chunks.now }
-    requires room { length into.old.items + len ≤ 499 }
-    ensures { into.new.items ≡ into.old.items ++ text_of (chunks_for len) chunks.now at len }
+// Reads so many chunks, whole ones.
+pub(crate) fn read(chunks: &[Chunk], at: u32, many: u32, into: &mut ArrayVec<u8, ROOM>)
+    requires inside { (q : ℕ) → 1 ≤ times q (chain many chunks.now at) → q < length chunks.now }
+    requires full { (q : ℕ) → q < length chunks.now → length (chunk_at chunks.now q).bytes ≡ 16 }
+    requires room { length into.old.items + 16 * many ≤ 512 }
+    ensures { into.new.items ≡ into.old.items ++ text_of many chunks.now at (16 * many) }
 {
-    if len == 0 {
+    if many == 0 {
         return;
     }
-    let many = len.min(CHUNK);
-    let chunk = chunks[at as usize];
-    match into.try_extend_from_slice(&chunk.bytes[..many]) {
+    let chunk = &chunks[at as usize];
+    match into.try_extend_from_slice(&chunk.bytes) {
         Ok(()) => {}
         Err(_) => unreachable!(),
     }
-    read(chunks, chunk.next, len - many, into);
+    read(chunks, chunk.next, many - 1, into);
 }
 
-// How bytes stand to the string of this length that begins at a chunk.
+// The number that the first eight bytes spell, the first weighing most: such numbers are ordered as the bytes are.
+fn front(bytes: &[u8]) -> u64
+    requires { 8 ≤ length bytes.now }
+    ensures number { result ≡ from_be_bytes w64 (take 8 bytes.now) }
+    ensures in_range { (i : ℕ) → get_or bytes.now i 0 < 256 }
+{
+    let Some(front) = bytes.first_chunk::<8>() else {
+        unreachable!()
+    };
+    u64::from_be_bytes(*front)
+}
+
+// How two strings stand to one another, by eight bytes at once while both have so many.
+fn compare_bytes(left: &[u8], right: &[u8]) -> Ordering
+    ensures { result ≡ slice_cmp nat_cmp left.now right.now }
+{
+    if left.len() < 8 || right.len() < 8 {
+        return left.cmp(right);
+    }
+    match front(left).cmp(&front(right)) {
+        Ordering::Equal => compare_bytes(&left[8..], &right[8..]),
+        decided => decided,
+    }
+}
+
+// How bytes stand to the string of this length that begins at a chunk. Mostly the first eight tell, so that is the short way.
 pub(crate) fn compare(bytes: &[u8], chunks: &[Chunk], at: u32, len: usize) -> Ordering
+    requires inside { (q : ℕ) → 1 ≤ times q (chain (chunks_for len) chunks.now at) → q < length chunks.now }
+    requires full { (q : ℕ) → q < length chunks.now → length (chunk_at chunks.now q).bytes ≡ 16 }
+    ensures { result ≡ slice_cmp nat_cmp bytes.now (text_of (chunks_for len) chunks.now at len) }
+{
+    if bytes.len() < 8 || len < 8 {
+        return compare_all(bytes, chunks, at, len);
+    }
+    let (mine, other) = (front(bytes), front(&chunks[at as usize].bytes));
+    if mine < other {
+        return Ordering::Less;
+    }
+    if mine > other {
+        return Ordering::Greater;
+    }
+    compare_all(bytes, chunks, at, len)
+}
+
+// The same, from the first byte to the last. It stays a call, so that registers are left to who compares.
+#[inline(never)]
+fn compare_all(bytes: &[u8], chunks: &[Chunk], at: u32, len: usize) -> Ordering
     requires inside { (q : ℕ) → 1 ≤ times q (chain (chunks_for len) chunks.now at) → q < length chunks.now }
     requires full { (q : ℕ) → q < length chunks.now → length (chunk_at chunks.now q).bytes ≡ 16 }
     ensures { result ≡ slice_cmp nat_cmp bytes.now (text_of (chunks_for len) chunks.now at len) }
@@ -88,8 +137,8 @@ pub(crate) fn compare(bytes: &[u8], chunks: &[Chunk], at: u32, len: usize) -> Or
     let chunk = &chunks[at as usize];
     let front = bytes.len().min(CHUNK);
     let many = len.min(CHUNK);
-    match bytes[..front].cmp(&chunk.bytes[..many]) {
-        Ordering::Equal => compare(&bytes[front..], chunks, chunk.next, len - many),
+    match compare_bytes(&bytes[..front], &chunk.bytes[..many]) {
+        Ordering::Equal => compare_all(&bytes[front..], chunks, chunk.next, len - many),
         decided => decided,
     }
 }

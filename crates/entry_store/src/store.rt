@@ -205,19 +205,21 @@ impl Store {
     {
         let head = self.heads[place as usize];
         let mut bytes = ArrayVec::new();
-        read(&self.chunks, head.first, head.len(), &mut bytes);
-        parts(head, bytes.as_slice())
+        read(&self.chunks, head.first, head.chunks(), &mut bytes);
+        parts(head, &bytes.as_slice()[..head.len()])
     }
 
+    // A record takes some 450 bytes, and a call would copy it once more.
     /// The record at a place.
+    #[inline(always)]
     pub fn record_at(&self, place: u32) -> Rec
         requires { place < length self.now.slots }
         ensures { (entry : Key × Rec) → result ≡ (slice_index_or self.now.slots place entry).1 }
     {
         let head = self.heads[place as usize];
         let mut bytes = ArrayVec::new();
-        read(&self.chunks, head.first, head.len(), &mut bytes);
-        record_of(head, bytes.as_slice())
+        read(&self.chunks, head.first, head.chunks(), &mut bytes);
+        record_of(head, &bytes.as_slice()[..head.len()])
     }
 
     /// How a key stands to the one at a place. It takes no memory, and no bytes are moved.

@@ -7,6 +7,7 @@ use Rattle.std.specs.declared.cmp.Ordering.TheVariants.{Less, Equal, Greater}
 use Rattle.std.specs.Cmp.{tied_itself}
 use Rattle.std.specs.FinMap.{is_sorted}
 use Rattle.std.specs.FinMap.Entries.{below_all}
+use Rattle.std.proofs.lemmas.Bool.{eq-eqb, ne_eqb}
 use Rattle.std.proofs.lemmas.Cmp.{nat_list_cmp_total}
 use Rattle.std.proofs.lemmas.List.{map-append, length-append, get_or_append_left, get_or-append-add, get_or_default}
 use Rattle.blsm_model.specs.declared.key.Key.{Key}
@@ -16,7 +17,7 @@ use Rattle.record_delta.specs.declared.record.Rec.TheVariants.{Tomb}
 use Rattle.record_delta.specs.Entries.{Entries, is_above}
 use Rattle.mem_table.specs.declared.nodes.Node.{Node}
 use Rattle.mem_table.specs.Shapes.{Tree, Leaf, Fork, height, places, times, one_if, no_node, node_at, height_of, Holds, tree_at}
-use Rattle.mem_table.specs.Ways.{entry_at, entries_at, tree_entries, IsTree, IsPlaced, AreWithout, place_above, or_else}
+use Rattle.mem_table.specs.Ways.{entry_at, entries_at, tree_entries, IsTree, IsPlaced, AreWithout, place_above, or_else, place_of}
 use Rattle.mem_table.proofs.SortedLemmas.{both_hold, less_from_test, turned}
 use Rattle.mem_table.proofs.PlaceLemmas.{sorted_test, tied}
 use Rattle.mem_table.proofs.NodeLemmas.{times_fork, stored, read}
@@ -222,6 +223,12 @@ module _ (nodes : List Node) (slots : Entries) (root left right : ℕ) (key : Ke
 pub answer_none : (nodes : List Node) (slots : Entries) (root : ℕ) (key : Key) → length nodes ≤ no_node → root ≡ no_node → IsAnswer nodes slots root key None
 answer_none nodes slots root key few is =
     record { found = tt; absent = subst (λ (t : Tree). AreWithout key (entries_at slots (places t))) (sym (bare nodes root few is)) tt }
+
+pub place_there : (p : ℕ) → p ≢ no_node → place_of p ≡ Some p
+place_there p there = ap (λ b. cond b None (Some p)) (ne_eqb p no_node there)
+
+pub place_missing : (p : ℕ) → p ≡ no_node → place_of p ≡ None
+place_missing p is = ap (λ b. cond b None (Some p)) (eq-eqb p no_node is)
 
 -- ---- the next key above
 

@@ -1,5 +1,5 @@
 -- Trees of keys: a tree's numbers are places in a list of entries.
-use Rattle.std.specs.Prelude.{◌≡◌, ◌≢◌, ℕ, ◌+◌, ◌<◌, ◌≤◌, List, [], ◌∷◌, length, get_or, map, Option, Some, None, if◌then◌else◌}
+use Rattle.std.specs.Prelude.{◌≡◌, ◌≢◌, ℕ, ◌+◌, ◌<◌, ◌≤◌, List, [], ◌∷◌, length, get_or, map, Option, Some, None, nat_eq, if◌then◌else◌}
 use Rattle.std.specs.List.{AllByRecursion}
 use Rattle.std.specs.FinMap.{put}
 use Rattle.blsm_model.specs.declared.key.Key.{Key}
@@ -35,6 +35,10 @@ pub record IsPlaced (slots : Entries) (ps : List ℕ) (key : Key) (p : ℕ) : Ty
   pub there : get_or ps index no_node ≡ p
   pub in_range : p < length slots
   pub key_is : (entry_at slots p).0 ≡ key
+
+-- the place that a number stands for, if it stands for one
+abbrev pub place_of : ℕ → Option ℕ
+place_of p = if nat_eq p no_node then None else Some p
 
 -- no entry has the key
 abbrev pub AreWithout : Key → Entries → Type 0

@@ -2,7 +2,7 @@
 ghost use Rattle.std.specs.Prelude.{◌≡◌, ◌+◌, ◌<◌, ◌≤◌, ◌^◌, length, IfSome, IfNone};
 ghost use Rattle.record_delta.specs.Entries.{is_above as is_above_key};
 ghost use Rattle.mem_table.specs.Shapes.{height_of, places, tree_at, IsBalanced};
-ghost use Rattle.mem_table.specs.Ways.{IsTree, IsPlaced, AreWithout, IsNew, IsAdded, entry_at, tree_entries, place_above, or_else};
+ghost use Rattle.mem_table.specs.Ways.{IsTree, IsPlaced, AreWithout, IsNew, IsAdded, entry_at, tree_entries, place_above, or_else, place_of};
 
 use crate::nodes::{NONE, Node, join, settle};
 use crate::steps::Steps;
@@ -54,14 +54,32 @@ pub(crate) fn find_in<L: Ledger>(
     ensures more { steps.old ≤ steps.new }
     ensures few { steps.new ≤ steps.old + height_of nodes.now root }
 {
+    let place = descend(nodes, store, root, key, steps);
+    if place == NONE { None } else { Some(place) }
+}
+
+// The same, with `NONE` for no place: where one number comes back, the compiler makes a loop of the calls.
+fn descend<L: Ledger>(
+    nodes: &[Node],
+    store: &Store,
+    root: u32,
+    key: &Key,
+    steps: &mut Steps<L>,
+) -> u32
+    requires { IsTree nodes.now store.now.slots root }
+    ensures found { IfSome (place_of result) (IsPlaced store.now.slots (places (tree_at nodes.now root)) key.now) }
+    ensures absent { IfNone (place_of result) (AreWithout key.now (tree_entries nodes.now store.now.slots root)) }
+    ensures more { steps.old ≤ steps.new }
+    ensures few { steps.new ≤ steps.old + height_of nodes.now root }
+{
     if root == NONE {
-        return None;
+        return NONE;
     }
-    let node = nodes[root as usize];
+    let node = &nodes[root as usize];
     match steps.compare(key, store, root) {
-        Ordering::Less => find_in(nodes, store, node.left, key, steps),
-        Ordering::Equal => Some(root),
-        Ordering::Greater => find_in(nodes, store, node.right, key, steps),
+        Ordering::Less => descend(nodes, store, node.left, key, steps),
+        Ordering::Equal => root,
+        Ordering::Greater => descend(nodes, store, node.right, key, steps),
     }
 }
 

@@ -7,8 +7,8 @@ use Rattle.std.specs.Cmp.Lexicographic.{slice_cmp}
 use Rattle.entry_store.specs.Chains.{chunks_for, chunk_at, next_of, text_of, times}
 use Rattle.entry_store.proofs.ChainLemmas.{chunks_none, chunks_more, chain_is, text_is, text_empty, first_in, no_length, rest_is}
 use Rattle.entry_store.proofs.CompareLemmas.{cmp_chunk, cmp_nothing}
-use Rattle.entry_store.proofs.chunks.+compare.Goals as goal
-use Rattle.entry_store.proofs.chunks.+compare.Goals.{After-cmp}
+use Rattle.entry_store.proofs.chunks.+compare_all.Goals as goal
+use Rattle.entry_store.proofs.chunks.+compare_all.Goals.{After-compare_bytes}
 
 pub returns-then-is_empty : goal.returns-then-is_empty
 returns-then-is_empty t c =
@@ -24,12 +24,12 @@ pub bounds-chunks-at : goal.bounds-chunks-at
 bounds-chunks-at t c =
     c.requires.inside c.args.at (first_in (chunks_for c.args.len) (chunks_for (c.args.len - min c.args.len 16)) c.args.chunks.now c.args.at (chunks_more c.args.len (min c.args.len 16) (omega arith) refl))
 
-more : (t : ℕ) (c : After-cmp t) → chunks_for c.args.len ≡ suc (chunks_for (c.args.len - c.min-many.result))
+more : (t : ℕ) (c : After-compare_bytes t) → chunks_for c.args.len ≡ suc (chunks_for (c.args.len - c.min-many.result))
 more t c = chunks_more c.args.len c.min-many.result (omega arith) c.min-many.ensures
 
-pub compare-requires : goal.compare-requires
-compare-requires t c =
-    let b = (goal.at.compare-requires t c).After-cmp in (
+pub compare_all-requires : goal.compare_all-requires
+compare_all-requires t c =
+    let b = (goal.at.compare_all-requires t c).After-compare_bytes in (
       omega (arith, c.min-many.ensures, c.decreases),
       (
         λ q one. c.requires.inside q (omega (arith, one, ap (times q) (chain_is (chunks_for c.args.len) (chunks_for (c.args.len - c.min-many.result)) c.args.chunks.now c.args.at (more t b)))),
@@ -38,9 +38,9 @@ compare-requires t c =
     )
 
 -- the first chunk's bytes decide, and then the rest
-decides : (t : ℕ) (c : After-cmp t)
+decides : (t : ℕ) (c : After-compare_bytes t)
     → slice_cmp nat_cmp c.args.bytes.now (text_of (chunks_for c.args.len) c.args.chunks.now c.args.at c.args.len)
-    ≡ ordering_then c.cmp.result (slice_cmp nat_cmp (drop c.min-front.result c.args.bytes.now) (text_of (chunks_for (c.args.len - c.min-many.result)) c.args.chunks.now (next_of c.args.chunks.now c.args.at) (c.args.len - c.min-many.result)))
+    ≡ ordering_then c.compare_bytes.result (slice_cmp nat_cmp (drop c.min-front.result c.args.bytes.now) (text_of (chunks_for (c.args.len - c.min-many.result)) c.args.chunks.now (next_of c.args.chunks.now c.args.at) (c.args.len - c.min-many.result)))
 decides t c =
     let here : List ℕ = (chunk_at c.args.chunks.now c.args.at).bytes in
     let rest : List ℕ = text_of (chunks_for (c.args.len - c.min-many.result)) c.args.chunks.now (next_of c.args.chunks.now c.args.at) (c.args.len - c.min-many.result) in
@@ -51,13 +51,13 @@ decides t c =
     ∙ cmp_chunk c.args.bytes.now (take c.min-many.result here) rest c.min-front.result c.min-front.ensures (omega (arith, long, c.min-many.ensures))
     (λ short. text_empty (chunks_for (c.args.len - c.min-many.result)) c.args.chunks.now (next_of c.args.chunks.now c.args.at) (c.args.len - c.min-many.result)
     (chunks_none (c.args.len - c.min-many.result) (omega (arith, short, long, c.min-many.ensures))))
-    ∙ ap (λ o. ordering_then o (slice_cmp nat_cmp (drop c.min-front.result c.args.bytes.now) rest)) (sym c.cmp.ensures)
+    ∙ ap (λ o. ordering_then o (slice_cmp nat_cmp (drop c.min-front.result c.args.bytes.now) rest)) (sym c.compare_bytes.ensures)
 
 pub returns-in-Equal : goal.returns-in-Equal
 returns-in-Equal t c =
-    let b = (goal.at.returns-in-Equal t c).After-cmp in
+    let b = (goal.at.returns-in-Equal t c).After-compare_bytes in
     let rest : List ℕ = text_of (chunks_for (c.args.len - c.min-many.result)) c.args.chunks.now (next_of c.args.chunks.now c.args.at) (c.args.len - c.min-many.result) in
-    c.compare.ensures
+    c.compare_all.ensures
     ∙ ap (λ l. slice_cmp nat_cmp l rest) (rest_is c.args.bytes.now c.min-front.result (omega (arith, c.min-front.ensures)))
     ∙ sym (decides t b ∙ ap (λ o. ordering_then o (slice_cmp nat_cmp (drop c.min-front.result c.args.bytes.now) rest)) c.in-Equal.is)
 
@@ -68,5 +68,5 @@ stands Greater rest differs = refl
 
 pub returns-in_default : goal.returns-in_default
 returns-in_default t c =
-    let b = (goal.at.returns-in_default t c).After-cmp in
-    sym (decides t b ∙ stands c.cmp.result _ c.in_default.not-Equal)
+    let b = (goal.at.returns-in_default t c).After-compare_bytes in
+    sym (decides t b ∙ stands c.compare_bytes.result _ c.in_default.not-Equal)
