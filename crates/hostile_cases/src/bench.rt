@@ -1,0 +1,157 @@
+//! The store that the cases begin with, and calls of the program over disks in memory.
+use crate::departure::Departure;
+use crate::disk::{OneShelf, PageDisk};
+use blsm_model::NoGate;
+use blsm_run::{Status, blsm_run};
+use std::alloc::{AllocError, Global};
+use std::sync::Wait;
+use std::thread::Threads;
+use text_io::{FaultlessSink, FaultlessSource};
+
+// The name of the disk.
+const NAME: &str = "store";
+
+// A store of the smallest geometry with short quanta.
+const MAKE: [&str; 9] = [
+    "blsm",
+    "make",
+    NAME,
+    "--half",
+    "17408",
+    "--ratio",
+    "2",
+    "--quantum",
+    "1024",
+];
+
+const RUN: [&str; 5] = ["blsm", "run", NAME, "--workers", "0"];
+
+const CHECK: [&str; 3] = ["blsm", "check", NAME];
+
+// How many bytes a text may have.
+const TEXT_LIMIT: u64 = 1 << 18;
+
+/// What a call printed, its status, and the disk as it is then.
+#[derive(Drop)]
+pub struct Answer {
+    pub status: Status,
+    pub text: String,
+    pub disk: PageDisk,
+}
+
+fn owned(alloc: Global, words: &[&str]) -> Result<Vec<String>, AllocError> {
+    let mut list = Vec::new(alloc);
+    for word in words {
+        list.push(String::from_str(alloc, word)?)?;
+    }
+    Ok(list)
+}
+
+// What a sink holds, as a text.
+fn text_of(alloc: Global, bytes: &[u8]) -> Result<String, Departure> {
+    match str::from_utf8(bytes) {
+        Ok(text) => Ok(String::from_str(alloc, text)?),
+        Err(_) => Err(Departure::found(alloc, "text of bytes", 0, "")),
+    }
+}
+
+// The disk of a shelf.
+fn disk_of(alloc: Global, shelf: OneShelf) -> Result<PageDisk, Departure> {
+    match shelf.into_disk() {
+        Some(disk) => Ok(disk),
+        None => Err(Departure::found(alloc, "disk that is out", 0, "")),
+    }
+}
+
+// Makes the call that words ask for, over a disk.
+fn call<R: Threads + Wait + Sync>(
+    rt: &R,
+    alloc: Global,
+    words: &[String],
+    disk: PageDisk,
+    script: &str,
+) -> Result<Answer, Departure> {
+    let mut shelf = OneShelf::new(disk);
+    let mut source = FaultlessSource::new(alloc, script.as_bytes())?;
+    let mut sink = FaultlessSink::new(alloc, TEXT_LIMIT)?;
+    let status = blsm_run(
+        rt,
+        alloc,
+        words,
+        &mut source,
+        &mut sink,
+        &mut shelf,
+        &NoGate,
+    );
+    let text = text_of(alloc, sink.bytes())?;
+    let disk = disk_of(alloc, shelf)?;
+    Ok(Answer { status, text, disk })
+}
+
+/// The words of the calls, and the disk of a store that was just made.
+#[derive(Drop)]
+pub struct Bench {
+    run: Vec<String>,
+    check: Vec<String>,
+    made: PageDisk,
+}
+
+// The disk of a store that was just made.
+fn make<R: Threads + Wait + Sync>(rt: &R, alloc: Global) -> Result<PageDisk, Departure> {
+    let words = owned(alloc, &MAKE)?;
+    let answer = call(rt, alloc, &words, PageDisk::new(alloc), "")?;
+    if answer.text.as_str() != "made 3481600\n" {
+        return Err(Departure::found(alloc, "making", 0, &answer.text));
+    }
+    Ok(answer.disk)
+}
+
+impl Bench {
+    pub fn new<R: Threads + Wait + Sync>(rt: &R, alloc: Global) -> Result<Bench, Departure> {
+        Ok(Bench {
+            run: owned(alloc, &RUN)?,
+            check: owned(alloc, &CHECK)?,
+            made: make(rt, alloc)?,
+        })
+    }
+
+    /// The disk of a store that was just made, on which no call was answered.
+    pub fn fresh(&self) -> Result<PageDisk, Departure> {
+        Ok(self.made.copied()?)
+    }
+
+    /// Runs a script over the store on a disk, without workers.
+    pub fn run<R: Threads + Wait + Sync>(
+        &self,
+        rt: &R,
+        alloc: Global,
+        disk: PageDisk,
+        script: &str,
+    ) -> Result<Answer, Departure> {
+        call(rt, alloc, &self.run, disk, script)
+    }
+
+    /// Checks the store on a disk.
+    pub fn check<R: Threads + Wait + Sync>(
+        &self,
+        rt: &R,
+        alloc: Global,
+        disk: PageDisk,
+    ) -> Result<Answer, Departure> {
+        call(rt, alloc, &self.check, disk, "")
+    }
+
+    /// The store once a script was run over it, which must end well.
+    pub fn after<R: Threads + Wait + Sync>(
+        &self,
+        rt: &R,
+        alloc: Global,
+        script: &str,
+    ) -> Result<PageDisk, Departure> {
+        let answer = self.run(rt, alloc, self.fresh()?, script)?;
+        if answer.status != Status::Done {
+            return Err(Departure::found(alloc, "first run", 0, &answer.text));
+        }
+        Ok(answer.disk.copied()?)
+    }
+}

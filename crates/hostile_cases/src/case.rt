@@ -1,0 +1,31 @@
+//! A line of the input.
+use crate::bench::Bench;
+use crate::departure::Departure;
+use crate::runs::Failing;
+use crate::scripts::Scripts;
+use crate::{damage, runs, sweeps};
+use std::alloc::Global;
+use std::sync::Wait;
+use std::thread::Threads;
+
+/// Does what a line says: names a script, or checks a case.
+pub fn check<R: Threads + Wait + Sync>(
+    rt: &R,
+    alloc: Global,
+    bench: &Bench,
+    scripts: &mut Scripts,
+    line: &str,
+) -> Result<(), Departure> {
+    let Some((word, rest)) = line.split_once(" ") else {
+        return Err(Departure::NotACase);
+    };
+    match word {
+        "script" => scripts.add(rest),
+        "fail" => runs::check(rt, alloc, bench, scripts, Failing::Alone, rest),
+        "stop" => runs::check(rt, alloc, bench, scripts, Failing::AndAfter, rest),
+        "fails" => sweeps::check(rt, alloc, bench, scripts.get(rest)?, Failing::Alone),
+        "stops" => sweeps::check(rt, alloc, bench, scripts.get(rest)?, Failing::AndAfter),
+        "damage" => damage::check(rt, alloc, bench, scripts, rest),
+        _ => Err(Departure::NotACase),
+    }
+}
