@@ -13,8 +13,8 @@ CLAUSE = re.compile(r"(requires|ensures|decreases|ghost )")
 
 def is_test(crate, path):
     inside = os.path.basename(path) == "tests.rt" or f"{os.sep}tests{os.sep}" in path
-    of_tests = crate.endswith("_tests") or crate == "merge_trip"
-    return inside or (of_tests and os.path.basename(path) != "lib.rt")
+    of_tests = crate.endswith("_tests") or crate in ("merge_trip", "hostile_cases")
+    return inside or (of_tests and os.path.basename(path) not in ("lib.rt", "main.rt"))
 
 
 def of_code(path):

@@ -97,9 +97,9 @@ class Killed(Refused):
 
 
 class Unreadable(BlsmError):
-    """The program wrote what it never writes."""
+    """The program wrote what it never writes over a file that nobody else wrote."""
 
-    advice = "Is it the program that this module belongs to?"
+    advice = "Is it the program that this module belongs to? Or a byte of a key or a text was changed in the file: restore a dump."
 
 
 class NotDone(BlsmError):
@@ -472,7 +472,10 @@ class Store:
 
     def _call(self, command: str, options: Sequence[str] = (), script: str = "", batch: Mapping[int, Sequence[Command]] | None = None) -> str:
         ended = subprocess.run([*self.program, command, *options, "--", self.path], input=script.encode("ascii"), stdout=subprocess.PIPE, check=False)
-        text = ended.stdout.decode("ascii")
+        try:
+            text = ended.stdout.decode("ascii")
+        except UnicodeDecodeError:
+            raise Unreadable("a text of other bytes than ASCII") from None
         if ended.returncode == 0:
             return text
         run = run_of(batch or {}, script, text) if text.startswith("open charge ") and ended.returncode in (6, 7) else None

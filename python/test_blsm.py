@@ -72,6 +72,7 @@ class Batches(WithStandIn):
             "open charge 0\nend c0 0 of 65536 callers 0 workers 0 swaps 0 0\n",
             "open charge 0\n1 1 get a => none q0\n",
             "open charge 0\n1 1 get a => perhaps q0\nend c0 0 of 65536 callers 0 workers 0 swaps 0 0\n",
+            "open charge 0\n1 1 get a => is 1 \u00ff q0\nend c0 0 of 65536 callers 0 workers 0 swaps 0 0\n",
             "",
         ):
             with self.subTest(text), self.assertRaises(blsm.Unreadable):
@@ -214,6 +215,15 @@ class Built(unittest.TestCase):
         self.assertEqual(second.load(lines), len(keys))
         self.assertEqual(list(second.dump()), lines)
 
+    def test_a_hold_of_a_full_memory_table_has_all_its_rows(self) -> None:
+        store = Store.make(self.path, low=32768)
+        keys = [f"{chr(33 + i // 94)}{chr(33 + i % 94)}" for i in range(2184)]  # of weight 15, up to the low mark: none is merged
+        nexts = [Next(32)] * (len(keys) // 32 + 1)
+        run = store.run({1: [*(Put(key, place) for place, key in enumerate(keys)), Hold("!", "~~"), *nexts]})
+        rows = [row for reply in run.replies(1)[len(keys) + 1 :] for row in (reply.rows if isinstance(reply, Rows) else ())]
+        self.assertEqual(rows, [Row(key, place, "") for place, key in enumerate(keys)])
+        self.assertEqual((run.callers_quanta, run.passes), (0, 0))
+
     def test_refusals(self) -> None:
         with self.assertRaises(blsm.DiskFault):
             Store.open(self.path)
@@ -263,6 +273,63 @@ class Folders(unittest.TestCase):
         synced = self.synced(folder / "link")
         self.assertIn(str(other), synced)
         self.assertNotIn(str(folder), synced)
+
+
+@unittest.skipUnless(HAS_PROGRAM, WHY)
+@unittest.skipUnless(shutil.which("strace"), "strace isn't there")
+class Reads(unittest.TestCase):
+    """How often gets read the file, over a store each of whose components has more than a hundred pages."""
+
+    LEAST_FULL = 3577  # bytes of entries: all pages of a component but its last have as many
+    PUTS = 5300  # some two marks of C1 into C2 and C1', and the rest into C1 while these merge
+    CHANGED = 20  # keys that were put first, and were added to once while C1' was filled and once while C1 was
+    ADDS_BEHIND = (3300, 4800)
+
+    def setUp(self) -> None:
+        self.room = tempfile.TemporaryDirectory()
+        self.addCleanup(self.room.cleanup)
+        self.here = Path(self.room.name).resolve()
+
+    @staticmethod
+    def key(number: int) -> str:
+        return f"k{number * 40503 % 65536:05}"
+
+    def writes(self) -> list[str]:
+        lines = []
+        for number in range(self.PUTS):
+            lines.append(f"1 put {self.key(number)} {number} {'x' * 435}")
+            if number in self.ADDS_BEHIND:
+                lines += [f"1 add {self.key(changed)} 10000" for changed in range(self.CHANGED)]
+        return lines
+
+    def run_over_new(self, gets: list[str]) -> tuple[list[str], int]:
+        """Runs the writes and these gets over a new store. Answers what the gets were told, and how often the file was read."""
+        path, calls, script = self.here / "a.blsm", self.here / "calls", self.here / "script.txt"
+        path.unlink(missing_ok=True)
+        subprocess.run([BUILT, "make", "--half", "163840", "--ratio", "3", "--", str(path)], stdout=subprocess.DEVNULL, check=True)
+        script.write_text("".join(f"{line}\n" for line in [*self.writes(), *gets]))
+        with open(script) as lines:
+            told = subprocess.run(["strace", "-f", "-y", "-s", "0", "-o", str(calls), "-e", "trace=read,pread64", BUILT, "run", "--workers", "0", "--", str(path)], stdin=lines, stdout=subprocess.PIPE, text=True, check=True).stdout
+        reads = sum(f"<{path}>" in line for line in calls.read_text().splitlines())
+        return [line.split(" => ")[1].rsplit(" q", 1)[0] for line in told.splitlines() if " get " in line], reads
+
+    def test_gets_read_a_page_of_each_component_that_may_have_the_key(self) -> None:
+        _, before = self.run_over_new([])
+        report = Store(self.here / "a.blsm", [BUILT]).check()
+        for component in (report.c1, report.c1x, report.c2):
+            self.assertGreater(component.weight, 100 * self.LEAST_FULL)
+
+        told, reads = self.run_over_new([f"1 get {self.key(number)}" for number in range(self.CHANGED)])
+        self.assertEqual(told, [f"is {number + 20000} {'x' * 435}" for number in range(self.CHANGED)])
+        self.assertEqual(reads - before, 3 * self.CHANGED)
+
+        # a base takes one read, and none from the memory table; a filter may be wrong once in fifty times
+        present = range(self.CHANGED, self.PUTS, 10)
+        absent = [f"1 get {self.key(number)}y" for number in present]
+        told, reads = self.run_over_new([f"1 get {self.key(number)}" for number in present] + absent)
+        self.assertEqual(told, [f"is {number} {'x' * 435}" for number in present] + ["none"] * len(absent))
+        self.assertLessEqual(reads - before, len(present) + len(present) // 25)
+        self.assertGreater(reads - before, len(present) * 9 // 10)
 
 
 if __name__ == "__main__":

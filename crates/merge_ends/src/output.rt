@@ -10,8 +10,8 @@ ghost use Rattle.page_file.specs.File.{Writes};
 ghost use Rattle.run_writer.specs.Writer.{role_region, HasPushed};
 ghost use Rattle.merge_ends.specs.Output.{TakesPages, HasFences, HasRoom};
 
-use blsm_model::{Geometry, Key};
 use bloom_bits::{Fences, Filter};
+use blsm_model::{Geometry, Key};
 use disk_trait::Disk;
 use page_space::{Space, room_is_free};
 use record_delta::{Rec, weight};
