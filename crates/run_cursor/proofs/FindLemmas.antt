@@ -1,5 +1,5 @@
 -- What some entries say of a key whose list they are part of: those that are left of a page, and those of the one page that its fences name.
-use Rattle.std.proofs.Common.{◌≡◌, ◌≢◌, ℕ, ◌+◌, ◌<◌, ◌≤◌, Bool, true, false, List, [], ◌∷◌, ◌++◌, length, Option, Some, None, Result, Ok, Err, IfOk, refl, ap, sym, subst, ◌∙◌, length-append, arith}
+use Rattle.std.proofs.Common.{◌≡◌, ◌≢◌, ℕ, ◌+◌, ◌<◌, ◌≤◌, Bool, true, false, List, [], ◌∷◌, ◌++◌, length, Option, Some, None, Result, Ok, Err, IfOk, inr, refl, ap, sym, subst, ◌∙◌, length-append, arith}
 use Rattle.std.specs.Prelude.{cond}
 use Rattle.std.specs.FinMap.{find as find_in, slice_cmp-IsAntisymmetric, nat_cmp-IsAntisymmetric}
 use Rattle.std.specs.List.{AllByRecursion, Contains, between}
@@ -10,12 +10,15 @@ use Rattle.std.specs.declared.cmp.Ordering.TheVariants.{Less, Equal, Greater}
 use Rattle.std.proofs.lemmas.Bool.{false≢true}
 use Rattle.std.proofs.lemmas.Cmp.{nat_list_cmp_total}
 use Rattle.std.proofs.lemmas.List.Elements.{All-head, All-tail, Contains-append_left, Contains-append_right}
+use Rattle.blsm_model.specs.declared.component.Component.{Component}
 use Rattle.blsm_model.specs.declared.key.Key.{Key}
 use Rattle.blsm_model.specs.Keys.{key_cmp}
 use Rattle.blsm_model.specs.Sizes.{Sizes}
 use Rattle.blsm_model.specs.Components.{no_page}
 use Rattle.blsm_model.specs.Geometry.{page_count}
-use Rattle.bloom_bits.specs.Fences.{IsBelowAll, IsPlaceOf}
+use Rattle.bloom_bits.specs.BitSet.{BitState}
+use Rattle.bloom_bits.specs.Fences.{FencesState, IsBelowAll, IsPlaceOf}
+use Rattle.bloom_bits.specs.Filter.{AreCovered, HasKeys}
 use Rattle.bloom_bits.specs.Guides.{fence_of, fences_of}
 use Rattle.record_delta.specs.declared.record.Rec.{Rec}
 use Rattle.record_delta.specs.Entries.{Entries}
@@ -28,7 +31,7 @@ use Rattle.page_file.proofs.PageLemmas.{page_same}
 use Rattle.page_file.specs.File.{page_at}
 use Rattle.page_file.specs.Component.{RunPage, AreChained, entries_of, first_number}
 use Rattle.run_cursor.specs.Below.{BeginsBelow, NoneBelow}
-use Rattle.run_cursor.specs.Lookup.{IsOnPage}
+use Rattle.run_cursor.specs.Lookup.{IsAsked, IsDamaged, IsFoundBy, IsOnPage}
 use Rattle.run_cursor.proofs.CursorLemmas.{same_first, on_page}
 
 -- ---- the order of keys
@@ -279,6 +282,23 @@ listed H sizes key n pages file (Ok found) honest few on told damaged other =
     ap Ok (page.found_is ∙ ap (find_in key_cmp key) same.1 ∙ sym on.same)
 listed H sizes key n pages file (Err Fault) honest few on told damaged other = absurd (other refl)
 listed H sizes key n pages file (Err (Damaged m)) honest few on told damaged other = absurd ((damaged m refl honest).1 on.next on.entries on.inside on.valid)
+
+-- ---- whatever filter and fences are
+
+pub asked_on : (run : Component) (filter : BitState) (fences : FencesState) (key : Key) (n : ℕ) → (run.pages ≡ 0 → ⊥) → ((keys : List Key) → HasKeys filter keys → AreCovered (length filter.bits) keys key) → IsPlaceOf key n fences.list
+    → IsAsked run filter fences key n
+asked_on run filter fences key n some covered place = record { pages = some; yes = covered; place = place }
+
+-- what the page says that is asked was found
+pub asked_told : (H : Type 0) (sizes : Sizes) (run : Component) (filter : BitState) (fences : FencesState) (key : Key) (n calls : ℕ) (file : List ℕ) (result : Result (Option Rec) Broken) → IsAsked run filter fences key n → calls ≤ 1
+    → IfOk result (λ found. H → IsOnPage sizes n key found file) → IfOk result (λ found. H → IsFoundBy sizes run filter fences key found calls file)
+asked_told H sizes run filter fences key n calls file (Ok found) asked once told = λ honest. inr (n, asked, told honest, once)
+asked_told H sizes run filter fences key n calls file (Err broken) asked once told = tt
+
+-- the page is the one that is asked, so it is damaged
+pub asked_damaged : (sizes : Sizes) (run : Component) (filter : BitState) (fences : FencesState) (key : Key) (m n : ℕ) (file : List ℕ) → m ≡ n → IsAsked run filter fences key n
+    → ((next : Option ℕ) (entries : Entries) → n < page_count sizes → IsPageOf (page_count sizes) next entries (page_at sizes n file) → ⊥) → IsDamaged sizes run filter fences key m file
+asked_damaged sizes run filter fences key m n file is asked damaged = subst (λ (p : ℕ). IsDamaged sizes run filter fences key p file) (sym is) (record { asked = asked; damaged = damaged })
 
 -- the page's answer, where its entries' bytes were looked through
 pub on_this : (sizes : Sizes) (n : ℕ) (key : Key) (found : Option Rec) (file page : List ℕ) (used : ℕ) (next : Option ℕ) (entries : Entries) → n < page_count sizes → IsPageOf (page_count sizes) next entries page → page ≡ page_at sizes n file

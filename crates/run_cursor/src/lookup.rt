@@ -37,12 +37,12 @@ pub fn find<D: Disk>(
     // Where filter and fences are those of the pages that the component reads as, or it has none, the answer is that of their list.
     ensures list { (pages : List RunPage) → IsTrue (D.state disk.old).is_honest → ReadsAs geo.now run.now pages (D.state disk.old).bytes
         → IsGuided filter.now fences.now pages → result ≢ Err Broken.Fault → result ≡ Ok (find_in key_cmp key.now (entries_of pages)) }
-    // Whatever they are, the answer is what the page says that the fences name, or that there is none, with no call; and where it is damaged,
-    // its bytes show it.
+    // Whatever they are, the answer is what the page says that the fences name, or, with no call, that there is none where no page is asked;
+    // and where that page is damaged, its bytes show it.
     ensures told { IfOk result (λ found. IsTrue (D.state disk.old).is_honest
-        → IsFoundBy geo.now fences.now.list key.now found ((D.state disk.new).clock - (D.state disk.old).clock) (D.state disk.old).bytes) }
+        → IsFoundBy geo.now run.now filter.now fences.now key.now found ((D.state disk.new).clock - (D.state disk.old).clock) (D.state disk.old).bytes) }
     ensures damaged { (n : ℕ) → result ≡ Err (Broken.Damaged n) → IsTrue (D.state disk.old).is_honest
-        → IsDamaged geo.now fences.now.list key.now n (D.state disk.old).bytes }
+        → IsDamaged geo.now run.now filter.now fences.now key.now n (D.state disk.old).bytes }
 
     // It only reads, once at most, and not where the keys of the filter don't cover this one.
     ensures no_call { (keys : List Key) → HasKeys filter.now keys → (AreCovered (length filter.now.bits) keys key.now → ⊥) → disk.new ≡ disk.old }
