@@ -8,7 +8,7 @@ use Rattle.bloom_bits.specs.BitSet.{BitState}
 use Rattle.bloom_bits.specs.Fences.{FencesState}
 use Rattle.record_delta.specs.Entries.{Entries, folded_over, settled_entries, is_above, up_to}
 use Rattle.page_space.specs.Space.{SpaceState}
-use Rattle.run_cursor.specs.Cursor.{CursorState, started as cursor_started}
+use Rattle.run_cursor.specs.Cursor.{CursorState, IsDamageAt, started as cursor_started}
 use Rattle.run_writer.specs.Writer.{WriterState, started as writer_started}
 use Rattle.merge_ends.specs.Input.{left_in, IsBehind, IsInput}
 use Rattle.merge_ends.specs.Output.{HasFences, HasRoom, HasRun}
@@ -44,6 +44,10 @@ pub record IsMerge (sizes : Sizes) (file : List ℕ) (space : SpaceState) (deep 
   pub older : IsInput sizes file space deep.writer.role deep.at deep.c2 older_pages c2
   pub run : HasRun sizes true file space deep.writer filter fences deep.at
   pub out_is : run.out ≡ settled_entries (folded_over (up_to deep.at c1x) (up_to deep.at c2))
+
+-- In this file one of its cursors comes to this page next, and it isn't valid or doesn't go on from there.
+abbrev pub MeetsDamage : Sizes → DeepState → ℕ → List ℕ → Type 0
+MeetsDamage sizes deep n file = IsDamageAt sizes deep.c1x n file ⊎ IsDamageAt sizes deep.c2 n file
 
 -- What was taken, by the numbers: so much of C1' and so much of C2. The run weighs no more than by that.
 pub record Takes (old new : DeepState) (taken : ℕ) : Type 0 where

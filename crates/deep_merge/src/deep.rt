@@ -16,7 +16,7 @@ ghost use Rattle.page_file.specs.Component.{numbers_of, HasList};
 ghost use Rattle.page_file.specs.File.{Writes};
 ghost use Rattle.run_writer.specs.Writer.{IsInside, role_region};
 ghost use Rattle.merge_ends.specs.Quantum.{IsNext, NoneAbove, IsQuantum, Works, Counts};
-ghost use Rattle.deep_merge.specs.Merge.{started, left_weight, pages_ahead, IsRunning, IsMerge, Takes, TakesGroup, MayGoOn};
+ghost use Rattle.deep_merge.specs.Merge.{started, left_weight, pages_ahead, IsRunning, IsMerge, MeetsDamage, Takes, TakesGroup, MayGoOn};
 
 use crate::settled::put_settled;
 use bloom_bits::{Fences, Filter};
@@ -125,6 +125,7 @@ impl Deep {
         ensures works { Works geo.now self.old.writer.role 3 space.old space.new (D.state disk.old) (D.state disk.new) }
         ensures counted { OnOk result (Counts 0 (pages_ahead self.old) (pages_ahead self.new) self.old.writer.component.pages self.new.writer.component.pages (D.state disk.old) (D.state disk.new)) }
         ensures counts { Counts 1 (pages_ahead self.old) (pages_ahead self.new) self.old.writer.component.pages self.new.writer.component.pages (D.state disk.old) (D.state disk.new) }
+        ensures damaged { (n : ℕ) → result ≡ Err (Broken.Damaged n) → IsTrue (D.state disk.old).tells_bytes → MeetsDamage geo.now self.new n (D.state disk.new).bytes }
         ensures faults { TellsFaultsBy (Err Broken.Fault) result (D.state disk.old) (D.state disk.new) }
     {
         an_input_stays();
@@ -184,6 +185,8 @@ impl Deep {
         ensures role { self.new.writer.role ≡ self.old.writer.role }
         ensures works { Works geo.now self.old.writer.role (geo.now.quantum / 4 + 3) space.old space.new (D.state disk.old) (D.state disk.new) }
         ensures counts { Counts 1 (pages_ahead self.old) (pages_ahead self.new) self.old.writer.component.pages self.new.writer.component.pages (D.state disk.old) (D.state disk.new) }
+        // One of its cursors comes to the damaged page next.
+        ensures damaged { (n : ℕ) → result ≡ Err (Broken.Damaged n) → IsTrue (D.state disk.old).tells_bytes → MeetsDamage geo.now self.new n (D.state disk.new).bytes }
         ensures faults { TellsFaultsBy (Err Broken.Fault) result (D.state disk.old) (D.state disk.new) }
     {
         a_merge_goes_on();

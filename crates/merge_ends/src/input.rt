@@ -5,6 +5,7 @@ ghost use Rattle.blsm_model.specs.Geometry.{file_length};
 ghost use Rattle.record_delta.specs.Entries.{Entries};
 ghost use Rattle.page_space.specs.Space.{SpaceState};
 ghost use Rattle.page_file.specs.File.{Reads};
+ghost use Rattle.run_cursor.specs.Cursor.{IsDamageAt};
 ghost use Rattle.merge_ends.specs.Input.{head_above, left_in, IsReady, IsBehind, IsInput};
 
 use blsm_model::{Geometry, Key};
@@ -32,7 +33,8 @@ pub fn is_through(cursor: &Cursor, at: &Option<Key>) -> bool
 }
 
 /// Goes on to the first entry above the greatest key that was taken, or to the end. It makes one call of the disk at most, which
-/// reads. What is left of the input stays. After an `Err` the cursor is where it was.
+/// reads. What is left of the input stays. After an `Err` the cursor is where it was; a page that is `Damaged` comes next there, and its bytes
+/// show it.
 pub fn go_above<D: Disk>(
     cursor: &mut Cursor,
     disk: &mut D,
@@ -46,6 +48,8 @@ pub fn go_above<D: Disk>(
         → (result ≡ Ok tt) × IsInput geo.now (D.state disk.new).bytes space role at.now cursor.new pages entries }
     ensures ready { OnOk result (IsReady at.now cursor.new × (left_in at.now cursor.new ≡ left_in at.now cursor.old)) }
     ensures kept { IsErr result → cursor.new ≡ cursor.old }
+    ensures damaged { (n : ℕ) → result ≡ Err (Broken.Damaged n) → IsTrue (D.state disk.old).tells_bytes
+        → IsDamageAt geo.now cursor.new n (D.state disk.new).bytes }
     ensures one_a_page { OnOk result ((D.state disk.new).clock + cursor.new.pages ≤ (D.state disk.old).clock + cursor.old.pages) }
     ensures reads { Reads (file_length geo.now) 1 result (D.state disk.old) (D.state disk.new) }
 {

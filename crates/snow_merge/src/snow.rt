@@ -14,6 +14,7 @@ ghost use Rattle.record_delta.specs.Entries.{Entries, entries_weight, folded_ove
 ghost use Rattle.page_space.specs.Space.{SpaceState, HasRole, IsFree, role_size};
 ghost use Rattle.page_file.specs.Component.{numbers_of, HasList};
 ghost use Rattle.page_file.specs.File.{Writes};
+ghost use Rattle.run_cursor.specs.Cursor.{IsDamageAt};
 ghost use Rattle.run_writer.specs.Writer.{IsInside, role_region};
 ghost use Rattle.merge_ends.specs.Quantum.{IsNext, NoneAbove, IsQuantum, Works, Counts};
 ghost use Rattle.snow_merge.specs.Pass.{started, left_weight, IsRunning, IsPass, Takes, TakesGroup, MayGoOn};
@@ -120,6 +121,7 @@ impl Snow {
         ensures works { Works geo.now self.old.writer.role 2 space.old space.new (D.state disk.old) (D.state disk.new) }
         ensures counted { OnOk result (Counts 0 self.old.c1.pages self.new.c1.pages self.old.writer.component.pages self.new.writer.component.pages (D.state disk.old) (D.state disk.new)) }
         ensures counts { Counts 1 self.old.c1.pages self.new.c1.pages self.old.writer.component.pages self.new.writer.component.pages (D.state disk.old) (D.state disk.new) }
+        ensures damaged { (n : ℕ) → result ≡ Err (Broken.Damaged n) → IsTrue (D.state disk.old).tells_bytes → IsDamageAt geo.now self.new.c1 n (D.state disk.new).bytes }
         ensures faults { TellsFaultsBy (Err Broken.Fault) result (D.state disk.old) (D.state disk.new) }
     {
         let _weight = a.weight();
@@ -184,6 +186,8 @@ impl Snow {
         ensures role { self.new.writer.role ≡ self.old.writer.role }
         ensures works { Works geo.now self.old.writer.role (geo.now.quantum / 7 + 2) space.old space.new (D.state disk.old) (D.state disk.new) }
         ensures counts { Counts 1 self.old.c1.pages self.new.c1.pages self.old.writer.component.pages self.new.writer.component.pages (D.state disk.old) (D.state disk.new) }
+        // The cursor comes to the damaged page next.
+        ensures damaged { (n : ℕ) → result ≡ Err (Broken.Damaged n) → IsTrue (D.state disk.old).tells_bytes → IsDamageAt geo.now self.new.c1 n (D.state disk.new).bytes }
         ensures faults { TellsFaultsBy (Err Broken.Fault) result (D.state disk.old) (D.state disk.new) }
     {
         let _weight = a.weight();

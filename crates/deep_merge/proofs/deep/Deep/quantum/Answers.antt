@@ -6,7 +6,7 @@ use Rattle.page_file.specs.declared.file.Broken.TheVariants.{Fault}
 use Rattle.page_space.specs.Space.{role_size}
 use Rattle.merge_ends.specs.Quantum.{Works, HasTaken}
 use Rattle.merge_ends.proofs.WorkLemmas.{works_start, works_run, works_counted}
-use Rattle.deep_merge.specs.Merge.{Takes}
+use Rattle.deep_merge.specs.Merge.{DeepState, MeetsDamage, Takes}
 use Rattle.merge_ends.proofs.QuantumLemmas.{has_step, some_weight, no_weight}
 use Rattle.deep_merge.proofs.MergeLemmas.{takes_none, takes_run, none_above}
 use Rattle.deep_merge.proofs.deep.Deep.quantum.Goals as goal
@@ -51,6 +51,11 @@ returns-in-Err-clause-works g c =
     let least = c.args.geo.now.quantum in
     works_counted c.args.geo.now role (least / 4 + 3 + 3) (least / 4 + 3) c.args.space.now c.step.new.space old new (omega (arith, inv.calls, step.effect.calls, inv.quantum))
     (works_run c.args.geo.now role (least / 4 + 3) 3 c.args.space.now c.loop-taken.space c.step.new.space old mid new (g.met.D.Disk.timed c.loop-taken.disk) inv.faults inv.works step)
+
+pub returns-in-Err-clause-damaged : goal.returns-in-Err-clause-damaged
+returns-in-Err-clause-damaged g c = λ n is tells.
+    subst (λ (s : DeepState). MeetsDamage c.args.geo.now s n (g.D.Disk.state c.step.new.disk).bytes) (sym c.self.view_is)
+    (c.in-Err.ensures.damaged n is (subst IsTrue (sym c.loop-taken.invariant.works.effect.goes_on.tells_bytes) tells))
 
 pub returns-in-Err-clause-faults : goal.returns-in-Err-clause-faults
 returns-in-Err-clause-faults g c =

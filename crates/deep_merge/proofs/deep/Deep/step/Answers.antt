@@ -1,11 +1,11 @@
-use Rattle.std.proofs.Common.{◌≡◌, ◌∙◌, ℕ, Bool, true, List, [], ◌∷◌, ◌++◌, Option, Some, Result, Ok, Err, refl, ap, sym, subst, inl, inr, arith}
+use Rattle.std.proofs.Common.{◌≡◌, ◌∙◌, ℕ, IsTrue, Bool, true, List, [], ◌∷◌, ◌++◌, Option, Some, Result, Ok, Err, refl, ap, sym, subst, inl, inr, arith}
 use Rattle.std.proofs.lemmas.Result.{err_from_is_err_and}
 use Rattle.disk_trait.specs.Reads.{only_reads_same}
 use Rattle.blsm_model.specs.declared.key.Key.{Key}
 use Rattle.record_delta.specs.declared.record.Rec.{Rec}
 use Rattle.record_delta.specs.Entries.{Entries, first_of, folded_over, settled_entries, above, up_to}
 use Rattle.page_file.specs.declared.file.Broken.{Broken}
-use Rattle.page_file.specs.declared.file.Broken.TheVariants.{Fault}
+use Rattle.page_file.specs.declared.file.Broken.TheVariants.{Fault, Damaged}
 use Rattle.page_file.specs.Entry.{AreRising}
 use Rattle.run_writer.specs.Writer.{HasPushed}
 use Rattle.merge_step.specs.Group.{group_of}
@@ -27,6 +27,10 @@ not_both a broken was is = cc
 
 calm_of : (a : Result (Unit {0}) Broken) → a ≡ Ok tt → a ≡ Err Fault → ⊥
 calm_of a is fault = not_both a Fault fault is
+
+-- the page that is named was named below
+damage_is : (n : ℕ) (a : Result (Unit {0}) Broken) (b : Result ℕ Broken) (broken other : Broken) → a ≡ Err broken → b ≡ Err other → other ≡ broken → b ≡ Err (Damaged n) → a ≡ Err (Damaged n)
+damage_is n a b broken other was gave same is = cc
 
 pub returns-in_err-go_above-clause-merge : goal.returns-in_err-go_above-clause-merge
 returns-in_err-go_above-clause-merge g c = λ news olds newer older honest merge other.
@@ -59,6 +63,18 @@ returns-in_err-go_above-2-clause-works g c =
     works_more c.args.geo.now role 2 3 c.args.space.now c.args.space.now (g.D.Disk.state c.args.disk.now) (g.D.Disk.state c.go_above-2.new.disk) (omega arith)
     (works_reads c.args.geo.now role c.args.space.now (g.D.Disk.state c.args.disk.now) (g.D.Disk.state c.go_above.new.disk) (g.D.Disk.state c.go_above-2.new.disk) (g.met.D.Disk.timed c.go_above.new.disk)
     (c.go_above.ensures.reads.stands (calm_of c.go_above.result c.in_ok-go_above.was)) c.go_above.ensures.reads.effect c.go_above-2.ensures.reads.effect)
+
+pub returns-in_err-go_above-clause-damaged : goal.returns-in_err-go_above-clause-damaged
+returns-in_err-go_above-clause-damaged g c = λ n is tells.
+    let p = err_from_is_err_and c.from_residual.result c.from_residual.ensures.1 in
+    inl (c.go_above.ensures.damaged n (damage_is n c.go_above.result c.from_residual.result c.in_err-go_above.field-0.0 p.0 c.in_err-go_above.was p.1 p.2 is) tells)
+
+pub returns-in_err-go_above-2-clause-damaged : goal.returns-in_err-go_above-2-clause-damaged
+returns-in_err-go_above-2-clause-damaged g c = λ n is tells.
+    let result = c.from_residual-in_err-go_above-2.result in
+    let p = err_from_is_err_and result c.from_residual-in_err-go_above-2.ensures.1 in
+    inr (c.go_above-2.ensures.damaged n (damage_is n c.go_above-2.result result c.in_err-go_above-2.field-0.0 p.0 c.in_err-go_above-2.was p.1 p.2 is)
+    (subst IsTrue (sym c.go_above.ensures.reads.effect.effect.goes_on.tells_bytes) tells))
 
 -- ---- nothing is left
 

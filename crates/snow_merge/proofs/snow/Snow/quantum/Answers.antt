@@ -6,7 +6,8 @@ use Rattle.page_file.specs.declared.file.Broken.TheVariants.{Fault}
 use Rattle.page_space.specs.Space.{role_size}
 use Rattle.merge_ends.specs.Quantum.{Works, HasTaken}
 use Rattle.merge_ends.proofs.WorkLemmas.{works_start, works_run, works_counted}
-use Rattle.snow_merge.specs.Pass.{Takes}
+use Rattle.run_cursor.specs.Cursor.{IsDamageAt}
+use Rattle.snow_merge.specs.Pass.{SnowState, Takes}
 use Rattle.merge_ends.proofs.QuantumLemmas.{has_step, some_weight, no_weight}
 use Rattle.snow_merge.proofs.PassLemmas.{takes_none, takes_run, none_above}
 use Rattle.snow_merge.proofs.snow.Snow.quantum.Goals as goal
@@ -51,6 +52,11 @@ returns-in-Err-clause-works g c =
     let least = c.args.geo.now.quantum in
     works_counted c.args.geo.now role (least / 7 + 2 + 2) (least / 7 + 2) c.args.space.now c.step.new.space old new (omega (arith, inv.calls, step.effect.calls, inv.quantum))
     (works_run c.args.geo.now role (least / 7 + 2) 2 c.args.space.now c.loop-taken.space c.step.new.space old mid new (g.met.D.Disk.timed c.loop-taken.disk) inv.faults inv.works step)
+
+pub returns-in-Err-clause-damaged : goal.returns-in-Err-clause-damaged
+returns-in-Err-clause-damaged g c = λ n is tells.
+    subst (λ (s : SnowState). IsDamageAt c.args.geo.now s.c1 n (g.D.Disk.state c.step.new.disk).bytes) (sym c.self.view_is)
+    (c.in-Err.ensures.damaged n is (subst IsTrue (sym c.loop-taken.invariant.works.effect.goes_on.tells_bytes) tells))
 
 pub returns-in-Err-clause-faults : goal.returns-in-Err-clause-faults
 returns-in-Err-clause-faults g c =

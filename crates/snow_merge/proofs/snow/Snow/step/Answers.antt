@@ -4,7 +4,7 @@ use Rattle.disk_trait.specs.Reads.{only_reads_same}
 use Rattle.blsm_model.specs.declared.key.Key.{Key}
 use Rattle.record_delta.specs.Entries.{Entries, first_of, folded_over, above, up_to}
 use Rattle.page_file.specs.declared.file.Broken.{Broken}
-use Rattle.page_file.specs.declared.file.Broken.TheVariants.{Fault}
+use Rattle.page_file.specs.declared.file.Broken.TheVariants.{Fault, Damaged}
 use Rattle.page_file.specs.Entry.{AreRising}
 use Rattle.page_file.proofs.OrderLemmas.{orders}
 use Rattle.run_writer.specs.Writer.{HasPushed}
@@ -25,6 +25,10 @@ fault_is a broken was is = cc
 not_both : (a : Result (Unit {0}) Broken) (broken : Broken) → a ≡ Err broken → a ≡ Ok tt → ⊥
 not_both a broken was is = cc
 
+-- the page that is named was named below
+damage_is : (n : ℕ) (a : Result (Unit {0}) Broken) (b : Result ℕ Broken) (broken other : Broken) → a ≡ Err broken → b ≡ Err other → other ≡ broken → b ≡ Err (Damaged n) → a ≡ Err (Damaged n)
+damage_is n a b broken other was gave same is = cc
+
 pub returns-in_err-go_above-clause-pass : goal.returns-in_err-go_above-clause-pass
 returns-in_err-go_above-clause-pass g c = λ pages c1 honest pass other.
     let p = err_from_is_err_and c.from_residual.result c.from_residual.ensures.1 in
@@ -32,6 +36,11 @@ returns-in_err-go_above-clause-pass g c = λ pages c1 honest pass other.
     absurd (not_both c.go_above.result c.in_err-go_above.field-0.0 c.in_err-go_above.was
     (c.go_above.ensures.input c.args.space.now c.self.inside.writer.role pages c1 honest old.older
     (λ fault. other (p.1 ∙ ap Err (p.2 ∙ fault_is c.go_above.result c.in_err-go_above.field-0.0 c.in_err-go_above.was fault)))).0)
+
+pub returns-in_err-go_above-clause-damaged : goal.returns-in_err-go_above-clause-damaged
+returns-in_err-go_above-clause-damaged g c = λ n is tells.
+    let p = err_from_is_err_and c.from_residual.result c.from_residual.ensures.1 in
+    c.go_above.ensures.damaged n (damage_is n c.go_above.result c.from_residual.result c.in_err-go_above.field-0.0 p.0 c.in_err-go_above.was p.1 p.2 is) tells
 
 -- ---- nothing is left
 
