@@ -4,6 +4,7 @@ mod KeptMerges
 mod StayLemmas
 mod QuantumLemmas
 mod FindLemmas
+mod ToldLemmas
 mod GuideLemmas
 mod BesideLemmas
 mod HoldLemmas

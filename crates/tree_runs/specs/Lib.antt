@@ -3,3 +3,4 @@ pub mod Holding
 pub mod Laws
 pub mod Swaps
 pub mod Lookups
+pub mod Damage

@@ -1,14 +1,15 @@
 //! Lookups in the components.
-ghost use Rattle.std.specs.Prelude.{◌≡◌, ◌≢◌, ◌+◌, ℕ, List, Ok, Err, length, IsTrue};
+ghost use Rattle.std.specs.Prelude.{◌≡◌, ◌≢◌, ◌+◌, ℕ, List, Ok, Err, length, IsTrue, IfOk};
 ghost use Rattle.blsm_model.specs.Geometry.{file_length};
 ghost use Rattle.record_delta.specs.Entries.{over_any, record_of_key};
 ghost use Rattle.page_space.specs.Space.{role_count};
 ghost use Rattle.page_file.specs.Component.{RunPage, ReadsAs, entries_of};
 ghost use Rattle.page_file.specs.File.{Reads};
+ghost use Rattle.run_cursor.specs.Lookup.{IsDamaged};
 ghost use Rattle.tree_file.specs.Tree.{Tree, HoldsTree};
-ghost use Rattle.tree_runs.specs.Runs.{AreRuns, filter_of, guide_at};
+ghost use Rattle.tree_runs.specs.Runs.{AreRuns, fences_of_tag, filter_of, guide_at};
 ghost use Rattle.tree_runs.specs.Holding.{AreGuided, IsGuidedBy};
-ghost use Rattle.tree_runs.specs.Lookups.{AreAsked, CountsYes, HidesOlder};
+ghost use Rattle.tree_runs.specs.Lookups.{AreAsked, AreToldBy, CountsYes, HidesOlder, IsDamageBelow, IsToldBy, from_newest};
 
 use crate::runs::Runs;
 use blsm_model::{Component, Key};
@@ -23,8 +24,8 @@ impl Runs {
     /// C2. Of each component it reads one page at most, and none where the component's filter says no; it ends at the first base or
     /// tombstone. It moves no cursor.
     ///
-    /// `Damaged` names a page that isn't valid; it never comes where the file holds a tree that filters and fences are of. `Fault` comes just
-    /// where the disk's count of faults rose.
+    /// `Damaged` names the page that was asked and isn't valid; it never comes where the file holds a tree that filters and fences are of.
+    /// `Fault` comes just where the disk's count of faults rose.
     pub fn find<D: Disk>(
         &self,
         disk: &mut D,
@@ -37,6 +38,13 @@ impl Runs {
             → tree.catalogue ≡ self.now.catalogue → AreGuided self.now.guides self.now.tags tree → result ≢ Err Broken.Fault
             → result ≡ Ok (over_any newer (over_any (record_of_key key.now (entries_of tree.c1))
             (over_any (record_of_key key.now (entries_of tree.c1x)) (record_of_key key.now (entries_of tree.c2))))) }
+
+        // Whatever the components read as, the answer is what the pages that are asked say of the key, and the first of them that is damaged is
+        // named.
+        ensures told { IfOk result (λ found. IsTrue (D.state disk.old).is_honest
+            → AreToldBy self.now.sizes key.now (D.state disk.old).bytes (from_newest self.now.catalogue self.now.guides self.now.tags) newer found) }
+        ensures damaged { (n : ℕ) → result ≡ Err (Broken.Damaged n) → IsTrue (D.state disk.old).is_honest
+            → IsDamageBelow self.now.sizes key.now (D.state disk.old).bytes (from_newest self.now.catalogue self.now.guides self.now.tags) newer n }
 
         // It makes as many calls at most as filters say yes, and none below a base or a tombstone.
         ensures asks { (c1 c1x c2 : ℕ) → CountsYes (filter_of self.now self.now.tags.c1) key.now c1 → CountsYes (filter_of self.now self.now.tags.c1x) key.now c1x
@@ -67,6 +75,10 @@ impl Runs {
         requires length { IsTrue (D.state disk.old).tells_bytes → length (D.state disk.old).bytes ≡ file_length self.now.sizes }
         ensures list { (pages : List RunPage) → IsTrue (D.state disk.old).is_honest → ReadsAs self.now.sizes run.now pages (D.state disk.old).bytes
             → IsGuidedBy (guide_at self.now.guides role) pages → result ≢ Err Broken.Fault → result ≡ Ok (over_any newer (record_of_key key.now (entries_of pages))) }
+        ensures told { IfOk result (λ found. IsTrue (D.state disk.old).is_honest
+            → IsToldBy self.now.sizes key.now (D.state disk.old).bytes (run.now, guide_at self.now.guides role) newer found) }
+        ensures damaged { (n : ℕ) → result ≡ Err (Broken.Damaged n) → IsTrue (D.state disk.old).is_honest
+            → (HidesOlder newer → ⊥) × IsDamaged self.now.sizes run.now (filter_of self.now role) (fences_of_tag self.now role) key.now n (D.state disk.old).bytes }
         ensures reads { (n : ℕ) → CountsYes (filter_of self.now role) key.now n
             → Reads (file_length self.now.sizes) n result (D.state disk.old) (D.state disk.new) }
         ensures none { HidesOlder newer → (disk.new ≡ disk.old) × (result ≡ Ok newer) }

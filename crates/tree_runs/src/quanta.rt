@@ -10,6 +10,7 @@ ghost use Rattle.scan_view.specs.Pins.{beside_pins};
 ghost use Rattle.tree_file.specs.Tree.{Tree, HoldsTree};
 ghost use Rattle.tree_file.specs.Places.{StandsOn};
 ghost use Rattle.tree_runs.specs.Runs.{AreRunning, Fits, left_for_pass, left_for_deep};
+ghost use Rattle.tree_runs.specs.Damage.{PassMeetsDamage, DeepMeetsDamage};
 ghost use Rattle.tree_runs.specs.Holding.{StandOver, KeepsAllButPass, KeepsAllButDeep, PassTakes, PassTook, DeepTakes, DeepTook, cursor_of_pass, cursor_of_deep};
 
 use crate::runs::Runs;
@@ -43,6 +44,9 @@ impl Runs {
         ensures takes { IfOk result (PassTakes self.old.pass self.new.pass a.now.entries) }
         ensures bound { IfOk result (λ n. n + 1 ≤ self.old.sizes.quantum + 2 * most_weight) }
         ensures enough { IfOk result (λ n. (self.old.sizes.quantum ≤ n) ⊎ (left_for_pass self.new.pass a.now.entries ≡ 0)) }
+        // It comes to the damaged page next.
+        ensures damaged { (n : ℕ) → result ≡ Err (Broken.Damaged n) → IsTrue (D.state disk.old).tells_bytes
+            → PassMeetsDamage self.new.sizes self.new.pass n (D.state disk.new).bytes }
         ensures kept { IsErr result → cursor_of_pass self.new.pass ≡ cursor_of_pass self.old.pass }
         ensures runs { IsSome self.new.pass }
         ensures others { KeepsAllButPass self.old self.new }
@@ -91,6 +95,8 @@ impl Runs {
         ensures takes { IfOk result (DeepTakes self.old.deep self.new.deep) }
         ensures bound { IfOk result (λ n. n + 1 ≤ self.old.sizes.quantum + 2 * most_weight) }
         ensures enough { IfOk result (λ n. (self.old.sizes.quantum ≤ n) ⊎ (left_for_deep self.new.deep ≡ 0)) }
+        ensures damaged { (n : ℕ) → result ≡ Err (Broken.Damaged n) → IsTrue (D.state disk.old).tells_bytes
+            → DeepMeetsDamage self.new.sizes self.new.deep n (D.state disk.new).bytes }
         ensures kept { IsErr result → cursor_of_deep self.new.deep ≡ cursor_of_deep self.old.deep }
         ensures runs { IsSome self.new.deep }
         ensures others { KeepsAllButDeep self.old self.new }

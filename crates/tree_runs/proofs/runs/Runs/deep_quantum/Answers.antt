@@ -6,9 +6,10 @@ use Rattle.blsm_model.specs.Sizes.{Sizes}
 use Rattle.blsm_model.specs.Geometry.{capacity}
 use Rattle.page_space.specs.Space.{SpaceState}
 use Rattle.merge_ends.specs.Quantum.{Works}
-use Rattle.deep_merge.specs.Merge.{DeepState, MayGoOn, left_weight}
+use Rattle.deep_merge.specs.Merge.{DeepState, MayGoOn, MeetsDamage, left_weight}
 use Rattle.scan_view.proofs.StayLemmas.{writes_beside}
 use Rattle.tree_runs.specs.Runs.{GuideState, RunsState, AreRunning, DeepRuns, guide_at, no_guide}
+use Rattle.tree_runs.specs.Damage.{DeepMeetsDamage}
 use Rattle.tree_runs.specs.Holding.{StandOver}
 use Rattle.tree_runs.proofs.GuideLemmas.{WritesGuide, pages_within, writes_guide}
 use Rattle.tree_runs.proofs.QuantumLemmas.{DeepQuantum, deep_has_room, deep_light, deepened_is, deep_ran, deep_stands, deep_works, tree_stays, deep_is_run}
@@ -140,3 +141,11 @@ returns-clause-running g c =
     subst (λ (r : RunsState). OnOk c.quantum-taken.result (AreRunning new.is_honest new.bytes r)) (sym is_new)
     (deep_ran c.where_a_run_writes.ensures.pushed runs c.quantum-taken.new.space (guides_after g c) (guide_after g c) c.in-Some.deep c.quantum-taken.new.self
     c.quantum-taken.result old new (deep_is g c) c.requires.running c.pages-pages.ensures.shape (writes g c) (quantum_is g c))
+
+pub returns-clause-damaged : goal.returns-clause-damaged
+returns-clause-damaged g c = λ n is tells.
+    let file = (g.D.Disk.state c.quantum-taken.new.disk).bytes in
+    let sizes : c.self.inside.geometry ≡ c.args.self.now.sizes = search rules in
+    let is_new = deepened_is c.quantum-taken.new.space (guides_after g c) c.quantum-taken.new.self (returns-clause-others g c) refl refl refl in
+    subst (λ (r : RunsState). DeepMeetsDamage r.sizes r.deep n file) (sym is_new)
+    (subst (λ (s : Sizes). MeetsDamage s c.quantum-taken.new.self n file) sizes (c.quantum-taken.ensures.damaged n is tells))

@@ -1,13 +1,15 @@
-use Rattle.std.proofs.Common.{rules, ◌≡◌, ◌∙◌, ◌+◌, Err, IsTrue, List, Option, None, ℕ, inl, inr, ap, sym, subst, refl, arith}
+use Rattle.std.proofs.Common.{rules, ◌≡◌, ◌∙◌, ◌+◌, Err, IsTrue, List, [], ◌∷◌, Option, None, ℕ, inl, inr, ap, sym, subst, refl, arith}
 use Rattle.disk_trait.specs.Reads.{only_reads_same}
 use Rattle.std.proofs.lemmas.Result.{err_from_is_err_and}
+use Rattle.blsm_model.specs.declared.component.Component.{Component}
 use Rattle.catalog_swap.specs.declared.catalog.Catalog.{Catalog}
 use Rattle.page_file.specs.Component.{entries_of}
 use Rattle.record_delta.specs.declared.record.Rec.{Rec}
 use Rattle.record_delta.specs.Entries.{over_any, record_of_key}
-use Rattle.tree_runs.specs.Lookups.{CountsAsked}
-use Rattle.tree_runs.specs.Runs.{Tags, filter_of, guide_at}
+use Rattle.tree_runs.specs.Lookups.{CountsAsked, from_newest}
+use Rattle.tree_runs.specs.Runs.{GuideState, Tags, filter_of, guide_at}
 use Rattle.tree_runs.proofs.FindLemmas.{AreCounted, Calls, LooksUp, asked_below, each_once, found_first, found_second, hides_still, looks_in, looks_behind, looks_failed, looked_up, no_fault, not_failed, once_is_enough, reads_long}
+use Rattle.tree_runs.proofs.ToldLemmas.{Tells, tells_behind, tells_failed, tells_last}
 use Rattle.tree_runs.proofs.runs.Runs.find.Goals as goal
 use Rattle.tree_runs.proofs.runs.Runs.find.Goals.{After-from_residual, After-from_residual-in_err-found-2, After-find_below-3}
 
@@ -195,3 +197,82 @@ returns-clause-none g c = λ hides.
     let two = c.in_ok-found-2.ensures.none found in
     let found_too = hides_still two.1 found in
     (c.find_below-3.ensures.none found_too).0 ∙ two.0 ∙ one.0
+
+-- ---- what was told
+
+told_first : (g : _) (c : After-from_residual g) → Tells c.args.self.now.sizes c.args.key.now (from_newest c.args.self.now.catalogue c.args.self.now.guides c.args.self.now.tags) c.args.newer c.from_residual.result (g.D.Disk.state c.args.disk.now)
+told_first g c =
+    let sizes = c.args.self.now.sizes in
+    let guides = c.args.self.now.guides in
+    let key = c.args.key.now in
+    let inside = c.self.inside in
+    let now = inside.catalogue in
+    let tags : Tags = record { c1 = inside.c1; c1x = inside.c1x; c2 = inside.c2; pass = inside.pass; deep = inside.deep } in
+    let same : now ≡ c.args.self.now.catalogue = search rules in
+    let same_tags : tags ≡ c.args.self.now.tags = search rules in
+    let old = g.D.Disk.state c.args.disk.now in
+    let c1 : Component × GuideState = (now.c1, guide_at guides tags.c1) in
+    let c1x : Component × GuideState = (now.c1x, guide_at guides tags.c1x) in
+    let c2 : Component × GuideState = (now.c2, guide_at guides tags.c2) in
+    let p = err_from_is_err_and c.from_residual.result c.from_residual.ensures.1 in
+    subst (λ (t : Tags). Tells sizes key (from_newest c.args.self.now.catalogue guides t) c.args.newer c.from_residual.result old) same_tags
+    (subst (λ (k : Catalog). Tells sizes key (from_newest k guides tags) c.args.newer c.from_residual.result old) same
+    (tells_failed sizes key c1 (c1x ∷ c2 ∷ []) (record { told = c.in_err-found.ensures.told; damaged = c.in_err-found.ensures.damaged }) (p.1 ∙ ap Err p.2)))
+
+pub returns-in_err-found-clause-told : goal.returns-in_err-found-clause-told
+returns-in_err-found-clause-told g c = (told_first g c).told
+
+pub returns-in_err-found-clause-damaged : goal.returns-in_err-found-clause-damaged
+returns-in_err-found-clause-damaged g c = (told_first g c).damaged
+
+told_second : (g : _) (c : After-from_residual-in_err-found-2 g) → Tells c.args.self.now.sizes c.args.key.now (from_newest c.args.self.now.catalogue c.args.self.now.guides c.args.self.now.tags) c.args.newer c.from_residual-in_err-found-2.result (g.D.Disk.state c.args.disk.now)
+told_second g c =
+    let sizes = c.args.self.now.sizes in
+    let guides = c.args.self.now.guides in
+    let key = c.args.key.now in
+    let inside = c.self.inside in
+    let now = inside.catalogue in
+    let tags : Tags = record { c1 = inside.c1; c1x = inside.c1x; c2 = inside.c2; pass = inside.pass; deep = inside.deep } in
+    let same : now ≡ c.args.self.now.catalogue = search rules in
+    let same_tags : tags ≡ c.args.self.now.tags = search rules in
+    let old = g.D.Disk.state c.args.disk.now in
+    let c1 : Component × GuideState = (now.c1, guide_at guides tags.c1) in
+    let c1x : Component × GuideState = (now.c1x, guide_at guides tags.c1x) in
+    let c2 : Component × GuideState = (now.c2, guide_at guides tags.c2) in
+    let p = err_from_is_err_and c.from_residual-in_err-found-2.result c.from_residual-in_err-found-2.ensures.1 in
+    subst (λ (t : Tags). Tells sizes key (from_newest c.args.self.now.catalogue guides t) c.args.newer c.from_residual-in_err-found-2.result old) same_tags
+    (subst (λ (k : Catalog). Tells sizes key (from_newest k guides tags) c.args.newer c.from_residual-in_err-found-2.result old) same
+    (tells_behind sizes key c1 (c1x ∷ c2 ∷ []) (record { told = c.in_ok-found.ensures.told; damaged = c.in_ok-found.ensures.damaged }) (c.in_ok-found.ensures.reads 1 (inl (omega arith))).effect
+    (tells_failed sizes key c1x (c2 ∷ []) (record { told = c.in_err-found-2.ensures.told; damaged = c.in_err-found-2.ensures.damaged }) (p.1 ∙ ap Err p.2))))
+
+pub returns-in_err-found-2-clause-told : goal.returns-in_err-found-2-clause-told
+returns-in_err-found-2-clause-told g c = (told_second g c).told
+
+pub returns-in_err-found-2-clause-damaged : goal.returns-in_err-found-2-clause-damaged
+returns-in_err-found-2-clause-damaged g c = (told_second g c).damaged
+
+told_third : (g : _) (c : After-find_below-3 g) → Tells c.args.self.now.sizes c.args.key.now (from_newest c.args.self.now.catalogue c.args.self.now.guides c.args.self.now.tags) c.args.newer c.find_below-3.result (g.D.Disk.state c.args.disk.now)
+told_third g c =
+    let sizes = c.args.self.now.sizes in
+    let guides = c.args.self.now.guides in
+    let key = c.args.key.now in
+    let inside = c.self.inside in
+    let now = inside.catalogue in
+    let tags : Tags = record { c1 = inside.c1; c1x = inside.c1x; c2 = inside.c2; pass = inside.pass; deep = inside.deep } in
+    let same : now ≡ c.args.self.now.catalogue = search rules in
+    let same_tags : tags ≡ c.args.self.now.tags = search rules in
+    let old = g.D.Disk.state c.args.disk.now in
+    let c1 : Component × GuideState = (now.c1, guide_at guides tags.c1) in
+    let c1x : Component × GuideState = (now.c1x, guide_at guides tags.c1x) in
+    let c2 : Component × GuideState = (now.c2, guide_at guides tags.c2) in
+    subst (λ (t : Tags). Tells sizes key (from_newest c.args.self.now.catalogue guides t) c.args.newer c.find_below-3.result old) same_tags
+    (subst (λ (k : Catalog). Tells sizes key (from_newest k guides tags) c.args.newer c.find_below-3.result old) same
+    (tells_behind sizes key c1 (c1x ∷ c2 ∷ []) (record { told = c.in_ok-found.ensures.told; damaged = c.in_ok-found.ensures.damaged }) (c.in_ok-found.ensures.reads 1 (inl (omega arith))).effect
+    (tells_behind sizes key c1x (c2 ∷ []) (record { told = c.in_ok-found-2.ensures.told; damaged = c.in_ok-found-2.ensures.damaged }) (c.in_ok-found-2.ensures.reads 1 (inl (omega arith))).effect
+    (tells_last sizes key c2 (record { told = c.find_below-3.ensures.told; damaged = c.find_below-3.ensures.damaged })))))
+
+pub returns-clause-told : goal.returns-clause-told
+returns-clause-told g c = (told_third g c).told
+
+pub returns-clause-damaged : goal.returns-clause-damaged
+returns-clause-damaged g c = (told_third g c).damaged

@@ -5,10 +5,12 @@ use Rattle.disk_trait.specs.Effects.{affects_wider}
 use Rattle.blsm_model.specs.Sizes.{Sizes}
 use Rattle.blsm_model.specs.Geometry.{capacity}
 use Rattle.page_space.specs.Space.{SpaceState}
+use Rattle.run_cursor.specs.Cursor.{IsDamageAt}
 use Rattle.merge_ends.specs.Quantum.{Works}
 use Rattle.snow_merge.specs.Pass.{SnowState, MayGoOn, left_weight}
 use Rattle.scan_view.proofs.StayLemmas.{writes_beside}
 use Rattle.tree_runs.specs.Runs.{GuideState, RunsState, AreRunning, PassRuns, guide_at, no_guide}
+use Rattle.tree_runs.specs.Damage.{PassMeetsDamage}
 use Rattle.tree_runs.specs.Holding.{StandOver}
 use Rattle.tree_runs.proofs.GuideLemmas.{WritesGuide, pages_within, writes_guide}
 use Rattle.tree_runs.proofs.QuantumLemmas.{PassQuantum, pass_has_room, pass_light, passed_is, pass_ran, pass_stands, pass_works, tree_stays, pass_is_run}
@@ -140,3 +142,11 @@ returns-clause-running g c =
     subst (λ (r : RunsState). OnOk c.quantum-taken.result (AreRunning new.is_honest new.bytes r)) (sym is_new)
     (pass_ran c.where_a_run_writes.ensures.pushed runs c.quantum-taken.new.space (guides_after g c) (guide_after g c) c.in-Some.snow c.quantum-taken.new.self c.args.a.now.entries
     c.quantum-taken.result old new (pass_is g c) c.requires.running c.pages-pages.ensures.shape (writes g c) (quantum_is g c))
+
+pub returns-clause-damaged : goal.returns-clause-damaged
+returns-clause-damaged g c = λ n is tells.
+    let file = (g.D.Disk.state c.quantum-taken.new.disk).bytes in
+    let sizes : c.self.inside.geometry ≡ c.args.self.now.sizes = search rules in
+    let is_new = passed_is c.quantum-taken.new.space (guides_after g c) c.quantum-taken.new.self (returns-clause-others g c) refl refl refl in
+    subst (λ (r : RunsState). PassMeetsDamage r.sizes r.pass n file) (sym is_new)
+    (subst (λ (s : Sizes). IsDamageAt s c.quantum-taken.new.self.c1 n file) sizes (c.quantum-taken.ensures.damaged n is tells))

@@ -1,0 +1,78 @@
+-- What a lookup tells of the pages that it asks, in one component after the other.
+use Rattle.std.specs.Prelude.{◌≡◌, ℕ, List, [], ◌∷◌, IsTrue, Option, None, Some, Result, Ok, Err, IfOk}
+use Rattle.std.proofs.Common.{◌∙◌, ap, inl, inr, sym, subst, refl}
+use Rattle.disk_trait.specs.Disk.{DiskState}
+use Rattle.disk_trait.specs.Reads.{OnlyReads, only_reads_same}
+use Rattle.blsm_model.specs.declared.component.Component.{Component}
+use Rattle.blsm_model.specs.declared.key.Key.{Key}
+use Rattle.blsm_model.specs.Sizes.{Sizes}
+use Rattle.record_delta.specs.declared.record.Rec.{Rec}
+use Rattle.record_delta.specs.Entries.{over_any}
+use Rattle.record_delta.specs.Folding.{fold}
+use Rattle.page_file.specs.declared.file.Broken.{Broken}
+use Rattle.page_file.specs.declared.file.Broken.TheVariants.{Damaged}
+use Rattle.run_cursor.specs.Lookup.{IsDamaged, IsFoundBy}
+use Rattle.tree_runs.specs.Lookups.{AreToldBy, HidesOlder, IsDamageBelow, IsToldBy}
+use Rattle.tree_runs.specs.Runs.{GuideState}
+
+-- ---- one component
+
+-- what was found in it, or what is damaged, where nothing newer hides it
+pub record TellsOne (sizes : Sizes) (key : Key) (c : Component × GuideState) (newer : Option Rec) (result : Result (Option Rec) Broken) (old : DiskState) : Type 0 where
+  pub told : IfOk result (λ found. IsTrue old.is_honest → IsToldBy sizes key old.bytes c newer found)
+  pub damaged : (n : ℕ) → result ≡ Err (Damaged n) → IsTrue old.is_honest → (HidesOlder newer → ⊥) × IsDamaged sizes c.0 c.1.filter c.1.fences key n old.bytes
+
+-- nothing is newer
+pub told_alone : (H : Type 0) (sizes : Sizes) (key : Key) (file : List ℕ) (c : Component × GuideState) (calls : ℕ) (result : Result (Option Rec) Broken)
+    → IfOk result (λ found. H → IsFoundBy sizes c.0 c.1.filter c.1.fences key found calls file) → IfOk result (λ found. H → IsToldBy sizes key file c None found)
+told_alone H sizes key file c calls (Ok found) told = λ honest. inr ((λ hides. hides), found, calls, told honest, refl)
+told_alone H sizes key file c calls (Err broken) told = tt
+
+-- a record that was folded over an older one, or stands alone
+pub over_found : (newer older record_now : Rec) (found : Option Rec) → found ≡ Some older → record_now ≡ fold newer older → Some record_now ≡ over_any (Some newer) found
+over_found newer older record_now found is folded = subst (λ (o : Option Rec). Some record_now ≡ over_any (Some newer) o) (sym is) (ap (λ (r : Rec). Some r) folded)
+
+pub over_none : (newer record_now : Rec) (found : Option Rec) → found ≡ None → record_now ≡ newer → Some record_now ≡ over_any (Some newer) found
+over_none newer record_now found is same = subst (λ (o : Option Rec). Some record_now ≡ over_any (Some newer) o) (sym is) (ap (λ (r : Rec). Some r) same)
+
+-- ---- one after the other
+
+pub record Tells (sizes : Sizes) (key : Key) (cs : List (Component × GuideState)) (newer : Option Rec) (result : Result (Option Rec) Broken) (old : DiskState) : Type 0 where
+  pub told : IfOk result (λ found. IsTrue old.is_honest → AreToldBy sizes key old.bytes cs newer found)
+  pub damaged : (n : ℕ) → result ≡ Err (Damaged n) → IsTrue old.is_honest → IsDamageBelow sizes key old.bytes cs newer n
+
+told_last : (H : Type 0) (sizes : Sizes) (key : Key) (file : List ℕ) (c : Component × GuideState) (newer : Option Rec) (result : Result (Option Rec) Broken)
+    → IfOk result (λ found. H → IsToldBy sizes key file c newer found) → IfOk result (λ found. H → AreToldBy sizes key file (c ∷ []) newer found)
+told_last H sizes key file c newer (Ok found) told = λ honest. (found, told honest, refl)
+told_last H sizes key file c newer (Err broken) told = tt
+
+-- the last one
+pub tells_last : {newer : Option Rec} {result : Result (Option Rec) Broken} {old : DiskState} (sizes : Sizes) (key : Key) (c : Component × GuideState) → TellsOne sizes key c newer result old → Tells sizes key (c ∷ []) newer result old
+tells_last {newer} {result} {old} sizes key c one = record {
+  told = told_last (IsTrue old.is_honest) sizes key old.bytes c newer result one.told;
+  damaged = λ n named honest. inl (one.damaged n named honest);
+}
+
+-- one that failed, before others
+pub tells_failed : {newer : Option Rec} {broken : Broken} {result : Result (Option Rec) Broken} {old : DiskState} (sizes : Sizes) (key : Key) (c : Component × GuideState) (cs : List (Component × GuideState))
+    → TellsOne sizes key c newer (Err broken) old → result ≡ Err broken → Tells sizes key (c ∷ cs) newer result old
+tells_failed {newer} {broken} {result} {old} sizes key c cs one is = record {
+  told = subst (λ (r : Result (Option Rec) Broken). IfOk r (λ found. IsTrue old.is_honest → AreToldBy sizes key old.bytes (c ∷ cs) newer found)) (sym is) tt;
+  damaged = λ n named honest. inl (one.damaged n (sym is ∙ named) honest);
+}
+
+told_behind : (sizes : Sizes) (key : Key) (c : Component × GuideState) (cs : List (Component × GuideState)) (newer found : Option Rec) (result : Result (Option Rec) Broken) (H H2 : Type 0) (file file2 : List ℕ)
+    → (H → H2 × (file2 ≡ file)) → (H → IsToldBy sizes key file c newer found) → IfOk result (λ last. H2 → AreToldBy sizes key file2 cs found last) → IfOk result (λ last. H → AreToldBy sizes key file (c ∷ cs) newer last)
+told_behind sizes key c cs newer found (Ok last) H H2 file file2 still one told = λ honest. (found, one honest, subst (λ (f : List ℕ). AreToldBy sizes key f cs found last) (still honest).1 (told (still honest).0))
+told_behind sizes key c cs newer found (Err broken) H H2 file file2 still one told = tt
+
+-- one before others
+pub tells_behind : {newer found : Option Rec} {result : Result (Option Rec) Broken} {end most : ℕ} {old mid : DiskState} (sizes : Sizes) (key : Key) (c : Component × GuideState) (cs : List (Component × GuideState))
+    → TellsOne sizes key c newer (Ok found) old → OnlyReads end most old mid → Tells sizes key cs found result mid → Tells sizes key (c ∷ cs) newer result old
+tells_behind {newer} {found} {result} {end} {most} {old} {mid} sizes key c cs one reads rest = record {
+  told = told_behind sizes key c cs newer found result (IsTrue old.is_honest) (IsTrue mid.is_honest) old.bytes mid.bytes still one.told rest.told;
+  damaged = λ n named honest. inr (found, one.told honest, subst (λ (f : List ℕ). IsDamageBelow sizes key f cs found n) (still honest).1 (rest.damaged n named (still honest).0));
+}
+  where
+    still : IsTrue old.is_honest → IsTrue mid.is_honest × (mid.bytes ≡ old.bytes)
+    still honest = (subst IsTrue (sym reads.effect.goes_on.is_honest) honest, only_reads_same reads honest)
