@@ -11,6 +11,7 @@ ghost use Rattle.tree_machine.specs.Machine.{seats};
 ghost use Rattle.tree_file.specs.Tree.{Tree, HoldsTree};
 ghost use Rattle.tree_file.specs.Places.{StandsOn};
 ghost use Rattle.scan_view.specs.Pins.{beside_pins};
+ghost use Rattle.tree_runs.specs.Damage.{PassMeetsDamage, DeepMeetsDamage};
 ghost use Rattle.tree_runs.specs.Holding.{StandOver, PassTook, DeepTook};
 ghost use Rattle.core_moves.specs.Needs.{IsOn, IsReady};
 ghost use Rattle.core_moves.specs.Moves.{TakesOfPass, TakesOfDeep, KeepsAllButMerges, with_debts_forgiven};
@@ -36,6 +37,8 @@ impl Held {
             → (n : ℕ) × (result ≡ Ok n) × StandOver self.new.runs tree self.new.log.a.entries (D.state disk.new)
             × PassTook self.old.runs.sizes.quantum self.old.runs.pass self.new.runs.pass self.old.log.a.entries (entries_of tree.c1) n }
         ensures takes { IfOk result (λ n. TakesOfPass seat n self.old self.new) }
+        ensures damaged { (n : ℕ) → result ≡ Err (Broken.Damaged n) → IsTrue (D.state disk.old).tells_bytes
+            → PassMeetsDamage self.new.runs.sizes self.new.runs.pass n (D.state disk.new).bytes }
         ensures on { OnOk result (IsOn self.new (D.state disk.new)) }
         ensures kept { KeepsAllButMerges (IsErr result) self.old self.new }
         ensures effect { Affects (beside_pins self.old.runs.sizes self.old.runs.space.pins) (file_length self.old.runs.sizes) (self.old.runs.sizes.quantum / 7 + 2) (D.state disk.old) (D.state disk.new) }
@@ -63,6 +66,8 @@ impl Held {
             → (n : ℕ) × (result ≡ Ok n) × StandOver self.new.runs tree self.new.log.a.entries (D.state disk.new)
             × DeepTook self.old.runs.sizes.quantum self.old.runs.deep self.new.runs.deep (entries_of tree.c1x) (entries_of tree.c2) n }
         ensures takes { IfOk result (λ n. TakesOfDeep seat n self.old self.new) }
+        ensures damaged { (n : ℕ) → result ≡ Err (Broken.Damaged n) → IsTrue (D.state disk.old).tells_bytes
+            → DeepMeetsDamage self.new.runs.sizes self.new.runs.deep n (D.state disk.new).bytes }
         ensures on { OnOk result (IsOn self.new (D.state disk.new)) }
         ensures kept { KeepsAllButMerges (IsErr result) self.old self.new }
         ensures effect { Affects (beside_pins self.old.runs.sizes self.old.runs.space.pins) (file_length self.old.runs.sizes) (self.old.runs.sizes.quantum / 4 + 3) (D.state disk.old) (D.state disk.new) }

@@ -7,7 +7,7 @@ use Rattle.blsm_model.specs.Geometry.{file_length}
 use Rattle.disk_trait.specs.Disk.{DiskState, TellsFaults, TellsFaultsBy}
 use Rattle.disk_trait.specs.Moments.{IsTimed, LeavesOnly, leaves_only_start, leaves_only_weaken}
 use Rattle.page_file.specs.declared.file.Broken.{Broken}
-use Rattle.page_file.specs.declared.file.Broken.TheVariants.{Fault}
+use Rattle.page_file.specs.declared.file.Broken.TheVariants.{Fault, Damaged}
 use Rattle.pacing.specs.Steps.{Move}
 use Rattle.record_delta.specs.Entries.{Entries}
 use Rattle.tree_file.specs.Tree.{Tree, HoldsTree}
@@ -50,6 +50,14 @@ moved_by (Err failed) P Q so p = tt
 
 pub swap_moved : {T E : Type 0} (r : Result T E) (made : Result ℕ Broken) (P : Type 0) (Q : ℕ → Type 0) → made ≡ as_moved r → (P → Q 0) → OnOk r P → IfOk made Q
 swap_moved r made P Q is so p = subst (λ (x : Result ℕ Broken). IfOk x Q) (sym is) (moved_by r P Q so p)
+
+-- it names no page
+not_named : {T E : Type 0} (r : Result T E) (n : ℕ) → as_moved r ≡ Err (Damaged n) → ⊥
+not_named (Ok done) n is = cc
+not_named (Err failed) n is = cc
+
+pub swap_not_named : {T E : Type 0} (r : Result T E) (made : Result ℕ Broken) (n : ℕ) → made ≡ as_moved r → made ≡ Err (Damaged n) → ⊥
+swap_not_named r made n is named = not_named r n (sym is ∙ named)
 
 kept_by : {T E : Type 0} (r : Result T E) (old new : Held) → OnErr r (new ≡ old) → KeepsAllButMerges (IsErr (as_moved r)) old new
 kept_by (Ok done) old new same = record {

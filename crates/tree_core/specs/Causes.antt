@@ -20,6 +20,7 @@ use Rattle.tree_machine.specs.Machine.{Turned}
 use Rattle.tree_machine.specs.Machine as machine
 use Rattle.seat_book.specs.State.{is_closed_in, noted_in}
 use Rattle.tree_runs.specs.Runs.{left_for_pass, left_for_deep}
+use Rattle.tree_runs.specs.Damage.{IsDamageAhead}
 use Rattle.tree_runs.specs.Holding.{PinsComponents}
 use Rattle.core_moves.specs.declared.held.Held.{Held}
 use Rattle.core_moves.specs.Held.{charge_in}
@@ -52,11 +53,12 @@ pub record HasFailed (old new : Held) (before after : DiskState) : Type 0 where
   pub faults : HasRisen before.faults after.faults
   pub stopped : new.book.stopped ≡ Some (why.Faulted after.faults)
 
--- it ran, and a page was found damaged: it stops, and names the page
+-- It ran, and a page was found damaged: it stops, and names the page, which a merge comes to next.
 pub record FoundDamaged (page : ℕ) (old new : Held) (before after : DiskState) : Type 0 where
   pub ran : old.book.stopped ≡ None
   pub faults : after.faults ≡ before.faults
   pub stopped : new.book.stopped ≡ Some (why.BadPage page)
+  pub ahead : IsTrue before.tells_bytes → IsDamageAhead new.runs page after.bytes
 
 -- A write is full exactly by the charge; a store that is stopped only notes that it is.
 abbrev pub AdmitsBecause : Admission → ℕ → Op → Held → Held → DiskState → DiskState → Type 0

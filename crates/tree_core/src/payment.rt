@@ -13,6 +13,7 @@ ghost use Rattle.tree_machine.specs.declared.step.Kind.TheVariants as kind;
 ghost use Rattle.tree_machine.specs.Machine.{Machine};
 ghost use Rattle.tree_machine.specs.Plays.{may};
 ghost use Rattle.tree_file.specs.Tree.{Tree};
+ghost use Rattle.tree_runs.specs.Damage.{IsDamageAhead};
 ghost use Rattle.tree_runs.specs.Holding.{StandOver};
 ghost use Rattle.core_moves.specs.Needs.{IsOn, IsReady};
 ghost use Rattle.core_moves.specs.Moves.{KeepsAllButMerges};
@@ -42,6 +43,7 @@ fn take<D: Disk>(held: &mut Held, disk: &mut D, seat: u32, plan: Plan) -> Result
     ensures lists { (tree : Tree) → IsTrue (D.state disk.old).is_honest → StandOver held.old.runs tree held.old.log.a.entries (D.state disk.old)
         → LeavesTaken plan result held.old held.new tree (D.state disk.old) (D.state disk.new) }
     ensures takes { IfOk result (λ n. TakesByPlan plan seat n held.old held.new) }
+    ensures damaged { (n : ℕ) → result ≡ Err (Broken.Damaged n) → IsTrue (D.state disk.old).tells_bytes → IsDamageAhead held.new.runs n (D.state disk.new).bytes }
     ensures on { OnOk result (IsOn held.new (D.state disk.new)) }
     ensures kept { KeepsAllButMerges (IsErr result) held.old held.new }
     ensures effect { Affects (beside_pins held.old.runs.sizes held.old.runs.space.pins) (file_length held.old.runs.sizes) (held.old.runs.sizes.quantum / 4 + 3) (D.state disk.old) (D.state disk.new) }

@@ -1,4 +1,4 @@
-use Rattle.std.proofs.Common.{sym, subst}
+use Rattle.std.proofs.Common.{inl, inr, sym, subst}
 use Rattle.gear_sched.specs.declared.Plan.{Plan}
 use Rattle.tree_core.specs.Quanta.{LeavesTaken}
 use Rattle.tree_core.proofs.payment.take.Goals as goal
@@ -14,3 +14,9 @@ returns-in-Deep-clause-lists g c = λ tree honest over.
     let stands = c.deep_quantum.ensures.stands tree honest over in
     subst (λ (p : Plan). LeavesTaken p c.deep_quantum.result c.args.held.now c.deep_quantum.new.self tree (g.D.Disk.state c.args.disk.now) (g.D.Disk.state c.deep_quantum.new.disk)) (sym c.in-Deep.is)
     (record { stands = stands.0; each = stands.1; taken = c.deep_quantum.ensures.lists tree honest over })
+
+pub returns-in-Snow-clause-damaged : goal.returns-in-Snow-clause-damaged
+returns-in-Snow-clause-damaged g c = λ n is tells. inl (c.pass_quantum.ensures.damaged n is tells)
+
+pub returns-in-Deep-clause-damaged : goal.returns-in-Deep-clause-damaged
+returns-in-Deep-clause-damaged g c = λ n is tells. inr (c.deep_quantum.ensures.damaged n is tells)

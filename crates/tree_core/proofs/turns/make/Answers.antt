@@ -1,4 +1,4 @@
-use Rattle.std.proofs.Common.{ℕ, Ok, refl, sym, subst}
+use Rattle.std.proofs.Common.{ℕ, Ok, inl, inr, refl, sym, subst}
 use Rattle.std.specs.Prelude.{IfOk}
 use Rattle.std.specs.declared.result.Result.{Result}
 use Rattle.page_file.specs.declared.file.Broken.{Broken}
@@ -10,7 +10,7 @@ use Rattle.core_pace.specs.Turns.{TurnsBy}
 use Rattle.tree_core.specs.Quanta.{LeavesMoved}
 use Rattle.tree_core.specs.Turning.{move_of}
 use Rattle.tree_core.specs.declared.turns.Choice.{Choice}
-use Rattle.tree_core.proofs.TurnMoves.{on_both, on_pair, swap_left, swap_moved, swap_kept, swap_told, quantum_left, rest_left, begun_over, begun_on}
+use Rattle.tree_core.proofs.TurnMoves.{on_both, on_pair, swap_left, swap_moved, swap_kept, swap_told, swap_not_named, quantum_left, rest_left, begun_over, begun_on}
 use Rattle.tree_core.proofs.turns.make.Goals as goal
 
 pub returns-in-SwapDeep-clause-lists : goal.returns-in-SwapDeep-clause-lists
@@ -143,3 +143,18 @@ returns-in-Rest-clause-lists g c = λ tree honest over.
       subst (λ (ch : Choice). LeavesMoved (move_of ch) made old old tree tree d d) (sym c.in-Rest.is)
           (rest_left pacing.Idle made old old tree d (g.met.D.Disk.timed c.args.disk.now) refl over.stands refl over refl),
     )
+
+pub returns-in-SwapDeep-clause-damaged : goal.returns-in-SwapDeep-clause-damaged
+returns-in-SwapDeep-clause-damaged g c = λ n is tells. absurd (swap_not_named c.swap_deep.result c.no_quantum.result n c.no_quantum.ensures is)
+
+pub returns-in-SwapPass-clause-damaged : goal.returns-in-SwapPass-clause-damaged
+returns-in-SwapPass-clause-damaged g c = λ n is tells. absurd (swap_not_named c.swap_pass.result c.no_quantum-in-SwapPass.result n c.no_quantum-in-SwapPass.ensures is)
+
+pub returns-in-Rotate-clause-damaged : goal.returns-in-Rotate-clause-damaged
+returns-in-Rotate-clause-damaged g c = λ n is tells. absurd (swap_not_named c.rotate.result c.no_quantum-in-Rotate.result n c.no_quantum-in-Rotate.ensures is)
+
+pub returns-in-DeepQuantum-clause-damaged : goal.returns-in-DeepQuantum-clause-damaged
+returns-in-DeepQuantum-clause-damaged g c = λ n is tells. inr (c.deep_quantum.ensures.damaged n is tells)
+
+pub returns-in-PassQuantum-clause-damaged : goal.returns-in-PassQuantum-clause-damaged
+returns-in-PassQuantum-clause-damaged g c = λ n is tells. inl (c.pass_quantum.ensures.damaged n is tells)

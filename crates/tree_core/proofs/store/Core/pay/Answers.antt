@@ -178,7 +178,7 @@ pub returns-in-Err-Damaged-clause-cause : goal.returns-in-Err-Damaged-clause-cau
 returns-in-Err-Damaged-clause-cause g c =
     let after = g.D.Disk.state c.take.new.disk in
     subst (λ (s : CoreState g.row.D.Denot). FoundDamaged c.in-Err-Damaged.page s.held (with_book c.stop-in-Err-Damaged.new.self c.take.new.held) (g.D.Disk.state s.disk) after) c.self.view_is
-    (record { ran = sym c.in_default.ensures; faults = c.in-Err-Damaged.ensures.faults.stands (λ same. cc (same, c.in-Err-Damaged.field-0-is)); stopped = ap (λ (b : BookState). b.stopped) c.stop-in-Err-Damaged.ensures })
+    (record { ran = sym c.in_default.ensures; faults = c.in-Err-Damaged.ensures.faults.stands (λ same. cc (same, c.in-Err-Damaged.field-0-is)); stopped = ap (λ (b : BookState). b.stopped) c.stop-in-Err-Damaged.ensures; ahead = c.in-Err-Damaged.ensures.damaged c.in-Err-Damaged.page (cc c.in-Err-Damaged.field-0-is) })
 
 pub returns-in-Err-Damaged-clause-follows : goal.returns-in-Err-Damaged-clause-follows
 returns-in-Err-Damaged-clause-follows g c =

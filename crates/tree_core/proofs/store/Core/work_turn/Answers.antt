@@ -108,7 +108,7 @@ returns-clause-cause g c =
       counts = counts_work c.args.seat ended c.end-ended.result.1 (quanta_by made mv) b c.end-ended.new.book (stopped_by made faults moved.book) c.turn-2.ensures c.end-ended.ensures.quanta c.end-ended.ensures.book;
     } in
     subst (λ (s : CoreState g.row.D.Denot). TurnsBecause ended false c.args.seat s.held (with_book b moved) (g.D.Disk.state s.disk) after) c.self.view_is
-    (turn_because false c.args.seat mv made faults old.held moved ended b before after e c.faults.ensures)
+    (turn_because false c.args.seat mv made faults old.held moved ended b before after e c.make-made.ensures.damaged c.faults.ensures)
 
 pub returns-clause-follows : goal.returns-clause-follows
 returns-clause-follows g c =

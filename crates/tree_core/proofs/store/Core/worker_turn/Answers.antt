@@ -144,7 +144,7 @@ returns-clause-cause g c =
       counts = c.worker_turn-2.ensures ∙ ap (λ (x : BookState). helped_in c.args.seat x) c.end-ended.ensures.book;
     } in
     subst (λ (s : CoreState g.row.D.Denot). TurnsBecause ended true c.args.seat s.held (with_book b moved) (g.D.Disk.state s.disk) after) c.self.view_is
-    (turn_because true c.args.seat mv made faults old.held moved ended b before after e c.faults.ensures)
+    (turn_because true c.args.seat mv made faults old.held moved ended b before after e c.make-made.ensures.damaged c.faults.ensures)
 
 pub returns-clause-follows : goal.returns-clause-follows
 returns-clause-follows g c =
