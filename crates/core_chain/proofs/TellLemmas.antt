@@ -121,7 +121,7 @@ module _ {D : Type 0} (state : D → DiskState) where
       noted : (given : Lookup) → answer ≡ given → new.held.book.book.entries ≡ old.held.book.book.entries ++ record { seat = seat; op = op.Get key; reply = reply_to_get given } ∷ []
       noted given is = ap (λ (h : Held). h.book.book.entries) call.held ∙ ap (λ (a : Lookup). old.held.book.book.entries ++ record { seat = seat; op = op.Get key; reply = reply_to_get a } ∷ []) is
 
-      by : (given : Lookup) → answer ≡ given → FindsBecause given old.held (state old.disk) (state new.disk) → LinkTells old.held.book new.held.book (state old.disk) (state new.disk)
+      by : (given : Lookup) → answer ≡ given → FindsBecause given key old.held (state old.disk) (state new.disk) → LinkTells old.held.book new.held.book (state old.disk) (state new.disk)
       by (lookup.Is value) is cause = quiet_entry (record { seat = seat; op = op.Get key; reply = reply_to_get (lookup.Is value) }) old new (noted (lookup.Is value) is) work refl refl stopped cause.1 tt
       by lookup.Absent is cause = quiet_entry (record { seat = seat; op = op.Get key; reply = reply_to_get lookup.Absent }) old new (noted lookup.Absent is) work refl refl stopped cause.1 tt
       by lookup.Fault is cause = lookup_entry (record { seat = seat; op = op.Get key; reply = reply_to_get lookup.Fault }) old new (noted lookup.Fault is) work refl refl cause.0 stopped cause.1 tt

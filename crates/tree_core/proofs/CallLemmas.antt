@@ -99,7 +99,7 @@ pub gets : {D : Type 0} (state : D → DiskState) (seat : ℕ) (key : Key) (answ
     (can : may_in old.held seat (kind.Get key) ≡ true)
     (numbers : (pace : Pace) → HoldsPace old.held pace (state old.disk) → MovesPace seat (kind.Get key) (Replied (reply_to_get answer)) new.held (state new.disk) pace)
     (steps : (opening : List (Key × Value)) (m : Machine) (pace : Pace) → IsTrue (state old.disk).is_honest → StandsFor opening old.held m pace (state old.disk) → IsTrue (may m seat (kind.Get key)) → IsStep opening seat (kind.Get key) (Replied (reply_to_get answer)) new.held (state old.disk) (state new.disk) m pace)
-    (cause : FindsBecause answer old.held (state old.disk) (state new.disk)) (held : new.held ≡ with_book (noted_in seat (op.Get key) (reply_to_get answer) old.held.book) old.held)
+    (cause : FindsBecause answer key old.held (state old.disk) (state new.disk)) (held : new.held ≡ with_book (noted_in seat (op.Get key) (reply_to_get answer) old.held.book) old.held)
     (reads : OnlyReads (file_length old.held.runs.sizes) 3 (state old.disk) (state new.disk)) (hidden : HidesOlder (newest_in key old.held) → new.disk ≡ old.disk)
     (untouched : LooksNone answer → new.disk ≡ old.disk) (holds : KeepsHolds old new) (follows : Follows seat (facts_of_held old.held) (facts_of_held new.held))
     (lasts : (start : CoreState D) → StandsSince state start old → StandsSince state start new) (begins : StandsSince state new new)

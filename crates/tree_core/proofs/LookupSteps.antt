@@ -103,7 +103,7 @@ get_step {end} {most} {d} {d2} opening seat key r outcome held m pace reads hone
     }
 
 pub get_steps : {end most : ℕ} {d d2 : DiskState} (opening : List (Key × Value)) (seat : ℕ) (key : Key) (found : Lookup) (held : Held) (m : Machine) (pace : Pace) → OnlyReads end most d d2 → IsTrue d.is_honest
-    → FindsBecause found held d d2 → (found ≡ lookup.Fault → d2.faults < 2 ^ 64)
+    → FindsBecause found key held d d2 → (found ≡ lookup.Fault → d2.faults < 2 ^ 64)
     → ((tree : Tree) → HoldsTree held.runs.sizes tree d.bytes → tree.catalogue ≡ held.runs.catalogue → AreGuided held.runs.guides held.runs.tags tree → held.book.stopped ≡ None → found ≢ lookup.Fault → reply_to_get found ≡ answer_to_get (found_in key held tree))
     → StandsFor opening held m pace d → may m seat (kind.Get key) ≡ true
     → IsStep opening seat (kind.Get key) (Replied (reply_to_get found)) (with_book (noted_in seat (Get key) (reply_to_get found) held.book) held) d d2 m pace
@@ -127,7 +127,7 @@ get_steps {end} {most} {d} {d2} opening seat key found held m pace reads honest 
         → IsStep opening seat (kind.Get key) (Replied r) (with_book (noted_in seat (Get key) r held.book) held) d d2 m pace
     well r none is = get_step opening seat key r Well held m pace reads honest s can (running Well none ∙ ap (λ (x : Reply). replied seat (Get key) x m) (sym is)) tt refl
 
-    by : (f : Lookup) → FindsBecause f held d d2 → (f ≡ lookup.Fault → d2.faults < 2 ^ 64)
+    by : (f : Lookup) → FindsBecause f key held d d2 → (f ≡ lookup.Fault → d2.faults < 2 ^ 64)
         → ((tree : Tree) → HoldsTree held.runs.sizes tree d.bytes → tree.catalogue ≡ held.runs.catalogue → AreGuided held.runs.guides held.runs.tags tree → held.book.stopped ≡ None → f ≢ lookup.Fault → reply_to_get f ≡ answer_to_get (found_in key held tree))
         → IsStep opening seat (kind.Get key) (Replied (reply_to_get f)) (with_book (noted_in seat (Get key) (reply_to_get f) held.book) held) d d2 m pace
     by (lookup.Is x) because counted is = well (reply.Is x) because.0 (there (reply.Is x) because.0 (λ tree holds catalogue guided. is tree holds catalogue guided because.0 (λ same. cc same)))

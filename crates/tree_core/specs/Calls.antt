@@ -64,7 +64,7 @@ pub record Pays {D : Type 0} (state : D → DiskState) (seat : ℕ) (answer : Pa
 
 pub record Gets {D : Type 0} (state : D → DiskState) (seat : ℕ) (key : Key) (answer : Lookup) (old new : CoreState D) : Type 0 where
   pub goes : GoesOnAs state seat (kind.Get key) (Replied (reply_to_get answer)) old new
-  pub cause : FindsBecause answer old.held (state old.disk) (state new.disk)
+  pub cause : FindsBecause answer key old.held (state old.disk) (state new.disk)
   pub held : new.held ≡ with_book (noted_in seat (op.Get key) (reply_to_get answer) old.held.book) old.held
   pub reads : OnlyReads (file_length old.held.runs.sizes) 3 (state old.disk) (state new.disk)
   pub hidden : HidesOlder (newest_in key old.held) → new.disk ≡ old.disk

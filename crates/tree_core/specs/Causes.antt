@@ -1,5 +1,5 @@
 -- Why a call answers what it does, on every disk.
-use Rattle.std.specs.Prelude.{◌≡◌, ⊤, ℕ, ◌+◌, ◌*◌, ◌<◌, ◌≤◌, Bool, true, false, ◌&&◌, ◌==◌, IsTrue, is_some, None, Some}
+use Rattle.std.specs.Prelude.{◌≡◌, ⊤, ℕ, ◌+◌, ◌*◌, ◌<◌, ◌≤◌, Bool, true, false, ◌&&◌, ◌==◌, IsTrue, is_some, List, Option, None, Some}
 use Rattle.refusal.specs.Count.{HasRisen}
 use Rattle.blsm_model.specs.declared.op.Op.{Op}
 use Rattle.blsm_model.specs.declared.history.Why.TheVariants as why
@@ -8,7 +8,10 @@ use Rattle.blsm_model.specs.Geometry.{charge_limit}
 use Rattle.blsm_model.specs.Histories.{writes_of}
 use Rattle.blsm_model.specs.Legal.{total_weight}
 use Rattle.blsm_model.specs.declared.key.Key.{Key}
+use Rattle.blsm_model.specs.declared.row.Value.{Value}
 use Rattle.disk_trait.specs.Disk.{DiskState}
+use Rattle.record_delta.specs.declared.record.Rec.{Rec}
+use Rattle.record_delta.specs.Records.{settled}
 use Rattle.page_space.specs.PageSet.{none_of}
 use Rattle.page_space.specs.Space.{pins_of}
 use Rattle.scan_view.specs.Hold.{held_from}
@@ -22,6 +25,7 @@ use Rattle.seat_book.specs.State.{is_closed_in, noted_in}
 use Rattle.tree_runs.specs.Runs.{left_for_pass, left_for_deep}
 use Rattle.tree_runs.specs.Damage.{IsDamageAhead}
 use Rattle.tree_runs.specs.Holding.{PinsComponents}
+use Rattle.tree_runs.specs.Lookups.{AreToldBy, IsDamageBelow, from_newest}
 use Rattle.core_moves.specs.declared.held.Held.{Held}
 use Rattle.core_moves.specs.Held.{charge_in}
 use Rattle.core_moves.specs.Moves.{with_book, with_debts_forgiven}
@@ -37,6 +41,7 @@ use Rattle.tree_core.specs.declared.answers.Scan.{Scan}
 use Rattle.tree_core.specs.declared.answers.Scan.TheVariants as scan
 use Rattle.tree_core.specs.declared.answers.Release.{Release}
 use Rattle.tree_core.specs.declared.answers.Release.TheVariants as release
+use Rattle.tree_core.specs.Answers.{newest_in}
 use Rattle.tree_core.specs.Core.{CoreState}
 use Rattle.tree_core.specs.declared.answers.Payment.{Payment}
 use Rattle.tree_core.specs.declared.answers.Payment.TheVariants as payment
@@ -139,11 +144,21 @@ abbrev pub LooksNone : Lookup → Type 0
 LooksNone (lookup.Stopped why) = ⊤
 LooksNone _ = ⊥
 
--- what a lookup's answer is due to
-abbrev pub FindsBecause : Lookup → Held → DiskState → DiskState → Type 0
-FindsBecause lookup.Fault old before after = (old.book.stopped ≡ None) × HasRisen before.faults after.faults
-FindsBecause (lookup.Stopped why) old before after = (old.book.stopped ≡ Some why) × (after.faults ≡ before.faults)
-FindsBecause _ old before after = (old.book.stopped ≡ None) × (after.faults ≡ before.faults)
+-- in this file so much is told of the key by the pages that are asked for it, below the memory table's record
+abbrev pub IsToldOf : Key → Held → List ℕ → Option Value → Type 0
+IsToldOf key held file value =
+    (found : Option Rec) × AreToldBy held.runs.sizes key file (from_newest held.runs.catalogue held.runs.guides held.runs.tags) (newest_in key held) found × (value ≡ settled found)
+
+-- What a lookup's answer is due to. On an honest disk, whatever the components read as, a value is what the pages say that are asked, and the first
+-- of these that is damaged is named.
+abbrev pub FindsBecause : Lookup → Key → Held → DiskState → DiskState → Type 0
+FindsBecause (lookup.Is value) key old before after = (old.book.stopped ≡ None) × (after.faults ≡ before.faults) × (IsTrue before.is_honest → IsToldOf key old before.bytes (Some value))
+FindsBecause lookup.Absent key old before after = (old.book.stopped ≡ None) × (after.faults ≡ before.faults) × (IsTrue before.is_honest → IsToldOf key old before.bytes None)
+FindsBecause lookup.Fault key old before after = (old.book.stopped ≡ None) × HasRisen before.faults after.faults
+FindsBecause (lookup.Damaged page) key old before after =
+    (old.book.stopped ≡ None) × (after.faults ≡ before.faults)
+    × (IsTrue before.is_honest → IsDamageBelow old.runs.sizes key before.bytes (from_newest old.runs.catalogue old.runs.guides old.runs.tags) (newest_in key old) page)
+FindsBecause (lookup.Stopped why) key old before after = (old.book.stopped ≡ Some why) × (after.faults ≡ before.faults)
 
 -- ---- holds
 

@@ -68,7 +68,7 @@ fn reply_of(lookup: &Lookup) -> ShortReply
 // What the tables and the components have of the key: one page of each component is read at most, and none below a base or a tombstone.
 fn look_up<D: Disk>(held: &Held, disk: &mut D, key: &Key) -> Lookup
     requires on { held.now.book.stopped ≡ None → IsOn held.now (D.state disk.old) }
-    ensures cause { FindsBecause result held.now (D.state disk.old) (D.state disk.new) }
+    ensures cause { FindsBecause result key.now held.now (D.state disk.old) (D.state disk.new) }
     ensures value { (tree : Tree) → IsTrue (D.state disk.old).is_honest → HoldsTree held.now.runs.sizes tree (D.state disk.old).bytes → tree.catalogue ≡ held.now.runs.catalogue
         → AreGuided held.now.runs.guides held.now.runs.tags tree → held.now.book.stopped ≡ None → result ≢ lookup.Fault → reply_to_get result ≡ answer_to_get (found_in key.now held.now tree) }
     ensures counted { result ≡ lookup.Fault → (D.state disk.new).faults < 2 ^ 64 }
@@ -93,7 +93,7 @@ fn look_up<D: Disk>(held: &Held, disk: &mut D, key: &Key) -> Lookup
 
 impl<D: Disk + Drop> Core<D> {
     /// Looks a key up. It reads one page of each component at most, so three, and none where the memory table has a base or a tombstone of the
-    /// key. It notes one entry; a lookup that fails doesn't stop the store.
+    /// key. It notes one entry; a lookup that fails doesn't stop the store. `Damaged` names the first page that it asks and that isn't valid.
     #[inline(never)]
     pub fn get(&mut self, seat: u32, key: &Key) -> Lookup
         requires { IsTrue (may_note_in seat 0 self.old.held.book) }
@@ -102,7 +102,7 @@ impl<D: Disk + Drop> Core<D> {
         ensures steps { (opening : List (Key × Value)) (m : Machine) (pace : Pace) → IsTrue (D.state self.old.disk).is_honest
             → StandsFor opening self.old.held m pace (D.state self.old.disk) → IsTrue (may m seat (kind.Get key.now))
             → IsStep opening seat (kind.Get key.now) (Replied (reply_to_get result)) self.new.held (D.state self.old.disk) (D.state self.new.disk) m pace }
-        ensures cause { FindsBecause result self.old.held (D.state self.old.disk) (D.state self.new.disk) }
+        ensures cause { FindsBecause result key.now self.old.held (D.state self.old.disk) (D.state self.new.disk) }
         ensures held { self.new.held ≡ with_book (noted_in seat (Get key.now) (reply_to_get result) self.old.held.book) self.old.held }
         ensures reads { OnlyReads (file_length self.old.held.runs.sizes) 3 (D.state self.old.disk) (D.state self.new.disk) }
         ensures hidden { HidesOlder (newest_in key.now self.old.held) → self.new.disk ≡ self.old.disk }

@@ -3,6 +3,7 @@ use Rattle.std.specs.Prelude.{◌/◌, IsTrue, Option, drop, sum}
 use Rattle.std.proofs.Common.{◌≡◌, ◌∙◌, ℕ, ◌+◌, ◌*◌, ◌≤◌, true, false, Some, None, refl, ap, sym, subst, zero-add, arith}
 use Rattle.std.proofs.lemmas.Bool.{false≢true}
 use Rattle.refusal.specs.Count.{HasRisen}
+use Rattle.blsm_model.specs.declared.key.Key.{Key}
 use Rattle.blsm_model.specs.Facts.{Follows}
 use Rattle.blsm_model.specs.Format.{callers}
 use Rattle.blsm_model.specs.Geometry.{file_length}
@@ -101,12 +102,12 @@ turn_tells machine.Failed seat old new before after because none stays = tells_f
 turn_tells (machine.BadPage page) seat old new before after because none stays = tells_damaged page old new before after because
 turn_tells (machine.Halted why) seat old new before after because none stays = tells_quiet old new before after (stays why because.0 ∙ sym because.0) (none tt)
 
-pub get_tells : (result : Lookup) (old new : Held) (before after : DiskState) → FindsBecause result old before after → new.book.stopped ≡ old.book.stopped → TellsFaults (faults_of (reply_to_get result)) old new before after
-get_tells (lookup.Is value) old new before after because same = tells_quiet old new before after same because.1
-get_tells lookup.Absent old new before after because same = tells_quiet old new before after same because.1
-get_tells lookup.Fault old new before after because same = tells_lookup old new before after because.0 same because.1
-get_tells (lookup.Damaged page) old new before after because same = tells_quiet old new before after same because.1
-get_tells (lookup.Stopped why) old new before after because same = tells_quiet old new before after same because.1
+pub get_tells : (result : Lookup) (key : Key) (old new : Held) (before after : DiskState) → FindsBecause result key old before after → new.book.stopped ≡ old.book.stopped → TellsFaults (faults_of (reply_to_get result)) old new before after
+get_tells (lookup.Is value) key old new before after because same = tells_quiet old new before after same because.1
+get_tells lookup.Absent key old new before after because same = tells_quiet old new before after same because.1
+get_tells lookup.Fault key old new before after because same = tells_lookup old new before after because.0 same because.1
+get_tells (lookup.Damaged page) key old new before after because same = tells_quiet old new before after same because.1
+get_tells (lookup.Stopped why) key old new before after because same = tells_quiet old new before after same because.1
 
 -- ---- whose faults stop the store
 
@@ -154,12 +155,12 @@ admit_names (admission.Fault true) seat op old new before after because = tt
 admit_names (admission.Fault false) seat op old new before after because = tt
 admit_names (admission.Stopped why) seat op old new before after because = ap (λ (h : Held). h.book.stopped) because.1 ∙ because.0
 
-pub get_names : (result : Lookup) (old new : Held) (before after : DiskState) → FindsBecause result old before after → new.book.stopped ≡ old.book.stopped → NamesStop (reply_to_get result) new.book.stopped
-get_names (lookup.Is value) old new before after because same = tt
-get_names lookup.Absent old new before after because same = tt
-get_names lookup.Fault old new before after because same = tt
-get_names (lookup.Damaged page) old new before after because same = tt
-get_names (lookup.Stopped why) old new before after because same = same ∙ because.0
+pub get_names : (result : Lookup) (key : Key) (old new : Held) (before after : DiskState) → FindsBecause result key old before after → new.book.stopped ≡ old.book.stopped → NamesStop (reply_to_get result) new.book.stopped
+get_names (lookup.Is value) key old new before after because same = tt
+get_names lookup.Absent key old new before after because same = tt
+get_names lookup.Fault key old new before after because same = tt
+get_names (lookup.Damaged page) key old new before after because same = tt
+get_names (lookup.Stopped why) key old new before after because same = same ∙ because.0
 
 -- a stop lasts, and so does what was told of it
 pub names_still : (told : ℕ) (reply : Reply) (old new : Held) (before after : DiskState) → TellsFaults told old new before after → NamesStop reply old.book.stopped → NamesStop reply new.book.stopped

@@ -1,13 +1,23 @@
-use Rattle.std.specs.Prelude.{◌≡◌, ◌≢◌, Option, Ok, Err}
+use Rattle.std.specs.Prelude.{◌≡◌, ◌≢◌, IsTrue, Option, None, Some, Ok, Err}
 use Rattle.std.specs.declared.result.Result.{Result}
-use Rattle.std.proofs.Common.{◌∙◌, ap}
+use Rattle.std.proofs.Common.{◌∙◌, ap, refl, subst, sym}
+use Rattle.blsm_model.specs.declared.history.Reply.TheVariants as reply
+use Rattle.blsm_model.specs.declared.key.Key.{Key}
+use Rattle.blsm_model.specs.declared.row.Value.{Value}
 use Rattle.blsm_model.specs.Histories.{answer_to_get}
+use Rattle.disk_trait.specs.Disk.{DiskState}
 use Rattle.page_file.specs.Component.{entries_of}
 use Rattle.page_file.specs.declared.file.Broken.{Broken}
 use Rattle.page_file.specs.declared.file.Broken.TheVariants.{Fault}
 use Rattle.record_delta.specs.declared.record.Rec.{Rec}
 use Rattle.record_delta.specs.Records.{settled}
 use Rattle.record_delta.specs.Entries.{over_any, record_of_key}
+use Rattle.tree_runs.specs.Lookups.{AreToldBy, IsDamageBelow, from_newest}
+use Rattle.core_moves.specs.declared.held.Held.{Held}
+use Rattle.tree_core.specs.Answers.{newest_in, reply_to_get}
+use Rattle.tree_core.specs.Causes.{FindsBecause, IsFound}
+use Rattle.tree_core.specs.declared.answers.Lookup.{Lookup}
+use Rattle.tree_core.specs.declared.answers.Lookup.TheVariants as lookup
 use Rattle.tree_core.proofs.lookup.look_up.Goals as goal
 
 no_fault : (rec : Option Rec) → ◌≢◌ {A = Result (Option Rec) Broken} (Ok rec) (Err Fault)
@@ -18,6 +28,43 @@ not_both broken rec same = cc same
 
 same_record : (one other : Option Rec) → ◌≡◌ {A = Result (Option Rec) Broken} (Ok one) (Ok other) → one ≡ other
 same_record one other same = cc same
+
+value_is : (value : Value) (o : Option Value) → reply.Is value ≡ answer_to_get o → Some value ≡ o
+value_is value None is = cc
+value_is value (Some other) is = cc
+
+none_is : (o : Option Value) → reply.Absent ≡ answer_to_get o → None ≡ o
+none_is None is = refl
+none_is (Some other) is = cc
+
+-- an answer that was found is what was told
+told_is : (found : Lookup) (key : Key) (held : Held) (before after : DiskState) (rec : Option Rec) → IsFound found → reply_to_get found ≡ answer_to_get (settled rec) → held.book.stopped ≡ None → after.faults ≡ before.faults
+    → (IsTrue before.is_honest → AreToldBy held.runs.sizes key before.bytes (from_newest held.runs.catalogue held.runs.guides held.runs.tags) (newest_in key held) rec) → FindsBecause found key held before after
+told_is (lookup.Is value) key held before after rec is_found is ran same told = (ran, same, λ honest. (rec, told honest, value_is value (settled rec) is))
+told_is lookup.Absent key held before after rec is_found is ran same told = (ran, same, λ honest. (rec, told honest, none_is (settled rec) is))
+told_is lookup.Fault key held before after rec is_found is ran same told = absurd is_found
+told_is (lookup.Damaged page) key held before after rec is_found is ran same told = absurd is_found
+told_is (lookup.Stopped why) key held before after rec is_found is ran same told = absurd is_found
+
+pub returns-in-Ok-clause-cause : goal.returns-in-Ok-clause-cause
+returns-in-Ok-clause-cause g c =
+    let held = c.args.held.now in
+    let before = g.D.Disk.state c.args.disk.now in
+    let below = from_newest held.runs.catalogue held.runs.guides held.runs.tags in
+    told_is c.answer.result c.args.key.now held before (g.D.Disk.state c.find.new.disk) c.in-Ok.rec c.answer.ensures.is_found c.answer.ensures.reply (sym c.in_default.ensures)
+    (c.in-Ok.ensures.reads.stands (no_fault c.in-Ok.rec))
+    (λ honest. subst (λ (n : Option Rec). AreToldBy held.runs.sizes c.args.key.now before.bytes below n c.in-Ok.rec) c.get-newer.ensures (c.in-Ok.ensures.told honest))
+
+pub returns-in-Err-Damaged-clause-cause : goal.returns-in-Err-Damaged-clause-cause
+returns-in-Err-Damaged-clause-cause g c =
+    let held = c.args.held.now in
+    let before = g.D.Disk.state c.args.disk.now in
+    let below = from_newest held.runs.catalogue held.runs.guides held.runs.tags in (
+      sym c.in_default.ensures,
+      c.in-Err-Damaged.ensures.reads.stands (λ same. cc (same, c.in-Err-Damaged.field-0-is)),
+      λ honest. subst (λ (n : Option Rec). IsDamageBelow held.runs.sizes c.args.key.now before.bytes below n c.in-Err-Damaged.page) c.get-newer.ensures
+          (c.in-Err-Damaged.ensures.damaged c.in-Err-Damaged.page (cc c.in-Err-Damaged.field-0-is) honest),
+    )
 
 pub returns-in-Ok-clause-value : goal.returns-in-Ok-clause-value
 returns-in-Ok-clause-value g c = λ tree honest holds catalogue guided runs not.
