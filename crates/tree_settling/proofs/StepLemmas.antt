@@ -1,5 +1,5 @@
 -- Steps of settling, one after the other.
-use Rattle.std.proofs.Common.{◌≡◌, ◌∙◌, ℕ, ◌+◌, List, Err, refl, ap, sym, subst, arith, ⊎_elim}
+use Rattle.std.proofs.Common.{◌≡◌, ◌∙◌, ℕ, ◌+◌, ◌*◌, ◌≤◌, List, Err, refl, ap, sym, subst, arith, ⊎_elim}
 use Rattle.std.specs.Prelude.{IsTrue, length}
 use Rattle.std.specs.declared.result.Result.{Result}
 use Rattle.disk_trait.specs.Disk.{DiskState, TellsFaultsBy}
@@ -19,7 +19,7 @@ use Rattle.tree_file.specs.Places.{StandsOn, HoldsEither}
 use Rattle.tree_log.specs.Log.{LogState}
 use Rattle.tree_runs.specs.Runs.{RunsState}
 use Rattle.tree_runs.specs.Holding.{StandOver}
-use Rattle.tree_settling.specs.Settling.{EndsWell, KeepsMap, LeavesMaps, MaySettle, SettlesOn, anywhere}
+use Rattle.tree_settling.specs.Settling.{CallsFew, EndsWell, KeepsMap, LeavesMaps, MaySettle, SettlesOn, anywhere}
 use Rattle.tree_settling.proofs.NextLemmas.{Follows, reads_next}
 
 pub affects_anywhere : {region : Region} {end most : ℕ} {old new : DiskState} → Affects region end most old new → Affects anywhere end most old new
@@ -70,6 +70,35 @@ left_map runs log a old new is keeps effect = record {
   calls = effect.0;
   effect = effect.1;
 }
+
+-- ---- how many calls
+
+pub no_calls : (d : DiskState) (most : ℕ) → CallsFew most d d
+no_calls d most = omega arith
+
+-- by the clocks of the disk
+pub calls_and : (old : ℕ) {new : ℕ} (few more : ℕ) → new ≤ old + few → new ≤ old + (few + more)
+calls_and old few more calls = omega (arith, calls)
+
+pub calls_then : (old : ℕ) {mid new : ℕ} (few more : ℕ) → mid ≤ old + few → new ≤ mid + more → new ≤ old + (few + more)
+calls_then old few more first second = omega (arith, first, second)
+
+-- those of one merge are within those of two and of five
+pub calls_of_two : (old : ℕ) {new : ℕ} (one : ℕ) → new ≤ old + one → new ≤ old + 2 * one
+calls_of_two old one calls = omega (arith, calls)
+
+pub calls_of_five : (old : ℕ) {new : ℕ} (one : ℕ) → new ≤ old + one → new ≤ old + 5 * one
+calls_of_five old one calls = omega (arith, calls)
+
+pub calls_twice : (old : ℕ) {mid new : ℕ} (one : ℕ) → mid ≤ old + one → new ≤ mid + one → new ≤ old + 2 * one
+calls_twice old one first second = omega (arith, first, second)
+
+-- those of a deep merge, and of a pass with the one that follows
+pub calls_thrice : (old : ℕ) {mid new : ℕ} (one : ℕ) → mid ≤ old + one → new ≤ mid + 2 * one → new ≤ old + 5 * one
+calls_thrice old one first second = omega (arith, first, second)
+
+pub calls_all : (old : ℕ) {mid mid' new : ℕ} (one : ℕ) → mid ≤ old + one → mid' ≤ mid + 2 * one → new ≤ mid' + 2 * one → new ≤ old + 5 * one
+calls_all old one first second third = omega (arith, first, second, third)
 
 -- ---- one after the other
 

@@ -1,12 +1,12 @@
 -- Merges that go on by quanta.
-use Rattle.std.proofs.Common.{◌≡◌, ◌≢◌, ◌⊎◌, ⊎_elim, ◌∙◌, ℕ, ◌+◌, ◌≤◌, ◌<◌, Option, Some, None, refl, ap, sym, subst, arith}
+use Rattle.std.proofs.Common.{◌≡◌, ◌≢◌, ◌⊎◌, ⊎_elim, ◌∙◌, ℕ, ◌+◌, ◌*◌, ◌/◌, ◌≤◌, ◌<◌, inl, inr, Option, Some, None, refl, ap, sym, subst, arith}
 use Rattle.std.specs.Prelude.{IsTrue}
 use Rattle.disk_trait.specs.Disk.{DiskState}
 use Rattle.disk_trait.specs.Effects.{Affects, affects_start, affects_more}
 use Rattle.disk_trait.specs.Moments.{IsTimed, LeavesOnly, leaves_only_start, leaves_only_run}
 use Rattle.disk_trait.specs.Region.{Region}
-use Rattle.blsm_model.specs.Sizes.{Sizes}
-use Rattle.blsm_model.specs.Geometry.{file_length}
+use Rattle.blsm_model.specs.Sizes.{QuantumFits, Sizes}
+use Rattle.blsm_model.specs.Geometry.{capacity, file_length}
 use Rattle.record_delta.specs.Entries.{Entries}
 use Rattle.snow_merge.specs.Pass.{SnowState}
 use Rattle.deep_merge.specs.Merge.{DeepState}
@@ -14,7 +14,7 @@ use Rattle.tree_file.specs.Tree.{Tree, HoldsTree}
 use Rattle.tree_file.specs.Places.{StandsOn}
 use Rattle.tree_runs.specs.Runs.{RunsState, AreRunning, left_for_pass, left_for_deep, made_by_pass, made_by_deep}
 use Rattle.tree_runs.specs.Holding.{StandOver, PassTakes, DeepTakes}
-use Rattle.tree_settling.specs.Settling.{MergesGoOn, RunsWell, anywhere, due_to_deep, due_to_pass}
+use Rattle.tree_settling.specs.Settling.{CallsFew, MergesGoOn, RunsWell, anywhere, due_to_deep, due_to_pass, quantum_calls, taking_calls}
 
 -- ---- calls that went well
 
@@ -65,6 +65,42 @@ pass_less old new a least n some there takes enough = less_left (left_for_pass n
 -- the other merge rests
 pub rested : {A : Type 0} {old new : A} (due : A → ℕ) → new ≡ old → due new ≤ due old
 rested due same = omega (arith, ap due same)
+
+-- ---- how many calls it took
+
+-- Three bytes were taken for each call so far; or nothing is left, and the calls of the last quantum come on top.
+abbrev pub CallsSoFar : Sizes → ℕ → ℕ → DiskState → DiskState → Type 0
+CallsSoFar sizes first left before now = (3 * now.clock + left ≤ 3 * before.clock + first) ⊎ ((left ≡ 0) × (3 * now.clock ≤ 3 * before.clock + first + 3 * quantum_calls sizes))
+
+pub calls_none : (sizes : Sizes) (left : ℕ) (d : DiskState) → CallsSoFar sizes left left d d
+calls_none sizes left d = inl (omega arith)
+
+pub calls_more : (sizes : Sizes) (first left left' n most least : ℕ) (before mid after : DiskState) → CallsSoFar sizes first left before mid → left ≢ 0 → after.clock ≤ mid.clock + most
+    → 3 * most ≤ least → most ≤ quantum_calls sizes → n + left' ≡ left → (least ≤ n) ⊎ (left' ≡ 0) → CallsSoFar sizes first left' before after
+calls_more sizes first left left' n most least before mid after so_far there calls paid few took enough =
+    ⊎_elim (λ taken. ⊎_elim (λ much. inl (omega (arith, taken, calls, paid, took, much))) (λ none. inr (none, omega (arith, taken, calls, few, took))) enough) (λ none. absurd (there none.0)) so_far
+
+-- one call for three bytes, and those of one quantum
+few_by : (first cap before now quantum : ℕ) → 3 * now ≤ 3 * before + first + 3 * quantum → first ≤ cap → now ≤ before + (cap / 3 + quantum)
+few_by first cap before now quantum calls within = omega (arith, calls, within)
+
+-- where the quantum after them failed
+pub calls_failed : (sizes : Sizes) (first left most : ℕ) (before mid after : DiskState) → CallsSoFar sizes first left before mid → left ≢ 0 → after.clock ≤ mid.clock + most → most ≤ quantum_calls sizes
+    → first ≤ capacity sizes → CallsFew (taking_calls sizes) before after
+calls_failed sizes first left most before mid after so_far there calls few within =
+    ⊎_elim (λ taken. few_by first (capacity sizes) before.clock after.clock (quantum_calls sizes) (omega (arith, taken, calls, few)) within) (λ none. absurd (there none.0)) so_far
+
+-- and where all was taken
+pub calls_done : (sizes : Sizes) (first left : ℕ) (before after : DiskState) → CallsSoFar sizes first left before after → first ≤ capacity sizes → CallsFew (taking_calls sizes) before after
+calls_done sizes first left before after so_far within =
+    ⊎_elim (λ taken. few_by first (capacity sizes) before.clock after.clock (quantum_calls sizes) (omega (arith, taken)) within)
+    (λ none. few_by first (capacity sizes) before.clock after.clock (quantum_calls sizes) (omega (arith, none.1)) within) so_far
+
+-- a quantum's calls are a third of what it takes at most
+pub quantum_few : (sizes mid : Sizes) (most : ℕ) → mid ≡ sizes → QuantumFits sizes → most ≤ mid.quantum / 4 + 3 → (3 * most ≤ mid.quantum) × (most ≤ quantum_calls sizes)
+quantum_few sizes mid most same fits few =
+    let is : mid.quantum ≡ sizes.quantum = ap (λ (s : Sizes). s.quantum) same in
+    (omega (arith, is, fits.0, few), omega (arith, is, few))
 
 -- ---- merges that go on
 

@@ -1,5 +1,5 @@
 -- What settling a tree takes, keeps and reaches. Weights are in bytes.
-use Rattle.std.specs.Prelude.{◌≡◌, ◌≢◌, ⊤, ℕ, ◌+◌, ◌<◌, ◌≤◌, [], List, None, Result, Ok, Err, IsTrue, length}
+use Rattle.std.specs.Prelude.{◌≡◌, ◌≢◌, ⊤, ℕ, ◌+◌, ◌*◌, ◌/◌, ◌<◌, ◌≤◌, [], List, None, Result, Ok, Err, IsTrue, length}
 use Rattle.disk_trait.specs.Disk.{DiskState}
 use Rattle.disk_trait.specs.Effects.{Affects}
 use Rattle.disk_trait.specs.Moments.{LeavesOnly}
@@ -31,6 +31,28 @@ pub record RunsWell (end : ℕ) (old new : DiskState) : Type 0 where
   pub calls : ℕ
   pub effect : Affects anywhere end calls old new
   pub calm : new.faults ≡ old.faults
+
+-- ---- how many calls
+
+-- so many at most
+abbrev pub CallsFew : ℕ → DiskState → DiskState → Type 0
+CallsFew most old new = new.clock ≤ old.clock + most
+
+-- those of one quantum
+abbrev pub quantum_calls : Sizes → ℕ
+quantum_calls sizes = sizes.quantum / 4 + 3
+
+-- Those of a merge that goes on to its end: one for three bytes that it takes, which are no more than the capacity, and those of one quantum more.
+abbrev pub taking_calls : Sizes → ℕ
+taking_calls sizes = capacity sizes / 3 + quantum_calls sizes
+
+-- and those of its swap, which are nine
+abbrev pub merge_calls : Sizes → ℕ
+merge_calls sizes = taking_calls sizes + 9
+
+-- those of settling: of a deep merge, and twice of a pass and of the deep merge that follows
+abbrev pub settling_calls : Sizes → ℕ
+settling_calls sizes = 5 * merge_calls sizes
 
 -- ---- merges that go on
 

@@ -1,7 +1,7 @@
 //! The merges of an opening, in their order.
-ghost use Rattle.std.specs.Prelude.{◌≡◌, ◌+◌, ◌≤◌, ◌<◌, ◌^◌, [], Err, None, IsSome, OnOk};
+ghost use Rattle.std.specs.Prelude.{◌≡◌, ◌+◌, ◌*◌, ◌≤◌, ◌<◌, ◌^◌, [], Err, None, IsSome, OnOk};
 ghost use Rattle.disk_trait.specs.Disk.{TellsFaultsBy};
-ghost use Rattle.tree_settling.specs.Settling.{EndsWell, IsSettled, LeavesMaps, MaySettle, SettlesOn};
+ghost use Rattle.tree_settling.specs.Settling.{CallsFew, EndsWell, IsSettled, LeavesMaps, MaySettle, SettlesOn, merge_calls, settling_calls};
 
 use crate::taking::{take_deep, take_pass};
 use disk_trait::Disk;
@@ -19,6 +19,7 @@ fn finish_deep<D: Disk>(disk: &mut D, runs: &mut Runs, log: &LoggedTables) -> Re
     ensures ends { EndsWell result runs.old log.now (D.state disk.old) }
     ensures done { OnOk result (runs.new.deep ≡ None) }
     ensures version { OnOk result (runs.new.catalogue.version ≤ runs.old.catalogue.version + 1) }
+    ensures calls { CallsFew (merge_calls runs.old.sizes) (D.state disk.old) (D.state disk.new) }
     ensures faults { TellsFaultsBy (Err Broken.Fault) result (D.state disk.old) (D.state disk.new) }
 {
     take_deep(disk, runs, log.a())?;
@@ -35,6 +36,7 @@ fn due_deep<D: Disk>(disk: &mut D, runs: &mut Runs, log: &LoggedTables) -> Resul
     ensures ends { EndsWell result runs.old log.now (D.state disk.old) }
     ensures done { OnOk result (runs.new.deep ≡ None) }
     ensures version { OnOk result (runs.new.catalogue.version ≤ runs.old.catalogue.version + 1) }
+    ensures calls { CallsFew (merge_calls runs.old.sizes) (D.state disk.old) (D.state disk.new) }
     ensures faults { TellsFaultsBy (Err Broken.Fault) result (D.state disk.old) (D.state disk.new) }
 {
     if runs.in_deep() {
@@ -55,6 +57,7 @@ fn finish_pass<D: Disk>(disk: &mut D, runs: &mut Runs, log: &mut LoggedTables) -
     ensures a { OnOk result (log.new.a.entries ≡ log.old.b.entries) }
     ensures b { OnOk result (log.new.b.entries ≡ []) }
     ensures version { OnOk result (runs.new.catalogue.version ≤ runs.old.catalogue.version + 1) }
+    ensures calls { CallsFew (merge_calls runs.old.sizes) (D.state disk.old) (D.state disk.new) }
     ensures faults { TellsFaultsBy (Err Broken.Fault) result (D.state disk.old) (D.state disk.new) }
 {
     runs.begin_pass(log.weight_of_a());
@@ -77,6 +80,7 @@ fn due_pass<D: Disk>(disk: &mut D, runs: &mut Runs, log: &mut LoggedTables) -> R
     ensures a { OnOk result (log.old.b.entries ≡ [] → log.new.a.entries ≡ []) }
     ensures b { OnOk result (log.new.b.entries ≡ []) }
     ensures version { OnOk result (runs.new.catalogue.version ≤ runs.old.catalogue.version + 2) }
+    ensures calls { CallsFew (2 * merge_calls runs.old.sizes) (D.state disk.old) (D.state disk.new) }
     ensures faults { TellsFaultsBy (Err Broken.Fault) result (D.state disk.old) (D.state disk.new) }
 {
     if log.is_empty() {
@@ -103,6 +107,7 @@ pub fn settle<D: Disk>(disk: &mut D, runs: &mut Runs, log: &mut LoggedTables) ->
     // On any disk:
     ensures settled { OnOk result (IsSettled runs.new log.new) }
     ensures version { OnOk result (runs.new.catalogue.version ≤ runs.old.catalogue.version + 5) }
+    ensures calls { CallsFew (settling_calls runs.old.sizes) (D.state disk.old) (D.state disk.new) }
     ensures faults { TellsFaultsBy (Err Broken.Fault) result (D.state disk.old) (D.state disk.new) }
 {
     due_deep(disk, runs, log)?;

@@ -8,7 +8,7 @@ ghost use Rattle.tree_file.specs.Tree.{Tree, HoldsTree};
 ghost use Rattle.tree_file.specs.Places.{StandsOn};
 ghost use Rattle.tree_runs.specs.Runs.{AreRunning, Fits, left_for_deep, left_for_pass};
 ghost use Rattle.tree_runs.specs.Holding.{StandOver};
-ghost use Rattle.tree_settling.specs.Settling.{MergesGoOn, anywhere};
+ghost use Rattle.tree_settling.specs.Settling.{CallsFew, MergesGoOn, anywhere, taking_calls};
 
 use disk_trait::Disk;
 use mem_table::Table;
@@ -29,6 +29,7 @@ pub(crate) fn take_deep<D: Disk>(disk: &mut D, runs: &mut Runs, a: &Table) -> Re
     ensures done { OnOk result (IsTrue (is_some runs.new.deep) × (left_for_deep runs.new.deep ≡ 0)) }
     ensures pass { OnOk result (runs.new.pass ≡ runs.old.pass) }
     ensures effect { (calls : ℕ) × Affects anywhere (file_length runs.old.sizes) calls (D.state disk.old) (D.state disk.new) }
+    ensures calls { CallsFew (taking_calls runs.old.sizes) (D.state disk.old) (D.state disk.new) }
     ensures faults { TellsFaultsBy (Err Broken.Fault) result (D.state disk.old) (D.state disk.new) }
 {
     while !runs.is_deep_done() {
@@ -51,6 +52,7 @@ pub(crate) fn take_pass<D: Disk>(disk: &mut D, runs: &mut Runs, a: &Table) -> Re
     ensures done { OnOk result (IsTrue (is_some runs.new.pass) × (left_for_pass runs.new.pass a.now.entries ≡ 0)) }
     ensures deep { OnOk result (runs.new.deep ≡ runs.old.deep) }
     ensures effect { (calls : ℕ) × Affects anywhere (file_length runs.old.sizes) calls (D.state disk.old) (D.state disk.new) }
+    ensures calls { CallsFew (taking_calls runs.old.sizes) (D.state disk.old) (D.state disk.new) }
     ensures faults { TellsFaultsBy (Err Broken.Fault) result (D.state disk.old) (D.state disk.new) }
 {
     while !runs.is_pass_done(a) {

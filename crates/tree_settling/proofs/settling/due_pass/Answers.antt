@@ -1,7 +1,9 @@
-use Rattle.std.proofs.Common.{◌∙◌, Err, ap, arith}
+use Rattle.std.proofs.Common.{◌∙◌, ◌*◌, Err, ap, arith, subst}
 use Rattle.std.proofs.lemmas.Result.{err_from_is_err_and, on_ok_weaker}
+use Rattle.blsm_model.specs.Sizes.{Sizes}
+use Rattle.tree_settling.specs.Settling.{CallsFew, merge_calls}
 use Rattle.tree_settling.proofs.EmptyLemmas.{empty_a, empty_b}
-use Rattle.tree_settling.proofs.StepLemmas.{ends_run, leaves_run, settles_run, settles_start, told_run}
+use Rattle.tree_settling.proofs.StepLemmas.{calls_of_two, calls_twice, ends_run, leaves_run, settles_run, settles_start, no_calls, told_run}
 use Rattle.tree_settling.proofs.ToldLemmas.{ends_from}
 use Rattle.tree_settling.proofs.settling.due_pass.Goals as goal
 
@@ -51,3 +53,14 @@ returns-clause-version g c = on_ok_weaker c.due_deep.result (λ more. omega (ari
 pub returns-clause-faults : goal.returns-clause-faults
 returns-clause-faults g c =
     told_run c.due_deep.result (g.D.Disk.state c.args.disk.now) (g.D.Disk.state c.finish_pass.new.disk) (g.D.Disk.state c.due_deep.new.disk) c.in_ok-finish_pass.ensures.on.calm c.due_deep.ensures.faults
+
+pub returns-then-is_empty-clause-calls : goal.returns-then-is_empty-clause-calls
+returns-then-is_empty-clause-calls g c = no_calls (g.D.Disk.state c.args.disk.now) (2 * merge_calls c.args.runs.now.sizes)
+
+pub returns-in_err-finish_pass-clause-calls : goal.returns-in_err-finish_pass-clause-calls
+returns-in_err-finish_pass-clause-calls g c = calls_of_two _ _ c.finish_pass.ensures.calls
+
+pub returns-clause-calls : goal.returns-clause-calls
+returns-clause-calls g c =
+    calls_twice _ _ c.finish_pass.ensures.calls
+    (subst (λ (s : Sizes). CallsFew (merge_calls s) (g.D.Disk.state c.finish_pass.new.disk) (g.D.Disk.state c.due_deep.new.disk)) c.in_ok-finish_pass.ensures.on.sizes c.due_deep.ensures.calls)

@@ -3,7 +3,7 @@ use Rattle.std.proofs.lemmas.Result.{err_from_is_err_and}
 use Rattle.mem_table.specs.Tables.{Contents}
 use Rattle.tree_runs.specs.Holding.{StandOver}
 use Rattle.tree_settling.proofs.DeepLemmas.{IsDeepSwap, deep_leaves, deep_light, deep_may, deep_shows}
-use Rattle.tree_settling.proofs.StepLemmas.{affects_anywhere, left_map, stays_long}
+use Rattle.tree_settling.proofs.StepLemmas.{affects_anywhere, calls_and, calls_then, left_map, stays_long}
 use Rattle.tree_settling.proofs.ToldLemmas.{ends_from, fault_then, well_told}
 use Rattle.tree_settling.proofs.settling.finish_deep.Goals as goal
 
@@ -75,3 +75,12 @@ returns-clause-leaves g c = (returns-clause-on g c).leaves
 pub returns-clause-faults : goal.returns-clause-faults
 returns-clause-faults g c =
     well_told (g.D.Disk.state c.args.disk.now) (g.D.Disk.state c.swap_deep.new.disk) (c.in_ok-swap_deep.ensures.faults ∙ c.in_ok-take_deep.ensures.goes_on.well.calm)
+
+pub returns-in_err-take_deep-clause-calls : goal.returns-in_err-take_deep-clause-calls
+returns-in_err-take_deep-clause-calls g c = calls_and _ _ 9 c.take_deep.ensures.calls
+
+pub returns-in_err-swap_deep-clause-calls : goal.returns-in_err-swap_deep-clause-calls
+returns-in_err-swap_deep-clause-calls g c = calls_then _ _ 9 c.take_deep.ensures.calls c.swap_deep.ensures.effect.calls
+
+pub returns-clause-calls : goal.returns-clause-calls
+returns-clause-calls g c = calls_then _ _ 9 c.take_deep.ensures.calls c.swap_deep.ensures.effect.calls

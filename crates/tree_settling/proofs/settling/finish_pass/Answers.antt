@@ -1,9 +1,11 @@
 use Rattle.std.proofs.Common.{◌∙◌, true, false, Err, refl, ap, sym, subst}
 use Rattle.std.proofs.lemmas.Result.{err_from_is_err_and}
 use Rattle.mem_table.specs.Tables.{Contents}
+use Rattle.tree_runs.specs.Runs.{RunsState}
 use Rattle.tree_runs.specs.Holding.{StandOver}
+use Rattle.tree_settling.specs.Settling.{CallsFew, taking_calls}
 use Rattle.tree_settling.proofs.PassLemmas.{IsPassSwap, begun_fits, begun_left, begun_over, pass_leaves, pass_light, pass_may, pass_shows, same_sizes}
-use Rattle.tree_settling.proofs.StepLemmas.{affects_anywhere}
+use Rattle.tree_settling.proofs.StepLemmas.{affects_anywhere, calls_and, calls_then}
 use Rattle.tree_settling.proofs.ToldLemmas.{ends_from, fault_then, well_told}
 use Rattle.tree_settling.proofs.settling.finish_pass.Goals as goal
 
@@ -92,3 +94,18 @@ returns-clause-leaves g c = (returns-clause-on g c).leaves
 pub returns-clause-faults : goal.returns-clause-faults
 returns-clause-faults g c =
     well_told (g.D.Disk.state c.args.disk.now) (g.D.Disk.state c.swap_pass.new.disk) (c.in_ok-swap_pass.ensures.faults ∙ c.in_ok-take_pass.ensures.goes_on.well.calm)
+
+-- the pass that begins has the same sizes
+pub returns-in_err-take_pass-clause-calls : goal.returns-in_err-take_pass-clause-calls
+returns-in_err-take_pass-clause-calls g c =
+    calls_and _ _ 9 (subst (λ (r : RunsState). CallsFew (taking_calls r.sizes) (g.D.Disk.state c.args.disk.now) (g.D.Disk.state c.take_pass.new.disk)) c.begin_pass.ensures.begun c.take_pass.ensures.calls)
+
+pub returns-in_err-swap_pass-clause-calls : goal.returns-in_err-swap_pass-clause-calls
+returns-in_err-swap_pass-clause-calls g c =
+    calls_then _ _ 9 (subst (λ (r : RunsState). CallsFew (taking_calls r.sizes) (g.D.Disk.state c.args.disk.now) (g.D.Disk.state c.take_pass.new.disk)) c.begin_pass.ensures.begun c.take_pass.ensures.calls)
+    c.swap_pass.ensures.effect.calls
+
+pub returns-clause-calls : goal.returns-clause-calls
+returns-clause-calls g c =
+    calls_then _ _ 9 (subst (λ (r : RunsState). CallsFew (taking_calls r.sizes) (g.D.Disk.state c.args.disk.now) (g.D.Disk.state c.take_pass.new.disk)) c.begin_pass.ensures.begun c.take_pass.ensures.calls)
+    c.swap_pass.ensures.effect.calls

@@ -1,7 +1,9 @@
-use Rattle.std.proofs.Common.{◌∙◌, Err, ap, arith}
+use Rattle.std.proofs.Common.{◌∙◌, ◌*◌, Err, ap, arith, subst}
 use Rattle.std.proofs.lemmas.Result.{err_from_is_err_and, on_ok_weaker}
+use Rattle.blsm_model.specs.Sizes.{Sizes}
+use Rattle.tree_settling.specs.Settling.{CallsFew, merge_calls}
 use Rattle.tree_settling.proofs.EmptyLemmas.{is_settled}
-use Rattle.tree_settling.proofs.StepLemmas.{ends_run, leaves_run, settles_run, told_run}
+use Rattle.tree_settling.proofs.StepLemmas.{calls_all, calls_of_five, calls_thrice, ends_run, leaves_run, settles_run, told_run}
 use Rattle.tree_settling.proofs.ToldLemmas.{ends_from, told_then}
 use Rattle.tree_settling.proofs.settling.settle.Goals as goal
 
@@ -68,3 +70,18 @@ pub returns-clause-faults : goal.returns-clause-faults
 returns-clause-faults g c =
     told_run c.due_pass-2.result (g.D.Disk.state c.args.disk.now) (g.D.Disk.state c.due_pass.new.disk) (g.D.Disk.state c.due_pass-2.new.disk)
     (c.in_ok-due_pass.ensures.on.calm ∙ c.in_ok-due_deep.ensures.on.calm) c.due_pass-2.ensures.faults
+
+pub returns-in_err-due_deep-clause-calls : goal.returns-in_err-due_deep-clause-calls
+returns-in_err-due_deep-clause-calls g c = calls_of_five _ _ c.due_deep.ensures.calls
+
+pub returns-in_err-due_pass-clause-calls : goal.returns-in_err-due_pass-clause-calls
+returns-in_err-due_pass-clause-calls g c =
+    calls_thrice _ _ c.due_deep.ensures.calls
+    (subst (λ (s : Sizes). CallsFew (2 * merge_calls s) (g.D.Disk.state c.due_deep.new.disk) (g.D.Disk.state c.due_pass.new.disk)) c.in_ok-due_deep.ensures.on.sizes c.due_pass.ensures.calls)
+
+pub returns-clause-calls : goal.returns-clause-calls
+returns-clause-calls g c =
+    let sizes = c.in_ok-due_deep.ensures.on.sizes in
+    calls_all _ _ c.due_deep.ensures.calls
+    (subst (λ (s : Sizes). CallsFew (2 * merge_calls s) (g.D.Disk.state c.due_deep.new.disk) (g.D.Disk.state c.due_pass.new.disk)) sizes c.due_pass.ensures.calls)
+    (subst (λ (s : Sizes). CallsFew (2 * merge_calls s) (g.D.Disk.state c.due_pass.new.disk) (g.D.Disk.state c.due_pass-2.new.disk)) (c.in_ok-due_pass.ensures.on.sizes ∙ sizes) c.due_pass-2.ensures.calls)

@@ -1,11 +1,11 @@
-use Rattle.std.proofs.Common.{◌∙◌, ◌+◌, Option, Err, refl, ap, subst, arith}
+use Rattle.std.proofs.Common.{◌∙◌, ◌+◌, ◌/◌, Option, Err, refl, ap, subst, arith}
 use Rattle.std.proofs.lemmas.Result.{err_from_is_err_and}
 use Rattle.blsm_model.specs.Sizes.{Sizes}
 use Rattle.tree_file.specs.Places.{StandsOn}
 use Rattle.blsm_model.specs.Geometry.{file_length}
 use Rattle.deep_merge.specs.Merge.{DeepState}
 use Rattle.tree_runs.specs.Runs.{left_for_deep, left_for_pass, made_by_deep}
-use Rattle.tree_settling.proofs.TakenLemmas.{begun, pass_less, pass_took, left_standing, more, rested, well_honest, well_then}
+use Rattle.tree_settling.proofs.TakenLemmas.{begun, calls_done, calls_failed, calls_more, calls_none, left_standing, more, pass_less, pass_took, quantum_few, rested, well_honest, well_then}
 use Rattle.tree_settling.proofs.ToldLemmas.{told_then, ends_then, ok_is_no_err, still_left, well_told}
 use Rattle.tree_settling.proofs.taking.take_pass.Goals as goal
 
@@ -14,6 +14,7 @@ loop-runs-init g c = record {
   runs = c.requires.runs;
   deep = refl;
   goes_on = begun c.args.a.now.entries c.args.runs.now (g.D.Disk.state c.args.disk.now) (g.met.D.Disk.timed c.args.disk.now) c.requires.running;
+  calls = calls_none c.args.runs.now.sizes (left_for_pass c.args.runs.now.pass c.args.a.now.entries) (g.D.Disk.state c.args.disk.now);
 }
 
 pub loop-runs-smaller : goal.loop-runs-smaller
@@ -34,6 +35,12 @@ loop-runs-preserved g c = record {
       c.pass_quantum.ensures.stands
       (λ tree honest over. (c.in_ok-pass_quantum.ensures.lists tree honest over (λ same. ok_is_no_err c.in_ok-pass_quantum.field-0 same)).2)
       c.in_ok-pass_quantum.ensures.running c.pass_quantum.ensures.effect (c.in_ok-pass_quantum.ensures.faults.stands (λ same. ok_is_no_err c.in_ok-pass_quantum.field-0 same));
+  calls =
+      calls_more c.args.runs.now.sizes (left_for_pass c.args.runs.now.pass c.args.a.now.entries) (left_for_pass c.loop-runs.runs.pass c.args.a.now.entries) (left_for_pass c.pass_quantum.new.self.pass c.args.a.now.entries) c.in_ok-pass_quantum.field-0 (c.loop-runs.runs.sizes.quantum / 7 + 2) c.loop-runs.runs.sizes.quantum (g.D.Disk.state c.args.disk.now) (g.D.Disk.state c.loop-runs.disk) (g.D.Disk.state c.pass_quantum.new.disk)
+      c.loop-runs.invariant.calls (still_left c.is_pass_done.result (left_for_pass c.loop-runs.runs.pass c.args.a.now.entries) c.loop-runs-test.true c.is_pass_done.ensures c.loop-runs.invariant.runs) c.pass_quantum.ensures.effect.calls
+      (quantum_few c.args.runs.now.sizes c.loop-runs.runs.sizes (c.loop-runs.runs.sizes.quantum / 7 + 2) c.loop-runs.invariant.goes_on.sizes c.requires.running.in_order.geometry.quantum (omega arith)).0
+      (quantum_few c.args.runs.now.sizes c.loop-runs.runs.sizes (c.loop-runs.runs.sizes.quantum / 7 + 2) c.loop-runs.invariant.goes_on.sizes c.requires.running.in_order.geometry.quantum (omega arith)).1
+      (pass_took c.loop-runs.runs.pass c.pass_quantum.new.self.pass c.args.a.now.entries c.in_ok-pass_quantum.field-0 c.in_ok-pass_quantum.ensures.takes).1 c.in_ok-pass_quantum.ensures.enough;
 }
 
 pub returns-in_err-pass_quantum-clause-keeps : goal.returns-in_err-pass_quantum-clause-keeps
@@ -54,6 +61,12 @@ returns-in_err-pass_quantum-clause-effect g c = (
       (g.met.D.Disk.timed c.loop-runs.disk) (ap file_length c.loop-runs.invariant.goes_on.sizes) c.loop-runs.invariant.goes_on.well c.pass_quantum.ensures.effect,
 )
 
+pub returns-in_err-pass_quantum-clause-calls : goal.returns-in_err-pass_quantum-clause-calls
+returns-in_err-pass_quantum-clause-calls g c =
+    calls_failed c.args.runs.now.sizes (left_for_pass c.args.runs.now.pass c.args.a.now.entries) (left_for_pass c.loop-runs.runs.pass c.args.a.now.entries) (c.loop-runs.runs.sizes.quantum / 7 + 2) (g.D.Disk.state c.args.disk.now) (g.D.Disk.state c.loop-runs.disk) (g.D.Disk.state c.pass_quantum.new.disk)
+    c.loop-runs.invariant.calls (still_left c.is_pass_done.result (left_for_pass c.loop-runs.runs.pass c.args.a.now.entries) c.loop-runs-test.true c.is_pass_done.ensures c.loop-runs.invariant.runs) c.pass_quantum.ensures.effect.calls
+    (quantum_few c.args.runs.now.sizes c.loop-runs.runs.sizes (c.loop-runs.runs.sizes.quantum / 7 + 2) c.loop-runs.invariant.goes_on.sizes c.requires.running.in_order.geometry.quantum (omega arith)).1 (omega (arith, c.requires.fits.made))
+
 pub returns-in_err-pass_quantum-clause-faults : goal.returns-in_err-pass_quantum-clause-faults
 returns-in_err-pass_quantum-clause-faults g c =
     let failed = err_from_is_err_and c.from_residual.result c.from_residual.ensures.1 in
@@ -68,6 +81,10 @@ returns-clause-keeps g c = λ tree honest over. (
 
 pub returns-clause-done : goal.returns-clause-done
 returns-clause-done g c = c.is_pass_done.ensures.0 c.loop-runs-test.false
+
+pub returns-clause-calls : goal.returns-clause-calls
+returns-clause-calls g c =
+    calls_done c.args.runs.now.sizes (left_for_pass c.args.runs.now.pass c.args.a.now.entries) (left_for_pass c.loop-runs.runs.pass c.args.a.now.entries) (g.D.Disk.state c.args.disk.now) (g.D.Disk.state c.loop-runs.disk) c.loop-runs.invariant.calls (omega (arith, c.requires.fits.made))
 
 pub returns-clause-faults : goal.returns-clause-faults
 returns-clause-faults g c = well_told (g.D.Disk.state c.args.disk.now) (g.D.Disk.state c.loop-runs.disk) c.loop-runs.invariant.goes_on.well.calm
