@@ -1,38 +1,70 @@
 -- A sync, a reading, and the settling behind them.
-use Rattle.std.specs.Prelude.{◌≡◌, ℕ, ◌+◌, ◌≤◌, IsTrue, length, max, Result, Ok, Err, IfOk, IsErr, OnOk}
-use Rattle.std.proofs.Common.{◌∙◌, refl, sym, subst, arith}
+use Rattle.std.specs.Prelude.{◌≡◌, ◌⊎◌, ℕ, ◌+◌, ◌*◌, ◌≤◌, IsTrue, length, max, Result, Ok, Err, IfOk, IsErr, OnOk}
+use Rattle.std.proofs.Common.{◌∙◌, refl, sym, subst, inl, inr, ⊎_elim, arith}
+use Rattle.blsm_model.specs.declared.component.Component.{Component}
+use Rattle.catalog_swap.specs.Text.{IsCatalog, IsComponent, IsEmpty, IsInRange}
+use Rattle.catalog_swap.specs.declared.catalog.Catalog.{Catalog}
 use Rattle.disk_trait.specs.Disk.{DiskState, IsSure, MarksSync, Only, Passes, WritesNothing}
 use Rattle.disk_trait.specs.Effects.{affects_more, affects_nothing, affects_wider}
 use Rattle.disk_trait.specs.Moments.{IsTimed, LeavesOnly, LeavesOnlyOnceSynced, leaves_only_call, leaves_only_run, leaves_only_start, leaves_only_weaken, once_synced_call, once_synced_kept, once_synced_start}
 use Rattle.disk_trait.specs.Reads.{OnlyReads, only_reads_each}
-use Rattle.blsm_model.specs.Geometry.{file_length}
+use Rattle.blsm_model.specs.Geometry.{file_length, page_count}
+use Rattle.blsm_model.specs.Sizes.{IsGeometry, Sizes}
 use Rattle.store_file.specs.Layout.{superblock_length}
 use Rattle.tree_reading.specs.declared.found.Found.{Found}
 use Rattle.tree_reading.specs.declared.found.Unreadable.{Unreadable}
-use Rattle.tree_reading.specs.Reading.{HasLooked, at_superblock, within, reading_calls}
-use Rattle.recover_open.specs.Opening.{StaysInside}
+use Rattle.tree_reading.specs.Reading.{HasLooked, IsFound, at_superblock, within, reading_calls}
+use Rattle.tree_settling.specs.Settling.{CallsFew, settling_calls}
+use Rattle.recover_open.specs.Opening.{HasLengthOf, StaysInside, most_opening_calls}
+
+-- as many calls as a reading of the sizes makes of which the file's length is, or two
+abbrev pub ReadsFew : DiskState → DiskState → Type 0
+ReadsFew old new = CallsFew 2 old new ⊎ ((sizes : Sizes) × IsGeometry sizes × HasLengthOf sizes old × CallsFew (reading_calls sizes) old new)
 
 -- Some reads, none of which ends behind the superblock and the file.
 pub record ReadsInside (old new : DiskState) : Type 0 where
   pub end : ℕ
   pub calls : ℕ
+  pub few : ReadsFew old new
   pub inside : IsTrue old.tells_bytes → end ≤ max superblock_length (length old.bytes)
   pub only : OnlyReads end calls old new
 
 looked : {old new : DiskState} → HasLooked reading_calls old new → ReadsInside old new
-looked {old} {new} (at_superblock only) = record { end = superblock_length; calls = 2; inside = λ tells. omega arith; only = only }
-looked {old} {new} (within sizes geometry long only) = record { end = file_length sizes; calls = reading_calls sizes; inside = λ tells. omega (arith, long tells); only = only }
+looked {old} {new} (at_superblock only) = record { end = superblock_length; calls = 2; few = inl only.effect.calls; inside = λ tells. omega arith; only = only }
+looked {old} {new} (within sizes geometry long only) = record { end = file_length sizes; calls = reading_calls sizes; few = inr (sizes, geometry, long, only.effect.calls); inside = λ tells. omega (arith, long tells); only = only }
 
 pub reads_inside : {old new : DiskState} (result : Result Found Unreadable)
     → IfOk result (λ found. OnlyReads (file_length found.geometry) (reading_calls found.geometry) old new)
     → (IsErr result → HasLooked reading_calls old new)
-    → IfOk result (λ found. IsTrue old.tells_bytes → length old.bytes ≡ file_length found.geometry) → ReadsInside old new
-reads_inside (Ok found) only none long = record { end = file_length found.geometry; calls = reading_calls found.geometry; inside = λ tells. omega (arith, long tells); only = only }
-reads_inside (Err why) only more long = looked (more refl)
+    → IfOk result (λ found. IsTrue old.tells_bytes → length old.bytes ≡ file_length found.geometry) → IfOk result (λ found. IsFound found old.is_honest old.bytes) → ReadsInside old new
+reads_inside (Ok found) only none long is = record {
+  end = file_length found.geometry;
+  calls = reading_calls found.geometry;
+  few = inr (found.geometry, is.head.geometry, long, only.effect.calls);
+  inside = λ tells. omega (arith, long tells);
+  only = only;
+}
+reads_inside (Err why) only more long is = looked (more refl)
+
+-- a call, and then some
+one_more : {old mid : DiskState} {now : ℕ} (calls : ℕ) → Passes old mid → now ≤ mid.clock + calls → now ≤ old.clock + (1 + calls)
+one_more calls passes few = omega (arith, few, passes.at_most_one)
+
+-- what a sync and a reading call is within what an opening does
+of_opening : (old : ℕ) {new : ℕ} (sizes : Sizes) → new ≤ old + (1 + reading_calls sizes) → new ≤ old + most_opening_calls sizes
+of_opening old {new} sizes few = more old new (1 + reading_calls sizes) (3 * page_count sizes + settling_calls sizes) few
+  where
+    more : (before after calls rest : ℕ) → after ≤ before + calls → after ≤ before + (calls + rest)
+    more before after calls rest few = omega (arith, few)
+
+pub synced_few : {old mid : DiskState} (new : DiskState) (result : Result Found Unreadable) → Passes old mid → IfOk result (λ found. OnlyReads (file_length found.geometry) (reading_calls found.geometry) mid new)
+    → IfOk result (λ found. CallsFew (1 + reading_calls found.geometry) old new)
+synced_few new (Ok found) passes only = one_more (reading_calls found.geometry) passes only.effect.calls
+synced_few new (Err why) passes only = tt
 
 -- a sync that failed
 pub sync_inside : {old new : DiskState} {ended_well : Type 0} → IsTimed old → Passes old new → MarksSync ended_well old new → WritesNothing old new → IsSure 0 old new → StaysInside old new
-sync_inside {old} {new} {ended_well} timed passes marks same sure = record { end = 0; calls = 1; inside = λ tells. omega arith; effect = affects_nothing ended_well timed passes marks same sure }
+sync_inside {old} {new} {ended_well} timed passes marks same sure = record { end = 0; calls = 1; few = inl (omega (arith, passes.at_most_one)); inside = λ tells. omega arith; effect = affects_nothing ended_well timed passes marks same sure }
 
 -- a sync, and then reads
 pub synced_inside : {old mid new : DiskState} {ended_well : Type 0} → IsTimed old → IsTimed mid → mid.faults ≡ old.faults → Passes old mid → MarksSync ended_well old mid → WritesNothing old mid → IsSure 0 old mid
@@ -40,6 +72,9 @@ pub synced_inside : {old mid new : DiskState} {ended_well : Type 0} → IsTimed 
 synced_inside {old} {mid} {new} {ended_well} timed timed' calm passes marks same sure reads = record {
   end = reads.end;
   calls = 1 + reads.calls;
+  few = ⊎_elim (λ two. inl (omega (arith, two, passes.at_most_one)))
+      (λ of_sizes. inr (of_sizes.0, of_sizes.1, λ tells. sym (same.length tells) ∙ of_sizes.2 (subst IsTrue (sym passes.goes_on.tells_bytes) tells), of_opening old.clock of_sizes.0 (one_more (reading_calls of_sizes.0) passes of_sizes.3)))
+      reads.few;
   inside = λ tells. omega (arith, reads.inside (subst IsTrue (sym passes.goes_on.tells_bytes) tells), same.length tells);
   effect = affects_more {most = 1} timed' calm (affects_wider {end = 0} (λ i here. here) (omega arith) (omega arith) (affects_nothing ended_well timed passes marks same sure))
       reads.only.effect (λ i never. absurd never) (omega arith) (omega arith);
@@ -80,3 +115,18 @@ still_long (Err why) passes reads long = tt
 pub when_done : (result : Result Found Unreadable) {P : Type 0} → P → OnOk result P
 when_done (Ok found) p = p
 when_done (Err why) p = tt
+
+-- ---- the second reading
+
+pub none_few : (d : DiskState) (most : ℕ) → CallsFew most d d
+none_few d most = omega arith
+
+-- a component has no more pages than there are
+pages_few : (most : ℕ) (component : Component) → IsComponent most component → component.pages ≤ most
+pages_few most component is = ⊎_elim (λ (none : IsEmpty component). omega (arith, none.pages)) (λ (some : IsInRange most component). some.no_more_pages) is
+
+pub guides_few : (old : ℕ) {sizes : Sizes} {catalogue : Catalog} {new : ℕ} → IsCatalog sizes catalogue → new ≤ old + (catalogue.c1.pages + catalogue.c1x.pages + catalogue.c2.pages) → new ≤ old + 3 * page_count sizes
+guides_few old {sizes} {catalogue} {new} valid calls = within (page_count sizes) (pages_few (page_count sizes) catalogue.c1 valid.c1) (pages_few (page_count sizes) catalogue.c1x valid.c1x) (pages_few (page_count sizes) catalogue.c2 valid.c2)
+  where
+    within : (most : ℕ) → catalogue.c1.pages ≤ most → catalogue.c1x.pages ≤ most → catalogue.c2.pages ≤ most → new ≤ old + 3 * most
+    within most c1 c1x c2 = omega (arith, calls, c1, c1x, c2)

@@ -24,8 +24,8 @@ use Rattle.tree_reading.specs.Reading.{HoldsFound, IsWhy}
 use Rattle.tree_runs.specs.Runs.{RunsState, AreRunning}
 use Rattle.tree_settling.specs.Settling.{IsSettled, KeepsMap, LeavesMaps, MaySettle, SettlesOn, ShowsMap, anywhere, components_of}
 use Rattle.recover_open.specs.declared.beginning.Begun.{Begun}
-use Rattle.recover_open.specs.Opening.{BeginsIn, HasBegun, IsReady, StandsEmpty, weight_of_tree}
-use Rattle.recover_open.proofs.TreeLemmas.{found_reads, why_fault}
+use Rattle.recover_open.specs.Opening.{BeginsIn, HasBegun, IsReady, SparesImages, StandsEmpty, weight_of_tree}
+use Rattle.recover_open.proofs.TreeLemmas.{found_reads, spares_fault, why_fault}
 
 pub may_settle : (runs : RunsState) (log : LogState) (d : DiskState) → HasBegun runs log → ((honest : Bool) (file : List ℕ) → AreRunning honest file runs)
     → (IsTrue d.tells_bytes → length d.bytes ≡ file_length runs.sizes) → MaySettle runs log d
@@ -113,6 +113,13 @@ keeps_reading {end} {calls} {old} {new} sizes pairs run honest only reads = reco
   reads = subst (ReadsAsMap sizes pairs) (sym (only_reads_same run honest)) reads;
 }
 
+-- calls, by the disk's clock, alone and with others behind them
+pub first_few : (old : ℕ) {new : ℕ} (few more : ℕ) → new ≤ old + few → new ≤ old + (few + more)
+first_few old few more calls = omega (arith, calls)
+
+pub both_few : (old : ℕ) {mid new : ℕ} (few more : ℕ) → mid ≤ old + few → new ≤ mid + more → new ≤ old + (few + more)
+both_few old few more first second = omega (arith, first, second)
+
 -- What a reading filled the filters and fences from was begun with, and then settled.
 pub record IsSettledBehind (found : Found) (result : Result Begun Unreadable) (runs : RunsState) (log : LogState) (calls : ℕ) (old mid new : DiskState) : Type 0 where
   pub timed : IsTimed mid
@@ -153,6 +160,9 @@ module _ {found : Found} {result : Result Begun Unreadable} {runs : RunsState} {
 
   pub settled_why : IsTrue old.is_honest → Only old.bytes old.images → HoldsFound found old.bytes → IfErr result (λ why. IsWhy why old.bytes)
   settled_why honest only holds = why_fault result old.bytes (is.why (map_of_tree holds.tree) (still honest) (shows honest only holds))
+
+  pub settled_spares : IsTrue old.is_honest → Only old.bytes old.images → HoldsFound found old.bytes → IfErr result (λ why. SparesImages why old new)
+  settled_spares honest only holds = spares_fault old new result (is.why (map_of_tree holds.tree) (still honest) (shows honest only holds))
 
   pub settled_ready : runs.catalogue ≡ found.catalogue → IfOk result (λ begun. IsReady found.geometry found.catalogue.version begun.runs begun.log new)
   settled_ready same = by result is.on is.settled

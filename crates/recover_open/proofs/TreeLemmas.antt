@@ -1,24 +1,24 @@
 -- A reading, and settling what was read.
-use Rattle.std.specs.Prelude.{◌≡◌, ℕ, ◌+◌, ◌≤◌, IsTrue, List, length, max, Result, Ok, Err, IfOk, IfErr}
+use Rattle.std.specs.Prelude.{◌≡◌, ℕ, ◌+◌, ◌*◌, ◌≤◌, IsTrue, List, length, max, Result, Ok, Err, IfOk, IfErr}
 use Rattle.std.proofs.Common.{◌∙◌, refl, sym, subst, inl, inr, arith, ap}
-use Rattle.blsm_model.specs.Geometry.{file_length}
-use Rattle.blsm_model.specs.Sizes.{Sizes}
+use Rattle.blsm_model.specs.Geometry.{file_length, page_count}
+use Rattle.blsm_model.specs.Sizes.{IsGeometry, Sizes}
 use Rattle.catalog_swap.specs.declared.catalog.Catalog.{Catalog}
 use Rattle.blsm_model.specs.declared.key.Key.{Key}
 use Rattle.blsm_model.specs.declared.row.Value.{Value}
 use Rattle.disk_trait.specs.Disk.{DiskState, TellsFaultsBy}
 use Rattle.disk_trait.specs.Effects.{Affects, affects_more, affects_wider}
-use Rattle.disk_trait.specs.Moments.{IsTimed, LeavesOnly, LeavesOnlyOnceSynced, SyncsLater, leaves_only_run, leaves_only_weaken, once_synced_more, once_synced_weaken}
+use Rattle.disk_trait.specs.Moments.{IsTimed, LeavesOnly, LeavesOnlyOnceSynced, SyncsLater, leaves_only_kept, leaves_only_run, leaves_only_weaken, once_synced_more, once_synced_weaken}
 use Rattle.refusal.specs.Count.{HasRisen}
 use Rattle.tree_file.specs.Tree.{Tree, FitsSizes, HoldsTree, ReadsAsMap, map_of_tree}
 use Rattle.tree_reading.specs.declared.found.Found.{Found}
 use Rattle.tree_reading.specs.declared.found.Unreadable.{Unreadable}
 use Rattle.tree_reading.specs.declared.found.Unreadable.TheVariants.{Fault}
 use Rattle.tree_reading.specs.Damage.{most_version}
-use Rattle.tree_reading.specs.Reading.{HoldsFound, IsWhy}
+use Rattle.tree_reading.specs.Reading.{HoldsFound, IsWhy, reading_calls}
 use Rattle.recover_open.specs.declared.beginning.Begun.{Begun}
-use Rattle.tree_settling.specs.Settling.{KeepsMap, anywhere}
-use Rattle.recover_open.specs.Opening.{IsReady, KeepsMapOf, HasOpenedOn, StandsEmpty, StaysInside}
+use Rattle.tree_settling.specs.Settling.{CallsFew, KeepsMap, anywhere, settling_calls}
+use Rattle.recover_open.specs.Opening.{IsReady, KeepsMapOf, HasLengthOf, HasOpenedOn, SparesImages, StandsEmpty, StaysInside, most_opening_calls}
 
 -- ---- what was found
 
@@ -38,6 +38,11 @@ pub ready_as : (result : Result Begun Unreadable) (d : DiskState) (sizes : Sizes
     → IfOk result (λ begun. (v : ℕ) × (v ≤ most_version) × IsReady begun.runs.sizes v begun.runs begun.log d)
 ready_as (Ok begun) d sizes version few ready = (version, few, record { may = ready.may; settled = ready.settled; sizes_are = refl; commits = ready.commits })
 ready_as (Err why) d sizes version few ready = tt
+
+pub long_as : (result : Result Begun Unreadable) (sizes : Sizes) (version : ℕ) (old new : DiskState) → HasLengthOf sizes old → IfOk result (λ begun. IsReady sizes version begun.runs begun.log new)
+    → IfOk result (λ begun. HasLengthOf begun.runs.sizes old)
+long_as (Ok begun) sizes version old new long ready = subst (λ (s : Sizes). HasLengthOf s old) (sym ready.sizes_are) long
+long_as (Err why) sizes version old new long ready = tt
 
 pub stands_as : (result : Result Begun Unreadable) (found : Found) (version : ℕ) (file : List ℕ) (d : DiskState) → (holds : HoldsFound found file) → found.catalogue.version ≤ most_version
     → IfOk result (λ begun. IsReady found.geometry version begun.runs begun.log d) → IfOk result (λ begun. StandsEmpty begun.runs begun.log holds.tree d)
@@ -73,6 +78,21 @@ keeps_settled {old} {mid} {new} sizes pairs timed timed' first syncs second = re
   reads = second.reads;
 }
 
+-- a run that wrote nothing wrote nothing, whatever it answers
+pub spares_all : {old new : DiskState} (result : Result Begun Unreadable) → LeavesOnly old new old.images → IfErr result (λ why. SparesImages why old new)
+spares_all (Ok begun) kept = tt
+spares_all (Err why) kept = λ calm. kept
+
+pub spares_on : {old mid : DiskState} (new : DiskState) (result : Result Begun Unreadable) → IsTimed mid → LeavesOnly old mid old.images → IfErr result (λ why. SparesImages why mid new)
+    → IfErr result (λ why. SparesImages why old new)
+spares_on new (Ok begun) timed kept spares = tt
+spares_on new (Err why) timed kept spares = λ calm. leaves_only_kept timed kept (spares calm)
+
+-- what answers nothing but a fault spares the images otherwise
+pub spares_fault : (old new : DiskState) (result : Result Begun Unreadable) → IfErr result (λ why. why ≡ Fault) → IfErr result (λ why. SparesImages why old new)
+spares_fault old new (Ok begun) is = tt
+spares_fault old new (Err why) is = λ calm. absurd (calm is)
+
 -- what was found reads as the map that the file reads as
 pub keeps_same : {mid new : DiskState} (found : Found) (sizes : Sizes) (pairs : List (Key × Value)) → OneSizes → OneMap → (holds : HoldsFound found mid.bytes) → ReadsAsMap sizes pairs mid.bytes
     → KeepsMap found.geometry (map_of_tree holds.tree) mid new → KeepsMap sizes pairs mid new
@@ -82,13 +102,26 @@ keeps_same {mid} {new} found sizes pairs one_size one_map holds reads keeps =
     subst (λ (s : Sizes). KeepsMap s pairs mid new) same (subst (λ (l : List (Key × Value)). KeepsMap found.geometry l mid new) map keeps)
 
 pub stays_on : {old mid new : DiskState} (sizes : Sizes) (calls : ℕ) → IsTimed mid → mid.faults ≡ old.faults → (IsTrue old.tells_bytes → length old.bytes ≡ file_length sizes)
-    → StaysInside old mid → Affects anywhere (file_length sizes) calls mid new → StaysInside old new
-stays_on {old} {mid} {new} sizes calls timed calm long first second = record {
+    → IsGeometry sizes → CallsFew (most_opening_calls sizes) old new → StaysInside old mid → Affects anywhere (file_length sizes) calls mid new → StaysInside old new
+stays_on {old} {mid} {new} sizes calls timed calm long geometry few first second = record {
   end = max first.end (file_length sizes);
   calls = first.calls + calls;
+  few = inr (sizes, geometry, long, few);
   inside = λ tells. omega (arith, first.inside tells, long tells);
   effect = affects_more {most = first.calls} timed calm (affects_wider (λ i here. here) (omega arith) (omega arith) first.effect) second (λ i here. here) (omega arith) (omega arith);
 }
+
+-- a sync and a reading, and then all that is left of an opening
+pub opening_few : (old : ℕ) {mid new : ℕ} (sizes : Sizes) → mid ≤ old + (1 + reading_calls sizes) → new ≤ mid + (3 * page_count sizes + settling_calls sizes) → new ≤ old + most_opening_calls sizes
+opening_few old {mid} {new} sizes first second = both old mid new (1 + reading_calls sizes) (3 * page_count sizes + settling_calls sizes) first second
+  where
+    both : (before between after calls more : ℕ) → between ≤ before + calls → after ≤ between + more → after ≤ before + (calls + more)
+    both before between after calls more first second = omega (arith, first, second)
+
+pub few_as : (result : Result Begun Unreadable) (sizes : Sizes) (version : ℕ) (old new : DiskState) → CallsFew (most_opening_calls sizes) old new → IfOk result (λ begun. IsReady sizes version begun.runs begun.log new)
+    → IfOk result (λ begun. CallsFew (most_opening_calls begun.runs.sizes) old new)
+few_as (Ok begun) sizes version old new few ready = subst (λ (s : Sizes). CallsFew (most_opening_calls s) old new) (sym ready.sizes_are) few
+few_as (Err why) sizes version old new few ready = tt
 
 pub faults_on : {old mid new : DiskState} (result : Result Begun Unreadable) → mid.faults ≡ old.faults → TellsFaultsBy (Err Fault) result mid new → TellsFaultsBy (Err Fault) result old new
 faults_on {old} {mid} {new} result calm faults = record {

@@ -1,10 +1,10 @@
 -- What opening a store finds, and what it leaves.
-use Rattle.std.specs.Prelude.{◌≡◌, ℕ, ◌+◌, ◌<◌, ◌≤◌, IsTrue, List, [], Option, None, Some, Result, Ok, Err, length, max}
+use Rattle.std.specs.Prelude.{◌≡◌, ◌≢◌, ◌⊎◌, ℕ, ◌+◌, ◌*◌, ◌<◌, ◌≤◌, IsTrue, List, [], Option, None, Some, Result, Ok, Err, length, max}
 use Rattle.disk_trait.specs.Disk.{DiskState}
 use Rattle.disk_trait.specs.Effects.{Affects}
 use Rattle.disk_trait.specs.Moments.{LeavesOnly, LeavesOnlyOnceSynced, IsOldOr}
-use Rattle.blsm_model.specs.Sizes.{Sizes}
-use Rattle.blsm_model.specs.Geometry.{c1_mark, capacity, high_mark}
+use Rattle.blsm_model.specs.Sizes.{IsGeometry, Sizes}
+use Rattle.blsm_model.specs.Geometry.{c1_mark, capacity, file_length, high_mark, page_count}
 use Rattle.blsm_model.specs.Lanes.{AreRoles}
 use Rattle.blsm_model.specs.Book.{Book}
 use Rattle.blsm_model.specs.declared.room.Room.{Room}
@@ -25,9 +25,10 @@ use Rattle.core_lists.specs.Standing.{catalogue_of}
 use Rattle.tree_core.specs.Core.{CoreState}
 use Rattle.tree_core.specs.Holds.{StandsWhole}
 use Rattle.tree_reading.specs.Damage.{most_version}
+use Rattle.tree_reading.specs.Reading.{reading_calls}
 use Rattle.tree_reading.specs.declared.found.Unreadable.{Unreadable}
 use Rattle.recover_open.specs.declared.opening.NotOpened.{NotOpened}
-use Rattle.tree_settling.specs.Settling.{IsDeepLight, IsSettled, MaySettle, anywhere, components_of}
+use Rattle.tree_settling.specs.Settling.{CallsFew, IsDeepLight, IsSettled, MaySettle, anywhere, components_of, settling_calls}
 
 -- Each image of each moment is one from before or reads as this map, and since the first sync each reads so. So the disk does.
 pub record KeepsMapOf (sizes : Sizes) (pairs : List (Key × Value)) (old new : DiskState) : Type 0 where
@@ -88,12 +89,31 @@ pub record IsReady (sizes : Sizes) (version : ℕ) (runs : RunsState) (log : Log
   pub sizes_are : runs.sizes ≡ sizes
   pub commits : runs.catalogue.version ≤ version + 5
 
+-- Where the disk tells its bytes they are as many as a store of these sizes has.
+abbrev pub HasLengthOf : Sizes → DiskState → Type 0
+HasLengthOf sizes d = IsTrue d.tells_bytes → length d.bytes ≡ file_length sizes
+
+-- ---- how many calls
+
+-- Those of an opening: a sync and the reading, a second reading of each live page for the filters and fences, and settling.
+abbrev pub most_opening_calls : Sizes → ℕ
+most_opening_calls sizes = (1 + reading_calls sizes) + (3 * page_count sizes + settling_calls sizes)
+
+-- No more than those of the sizes of which the file's length is, or three.
+abbrev pub CallsInside : DiskState → DiskState → Type 0
+CallsInside old new = CallsFew 3 old new ⊎ ((sizes : Sizes) × IsGeometry sizes × HasLengthOf sizes old × CallsFew (most_opening_calls sizes) old new)
+
 -- Some calls, none of which ends behind the superblock and the file.
 pub record StaysInside (old new : DiskState) : Type 0 where
   pub end : ℕ
   pub calls : ℕ
+  pub few : CallsInside old new
   pub inside : IsTrue old.tells_bytes → end ≤ max superblock_length (length old.bytes)
   pub effect : Affects anywhere end calls old new
+
+-- A refusal without a fault wrote nothing: each image of each moment is one from before.
+abbrev pub SparesImages : Unreadable → DiskState → DiskState → Type 0
+SparesImages why old new = why ≢ Unreadable.Fault → LeavesOnly old new old.images
 
 -- ---- the core
 

@@ -1,16 +1,16 @@
 //! What was read of a store becomes components and a log that are settled.
-ghost use Rattle.std.specs.Prelude.{◌≡◌, ◌+◌, ◌≤◌, ◌<◌, ◌^◌, ℕ, Bool, List, Err, length, IsTrue, IfOk, IfErr};
+ghost use Rattle.std.specs.Prelude.{◌≡◌, ◌+◌, ◌*◌, ◌≤◌, ◌<◌, ◌^◌, ℕ, Bool, List, Err, length, IsTrue, IfOk, IfErr};
 ghost use Rattle.disk_trait.specs.Disk.{Only, TellsFaultsBy};
 ghost use Rattle.disk_trait.specs.Effects.{Affects};
-ghost use Rattle.blsm_model.specs.Geometry.{file_length};
+ghost use Rattle.blsm_model.specs.Geometry.{file_length, page_count};
 ghost use Rattle.blsm_model.specs.declared.key.Key.{Key};
 ghost use Rattle.blsm_model.specs.declared.row.Value.{Value};
 ghost use Rattle.tree_file.specs.Tree.{map_of_tree};
 ghost use Rattle.tree_reading.specs.Reading.{HoldsFound, IsFound, IsWhy};
 ghost use Rattle.tree_runs.specs.Runs.{AreGuides, AreRunning, first_tags};
 ghost use Rattle.tree_runs.specs.Holding.{AreGuided};
-ghost use Rattle.tree_settling.specs.Settling.{IsSettled, KeepsMap, LeavesMaps, MaySettle, SettlesOn, ShowsMap, anywhere};
-ghost use Rattle.recover_open.specs.Opening.{BeginsIn, HasBegun, IsReady, StandsEmpty};
+ghost use Rattle.tree_settling.specs.Settling.{CallsFew, IsSettled, KeepsMap, LeavesMaps, MaySettle, SettlesOn, ShowsMap, anywhere, settling_calls};
+ghost use Rattle.recover_open.specs.Opening.{BeginsIn, HasBegun, IsReady, SparesImages, StandsEmpty};
 
 use crate::filters::guides_of;
 use disk_trait::Disk;
@@ -63,6 +63,7 @@ fn settle_begun<D: Disk>(disk: &mut D, begun: Begun) -> Result<Begun, Unreadable
     ensures settled { IfOk result (λ ready. IsSettled ready.runs ready.log × (ready.runs.catalogue.version ≤ begun.runs.catalogue.version + 5)) }
     ensures why { (pairs : List (Key × Value)) → IsTrue (D.state disk.old).is_honest → ShowsMap begun.runs begun.log pairs (D.state disk.old)
         → IfErr result (λ why. why ≡ Unreadable.Fault) }
+    ensures calls { CallsFew (settling_calls begun.runs.sizes) (D.state disk.old) (D.state disk.new) }
     ensures faults { TellsFaultsBy (Err Unreadable.Fault) result (D.state disk.old) (D.state disk.new) }
 {
     let Begun { mut runs, mut log } = begun;
@@ -89,7 +90,10 @@ pub(crate) fn settle_found<D: Disk>(
         → IfOk result (λ begun. StandsEmpty begun.runs begun.log holds.tree (D.state disk.new)) }
     ensures why { IsTrue (D.state disk.old).is_honest → Only (D.state disk.old).bytes (D.state disk.old).images → HoldsFound found (D.state disk.old).bytes
         → IfErr result (λ why. IsWhy why (D.state disk.old).bytes) }
+    ensures spares { IsTrue (D.state disk.old).is_honest → Only (D.state disk.old).bytes (D.state disk.old).images → HoldsFound found (D.state disk.old).bytes
+        → IfErr result (λ why. SparesImages why (D.state disk.old) (D.state disk.new)) }
     ensures effect { (calls : ℕ) × Affects anywhere (file_length found.geometry) calls (D.state disk.old) (D.state disk.new) }
+    ensures calls { CallsFew (3 * page_count found.geometry + settling_calls found.geometry) (D.state disk.old) (D.state disk.new) }
     ensures faults { TellsFaultsBy (Err Unreadable.Fault) result (D.state disk.old) (D.state disk.new) }
 {
     let guides = guides_of(alloc, disk, &found)?;

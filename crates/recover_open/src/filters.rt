@@ -1,12 +1,13 @@
 //! The filters and fences of a store that was read.
-ghost use Rattle.std.specs.Prelude.{◌≡◌, ℕ, Bool, List, Err, length, IsTrue, IfOk, IfErr};
+ghost use Rattle.std.specs.Prelude.{◌≡◌, ◌*◌, ℕ, Bool, List, Err, length, IsTrue, IfOk, IfErr};
 ghost use Rattle.disk_trait.specs.Disk.{TellsFaultsBy};
 ghost use Rattle.disk_trait.specs.Reads.{OnlyReads};
-ghost use Rattle.blsm_model.specs.Geometry.{file_length};
+ghost use Rattle.blsm_model.specs.Geometry.{file_length, page_count};
 ghost use Rattle.tree_file.specs.Tree.{Tree, HoldsTree};
 ghost use Rattle.tree_reading.specs.Reading.{IsFound, IsWhy};
 ghost use Rattle.tree_runs.specs.Runs.{AreGuides, first_tags};
 ghost use Rattle.tree_runs.specs.Holding.{AreGuided};
+ghost use Rattle.tree_settling.specs.Settling.{CallsFew};
 
 use disk_trait::Disk;
 use page_file::Broken;
@@ -32,6 +33,7 @@ pub(crate) fn guides_of<D: Disk>(
     ensures why { (tree : Tree) → IsTrue (D.state disk.old).is_honest → HoldsTree found.now.geometry tree (D.state disk.old).bytes
         → tree.catalogue ≡ found.now.catalogue → IfErr result (λ why. IsWhy why (D.state disk.old).bytes) }
     ensures reads { (calls : ℕ) × OnlyReads (file_length found.now.geometry) calls (D.state disk.old) (D.state disk.new) }
+    ensures calls { CallsFew (3 * page_count found.now.geometry) (D.state disk.old) (D.state disk.new) }
     ensures faults { TellsFaultsBy (Err Unreadable.Fault) result (D.state disk.old) (D.state disk.new) }
 {
     let Ok(mut guides) = GuideRoom::reserve(alloc, &found.geometry) else {

@@ -9,10 +9,11 @@ ghost use Rattle.blsm_model.specs.declared.key.Key.{Key};
 ghost use Rattle.blsm_model.specs.declared.row.Value.{Value};
 ghost use Rattle.tree_file.specs.Tree.{ReadsAsMap};
 ghost use Rattle.tree_reading.specs.Damage.{most_version};
-ghost use Rattle.tree_reading.specs.Reading.{HoldsFound, IsFound, IsWhy};
+ghost use Rattle.tree_reading.specs.Reading.{HoldsFound, IsFound, IsWhy, reading_calls};
+ghost use Rattle.tree_settling.specs.Settling.{CallsFew};
 ghost use Rattle.core_moves.specs.Held.{charge_in};
 ghost use Rattle.core_pace.specs.Opening.{IsOpened};
-ghost use Rattle.recover_open.specs.Opening.{IsReady, KeepsMapOf, ReadsAsNone, HasOpenedOn, OpensAs, StaysInside, disk_of, no_entries, why_of};
+ghost use Rattle.recover_open.specs.Opening.{IsReady, KeepsMapOf, ReadsAsNone, HasLengthOf, HasOpenedOn, OpensAs, SparesImages, StaysInside, disk_of, most_opening_calls, no_entries, why_of};
 
 use crate::beginning::{Begun, settle_found};
 use blsm_model::{Annals, Room};
@@ -37,6 +38,7 @@ fn read_synced<D: Disk>(alloc: Global, disk: &mut D) -> Result<Found, Unreadable
     ensures only { OnOk result (IsTrue (D.state disk.old).is_honest → Only (D.state disk.new).bytes (D.state disk.new).images) }
     ensures kept { IsTrue (D.state disk.old).is_honest → LeavesOnly (D.state disk.old) (D.state disk.new) (D.state disk.old).images }
     ensures synced { IsTrue (D.state disk.old).is_honest → LeavesOnlyOnceSynced (D.state disk.old) (D.state disk.new) (λ c. c ≡ (D.state disk.old).bytes) }
+    ensures calls { IfOk result (λ found. CallsFew (1 + reading_calls found.geometry) (D.state disk.old) (D.state disk.new)) }
     ensures effect { StaysInside (D.state disk.old) (D.state disk.new) }
     ensures faults { TellsFaultsBy (Err Unreadable.Fault) result (D.state disk.old) (D.state disk.new) }
 {
@@ -75,6 +77,9 @@ fn open_tree<D: Disk>(alloc: Global, disk: &mut D, room: MergeRoom) -> Result<Be
     ensures keeps { (sizes : Sizes) (pairs : List (Key × Value)) → IsTrue (D.state disk.old).is_honest → ReadsAsMap sizes pairs (D.state disk.old).bytes
         → KeepsMapOf sizes pairs (D.state disk.old) (D.state disk.new) }
     ensures untouched { IsTrue (D.state disk.old).is_honest → ReadsAsNone (D.state disk.old).bytes → LeavesOnly (D.state disk.old) (D.state disk.new) (D.state disk.old).images }
+    ensures long { IfOk result (λ begun. HasLengthOf begun.runs.sizes (D.state disk.old)) }
+    ensures spares { IsTrue (D.state disk.old).is_honest → IfErr result (λ why. SparesImages why (D.state disk.old) (D.state disk.new)) }
+    ensures calls { IfOk result (λ begun. CallsFew (most_opening_calls begun.runs.sizes) (D.state disk.old) (D.state disk.new)) }
     ensures effect { StaysInside (D.state disk.old) (D.state disk.new) }
     ensures faults { TellsFaultsBy (Err Unreadable.Fault) result (D.state disk.old) (D.state disk.new) }
 {
@@ -105,8 +110,10 @@ pub fn open_store<D: Disk + Drop>(
     requires entries { sum room.entries ≤ most_entries }
     requires rows { sum room.rows ≤ most_rows_asked }
 
-    // On every disk: no entry, no table, no C1'; the charge is what C1 and C2 weigh, and the count of faults is the disk's.
+    // On every disk: no entry, no table, no C1'; the charge is what C1 and C2 weigh, the count of faults is the disk's, and the file was as long as the
+    // sizes say.
     ensures opened { IfOk result (λ core. IsOpened (no_entries room) (D.state core.disk).faults core.held) }
+    ensures long { IfOk result (λ core. HasLengthOf core.held.runs.sizes (D.state disk)) }
     ensures charge { IfOk result (λ core. charge_in core.held ≡ core.held.runs.catalogue.c1.weight + core.held.runs.catalogue.c2.weight) }
 
     // On an honest disk: the disk read as a map, for which the core stands; or what it read as is why it isn't opened.
@@ -114,11 +121,13 @@ pub fn open_store<D: Disk + Drop>(
     ensures refused { IsTrue (D.state disk).is_honest → IfErr result (λ refused. IsWhy refused.why (D.state disk).bytes) }
 
     // Whatever is answered, each image of each moment is one from before or reads as the map, and since the first sync each reads so. Where the disk
-    // read as no map, each is one from before.
+    // read as no map, and after each refusal without a fault, each is one from before.
     ensures keeps { (sizes : Sizes) (pairs : List (Key × Value)) → IsTrue (D.state disk).is_honest → ReadsAsMap sizes pairs (D.state disk).bytes
         → KeepsMapOf sizes pairs (D.state disk) (D.state (disk_of result)) }
     ensures untouched { IsTrue (D.state disk).is_honest → ReadsAsNone (D.state disk).bytes
         → LeavesOnly (D.state disk) (D.state (disk_of result)) (D.state disk).images }
+    ensures spares { IsTrue (D.state disk).is_honest → IfErr result (λ refused. SparesImages refused.why (D.state disk) (D.state refused.disk)) }
+    ensures calls { IfOk result (λ core. CallsFew (most_opening_calls core.held.runs.sizes) (D.state disk) (D.state core.disk)) }
     ensures effect { StaysInside (D.state disk) (D.state (disk_of result)) }
     ensures faults { TellsFaultsBy (Some Unreadable.Fault) (why_of result) (D.state disk) (D.state (disk_of result)) }
 {

@@ -4,8 +4,11 @@ use Rattle.std.specs.Prelude.{IfErr, length, IsTrue}
 use Rattle.blsm_model.specs.Geometry.{file_length}
 use Rattle.catalog_swap.specs.declared.catalog.Catalog.{Catalog}
 use Rattle.disk_trait.specs.Effects.{affects_length}
-use Rattle.recover_open.proofs.SettledLemmas.{IsSettledBehind, keeps_reading, may_settle, reads_anywhere, settled_effect, settled_keeps, settled_ready, settled_stands, settled_why}
-use Rattle.recover_open.proofs.TreeLemmas.{faults_on, found_reads, told_then, why_then}
+use Rattle.disk_trait.specs.Reads.{only_reads_each}
+use Rattle.blsm_model.specs.Sizes.{Sizes}
+use Rattle.tree_settling.specs.Settling.{CallsFew, settling_calls}
+use Rattle.recover_open.proofs.SettledLemmas.{IsSettledBehind, both_few, first_few, keeps_reading, may_settle, reads_anywhere, settled_effect, settled_keeps, settled_ready, settled_spares, settled_stands, settled_why}
+use Rattle.recover_open.proofs.TreeLemmas.{faults_on, found_reads, spares_all, told_then, why_then}
 use Rattle.recover_open.proofs.beginning.settle_found.Goals as goal
 
 -- ---- filters and fences weren't filled
@@ -28,6 +31,9 @@ returns-in_err-guides-clause-faults g c =
     let failed = err_from_is_err_and c.from_residual.result c.from_residual.ensures.1 in
     told_then c.in_err-guides.field-0.0 c.from_residual.result c.guides_of.result (g.D.Disk.state c.args.disk.now) (g.D.Disk.state c.guides_of.new.disk) c.in_err-guides.was
     (failed.1 ∙ ap (λ e. Err e) failed.2) c.guides_of.ensures.faults
+
+pub returns-in_err-guides-clause-spares : goal.returns-in_err-guides-clause-spares
+returns-in_err-guides-clause-spares g c = λ honest only holds. spares_all c.from_residual.result (only_reads_each c.guides_of.ensures.reads.1 honest)
 
 -- ---- they were
 
@@ -65,8 +71,21 @@ returns-clause-stands g c = settled_stands (behind g c)
 pub returns-clause-why : goal.returns-clause-why
 returns-clause-why g c = settled_why (behind g c)
 
+pub returns-clause-spares : goal.returns-clause-spares
+returns-clause-spares g c = settled_spares (behind g c)
+
 pub returns-clause-effect : goal.returns-clause-effect
 returns-clause-effect g c = (_, settled_effect (behind g c))
 
 pub returns-clause-faults : goal.returns-clause-faults
 returns-clause-faults g c = faults_on c.settle_begun.result (behind g c).calm c.settle_begun.ensures.faults
+
+-- ---- how many calls
+
+pub returns-in_err-guides-clause-calls : goal.returns-in_err-guides-clause-calls
+returns-in_err-guides-clause-calls g c = first_few _ _ _ c.guides_of.ensures.calls
+
+pub returns-clause-calls : goal.returns-clause-calls
+returns-clause-calls g c =
+    both_few _ _ _ c.guides_of.ensures.calls
+    (subst (λ (s : Sizes). CallsFew (settling_calls s) (g.D.Disk.state c.guides_of.new.disk) (g.D.Disk.state c.settle_begun.new.disk)) c.begin.ensures.sizes c.settle_begun.ensures.calls)

@@ -1,5 +1,7 @@
-use Rattle.std.proofs.Common.{refl}
+use Rattle.std.proofs.Common.{◌*◌, refl}
+use Rattle.blsm_model.specs.Geometry.{page_count}
 use Rattle.disk_trait.specs.Reads.{only_reads_start}
+use Rattle.recover_open.proofs.OpeningLemmas.{guides_few, none_few}
 use Rattle.recover_open.proofs.filters.guides_of.Goals as goal
 
 pub returns-in_default-clause-reads : goal.returns-in_default-clause-reads
@@ -21,3 +23,15 @@ returns-in-Err-Damaged-clause-faults g c = record { stands = λ other. c.rebuild
 
 pub returns-clause-faults : goal.returns-clause-faults
 returns-clause-faults g c = record { stands = λ other. absurd (other refl); failed = λ same. c.rebuild.ensures.reads.failed cc }
+
+pub returns-in_default-clause-calls : goal.returns-in_default-clause-calls
+returns-in_default-clause-calls g c = none_few (g.D.Disk.state c.args.disk.now) (3 * page_count c.args.found.now.geometry)
+
+pub returns-in-Ok-rebuild-clause-calls : goal.returns-in-Ok-rebuild-clause-calls
+returns-in-Ok-rebuild-clause-calls g c = guides_few _ c.requires.found.2.head.valid c.rebuild.ensures.reads.effect.effect.calls
+
+pub returns-in-Err-Damaged-clause-calls : goal.returns-in-Err-Damaged-clause-calls
+returns-in-Err-Damaged-clause-calls g c = guides_few _ c.requires.found.2.head.valid c.rebuild.ensures.reads.effect.effect.calls
+
+pub returns-clause-calls : goal.returns-clause-calls
+returns-clause-calls g c = guides_few _ c.requires.found.2.head.valid c.rebuild.ensures.reads.effect.effect.calls

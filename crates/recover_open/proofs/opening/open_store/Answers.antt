@@ -1,12 +1,19 @@
-use Rattle.std.proofs.Common.{sym, subst, IsTrue, Some, None}
+use Rattle.std.proofs.Common.{◌∙◌, ap, sym, subst, IsTrue, Some, None}
 use Rattle.disk_trait.specs.Disk.{TellsFaultsBy}
+use Rattle.disk_trait.specs.Moments.{LeavesOnly, leaves_only_start}
+use Rattle.blsm_model.specs.Geometry.{file_length}
+use Rattle.tree_runs.specs.Runs.{RunsState}
 use Rattle.tree_reading.specs.declared.found.Unreadable.{Unreadable}
-use Rattle.recover_open.specs.Opening.{KeepsMapOf}
+use Rattle.tree_settling.specs.Settling.{CallsFew}
+use Rattle.recover_open.specs.Opening.{KeepsMapOf, most_opening_calls}
 use Rattle.recover_open.proofs.CoreLemmas.{are_settled, charge_opened, keeps_start, opens_as}
 use Rattle.recover_open.proofs.opening.open_store.Goals as goal
 
 pub returns-in_default-clause-keeps : goal.returns-in_default-clause-keeps
 returns-in_default-clause-keeps g c = λ sizes pairs honest reads. keeps_start (g.D.Disk.state c.args.disk) sizes pairs (g.met.D.Disk.timed c.args.disk) reads
+
+pub returns-in_default-clause-spares : goal.returns-in_default-clause-spares
+returns-in_default-clause-spares g c = λ honest calm. leaves_only_start (g.D.Disk.state c.args.disk) _ (g.met.D.Disk.timed c.args.disk) (λ image left. left)
 
 pub assemble-requires-clause-settled : goal.assemble-requires-clause-settled
 assemble-requires-clause-settled g c =
@@ -25,10 +32,22 @@ pub returns-in-Ok-open_tree-clause-keeps : goal.returns-in-Ok-open_tree-clause-k
 returns-in-Ok-open_tree-clause-keeps g c = λ sizes pairs honest reads.
     subst (λ d. KeepsMapOf sizes pairs (g.D.Disk.state c.args.disk) (g.D.Disk.state d)) (sym c.assemble.ensures.disk) (c.open_tree.ensures.keeps sizes pairs honest reads)
 
+pub returns-in-Ok-open_tree-clause-untouched : goal.returns-in-Ok-open_tree-clause-untouched
+returns-in-Ok-open_tree-clause-untouched g c = λ honest none.
+    subst (λ (d : g.row.D.Denot). LeavesOnly (g.D.Disk.state c.args.disk) (g.D.Disk.state d) (g.D.Disk.state c.args.disk).images) (sym c.assemble.ensures.disk) (c.open_tree.ensures.untouched honest none)
+
 pub returns-in-Ok-open_tree-clause-faults : goal.returns-in-Ok-open_tree-clause-faults
 returns-in-Ok-open_tree-clause-faults g c =
     subst (λ d. TellsFaultsBy (Some Unreadable.Fault) None (g.D.Disk.state c.args.disk) (g.D.Disk.state d)) (sym c.assemble.ensures.disk)
     (record { stands = λ other. c.in-Ok-open_tree.ensures.faults.stands (λ wrong. absurd cc); failed = λ same. absurd cc })
+
+pub returns-in-Ok-open_tree-clause-long : goal.returns-in-Ok-open_tree-clause-long
+returns-in-Ok-open_tree-clause-long g c = λ tells. c.in-Ok-open_tree.ensures.long tells ∙ ap (λ (r : RunsState). file_length r.sizes) (sym c.assemble.ensures.runs)
+
+pub returns-in-Ok-open_tree-clause-calls : goal.returns-in-Ok-open_tree-clause-calls
+returns-in-Ok-open_tree-clause-calls g c =
+    subst (λ (d : g.row.D.Denot). CallsFew (most_opening_calls c.assemble.result.held.runs.sizes) (g.D.Disk.state c.args.disk) (g.D.Disk.state d)) (sym c.assemble.ensures.disk)
+    (subst (λ (r : RunsState). CallsFew (most_opening_calls r.sizes) (g.D.Disk.state c.args.disk) (g.D.Disk.state c.open_tree.new.disk)) (sym c.assemble.ensures.runs) c.in-Ok-open_tree.ensures.calls)
 
 pub returns-in-Ok-open_tree-clause-charge : goal.returns-in-Ok-open_tree-clause-charge
 returns-in-Ok-open_tree-clause-charge g c = charge_opened _ _ c.assemble.result.held c.assemble.ensures.opened

@@ -1,14 +1,18 @@
 use Rattle.std.proofs.Common.{sym, subst, IsTrue, List, ℕ}
 use Rattle.std.specs.Prelude.{IfErr, IfOk}
 use Rattle.tree_reading.specs.Reading.{HoldsFound, IsWhy}
-use Rattle.recover_open.specs.Opening.{StandsEmpty}
-use Rattle.recover_open.proofs.TreeLemmas.{found_reads, ready_as, stands_as, keeps_read, keeps_settled, keeps_same, stays_on, faults_on}
+use Rattle.tree_settling.specs.Settling.{CallsFew}
+use Rattle.recover_open.specs.Opening.{StandsEmpty, most_opening_calls}
+use Rattle.recover_open.proofs.TreeLemmas.{few_as, found_reads, long_as, opening_few, ready_as, stands_as, keeps_read, keeps_settled, keeps_same, spares_all, spares_on, stays_on, faults_on}
 use Rattle.recover_open.proofs.opening.open_tree.Goals as goal
 
 pub returns-in_err-found-clause-keeps : goal.returns-in_err-found-clause-keeps
 returns-in_err-found-clause-keeps g c = λ sizes pairs honest reads.
     let r = c.read_synced.ensures in
     keeps_read sizes pairs reads (r.same honest) (r.kept honest) (r.synced honest)
+
+pub returns-in_err-found-clause-spares : goal.returns-in_err-found-clause-spares
+returns-in_err-found-clause-spares g c = λ honest. spares_all c.from_residual.result (c.read_synced.ensures.kept honest)
 
 pub settle_found-requires-clause-length : goal.settle_found-requires-clause-length
 settle_found-requires-clause-length g c = λ tells.
@@ -18,6 +22,10 @@ pub returns-clause-ready : goal.returns-clause-ready
 returns-clause-ready g c =
     let f = c.in_ok-found.found in
     ready_as c.settle_found.result _ f.geometry f.catalogue.version c.in_ok-found.ensures.found.2.head.version c.settle_found.ensures.ready
+
+pub returns-clause-long : goal.returns-clause-long
+returns-clause-long g c =
+    long_as c.settle_found.result c.in_ok-found.found.geometry _ (g.D.Disk.state c.args.disk.now) (g.D.Disk.state c.settle_found.new.disk) c.in_ok-found.ensures.was_long c.settle_found.ensures.ready
 
 pub returns-clause-stands : goal.returns-clause-stands
 returns-clause-stands g c = λ honest.
@@ -55,10 +63,27 @@ returns-clause-untouched g c = λ honest none.
     let holds = c.in_ok-found.ensures.holds honest in
     absurd (none f.geometry _ (found_reads f _ holds))
 
+pub returns-clause-spares : goal.returns-clause-spares
+returns-clause-spares g c = λ honest.
+    let f = c.in_ok-found.found in
+    let r = c.read_synced.ensures in
+    let honest' = subst IsTrue (sym r.effect.effect.goes_on.is_honest) honest in
+    let holds = subst (HoldsFound f) (sym (r.same honest)) (c.in_ok-found.ensures.holds honest) in
+    spares_on (g.D.Disk.state c.settle_found.new.disk) c.settle_found.result (g.met.D.Disk.timed c.read_synced.new.disk) (r.kept honest) (c.settle_found.ensures.spares honest' (c.in_ok-found.ensures.only honest) holds)
+
+-- what is called from the start on
+called : (g : _) (c : goal.After-settle_found g) → CallsFew (most_opening_calls c.in_ok-found.found.geometry) (g.D.Disk.state c.args.disk.now) (g.D.Disk.state c.settle_found.new.disk)
+called g c = opening_few _ c.in_ok-found.found.geometry c.in_ok-found.ensures.calls c.settle_found.ensures.calls
+
+pub returns-clause-calls : goal.returns-clause-calls
+returns-clause-calls g c =
+    few_as c.settle_found.result c.in_ok-found.found.geometry _ (g.D.Disk.state c.args.disk.now) (g.D.Disk.state c.settle_found.new.disk) (called g c) c.settle_found.ensures.ready
+
 pub returns-clause-effect : goal.returns-clause-effect
 returns-clause-effect g c =
     let e = c.settle_found.ensures.effect in
-    stays_on c.in_ok-found.found.geometry e.0 (g.met.D.Disk.timed c.read_synced.new.disk) (c.in_ok-found.ensures.faults.stands (λ wrong. absurd cc)) c.in_ok-found.ensures.was_long c.read_synced.ensures.effect e.1
+    stays_on c.in_ok-found.found.geometry e.0 (g.met.D.Disk.timed c.read_synced.new.disk) (c.in_ok-found.ensures.faults.stands (λ wrong. absurd cc)) c.in_ok-found.ensures.was_long c.in_ok-found.ensures.found.2.head.geometry (called g c)
+    c.read_synced.ensures.effect e.1
 
 pub returns-clause-faults : goal.returns-clause-faults
 returns-clause-faults g c = faults_on c.settle_found.result (c.in_ok-found.ensures.faults.stands (λ wrong. absurd cc)) c.settle_found.ensures.faults
