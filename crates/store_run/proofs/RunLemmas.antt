@@ -99,7 +99,7 @@ module _ {D : Type 0} (state : D → DiskState) (lines : List Line) (annals : Bo
     by_callers = by_lines_alone new.held (state new.disk) core runs.rests;
     names = subst (λ (es : List Entry). AllByRecursion (λ e. NamesStop e.reply new.held.book.stopped) es) (sym lines_added) runs.names;
     tells = subst (λ (es : List Entry). TellsFaults (faults_told es) old.held new.held (state old.disk) (state new.disk)) (sym lines_added) runs.proceeds.tells;
-    calls = calls_for old.held.runs.sizes runs.added runs.counts;
+    calls = calls_for state lines old new runs.done;
     effect = runs.proceeds.effect;
   }
 

@@ -119,11 +119,11 @@ pays_less seat old new d has k is sizes = subst (λ (s : Sizes). left_in seat s 
 -- ---- a write that was done
 
 -- the calls of one
-pub calls_of_write : (sizes : Sizes) (op : Op) (quanta : ℕ) → is_write op ≡ true → most_calls sizes op quanta ≡ 22 + (quanta + 1) * (sizes.quantum / 4 + 3)
-calls_of_write sizes (Put key value) quanta is = refl
-calls_of_write sizes (Add key count) quanta is = refl
-calls_of_write sizes (Del key) quanta is = refl
-calls_of_write sizes _ quanta is = absurd (false≢true is)
+pub calls_of_write : (sizes : Sizes) (op : Op) (quanta due : ℕ) → is_write op ≡ true → most_calls sizes op quanta due ≡ (4 + 9 * due) + (quanta + 1) * (sizes.quantum / 4 + 3)
+calls_of_write sizes (Put key value) quanta due is = refl
+calls_of_write sizes (Add key count) quanta due is = refl
+calls_of_write sizes (Del key) quanta due is = refl
+calls_of_write sizes _ quanta due is = absurd (false≢true is)
 
 -- the bound of a write
 pub most_of_write : (sizes : Sizes) (op : Op) → is_write op ≡ true → most_quanta sizes op ≡ work_bound sizes (total_weight (writes_of op))

@@ -17,6 +17,7 @@ use Rattle.seat_book.specs.State.{BookState, noted_in, work_in}
 use Rattle.core_moves.specs.declared.held.Held.{Held}
 use Rattle.tree_core.specs.Answers.{reply_to_drop, reply_to_hold, reply_to_next}
 use Rattle.tree_core.specs.Causes.{DropsBecause, HoldsBecause, ScansBecause, ScansNone}
+use Rattle.tree_core.specs.Causes.{swaps_due_in}
 use Rattle.tree_core.specs.Core.{CoreState}
 use Rattle.tree_core.specs.Holds.{LeavesOthers}
 use Rattle.tree_core.specs.Steps.{StandsSince}
@@ -45,7 +46,7 @@ still_rests seat op reply old new leaves book rests =
 
 pub notes_alone : {D : Type 0} (state : D → DiskState) (seat : ℕ) (op : Op) (reply : Reply) (old new : CoreState D) → LeavesOthers seat old new → new.held.book ≡ noted_in seat op reply old.held.book → Rests old.held
     → length (rows_given reply) ≤ rows_of op → TellsNone op reply → NamesStop reply new.held.book.stopped → StandsSince state new new
-    → Proceeds state (faults_of reply) (most_calls old.held.runs.sizes op 0) old new → Performs state seat op old new
+    → Proceeds state (faults_of reply) (most_calls old.held.runs.sizes op 0 (swaps_due_in old.held)) old new → Performs state seat op old new
 notes_alone state seat op reply old new leaves book rests rows calm names begins proceeds =
     let entry : Entry = record { seat = seat; op = op; reply = reply } in
     record {
@@ -63,11 +64,11 @@ notes_alone state seat op reply old new leaves book rests rows calm names begins
 
 -- and one that calls no disk
 pub in_memory : {D : Type 0} (state : D → DiskState) (seat : ℕ) (op : Op) (reply : Reply) (old new : CoreState D) → LeavesOthers seat old new → new.held.book ≡ noted_in seat op reply old.held.book → Rests old.held
-    → length (rows_given reply) ≤ 0 → faults_of reply ≡ 0 → most_calls old.held.runs.sizes op 0 ≡ 0 → NamesStop reply new.held.book.stopped → StandsSince state old old → StandsSince state new new
+    → length (rows_given reply) ≤ 0 → faults_of reply ≡ 0 → most_calls old.held.runs.sizes op 0 (swaps_due_in old.held) ≡ 0 → NamesStop reply new.held.book.stopped → StandsSince state old old → StandsSince state new new
     → ((from : CoreState D) → StandsSince state from old → StandsSince state from new) → new.disk ≡ old.disk → Performs state seat op old new
 in_memory {D} state seat op reply old new leaves book rests rows quiet calls names since begins lasts disk =
     notes_alone state seat op reply old new leaves book rests (omega (arith, rows)) (none_told op reply quiet) names begins
-    (subst (λ (told : ℕ). Proceeds state told (most_calls old.held.runs.sizes op 0) old new) (sym quiet) (subst (λ (few : ℕ). Proceeds state 0 few old new) (sym calls)
+    (subst (λ (told : ℕ). Proceeds state told (most_calls old.held.runs.sizes op 0 (swaps_due_in old.held)) old new) (sym quiet) (subst (λ (few : ℕ). Proceeds state 0 few old new) (sym calls)
     (proceeds_by state 0 0 old old new since lasts
     (subst (λ (d : D). Reaches (file_length old.held.runs.sizes) 0 (state old.disk) (state d)) (sym disk) (reaches_none (state old.disk)))
     (tells_quiet old.held new.held (state old.disk) (state new.disk) (ap (λ (b : BookState). b.stopped) book) (ap (λ (d : D). (state d).faults) disk))

@@ -18,6 +18,7 @@ use Rattle.blsm_model.specs.declared.op.Op.{Op}
 use Rattle.blsm_model.specs.declared.room.Room.{Room}
 use Rattle.disk_trait.specs.Disk.{DiskState}
 use Rattle.core_moves.specs.declared.held.Held.{Held}
+use Rattle.tree_core.specs.Causes.{swaps_due_in}
 use Rattle.tree_core.specs.Core.{CoreState}
 use Rattle.tree_session.specs.Faults.{NamesStop, Proceeds, TellsFaults, TellsNone, faults_of, faults_told}
 use Rattle.tree_session.specs.Lines.{HasRoomFor, Rests, rows_asked, rows_of}
@@ -33,16 +34,18 @@ took_more sizes [] (m ∷ ns) e n few one = absurd few
 took_more sizes (x ∷ es) [] e n few one = absurd few
 took_more sizes (x ∷ es) (m ∷ ns) e n few one = (few.0, took_more sizes es ns e n few.1 one)
 
-calls_more : (sizes : Sizes) (es : List Entry) (ns : List ℕ) (e : Entry) (n : ℕ) → TookFew sizes es ns → calls_for sizes (es ++ e ∷ []) (ns ++ n ∷ []) ≡ calls_for sizes es ns + most_calls sizes e.op n
-calls_more sizes [] [] e n few = omega arith
-calls_more sizes [] (m ∷ ns) e n few = absurd few
-calls_more sizes (x ∷ es) [] e n few = absurd few
-calls_more sizes (x ∷ es) (m ∷ ns) e n few = let rest = calls_more sizes es ns e n few.1 in omega (arith, rest)
-
--- one line more was done
-done_more : {D : Type 0} (state : D → DiskState) (lines : List Line) (line : Line) (old mid new : CoreState D) → AreDone state lines old mid → Performs state line.seat line.op mid new → AreDone state (lines ++ line ∷ []) old new
-done_more {D} state [] line old mid new done did = (new, subst (λ (from : CoreState D). Performs state line.seat line.op from new) done did, refl)
-done_more state (first ∷ lines) line old mid new done did = (done.0, done.1, done_more state lines line done.0 mid new done.2 did)
+-- one line more was done, by its own calls more
+done_more : {D : Type 0} (state : D → DiskState) (lines : List Line) (line : Line) (old mid new : CoreState D) → (done : AreDone state lines old mid) → (did : Performs state line.seat line.op mid new)
+    → (all : AreDone state (lines ++ line ∷ []) old new)
+    × (calls_for state (lines ++ line ∷ []) old new all ≡ calls_for state lines old mid done + most_calls mid.held.runs.sizes line.op did.quanta (swaps_due_in mid.held))
+done_more {D} state [] line old mid new done did =
+    let one =
+    subst (λ (from : CoreState D). (it : Performs state line.seat line.op from new)
+    × (most_calls from.held.runs.sizes line.op it.quanta (swaps_due_in from.held) ≡ most_calls mid.held.runs.sizes line.op did.quanta (swaps_due_in mid.held))) done (did, refl) in
+    ((new, one.0, refl), omega (arith, one.1))
+done_more state (first ∷ lines) line old mid new done did =
+    let rest = done_more state lines line done.0 mid new done.2 did in
+    ((done.0, done.1, rest.0), omega (arith, rest.1))
 
 all_more : (es : List Entry) (e : Entry) → AllByRecursion (λ x. TellsNone x.op x.reply) es → TellsNone e.op e.reply → AllByRecursion (λ x. TellsNone x.op x.reply) (es ++ e ∷ [])
 all_more [] e all one = (one, tt)
@@ -169,8 +172,9 @@ pub runs_more : {D : Type 0} (state : D → DiskState) (lines : List Line) (line
     → 0 < slice_index mid.held.book.book.room.entries line.seat → Runs state lines old mid → Performs state line.seat line.op mid new → Runs state (lines ++ line ∷ []) old new
 runs_more state lines line old mid new places some so_far did =
     let entry : Entry = record { seat = line.seat; op = line.op; reply = did.reply } in
+    let all = done_more state lines line old mid new so_far.done did in
     record {
-      done = done_more state lines line old mid new so_far.done did;
+      done = all.0;
       added = so_far.added ++ entry ∷ [];
       counts = so_far.counts ++ did.quanta ∷ [];
       entries = ap (λ (b : Book). b.entries) did.annals ∙ ap (λ (es : List Entry). es ++ entry ∷ []) so_far.entries ∙ append_assoc old.held.book.book.entries so_far.added (entry ∷ []);
@@ -189,13 +193,10 @@ runs_more state lines line old mid new places some so_far did =
           omega (arith, before, now, less, more);
       rests = did.rests;
       alone = did.proceeds.alone ∙ so_far.proceeds.alone;
-      proceeds =
-          let few = calls_for old.held.runs.sizes so_far.added so_far.counts in
-          let more = most_calls old.held.runs.sizes line.op did.quanta in
-          let one = subst (λ (s : Sizes). Proceeds state (faults_of did.reply) (most_calls s line.op did.quanta) mid new) so_far.proceeds.sizes did.proceeds in
-          subst (λ (told : ℕ). Proceeds state told (calls_for old.held.runs.sizes (so_far.added ++ entry ∷ []) (so_far.counts ++ did.quanta ∷ [])) old new) (sym (told_more so_far.added entry))
-          (subst (λ (calls : ℕ). Proceeds state (faults_told so_far.added + faults_of did.reply) calls old new) (sym (calls_more old.held.runs.sizes so_far.added so_far.counts entry did.quanta so_far.few))
-          (proceeds_then state (faults_told so_far.added) (faults_of did.reply) few more old mid new so_far.proceeds one));
+      proceeds = subst (λ (told : ℕ). Proceeds state told (calls_for state (lines ++ line ∷ []) old new all.0) old new) (sym (told_more so_far.added entry))
+          (subst (λ (calls : ℕ). Proceeds state (faults_told so_far.added + faults_of did.reply) calls old new) (sym all.1)
+          (proceeds_then state (faults_told so_far.added) (faults_of did.reply) (calls_for state lines old mid so_far.done)
+          (most_calls mid.held.runs.sizes line.op did.quanta (swaps_due_in mid.held)) old mid new so_far.proceeds did.proceeds));
     }
 
 -- each entry has its quanta still

@@ -12,7 +12,7 @@ use Rattle.seat_book.specs.State.{BookState, work_in}
 use Rattle.tree_machine.specs.Machine.{WorkSoFar, no_work}
 use Rattle.core_moves.specs.declared.held.Held.{Held}
 use Rattle.tree_core.specs.Answers.{reply_to_write}
-use Rattle.tree_core.specs.Causes.{AdmitsBecause}
+use Rattle.tree_core.specs.Causes.{AdmitsBecause, calls_to_admit, swaps_due_in}
 use Rattle.tree_core.specs.Core.{CoreState, IsCore}
 use Rattle.tree_core.specs.Notes.{NotesOne, OwesNothing}
 use Rattle.tree_core.specs.Steps.{StandsSince}
@@ -46,7 +46,7 @@ idle_still : (old new : BookState) → new.seats.work ≡ old.seats.work → ((a
 idle_still old new same idle any = ap (λ (l : List WorkSoFar). slice_index_or l any no_work) same ∙ idle any
 
 pub write_refused : {D : Type 0} (state : D → DiskState) (seat : ℕ) (op : Op) (answer : Admission) (old new : CoreState D) → is_write op ≡ true → (answer ≡ admission.Admitted → ⊥) → AdmitsBecause answer seat op old.held new.held (state old.disk) (state new.disk)
-    → NotesOne seat op (reply_to_write answer) old.held.book new.held.book → Rests old.held → Proceeds state (faults_of (reply_to_write answer)) 22 old new → StandsSince state new new → Performs state seat op old new
+    → NotesOne seat op (reply_to_write answer) old.held.book new.held.book → Rests old.held → Proceeds state (faults_of (reply_to_write answer)) (calls_to_admit old.held) old new → StandsSince state new new → Performs state seat op old new
 write_refused state seat op answer old new write not because notes rests proceeds begins =
     let entry : Entry = record { seat = seat; op = op; reply = reply_to_write answer } in
     record {
@@ -62,11 +62,12 @@ write_refused state seat op answer old new write not because notes rests proceed
         even = refused_even answer seat op old.held new.held (state old.disk) (state new.disk) not because rests.even;
       };
       begins = begins;
-      proceeds = proceeds_wider state (faults_of (reply_to_write answer)) 22 (most_calls old.held.runs.sizes op 0) old new (omega (arith, calls_of_write old.held.runs.sizes op 0 write)) proceeds;
+      proceeds = proceeds_wider state (faults_of (reply_to_write answer)) (calls_to_admit old.held) (most_calls old.held.runs.sizes op 0 (swaps_due_in old.held)) old new
+          (omega (arith, calls_of_write old.held.runs.sizes op 0 (swaps_due_in old.held) write)) proceeds;
     }
 
 pub write_taken : {D : Type 0} (state : D → DiskState) (seat : ℕ) (op : Op) (old mid new : CoreState D) → is_write op ≡ true → IsCore old.held (state old.disk) → old.held.book.stopped ≡ None
-    → NotesOne seat op Done old.held.book mid.held.book → EasesOthers seat old.held mid.held → Rests old.held → Proceeds state 0 22 old mid → PaysOff state seat mid new → StandsSince state new new → Performs state seat op old new
+    → NotesOne seat op Done old.held.book mid.held.book → EasesOthers seat old.held mid.held → Rests old.held → Proceeds state 0 (calls_to_admit old.held) old mid → PaysOff state seat mid new → StandsSince state new new → Performs state seat op old new
 write_taken state seat op old mid new write keeps ran notes eases rests admits pays begins =
     let entry : Entry = record { seat = seat; op = op; reply = Done } in
     let last = last_is seat op old.held.book mid.held.book write notes.annals in
@@ -74,7 +75,7 @@ write_taken state seat op old mid new write keeps ran notes eases rests admits p
     pays.annals ∙ ap (λ (place : ℕ). counted_up mid.held.book.book place pays.quanta) last.0 ∙ ap (λ (b : Book). counted_up b (length old.held.book.book.entries) pays.quanta) notes.annals in
     let payments = (pays.quanta + 1) * (old.held.runs.sizes.quantum / 4 + 3) in
     let paid = subst (λ (s : Sizes). Proceeds state 0 ((pays.quanta + 1) * (s.quantum / 4 + 3)) mid new) admits.sizes pays.proceeds in
-    let proceeds = proceeds_then state 0 0 22 payments old mid new admits paid in
+    let proceeds = proceeds_then state 0 0 (calls_to_admit old.held) payments old mid new admits paid in
     record {
       reply = Done;
       quanta = pays.quanta;
@@ -88,5 +89,5 @@ write_taken state seat op old mid new write keeps ran notes eases rests admits p
         even = λ runs. all_even seat old.held new.held (rests.even ran) (eases_then seat old.held mid.held new.held eases pays.others) (pays.even runs);
       };
       begins = begins;
-      proceeds = subst (λ (calls : ℕ). Proceeds state 0 calls old new) (sym (calls_of_write old.held.runs.sizes op pays.quanta write)) proceeds;
+      proceeds = subst (λ (calls : ℕ). Proceeds state 0 calls old new) (sym (calls_of_write old.held.runs.sizes op pays.quanta (swaps_due_in old.held) write)) proceeds;
     }

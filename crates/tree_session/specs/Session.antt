@@ -20,6 +20,7 @@ use Rattle.tree_machine.specs.Plays.{is_finished}
 use Rattle.tree_machine.specs.Steps.{last_write}
 use Rattle.tree_runs.specs.Runs.{page_share}
 use Rattle.core_moves.specs.declared.held.Held.{Held}
+use Rattle.tree_core.specs.Causes.{swaps_due_in}
 use Rattle.tree_core.specs.Core.{CoreState, IsCore}
 use Rattle.tree_core.specs.Notes.{OwesNothing}
 use Rattle.tree_core.specs.Steps.{StandsSince}
@@ -37,16 +38,16 @@ most_quanta sizes Release = 0
 most_quanta sizes (Work n) = n
 most_quanta sizes op = work_bound sizes (total_weight (writes_of op))
 
--- How many calls of the disk it takes at most, where its caller takes so many quanta for it: a get reads one page of each component at most, a next
--- reads each page of its hold at most, a turn of a work moves once, and a write is admitted, with four calls and nine for each of two swaps, and then
--- paid for, in vain once at most. A hold is made, and dropped, in memory alone.
-abbrev pub most_calls : Sizes → Op → ℕ → ℕ
-most_calls sizes (Get key) quanta = 3
-most_calls sizes (Hold low high) quanta = 0
-most_calls sizes (Next n) quanta = page_share sizes
-most_calls sizes Release quanta = 0
-most_calls sizes (Work n) quanta = n * (sizes.quantum / 4 + 9)
-most_calls sizes op quanta = 22 + (quanta + 1) * (sizes.quantum / 4 + 3)
+-- How many calls of the disk it takes at most, where its caller takes so many quanta for it and so many swaps are due before: a get reads one page of
+-- each component at most, a next reads each page of its hold at most, a turn of a work moves once, and a write is admitted, with four calls and nine
+-- for each swap that is due, and then paid for, in vain once at most. A hold is made, and dropped, in memory alone.
+abbrev pub most_calls : Sizes → Op → ℕ → ℕ → ℕ
+most_calls sizes (Get key) quanta due = 3
+most_calls sizes (Hold low high) quanta due = 0
+most_calls sizes (Next n) quanta due = page_share sizes
+most_calls sizes Release quanta due = 0
+most_calls sizes (Work n) quanta due = n * (sizes.quantum / 4 + 9)
+most_calls sizes op quanta due = (4 + 9 * due) + (quanta + 1) * (sizes.quantum / 4 + 3)
 
 -- One entry is noted for it, with few quanta and few calls of the disk, and the session rests again.
 pub record Performs {D : Type 0} (state : D → DiskState) (seat : ℕ) (op : Op) (old new : CoreState D) : Type 0 where
@@ -62,7 +63,7 @@ pub record Performs {D : Type 0} (state : D → DiskState) (seat : ℕ) (op : Op
   pub rests : Rests new.held
   -- and what lasts begins there anew
   pub begins : StandsSince state new new
-  pub proceeds : Proceeds state (faults_of reply) (most_calls old.held.runs.sizes op quanta) old new
+  pub proceeds : Proceeds state (faults_of reply) (most_calls old.held.runs.sizes op quanta (swaps_due_in old.held)) old new
 
 -- ---- a script
 
@@ -72,15 +73,15 @@ TookFew sizes [] [] = ⊤
 TookFew sizes (entry ∷ entries) (quanta ∷ more) = (quanta ≤ most_quanta sizes entry.op) × TookFew sizes entries more
 TookFew sizes _ _ = ⊥
 
--- how many calls of the disk they took at most
-abbrev pub calls_for : Sizes → List Entry → List ℕ → ℕ
-calls_for sizes (entry ∷ entries) (quanta ∷ more) = most_calls sizes entry.op quanta + calls_for sizes entries more
-calls_for sizes _ _ = 0
-
 -- The commands of these lines were done, one after another, and there was a core between each two.
 abbrev pub AreDone : {D : Type 0} → (D → DiskState) → List Line → CoreState D → CoreState D → Type 0
 AreDone state [] old new = new ≡ old
 AreDone {D} state (line ∷ lines) old new = (mid : CoreState D) × Performs state line.seat line.op old mid × AreDone state lines mid new
+
+-- how many calls of the disk they took at most, each with the swaps that were due before it
+abbrev pub calls_for : {D : Type 0} (state : D → DiskState) (lines : List Line) (old new : CoreState D) → AreDone state lines old new → ℕ
+calls_for state [] old new done = 0
+calls_for state (line ∷ lines) old new done = most_calls old.held.runs.sizes line.op done.1.quanta (swaps_due_in old.held) + calls_for state lines done.0 new done.2
 
 -- Its lines are answered, in order, one entry for each; what was noted before stays.
 pub record Runs {D : Type 0} (state : D → DiskState) (lines : List Line) (old new : CoreState D) : Type 0 where
@@ -97,7 +98,7 @@ pub record Runs {D : Type 0} (state : D → DiskState) (lines : List Line) (old 
   -- no quantum is counted for a worker
   pub alone : sum (drop callers new.held.book.seats.quanta) ≡ sum (drop callers old.held.book.seats.quanta)
   pub rests : Rests new.held
-  pub proceeds : Proceeds state (faults_told added) (calls_for old.held.runs.sizes added counts) old new
+  pub proceeds : Proceeds state (faults_told added) (calls_for state lines old new done) old new
 
 -- ---- the parts of a command
 

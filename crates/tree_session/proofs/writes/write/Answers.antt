@@ -2,11 +2,11 @@ use Rattle.std.proofs.Common.{ap, arith}
 use Rattle.blsm_model.specs.declared.history.Reply.TheVariants.{Done}
 use Rattle.seat_book.proofs.WordLemmas.{note_has_room}
 use Rattle.tree_core.specs.Answers.{reply_to_write}
-use Rattle.tree_core.proofs.BegunLemmas.{few_to_admit}
+use Rattle.tree_core.specs.Causes.{calls_to_admit}
 use Rattle.tree_session.specs.Faults.{faults_of}
 use Rattle.tree_session.proofs.AloneLemmas.{admit_alone}
 use Rattle.tree_session.proofs.BookLemmas.{last_is}
-use Rattle.tree_session.proofs.FaultLemmas.{admit_tells, eases_by, proceeds_by, reaches_by, reaches_wider, tells_ran}
+use Rattle.tree_session.proofs.FaultLemmas.{admit_tells, eases_by, proceeds_by, reaches_by, tells_ran}
 use Rattle.tree_session.proofs.WriteLemmas.{write_refused, write_taken}
 use Rattle.tree_session.proofs.writes.write.Goals as goal
 
@@ -25,7 +25,7 @@ returns g c =
     let ran = c.in-Admitted.ensures.cause.0 in
     write_taken state c.args.seat c.args.op.now old mid c.pay_off.new.core c.requires.write c.keeps.ensures.core ran.ran c.in-Admitted.ensures.notes
     (eases_by c.args.seat old.held mid.held c.admit.ensures.follows) c.requires.rests
-    (proceeds_by state 0 22 old old mid c.keeps.ensures.begins (λ from since. c.admit.ensures.lasts from since) (reaches_wider (few_to_admit old.held) (reaches_by c.admit.ensures.effect)) (tells_ran old.held mid.held (state old.disk) (state mid.disk) ran)
+    (proceeds_by state 0 (calls_to_admit old.held) old old mid c.keeps.ensures.begins (λ from since. c.admit.ensures.lasts from since) (reaches_by c.admit.ensures.effect) (tells_ran old.held mid.held (state old.disk) (state mid.disk) ran)
     (admit_alone c.admit.result c.args.seat c.args.op.now old.held mid.held (state old.disk) (state mid.disk) core.pace core.holds (c.admit.ensures.numbers core.pace core.holds) c.admit.ensures.notes)) c.pay_off.ensures c.begins-2.ensures
 
 pub returns-in_default : goal.returns-in_default
@@ -35,6 +35,6 @@ returns-in_default g c =
     let core = c.keeps.ensures.core in
     let new = c.admit.new.self in
     write_refused state c.args.seat c.args.op.now c.admit.result old new c.requires.write c.in_default.not-Admitted c.admit.ensures.cause c.admit.ensures.notes c.requires.rests
-    (proceeds_by state (faults_of (reply_to_write c.admit.result)) 22 old old new c.keeps.ensures.begins (λ from since. c.admit.ensures.lasts from since) (reaches_wider (few_to_admit old.held) (reaches_by c.admit.ensures.effect))
+    (proceeds_by state (faults_of (reply_to_write c.admit.result)) (calls_to_admit old.held) old old new c.keeps.ensures.begins (λ from since. c.admit.ensures.lasts from since) (reaches_by c.admit.ensures.effect)
     (admit_tells c.admit.result c.args.seat c.args.op.now old.held new.held (state old.disk) (state new.disk) c.admit.ensures.cause (λ none. ap (λ (d : g.row.D.Denot). (state d).faults) (c.admit.ensures.untouched none)))
     (admit_alone c.admit.result c.args.seat c.args.op.now old.held new.held (state old.disk) (state new.disk) core.pace core.holds (c.admit.ensures.numbers core.pace core.holds) c.admit.ensures.notes)) c.begins.ensures
