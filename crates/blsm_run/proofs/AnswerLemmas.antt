@@ -95,7 +95,7 @@ module _ {D : Type 0} (state : D → DiskState) (honest_tells : (d : D) → IsTr
   completes_ran o w history ending.Well status granted cause is = inl is
   completes_ran o w history ending.Faulted status granted cause is = absurd (omega (arith, granted.shelf_quiet.0, granted.shelf_quiet.1, cause.1.ended, cause.1.rose))
   completes_ran o w history ending.Damaged status granted (a, runs) is =
-      let s = said o a.name IsOpenable (HasRunOn state a.lines a.workers a.turns history ending.Damaged) (can o w (run a.name a.workers a.turns) granted a.asked).0 runs.disk in
+      let s = said o a.name IsOpenable (HasRunOn state runs.sizes a.lines a.workers a.turns history ending.Damaged) (can o w (run a.name a.workers a.turns) granted a.asked).0 runs.disk in
       let whole = s.5.headline s.2 in
       let never : true ≡ false = sym s.5.ended.1 ∙ whole.4.served.no_page in
       cc

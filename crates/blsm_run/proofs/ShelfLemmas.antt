@@ -3,11 +3,14 @@ use Rattle.std.proofs.Common.{◌≡◌, ◌≢◌, ℕ, ◌+◌, ◌-◌, ◌^�
 use Rattle.std.proofs.lemmas.Result.{IfOk-at_ok}
 use Rattle.refusal.specs.Count.{HasRisen, HasRisenBy}
 use Rattle.disk_trait.specs.Disk.{DiskState, TellsFaultsBy}
+use Rattle.disk_trait.specs.Moments.{LeavesOnly}
 use Rattle.disk_trait.specs.Shelf.{ShelfState, TakesOut, PutsBack, IsFreshCount, KeepsDisks}
 use Rattle.blsm_model.specs.Geometry.{file_length}
 use Rattle.blsm_model.specs.Sizes.{Sizes}
 use Rattle.blsm_model.specs.declared.history.Line.{Line}
 use Rattle.blsm_model.specs.declared.room.Room.{Room}
+use Rattle.recover_open.specs.Opening.{HasLengthOf}
+use Rattle.tree_reading.specs.First.{IsOfFile}
 use Rattle.tree_reading.specs.Reading.{HasLooked, IsWhy, at_superblock, within, reading_calls}
 use Rattle.tree_reading.specs.Report.{IsReportOf}
 use Rattle.tree_reading.specs.declared.found.Unreadable.{Unreadable}
@@ -19,7 +22,7 @@ use Rattle.recover_open.specs.declared.making.NotMade.TheVariants as not_made
 use Rattle.tree_session.specs.Faults.{faults_told}
 use Rattle.store_run.specs.declared.run.Finished.{Finished}
 use Rattle.store_run.specs.Headline.{Headline}
-use Rattle.tree_session.specs.Lines.{HasRoomFor}
+use Rattle.store_trial.specs.Trial.{IsRoomOf}
 use Rattle.store_run.specs.Run.{AreCounted, CameToEnd, IsEnding, IsRunOf, run_of}
 use Rattle.blsm_run.specs.Outcome.{refusal_of_making, refusal_of_store}
 use Rattle.blsm_run.specs.Outside.{HasRisenOnce, IsQuietCount, OfTheDisk}
@@ -112,20 +115,21 @@ module _ {D : Type 0} (state : D → DiskState) (name : List ℕ) (old mid new :
 
   -- ---- running
 
-  pub ran : (lines : List Line) (workers turns : ℕ) (finished : Finished) (room : Room) → HasRoomFor room lines → (sizes : Sizes) × IsRunOf sizes lines workers turns (run_of finished) → CameToEnd workers turns (run_of finished) → AreCounted (run_of finished) (state disk) (state last)
+  pub ran : (lines : List Line) (workers turns : ℕ) (finished : Finished) (room : Room) → IsRoomOf room lines → (sizes : Sizes) × HasLengthOf sizes (state disk) × IsRunOf sizes lines workers turns (run_of finished) → CameToEnd workers turns (run_of finished) → AreCounted (run_of finished) (state disk) (state last)
       → IsEnding finished.ending (run_of finished) (state last).faults → StaysWithin (state disk) (state last)
       → (IsTrue (state disk).is_honest → (sizes : Sizes) × IsRunOf sizes lines workers turns (run_of finished) × Headline state sizes lines workers turns (run_of finished) room (state disk) (state last))
       → RunsOnShelf state name lines workers turns old new (Ok finished)
   ran lines workers turns finished room has_room printed came counted ended inside headline = record {
     sizes = printed.0;
-    printed = printed.1;
+    printed = printed.2;
     came = came;
     stood = stood;
     disk =
-        of_the_disk (HasRunOn state lines workers turns (run_of finished) finished.ending) (record {
+        of_the_disk (HasRunOn state printed.0 lines workers turns (run_of finished) finished.ending) (record {
           counted = counted;
           ended = ended;
           within = inside;
+          long = printed.1;
           headline = λ honest. let said = headline honest in (said.0, room, has_room, said.1, said.2);
         });
     count = (state last).faults;
@@ -135,13 +139,14 @@ module _ {D : Type 0} (state : D → DiskState) (name : List ℕ) (old mid new :
   }
 
   pub not_run : (lines : List Line) (workers turns : ℕ) (why : Unreadable) (result : Result Finished Unreadable) → result ≡ Err why → (IsTrue (state disk).is_honest → IsWhy why (state disk).bytes)
-      → LeavesClosed (state disk) (state last) → (state last).faults ≤ (state disk).faults + 1
+      → LeavesClosed (state disk) (state last) → (IsTrue (state disk).is_honest → IsOfFile why → LeavesOnly (state disk) (state last) (state disk).images)
+      → (state last).faults ≤ (state disk).faults + 1
       → TellsFaultsBy (Err unreadable.Fault) result (state disk) (state last) → RunsOnShelf state name lines workers turns old new (Err (refusal_of_store why))
-  not_run lines workers turns unreadable.NotAStore result is because leaves once tells = was_calm (WasRefused unreadable.NotAStore) (tells.stands (λ wrong. cc)) (record { because = because; leaves = leaves })
-  not_run lines workers turns (unreadable.Damaged place) result is because leaves once tells = was_calm (WasRefused (unreadable.Damaged place)) (tells.stands (λ wrong. cc)) (record { because = because; leaves = leaves })
-  not_run lines workers turns (unreadable.Worn version) result is because leaves once tells = was_calm (WasRefused (unreadable.Worn version)) (tells.stands (λ wrong. cc)) (record { because = because; leaves = leaves })
-  not_run lines workers turns unreadable.Fault result is because leaves once tells = has_failed LeavesClosed (tells.failed is) once leaves
-  not_run lines workers turns unreadable.NoMemory result is because leaves once tells = was_calm (WasRefused unreadable.NoMemory) (tells.stands (λ wrong. cc)) (record { because = because; leaves = leaves })
+  not_run lines workers turns unreadable.NotAStore result is because leaves spares once tells = was_calm (WasRefused unreadable.NotAStore) (tells.stands (λ wrong. cc)) (record { because = because; leaves = leaves; spares = spares })
+  not_run lines workers turns (unreadable.Damaged place) result is because leaves spares once tells = was_calm (WasRefused (unreadable.Damaged place)) (tells.stands (λ wrong. cc)) (record { because = because; leaves = leaves; spares = spares })
+  not_run lines workers turns (unreadable.Worn version) result is because leaves spares once tells = was_calm (WasRefused (unreadable.Worn version)) (tells.stands (λ wrong. cc)) (record { because = because; leaves = leaves; spares = spares })
+  not_run lines workers turns unreadable.Fault result is because leaves spares once tells = has_failed LeavesClosed (tells.failed is) once leaves
+  not_run lines workers turns unreadable.NoMemory result is because leaves spares once tells = was_calm (WasRefused unreadable.NoMemory) (tells.stands (λ wrong. cc)) (record { because = because; leaves = leaves; spares = spares })
 
   -- ---- checking
 

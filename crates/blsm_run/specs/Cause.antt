@@ -2,6 +2,7 @@
 use Rattle.std.specs.Prelude.{◌≡◌, ◌⊎◌, ◌<◌, ◌≤◌, ℕ, true, false, Some, List, [], length, IfSome, Ok, Err}
 use Rattle.text_io.specs.Text.{LosesAtMost, LosesFront, LosesMoreThan}
 use Rattle.disk_trait.specs.Disk.{DiskState}
+use Rattle.disk_mem.specs.Faultless.{Faultless}
 use Rattle.blsm_model.specs.declared.history.Line.{Line}
 use Rattle.blsm_model.specs.Format.{most_script}
 use Rattle.blsm_model.specs.Sizes.{Sizes}
@@ -96,4 +97,4 @@ Cause state o no_memory = (WasNotRead o × HasNotFetched o.shelf o.shelf_after)
 Cause state o (made length) = (a : AsksToMake o) × MakesOnShelf state a.name a.sizes o.shelf o.shelf_after (Ok length)
 Cause state o (ran history end) = (a : AsksToRun o) × IsRunOnShelf state a.name a.lines a.workers a.turns history end o.shelf o.shelf_after
 Cause state o (checked report) = (a : AsksToCheck o) × ChecksOnShelf state a.name o.shelf o.shelf_after (Ok report)
-Cause state o (tried seed count history) = WasAsked o (trial seed count) × WasNotRead o × HasNotFetched o.shelf o.shelf_after × IsTrialOf seed count history
+Cause state o (tried seed count history) = WasAsked o (trial seed count) × WasNotRead o × HasNotFetched o.shelf o.shelf_after × (disk : Faultless) × IsTrialOf seed count history disk

@@ -14,20 +14,21 @@ use Rattle.blsm_model.specs.declared.key.Key.{Key}
 use Rattle.blsm_model.specs.declared.room.Room.{Room}
 use Rattle.blsm_model.specs.declared.row.Value.{Value}
 use Rattle.store_file.specs.Layout.{superblock_length}
+use Rattle.store_trial.specs.Trial.{IsRoomOf}
 use Rattle.store_file.specs.Making.{LeavesOldOr, making_calls}
 use Rattle.tree_file.specs.Tree.{ReadsAsMap}
+use Rattle.tree_reading.specs.First.{IsOfFile}
 use Rattle.tree_reading.specs.Reading.{HasLooked, IsWhy, reading_calls}
 use Rattle.tree_reading.specs.Report.{IsReportOf}
 use Rattle.tree_reading.specs.declared.found.Unreadable.{Unreadable}
 use Rattle.tree_reading.specs.declared.found.Unreadable.TheVariants as unreadable
 use Rattle.tree_reading.specs.declared.report.Report.{Report}
 use Rattle.recover_open.specs.Making.{IsEmptyOrNone, IsMadeEmpty, WasNotEmpty}
-use Rattle.recover_open.specs.Opening.{KeepsMapOf, ReadsAsNone}
+use Rattle.recover_open.specs.Opening.{HasLengthOf, KeepsMapOf, ReadsAsNone}
 use Rattle.tree_session.specs.Faults.{Reaches, faults_told}
 use Rattle.store_run.specs.declared.run.Ending.{Ending}
 use Rattle.store_run.specs.declared.run.Finished.{Finished}
 use Rattle.store_run.specs.Headline.{Headline}
-use Rattle.tree_session.specs.Lines.{HasRoomFor}
 use Rattle.store_run.specs.Run.{Run, AreCounted, CameToEnd, IsEnding, IsRunOf, run_of}
 use Rattle.blsm_run.specs.declared.outcome.Refusal.{Refusal}
 use Rattle.blsm_run.specs.declared.outcome.Refusal.TheVariants as refusal
@@ -94,14 +95,18 @@ pub record LeavesClosed (first last : DiskState) : Type 0 where
 pub record WasRefused (why : Unreadable) (first last : DiskState) : Type 0 where
   pub because : IsTrue first.is_honest → IsWhy why first.bytes
   pub leaves : LeavesClosed first last
+  -- where the file is why, each image of each moment is one from before
+  pub spares : IsTrue first.is_honest → IsOfFile why → LeavesOnly first last first.images
 
--- A script was run over the disk, beside so many merge workers with so many turns each. On an honest one the headline holds, from a state with room
--- for each caller's lines.
-pub record HasRunOn {D : Type 0} (state : D → DiskState) (lines : List Line) (workers turns : ℕ) (run : Run) (ending : Ending) (first last : DiskState) : Type 0 where
+-- A script was run over the disk, beside so many merge workers with so many turns each, with these sizes. On an honest one the headline holds, from a
+-- state with room for just each caller's lines.
+pub record HasRunOn {D : Type 0} (state : D → DiskState) (sizes : Sizes) (lines : List Line) (workers turns : ℕ) (run : Run) (ending : Ending) (first last : DiskState) : Type 0 where
   pub counted : AreCounted run first last
   pub ended : IsEnding ending run last.faults
   pub within : StaysWithin first last
-  pub headline : IsTrue first.is_honest → (sizes : Sizes) × (room : Room) × HasRoomFor room lines × IsRunOf sizes lines workers turns run × Headline state sizes lines workers turns run room first last
+  -- the file was as long as a store of these sizes is
+  pub long : HasLengthOf sizes first
+  pub headline : IsTrue first.is_honest → (sizes : Sizes) × (room : Room) × IsRoomOf room lines × IsRunOf sizes lines workers turns run × Headline state sizes lines workers turns run room first last
 
 -- A script was run over the disk of this name of a shelf.
 pub record IsRunOnShelf {D : Type 0} (state : D → DiskState) (name : List ℕ) (lines : List Line) (workers turns : ℕ) (run : Run) (ending : Ending) (old new : ShelfState D) : Type 0 where
@@ -112,7 +117,7 @@ pub record IsRunOnShelf {D : Type 0} (state : D → DiskState) (name : List ℕ)
   pub came : CameToEnd workers turns run
   -- one stood there
   pub stood : IsTrue old.tells_disks → IsSome (old.disk_at name)
-  pub disk : OfTheDisk state name old new (HasRunOn state lines workers turns run ending)
+  pub disk : OfTheDisk state name old new (HasRunOn state sizes lines workers turns run ending)
   -- it ended by the disk's own count of faults, by which the shelf's rose, and by what was found
   pub count : ℕ
   pub ended : IsEnding ending run count

@@ -90,7 +90,7 @@ fn carry_out<R: Threads + Wait + Sync, S: Source, H: Shelf, G: Gate + Sync>(
         Request::Trial { seed, count } => Ok(Answer::Tried(
             seed,
             count,
-            try_seed(alloc, seed, count)?,
+            try_seed(alloc, seed, count)?.1,
         )),
     }
 }

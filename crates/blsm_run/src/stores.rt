@@ -2,7 +2,8 @@
 ghost use Rattle.std.specs.Prelude.{◌+◌, ◌≤◌, false, sum, true};
 ghost use Rattle.blsm_model.specs.Format.{callers, most_entries, most_rows_asked};
 ghost use Rattle.tree_machine.specs.Machine.{seats};
-ghost use Rattle.tree_session.specs.Lines.{AreRunnable, HasRoomFor};
+ghost use Rattle.store_trial.specs.Trial.{IsRoomOf};
+ghost use Rattle.tree_session.specs.Lines.{AreRunnable};
 ghost use Rattle.blsm_run.specs.Outside.{HasFetched};
 ghost use Rattle.blsm_run.specs.Stores.{ChecksOnShelf, MakesOnShelf, RunsOnShelf};
 
@@ -50,7 +51,7 @@ pub(crate) fn run_on_shelf<R: Threads + Wait + Sync, H: Shelf, G: Gate + Sync>(
     requires entries { sum room.entries ≤ most_entries }
     requires rows { sum room.rows ≤ most_rows_asked }
     requires runnable { AreRunnable lines.now }
-    requires room { HasRoomFor room lines.now }
+    requires room { IsRoomOf room lines.now }
     requires few { callers + workers ≤ seats }
     ensures fetched { HasFetched name.now false (H.state shelf.old) (H.state shelf.new) }
     ensures runs { RunsOnShelf H.D.state name.now lines.now workers turns (H.state shelf.old) (H.state shelf.new) result }

@@ -9,12 +9,13 @@ use Rattle.blsm_model.specs.declared.history.Why.{Why}
 use Rattle.blsm_model.specs.declared.history.Why.TheVariants as why
 use Rattle.core_pace.specs.Opening.{IsOpened}
 use Rattle.disk_trait.specs.Disk.{DiskState, TellsFaultsBy}
-use Rattle.disk_trait.specs.Moments.{goes_on_run, syncs_later_run}
-use Rattle.recover_open.specs.Opening.{StaysInside}
+use Rattle.disk_trait.specs.Moments.{LeavesOnly, goes_on_run, syncs_later_run}
+use Rattle.recover_open.specs.Opening.{SparesImages, StaysInside}
 use Rattle.refusal.specs.Count.{HasRisen, HasRisenBy}
 use Rattle.seat_book.specs.State.{BookState}
 use Rattle.store_file.specs.Layout.{superblock_length}
 use Rattle.tree_core.specs.Core.{CoreState, IsCore}
+use Rattle.tree_reading.specs.First.{IsOfFile}
 use Rattle.tree_reading.specs.declared.found.Unreadable.{Unreadable}
 use Rattle.tree_session.specs.Faults.{NamesCount, Reaches, faults_told}
 use Rattle.core_moves.specs.Held.{charge_in}
@@ -110,6 +111,10 @@ refused_faults {T} why first last faults = record {
 
     err_same : refusal_of T why ≡ refusal_of T Unreadable.Fault → why ≡ Unreadable.Fault
     err_same same = cc
+
+-- a refusal for what the file is was none by a fault
+pub spares_of_file : (why : Unreadable) (first last : DiskState) → SparesImages why first last → IsOfFile why → LeavesOnly first last first.images
+spares_of_file why first last spares of_file = spares (λ same. subst IsOfFile same of_file)
 
 -- Memory was refused for the lock: nothing was done since the opening, which failed in no call.
 pub refused_calm : {T : Type 0} (first last : DiskState) → last.faults ≡ first.faults → TellsFaultsBy {R = Result T Unreadable} (Err Unreadable.Fault) (Err Unreadable.NoMemory) first last

@@ -18,6 +18,7 @@ use Rattle.blsm_model.specs.declared.op.Write.{Write}
 use Rattle.blsm_model.specs.declared.row.Value.{Value}
 use Rattle.core_moves.specs.declared.held.Held.{Held}
 use Rattle.core_moves.specs.Held.{charge_in}
+use Rattle.core_lists.specs.Standing.{catalogue_of}
 use Rattle.core_lists.specs.Shown.{WeighsWithin, doubted, lanes_weight, most_worked}
 use Rattle.core_lists.proofs.FileWeights.{running_is_sure}
 use Rattle.disk_trait.specs.Disk.{DiskState, GoesOn}
@@ -25,15 +26,16 @@ use Rattle.disk_trait.specs.Moments.{IsTimed}
 use Rattle.paced_tree.specs.Kept.{paced_all}
 use Rattle.pacing.specs.Kept.{most_taken}
 use Rattle.pacing.specs.Pace.{Pace}
-use Rattle.recover_open.specs.Opening.{KeepsMapOf, OpensAs}
+use Rattle.recover_open.specs.Opening.{KeepsMapOf, OpensAs, most_opening_calls}
+use Rattle.tree_settling.specs.Settling.{CallsFew}
 use Rattle.record_delta.specs.Entries.{Entries, entries_weight}
 use Rattle.seat_book.specs.Seats.{turns_in}
 use Rattle.seat_book.specs.State.{BookState, book_of, totals_in}
 use Rattle.tree_core.specs.Core.{CoreState}
 use Rattle.tree_core.specs.Holds.{StandsWhole}
-use Rattle.tree_core.specs.Standing.{StandsFor}
+use Rattle.tree_core.specs.Standing.{RunsOver, StandsFor}
 use Rattle.tree_core.specs.Steps.{IsPlayed, StandsSince}
-use Rattle.tree_file.specs.Tree.{Tree, HoldsTree, components_weight, lists_of}
+use Rattle.tree_file.specs.Tree.{HoldsTree, components_weight}
 use Rattle.tree_machine.specs.declared.step.Step.{Step}
 use Rattle.tree_machine.specs.Laws.{StepKeepsOpening}
 use Rattle.tree_machine.specs.Machine.{Catalogue, Machine, WorkSoFar, charge, no_work, opened, seats, totals}
@@ -46,7 +48,7 @@ use Rattle.core_chain.specs.Quanta.{helps_in}
 use Rattle.core_chain.specs.Start.{steps_of}
 use Rattle.core_chain.specs.Steps.{ChainIsSteps, outcomes_in}
 use Rattle.gear_sched.specs.Gears.{GearState}
-use Rattle.store_run.specs.Headline.{EndsWithin, Headline, IsReached, IsServed}
+use Rattle.store_run.specs.Headline.{EndsWithin, Headline, HoldsState, IsReached, IsServed}
 use Rattle.store_run.specs.Run.{HaveEnded, IsRunInOrder, IsRunOf, Run, finds_damage, run_at}
 use Rattle.store_run.proofs.CrashLemmas.{leaves_history, shown_now}
 use Rattle.alone_run.specs.Alone.{RunsAlone}
@@ -151,9 +153,19 @@ ends_of keeps damaged state opening sizes c1 c2 catalogue faults room pace steps
 pub record Session {D : Type 0} (state : D → DiskState) (room : Room) (lines : List Line) (first : DiskState) (old new : CoreState D) : Type 0 where
   pub opens : OpensAs state room old first.bytes
   pub goes_on : GoesOn first (state old.disk)
+  pub calls : CallsFew (most_opening_calls old.held.runs.sizes) first (state old.disk)
   pub calm : (state old.disk).faults ≡ first.faults
   pub ran : old.held.book.stopped ≡ None
   pub run : HasRun state lines old new
+
+-- what a core that runs stands for is in its file
+state_in : (held : Held) (m : Machine) (pace : Pace) (d : DiskState) (sizes : Sizes) → held.runs.sizes ≡ sizes → RunsOver held m pace d → HoldsState sizes m d.bytes
+state_in held m pace d sizes same over = record {
+  tree = over.tree;
+  holds = subst (λ (s : Sizes). HoldsTree s over.tree d.bytes) same over.over.stands.reads;
+  lists = over.holds.lists;
+  catalogue = over.holds.catalogue ∙ ap catalogue_of (sym over.over.are_of.catalogue);
+}
 
 reached_of : {D : Type 0} (state : D → DiskState) (sizes : Sizes) (opening : List (Key × Value)) (c1 c2 : Entries) (catalogue : Catalogue) (faults : ℕ) (room : Room) (pace : Pace) (steps : List Step) (old new : CoreState D)
     → old.held.runs.sizes ≡ sizes → old.held.book.stopped ≡ None → StandsFor opening old.held (opened sizes c1 c2 catalogue faults room) pace (state old.disk) → faults ≡ (state old.disk).faults
@@ -166,9 +178,7 @@ reached_of state sizes opening c1 c2 catalogue faults room pace steps old new of
       c1 = c1;
       c2 = c2;
       catalogue = catalogue;
-      tree = over.tree;
-      holds = subst (λ (s : Sizes). HoldsTree s over.tree (state old.disk).bytes) of_sizes over.over.stands.reads;
-      begins = over.holds.lists;
+      begins = state_in old.held first pace (state old.disk) sizes of_sizes over;
       values = λ key. stands.paced.stands.values key ∙ ap (λ (ws : List Write). value_at ws key) (append-nil (puts_of opening));
       weigh = opened_charge sizes c1 c2 catalogue faults room old.held stands.charge_is;
       made = play.made;
@@ -182,10 +192,8 @@ reached_of state sizes opening c1 c2 catalogue faults room pace steps old new of
 
 -- what stands in the end, if the store runs
 stands_of : (opening : List (Key × Value)) (held : Held) (first m : Machine) (pace : Pace) (d : DiskState) (sizes : Sizes) → held.runs.sizes ≡ sizes → Ends opening held first m pace d → held.book.stopped ≡ None
-    → (tree : Tree) × HoldsTree sizes tree d.bytes × (m.lists ≡ lists_of tree)
-stands_of opening held first m pace d sizes same ends runs =
-    let over = ends.stands.runs runs in
-    (over.tree, subst (λ (s : Sizes). HoldsTree s over.tree d.bytes) same over.over.stands.reads, over.holds.lists)
+    → HoldsState sizes m d.bytes
+stands_of opening held first m pace d sizes same ends runs = state_in held m pace d sizes same (ends.stands.runs runs)
 
 abbrev machine_of : {D : Type 0} → (D → DiskState) → Room → CoreState D → Entries → Entries → Catalogue → Machine
 machine_of state room core c1 c2 catalogue = opened core.held.runs.sizes c1 c2 catalogue (state core.disk).faults room
@@ -212,6 +220,8 @@ served_from keeps damaged {D} state room lines first old new c1 c2 catalogue pac
       replies = replies_of opens.pairs new.held machine _ _ after sizes (charge_in old.held) since.sizes weigh ends;
       no_page = no_page_of opens.pairs new.held machine _ _ after (charge_in old.held) ends;
       opened = old.disk;
+      starts = session.goes_on;
+      calls = session.calls;
       goes_on = since.goes_on;
       calm = session.calm;
       reached = reached_of state sizes opens.pairs c1 c2 catalogue before.faults room pace steps old new refl session.ran whole.stands refl play;

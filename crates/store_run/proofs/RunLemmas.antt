@@ -20,6 +20,7 @@ use Rattle.core_moves.specs.declared.held.Held.{Held}
 use Rattle.core_moves.specs.Held.{charge_in}
 use Rattle.core_pace.specs.Opening.{IsOpened}
 use Rattle.disk_trait.specs.Disk.{DiskState}
+use Rattle.recover_open.specs.Opening.{HasLengthOf}
 use Rattle.seat_book.specs.State.{BookState, totals_in}
 use Rattle.tree_core.specs.Core.{CoreState, IsCore}
 use Rattle.tree_core.specs.Steps.{StandsSince}
@@ -168,9 +169,9 @@ is_run_of state lines workers turns charge old new run helped = record {
 
 -- so of what is printed
 pub printed_of : {D : Type 0} (state : D → DiskState) (lines : List Line) (workers turns : ℕ) (old new : CoreState D) → HasRun state lines old new → RunsAll state lines workers turns old new → (run : Run) → run ≡ run_at (charge_in old.held) new.held
-    → (sizes : Sizes) × IsRunOf sizes lines workers turns run
-printed_of state lines workers turns old new has runs run is =
-    (old.held.runs.sizes, subst (λ (r : Run). IsRunOf old.held.runs.sizes lines workers turns r) (sym is) (is_run_of state lines workers turns (charge_in old.held) old new has (workers_took state lines workers turns old new runs)))
+    → (first : DiskState) → HasLengthOf old.held.runs.sizes first → (sizes : Sizes) × HasLengthOf sizes first × IsRunOf sizes lines workers turns run
+printed_of state lines workers turns old new has runs run is first long =
+    (old.held.runs.sizes, long, subst (λ (r : Run). IsRunOf old.held.runs.sizes lines workers turns r) (sym is) (is_run_of state lines workers turns (charge_in old.held) old new has (workers_took state lines workers turns old new runs)))
 
 -- ---- a core that was just opened
 

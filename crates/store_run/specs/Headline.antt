@@ -36,8 +36,10 @@ use Rattle.tree_machine.specs.Plays.{played}
 use Rattle.tree_machine.specs.Steps.{Outcome}
 use Rattle.tree_file.specs.Tree.{Tree, HoldsTree, ReadsAsMap, components_weight, lists_of}
 use Rattle.core_lists.specs.Shown.{ShowsHistory, doubted, lanes_weight}
+use Rattle.core_lists.specs.Standing.{catalogue_of}
 use Rattle.tree_reading.specs.Damage.{most_version}
-use Rattle.recover_open.specs.Opening.{KeepsMapOf, weight_of_tree}
+use Rattle.recover_open.specs.Opening.{KeepsMapOf, most_opening_calls, weight_of_tree}
+use Rattle.tree_settling.specs.Settling.{CallsFew}
 use Rattle.core_chain.specs.Quanta.{helps_in}
 use Rattle.core_chain.specs.Steps.{AllMay, AreTimed, RestOnceOver, clock_after, outcomes_in}
 use Rattle.store_run.specs.Run.{HaveEnded, Run, finds_damage}
@@ -49,16 +51,21 @@ pub record IsStoreWith (sizes : Sizes) (opening : List (Key × Value)) (file : L
   pub holds : HoldsTree sizes image file
   pub taken : image.catalogue.version ≤ most_version
 
+-- The file holds this state of the machine: a tree of its lists, whose catalogue has its version and its lanes.
+pub record HoldsState (sizes : Sizes) (m : Machine) (file : List ℕ) : Type 0 where
+  pub tree : Tree
+  pub holds : HoldsTree sizes tree file
+  pub lists : m.lists ≡ lists_of tree
+  pub catalogue : m.catalogue ≡ catalogue_of tree.catalogue
+
 -- The end is reached from the opening by steps of the tree as a machine over lists, with all that is printed: the replies, so a refusal for size
 -- names the charge that stood, the quanta and the totals. A step fails only where the disk's count of faults tells it.
 pub record IsReached (sizes : Sizes) (opening : List (Key × Value)) (run : Run) (room : Room) (file : List ℕ) (faults_before faults_after : ℕ) : Type 0 where
   pub c1 : Entries
   pub c2 : Entries
   pub catalogue : Catalogue
-  -- it begins with the components that the file has, which are the map and weigh what is printed first
-  pub tree : Tree
-  pub holds : HoldsTree sizes tree file
-  pub begins : (opened sizes c1 c2 catalogue faults_before room).lists ≡ lists_of tree
+  -- it begins with the components and the catalogue that the file has, which are the map and weigh what is printed first
+  pub begins : HoldsState sizes (opened sizes c1 c2 catalogue faults_before room) file
   pub values : (key : Key) → value_in (opened sizes c1 c2 catalogue faults_before room).lists key ≡ value_at (puts_of opening) key
   pub weigh : entries_weight c1 + entries_weight c2 ≡ run.charge
   pub made : List (Step × Outcome)
@@ -94,14 +101,16 @@ pub record IsServed {D : Type 0} (state : D → DiskState) (sizes : Sizes) (run 
   -- the sequential map's replies, or refusals by name; none tells of a page
   pub replies : IsLegal (limits_of sizes run.charge) opening run.entries
   pub no_page : finds_damage run ≡ false
-  -- the opening failed in no call, and from there the end is reached
+  -- the opening made few calls, none of which failed, and from there the end is reached
   pub opened : D
+  pub starts : GoesOn first (state opened)
+  pub calls : CallsFew (most_opening_calls sizes) first (state opened)
   pub goes_on : GoesOn (state opened) last
   pub calm : (state opened).faults ≡ first.faults
   pub reached : IsReached sizes opening run room (state opened).bytes (state opened).faults last.faults
   pub within : EndsWithin sizes run last.bytes
-  -- unless a fault stopped the store, the disk has just the components and the tables to which the steps led
-  pub stands : run.totals.stopped ≡ None → (tree : Tree) × HoldsTree sizes tree last.bytes × (reached.end.lists ≡ lists_of tree)
+  -- unless a fault stopped the store, the disk has just the components, the tables and the catalogue to which the steps led
+  pub stands : run.totals.stopped ≡ None → HoldsState sizes reached.end last.bytes
 
 -- The moments of the steps, of which one is one hold of the lock: once the first n had ended, each image shows all entries that they had noted.
 pub record HaveMoments (sizes : Sizes) (opening : List (Key × Value)) (run : Run) (begin : Machine) (made : List (Step × Outcome)) (opened last : DiskState) : Type 0 where

@@ -9,8 +9,9 @@ ghost use Rattle.blsm_model.specs.declared.row.Value.{Value};
 ghost use Rattle.store_file.specs.Layout.{superblock_length};
 ghost use Rattle.tree_file.specs.Tree.{ReadsAsMap};
 ghost use Rattle.tree_machine.specs.Machine.{seats};
+ghost use Rattle.tree_reading.specs.First.{IsOfFile};
 ghost use Rattle.tree_reading.specs.Reading.{IsWhy};
-ghost use Rattle.recover_open.specs.Opening.{KeepsMapOf, ReadsAsNone};
+ghost use Rattle.recover_open.specs.Opening.{HasLengthOf, KeepsMapOf, ReadsAsNone};
 ghost use Rattle.tree_session.specs.Faults.{Reaches};
 ghost use Rattle.tree_session.specs.Lines.{AreRunnable, HasRoomFor};
 ghost use Rattle.store_run.specs.Run.{AreCounted, CameToEnd, IsEnding, IsRunInOrder, IsRunOf, run_at, run_of};
@@ -91,8 +92,8 @@ pub fn run_over<R: Threads + Wait + Sync, D: Disk + Send + Drop, G: Gate + Sync>
     requires room { HasRoomFor room lines.now }
     requires few { callers + workers ≤ seats }
 
-    // On every disk: what is printed, how faults are told, and that no call ends behind the file or the superblock.
-    ensures ran { IfOk result.1 (λ finished. (sizes : Sizes) × IsRunOf sizes lines.now workers turns (run_of finished)) }
+    // On every disk: what is printed, for sizes that the file's length is of, how faults are told, and that no call ends behind the file or the superblock.
+    ensures ran { IfOk result.1 (λ finished. (sizes : Sizes) × HasLengthOf sizes (D.state disk) × IsRunOf sizes lines.now workers turns (run_of finished)) }
     ensures ended { IfOk result.1 (λ finished. CameToEnd workers turns (run_of finished)) }
     ensures counted { IfOk result.1 (λ finished. AreCounted (run_of finished) (D.state disk) (D.state result.0)) }
     ensures ending { IfOk result.1 (λ finished. IsEnding finished.ending (run_of finished) (D.state result.0).faults) }
@@ -107,7 +108,9 @@ pub fn run_over<R: Threads + Wait + Sync, D: Disk + Send + Drop, G: Gate + Sync>
     ensures refused { IsTrue (D.state disk).is_honest → IfErr result.1 (λ why. IsWhy why (D.state disk).bytes) }
 
     // Where no command was done, each image of each moment is one from before or reads as the map that the file read as; where it read as none, one
-    // from before.
+    // from before. Where the file is why it wasn't opened, each is one from before.
+    ensures spares { IsTrue (D.state disk).is_honest
+        → IfErr result.1 (λ why. IsOfFile why → LeavesOnly (D.state disk) (D.state result.0) (D.state disk).images) }
     ensures keeps { (sizes : Sizes) (pairs : List (Key × Value)) → IsTrue (D.state disk).is_honest → ReadsAsMap sizes pairs (D.state disk).bytes
         → IfErr result.1 (λ why. KeepsMapOf sizes pairs (D.state disk) (D.state result.0)) }
     ensures untouched { IsTrue (D.state disk).is_honest → ReadsAsNone (D.state disk).bytes

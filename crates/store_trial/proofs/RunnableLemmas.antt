@@ -13,6 +13,7 @@ use Rattle.blsm_model.specs.declared.room.Room.{Room}
 use Rattle.script_text.specs.Grammar as grammar
 use Rattle.script_text.specs.Grammar.{IsAllowed}
 use Rattle.script_text.specs.Script as script
+use Rattle.store_trial.specs.Trial.{IsRoomOf}
 use Rattle.tree_session.specs.Lines.{AreRunnable, HasRoomFor, IsCommand, IsRunnable, rows_of}
 
 command : (op : Op) → grammar.IsCommand op → IsCommand op
@@ -49,9 +50,18 @@ all_give : (ops : List Op) → sum_by rows_of ops ≡ sum_by grammar.rows_of ops
 all_give [] = refl
 all_give (op ∷ ops) = omega (arith, sum_by-cons rows_of op ops, sum_by-cons grammar.rows_of op ops, gives op, all_give ops)
 
+-- the room that the script tells is that of its lines
+pub room_is : (room : Room) (lines ran : List Line) → ran ≡ lines → ((seat : ℕ) → seat < callers → slice_index room.entries seat ≡ length (lines_of seat lines))
+    → ((seat : ℕ) → seat < callers → slice_index room.rows seat ≡ script.rows_asked seat lines) → IsRoomOf room ran
+room_is room lines ran same entries rows = subst (λ (ls : List Line). IsRoomOf room ls) (sym same) (record { entries = entries; rows = rows })
+
 pub room_for : (room : Room) (lines ran : List Line) → ran ≡ lines → ((seat : ℕ) → seat < callers → slice_index room.entries seat ≡ length (lines_of seat lines))
     → ((seat : ℕ) → seat < callers → slice_index room.rows seat ≡ script.rows_asked seat lines) → HasRoomFor room ran
 room_for room lines ran same entries rows = subst (λ (ls : List Line). HasRoomFor room ls) (sym same) (record {
   entries = λ seat below. omega (arith, entries seat below);
   rows = λ seat below. omega (arith, rows seat below, all_give (lines_of seat lines));
 })
+
+-- and there is room for them in it
+pub room_of_lines : (room : Room) (lines : List Line) → IsRoomOf room lines → HasRoomFor room lines
+room_of_lines room lines is = room_for room lines lines refl is.entries is.rows

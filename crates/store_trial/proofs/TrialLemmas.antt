@@ -3,8 +3,6 @@ use Rattle.std.proofs.Common.{◌≡◌, ◌≤◌, ◌↔◌, ◌∙◌, ◌||�
 use Rattle.std.proofs.Math.Seq.{take-nil}
 use Rattle.std.specs.List.{list_any}
 use Rattle.disk_trait.specs.Disk.{DiskState, TellsFaultsBy}
-use Rattle.blsm_model.specs.Geometry.{limits_of}
-use Rattle.blsm_model.specs.Legal.{IsLegal}
 use Rattle.blsm_model.specs.Sizes.{Sizes, default_sizes}
 use Rattle.blsm_model.specs.declared.history.Entry.{Entry}
 use Rattle.blsm_model.specs.declared.history.Line.{Line}
@@ -14,7 +12,7 @@ use Rattle.blsm_model.specs.declared.key.Key.{Key}
 use Rattle.blsm_model.specs.declared.room.Room.{Room}
 use Rattle.blsm_model.specs.declared.row.Value.{Value}
 use Rattle.record_delta.specs.Entries.{Entries, entries_weight, replayed}
-use Rattle.tree_file.specs.Tree.{Tree, HoldsTree, FitsSizes, ReadsAsMap, first_tree, lists_of, map_of_tree}
+use Rattle.tree_file.specs.Tree.{Tree, HoldsTree, FitsSizes, ReadsAsMap, first_tree, map_of_tree}
 use Rattle.disk_mem.specs.Faultless.{Faultless, faultless_state}
 use Rattle.recover_open.specs.Making.{IsEmptyStore}
 use Rattle.recover_open.specs.Opening.{weight_of_tree}
@@ -27,9 +25,9 @@ use Rattle.tree_reading.specs.First.{IsOfFile}
 use Rattle.tree_reading.specs.Reading.{IsWhy}
 use Rattle.tree_session.specs.Faults.{NamesCount}
 use Rattle.store_run.specs.Run.{AreCounted, IsRunInOrder, Run, run_of}
-use Rattle.store_run.specs.Headline.{EndsWithin, IsReached, IsServed}
+use Rattle.store_run.specs.Headline.{IsServed}
 use Rattle.store_run.specs.declared.run.Finished.{Finished}
-use Rattle.store_trial.specs.Trial.{IsFreshStore, IsTrialOf}
+use Rattle.store_trial.specs.Trial.{IsFreshStore, IsRoomOf, IsTrialOf}
 
 -- ---- the store was opened
 
@@ -79,40 +77,27 @@ none_behind : (a b : Bool) → a || b ≡ false → b ≡ false
 none_behind true b is = absurd (cc)
 none_behind false b is = is
 
--- the end is reached, and this file has just what the steps led to
-abbrev StandsIn : Sizes → List (Key × Value) → Run → Room → List ℕ → List ℕ → ℕ → ℕ → Type 0
-StandsIn sizes opening run room before file f g =
-    (reached : IsReached sizes opening run room before f g) × (tree : Tree) × HoldsTree sizes tree file × (reached.end.lists ≡ lists_of tree)
-
-at_sizes : (sizes : Sizes) (opening : List (Key × Value)) (run : Run) (room : Room) (before file : List ℕ) (f g : ℕ) → sizes ≡ default_sizes → opening ≡ [] → f ≡ 0 → g ≡ 0
-    → StandsIn sizes opening run room before file f g → StandsIn default_sizes [] run room before file 0 0
-at_sizes sizes opening run room before file f g s o fs gs stands =
-    subst (λ (n : ℕ). StandsIn default_sizes [] run room before file 0 n) gs
-    (subst (λ (n : ℕ). StandsIn default_sizes [] run room before file n g) fs
-    (subst (λ (pairs : List (Key × Value)). StandsIn default_sizes pairs run room before file f g) o
-    (subst (λ (z : Sizes). StandsIn z opening run room before file f g) s stands)))
-
-module _ {D : Type 0} (state : D → DiskState)
+module _
     (one_sizes : (a b : Sizes) (one other : Tree) (file : List ℕ) → HoldsTree a one file → HoldsTree b other file → a ≡ b)
     (one_tree : (sizes : Sizes) (one other : Tree) (file : List ℕ) → HoldsTree sizes one file → HoldsTree sizes other file → one ≡ other)
     (one_map : (sizes : Sizes) (tree : Tree) (pairs : List (Key × Value)) (file : List ℕ) → HoldsTree sizes tree file
     → ReadsAsMap sizes pairs file ↔ (FitsSizes sizes tree × (map_of_tree tree ≡ pairs)))
-    (seed count : ℕ) (lines : List Line) (run : Run) (room : Room) (first last : DiskState) (made : lines ≡ generated seed count)
-    (empty : IsEmptyStore default_sizes first.bytes) (none : first.faults ≡ 0) (still : last.faults ≡ 0) (counted : AreCounted run first last)
-    (sizes : Sizes) (printed : IsRunInOrder sizes lines run) (served : IsServed state sizes run room first last) where
+    (seed count : ℕ) (lines : List Line) (run : Run) (room : Room) (first last : Faultless) (made : lines ≡ generated seed count) (room_is : IsRoomOf room lines)
+    (fresh : IsFreshStore first) (still : last.faults ≡ 0) (counted : AreCounted run (faultless_state first) (faultless_state last))
+    (sizes : Sizes) (printed : IsRunInOrder sizes lines run) (served : IsServed faultless_state sizes run room (faultless_state first) (faultless_state last)) where
   sizes_are : sizes ≡ default_sizes
-  sizes_are = one_sizes sizes default_sizes served.found.image first_tree first.bytes served.found.holds empty
+  sizes_are = one_sizes sizes default_sizes served.found.image first_tree first.bytes served.found.holds fresh.empty
 
   opening_is : served.opening ≡ []
   opening_is =
       let reads = subst (λ (z : Sizes). ReadsAsMap z served.opening first.bytes) sizes_are served.found.reads in
-      let is = (one_map default_sizes first_tree served.opening first.bytes empty).0 reads in
+      let is = (one_map default_sizes first_tree served.opening first.bytes fresh.empty).0 reads in
       sym is.1
 
   image_is : served.found.image ≡ first_tree
   image_is =
       one_tree default_sizes served.found.image first_tree first.bytes
-      (subst (λ (z : Sizes). HoldsTree z served.found.image first.bytes) sizes_are served.found.holds) empty
+      (subst (λ (z : Sizes). HoldsTree z served.found.image first.bytes) sizes_are served.found.holds) fresh.empty
 
   -- what the file had before it was opened weighs nothing
   weightless : weight_of_tree served.found.image ≡ 0
@@ -125,37 +110,28 @@ module _ {D : Type 0} (state : D → DiskState)
   never_stopped : run.totals.stopped ≡ None
   never_stopped =
       let by_page = none_behind (list_any (λ (e : Entry). is_damaged e.reply) run.entries) (is_by_page run.totals.stopped) served.no_page in
-      none_stops run.totals.stopped first last counted.stop by_page none still
+      none_stops run.totals.stopped (faultless_state first) (faultless_state last) counted.stop by_page fresh.faults still
 
-  legal : IsLegal (limits_of default_sizes 0) [] run.entries
-  legal =
-      subst (λ (n : ℕ). IsLegal (limits_of default_sizes n) [] run.entries) nothing
-      (subst (λ (pairs : List (Key × Value)). IsLegal (limits_of default_sizes run.charge) pairs run.entries) opening_is
-      (subst (λ (z : Sizes). IsLegal (limits_of z run.charge) served.opening run.entries) sizes_are served.replies))
+  abbrev IsServedAt : Sizes → Type 0
+  IsServedAt z = (was : IsServed faultless_state z run room (faultless_state first) (faultless_state last)) × (was.opening ≡ [])
 
-  at_end : StandsIn default_sizes [] run room (state served.opened).bytes last.bytes 0 0
-  at_end =
-      let there = served.stands never_stopped in
-      at_sizes sizes served.opening run room (state served.opened).bytes last.bytes (state served.opened).faults last.faults sizes_are opening_is (served.calm ∙ none) still
-      (served.reached, there.0, there.1, there.2)
+  served_at : IsServedAt default_sizes
+  served_at = subst IsServedAt sizes_are (served, opening_is)
 
-  pub is_trial : IsTrialOf seed count run
+  pub is_trial : IsTrialOf seed count run last
   is_trial = record {
     printed =
         subst (λ (ls : List Line). IsRunInOrder default_sizes ls run) made (subst (λ (z : Sizes). IsRunInOrder z lines run) sizes_are printed);
-    undamaged = served.no_page;
-    nothing = nothing;
-    replies = legal;
-    untold = let risen = counted.risen in omega (arith, risen, none, still);
-    runs = never_stopped;
+    made = first;
+    fresh = fresh;
     room = room;
-    before = (state served.opened).bytes;
-    reached = at_end.0;
-    file = last.bytes;
-    ended = subst (λ (z : Sizes). EndsWithin z run last.bytes) sizes_are served.within;
-    tree = at_end.1;
-    holds = at_end.2;
-    stands = at_end.3;
+    room_is = subst (λ (ls : List Line). IsRoomOf room ls) made room_is;
+    served = served_at.0;
+    empty = served_at.1;
+    nothing = nothing;
+    untold = let risen = counted.risen in omega (arith, risen, fresh.faults, still);
+    runs = never_stopped;
+    calm = still;
   }
 
 -- ---- what the call answers
@@ -165,19 +141,18 @@ pub tried : ((a b : Sizes) (one other : Tree) (file : List ℕ) → HoldsTree a 
     → ((sizes : Sizes) (tree : Tree) (pairs : List (Key × Value)) (file : List ℕ) → HoldsTree sizes tree file
     → ReadsAsMap sizes pairs file ↔ (FitsSizes sizes tree × (map_of_tree tree ≡ pairs)))
     → (seed count : ℕ) (lines : List Line) (room : Room) (disk last : Faultless) (result : Result Finished Unreadable) (finished : Finished)
-    → lines ≡ generated seed count → IsFreshStore disk → last.faults ≡ 0
+    → lines ≡ generated seed count → IsRoomOf room lines → IsFreshStore disk → last.faults ≡ 0
     → IfOk result (λ f. AreCounted (run_of f) (faultless_state disk) (faultless_state last))
     → IfOk result (λ f. (sizes : Sizes) × IsRunInOrder sizes lines (run_of f) × IsServed faultless_state sizes (run_of f) room (faultless_state disk) (faultless_state last))
-    → result ≡ Ok finished → IsTrialOf seed count (run_of finished)
-tried one_sizes one_tree one_map seed count lines room disk last result finished made fresh still counted served is =
+    → result ≡ Ok finished → IsTrialOf seed count (run_of finished) last
+tried one_sizes one_tree one_map seed count lines room disk last result finished made room_is fresh still counted served is =
     let count_is =
     subst (λ (r : Result Finished Unreadable). IfOk r (λ f. AreCounted (run_of f) (faultless_state disk) (faultless_state last))) is counted in
     let all =
     subst (λ (r : Result Finished Unreadable).
     IfOk r (λ f. (sizes : Sizes) × IsRunInOrder sizes lines (run_of f) × IsServed faultless_state sizes (run_of f) room (faultless_state disk) (faultless_state last)))
     is served in
-    is_trial faultless_state one_sizes one_tree one_map seed count lines (run_of finished) room (faultless_state disk) (faultless_state last) made fresh.empty fresh.faults still
-    count_is all.0 all.1 all.2
+    is_trial one_sizes one_tree one_map seed count lines (run_of finished) room disk last made room_is fresh still count_is all.0 all.1 all.2
 
 -- a refusal is want of memory
 pub refused_for_memory : ((sizes : Sizes) (pairs : List (Key × Value)) (why : Unreadable) (file : List ℕ) → (reads : ReadsAsMap sizes pairs file)

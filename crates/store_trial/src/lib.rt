@@ -28,18 +28,18 @@ fn made(alloc: Global) -> Result<FaultlessDisk, NoMemory>
     }
 }
 
-/// Makes the script of so many commands from this seed and runs it. Only want of memory keeps it from that.
-pub fn try_seed(alloc: Global, seed: u64, count: u32) -> Result<Finished, NoMemory>
+/// Makes the script of so many commands from this seed and runs it over a new store, whose disk it gives back. Only want of memory keeps it from that.
+pub fn try_seed(alloc: Global, seed: u64, count: u32) -> Result<(FaultlessDisk, Finished), NoMemory>
     requires { count ≤ most_lines }
-    ensures { IfOk result (λ finished. IsTrialOf seed count (run_of finished)) }
+    ensures { IfOk result (λ tried. IsTrialOf seed count (run_of tried.1) tried.0) }
 {
     one_tree();
     a_map_is_read();
     let script = generate(alloc, seed, count)?;
     let disk = made(alloc)?;
-    let (_disk, outcome) = run_in_order(alloc, disk, script.lines(), script.room());
+    let (disk, outcome) = run_in_order(alloc, disk, script.lines(), script.room());
     match outcome {
-        Ok(finished) => Ok(finished),
+        Ok(finished) => Ok((disk, finished)),
         Err(Unreadable::NoMemory) => Err(NoMemory),
         Err(_) => unreachable!(),
     }

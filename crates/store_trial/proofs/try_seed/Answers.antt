@@ -1,7 +1,7 @@
 use Rattle.std.proofs.Common.{◌∙◌, arith, refl}
 use Rattle.disk_mem.specs.Faultless.{faultless_state}
 use Rattle.store_trial.proofs.FreshLemmas.{stays_calm}
-use Rattle.store_trial.proofs.RunnableLemmas.{all_runnable, room_for}
+use Rattle.store_trial.proofs.RunnableLemmas.{all_runnable, room_for, room_is}
 use Rattle.store_trial.proofs.TrialLemmas.{refused_for_memory, tried}
 use Rattle.store_trial.proofs.try_seed.Goals as goal
 
@@ -17,7 +17,7 @@ returns-in-Ok c =
     let r = c.run_in_order-disk.ensures in
     let fresh = c.in_ok-disk.ensures in
     tried t.sizes t.same t.reads c.args.seed c.args.count c.lines.result.now c.room.result c.in_ok-disk.disk c.run_in_order-disk.result.0 c.run_in_order-disk.result.1 c.in-Ok.finished
-    (c.lines.ensures.lines ∙ c.in_ok-script.ensures) fresh (stays_calm c.in_ok-disk.disk (faultless_state c.run_in_order-disk.result.0) fresh r.reaches) r.counted (r.served refl) c.in-Ok.is
+    (c.lines.ensures.lines ∙ c.in_ok-script.ensures) (room_is c.room.result c.in_ok-script.script c.lines.result.now c.lines.ensures.lines c.room.ensures.entries c.room.ensures.rows) fresh (stays_calm c.in_ok-disk.disk (faultless_state c.run_in_order-disk.result.0) fresh r.reaches) r.counted (r.served refl) c.in-Ok.is
 
 pub unreachable-requires : goal.unreachable-requires
 unreachable-requires c =

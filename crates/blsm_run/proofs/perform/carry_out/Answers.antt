@@ -105,7 +105,7 @@ returns-in_err-try_seed-in-Trial-clause-cause g c = λ words accepted asked.
 pub returns-in_ok-try_seed-in-Trial-clause-cause : goal.returns-in_ok-try_seed-in-Trial-clause-cause
 returns-in_ok-try_seed-in-Trial-clause-cause g c = λ words accepted asked.
     let was = subst (λ (r : Request). asked_by words ≡ Some (asked_of r)) c.in-Trial.is asked in
-    ((accepted, was), record { left = refl; faults = refl }, unfetched (g.H.Shelf.state c.args.shelf.now), c.in_ok-try_seed-in-Trial.ensures)
+    ((accepted, was), record { left = refl; faults = refl }, unfetched (g.H.Shelf.state c.args.shelf.now), _, c.in_ok-try_seed-in-Trial.ensures)
 
 pub returns-in_ok-try_seed-in-Trial-clause-made : goal.returns-in_ok-try_seed-in-Trial-clause-made
 returns-in_ok-try_seed-in-Trial-clause-made g c = c.made_histories.ensures c.in-Trial.seed c.in-Trial.count _ c.in_ok-try_seed-in-Trial.ensures.printed.printed.of_script

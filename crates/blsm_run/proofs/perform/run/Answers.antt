@@ -2,7 +2,7 @@ use Rattle.std.proofs.Common.{List, Err, IfSome, arith, ap, sym, subst, ◌∙�
 use Rattle.std.proofs.lemmas.Result.{err_from_is_err_and}
 use Rattle.blsm_model.specs.declared.history.Line.{Line}
 use Rattle.script_text.specs.Grammar.{IsScript}
-use Rattle.store_trial.proofs.RunnableLemmas.{all_runnable, room_for}
+use Rattle.store_trial.proofs.RunnableLemmas.{all_runnable, room_is}
 use Rattle.blsm_run.specs.Cause.{Cause}
 use Rattle.blsm_run.specs.Outcome.{outcome_of}
 use Rattle.blsm_run.specs.Outside.{Outside}
@@ -13,7 +13,7 @@ pub run_on_shelf-requires-clause-runnable : goal.run_on_shelf-requires-clause-ru
 run_on_shelf-requires-clause-runnable g c = λ κs lives. all_runnable _ c.lines.ensures.allowed
 
 pub run_on_shelf-requires-clause-room : goal.run_on_shelf-requires-clause-room
-run_on_shelf-requires-clause-room g c = λ κs lives. room_for c.room.result c.in_ok-script.script c.lines.result.now c.lines.ensures.lines c.room.ensures.entries c.room.ensures.rows
+run_on_shelf-requires-clause-room g c = λ κs lives. room_is c.room.result c.in_ok-script.script c.lines.result.now c.lines.ensures.lines c.room.ensures.entries c.room.ensures.rows
 
 pub run_on_shelf-requires-clause-few : goal.run_on_shelf-requires-clause-few
 run_on_shelf-requires-clause-few g c = λ κs lives. omega (arith, c.requires.few)

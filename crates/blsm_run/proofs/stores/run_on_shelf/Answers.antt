@@ -1,9 +1,13 @@
 use Rattle.std.proofs.Common.{Err, IsErr, refl, rules, subst, sym, ◌∙◌}
 use Rattle.std.proofs.lemmas.Result.{IfErr-at_err, IfOk-at_ok}
+use Rattle.store_trial.proofs.RunnableLemmas.{room_of_lines}
 use Rattle.blsm_run.specs.declared.outcome.Refusal.{Refusal}
 use Rattle.blsm_run.specs.Stores.{LeavesClosed, RunsOnShelf}
 use Rattle.blsm_run.proofs.ShelfLemmas.{CameBack, never_quiet, not_fetched, not_run, ran}
 use Rattle.blsm_run.proofs.stores.run_on_shelf.Goals as goal
+
+pub run_over-disk-requires-clause-room : goal.run_over-disk-requires-clause-room
+run_over-disk-requires-clause-room g c = λ κs lives. room_of_lines c.args.room c.args.lines.now c.requires.room
 
 pub returns-in_default-clause-runs : goal.returns-in_default-clause-runs
 returns-in_default-clause-runs g c =
@@ -43,7 +47,7 @@ returns-in-Err-clause-runs g c =
     let failed : IsErr c.run_over-disk.result.1 = subst (λ r. IsErr r) (sym is) refl in
     subst (λ (why : Refusal). RunsOnShelf state name c.args.lines.now c.args.workers c.args.turns old new (Err why)) (sym c.from.ensures)
     (not_run state name old mid new first last w c.args.lines.now c.args.workers c.args.turns c.in-Err.why c.run_over-disk.result.1 is (λ honest. IfErr-at_err _ is (m.refused honest))
-    (record { keeps = λ sizes pairs honest reads. IfErr-at_err _ is (m.keeps sizes pairs honest reads); untouched = m.untouched; within = m.reaches }) (m.one_fault failed) (m.faults failed))
+    (record { keeps = λ sizes pairs honest reads. IfErr-at_err _ is (m.keeps sizes pairs honest reads); untouched = m.untouched; within = m.reaches }) (λ honest. IfErr-at_err _ is (m.spares honest)) (m.one_fault failed) (m.faults failed))
 
 -- ---- the fetch, as it is noted
 

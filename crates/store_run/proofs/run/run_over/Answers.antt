@@ -3,7 +3,7 @@ use Rattle.std.proofs.Common.{ap, subst, sym, ◌∙◌}
 use Rattle.recover_open.specs.Opening.{KeepsMapOf, no_entries}
 use Rattle.seat_book.specs.State.{BookState}
 use Rattle.store_run.specs.Run.{run_at, run_of}
-use Rattle.store_run.proofs.FaultLemmas.{ReachesInside, calm_opening, counted_of, disk_inside, refused_calm, refused_faults, stays_inside}
+use Rattle.store_run.proofs.FaultLemmas.{ReachesInside, calm_opening, counted_of, disk_inside, refused_calm, refused_faults, spares_of_file, stays_inside}
 use Rattle.store_run.proofs.HeadlineLemmas.{whole_headline}
 use Rattle.store_run.proofs.RunLemmas.{by_threads, ended_of, few_turned, is_fresh, is_unasked, no_entries_yet, printed_of}
 use Rattle.store_run.proofs.run.run_over.Goals as goal
@@ -18,6 +18,9 @@ returns-in-Err-clause-faults g c = λ refused. refused_faults c.in-Err.refused.w
 
 pub returns-in-Err-clause-one_fault : goal.returns-in-Err-clause-one_fault
 returns-in-Err-clause-one_fault g c = λ refused. c.in-Err.ensures.effect.effect.one_fault
+
+pub returns-in-Err-clause-spares : goal.returns-in-Err-clause-spares
+returns-in-Err-clause-spares g c = λ honest. spares_of_file c.in-Err.refused.why (g.D.Disk.state c.args.disk) (g.D.Disk.state c.in-Err.refused.disk) (c.in-Err.ensures.spares honest)
 
 -- ---- the run
 
@@ -38,6 +41,7 @@ returns-in-Ok-run_all-clause-ran g c =
     let unasked = is_unasked state (no_entries c.args.room) (state old.disk).faults old opened rests c.charge-charge.ensures.kept c.charge-charge.ensures.begins in
     let has = by_threads state c.args.lines.now c.args.workers c.args.turns old new runs (c.calls_tell.ensures runs.came.calls old unasked runs.came.are) (c.calls_take_few.ensures runs.came.calls old unasked runs.came.are) in
     printed_of state c.args.lines.now c.args.workers c.args.turns old new has runs (run_of c.finish-disk.result.1) (c.finish-disk.ensures.finished ∙ ap (λ (n : ℕ). run_at n new.held) c.charge-charge.ensures.charge)
+    (state c.args.disk) c.in-Ok.ensures.long
 
 pub returns-in-Ok-run_all-clause-ended : goal.returns-in-Ok-run_all-clause-ended
 returns-in-Ok-run_all-clause-ended g c =
@@ -92,6 +96,7 @@ returns-in-Ok-run_all-clause-headline g c = λ honest.
     (record {
       opens = opens;
       goes_on = goes_on;
+      calls = c.in-Ok.ensures.calls;
       calm = calm_opening (state c.args.disk) (state old.disk) c.in-Ok.ensures.faults;
       ran = ap (λ (b : BookState). b.stopped) opened.book;
       run = by_threads state c.args.lines.now c.args.workers c.args.turns old new runs (c.calls_tell.ensures calls old unasked are) (c.calls_take_few.ensures calls old unasked are);
@@ -126,3 +131,6 @@ returns-in-Err-run_all-clause-keeps g c = λ sizes pairs honest reads.
 
 pub returns-in-Err-run_all-clause-untouched : goal.returns-in-Err-run_all-clause-untouched
 returns-in-Err-run_all-clause-untouched g c = λ honest none. let opens = c.in-Ok.ensures.stands honest in absurd (none c.in-Ok.core.held.runs.sizes opens.pairs opens.reads)
+
+pub returns-in-Err-run_all-clause-spares : goal.returns-in-Err-run_all-clause-spares
+returns-in-Err-run_all-clause-spares g c = λ honest never. absurd never
