@@ -295,3 +295,59 @@ fn pages_one_after_the_other(rt: HostRuntime) {
     ];
     gives(&rt, &mut store, &mut hold, 32, &rows);
 }
+
+// How many records of two-byte keys a table of the default size has room for: each weighs 15 of its 65,536 bytes.
+const FULL: u16 = 4_369;
+
+// A table that has no room for any more.
+fn full_table(rt: &impl Abort, alloc: Global) -> Table
+    ensures { result.reserved ≡ 65536 }
+{
+    let mut table = table_of(rt, alloc, &[]);
+    for number in 0..FULL {
+        let rec = base(rt, u64::from(number), b"");
+        put(rt, &mut table, &key(rt, &number.to_be_bytes()), &rec);
+    }
+    assert_eq!(rt; table.weight(), 65_535);
+    table
+}
+
+fn full_tree(rt: &impl Abort, alloc: Global) -> Tree {
+    Tree {
+        a: table_of(rt, alloc, &[]),
+        b: full_table(rt, alloc),
+        c1: no_component(),
+        c1x: no_component(),
+        c2: no_component(),
+    }
+}
+
+// The rows are those of the numbers from this one on. It answers the next number.
+fn are_numbers(rt: &impl Abort, rows: &[Row], from: u16) -> u16 {
+    let mut number = from;
+    for row in rows {
+        is_row(rt, row, (&number.to_be_bytes(), u64::from(number), b""));
+        number = number.saturating_add(1);
+    }
+    number
+}
+
+// The hold gives all numbers, 32 at a time, and then none.
+fn gives_numbers(rt: &impl Abort, store: &mut Store, hold: &mut Hold) {
+    let mut number = 0;
+    for _ in 0..137u8 {
+        let found = store.next(rt, hold, 32).expect(rt, "rows");
+        number = are_numbers(rt, found.as_slice(), number);
+    }
+    assert_eq!(rt; number, FULL);
+    gives(rt, store, hold, 32, &[]);
+}
+
+#[test]
+fn a_hold_over_a_full_table(rt: HostRuntime) {
+    let mut store = Store::blank(&rt, rt.alloc());
+    let tree = full_tree(&rt, rt.alloc());
+    let mut space = map_of(&rt, rt.alloc(), &[]);
+    let mut hold = tree.hold(&rt, rt.alloc(), &mut space, &[0], &[0xff]);
+    gives_numbers(&rt, &mut store, &mut hold);
+}
