@@ -10,9 +10,10 @@ The store of all four has all three components and records in both lanes. Files 
 
 - bytes: a byte is changed, `check` must print what `reading.py` says of such a file, and each tenth time a run must answer the same or have the same map.
 - memory: each request for memory, and each thread that is to be made, is refused in turn. The answer is status 10 with no line of a history and the same map as
-  before, or a history that a plain map could have answered, in which a hold may have been refused.
+  before, or a history that a plain map could have answered, in which a hold may have been refused. A trial answers status 10, or its text.
 - calls: each call of the file in turn fails, alone (a write that fails may have written its first half) or with all behind it. The status is 7, a history is
   legal, and the file opens to a map that is allowed: each write that was answered `ok`, and the unsure one or not.
+- Of a `make` of a new name, in memory and calls: the status is 7 (or 10), and there is no file then, or one that opens as a store without keys.
 - streams: each read of the script and each write of the history in turn fails, or takes one byte. The status is 8 with nothing run, or 9 with a front of the
   text.
 
@@ -337,11 +338,12 @@ def try_bytes(program: str, folder: Path, count: int, seed: int, processes: int,
 
 @dataclass(frozen=True)
 class Case:
-    """A command over a copy of the store, and the map that the copy has before."""
+    """A command, and what it is given: a copy of the store, the name of no file, or no name."""
 
     words: tuple[str, ...]
     script: str
     workers: int = 0
+    given: str = "copy"
 
 
 CALLERS = 16
@@ -385,8 +387,11 @@ class Bench:
         self.library = compile_library(folder)
 
     def over_a_copy(self, case: Case, failing: Failing) -> Ended:
-        shutil.copyfile(self.whole, self.copy)
-        return call([self.program, *case.words, "--", str(self.copy)], case.script.encode("ascii"), failing, self.library)
+        self.copy.unlink(missing_ok=True)
+        if case.given == "copy":
+            shutil.copyfile(self.whole, self.copy)
+        name = () if case.given == "nothing" else ("--", str(self.copy))
+        return call([self.program, *case.words, *name], case.script.encode("ascii"), failing, self.library)
 
     def must_hold(self, maps: Iterable[Map]) -> None:
         if contents(self.program, self.copy) not in [*maps]:
@@ -443,6 +448,31 @@ def judge_calls(bench: Bench, case: Case, ended: Ended) -> str:
     return "a history with an unsure write" if "=> fault unsure " in text else "a history"
 
 
+MADE = f"made {reading.Sizes(GEOMETRY.half, GEOMETRY.ratio, GEOMETRY.low, GEOMETRY.quantum).length}\n".encode()
+NOT_MADE = {(7, b"disk fault\n"), (10, b"no memory\n")}
+
+
+def judge_make(bench: Bench, case: Case, ended: Ended) -> str:
+    """A store without keys, or, where a call or memory was refused, no file."""
+    is_made = (ended.status, ended.text) == (0, MADE)
+    if not is_made and not (ended.failed and (ended.status, ended.text) in NOT_MADE):
+        raise Illegal(0, f"{ended}")
+    if is_made or bench.copy.exists():
+        bench.must_hold([{}])
+    return f"status {ended.status}" if ended.failed else "nothing refused"
+
+
+def judge_trial(text: bytes) -> Callable[[Bench, Case, Ended], str]:
+    def judged(bench: Bench, case: Case, ended: Ended) -> str:
+        if ended.failed and (ended.status, ended.text) == (10, b"no memory\n"):
+            return "status 10"
+        if (ended.status, ended.text) != (0, text):
+            raise Illegal(0, f"{ended}")
+        return "done all the same" if ended.failed else "nothing refused"
+
+    return judged
+
+
 def judge_source(bench: Bench, case: Case, ended: Ended) -> str:
     if ended.failed and ended.status == 8 and ended.text == b"source fault\n":
         bench.must_hold([bench.map])
@@ -476,6 +506,9 @@ def run_case(script: str, workers: int = 0) -> Case:
 
 
 CHECK = Case(("check",), "")
+GEOMETRY_WORDS = [f"--{name}={getattr(GEOMETRY, name)}" for name in ("half", "ratio", "low", "quantum")]
+MAKE = Case(("make", *GEOMETRY_WORDS), "", given="a new name")
+TRIAL = Case(("trial", "--seed", "7", "--count", "50"), "", given="nothing")
 
 
 def try_memory(program: str, folder: Path, seed: int) -> Iterator[str]:
@@ -483,6 +516,9 @@ def try_memory(program: str, folder: Path, seed: int) -> Iterator[str]:
     cases = {"check": CHECK, "run of holds": run_case(HOLDS), "run of sixteen callers and two workers": run_case(many_callers(draw, 96), 2)}
     for name, case in cases.items():
         yield sums(name, sweep(bench, case, "memory", judge_memory, "alone"))
+    yield sums("make", sweep(bench, MAKE, "memory", judge_make, "alone"))
+    text = bench.over_a_copy(TRIAL, Failing("memory", 0, 0)).text
+    yield sums("trial", sweep(bench, TRIAL, "memory", judge_trial(text), "alone"))
 
 
 def try_calls(program: str, folder: Path, seed: int, lines: int) -> Iterator[str]:
@@ -491,6 +527,8 @@ def try_calls(program: str, folder: Path, seed: int, lines: int) -> Iterator[str
     for name, case in cases.items():
         for how in ("alone", "torn", "and after"):
             yield sums(f"{name}, {how}", sweep(bench, case, "device", judge_calls, how))
+    for how in ("alone", "torn", "and after"):
+        yield sums(f"make, {how}", sweep(bench, MAKE, "device", judge_make, how))
 
 
 def try_streams(program: str, folder: Path, seed: int) -> Iterator[str]:

@@ -85,7 +85,7 @@ class StandIn(hostile.Bench):
     """A bench whose file has a given map when it is opened again."""
 
     def __init__(self, after: Map) -> None:
-        self.map, self.after, self.found = {}, after, reading.read(store())
+        self.map, self.after, self.found, self.copy = {}, after, reading.read(store()), Path(os.devnull)
 
     def must_hold(self, maps: object) -> None:
         if self.after not in maps:  # type: ignore[operator]
@@ -125,6 +125,28 @@ class Judges(unittest.TestCase):
         self.assertEqual(hostile.judge_calls(bench, CHECK, Ended(0, bench.found.report.encode(), 9, 0)), "nothing failed")
         with self.assertRaises(Illegal):
             hostile.judge_calls(bench, CHECK, Ended(0, b"ok\n", 9, 0))
+
+    def test_making(self) -> None:
+        empty, other = StandIn({}), StandIn({"a": (1, "")})
+        self.assertEqual(hostile.judge_make(empty, hostile.MAKE, Ended(0, b"made 3481600\n", 9, 0)), "nothing refused")
+        self.assertEqual(hostile.judge_make(empty, hostile.MAKE, Ended(10, b"no memory\n", 9, 1)), "status 10")
+        other.copy = Path("no such file")
+        self.assertEqual(hostile.judge_make(other, hostile.MAKE, Ended(7, b"disk fault\n", 9, 1)), "status 7")
+        other.copy = Path(os.devnull)
+        for ended in (Ended(7, b"disk fault\n", 9, 1), Ended(0, b"made 3481600\n", 9, 1)):
+            with self.subTest(ended), self.assertRaises(Illegal):
+                hostile.judge_make(other, hostile.MAKE, ended)
+        for ended in (Ended(5, b"not empty 100\n", 9, 1), Ended(7, b"disk fault\n", 9, 0), Ended(7, b"no memory\n", 9, 1), Ended(0, b"made 1\n", 9, 0)):
+            with self.subTest(ended), self.assertRaises(Illegal):
+                hostile.judge_make(empty, hostile.MAKE, ended)
+
+    def test_a_trial(self) -> None:
+        judged = hostile.judge_trial(b"trial\n")
+        self.assertEqual(judged(StandIn({}), hostile.TRIAL, Ended(10, b"no memory\n", 9, 1)), "status 10")
+        self.assertEqual(judged(StandIn({}), hostile.TRIAL, Ended(0, b"trial\n", 9, 1)), "done all the same")
+        for ended in (Ended(10, b"no memory\n", 9, 0), Ended(0, b"tri", 9, 1), Ended(7, b"disk fault\n", 9, 1)):
+            with self.subTest(ended), self.assertRaises(Illegal):
+                judged(StandIn({}), hostile.TRIAL, ended)
 
     def test_streams(self) -> None:
         case, done = run_case(WROTE), StandIn({"a": (1, ""), "b": (2, "")})
