@@ -1,8 +1,6 @@
 //! The program's call, run over a source, a sink and a shelf of disks in memory.
 
-mod damage;
 mod drawn;
-mod faults;
 mod holds;
 mod order;
 mod rows;
@@ -12,7 +10,6 @@ mod turns;
 
 use crate::call;
 use disk_mem::{MemDisk, MemShelf};
-use disk_trait::{Disk, Shelf};
 use std::alloc::Global;
 use std::process::{Abort, ExitCode};
 use std::sync::Wait;
@@ -72,31 +69,6 @@ fn shelf_of(rt: &impl Abort, alloc: Global, disk: MemDisk) -> MemShelf {
         rt.abort()
     }
     shelf
-}
-
-// The disk, which a test looks at or changes, is out until it is given back.
-fn take_disk(rt: &impl Abort, shelf: &mut MemShelf) -> MemDisk {
-    match shelf.fetch(NAME, false) {
-        Ok(disk) => disk,
-        Err(_) => rt.abort(),
-    }
-}
-
-// The disk goes back.
-fn put_back(shelf: &mut MemShelf, disk: MemDisk) {
-    shelf.give_back(NAME, disk);
-}
-
-// A shelf with a copy of the disk of this one, as it reads, whose calls are counted anew.
-fn copy_of(rt: &impl Abort, alloc: Global, shelf: &mut MemShelf) -> MemDisk {
-    let mut disk = take_disk(rt, shelf);
-    assert!(rt; disk.sync().is_ok());
-    let copy = disk.image(0);
-    put_back(shelf, disk);
-    match copy {
-        Ok(copy) => copy,
-        Err(_) => rt.abort(),
-    }
 }
 
 // A copy of bytes that are a text.

@@ -1,15 +1,12 @@
 //! The store that the cases begin with, and calls of the program over disks in memory.
 use crate::departure::Departure;
-use crate::disk::{OneShelf, PageDisk};
+use crate::disk::{NAME, OneShelf, PageDisk};
 use blsm_model::NoGate;
 use blsm_run::{Status, blsm_run};
 use std::alloc::{AllocError, Global};
 use std::sync::Wait;
 use std::thread::Threads;
 use text_io::{FaultlessSink, FaultlessSource};
-
-// The name of the disk.
-const NAME: &str = "store";
 
 // A store of the smallest geometry with short quanta.
 const MAKE: [&str; 9] = [
@@ -63,8 +60,8 @@ fn disk_of(alloc: Global, shelf: OneShelf) -> Result<PageDisk, Departure> {
     }
 }
 
-// Makes the call that words ask for, over a disk.
-fn call<R: Threads + Wait + Sync>(
+/// Makes the call that words ask for, over a disk.
+pub fn call<R: Threads + Wait + Sync>(
     rt: &R,
     alloc: Global,
     words: &[String],

@@ -3,7 +3,7 @@ use crate::bench::Bench;
 use crate::departure::Departure;
 use crate::runs::Failing;
 use crate::scripts::Scripts;
-use crate::{damage, runs, sweeps};
+use crate::{calls, damage, runs, sweeps};
 use std::alloc::Global;
 use std::sync::Wait;
 use std::thread::Threads;
@@ -25,6 +25,8 @@ pub fn check<R: Threads + Wait + Sync>(
         "stop" => runs::check(rt, alloc, bench, scripts, Failing::AndAfter, rest),
         "fails" => sweeps::check(rt, alloc, bench, scripts.get(rest)?, Failing::Alone),
         "stops" => sweeps::check(rt, alloc, bench, scripts.get(rest)?, Failing::AndAfter),
+        "calls" => calls::check(rt, alloc, scripts, rest),
+        "change" => damage::check_later(rt, alloc, bench, scripts, rest),
         "damage" => damage::check(rt, alloc, bench, scripts, rest),
         _ => Err(Departure::NotACase),
     }

@@ -10,6 +10,14 @@ struct Pending {
     bytes: Vec<u8>,
 }
 
+// Bytes that change by themselves before a call.
+#[derive(Drop)]
+struct Change {
+    call: u64,
+    at: u64,
+    bytes: Vec<u8>,
+}
+
 /// The bytes as they read, those that the last sync settled, and the writes since then, the oldest first.
 #[derive(Drop)]
 pub struct Content {
@@ -21,6 +29,7 @@ pub struct Content {
     // The call that fails, and the last one that ends well, counted from 1.
     fails: u64,
     last: u64,
+    changes: Vec<Change>,
 }
 
 // How a write stands in an image.
@@ -78,6 +87,7 @@ impl Content {
             pending: Vec::new(alloc),
             fails: 0,
             last: u64::MAX,
+            changes: Vec::new(alloc),
         }
     }
 
@@ -91,21 +101,37 @@ impl Content {
         self.last = call.saturating_sub(1);
     }
 
+    /// These bytes stand at a place from the call of this number on, counted from 1.
+    pub fn change(&mut self, call: u64, at: u64, bytes: Vec<u8>) -> Result<(), AllocError> {
+        self.changes.push(Change { call, at, bytes })?;
+        Ok(())
+    }
+
+    // What changes by itself before a call.
+    fn make_changes(&mut self, call: u64) -> Result<(), AllocError> {
+        for change in &self.changes {
+            if change.call == call {
+                self.now.write(change.at, &change.bytes)?;
+            }
+        }
+        Ok(())
+    }
+
     // The call behind so many others.
-    fn call(&self, calls: u64) -> Result<(), Failed> {
+    fn call(&mut self, calls: u64) -> Result<(), Failed> {
         let number = calls.saturating_add(1);
-        if number == self.fails || number > self.last {
+        if number == self.fails || number > self.last || self.make_changes(number).is_err() {
             return Err(Failed);
         }
         Ok(())
     }
 
-    pub fn len(&self, calls: u64) -> Result<u64, Failed> {
+    pub fn len(&mut self, calls: u64) -> Result<u64, Failed> {
         self.call(calls)?;
         Ok(self.length)
     }
 
-    pub fn read(&self, calls: u64, at: u64, into: &mut [u8]) -> Result<(), Failed> {
+    pub fn read(&mut self, calls: u64, at: u64, into: &mut [u8]) -> Result<(), Failed> {
         self.call(calls)?;
         if at.saturating_add(into.len() as u64) > self.length {
             return Err(Failed);

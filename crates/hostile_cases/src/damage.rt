@@ -2,6 +2,7 @@
 use crate::bench::{Answer, Bench};
 use crate::departure::Departure;
 use crate::disk::PageDisk;
+use crate::runs::{calls_of_opening, check_told, read_head};
 use crate::scripts::Scripts;
 use crate::words::{cut, number};
 use disk_trait::Disk;
@@ -39,32 +40,37 @@ fn byte_of(digits: &[u8]) -> Option<u8> {
     u8::from_str_radix(str::from_utf8(digits).ok()?, 16).ok()
 }
 
-// Writes a byte at a place.
-fn put(alloc: Global, disk: &mut PageDisk, at: u64, digits: &[u8]) -> Result<(), Departure> {
-    let Some(byte) = byte_of(digits) else {
-        return Err(Departure::NotACase);
-    };
-    match disk.write(at, &[byte]) {
-        Ok(()) => Ok(()),
-        Err(_) => Err(Departure::found(alloc, "write", at, "")),
-    }
-}
-
-// Writes bytes, of two hexadecimal digits each, from a place on.
-fn put_all(alloc: Global, disk: &mut PageDisk, at: u64, digits: &str) -> Result<(), Departure> {
-    let mut at = at;
+// Bytes of two hexadecimal digits each.
+fn bytes_of(alloc: Global, digits: &str) -> Result<Vec<u8>, Departure> {
+    let mut bytes = Vec::new(alloc);
     for pair in digits.as_bytes().chunks(2) {
-        put(alloc, disk, at, pair)?;
-        at = at.saturating_add(1);
+        match byte_of(pair) {
+            Some(byte) => bytes.push(byte)?,
+            None => return Err(Departure::NotACase),
+        }
     }
-    Ok(())
+    Ok(bytes)
 }
 
 // The place that a change names, as a part of the file and a number of bytes behind its beginning, and the bytes.
-fn read_change(change: &str) -> Option<(u64, &str)> {
-    let (place, digits) = change.split_once("=")?;
-    let (part, offset) = place.split_once("+")?;
-    Some((place_of(part)?.saturating_add(number(offset)?), digits))
+fn read_change(alloc: Global, change: &str) -> Result<(u64, Vec<u8>), Departure> {
+    let Some((place, digits)) = change.split_once("=") else {
+        return Err(Departure::NotACase);
+    };
+    let Some((part, offset)) = place.split_once("+") else {
+        return Err(Departure::NotACase);
+    };
+    match (place_of(part), number(offset)) {
+        (Some(at), Some(offset)) => Ok((at.saturating_add(offset), bytes_of(alloc, digits)?)),
+        _ => Err(Departure::NotACase),
+    }
+}
+
+fn write(alloc: Global, disk: &mut PageDisk, at: u64, bytes: &[u8]) -> Result<(), Departure> {
+    match disk.write(at, bytes) {
+        Ok(()) => Ok(()),
+        Err(_) => Err(Departure::found(alloc, "write", at, "")),
+    }
 }
 
 // Makes a change of a disk: bytes at a place, a byte more at its end, or one less.
@@ -75,12 +81,10 @@ fn change(alloc: Global, disk: &mut PageDisk, change: &str) -> Result<(), Depart
     }
     if change == "grow" {
         let length = disk.len().unwrap_or(0);
-        return put(alloc, disk, length, b"00");
+        return write(alloc, disk, length, &[0]);
     }
-    match read_change(change) {
-        Some((at, digits)) => put_all(alloc, disk, at, digits),
-        None => Err(Departure::NotACase),
-    }
+    let (at, bytes) = read_change(alloc, change)?;
+    write(alloc, disk, at, &bytes)
 }
 
 // Both commands answer the same, with the status and the line of it.
@@ -93,6 +97,13 @@ fn check_answer(alloc: Global, answer: &Answer, wanted: &str) -> Result<(), Depa
     }
 }
 
+// A script's name, changes, and what is answered.
+fn read_case(rest: &str) -> Option<(&str, &str, &str)> {
+    let (name, rest) = cut(rest)?;
+    let (changes, wanted) = cut(rest)?;
+    Some((name, changes, wanted))
+}
+
 /// Checks a case: a script, changes of the file of a store once the script was run over it, and the status and the line that `check` and `run` answer then.
 pub fn check<R: Threads + Wait + Sync>(
     rt: &R,
@@ -101,10 +112,7 @@ pub fn check<R: Threads + Wait + Sync>(
     scripts: &Scripts,
     rest: &str,
 ) -> Result<(), Departure> {
-    let Some((name, rest)) = cut(rest) else {
-        return Err(Departure::NotACase);
-    };
-    let Some((changes, wanted)) = cut(rest) else {
+    let Some((name, changes, wanted)) = read_case(rest) else {
         return Err(Departure::NotACase);
     };
     let mut disk = bench.after(rt, alloc, scripts.get(name)?)?;
@@ -115,4 +123,40 @@ pub fn check<R: Threads + Wait + Sync>(
     check_answer(alloc, &answer, wanted)?;
     let answer = bench.run(rt, alloc, answer.disk, "1 get x\n")?;
     check_answer(alloc, &answer, wanted)
+}
+
+// What comes before a call of the disk: bytes change, or that call fails.
+fn prepare(alloc: Global, disk: &mut PageDisk, opening: u64, word: &str) -> Result<(), Departure> {
+    let Some((call, change)) = read_head(word) else {
+        return Err(Departure::NotACase);
+    };
+    let call = call.saturating_add(opening);
+    if change == "fail" {
+        disk.fail(call);
+        return Ok(());
+    }
+    let (at, bytes) = read_change(alloc, change)?;
+    disk.change(call, at, bytes)?;
+    Ok(())
+}
+
+/// Checks a case: a script, changes of a new store while it runs, the status, and the replies. A change is the call of the disk before which it comes,
+/// counted from 1 behind the opening, and a place and its bytes, or that this call fails.
+pub fn check_later<R: Threads + Wait + Sync>(
+    rt: &R,
+    alloc: Global,
+    bench: &Bench,
+    scripts: &Scripts,
+    rest: &str,
+) -> Result<(), Departure> {
+    let Some((name, changes, wanted)) = read_case(rest) else {
+        return Err(Departure::NotACase);
+    };
+    let opening = calls_of_opening(rt, alloc, bench)?;
+    let mut disk = bench.fresh()?;
+    for word in changes.split(", ") {
+        prepare(alloc, &mut disk, opening, word)?;
+    }
+    let answer = bench.run(rt, alloc, disk, scripts.get(name)?)?;
+    check_told(alloc, &answer, wanted)
 }

@@ -50,6 +50,11 @@ impl PageDisk {
         self.content.stop(call);
     }
 
+    /// These bytes stand at a place from the call of this number on, counted from 1.
+    pub fn change(&mut self, call: u64, at: u64, bytes: Vec<u8>) -> Result<(), AllocError> {
+        self.content.change(call, at, bytes)
+    }
+
     /// Leaves out the last byte.
     pub fn cut(&mut self) {
         self.content.cut();
@@ -124,7 +129,10 @@ impl Disk for PageDisk {
     }
 }
 
-/// A shelf of one disk, which is there under every name.
+/// The name of the disk on its shelf.
+pub const NAME: &str = "store";
+
+/// A shelf of one disk.
 #[derive(Drop)]
 pub struct OneShelf {
     disk: Option<PageDisk>,
@@ -161,8 +169,9 @@ impl Shelf for OneShelf {
 
     ghost out_is_gone = { λ s name tells out. refl };
 
-    fn fetch(&mut self, _name: &str, _fresh: bool) -> Result<PageDisk, Failed> {
-        match self.disk.take() {
+    fn fetch(&mut self, name: &str, _fresh: bool) -> Result<PageDisk, Failed> {
+        let found = if name == NAME { self.disk.take() } else { None };
+        match found {
             Some(disk) => Ok(without_faults(disk)),
             None => {
                 self.faults = self.faults.saturating_add(1);

@@ -3,6 +3,7 @@
 #![tactic(auto)]
 
 mod bench;
+mod calls;
 mod case;
 mod chunks;
 mod content;

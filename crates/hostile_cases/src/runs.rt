@@ -18,11 +18,10 @@ pub enum Failing {
     AndAfter,
 }
 
-/// Which lines a run must print, and what may be found then.
+// What a run must tell, its status and its replies, and what may be found then.
 #[derive(Drop)]
 struct Wanted<'a> {
-    status: u8,
-    replies: &'a str,
+    told: &'a str,
     maps: &'a str,
 }
 
@@ -36,8 +35,8 @@ pub fn disk_that_fails(bench: &Bench, failing: Failing, call: u64) -> Result<Pag
     Ok(disk)
 }
 
-// How many calls the opening of a new store makes.
-fn calls_of_opening<R: Threads + Wait + Sync>(
+/// How many calls the opening of a new store makes.
+pub fn calls_of_opening<R: Threads + Wait + Sync>(
     rt: &R,
     alloc: Global,
     bench: &Bench,
@@ -85,6 +84,19 @@ fn maps_of(alloc: Global, words: &str) -> Result<Vec<Map>, Departure> {
     Ok(maps)
 }
 
+/// A run ended with this status, and its history has these replies, which stand behind it.
+pub fn check_told(alloc: Global, answer: &Answer, wanted: &str) -> Result<(), Departure> {
+    let Some((wanted, replies)) = cut(wanted) else {
+        return Err(Departure::NotACase);
+    };
+    let status = answer.status.code();
+    if number(wanted) != Some(u64::from(status)) {
+        return Err(Departure::found(alloc, "status", u64::from(status), &answer.text));
+    }
+    check_replies(alloc, &answer.text, replies)
+}
+
+// The status, the replies, and what is found in each image.
 fn check_answer<R: Threads + Wait + Sync>(
     rt: &R,
     alloc: Global,
@@ -92,30 +104,21 @@ fn check_answer<R: Threads + Wait + Sync>(
     answer: &Answer,
     wanted: &Wanted<'_>,
 ) -> Result<(), Departure> {
-    let status = answer.status.code();
-    if status != wanted.status {
-        return Err(Departure::found(alloc, "status", u64::from(status), &answer.text));
-    }
-    check_replies(alloc, &answer.text, wanted.replies)?;
+    check_told(alloc, answer, wanted.told)?;
     let maps = maps_of(alloc, wanted.maps)?;
     check_images(rt, alloc, bench, &answer.disk, &maps)
 }
 
-// The call and the script's name.
-fn read_head(head: &str) -> Option<(u64, &str)> {
+/// A call of the disk, and what stands behind it.
+pub fn read_head(head: &str) -> Option<(u64, &str)> {
     let (call, name) = head.split_once(" ")?;
     Some((number(call)?, name))
 }
 
-// The status, the replies, and what may be found.
+// What stands behind the last bar is what may be found.
 fn read_wanted(words: &str) -> Option<Wanted<'_>> {
-    let (status, rest) = cut(words)?;
-    let (replies, maps) = cut(rest)?;
-    Some(Wanted {
-        status: status.parse::<u8>().ok()?,
-        replies,
-        maps,
-    })
+    let (told, maps) = words.rsplit_once(" | ")?;
+    Some(Wanted { told, maps })
 }
 
 /// Checks a case: a call of the disk, counted from 1 behind the opening of a new store, a script, the status, the replies, and what may be found

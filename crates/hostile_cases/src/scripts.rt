@@ -1,7 +1,7 @@
 //! Scripts that have a name.
 use crate::departure::Departure;
-use crate::words::cut;
-use std::alloc::{AllocError, Global};
+use crate::words::{cut, number};
+use std::alloc::Global;
 
 /// A line that says nothing.
 pub fn is_remark(line: &str) -> bool {
@@ -20,10 +20,39 @@ pub struct Scripts {
     named: Vec<(String, String)>,
 }
 
-// The text of a script whose lines a semicolon parts.
-fn text_of(alloc: Global, lines: &str) -> Result<String, AllocError> {
+// A word that stands so many times, as `x*435` says it.
+fn push_times(text: &mut String, times: &str) -> Result<(), Departure> {
+    let Some((word, count)) = times.split_once("*") else {
+        return Err(Departure::NotACase);
+    };
+    let Some(count) = number(count) else {
+        return Err(Departure::NotACase);
+    };
+    for _ in 0..count {
+        text.push_str(word)?;
+    }
+    Ok(())
+}
+
+// A text in which `{x*435}` stands for so many letters.
+fn spelled_out(alloc: Global, short: &str) -> Result<String, Departure> {
     let mut text = String::new(alloc);
-    for line in lines.split("; ") {
+    for part in short.split("}") {
+        match part.split_once("{") {
+            Some((before, times)) => {
+                text.push_str(before)?;
+                push_times(&mut text, times)?;
+            }
+            None => text.push_str(part)?,
+        }
+    }
+    Ok(text)
+}
+
+/// The lines that semicolons part, each with its end. In them `{x*435}` stands for so many letters.
+pub fn lines_of(alloc: Global, short: &str) -> Result<String, Departure> {
+    let mut text = String::new(alloc);
+    for line in spelled_out(alloc, short)?.split("; ") {
         text.push_str(line)?;
         text.push('\n')?;
     }
@@ -44,7 +73,7 @@ impl Scripts {
             return Err(Departure::NotACase);
         };
         let name = String::from_str(self.alloc, name)?;
-        let text = text_of(self.alloc, lines)?;
+        let text = lines_of(self.alloc, lines)?;
         self.named.push((name, text))?;
         Ok(())
     }

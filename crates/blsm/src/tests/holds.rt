@@ -1,46 +1,8 @@
 // Holds of ranges, which give the rows of their moment.
 use super::turns::run_in_turn;
-use super::{RUN, add, check, letters, shelf_with_default, shelf_with_smallest};
+use super::{add, letters, shelf_with_smallest};
 use std::alloc::Global;
 use std::process::Abort;
-use std::sync::Wait;
-use std::thread::Threads;
-
-// A script over a store that was just made.
-fn check_fresh<R: Abort + Threads + Wait + Sync>(rt: &R, alloc: Global, script: &[u8], text: &str) {
-    let mut shelf = shelf_with_default(rt, alloc);
-    check(rt, alloc, &mut shelf, &RUN, script, (0, text));
-}
-
-#[test]
-fn a_hold_over_merges(rt: HostRuntime) {
-    check_fresh(
-        &rt,
-        rt.alloc(),
-        b"1 put a 1 -\n1 put b 2 -\n1 work 1000\n1 hold a c\n1 put a 9 -\n1 del b\n1 work 1000\n1 next 32\n1 next 32\n1 get b\n1 drop\n1 next 1\n",
-        "open charge 0\n1 1 put a 1 - => ok q0\n2 1 put b 2 - => ok q0\n3 1 work 1000 => did 6 q2\n4 1 hold a c => held q0\n5 1 put a 9 - => ok q0\n6 1 del b => ok q0\n7 1 work 1000 => did 6 q2\n8 1 next 32 => rows 2 a 1 - b 2 - q0\n9 1 next 32 => rows 0 q0\n10 1 get b => none q0\n11 1 drop => ok q0\n12 1 next 1 => nohold q0\nend c0 28 of 65536 callers 4 workers 0 swaps 2 2\n",
-    );
-}
-
-#[test]
-fn a_second_hold_replaces_the_first(rt: HostRuntime) {
-    check_fresh(
-        &rt,
-        rt.alloc(),
-        b"1 put a 1 -\n1 put b 2 -\n1 hold a c\n1 hold b c\n1 next 32\n",
-        "open charge 0\n1 1 put a 1 - => ok q0\n2 1 put b 2 - => ok q0\n3 1 hold a c => held q0\n4 1 hold b c => held q0\n5 1 next 32 => rows 1 b 2 - q0\nend c0 28 of 65536 callers 0 workers 0 swaps 0 0\n",
-    );
-}
-
-#[test]
-fn a_hold_of_no_range_and_none(rt: HostRuntime) {
-    check_fresh(
-        &rt,
-        rt.alloc(),
-        b"2 drop\n2 next 32\n2 hold c a\n2 next 1\n2 drop\n2 drop\n",
-        "open charge 0\n1 2 drop => nohold q0\n2 2 next 32 => nohold q0\n3 2 hold c a => held q0\n4 2 next 1 => rows 0 q0\n5 2 drop => ok q0\n6 2 drop => nohold q0\nend c0 0 of 65536 callers 0 workers 0 swaps 0 0\n",
-    );
-}
 
 // Writes of thirty keys, and what merges them into C2.
 fn add_round(rt: &impl Abort, alloc: Global, script: &mut String, count: u32, letters: &str) {

@@ -1,61 +1,8 @@
 // Scripts with their printed texts, over a store that was just made, and what a check tells of it then.
 use super::turns::{check_behind, run_in_turn};
-use super::{
-    CHECK, RUN, add, check, letters, shelf_with_default, shelf_with_smallest, shelf_with_store,
-};
-use disk_mem::MemShelf;
+use super::{CHECK, RUN, add, check, letters, shelf_with_default, shelf_with_smallest};
 use std::alloc::Global;
 use std::process::Abort;
-use std::sync::Wait;
-use std::thread::Threads;
-
-// Runs a script over the store, and checks the store.
-fn check_row<R: Abort + Threads + Wait + Sync>(
-    rt: &R,
-    alloc: Global,
-    shelf: &mut MemShelf,
-    script: &[u8],
-    text: &str,
-    report: &str,
-) {
-    check(rt, alloc, shelf, &RUN, script, (0, text));
-    check(rt, alloc, shelf, &CHECK, b"", (0, report));
-}
-
-#[test]
-fn an_empty_script(rt: HostRuntime) {
-    let alloc = rt.alloc();
-    check_row(
-        &rt,
-        alloc,
-        &mut shelf_with_default(&rt, alloc),
-        b"",
-        "open charge 0\nend c0 0 of 65536 callers 0 workers 0 swaps 0 0\n",
-        "ok version 1 c1 0 0 c1x 0 0 c2 0 0 lanes 0 0\n",
-    );
-}
-
-#[test]
-fn a_store_goes_on_from_run_to_run(rt: HostRuntime) {
-    let alloc = rt.alloc();
-    let mut shelf = shelf_with_default(&rt, alloc);
-    check_row(
-        &rt,
-        alloc,
-        &mut shelf,
-        b"1 put a 5 hi\n1 get a\n1 del a\n1 get a\n",
-        "open charge 0\n1 1 put a 5 hi => ok q0\n2 1 get a => is 5 hi q0\n3 1 del a => ok q0\n4 1 get a => none q0\nend c0 16 of 65536 callers 0 workers 0 swaps 0 0\n",
-        "ok version 1 c1 0 0 c1x 0 0 c2 0 0 lanes 2 0\n",
-    );
-    check_row(
-        &rt,
-        alloc,
-        &mut shelf,
-        b"",
-        "open charge 14\nend c0 0 of 65536 callers 0 workers 0 swaps 0 0\n",
-        "ok version 2 c1 1 14 c1x 0 0 c2 0 0 lanes 0 0\n",
-    );
-}
 
 #[test]
 fn two_callers(rt: HostRuntime) {
@@ -80,31 +27,6 @@ fn two_callers(rt: HostRuntime) {
     let report = "ok version 1 c1 0 0 c1x 0 0 c2 0 0 lanes 6 0\n";
     check(&rt, alloc, &mut shelf, &CHECK, b"", (0, report));
 }
-
-#[test]
-fn a_del_over_a_deep_merge(rt: HostRuntime) {
-    let alloc = rt.alloc();
-    check_row(
-        &rt,
-        alloc,
-        &mut shelf_with_default(&rt, alloc),
-        b"1 put x 100 old\n1 work 100\n1 del x\n1 add x 7\n1 get x\n",
-        "open charge 0\n1 1 put x 100 old => ok q0\n2 1 work 100 => did 6 q2\n3 1 del x => ok q0\n4 1 add x 7 => ok q0\n5 1 get x => is 7 - q0\nend c0 17 of 65536 callers 2 workers 0 swaps 1 1\n",
-        "ok version 4 c1 0 0 c1x 0 0 c2 1 17 lanes 2 0\n",
-    );
-}
-
-// Five puts of 449 bytes each, a work that takes three of them, and two puts: one behind the pass's cursor, one ahead of it.
-const BESIDE_A_PASS: [(&str, &str); 8] = [
-    ("1 work 2", "did 2 q1"),
-    ("1 put c 1 -", "ok q0"),
-    ("1 put g 2 -", "ok q0"),
-    ("1 get c", "is 1 - q0"),
-    ("1 get g", "is 2 - q0"),
-    ("1 work 3", "did 3 q1"),
-    ("1 get c", "is 1 - q0"),
-    ("1 get g", "is 2 - q0"),
-];
 
 // Puts a command behind a script, and its line behind a text.
 fn add_command(
@@ -131,63 +53,6 @@ fn heavy_put(rt: &impl Abort, alloc: Global, key: &str, count: u32) -> String {
 }
 
 #[test]
-fn writes_beside_a_pass(rt: HostRuntime) {
-    let alloc = rt.alloc();
-    let mut script = String::new(alloc);
-    let mut text = String::new(alloc);
-    add(&rt, &mut text, "open charge 0");
-    for (i, key) in ["b", "c", "d", "e", "f"].iter().enumerate() {
-        let put = heavy_put(&rt, alloc, key, 0);
-        add_command(&rt, alloc, &mut script, &mut text, i + 1, (&put, "ok q0"));
-    }
-    for (i, command) in BESIDE_A_PASS.iter().enumerate() {
-        add_command(&rt, alloc, &mut script, &mut text, i + 6, *command);
-    }
-    add(
-        &rt,
-        &mut text,
-        "end c0 2273 of 65536 callers 2 workers 0 swaps 1 0",
-    );
-    let make = ["blsm", "make", super::NAME, "--quantum", "1024"];
-    let mut shelf = shelf_with_store(&rt, alloc, &make, "made 23511040\n");
-    check(&rt, alloc, &mut shelf, &RUN, script.as_bytes(), (0, &text));
-}
-
-// A work, taken or swapped in or not, and then a get by a second run.
-fn check_worked<R: Abort + Threads + Wait + Sync>(
-    rt: &R,
-    alloc: Global,
-    script: &[u8],
-    text: &str,
-) {
-    let mut shelf = shelf_with_default(rt, alloc);
-    check(rt, alloc, &mut shelf, &RUN, script, (0, text));
-    let later =
-        "open charge 14\n1 1 get n => is 5 - q0\nend c0 0 of 65536 callers 0 workers 0 swaps 0 0\n";
-    check(rt, alloc, &mut shelf, &RUN, b"1 get n\n", (0, later));
-}
-
-#[test]
-fn a_work_that_was_cut_off_by_the_end(rt: HostRuntime) {
-    check_worked(
-        &rt,
-        rt.alloc(),
-        b"1 add n 5\n1 work 2\n",
-        "open charge 0\n1 1 add n 5 => ok q0\n2 1 work 2 => did 2 q1\nend c0 14 of 65536 callers 1 workers 0 swaps 0 0\n",
-    );
-}
-
-#[test]
-fn a_work_that_was_swapped_in(rt: HostRuntime) {
-    check_worked(
-        &rt,
-        rt.alloc(),
-        b"1 add n 5\n1 work 3\n",
-        "open charge 0\n1 1 add n 5 => ok q0\n2 1 work 3 => did 3 q1\nend c0 14 of 65536 callers 1 workers 0 swaps 1 0\n",
-    );
-}
-
-#[test]
 fn a_hundred_equal_writes(rt: HostRuntime) {
     let alloc = rt.alloc();
     let key = letters(&rt, alloc, b'k', 64);
@@ -204,14 +69,10 @@ fn a_hundred_equal_writes(rt: HostRuntime) {
         &mut text,
         "end c0 512 of 65536 callers 3 workers 0 swaps 3 0",
     );
-    check_row(
-        &rt,
-        alloc,
-        &mut shelf_with_default(&rt, alloc),
-        script.as_bytes(),
-        &text,
-        "ok version 4 c1 1 512 c1x 0 0 c2 0 0 lanes 1 0\n",
-    );
+    let mut shelf = shelf_with_default(&rt, alloc);
+    check(&rt, alloc, &mut shelf, &RUN, script.as_bytes(), (0, &text));
+    let report = "ok version 4 c1 1 512 c1x 0 0 c2 0 0 lanes 1 0\n";
+    check(&rt, alloc, &mut shelf, &CHECK, b"", (0, report));
 }
 
 fn numbered_put(rt: &impl Abort, alloc: Global, number: u32) -> String {

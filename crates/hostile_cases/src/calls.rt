@@ -1,0 +1,93 @@
+//! Calls of the program, one after the other over one disk, and what each answers.
+use crate::bench::call;
+use crate::departure::Departure;
+use crate::disk::PageDisk;
+use crate::scripts::{Scripts, lines_of};
+use crate::words::number;
+use disk_trait::Disk;
+use std::alloc::{AllocError, Global};
+use std::sync::Wait;
+use std::thread::Threads;
+
+// The words of a call, parted by spaces.
+fn words_of(alloc: Global, line: &str) -> Result<Vec<String>, AllocError> {
+    let mut words = Vec::new(alloc);
+    for word in line.split(" ") {
+        words.push(String::from_str(alloc, word)?)?;
+    }
+    Ok(words)
+}
+
+// The words of a call, and the script that it reads.
+fn read_call<'a>(line: &'a str, scripts: &'a Scripts) -> Result<(&'a str, &'a str), Departure> {
+    match line.split_once(" < ") {
+        Some((words, name)) => Ok((words, scripts.get(name)?)),
+        None => Ok((line, "")),
+    }
+}
+
+// Makes a call, which must answer this status and these lines.
+fn check_call<R: Threads + Wait + Sync>(
+    rt: &R,
+    alloc: Global,
+    scripts: &Scripts,
+    disk: PageDisk,
+    line: &str,
+    wanted: &str,
+) -> Result<PageDisk, Departure> {
+    let (words, script) = read_call(line, scripts)?;
+    let answer = call(rt, alloc, &words_of(alloc, words)?, disk, script)?;
+    let status = answer.status.code();
+    let found = format!(in alloc; "{status} {}", answer.text)?;
+    if found != lines_of(alloc, wanted)? {
+        return Err(Departure::found(alloc, "answer", u64::from(status), &found));
+    }
+    Ok(answer.disk)
+}
+
+// Writes so many zeros.
+fn write_zeros(alloc: Global, disk: &mut PageDisk, count: &str) -> Result<(), Departure> {
+    let Some(count) = number(count) else {
+        return Err(Departure::NotACase);
+    };
+    for at in 0..count {
+        if disk.write(at, &[0]).is_err() {
+            return Err(Departure::found(alloc, "write", at, ""));
+        }
+    }
+    Ok(())
+}
+
+// A call, or zeros that are written.
+fn check_step<R: Threads + Wait + Sync>(
+    rt: &R,
+    alloc: Global,
+    scripts: &Scripts,
+    disk: PageDisk,
+    step: &str,
+) -> Result<PageDisk, Departure> {
+    let mut disk = disk;
+    if let Some(count) = step.strip_prefix("zeros ") {
+        write_zeros(alloc, &mut disk, count)?;
+        return Ok(disk);
+    }
+    match step.split_once(" => ") {
+        Some((line, wanted)) => check_call(rt, alloc, scripts, disk, line, wanted),
+        None => Err(Departure::NotACase),
+    }
+}
+
+/// Checks a case: steps over a disk without a byte, parted by bars. A step is the words of a call, and behind a `<` the script that it reads, and
+/// then its status and its lines; or a number of zeros that are written.
+pub fn check<R: Threads + Wait + Sync>(
+    rt: &R,
+    alloc: Global,
+    scripts: &Scripts,
+    rest: &str,
+) -> Result<(), Departure> {
+    let mut disk = PageDisk::new(alloc);
+    for step in rest.split(" | ") {
+        disk = check_step(rt, alloc, scripts, disk, step)?;
+    }
+    Ok(())
+}
