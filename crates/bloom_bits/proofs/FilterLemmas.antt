@@ -6,7 +6,7 @@ use Rattle.std.proofs.lemmas.List.{length-replicate, get_or-replicate, get_or_pa
 use Rattle.std.proofs.lemmas.List.Elements.{Contains-push, Contains-push_cases, Contains-append_left}
 use Rattle.blsm_model.specs.declared.key.Key.{Key}
 use Rattle.bloom_bits.specs.BitSet.{BitState, IsSet, with_bit, cleared}
-use Rattle.bloom_bits.specs.Filter.{bit_positions, IsOfOne, HasKeys, AreCovered}
+use Rattle.bloom_bits.specs.Filter.{bit_positions, IsOfOne, HasKeys, AreCovered, MayHave}
 
 -- ---- one bit more, and several
 
@@ -110,12 +110,8 @@ keys_more old new keys key more has = record { just = λ place. (to place, from 
           | inr same ↦ (more.set_are place).1 (inr (subst (λ k. Contains (bit_positions (length old.bits) k) place) (sym same) (before one.0 place one.2)))
         ]
 
--- all places of the key are set
-abbrev pub AreSet : BitState → Key → Type 0
-AreSet filter key = (place : ℕ) → Contains (bit_positions (length filter.bits) key) place → IsSet filter.bits place
-
-pub covered : (filter : BitState) (keys : List Key) (key : Key) → HasKeys filter keys → AreSet filter key ↔ AreCovered (length filter.bits) keys key
+pub covered : (filter : BitState) (keys : List Key) (key : Key) → HasKeys filter keys → MayHave filter key ↔ AreCovered (length filter.bits) keys key
 covered filter keys key has = (λ are_set place its. (has.just place).0 (are_set place its), λ are place its. (has.just place).1 (are place its))
 
-pub added_are : (filter : BitState) (keys : List Key) (key : Key) → HasKeys filter keys → Contains keys key → AreSet filter key
+pub added_are : (filter : BitState) (keys : List Key) (key : Key) → HasKeys filter keys → Contains keys key → MayHave filter key
 added_are filter keys key has added = λ place its. (has.just place).1 (key, added, its)

@@ -27,6 +27,10 @@ IsOfOne bits keys place = (key : Key) × Contains keys key × Contains (bit_posi
 pub record HasKeys (filter : BitState) (keys : List Key) : Type 0 where
   pub just : (place : ℕ) → IsSet filter.bits place ↔ IsOfOne (length filter.bits) keys place
 
+-- the filter may have the key: each of the key's places is set
+abbrev pub MayHave : BitState → Key → Type 0
+MayHave filter key = (place : ℕ) → Contains (bit_positions (length filter.bits) key) place → IsSet filter.bits place
+
 -- these keys together have all places of the key
 abbrev pub AreCovered : ℕ → List Key → Key → Type 0
 AreCovered bits keys key = (place : ℕ) → Contains (bit_positions bits key) place → IsOfOne bits keys place

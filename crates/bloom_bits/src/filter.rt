@@ -3,7 +3,7 @@ ghost use Rattle.std.specs.Prelude.{◌≡◌, ◌*◌, ◌+◌, ◌%◌, ◌<�
 ghost use Rattle.std.specs.List.{All, Contains};
 ghost use Rattle.blsm_model.specs.declared.key.Key.{Key};
 ghost use Rattle.bloom_bits.specs.BitSet.{cleared};
-ghost use Rattle.bloom_bits.specs.Filter.{rounded, bit_positions, HasKeys, AreCovered};
+ghost use Rattle.bloom_bits.specs.Filter.{rounded, bit_positions, HasKeys, AreCovered, MayHave};
 
 use crate::bit_set::{BitSet, WORD_BITS};
 use crate::hash::{fnv1a, hash_on};
@@ -102,9 +102,11 @@ impl Filter {
         }
     }
 
-    /// Whether the key may be among those that were added: just where their bits cover its own. It is so for each of them.
+    /// Whether the key may be among those that were added: just where its four bits are set, which is where those of the added keys cover
+    /// them. It is so for each of these.
     pub fn may(&self, key: &Key) -> bool
-        ensures exactly { (keys : List Key) → HasKeys self.now keys → (IsTrue result ↔ AreCovered (length self.now.bits) keys key.now) }
+        ensures exactly { IsTrue result ↔ MayHave self.now key.now }
+        ensures covered { (keys : List Key) → HasKeys self.now keys → (IsTrue result ↔ AreCovered (length self.now.bits) keys key.now) }
         ensures added { (keys : List Key) → HasKeys self.now keys → Contains keys key.now → IsTrue result }
     {
         for place in positions(key, self.bits.len()) {

@@ -18,7 +18,7 @@ use Rattle.blsm_model.specs.Components.{no_page}
 use Rattle.blsm_model.specs.Geometry.{page_count}
 use Rattle.bloom_bits.specs.BitSet.{BitState}
 use Rattle.bloom_bits.specs.Fences.{FencesState, IsBelowAll, IsPlaceOf}
-use Rattle.bloom_bits.specs.Filter.{AreCovered, HasKeys}
+use Rattle.bloom_bits.specs.Filter.{MayHave}
 use Rattle.bloom_bits.specs.Guides.{fence_of, fences_of}
 use Rattle.record_delta.specs.declared.record.Rec.{Rec}
 use Rattle.record_delta.specs.Entries.{Entries}
@@ -285,9 +285,9 @@ listed H sizes key n pages file (Err (Damaged m)) honest few on told damaged oth
 
 -- ---- whatever filter and fences are
 
-pub asked_on : (run : Component) (filter : BitState) (fences : FencesState) (key : Key) (n : ℕ) → (run.pages ≡ 0 → ⊥) → ((keys : List Key) → HasKeys filter keys → AreCovered (length filter.bits) keys key) → IsPlaceOf key n fences.list
+pub asked_on : (run : Component) (filter : BitState) (fences : FencesState) (key : Key) (n : ℕ) → (run.pages ≡ 0 → ⊥) → MayHave filter key → IsPlaceOf key n fences.list
     → IsAsked run filter fences key n
-asked_on run filter fences key n some covered place = record { pages = some; yes = covered; place = place }
+asked_on run filter fences key n some may place = record { pages = some; yes = may; place = place }
 
 -- what the page says that is asked was found
 pub asked_told : (H : Type 0) (sizes : Sizes) (run : Component) (filter : BitState) (fences : FencesState) (key : Key) (n calls : ℕ) (file : List ℕ) (result : Result (Option Rec) Broken) → IsAsked run filter fences key n → calls ≤ 1

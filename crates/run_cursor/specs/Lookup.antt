@@ -1,5 +1,5 @@
 -- What one page of a component says of a key.
-use Rattle.std.specs.Prelude.{◌≡◌, ◌⊎◌, ℕ, ◌<◌, ◌≤◌, List, [], length, Option, None}
+use Rattle.std.specs.Prelude.{◌≡◌, ◌⊎◌, ℕ, ◌<◌, ◌≤◌, List, [], Option, None}
 use Rattle.std.specs.FinMap.{find}
 use Rattle.blsm_model.specs.declared.component.Component.{Component}
 use Rattle.blsm_model.specs.declared.key.Key.{Key}
@@ -8,7 +8,7 @@ use Rattle.blsm_model.specs.Sizes.{Sizes}
 use Rattle.blsm_model.specs.Geometry.{page_count}
 use Rattle.bloom_bits.specs.BitSet.{BitState}
 use Rattle.bloom_bits.specs.Fences.{FencesState, IsBelowAll, IsPlaceOf}
-use Rattle.bloom_bits.specs.Filter.{AreCovered, HasKeys}
+use Rattle.bloom_bits.specs.Filter.{MayHave}
 use Rattle.bloom_bits.specs.Guides.{Guide}
 use Rattle.record_delta.specs.declared.record.Rec.{Rec}
 use Rattle.record_delta.specs.Entries.{Entries}
@@ -28,15 +28,15 @@ pub record IsOnPage (sizes : Sizes) (n : ℕ) (key : Key) (found : Option Rec) (
   pub valid : IsPageOf (page_count sizes) next entries (page_at sizes n file)
   pub found_is : found ≡ find key_cmp key entries
 
--- the component has pages, the filter's keys cover this one, and this is the page that the fences name for it
+-- the component has pages, the filter says that it may have the key, and this is the page that the fences name for it
 pub record IsAsked (run : Component) (filter : BitState) (fences : FencesState) (key : Key) (n : ℕ) : Type 0 where
   pub pages : run.pages ≡ 0 → ⊥
-  pub yes : (keys : List Key) → HasKeys filter keys → AreCovered (length filter.bits) keys key
+  pub yes : MayHave filter key
   pub place : IsPlaceOf key n fences.list
 
 -- no page is asked: the component has none, the filter says no, or the key is below each page's first one
 abbrev pub NoneAsked : Component → BitState → FencesState → Key → Type 0
-NoneAsked run filter fences key = (run.pages ≡ 0) ⊎ ((keys : List Key) → HasKeys filter keys → AreCovered (length filter.bits) keys key → ⊥) ⊎ IsBelowAll key fences.list
+NoneAsked run filter fences key = (run.pages ≡ 0) ⊎ (MayHave filter key → ⊥) ⊎ IsBelowAll key fences.list
 
 -- it was found on the page that is asked, by so many calls of the disk, or none is and nothing was found
 abbrev pub IsFoundBy : Sizes → Component → BitState → FencesState → Key → Option Rec → ℕ → List ℕ → Type 0

@@ -5,7 +5,7 @@ ghost use Rattle.blsm_model.specs.declared.key.Key.{Key};
 ghost use Rattle.blsm_model.specs.Components.{no_page};
 ghost use Rattle.blsm_model.specs.Keys.{key_cmp};
 ghost use Rattle.blsm_model.specs.Geometry.{page_count, file_length};
-ghost use Rattle.bloom_bits.specs.Filter.{HasKeys, AreCovered};
+ghost use Rattle.bloom_bits.specs.Filter.{MayHave};
 ghost use Rattle.page_file.specs.Component.{RunPage, ReadsAs, entries_of};
 ghost use Rattle.record_delta.specs.Entries.{Entries};
 ghost use Rattle.page_file.specs.File.{page_at, Reads};
@@ -44,8 +44,8 @@ pub fn find<D: Disk>(
     ensures damaged { (n : ℕ) → result ≡ Err (Broken.Damaged n) → IsTrue (D.state disk.old).is_honest
         → IsDamaged geo.now run.now filter.now fences.now key.now n (D.state disk.old).bytes }
 
-    // It only reads, once at most, and not where the keys of the filter don't cover this one.
-    ensures no_call { (keys : List Key) → HasKeys filter.now keys → (AreCovered (length filter.now.bits) keys key.now → ⊥) → disk.new ≡ disk.old }
+    // It only reads, once at most, and not where the filter says no.
+    ensures no_call { (MayHave filter.now key.now → ⊥) → disk.new ≡ disk.old }
     ensures reads { Reads (file_length geo.now) 1 result (D.state disk.old) (D.state disk.new) }
 {
     if run.pages == 0 || !filter.may(key) {

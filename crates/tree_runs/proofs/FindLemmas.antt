@@ -16,7 +16,7 @@ use Rattle.page_file.specs.declared.file.Broken.TheVariants.{Fault}
 use Rattle.page_file.specs.File.{Reads}
 use Rattle.page_file.specs.Component.{RunPage, ReadsAs, entries_of}
 use Rattle.bloom_bits.specs.BitSet.{BitState}
-use Rattle.bloom_bits.specs.Filter.{AreCovered, HasKeys}
+use Rattle.bloom_bits.specs.Filter.{MayHave}
 use Rattle.catalog_swap.specs.declared.catalog.Catalog.{Catalog}
 use Rattle.tree_machine.proofs.FoldLemmas.{over_any_assoc}
 use Rattle.tree_file.specs.Tree.{Tree, HoldsTree}
@@ -201,12 +201,10 @@ same_broken broken other is = cc
 
 -- what a filter that was asked says of its lookup's calls
 pub answered : {A : Type 0} {end : ℕ} {result : Result A Broken} {old new : DiskState} (filter other : BitState) (key : Key) (n : ℕ) → other ≡ filter
-    → ((keys : List Key) → HasKeys other keys → (AreCovered (length other.bits) keys key → ⊥) → new ≡ old) → IsTimed old → CountsYes filter key n → Reads end 1 result old new → Reads end n result old new
+    → ((MayHave other key → ⊥) → new ≡ old) → IsTimed old → CountsYes filter key n → Reads end 1 result old new → Reads end n result old new
 answered {A} {end} {result} {old} {new} filter other key n is quiet timed (inl some) reads = asked timed n (inl some) reads
 answered {A} {end} {result} {old} {new} filter other key n is quiet timed (inr quietly) reads =
-    asked timed n
-    (inr (quiet quietly.0 (subst (λ (f : BitState). HasKeys f quietly.0) (sym is) quietly.1) (subst (λ (f : BitState). AreCovered (length f.bits) quietly.0 key → ⊥) (sym is) quietly.2)))
-    reads
+    asked timed n (inr (quiet (subst (λ (f : BitState). MayHave f key → ⊥) (sym is) quietly))) reads
 
 -- the same calls, told otherwise
 pub reads_failed : {A B : Type 0} {end n : ℕ} {broken : Broken} {result : Result A Broken} {old new : DiskState} (outcome : Result B Broken) → result ≡ Err broken → outcome ≡ Err broken → Reads end n result old new

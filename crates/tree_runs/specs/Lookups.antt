@@ -4,7 +4,7 @@ use Rattle.blsm_model.specs.declared.component.Component.{Component}
 use Rattle.blsm_model.specs.declared.key.Key.{Key}
 use Rattle.blsm_model.specs.Sizes.{Sizes}
 use Rattle.bloom_bits.specs.BitSet.{BitState}
-use Rattle.bloom_bits.specs.Filter.{AreCovered, HasKeys}
+use Rattle.bloom_bits.specs.Filter.{MayHave}
 use Rattle.catalog_swap.specs.declared.catalog.Catalog.{Catalog}
 use Rattle.record_delta.specs.declared.record.Rec.{Rec}
 use Rattle.record_delta.specs.declared.record.Rec.TheVariants.{Base, Delta, Tomb}
@@ -14,9 +14,9 @@ use Rattle.run_cursor.specs.Lookup.{IsDamaged, IsFoundBy}
 use Rattle.tree_file.specs.Tree.{Tree}
 use Rattle.tree_runs.specs.Runs.{GuideState, RunsState, Tags, filter_of, guide_at}
 
--- The filter's answer for the key, as a count: 1 at least, but 0 is enough where the filter says no, since its keys don't cover this one.
+-- The filter's answer for the key, as a count: 1 at least, but 0 is enough where the filter says no.
 abbrev pub CountsYes : BitState → Key → ℕ → Type 0
-CountsYes filter key n = (1 ≤ n) ⊎ ((keys : List Key) × HasKeys filter keys × (AreCovered (length filter.bits) keys key → ⊥))
+CountsYes filter key n = (1 ≤ n) ⊎ (MayHave filter key → ⊥)
 
 -- A base or a tombstone: whatever is older is hidden by it.
 abbrev pub HidesOlder : Option Rec → Type 0

@@ -20,7 +20,7 @@ pub returns-then-run-eq0-clause-told : goal.returns-then-run-eq0-clause-told
 returns-then-run-eq0-clause-told g c = λ honest.
     elim c.then-run-eq0.branch [
       | then-run-eq0-via-then-run-eq0 w ↦ inl (inl w.if-run-eq0.true, refl, omega arith)
-      | then-run-eq0-via-else-run-eq0+then-not-may w ↦ inl (inr (inl (λ keys has covered. false≢true (sym w.if-not-may.true ∙ (w.may.ensures.exactly keys has).1 covered))), refl, omega arith)
+      | then-run-eq0-via-else-run-eq0+then-not-may w ↦ inl (inr (inl (λ may. false≢true (sym w.if-not-may.true ∙ w.may.ensures.exactly.1 may))), refl, omega arith)
     ]
 
 pub returns-in-Some-clause-list : goal.returns-in-Some-clause-list
@@ -33,7 +33,7 @@ returns-in-Some-clause-list g c = λ pages honest reads guided other.
     listed (IsTrue (g.D.Disk.state c.args.disk.now).is_honest) sizes c.args.key.now c.in-Some.page pages file c.find_on.result honest c.find_on.ensures.few on c.find_on.ensures.page c.find_on.ensures.damaged other
 
 pub returns-in-Some-clause-no_call : goal.returns-in-Some-clause-no_call
-returns-in-Some-clause-no_call g c = λ keys has lacks. absurd (lacks ((c.may.ensures.exactly keys has).0 c.if-not-may.false))
+returns-in-Some-clause-no_call g c = λ lacks. absurd (lacks (c.may.ensures.exactly.0 c.if-not-may.false))
 
 pub returns-in-None-clause-list : goal.returns-in-None-clause-list
 returns-in-None-clause-list g c = λ pages honest reads guided other.
@@ -46,14 +46,14 @@ returns-in-None-clause-list g c = λ pages honest reads guided other.
 pub returns-in-Some-clause-told : goal.returns-in-Some-clause-told
 returns-in-Some-clause-told g c =
     asked_told (IsTrue (g.D.Disk.state c.args.disk.now).is_honest) c.args.geo.now c.args.run.now c.args.filter.now c.args.fences.now c.args.key.now c.in-Some.page _ (g.D.Disk.state c.args.disk.now).bytes c.find_on.result
-    (asked_on c.args.run.now c.args.filter.now c.args.fences.now c.args.key.now c.in-Some.page c.if-run-eq0.false (λ keys has. (c.may.ensures.exactly keys has).0 c.if-not-may.false) c.in-Some.ensures.some)
+    (asked_on c.args.run.now c.args.filter.now c.args.fences.now c.args.key.now c.in-Some.page c.if-run-eq0.false (c.may.ensures.exactly.0 c.if-not-may.false) c.in-Some.ensures.some)
     (omega (arith, c.find_on.ensures.reads.effect.effect.calls)) c.find_on.ensures.page
 
 pub returns-in-Some-clause-damaged : goal.returns-in-Some-clause-damaged
 returns-in-Some-clause-damaged g c = λ n is honest.
     let found = c.find_on.ensures.damaged n is honest in
     asked_damaged c.args.geo.now c.args.run.now c.args.filter.now c.args.fences.now c.args.key.now n c.in-Some.page (g.D.Disk.state c.args.disk.now).bytes found.0
-    (asked_on c.args.run.now c.args.filter.now c.args.fences.now c.args.key.now c.in-Some.page c.if-run-eq0.false (λ keys has. (c.may.ensures.exactly keys has).0 c.if-not-may.false) c.in-Some.ensures.some)
+    (asked_on c.args.run.now c.args.filter.now c.args.fences.now c.args.key.now c.in-Some.page c.if-run-eq0.false (c.may.ensures.exactly.0 c.if-not-may.false) c.in-Some.ensures.some)
     found.1
 
 pub returns-in-None-clause-told : goal.returns-in-None-clause-told

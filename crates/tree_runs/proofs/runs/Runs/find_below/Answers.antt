@@ -43,7 +43,7 @@ returns-in_default-clause-reads g c = λ n counts.
     let sizes : c.self.inside.geometry ≡ c.args.self.now.sizes = search rules in
     subst (λ (s : Sizes). Reads (file_length s) n c.find.result old new) sizes
     (answered (filter_of c.args.self.now c.args.role) c.guide.inside.filter c.args.key.now n (same_filter g c)
-    (λ keys has not. ap g.D.Disk.state (c.find.ensures.no_call keys has not)) (g.met.D.Disk.timed c.args.disk.now) counts c.find.ensures.reads)
+    (λ not. ap g.D.Disk.state (c.find.ensures.no_call not)) (g.met.D.Disk.timed c.args.disk.now) counts c.find.ensures.reads)
 
 pub returns-in_err-older-clause-reads : goal.returns-in_err-older-clause-reads
 returns-in_err-older-clause-reads g c = λ n counts.
@@ -54,7 +54,7 @@ returns-in_err-older-clause-reads g c = λ n counts.
     reads_failed c.from_residual.result c.in_err-older.was (p.1 ∙ ap Err p.2)
     (subst (λ (s : Sizes). Reads (file_length s) n c.find-2.result old new) sizes
     (answered (filter_of c.args.self.now c.args.role) c.guide.inside.filter c.args.key.now n (same_filter_2 g c)
-    (λ keys has not. ap g.D.Disk.state (c.find-2.ensures.no_call keys has not)) (g.met.D.Disk.timed c.args.disk.now) counts c.find-2.ensures.reads))
+    (λ not. ap g.D.Disk.state (c.find-2.ensures.no_call not)) (g.met.D.Disk.timed c.args.disk.now) counts c.find-2.ensures.reads))
 
 pub returns-clause-reads : goal.returns-clause-reads
 returns-clause-reads g c = λ n counts.
@@ -70,7 +70,7 @@ returns-clause-reads g c = λ n counts.
     reads_found _ c.in_ok-older.was
     (subst (λ (s : Sizes). Reads (file_length s) n c.find-2.result old new) sizes
     (answered (filter_of c.args.self.now c.args.role) c.guide.inside.filter c.args.key.now n same
-    (λ keys has not. ap g.D.Disk.state (c.find-2.ensures.no_call keys has not)) (g.met.D.Disk.timed c.args.disk.now) counts c.find-2.ensures.reads))
+    (λ not. ap g.D.Disk.state (c.find-2.ensures.no_call not)) (g.met.D.Disk.timed c.args.disk.now) counts c.find-2.ensures.reads))
 
 -- ---- what it tells
 
