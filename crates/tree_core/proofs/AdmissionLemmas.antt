@@ -79,10 +79,6 @@ refused_moves seat op reply held pace d b made undone room same holds =
     subst (λ (k : BookState). MovesPace seat (kind.Admit op) (Replied reply) (with_book k held) d pace) (sym same)
     (record { next = pace; made = made; holds = quiet_holds seat op reply held pace d (λ done. absurd (false≢true (sym undone ∙ done))) room holds })
 
--- what moves the pace has one
-pub core_of : (seat : ℕ) (op : Op) (reply : Reply) (new : Held) (d : DiskState) (pace : Pace) → MovesPace seat (kind.Admit op) (Replied reply) new d pace → IsCore new d
-core_of seat op reply new d pace moves = record { pace = moves.next; holds = moves.holds }
-
 -- and one with which the store stops
 stopped_holds : (seat : ℕ) (op : Op) (reply : Reply) (why : Why) (held : Held) (pace : Pace) (d : DiskState) → is_done reply ≡ false → HasRoom held.book.book.room (record { seat = seat; op = op; reply = reply })
     → IsBetween held pace → HoldsPace (with_book (noted_in seat op reply (stopped_in why held.book)) held) pace d

@@ -1,7 +1,8 @@
 -- A leave and the end of a work: steps that only write in the book.
-use Rattle.std.specs.Prelude.{◌≡◌, ℕ, ◌≤◌, ◌&&◌, true, List, [], ◌∷◌, ◌++◌, Option, None, Some, length, nat_lt, nat_le, option_map, slice_index, unwrap_or}
-use Rattle.std.proofs.Common.{◌∙◌, inl, refl, ap, sym, arith}
+use Rattle.std.specs.Prelude.{◌≡◌, ℕ, ◌<◌, ◌≤◌, ◌&&◌, true, false, List, Option, None, Some, IsTrue, length, nat_lt, nat_le, option_map, slice_index, unwrap_or}
+use Rattle.std.proofs.Common.{◌∙◌, inl, inr, refl, ap, sym, subst, arith}
 use Rattle.std.proofs.lemmas.Bool.{ltb-true}
+use Rattle.std.proofs.lemmas.List.{get_or-set_same}
 use Rattle.blsm_model.specs.Format.{callers}
 use Rattle.blsm_model.specs.declared.key.Key.{Key}
 use Rattle.blsm_model.specs.declared.row.Value.{Value}
@@ -14,6 +15,7 @@ use Rattle.blsm_model.specs.Book.{HasRoom, rows_given}
 use Rattle.blsm_model.specs.Facts.{Follows}
 use Rattle.disk_trait.specs.Disk.{DiskState}
 use Rattle.disk_trait.specs.Moments.{IsTimed}
+use Rattle.disk_trait.specs.Reads.{OnlyReads, only_reads_start}
 use Rattle.pacing.specs.Pace.{Pace}
 use Rattle.seat_book.specs.State.{BookState, book_of, ended_in, left_in, work_in, may_end_in}
 use Rattle.seat_book.specs.Seats.{KeepsSeats}
@@ -21,19 +23,26 @@ use Rattle.seat_book.proofs.KeepLemmas.{leave_keeps, ending_keeps, keeps_less, h
 use Rattle.seat_book.proofs.WordLemmas.{steps_book}
 use Rattle.tree_machine.specs.Machine as machine
 use Rattle.tree_machine.specs.Machine.{Machine, Turned, WorkSoFar, is_caller}
-use Rattle.tree_machine.specs.Steps.{Well, Left, Replied, leave, reply_by, work_end, work_reply}
+use Rattle.tree_machine.specs.Steps.{Answer, Stepped, Well, Left, Replied, leave, reply_by, work_end, work_reply}
 use Rattle.tree_machine.specs.Plays.{has_room, is_finished, may}
+use Rattle.tree_machine.specs.declared.step.Kind.{Kind}
 use Rattle.tree_machine.specs.declared.step.Kind.TheVariants as kind
 use Rattle.tree_machine.proofs.FoldLemmas.{both_hold}
-use Rattle.paced_tree.proofs.Promises.{step_is_paced}
+use Rattle.paced_tree.specs.Made.{IsMadeBy}
 use Rattle.core_moves.specs.declared.held.Held.{Held}
 use Rattle.core_moves.specs.Moves.{with_book}
+use Rattle.core_moves.specs.Needs.{IsOn}
+use Rattle.core_pace.specs.Pacing.{IsRunBook}
 use Rattle.core_pace.proofs.TurnLemmas.{leave_is_told, end_is_told}
-use Rattle.core_lists.proofs.ShowingLemmas.{prefix_self, quiet_entry_counts_none}
-use Rattle.tree_core.specs.Core.{HoldsPace, facts_of_held, beside_in}
+use Rattle.core_lists.proofs.ShowingLemmas.{quiet_entry_counts_none}
+use Rattle.tree_core.specs.Calls.{BesideHolds, EndsWork, GoesOnAs, Leaves}
+use Rattle.tree_core.specs.Core.{CoreState, IsCore, facts_of_held, beside_in}
+use Rattle.tree_core.specs.Notes.{HasLeft}
 use Rattle.tree_core.specs.Standing.{StandsFor}
-use Rattle.tree_core.specs.Steps.{MovesPace, IsStep}
-use Rattle.tree_core.proofs.QuietLemmas.{rebooked_holds, quiet_stands, shows_now, shows_entry, shows_same, leaves_now, leaves_longer}
+use Rattle.tree_core.specs.Steps.{IsStep, may_in}
+use Rattle.tree_core.proofs.KeepLemmas.{is_held, reads_affect}
+use Rattle.tree_core.proofs.LastLemmas.{goes_on_by, may_leave}
+use Rattle.tree_core.proofs.QuietLemmas.{quiet_step, read_holds}
 
 -- what one call for the book leaves to the other seats, whose debts stay
 pub book_follows : (seat entries : ℕ) (held : Held) (b : BookState) → entries ≤ 1 → KeepsSeats seat entries 0 held.book b → Follows seat (facts_of_held held) (facts_of_held (with_book b held))
@@ -41,31 +50,34 @@ book_follows seat entries held b few keeps =
     holds_follow seat held.book b (beside_in held) (beside_in held) (keeps_less seat entries 1 0 1 held.book b few (omega arith) keeps)
     (record { first = λ other not. omega arith; second = λ other not. omega arith })
 
+-- What such a call says, where its disk is only read, or isn't called.
+pub book_goes : {D : Type 0} {end most : ℕ} (state : D → DiskState) (seat : ℕ) (k : Kind) (answer : Answer) (old : CoreState D) (disk : D) (b : BookState) (entries : ℕ) → IsCore old.held (state old.disk) → IsTimed (state disk)
+    → OnlyReads end most (state old.disk) (state disk) → (IsOn old.held (state old.disk) → IsOn old.held (state disk)) → is_held k ≡ false → may_in old.held seat k ≡ true → entries ≤ 1 → KeepsSeats seat entries 0 old.held.book b
+    → b.counts ≡ old.held.book.counts → b.stopped ≡ old.held.book.stopped → ((pace : Pace) → IsRunBook old.held.book pace → IsRunBook b pace) → ((pace : Pace) → IsMadeBy seat k answer pace pace)
+    → ((opening : List (Key × Value)) (m : Machine) (pace : Pace) → IsTrue (state old.disk).is_honest → StandsFor opening old.held m pace (state old.disk) → may m seat k ≡ true
+    → IsStep opening seat k answer (with_book b old.held) (state old.disk) (state disk) m pace)
+    → GoesOnAs state seat k answer old (record { disk = disk; held = with_book b old.held; holds = old.holds }) × BesideHolds state seat k answer old (record { disk = disk; held = with_book b old.held; holds = old.holds })
+book_goes state seat k answer old disk b entries core timed reads on none can few keeps counts stopped told made steps =
+    goes_on_by state seat k answer old _ core timed none can (record { holds = refl; pins = refl; sizes = refl }) (reads_affect reads) (book_follows seat entries old.held b few keeps)
+    (λ pace holds. record { next = pace; made = made pace; holds = read_holds old.held b pace (state old.disk) (state disk) holds counts stopped (told pace holds.told.told) on }) steps
+
 -- ---- a leave
 
-pub leave_holds : (seat : ℕ) (held : Held) (pace : Pace) (d : DiskState) → HoldsPace held pace d → HoldsPace (with_book (left_in seat held.book) held) pace d
-leave_holds seat held pace d holds = rebooked_holds held (left_in seat held.book) pace d holds refl refl (leave_is_told held.book pace seat holds.told.told)
+pub leave_does : {D : Type 0} (state : D → DiskState) (seat : ℕ) (old : CoreState D) (b : BookState) → IsCore old.held (state old.disk) → IsTimed (state old.disk) → seat < callers → length old.held.book.seats.left ≡ callers
+    → b ≡ left_in seat old.held.book → Leaves state seat old (record old { held = with_book b old.held })
+leave_does {D} state seat old b core timed caller places is = subst (λ (x : BookState). Leaves state seat old (record old { held = with_book x old.held })) (sym is) (record { goes = goes.0; beside = goes.1; held = refl; left = left; untouched = refl })
+  where
+    reads : OnlyReads 0 0 (state old.disk) (state old.disk)
+    reads = only_reads_start (state old.disk) timed
 
-pub leave_moves : (seat : ℕ) (held : Held) (pace : Pace) (d : DiskState) → HoldsPace held pace d → MovesPace seat kind.Leave Left (with_book (left_in seat held.book) held) d pace
-leave_moves seat held pace d holds = record { next = pace; made = refl; holds = leave_holds seat held pace d holds }
+    goes : GoesOnAs state seat kind.Leave Left old (record old { held = with_book (left_in seat old.held.book) old.held }) × BesideHolds state seat kind.Leave Left old (record old { held = with_book (left_in seat old.held.book) old.held })
+    goes = book_goes state seat kind.Leave Left old old.disk (left_in seat old.held.book) 0 core timed reads (λ on. on) refl (may_leave seat caller) (omega arith) (leave_keeps seat old.held.book) refl refl
+        (λ pace told. leave_is_told old.held.book pace seat told) (λ pace. refl)
+        (λ opening m pace honest s can. quiet_step opening seat kind.Leave Well Left old.held (left_in seat old.held.book) m (leave m seat).state pace reads honest s can tt tt refl refl refl
+        (record { same = record { lists = refl; merges = refl; gears = refl; spring = refl; catalogue = refl }; counts = record { charge = refl; peak = refl; quanta = refl }; book = (steps_book m).leave seat ∙ ap (left_in seat) s.book; stopped = refl; noted = inl refl }))
 
-pub leave_steps : (opening : List (Key × Value)) (seat : ℕ) (held : Held) (m : Machine) (pace : Pace) (d : DiskState) → IsTimed d → StandsFor opening held m pace d → may m seat kind.Leave ≡ true
-    → IsStep opening seat kind.Leave Left (with_book (left_in seat held.book) held) d d m pace
-leave_steps opening seat held m pace d timed s can = record {
-  outcome = Well;
-  possible = tt;
-  whole = refl;
-  stands = quiet_stands opening held (left_in seat held.book) m (leave m seat).state pace d d s (record { lists = refl; merges = refl; gears = refl; spring = refl; catalogue = refl })
-      ((steps_book m).leave seat ∙ ap (λ (b : BookState). left_in seat b) s.book) refl
-      (step_is_paced opening m pace (record { seat = seat; kind = kind.Leave }) Well s.paced can tt)
-      (λ tree over. over)
-      (λ stopped. shows_same opening m (leave m seat).state d (shows_now opening held m pace d s) refl (record { charge = refl; peak = refl; quanta = refl }) refl);
-  answers = refl;
-  images = leaves_longer opening m m.book.entries d d (prefix_self m.book.entries) (leaves_now opening held m pace d timed s);
-}
-
-pub leave_follows : (seat : ℕ) (held : Held) → Follows seat (facts_of_held held) (facts_of_held (with_book (left_in seat held.book) held))
-leave_follows seat held = book_follows seat 0 held (left_in seat held.book) (omega arith) (leave_keeps seat held.book)
+    left : HasLeft seat (left_in seat old.held.book)
+    left = get_or-set_same old.held.book.seats.left seat true false (omega (arith, caller, places))
 
 -- ---- the end of a work
 
@@ -95,34 +107,18 @@ no_rows work stopped = by work.last stopped
     by machine.Closed o = none o
     by (machine.Halted why) o = none o
 
-pub end_holds : (seat n : ℕ) (held : Held) (pace : Pace) (d : DiskState) → length held.book.seats.work ≡ callers → may_end_in seat n held.book ≡ true → HoldsPace held pace d
-    → HoldsPace (with_book (ended_in seat n held.book) held) pace d
-end_holds seat n held pace d works can holds =
-    rebooked_holds held (ended_in seat n held.book) pace d holds refl refl
-    (end_is_told held.book pace seat n works (end_has_room seat n held.book (work_reply (work_in seat held.book) held.book.stopped) (no_rows (work_in seat held.book) held.book.stopped) can) holds.told.told)
+pub end_does : {D : Type 0} (state : D → DiskState) (seat n : ℕ) (reply : Reply) (old : CoreState D) (b : BookState) → IsCore old.held (state old.disk) → IsTimed (state old.disk) → length old.held.book.seats.work ≡ callers
+    → may_end_in seat n old.held.book ≡ true → reply ≡ work_reply (work_in seat old.held.book) old.held.book.stopped → b ≡ ended_in seat n old.held.book → EndsWork state seat n reply old (record old { held = with_book b old.held })
+end_does {D} state seat n reply old b core timed works can reply_is is = subst (λ (x : BookState). EndsWork state seat n reply old (record old { held = with_book x old.held })) (sym is) (record { goes = goes.0; beside = goes.1; reply_is = reply_is; held = refl; untouched = refl })
+  where
+    reads : OnlyReads 0 0 (state old.disk) (state old.disk)
+    reads = only_reads_start (state old.disk) timed
 
-pub end_moves : (seat n : ℕ) (reply : Reply) (held : Held) (pace : Pace) (d : DiskState) → length held.book.seats.work ≡ callers → may_end_in seat n held.book ≡ true → HoldsPace held pace d
-    → MovesPace seat (kind.WorkEnd n) (Replied reply) (with_book (ended_in seat n held.book) held) d pace
-end_moves seat n reply held pace d works can holds = record { next = pace; made = refl; holds = end_holds seat n held pace d works can holds }
-
-pub end_steps : (opening : List (Key × Value)) (seat n : ℕ) (reply : Reply) (held : Held) (m : Machine) (pace : Pace) (d : DiskState) → IsTimed d → reply ≡ work_reply (work_in seat held.book) held.book.stopped
-    → StandsFor opening held m pace d → may m seat (kind.WorkEnd n) ≡ true
-    → IsStep opening seat (kind.WorkEnd n) (Replied reply) (with_book (ended_in seat n held.book) held) d d m pace
-end_steps opening seat n reply held m pace d timed is s can =
-    let after = (work_end m seat n).state in
-    let entry : Entry = record { seat = seat; op = Work n; reply = work_reply (work_in seat (book_of m)) m.stopped } in
-    record {
-      outcome = Well;
-      possible = tt;
-      whole = refl;
-      stands = quiet_stands opening held (ended_in seat n held.book) m after pace d d s (record { lists = refl; merges = refl; gears = refl; spring = refl; catalogue = refl })
-          ((steps_book m).ending seat n ∙ ap (λ (b : BookState). ended_in seat n b) s.book) refl
-          (step_is_paced opening m pace (record { seat = seat; kind = kind.WorkEnd n }) Well s.paced can tt)
-          (λ tree over. over)
-          (λ stopped. shows_entry opening m after d d entry (shows_now opening held m pace d s) refl (record { charge = refl; peak = refl; quanta = refl }) refl (quiet_entry_counts_none entry (inl refl)) refl (λ c left. left));
-      answers = ap (λ (r : Reply). Replied r) (is ∙ ap (λ (b : BookState). work_reply (work_in seat b) b.stopped) (sym s.book));
-      images = leaves_longer opening m (m.book.entries ++ entry ∷ []) d d ((entry ∷ [], refl)) (leaves_now opening held m pace d timed s);
-    }
-
-pub end_follows : (seat n : ℕ) (held : Held) → Follows seat (facts_of_held held) (facts_of_held (with_book (ended_in seat n held.book) held))
-end_follows seat n held = book_follows seat 1 held (ended_in seat n held.book) (omega arith) (ending_keeps seat n held.book)
+    goes : GoesOnAs state seat (kind.WorkEnd n) (Replied reply) old (record old { held = with_book (ended_in seat n old.held.book) old.held }) × BesideHolds state seat (kind.WorkEnd n) (Replied reply) old (record old { held = with_book (ended_in seat n old.held.book) old.held })
+    goes = book_goes state seat (kind.WorkEnd n) (Replied reply) old old.disk (ended_in seat n old.held.book) 1 core timed reads (λ on. on) refl can (omega arith) (ending_keeps seat n old.held.book) refl refl
+        (λ pace told. end_is_told old.held.book pace seat n works (end_has_room seat n old.held.book (work_reply (work_in seat old.held.book) old.held.book.stopped) (no_rows (work_in seat old.held.book) old.held.book.stopped) can) told) (λ pace. refl)
+        (λ opening m pace honest s ok.
+        let entry : Entry = record { seat = seat; op = Work n; reply = work_reply (work_in seat (book_of m)) m.stopped } in
+        quiet_step opening seat (kind.WorkEnd n) Well (Replied reply) old.held (ended_in seat n old.held.book) m (work_end m seat n).state pace reads honest s ok tt tt refl refl
+        (ap (λ (r : Reply). record { state = (work_end m seat n).state; answer = Replied r }) (ap (λ (x : BookState). work_reply (work_in seat x) x.stopped) s.book ∙ sym reply_is))
+        (record { same = record { lists = refl; merges = refl; gears = refl; spring = refl; catalogue = refl }; counts = record { charge = refl; peak = refl; quanta = refl }; book = (steps_book m).ending seat n ∙ ap (ended_in seat n) s.book; stopped = refl; noted = inr (entry, refl, quiet_entry_counts_none entry (inl refl)) }))

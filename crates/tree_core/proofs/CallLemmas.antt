@@ -67,49 +67,6 @@ module _ {D : Type 0} (state : D → DiskState) (seat : ℕ) (k : Kind) (answer 
   goes_beside none keeps beside steps =
       goes_holding (λ opening m pace honest whole ok. whole_step state opening seat k answer old new m pace none keeps (beside honest) whole (steps opening m pace honest whole.stands ok))
 
--- an admission
-pub admits : {D : Type 0} (state : D → DiskState) (seat : ℕ) (op : Op) (answer : Admission) (old new : CoreState D)
-    (can : may_in old.held seat (kind.Admit op) ≡ true)
-    (numbers : (pace : Pace) → HoldsPace old.held pace (state old.disk) → MovesPace seat (kind.Admit op) (Replied (reply_to_write answer)) new.held (state new.disk) pace)
-    (steps : (opening : List (Key × Value)) (m : Machine) (pace : Pace) → IsTrue (state old.disk).is_honest → StandsFor opening old.held m pace (state old.disk) → IsTrue (may m seat (kind.Admit op)) → IsStep opening seat (kind.Admit op) (Replied (reply_to_write answer)) new.held (state old.disk) (state new.disk) m pace)
-    (cause : AdmitsBecause answer seat op old.held new.held (state old.disk) (state new.disk)) (begun : HasBegun answer old.held new.held)
-    (notes : NotesOne seat op (reply_to_write answer) old.held.book new.held.book)
-    (effect : Affects (beside_pins old.held.runs.sizes old.held.runs.space.pins) (file_length old.held.runs.sizes) (calls_to_admit old.held) (state old.disk) (state new.disk))
-    (untouched : CallsNone answer → new.disk ≡ old.disk) (holds : KeepsHolds old new) (follows : Follows seat (facts_of_held old.held) (facts_of_held new.held))
-    (lasts : (start : CoreState D) → StandsSince state start old → StandsSince state start new) (begins : StandsSince state new new)
-    → Admits state seat op answer old new
-admits state seat op answer old new can numbers steps cause begun notes effect untouched holds follows lasts begins =
-    record { goes = goes_beside state seat (kind.Admit op) (Replied (reply_to_write answer)) old new can numbers follows lasts begins refl holds (λ honest. effect.bytes honest) steps; cause = cause; begun = begun; notes = notes; effect = effect; untouched = untouched }
-
--- a payment
-pub pays : {D : Type 0} (state : D → DiskState) (seat : ℕ) (answer : Payment) (old new : CoreState D)
-    (can : may_in old.held seat kind.Pay ≡ true) (numbers : (pace : Pace) → HoldsPace old.held pace (state old.disk) → MovesPace seat kind.Pay (answer_to_pay answer) new.held (state new.disk) pace)
-    (steps : (opening : List (Key × Value)) (m : Machine) (pace : Pace) → IsTrue (state old.disk).is_honest → StandsFor opening old.held m pace (state old.disk) → IsTrue (may m seat kind.Pay) → IsStep opening seat kind.Pay (answer_to_pay answer) new.held (state old.disk) (state new.disk) m pace)
-    (cause : PaysBecause answer seat old.held new.held (state old.disk) (state new.disk)) (counts : CountsPayment answer seat old.held.book new.held.book) (settles : Settles answer seat new.held)
-    (lessens : Lessens answer seat old.held new.held)
-    (effect : Affects (beside_pins old.held.runs.sizes old.held.runs.space.pins) (file_length old.held.runs.sizes) (old.held.runs.sizes.quantum / 4 + 3) (state old.disk) (state new.disk))
-    (untouched : PaysNone answer → new.disk ≡ old.disk) (holds : KeepsHolds old new) (follows : Follows seat (facts_of_held old.held) (facts_of_held new.held))
-    (lasts : (start : CoreState D) → StandsSince state start old → StandsSince state start new) (begins : StandsSince state new new)
-    → Pays state seat answer old new
-pays state seat answer old new can numbers steps cause counts settles lessens effect untouched holds follows lasts begins =
-    record { goes = goes_beside state seat kind.Pay (answer_to_pay answer) old new can numbers follows lasts begins refl holds (λ honest. effect.bytes honest) steps; cause = cause; counts = counts; settles = settles; lessens = lessens; effect = effect; untouched = untouched }
-
--- a lookup
-pub gets : {D : Type 0} (state : D → DiskState) (seat : ℕ) (key : Key) (answer : Lookup) (old new : CoreState D)
-    (can : may_in old.held seat (kind.Get key) ≡ true)
-    (numbers : (pace : Pace) → HoldsPace old.held pace (state old.disk) → MovesPace seat (kind.Get key) (Replied (reply_to_get answer)) new.held (state new.disk) pace)
-    (steps : (opening : List (Key × Value)) (m : Machine) (pace : Pace) → IsTrue (state old.disk).is_honest → StandsFor opening old.held m pace (state old.disk) → IsTrue (may m seat (kind.Get key)) → IsStep opening seat (kind.Get key) (Replied (reply_to_get answer)) new.held (state old.disk) (state new.disk) m pace)
-    (cause : FindsBecause answer key old.held (state old.disk) (state new.disk)) (held : new.held ≡ with_book (noted_in seat (op.Get key) (reply_to_get answer) old.held.book) old.held)
-    (reads : OnlyReads (file_length old.held.runs.sizes) 3 (state old.disk) (state new.disk)) (hidden : HidesOlder (newest_in key old.held) → new.disk ≡ old.disk)
-    (untouched : LooksNone answer → new.disk ≡ old.disk) (holds : KeepsHolds old new) (follows : Follows seat (facts_of_held old.held) (facts_of_held new.held))
-    (lasts : (start : CoreState D) → StandsSince state start old → StandsSince state start new) (begins : StandsSince state new new)
-    → Gets state seat key answer old new
-gets {D} state seat key answer old new can numbers steps cause held reads hidden untouched holds follows lasts begins =
-    record { goes = goes_beside state seat (kind.Get key) (Replied (reply_to_get answer)) old new can numbers follows lasts begins refl holds (λ honest. stays (only_reads_same reads honest)) steps; cause = cause; held = held; reads = reads; hidden = hidden; untouched = untouched }
-  where
-    stays : (state new.disk).bytes ≡ (state old.disk).bytes → IsSameOutside (beside_pins old.held.runs.sizes old.held.runs.space.pins) (state old.disk).bytes (state new.disk).bytes
-    stays same = subst (λ (file : List ℕ). IsSameOutside (beside_pins old.held.runs.sizes old.held.runs.space.pins) (state old.disk).bytes file) (sym same) (same_file (beside_pins old.held.runs.sizes old.held.runs.space.pins) (state old.disk).bytes)
-
 -- a range is held
 pub holds_range : {D : Type 0} (state : D → DiskState) (seat : ℕ) (low high : Key) (answer : Holding) (old new : CoreState D)
     (can : may_in old.held seat (kind.Hold low high) ≡ true)
@@ -147,61 +104,6 @@ pub lets_go : {D : Type 0} (state : D → DiskState) (seat : ℕ) (answer : Rele
     → LetsGo state seat answer old new
 lets_go state seat answer old new can numbers steps cause others book untouched follows lasts begins =
     record { goes = goes_holding state seat kind.Release (Replied (reply_to_drop answer)) old new can numbers follows lasts begins steps; cause = cause; others = others; book = book; untouched = untouched }
-
--- a turn of a caller's work
-pub turns_once : {D : Type 0} (state : D → DiskState) (seat : ℕ) (answer : Turned) (old new : CoreState D)
-    (can : may_in old.held seat kind.WorkTurn ≡ true) (numbers : (pace : Pace) → HoldsPace old.held pace (state old.disk) → MovesPace seat kind.WorkTurn (Turn answer) new.held (state new.disk) pace)
-    (steps : (opening : List (Key × Value)) (m : Machine) (pace : Pace) → IsTrue (state old.disk).is_honest → StandsFor opening old.held m pace (state old.disk) → IsTrue (may m seat kind.WorkTurn) → IsStep opening seat kind.WorkTurn (Turn answer) new.held (state old.disk) (state new.disk) m pace)
-    (cause : TurnsBecause answer false seat old.held new.held (state old.disk) (state new.disk)) (counts : CountsTurn seat answer old.held new.held)
-    (even : new.held.book.stopped ≡ None → OwesNothing seat new.held)
-    (effect : Affects (beside_pins old.held.runs.sizes old.held.runs.space.pins) (file_length old.held.runs.sizes) (old.held.runs.sizes.quantum / 4 + 9) (state old.disk) (state new.disk))
-    (untouched : TurnsNone answer → new.disk ≡ old.disk) (holds : KeepsHolds old new) (follows : Follows seat (facts_of_held old.held) (facts_of_held new.held))
-    (lasts : (start : CoreState D) → StandsSince state start old → StandsSince state start new) (begins : StandsSince state new new)
-    → TurnsOnce state seat answer old new
-turns_once state seat answer old new can numbers steps cause counts even effect untouched holds follows lasts begins =
-    record { goes = goes_beside state seat kind.WorkTurn (Turn answer) old new can numbers follows lasts begins refl holds (λ honest. effect.bytes honest) steps; cause = cause; counts = counts; even = even; effect = effect; untouched = untouched }
-
--- its end
-pub ends_work : {D : Type 0} (state : D → DiskState) (seat n : ℕ) (reply : Reply) (old new : CoreState D)
-    (can : may_in old.held seat (kind.WorkEnd n) ≡ true)
-    (numbers : (pace : Pace) → HoldsPace old.held pace (state old.disk) → MovesPace seat (kind.WorkEnd n) (Replied reply) new.held (state new.disk) pace)
-    (steps : (opening : List (Key × Value)) (m : Machine) (pace : Pace) → IsTrue (state old.disk).is_honest → StandsFor opening old.held m pace (state old.disk) → IsTrue (may m seat (kind.WorkEnd n)) → IsStep opening seat (kind.WorkEnd n) (Replied reply) new.held (state old.disk) (state new.disk) m pace)
-    (reply_is : reply ≡ work_reply (work_in seat old.held.book) old.held.book.stopped) (disk : new.disk ≡ old.disk) (held : new.held ≡ with_book (ended_in seat n old.held.book) old.held)
-    (holds : KeepsHolds old new) (follows : Follows seat (facts_of_held old.held) (facts_of_held new.held)) (lasts : (start : CoreState D) → StandsSince state start old → StandsSince state start new)
-    (begins : StandsSince state new new)
-    → EndsWork state seat n reply old new
-ends_work {D} state seat n reply old new can numbers steps reply_is disk held holds follows lasts begins =
-    record { goes = goes_beside state seat (kind.WorkEnd n) (Replied reply) old new can numbers follows lasts begins refl holds (λ honest. stays (ap (λ (d : D). (state d).bytes) disk)) steps; reply_is = reply_is; held = held; untouched = disk }
-  where
-    stays : (state new.disk).bytes ≡ (state old.disk).bytes → IsSameOutside (beside_pins old.held.runs.sizes old.held.runs.space.pins) (state old.disk).bytes (state new.disk).bytes
-    stays same = subst (λ (file : List ℕ). IsSameOutside (beside_pins old.held.runs.sizes old.held.runs.space.pins) (state old.disk).bytes file) (sym same) (same_file (beside_pins old.held.runs.sizes old.held.runs.space.pins) (state old.disk).bytes)
-
--- a turn of a worker
-pub helps : {D : Type 0} (state : D → DiskState) (seat : ℕ) (answer : Turned) (old new : CoreState D)
-    (can : may_in old.held seat kind.WorkerTurn ≡ true) (numbers : (pace : Pace) → HoldsPace old.held pace (state old.disk) → MovesPace seat kind.WorkerTurn (Turn answer) new.held (state new.disk) pace)
-    (steps : (opening : List (Key × Value)) (m : Machine) (pace : Pace) → IsTrue (state old.disk).is_honest → StandsFor opening old.held m pace (state old.disk) → IsTrue (may m seat kind.WorkerTurn) → IsStep opening seat kind.WorkerTurn (Turn answer) new.held (state old.disk) (state new.disk) m pace)
-    (cause : TurnsBecause answer true seat old.held new.held (state old.disk) (state new.disk)) (notes : NotesNone old.held.book new.held.book) (helped : HelpsOnce seat old.held.book new.held.book)
-    (still : TurnsNone answer → new.held.book.stopped ≡ old.held.book.stopped)
-    (effect : Affects (beside_pins old.held.runs.sizes old.held.runs.space.pins) (file_length old.held.runs.sizes) (old.held.runs.sizes.quantum / 4 + 9) (state old.disk) (state new.disk))
-    (untouched : TurnsNone answer → new.disk ≡ old.disk) (holds : KeepsHolds old new) (follows : Follows seat (facts_of_held old.held) (facts_of_held new.held))
-    (lasts : (start : CoreState D) → StandsSince state start old → StandsSince state start new) (begins : StandsSince state new new)
-    → Helps state seat answer old new
-helps state seat answer old new can numbers steps cause notes helped still effect untouched holds follows lasts begins =
-    record { goes = goes_beside state seat kind.WorkerTurn (Turn answer) old new can numbers follows lasts begins refl holds (λ honest. effect.bytes honest) steps; cause = cause; notes = notes; helps = helped; still = still; effect = effect; untouched = untouched }
-
--- a caller leaves
-pub leaves : {D : Type 0} (state : D → DiskState) (seat : ℕ) (old new : CoreState D)
-    (can : may_in old.held seat kind.Leave ≡ true) (numbers : (pace : Pace) → HoldsPace old.held pace (state old.disk) → MovesPace seat kind.Leave Left new.held (state new.disk) pace)
-    (steps : (opening : List (Key × Value)) (m : Machine) (pace : Pace) → IsTrue (state old.disk).is_honest → StandsFor opening old.held m pace (state old.disk) → IsTrue (may m seat kind.Leave) → IsStep opening seat kind.Leave Left new.held (state old.disk) (state new.disk) m pace)
-    (disk : new.disk ≡ old.disk) (held : new.held ≡ with_book (left_in seat old.held.book) old.held) (left : HasLeft seat new.held.book) (holds : KeepsHolds old new)
-    (follows : Follows seat (facts_of_held old.held) (facts_of_held new.held)) (lasts : (start : CoreState D) → StandsSince state start old → StandsSince state start new)
-    (begins : StandsSince state new new)
-    → Leaves state seat old new
-leaves {D} state seat old new can numbers steps disk held left holds follows lasts begins =
-    record { goes = goes_beside state seat kind.Leave Left old new can numbers follows lasts begins refl holds (λ honest. stays (ap (λ (d : D). (state d).bytes) disk)) steps; held = held; left = left; untouched = disk }
-  where
-    stays : (state new.disk).bytes ≡ (state old.disk).bytes → IsSameOutside (beside_pins old.held.runs.sizes old.held.runs.space.pins) (state old.disk).bytes (state new.disk).bytes
-    stays same = subst (λ (file : List ℕ). IsSameOutside (beside_pins old.held.runs.sizes old.held.runs.space.pins) (state old.disk).bytes file) (sym same) (same_file (beside_pins old.held.runs.sizes old.held.runs.space.pins) (state old.disk).bytes)
 
 -- ---- calls since a start
 

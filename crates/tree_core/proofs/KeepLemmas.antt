@@ -311,45 +311,7 @@ move_keeps_pins mv (Err broken) seat old new moves kept = record { pins = kept.p
 pub forgiven_keeps_pins : (seat : ℕ) (old new : Held) → new ≡ with_debts_forgiven seat old → KeepsPins old new
 forgiven_keeps_pins seat old new is = subst (λ (h : Held). KeepsPins old h) (sym is) (record { pins = refl; sizes = refl })
 
--- ---- the core as it is told of
+-- ---- a disk that was only read
 
--- its holds were left alone
-pub keeps_by : {D : Type 0} (inside now : CoreState D) (disk : D) (held : Held) (b : BookState) → inside ≡ now → KeepsPins inside.held held
-    → KeepsHolds now (record { disk = disk; held = with_book b held; holds = inside.holds })
-keeps_by {D} inside now disk held b is keeps =
-    subst (λ (s : CoreState D). KeepsHolds s (record { disk = disk; held = with_book b held; holds = inside.holds })) is (record { holds = refl; pins = keeps.pins; sizes = keeps.sizes })
-
--- it has another book
-pub rebooked_keeps : {D : Type 0} (inside now : CoreState D) (disk : D) (b : BookState) → inside ≡ now → KeepsHolds now (record { disk = disk; held = with_book b inside.held; holds = inside.holds })
-rebooked_keeps inside now disk b is = keeps_by inside now disk inside.held b is (pins_themselves inside.held)
-
--- as few pages are behind each hold
-pub few_on : (inside now new : Sizes) (holds : List (Option HoldState)) → inside ≡ now → new ≡ now → AreFew inside holds → AreFew new holds
-few_on inside now new holds is same few = subst (λ (s : Sizes). AreFew s holds) (is ∙ sym same) few
-
--- ---- where each call writes
-
--- with the same pages pinned
-pub affects_kept : {end most : ℕ} {before after : DiskState} (old mid : Held) → KeepsPins old mid → Affects (beside_pins mid.runs.sizes mid.runs.space.pins) end most before after
-    → Affects (beside_pins old.runs.sizes old.runs.space.pins) end most before after
-affects_kept {end} {most} {before} {after} old mid keeps effect =
-    subst (λ (s : Sizes). Affects (beside_pins s old.runs.space.pins) end most before after) keeps.sizes
-    (subst (λ (pins : List Members). Affects (beside_pins mid.runs.sizes pins) end most before after) keeps.pins effect)
-
--- as it is told of
-pub affects_now : {D : Type 0} {end most : ℕ} (state : D → DiskState) (inside now : CoreState D) (after : DiskState) → inside ≡ now
-    → Affects (beside_pins inside.held.runs.sizes inside.held.runs.space.pins) end most (state inside.disk) after → Affects (beside_pins now.held.runs.sizes now.held.runs.space.pins) end most (state now.disk) after
-affects_now {D} {end} {most} state inside now after is effect =
-    subst (λ (s : CoreState D). Affects (beside_pins s.held.runs.sizes s.held.runs.space.pins) end most (state s.disk) after) is effect
-
--- a disk that wasn't called
-pub rests_affects : {D : Type 0} {end most : ℕ} (state : D → DiskState) (inside now : CoreState D) → inside ≡ now → IsTimed (state inside.disk)
-    → Affects (beside_pins now.held.runs.sizes now.held.runs.space.pins) end most (state now.disk) (state inside.disk)
-rests_affects state inside now is timed = affects_now state inside now (state inside.disk) is (affects_start (state inside.disk) timed)
-
--- one that was only read
 pub reads_affect : {region : Region} {end most : ℕ} {old new : DiskState} → OnlyReads end most old new → Affects region end most old new
 reads_affect reads = affects_wider (λ i here. absurd here) (omega arith) (omega arith) reads.effect
-
-pub same_affects : {D : Type 0} {region : Region} {end most : ℕ} (state : D → DiskState) (old new : D) → new ≡ old → IsTimed (state old) → Affects region end most (state old) (state new)
-same_affects {D} {region} {end} {most} state old new same timed = subst (λ (d : D). Affects region end most (state old) (state d)) (sym same) (affects_start (state old) timed)

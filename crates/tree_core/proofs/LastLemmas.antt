@@ -3,11 +3,14 @@ use Rattle.std.specs.Prelude.{◌≡◌, ℕ, ◌+◌, ◌<◌, ◌≤◌, Bool,
 use Rattle.std.proofs.Common.{◌∙◌, refl, ap, sym, subst, arith}
 use Rattle.blsm_model.specs.declared.key.Key.{Key}
 use Rattle.blsm_model.specs.declared.row.Value.{Value}
+use Rattle.blsm_model.specs.Facts.{Follows}
 use Rattle.blsm_model.specs.Geometry.{high_mark}
+use Rattle.blsm_model.specs.Sizes.{Sizes}
 use Rattle.blsm_model.specs.Format.{callers}
 use Rattle.std.proofs.lemmas.Bool.{le-leb, lt-ltb}
 use Rattle.disk_trait.specs.Disk.{DiskState, GoesOn}
-use Rattle.disk_trait.specs.Effects.{Affects, affects_start}
+use Rattle.disk_trait.specs.Effects.{Affects}
+use Rattle.scan_view.specs.Hold.{HoldState}
 use Rattle.scan_view.specs.Pins.{beside_pins}
 use Rattle.disk_trait.specs.Moments.{IsTimed, goes_on_start, goes_on_run}
 use Rattle.pacing.specs.Pace.{Pace}
@@ -25,12 +28,13 @@ use Rattle.tree_machine.specs.Plays.{may}
 use Rattle.tree_machine.specs.Steps.{Answer}
 use Rattle.core_moves.specs.declared.held.Held.{Held}
 use Rattle.core_moves.specs.Moves.{with_book}
-use Rattle.tree_core.specs.Core.{CoreState, IsTold, HoldsPace}
-use Rattle.tree_core.specs.Holds.{KeepsHolds, StandsWhole}
+use Rattle.tree_core.specs.Calls.{BesideHolds, GoesOnAs}
+use Rattle.tree_core.specs.Core.{CoreState, IsCore, IsTold, HoldsPace, facts_of_held}
+use Rattle.tree_core.specs.Holds.{AreFew, KeepsHolds, StandsWhole}
 use Rattle.tree_core.specs.Standing.{StandsFor}
-use Rattle.tree_core.specs.Steps.{MovesPace, IsStep, IsPlayed, StandsSince, is_even_in, may_in}
-use Rattle.tree_core.proofs.KeepLemmas.{is_held}
-use Rattle.tree_core.proofs.PlayLemmas.{none_is_played, both_are_played, quiet_is_played}
+use Rattle.tree_core.specs.Steps.{MovesPace, IsStep, IsPlayed, IsWholeStep, StandsSince, is_even_in, may_in}
+use Rattle.tree_core.proofs.KeepLemmas.{is_held, whole_step}
+use Rattle.tree_core.proofs.PlayLemmas.{may_agrees, none_is_played, both_are_played, played_by}
 
 -- at the start
 pub since_now : {D : Type 0} (state : D → DiskState) (core : CoreState D) (pace : Pace) → IsTimed (state core.disk) → IsTold core.held pace → StandsSince state core core
@@ -56,20 +60,53 @@ since_played state start old new since sizes peak goes played = record {
       (one.0 ++ two.0, both_are_played state opening one.0 two.0 start old new m pace one.1 two.1);
 }
 
--- One call that has nothing to do with holds: it moves the pace, is one step of the machine, and writes beside the pages that are pinned.
-pub lasts_by : {D : Type 0} {end most : ℕ} (state : D → DiskState) (seat : ℕ) (k : Kind) (answer : Answer) (start old new : CoreState D) (pace : Pace) → HoldsPace old.held pace (state old.disk)
-    → MovesPace seat k answer new.held (state new.disk) pace → is_held k ≡ false → may_in old.held seat k ≡ true → KeepsHolds old new
-    → Affects (beside_pins old.held.runs.sizes old.held.runs.space.pins) end most (state old.disk) (state new.disk)
+-- What a call says that has nothing to do with holds: it moves the pace, is one step of the machine, and writes beside the pages that are pinned. So what
+-- lasts from a start on lasts over it.
+pub goes_on_by : {D : Type 0} {end most : ℕ} (state : D → DiskState) (seat : ℕ) (k : Kind) (answer : Answer) (old new : CoreState D) → IsCore old.held (state old.disk) → IsTimed (state new.disk) → is_held k ≡ false → may_in old.held seat k ≡ true
+    → KeepsHolds old new → Affects (beside_pins old.held.runs.sizes old.held.runs.space.pins) end most (state old.disk) (state new.disk) → Follows seat (facts_of_held old.held) (facts_of_held new.held)
+    → ((pace : Pace) → HoldsPace old.held pace (state old.disk) → MovesPace seat k answer new.held (state new.disk) pace)
     → ((opening : List (Key × Value)) (m : Machine) (pace : Pace) → IsTrue (state old.disk).is_honest → StandsFor opening old.held m pace (state old.disk) → may m seat k ≡ true
     → IsStep opening seat k answer new.held (state old.disk) (state new.disk) m pace)
-    → StandsSince state start old → StandsSince state start new
-lasts_by state seat k answer start old new pace holds moves none can keeps effect steps since =
-    let told = moves.holds.told in
-    since_played state start old new since keeps.sizes
-    (omega (arith, told.peak, told.told.paced.within.peak, ap high_mark told.sizes)) effect.goes_on
-    (λ opening m q honest whole.
-    let step : Step = record { seat = seat; kind = k } in
-    (step ∷ [], quiet_is_played state opening step k answer old new m q refl none can keeps effect honest whole (steps opening m q honest whole.stands)))
+    → GoesOnAs state seat k answer old new × BesideHolds state seat k answer old new
+goes_on_by {D} state seat k answer old new core timed none can keeps effect follows numbers steps = (
+  record { may = can; numbers = numbers; steps = whole; follows = follows; lasts = lasts; begins = since_now state new moves.next timed told },
+  record { holds = keeps; step = step },
+)
+  where
+    moves : MovesPace seat k answer new.held (state new.disk) core.pace
+    moves = numbers core.pace core.holds
+
+    told : IsTold new.held moves.next
+    told = moves.holds.told
+
+    step : (opening : List (Key × Value)) (m : Machine) (pace : Pace) → IsTrue (state old.disk).is_honest → StandsFor opening old.held m pace (state old.disk) → IsStep opening seat k answer new.held (state old.disk) (state new.disk) m pace
+    step opening m pace honest stands = steps opening m pace honest stands (may_agrees seat k old.held m stands.book stands.gears ∙ can)
+
+    whole : (opening : List (Key × Value)) (m : Machine) (pace : Pace) → IsTrue (state old.disk).is_honest → StandsWhole state opening old m pace → IsWholeStep state opening seat k answer old new m pace
+    whole opening m pace honest stands = whole_step state opening seat k answer old new m pace none keeps (effect.bytes honest) stands (step opening m pace honest stands.stands)
+
+    lasts : (start : CoreState D) → StandsSince state start old → StandsSince state start new
+    lasts start since =
+        let one : Step = record { seat = seat; kind = k } in
+        since_played state start old new since keeps.sizes (omega (arith, told.peak, told.told.paced.within.peak, ap high_mark told.sizes)) effect.goes_on
+        (λ opening m pace honest stands. (one ∷ [], played_by state opening one k answer old new m pace refl can effect.goes_on stands (λ may. whole opening m pace honest stands)))
+
+-- And the core, as it is told of, keeps what its type keeps.
+pub kept_on : {D : Type 0} (state : D → DiskState) {seat : ℕ} {k : Kind} {answer : Answer} {inside old new : CoreState D} → inside ≡ old → IsTimed (state inside.disk) → IsCore inside.held (state inside.disk) × AreFew inside.held.runs.sizes inside.holds
+    → new.holds ≡ inside.holds → GoesOnAs state seat k answer old new → IsCore new.held (state new.disk) × AreFew new.held.runs.sizes new.holds
+kept_on {D} state {seat} {k} {answer} {inside} {old} {new} is timed kept same goes = (
+  record { pace = moves.next; holds = moves.holds },
+  subst (λ (s : Sizes). AreFew s new.holds) (sym sizes) (subst (λ (holds : List (Option HoldState)). AreFew inside.held.runs.sizes holds) (sym same) kept.1),
+)
+  where
+    holds : HoldsPace old.held kept.0.pace (state old.disk)
+    holds = subst (λ (s : CoreState D). HoldsPace s.held kept.0.pace (state s.disk)) is kept.0.holds
+
+    moves : MovesPace seat k answer new.held (state new.disk) kept.0.pace
+    moves = goes.numbers kept.0.pace holds
+
+    sizes : new.held.runs.sizes ≡ inside.held.runs.sizes
+    sizes = (goes.lasts old (since_now state old kept.0.pace (subst (λ (s : CoreState D). IsTimed (state s.disk)) is timed) holds.told)).sizes ∙ sym (ap (λ (s : CoreState D). s.held.runs.sizes) is)
 
 -- a caller may leave
 pub may_leave : (seat : ℕ) → seat < callers → is_caller seat ≡ true
@@ -93,21 +130,6 @@ may_admit seat op held write note nothing = both (is_write op && may_note_in sea
 
 pub may_work : (seat : ℕ) (held : Held) → may_turn_in seat held.book ≡ true → (held.book.stopped ≡ None → first_debt held.gears seat + second_debt held.gears seat ≡ 0) → may_in held seat kind.WorkTurn ≡ true
 may_work seat held turns nothing = both (may_turn_in seat held.book) (is_even_in seat held) turns (even_in seat held nothing)
-
--- A call that changes the book alone, but no peak, and calls no disk.
-pub book_lasts : {D : Type 0} (state : D → DiskState) (seat : ℕ) (k : Kind) (answer : Answer) (start old : CoreState D) (b : BookState) (pace : Pace) → IsTimed (state old.disk) → HoldsPace old.held pace (state old.disk)
-    → b.counts.peak ≡ old.held.book.counts.peak → is_held k ≡ false → may_in old.held seat k ≡ true
-    → ((opening : List (Key × Value)) (m : Machine) (pace : Pace) → IsTrue (state old.disk).is_honest → StandsFor opening old.held m pace (state old.disk) → may m seat k ≡ true
-    → IsStep opening seat k answer (with_book b old.held) (state old.disk) (state old.disk) m pace)
-    → StandsSince state start old → StandsSince state start (record old { held = with_book b old.held })
-book_lasts state seat k answer start old b pace timed holds peak none can steps since =
-    let d = state old.disk in
-    let new = record old { held = with_book b old.held } in
-    let told = holds.told in
-    since_played state start old new since refl (omega (arith, peak, told.peak, told.told.paced.within.peak, ap high_mark told.sizes)) (goes_on_start d)
-    (λ opening m q honest whole.
-    let step : Step = record { seat = seat; kind = k } in
-    (step ∷ [], quiet_is_played {end = 0} {most = 0} state opening step k answer old new m q refl none can (record { holds = refl; pins = refl; sizes = refl }) (affects_start d timed) honest whole (steps opening m q honest whole.stands)))
 
 -- a worker's turn may be made
 pub may_help : (seat : ℕ) → callers ≤ seat → seat < seats → is_worker seat ≡ true

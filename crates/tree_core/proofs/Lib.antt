@@ -23,6 +23,9 @@ pub mod TurnLemmas
 pub mod TurnSteps
 pub mod BegunLemmas
 mod NotingLemmas
+mod TurnCalls
+mod PaymentCalls
+mod AdmissionCalls
 mod HoldSteps
 mod HoldStepsByCall
 mod HoldStepsLast

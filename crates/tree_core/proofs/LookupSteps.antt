@@ -1,6 +1,7 @@
 -- A lookup is a step that only reads, and notes what it found.
-use Rattle.std.specs.Prelude.{◌≡◌, ◌≢◌, ℕ, ◌<◌, ◌≤◌, ◌^◌, true, false, List, [], ◌∷◌, ◌++◌, Option, None, IsTrue, is_some, length, not, ◌&&◌}
-use Rattle.std.proofs.Common.{◌∙◌, inl, refl, ap, sym, subst, arith}
+use Rattle.std.specs.Prelude.{◌≡◌, ◌≢◌, ℕ, ◌<◌, ◌≤◌, ◌^◌, true, false, List, Option, None, IsTrue, is_some, length, not, ◌&&◌}
+use Rattle.std.proofs.Common.{◌∙◌, inl, inr, refl, ap, sym, subst, arith}
+use Rattle.blsm_model.specs.Geometry.{file_length}
 use Rattle.blsm_model.specs.declared.key.Key.{Key}
 use Rattle.blsm_model.specs.declared.row.Value.{Value}
 use Rattle.blsm_model.specs.declared.op.Op.TheVariants.{Get}
@@ -9,11 +10,10 @@ use Rattle.blsm_model.specs.declared.history.Why.{Why}
 use Rattle.blsm_model.specs.declared.history.Reply.{Reply}
 use Rattle.blsm_model.specs.declared.history.Reply.TheVariants as reply
 use Rattle.blsm_model.specs.Book.{HasRoom}
-use Rattle.blsm_model.specs.Facts.{Follows}
 use Rattle.blsm_model.specs.Histories.{answer_to_get}
 use Rattle.disk_trait.specs.Disk.{DiskState}
-use Rattle.disk_trait.specs.Reads.{OnlyReads, only_reads_each}
-use Rattle.disk_trait.specs.Moments.{IsTimed, leaves_only_weaken}
+use Rattle.disk_trait.specs.Reads.{OnlyReads}
+use Rattle.disk_trait.specs.Moments.{IsTimed}
 use Rattle.pacing.specs.Pace.{Pace}
 use Rattle.seat_book.specs.State.{BookState, noted_in, may_note_in}
 use Rattle.seat_book.proofs.KeepLemmas.{note_keeps}
@@ -23,12 +23,11 @@ use Rattle.tree_machine.specs.Machine.{Machine}
 use Rattle.tree_machine.specs.Moves.{note}
 use Rattle.tree_machine.specs.Outcomes.{IsPossible, is_broken}
 use Rattle.tree_machine.specs.Plays.{may}
-use Rattle.tree_machine.specs.Steps.{Outcome, Stepped, Well, FailedAfter, Replied, get, replied, reply_unless, unless_stopped}
+use Rattle.tree_machine.specs.Steps.{Outcome, Well, FailedAfter, Replied, get, replied, reply_unless, unless_stopped}
 use Rattle.tree_machine.specs.declared.step.Kind.TheVariants as kind
-use Rattle.paced_tree.proofs.Promises.{step_is_paced}
 use Rattle.tree_file.specs.Tree.{Tree, HoldsTree}
-use Rattle.tree_file.proofs.StandLemmas.{stands_read}
-use Rattle.tree_runs.specs.Holding.{AreGuided, AreOf}
+use Rattle.tree_runs.specs.Holding.{AreGuided}
+use Rattle.tree_runs.specs.Lookups.{HidesOlder}
 use Rattle.tree_runs.specs.Laws.{RunsStay}
 use Rattle.core_moves.specs.declared.held.Held.{Held}
 use Rattle.core_moves.specs.Moves.{with_book}
@@ -37,14 +36,15 @@ use Rattle.core_lists.proofs.LookupLemmas.{lookup_is_the_machines}
 use Rattle.core_lists.proofs.ShowingLemmas.{quiet_entry_counts_none}
 use Rattle.tree_core.specs.declared.answers.Lookup.{Lookup}
 use Rattle.tree_core.specs.declared.answers.Lookup.TheVariants as lookup
-use Rattle.tree_core.specs.Answers.{reply_to_get, found_in}
-use Rattle.tree_core.specs.Causes.{FindsBecause}
-use Rattle.tree_core.specs.Core.{HoldsPace, facts_of_held}
+use Rattle.tree_core.specs.Answers.{reply_to_get, found_in, newest_in}
+use Rattle.tree_core.specs.Calls.{BesideHolds, Gets, GoesOnAs}
+use Rattle.tree_core.specs.Causes.{FindsBecause, LooksNone}
+use Rattle.tree_core.specs.Core.{CoreState, IsCore}
 use Rattle.tree_core.specs.Standing.{StandsFor}
-use Rattle.tree_core.specs.Steps.{MovesPace, IsStep}
+use Rattle.tree_core.specs.Steps.{IsStep}
 use Rattle.tree_core.proofs.BoundLemmas.{rose}
-use Rattle.tree_core.proofs.QuietLemmas.{read_holds, reads_on, quiet_stands, shows_now, shows_entry, leaves_longer}
-use Rattle.tree_core.proofs.BookSteps.{book_follows}
+use Rattle.tree_core.proofs.QuietLemmas.{quiet_step, reads_on}
+use Rattle.tree_core.proofs.BookSteps.{book_goes}
 
 -- ---- on every disk
 
@@ -56,22 +56,8 @@ few_rows lookup.Fault = omega arith
 few_rows (lookup.Damaged page) = omega arith
 few_rows (lookup.Stopped why) = omega arith
 
-pub get_has_room : (seat : ℕ) (key : Key) (found : Lookup) (b : BookState) → may_note_in seat 0 b ≡ true → HasRoom b.book.room (record { seat = seat; op = Get key; reply = reply_to_get found })
+get_has_room : (seat : ℕ) (key : Key) (found : Lookup) (b : BookState) → may_note_in seat 0 b ≡ true → HasRoom b.book.room (record { seat = seat; op = Get key; reply = reply_to_get found })
 get_has_room seat key found b can = note_has_room b seat 0 (Get key) (reply_to_get found) can (few_rows found)
-
-pub get_holds : {end most : ℕ} {d d2 : DiskState} (seat : ℕ) (key : Key) (found : Lookup) (held : Held) (pace : Pace) → RunsStay → OnlyReads end most d d2 → may_note_in seat 0 held.book ≡ true → HoldsPace held pace d
-    → HoldsPace (with_book (noted_in seat (Get key) (reply_to_get found) held.book) held) pace d2
-get_holds {end} {most} {d} {d2} seat key found held pace stay reads can holds =
-    read_holds held (noted_in seat (Get key) (reply_to_get found) held.book) pace d d2 holds refl refl
-    (entry_is_told held.book pace seat (Get key) (reply_to_get found) (λ done. refl) (get_has_room seat key found held.book can) holds.told.told)
-    (reads_on held stay reads)
-
-pub get_moves : {end most : ℕ} {d d2 : DiskState} (seat : ℕ) (key : Key) (found : Lookup) (held : Held) (pace : Pace) → RunsStay → OnlyReads end most d d2 → may_note_in seat 0 held.book ≡ true → HoldsPace held pace d
-    → MovesPace seat (kind.Get key) (Replied (reply_to_get found)) (with_book (noted_in seat (Get key) (reply_to_get found) held.book) held) d2 pace
-get_moves seat key found held pace stay reads can holds = record { next = pace; made = refl; holds = get_holds seat key found held pace stay reads can holds }
-
-pub get_follows : (seat : ℕ) (key : Key) (r : Reply) (held : Held) → Follows seat (facts_of_held held) (facts_of_held (with_book (noted_in seat (Get key) r held.book) held))
-get_follows seat key r held = book_follows seat 1 held (noted_in seat (Get key) r held.book) (omega arith) (note_keeps seat (Get key) r held.book)
 
 -- ---- on an honest one
 
@@ -80,29 +66,12 @@ get_step : {end most : ℕ} {d d2 : DiskState} (opening : List (Key × Value)) (
     → StandsFor opening held m pace d → may m seat (kind.Get key) ≡ true → get m seat key outcome ≡ replied seat (Get key) r m
     → IsPossible m seat (kind.Get key) outcome d.faults d2.faults → is_broken outcome ≡ false
     → IsStep opening seat (kind.Get key) (Replied r) (with_book (noted_in seat (Get key) r held.book) held) d d2 m pace
-get_step {end} {most} {d} {d2} opening seat key r outcome held m pace reads honest s can is possible whole =
-    let after = note seat (Get key) r m in
+get_step opening seat key r outcome held m pace reads honest s can is possible whole =
     let entry : Entry = record { seat = seat; op = Get key; reply = r } in
-    let shown = shows_now opening held m pace d s in
-    record {
-      outcome = outcome;
-      possible = possible;
-      whole = whole;
-      stands = subst (λ (t : Stepped). StandsFor opening (with_book (noted_in seat (Get key) r held.book) held) t.state pace d2) (sym is)
-          (quiet_stands opening held (noted_in seat (Get key) r held.book) m after pace d d2 s (record { lists = refl; merges = refl; gears = refl; spring = refl; catalogue = refl })
-          ((moves_book m).note seat (Get key) r ∙ ap (λ (b : BookState). noted_in seat (Get key) r b) s.book) refl
-          (subst (λ (t : Stepped). Rattle.paced_tree.specs.Kept.IsPacedTree opening t.state pace) is (step_is_paced opening m pace (record { seat = seat; kind = kind.Get key }) outcome s.paced can tt))
-          (λ tree over. record {
-            stands = (stands_read held.runs.sizes tree reads honest over.stands).0;
-            are_of = subst (λ (file : List ℕ). AreOf held.runs tree held.log.a.entries file) (sym (reads.same.same.bytes honest)) over.are_of;
-          })
-          (λ stopped. shows_entry opening m after d d2 entry shown refl (record { charge = refl; peak = refl; quanta = refl }) refl (quiet_entry_counts_none entry (inl refl)) (reads.same.same.bytes honest) (reads.same.same.images honest)));
-      answers = ap (λ (t : Stepped). t.answer) (sym is);
-      images = subst (λ (t : Stepped). Rattle.disk_trait.specs.Moments.LeavesOnly d d2 (Rattle.core_lists.specs.Shown.ShowsHistory m.gears.sizes opening t.state.book.entries (length m.book.entries))) (sym is)
-          (leaves_longer opening m (m.book.entries ++ entry ∷ []) d d2 (entry ∷ [], refl) (leaves_only_weaken shown.each (only_reads_each reads honest)));
-    }
+    quiet_step opening seat (kind.Get key) outcome (Replied r) held (noted_in seat (Get key) r held.book) m (note seat (Get key) r m) pace reads honest s can tt possible whole refl is
+    (record { same = record { lists = refl; merges = refl; gears = refl; spring = refl; catalogue = refl }; counts = record { charge = refl; peak = refl; quanta = refl }; book = (moves_book m).note seat (Get key) r ∙ ap (noted_in seat (Get key) r) s.book; stopped = refl; noted = inr (entry, refl, quiet_entry_counts_none entry (inl refl)) })
 
-pub get_steps : {end most : ℕ} {d d2 : DiskState} (opening : List (Key × Value)) (seat : ℕ) (key : Key) (found : Lookup) (held : Held) (m : Machine) (pace : Pace) → OnlyReads end most d d2 → IsTrue d.is_honest
+get_steps : {end most : ℕ} {d d2 : DiskState} (opening : List (Key × Value)) (seat : ℕ) (key : Key) (found : Lookup) (held : Held) (m : Machine) (pace : Pace) → OnlyReads end most d d2 → IsTrue d.is_honest
     → FindsBecause found key held d d2 → (found ≡ lookup.Fault → d2.faults < 2 ^ 64)
     → ((tree : Tree) → HoldsTree held.runs.sizes tree d.bytes → tree.catalogue ≡ held.runs.catalogue → AreGuided held.runs.guides held.runs.tags tree → held.book.stopped ≡ None → found ≢ lookup.Fault → reply_to_get found ≡ answer_to_get (found_in key held tree))
     → StandsFor opening held m pace d → may m seat (kind.Get key) ≡ true
@@ -139,3 +108,21 @@ get_steps {end} {most} {d} {d2} opening seat key found held m pace reads honest 
     by (lookup.Stopped why) because counted is =
         get_step opening seat key (reply.Stopped why) Well held m pace reads honest s can
         (ap (λ (o : Option Why). unless_stopped o seat (Get key) m (replied seat (Get key) (answer_to_get (value_in m.lists key)) m)) (stopped_is ∙ because.0)) tt refl
+
+-- ---- the call
+
+pub get_does : {D : Type 0} (state : D → DiskState) (seat : ℕ) (key : Key) (found : Lookup) (old : CoreState D) (disk : D) (b : BookState) → IsCore old.held (state old.disk) → IsTimed (state disk) → RunsStay → may_note_in seat 0 old.held.book ≡ true
+    → FindsBecause found key old.held (state old.disk) (state disk) → (found ≡ lookup.Fault → (state disk).faults < 2 ^ 64)
+    → ((tree : Tree) → IsTrue (state old.disk).is_honest → HoldsTree old.held.runs.sizes tree (state old.disk).bytes → tree.catalogue ≡ old.held.runs.catalogue → AreGuided old.held.runs.guides old.held.runs.tags tree → old.held.book.stopped ≡ None
+    → found ≢ lookup.Fault → reply_to_get found ≡ answer_to_get (found_in key old.held tree))
+    → OnlyReads (file_length old.held.runs.sizes) 3 (state old.disk) (state disk) → (HidesOlder (newest_in key old.held) → disk ≡ old.disk) → (LooksNone found → disk ≡ old.disk) → b ≡ noted_in seat (Get key) (reply_to_get found) old.held.book
+    → Gets state seat key found old (record { disk = disk; held = with_book b old.held; holds = old.holds })
+get_does {D} state seat key found old disk b core timed stay can because counted value reads hidden untouched is =
+    subst (λ (x : BookState). Gets state seat key found old (record { disk = disk; held = with_book x old.held; holds = old.holds })) (sym is)
+    (record { goes = goes.0; beside = goes.1; cause = because; held = refl; reads = reads; hidden = hidden; untouched = untouched })
+  where
+    goes : GoesOnAs state seat (kind.Get key) (Replied (reply_to_get found)) old (record { disk = disk; held = with_book (noted_in seat (Get key) (reply_to_get found) old.held.book) old.held; holds = old.holds }) × BesideHolds state seat (kind.Get key) (Replied (reply_to_get found)) old (record { disk = disk; held = with_book (noted_in seat (Get key) (reply_to_get found) old.held.book) old.held; holds = old.holds })
+    goes = book_goes state seat (kind.Get key) (Replied (reply_to_get found)) old disk (noted_in seat (Get key) (reply_to_get found) old.held.book) 1 core timed reads (reads_on old.held stay reads) refl can (omega arith)
+        (note_keeps seat (Get key) (reply_to_get found) old.held.book) refl refl
+        (λ pace told. entry_is_told old.held.book pace seat (Get key) (reply_to_get found) (λ done. refl) (get_has_room seat key found old.held.book can) told) (λ pace. refl)
+        (λ opening m pace honest s ok. get_steps opening seat key found old.held m pace reads honest because counted (λ tree holds catalogue guided. value tree honest holds catalogue guided) s ok)

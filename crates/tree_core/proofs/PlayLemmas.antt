@@ -14,7 +14,7 @@ use Rattle.blsm_model.specs.declared.history.Why.{Why}
 use Rattle.blsm_model.specs.Sizes.{Sizes}
 use Rattle.disk_trait.specs.Disk.{DiskState, GoesOn}
 use Rattle.disk_trait.specs.Effects.{Affects}
-use Rattle.disk_trait.specs.Moments.{IsTimed, LeavesOnly, leaves_only_run, leaves_only_weaken}
+use Rattle.disk_trait.specs.Moments.{IsTimed, LeavesOnly, goes_on_start, leaves_only_run, leaves_only_weaken}
 use Rattle.gear_sched.specs.Gears.{GearState, first_debt, second_debt}
 use Rattle.pacing.specs.Pace.{Pace}
 use Rattle.scan_view.specs.Pins.{beside_pins}
@@ -125,14 +125,6 @@ played_by state opening step k answer old new m pace is can goes whole by =
     made_is_played state opening step answer old new m pace (ap (λ (x : Kind). may m step.seat x) is ∙ may_k) goes.faults
     (subst (λ (x : Kind). IsWholeStep state opening step.seat x answer old new m pace) (sym is) (by may_k))
 
--- one that has nothing to do with holds, and writes beside the pages that are pinned
-pub quiet_is_played : {D : Type 0} {end most : ℕ} (state : D → DiskState) (opening : List (Key × Value)) (step : Step) (k : Kind) (answer : Answer) (old new : CoreState D) (m : Machine) (pace : Pace) → step.kind ≡ k
-    → is_held k ≡ false → may_in old.held step.seat step.kind ≡ true → KeepsHolds old new → Affects (beside_pins old.held.runs.sizes old.held.runs.space.pins) end most (state old.disk) (state new.disk)
-    → IsTrue (state old.disk).is_honest → StandsWhole state opening old m pace
-    → (may m step.seat k ≡ true → IsStep opening step.seat k answer new.held (state old.disk) (state new.disk) m pace) → IsPlayed state opening (step ∷ []) old new m pace
-quiet_is_played state opening step k answer old new m pace is none can keeps effect honest whole by =
-    played_by state opening step k answer old new m pace is can effect.goes_on whole (λ may. whole_step state opening step.seat k answer old new m pace none keeps (effect.bytes honest) whole (by may))
-
 -- one that is passed over
 pub passed_is_played : {D : Type 0} (state : D → DiskState) (opening : List (Key × Value)) (step : Step) (core : CoreState D) (m : Machine) (pace : Pace) → IsTimed (state core.disk)
     → may_in core.held step.seat step.kind ≡ false → StandsWhole state opening core m pace → IsPlayed state opening (step ∷ []) core core m pace
@@ -150,6 +142,10 @@ passed_is_played state opening step core m pace timed cannot whole =
       grows = subst (λ (x : Machine). IsPrefix m.book.entries x.book.entries) (sym played_is) (prefix_self m.book.entries);
       images = subst (λ (x : Machine). LeavesOnly d d (ShowsHistory m.gears.sizes opening x.book.entries (length m.book.entries))) (sym played_is) (leaves_only_weaken (λ c shows. shows.0) (leaves_now opening core.held m pace d timed whole.stands));
     }
+
+-- a disk that wasn't called
+pub goes_still : {D : Type 0} (state : D → DiskState) {old new : D} → new ≡ old → GoesOn (state old) (state new)
+goes_still {D} state {old} {new} same = subst (λ (d : D). GoesOn (state old) (state d)) (sym same) (goes_on_start (state old))
 
 -- ---- one after another
 

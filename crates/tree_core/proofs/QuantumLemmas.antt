@@ -79,10 +79,6 @@ kept_once old new is kept = record {
   pins = λ any. kept.pins is;
 }
 
--- whatever the step answers, the core has a pace then
-pub core_by : {seat : ℕ} {kind : Kind} {answer : Answer} {pace : Pace} (new : Held) (d : DiskState) → MovesPace seat kind answer new d pace → IsCore new d
-core_by new d moves = record { pace = moves.next; holds = moves.holds }
-
 -- ---- the other seats
 
 -- the debts of the other seats didn't rise

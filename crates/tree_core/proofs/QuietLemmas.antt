@@ -1,5 +1,5 @@
 -- Steps that change the book alone: a lookup, the end of a work, a leave, and whatever is asked of a tree that has stopped.
-use Rattle.std.specs.Prelude.{◌≡◌, ◌⊎◌, ℕ, ◌+◌, ◌≤◌, Bool, List, [], ◌∷◌, ◌++◌, Option, Some, None, IsSome, IsTrue, length}
+use Rattle.std.specs.Prelude.{◌≡◌, ◌⊎◌, ℕ, ◌+◌, ◌≤◌, Bool, false, true, List, [], ◌∷◌, ◌++◌, Option, Some, None, IsSome, IsTrue, length}
 use Rattle.std.proofs.Common.{◌∙◌, ⊎_elim, inl, inr, refl, ap, sym, subst, arith}
 use mathlib.Core.List.{IsPrefix}
 use Rattle.blsm_model.specs.declared.key.Key.{Key}
@@ -9,16 +9,22 @@ use Rattle.blsm_model.specs.declared.history.Why.{Why}
 use Rattle.blsm_model.specs.Sizes.{Sizes}
 use Rattle.blsm_model.specs.Images.{counted_with}
 use Rattle.disk_trait.specs.Disk.{DiskState}
-use Rattle.disk_trait.specs.Reads.{OnlyReads}
+use Rattle.disk_trait.specs.Reads.{OnlyReads, only_reads_each}
 use Rattle.disk_trait.specs.Region.{outside, same_file}
 use Rattle.disk_trait.specs.Moments.{IsTimed, LeavesOnly, leaves_only_start, leaves_only_weaken}
 use Rattle.gear_sched.specs.Gears.{GearState}
 use Rattle.pacing.specs.Pace.{Pace}
 use Rattle.tree_machine.specs.Lists.{Lists}
 use Rattle.tree_machine.specs.Machine.{Machine, Counts, Merges, charge}
+use Rattle.tree_machine.specs.Outcomes.{IsPossible, is_broken}
+use Rattle.tree_machine.specs.Plays.{may, stepped_as}
+use Rattle.tree_machine.specs.Stands.{WritesFit}
+use Rattle.tree_machine.specs.Steps.{Answer, Outcome, Stepped}
+use Rattle.tree_machine.specs.declared.step.Kind.{Kind}
 use Rattle.seat_book.specs.State.{BookState, book_of}
 use Rattle.tree_file.specs.Tree.{Tree, HoldsTree}
-use Rattle.tree_runs.specs.Holding.{StandOver}
+use Rattle.tree_file.proofs.StandLemmas.{stands_read}
+use Rattle.tree_runs.specs.Holding.{AreOf, StandOver}
 use Rattle.tree_runs.specs.Laws.{RunsStay, IsBesideRuns, used_region}
 use Rattle.tree_runs.specs.Runs.{AreRunning}
 use Rattle.core_moves.specs.declared.held.Held.{Held}
@@ -29,10 +35,13 @@ use Rattle.core_pace.proofs.TurnLemmas.{book_is_paced}
 use Rattle.core_lists.specs.Standing.{HoldsMachine, IsPassAt, IsDeepAt}
 use Rattle.core_lists.specs.Shown.{CountsAs, ShowsHistory, ShowsWhole, doubted}
 use Rattle.core_lists.proofs.FileWeights.{doubt_grows, weighs_as}
-use Rattle.core_lists.proofs.ShowingLemmas.{standing_shows, showing_is_kept, quiet_entry_shows}
+use Rattle.core_lists.proofs.ShowingLemmas.{prefix_self, standing_shows, showing_is_kept, quiet_entry_shows}
+use Rattle.paced_tree.specs.After.{pace_after}
 use Rattle.paced_tree.specs.Kept.{IsPacedTree}
+use Rattle.paced_tree.proofs.Promises.{step_is_paced}
 use Rattle.tree_core.specs.Core.{IsTold, HoldsPace}
 use Rattle.tree_core.specs.Standing.{StandsFor, HasStopped}
+use Rattle.tree_core.specs.Steps.{IsStep}
 
 -- ---- by numbers
 
@@ -43,15 +52,6 @@ rebooked_told held b pace t counts told = record {
   opening = t.opening ∙ ap (λ (c : Counts). c.charge) (sym counts);
   charge_is = t.charge_is;
   sizes = t.sizes;
-}
-
-pub rebooked_holds : (held : Held) (b : BookState) (pace : Pace) (d : DiskState) → HoldsPace held pace d → b.counts ≡ held.book.counts → b.stopped ≡ held.book.stopped → IsRunBook b pace
-    → HoldsPace (with_book b held) pace d
-rebooked_holds held b pace d holds counts stopped told = record {
-  told = rebooked_told held b pace holds.told counts told;
-  live = λ runs.
-      let live = holds.live (sym stopped ∙ runs) in
-      record { paced = book_is_paced held b pace live.paced counts told; on = record { running = live.on.running; long = live.on.long } };
 }
 
 -- a disk that is only read, or isn't called
@@ -182,3 +182,52 @@ leaves_longer opening m longer before after begins leaves =
 -- no call, no other moment
 pub leaves_now : (opening : List (Key × Value)) (held : Held) (m : Machine) (pace : Pace) (d : DiskState) → IsTimed d → StandsFor opening held m pace d → LeavesOnly d d (ShowsWhole opening m)
 leaves_now opening held m pace d timed s = leaves_only_start d (ShowsWhole opening m) timed (shows_now opening held m pace d s).each
+
+-- ---- a step that changes the book alone
+
+-- What it leaves: the lists, and of the history at most one entry more, which counts no write.
+pub record ChangesBook (held : Held) (b : BookState) (m after : Machine) : Type 0 where
+  pub same : SameTree m after
+  pub counts : CountsAs m after
+  pub book : book_of after ≡ b
+  pub stopped : b.stopped ≡ held.book.stopped
+  pub noted : (after.book.entries ≡ m.book.entries) ⊎ ((entry : Entry) × (after.book.entries ≡ m.book.entries ++ entry ∷ []) × ((unsure : Bool) → counted_with unsure entry ≡ []))
+
+-- So it is the machine's step, by an outcome that leaves the pace, on a disk that is only read, or isn't called.
+pub quiet_step : {end most : ℕ} {d d2 : DiskState} (opening : List (Key × Value)) (seat : ℕ) (k : Kind) (outcome : Outcome) (answer : Answer) (held : Held) (b : BookState) (m after : Machine) (pace : Pace) → OnlyReads end most d d2 → IsTrue d.is_honest
+    → StandsFor opening held m pace d → may m seat k ≡ true → WritesFit k → IsPossible m seat k outcome d.faults d2.faults → is_broken outcome ≡ false → pace_after m pace seat k outcome ≡ pace
+    → stepped_as m seat k outcome ≡ record { state = after; answer = answer } → ChangesBook held b m after → IsStep opening seat k answer (with_book b held) d d2 m pace
+quiet_step {end} {most} {d} {d2} opening seat k outcome answer held b m after pace reads honest s can fits possible whole same_pace is changes = record {
+  outcome = outcome;
+  possible = possible;
+  whole = whole;
+  stands = subst (λ (p : Pace). StandsFor opening (with_book b held) (stepped_as m seat k outcome).state p d2) (sym same_pace)
+      (subst (λ (t : Stepped). StandsFor opening (with_book b held) t.state pace d2) (sym is)
+      (quiet_stands opening held b m after pace d d2 s changes.same changes.book changes.stopped paced
+      (λ tree over. record {
+        stands = (stands_read held.runs.sizes tree reads honest over.stands).0;
+        are_of = subst (λ (file : List ℕ). AreOf held.runs tree held.log.a.entries file) (sym (reads.same.same.bytes honest)) over.are_of;
+      }) (λ stopped. shows)));
+  answers = ap (λ (t : Stepped). t.answer) (sym is);
+  images = subst (λ (t : Stepped). LeavesOnly d d2 (ShowsHistory m.gears.sizes opening t.state.book.entries (length m.book.entries))) (sym is)
+      (leaves_longer opening m after.book.entries d d2 grows (leaves_only_weaken shown.each (only_reads_each reads honest)));
+}
+  where
+    shown : HasStopped opening m d
+    shown = shows_now opening held m pace d s
+
+    paced : IsPacedTree opening after pace
+    paced = subst (λ (p : Pace). IsPacedTree opening after p) same_pace
+        (subst (λ (t : Stepped). IsPacedTree opening t.state (pace_after m pace seat k outcome)) is (step_is_paced opening m pace (record { seat = seat; kind = k }) outcome s.paced can fits))
+
+    grows : IsPrefix m.book.entries after.book.entries
+    grows = ⊎_elim (λ (none : after.book.entries ≡ m.book.entries). subst (λ (es : List Entry). IsPrefix m.book.entries es) (sym none) (prefix_self m.book.entries))
+        (λ one. subst (λ (es : List Entry). IsPrefix m.book.entries es) (sym one.1) (one.0 ∷ [], refl)) changes.noted
+
+    -- the disk reads as before
+    still : HasStopped opening m d2
+    still = record { reads = subst (λ (file : List ℕ). ShowsWhole opening m file) (sym (reads.same.same.bytes honest)) shown.reads; each = λ c left. shown.each c (reads.same.same.images honest c left) }
+
+    shows : HasStopped opening after d2
+    shows = ⊎_elim (λ (none : after.book.entries ≡ m.book.entries). shows_same opening m after d2 still changes.same.gears changes.counts none)
+        (λ one. shows_entry opening m after d d2 one.0 shown changes.same.gears changes.counts one.1 one.2 (reads.same.same.bytes honest) (reads.same.same.images honest)) changes.noted

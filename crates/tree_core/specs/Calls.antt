@@ -25,9 +25,10 @@ use Rattle.core_moves.specs.Moves.{with_book}
 use Rattle.tree_core.specs.Answers.{answer_to_pay, newest_in, reply_to_drop, reply_to_get, reply_to_hold, reply_to_next, reply_to_write}
 use Rattle.tree_core.specs.Causes.{AdmitsBecause, CallsNone, DropsBecause, FindsBecause, HasBegun, HoldsBecause, LooksNone, PaysBecause, PaysNone, ScansBecause, ScansNone, TurnsBecause, TurnsNone, calls_to_admit}
 use Rattle.tree_core.specs.Core.{CoreState, HoldsPace, facts_of_held}
-use Rattle.tree_core.specs.Holds.{LeavesOthers, StandsWhole}
+use Rattle.tree_core.specs.Holds.{KeepsHolds, LeavesOthers, StandsWhole}
 use Rattle.tree_core.specs.Notes.{CountsPayment, CountsTurn, HasLeft, HelpsOnce, Lessens, NotesNone, NotesOne, OwesNothing, Settles}
-use Rattle.tree_core.specs.Steps.{IsWholeStep, MovesPace, StandsSince, may_in}
+use Rattle.tree_core.specs.Standing.{StandsFor}
+use Rattle.tree_core.specs.Steps.{IsStep, IsWholeStep, MovesPace, StandsSince, may_in}
 use Rattle.tree_core.specs.declared.answers.Admission.{Admission}
 use Rattle.tree_core.specs.declared.answers.Holding.{Holding}
 use Rattle.tree_core.specs.declared.answers.Lookup.{Lookup}
@@ -45,8 +46,15 @@ pub record GoesOnAs {D : Type 0} (state : D → DiskState) (seat : ℕ) (k : Kin
   pub lasts : (start : CoreState D) → StandsSince state start old → StandsSince state start new
   pub begins : StandsSince state new new
 
+-- And one that has nothing to do with holds: it leaves them and what they pin, and on an honest disk it is the machine's step whatever rows they have to give.
+pub record BesideHolds {D : Type 0} (state : D → DiskState) (seat : ℕ) (k : Kind) (answer : Answer) (old new : CoreState D) : Type 0 where
+  pub holds : KeepsHolds old new
+  pub step : (opening : List (Key × Value)) (m : Machine) (pace : Pace) → IsTrue (state old.disk).is_honest → StandsFor opening old.held m pace (state old.disk)
+      → IsStep opening seat k answer new.held (state old.disk) (state new.disk) m pace
+
 pub record Admits {D : Type 0} (state : D → DiskState) (seat : ℕ) (op : Op) (answer : Admission) (old new : CoreState D) : Type 0 where
   pub goes : GoesOnAs state seat (kind.Admit op) (Replied (reply_to_write answer)) old new
+  pub beside : BesideHolds state seat (kind.Admit op) (Replied (reply_to_write answer)) old new
   pub cause : AdmitsBecause answer seat op old.held new.held (state old.disk) (state new.disk)
   pub begun : HasBegun answer old.held new.held
   pub notes : NotesOne seat op (reply_to_write answer) old.held.book new.held.book
@@ -55,6 +63,7 @@ pub record Admits {D : Type 0} (state : D → DiskState) (seat : ℕ) (op : Op) 
 
 pub record Pays {D : Type 0} (state : D → DiskState) (seat : ℕ) (answer : Payment) (old new : CoreState D) : Type 0 where
   pub goes : GoesOnAs state seat kind.Pay (answer_to_pay answer) old new
+  pub beside : BesideHolds state seat kind.Pay (answer_to_pay answer) old new
   pub cause : PaysBecause answer seat old.held new.held (state old.disk) (state new.disk)
   pub counts : CountsPayment answer seat old.held.book new.held.book
   pub settles : Settles answer seat new.held
@@ -64,6 +73,7 @@ pub record Pays {D : Type 0} (state : D → DiskState) (seat : ℕ) (answer : Pa
 
 pub record Gets {D : Type 0} (state : D → DiskState) (seat : ℕ) (key : Key) (answer : Lookup) (old new : CoreState D) : Type 0 where
   pub goes : GoesOnAs state seat (kind.Get key) (Replied (reply_to_get answer)) old new
+  pub beside : BesideHolds state seat (kind.Get key) (Replied (reply_to_get answer)) old new
   pub cause : FindsBecause answer key old.held (state old.disk) (state new.disk)
   pub held : new.held ≡ with_book (noted_in seat (op.Get key) (reply_to_get answer) old.held.book) old.held
   pub reads : OnlyReads (file_length old.held.runs.sizes) 3 (state old.disk) (state new.disk)
@@ -95,6 +105,7 @@ pub record LetsGo {D : Type 0} (state : D → DiskState) (seat : ℕ) (answer : 
 
 pub record TurnsOnce {D : Type 0} (state : D → DiskState) (seat : ℕ) (answer : Turned) (old new : CoreState D) : Type 0 where
   pub goes : GoesOnAs state seat kind.WorkTurn (Turn answer) old new
+  pub beside : BesideHolds state seat kind.WorkTurn (Turn answer) old new
   pub cause : TurnsBecause answer false seat old.held new.held (state old.disk) (state new.disk)
   pub counts : CountsTurn seat answer old.held new.held
   pub even : new.held.book.stopped ≡ None → OwesNothing seat new.held
@@ -103,12 +114,14 @@ pub record TurnsOnce {D : Type 0} (state : D → DiskState) (seat : ℕ) (answer
 
 pub record EndsWork {D : Type 0} (state : D → DiskState) (seat n : ℕ) (reply : Reply) (old new : CoreState D) : Type 0 where
   pub goes : GoesOnAs state seat (kind.WorkEnd n) (Replied reply) old new
+  pub beside : BesideHolds state seat (kind.WorkEnd n) (Replied reply) old new
   pub reply_is : reply ≡ work_reply (work_in seat old.held.book) old.held.book.stopped
   pub held : new.held ≡ with_book (ended_in seat n old.held.book) old.held
   pub untouched : new.disk ≡ old.disk
 
 pub record Helps {D : Type 0} (state : D → DiskState) (seat : ℕ) (answer : Turned) (old new : CoreState D) : Type 0 where
   pub goes : GoesOnAs state seat kind.WorkerTurn (Turn answer) old new
+  pub beside : BesideHolds state seat kind.WorkerTurn (Turn answer) old new
   pub cause : TurnsBecause answer true seat old.held new.held (state old.disk) (state new.disk)
   pub notes : NotesNone old.held.book new.held.book
   pub helps : HelpsOnce seat old.held.book new.held.book
@@ -118,6 +131,7 @@ pub record Helps {D : Type 0} (state : D → DiskState) (seat : ℕ) (answer : T
 
 pub record Leaves {D : Type 0} (state : D → DiskState) (seat : ℕ) (old new : CoreState D) : Type 0 where
   pub goes : GoesOnAs state seat kind.Leave Left old new
+  pub beside : BesideHolds state seat kind.Leave Left old new
   pub held : new.held ≡ with_book (left_in seat old.held.book) old.held
   pub left : HasLeft seat new.held.book
   pub untouched : new.disk ≡ old.disk

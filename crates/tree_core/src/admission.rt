@@ -1,10 +1,9 @@
 //! Writes are admitted.
-ghost use Rattle.std.specs.Prelude.{◌≡◌, ◌+◌, ◌<◌, ◌^◌, ℕ, List, if◌then◌else◌, None, [], ◌∷◌, IsTrue};
+ghost use Rattle.std.specs.Prelude.{◌≡◌, ◌+◌, ◌<◌, ◌^◌, List, if◌then◌else◌, None, [], ◌∷◌, IsTrue};
 ghost use Rattle.blsm_model.specs.declared.key.Key.{Key};
 ghost use Rattle.blsm_model.specs.declared.row.Value.{Value};
 ghost use Rattle.blsm_model.specs.Stored.{as_reply};
 ghost use Rattle.blsm_model.specs.declared.history.Reply.TheVariants.{FaultLost, FaultUnsure};
-ghost use Rattle.blsm_model.specs.Facts.{Follows};
 ghost use Rattle.blsm_model.specs.Geometry.{file_length};
 ghost use Rattle.blsm_model.specs.Histories.{writes_of};
 ghost use Rattle.blsm_model.specs.Legal.{is_write, total_weight};
@@ -19,15 +18,11 @@ ghost use Rattle.tree_machine.specs.declared.step.Kind.TheVariants as kind;
 ghost use Rattle.tree_machine.specs.Machine.{Machine};
 ghost use Rattle.tree_machine.specs.Plays.{may};
 ghost use Rattle.tree_machine.specs.Stands.{WritesFit};
-ghost use Rattle.tree_machine.specs.Steps.{is_del, Replied};
+ghost use Rattle.tree_machine.specs.Steps.{is_del};
 ghost use Rattle.core_pace.specs.Events.{MayWrite};
-ghost use Rattle.tree_core.specs.Answers.{reply_to_write};
-ghost use Rattle.tree_core.specs.Causes.{AdmitsBecause, CallsNone, HasBegun, calls_to_admit};
-ghost use Rattle.tree_core.specs.Core.{CoreState, HoldsPace, facts_of_held};
-ghost use Rattle.tree_core.specs.Holds.{KeepsHolds};
-ghost use Rattle.tree_core.specs.Notes.{NotesOne};
+ghost use Rattle.tree_core.specs.Calls.{Admits};
+ghost use Rattle.tree_core.specs.Causes.{calls_to_admit};
 ghost use Rattle.tree_core.specs.Standing.{StandsFor};
-ghost use Rattle.tree_core.specs.Steps.{MovesPace, IsStep, StandsSince};
 ghost use Rattle.tree_core.specs.Taking.{Runs, Takes, TakesOver, TellsTaking};
 
 use crate::settling::{settle_deep, settle_pass};
@@ -121,19 +116,7 @@ impl<D: Disk + Drop> Core<D> {
         requires write { IsTrue (is_write op.now) }
         requires note { IsTrue (may_note_in seat 0 self.old.held.book) }
         requires even { self.old.held.book.stopped ≡ None → first_debt self.old.held.gears seat + second_debt self.old.held.gears seat ≡ 0 }
-        ensures numbers { (pace : Pace) → HoldsPace self.old.held pace (D.state self.old.disk)
-            → MovesPace seat (kind.Admit op.now) (Replied (reply_to_write result)) self.new.held (D.state self.new.disk) pace }
-        ensures steps { (opening : List (Key × Value)) (m : Machine) (pace : Pace) → IsTrue (D.state self.old.disk).is_honest
-            → StandsFor opening self.old.held m pace (D.state self.old.disk) → IsTrue (may m seat (kind.Admit op.now))
-            → IsStep opening seat (kind.Admit op.now) (Replied (reply_to_write result)) self.new.held (D.state self.old.disk) (D.state self.new.disk) m pace }
-        ensures cause { AdmitsBecause result seat op.now self.old.held self.new.held (D.state self.old.disk) (D.state self.new.disk) }
-        ensures begun { HasBegun result self.old.held self.new.held }
-        ensures notes { NotesOne seat op.now (reply_to_write result) self.old.held.book self.new.held.book }
-        ensures effect { Affects (beside_pins self.old.held.runs.sizes self.old.held.runs.space.pins) (file_length self.old.held.runs.sizes) (calls_to_admit self.old.held) (D.state self.old.disk) (D.state self.new.disk) }
-        ensures holds { KeepsHolds self.old self.new }
-        ensures follows { Follows seat (facts_of_held self.old.held) (facts_of_held self.new.held) }
-        ensures lasts { (start : CoreState D) → StandsSince D.state start self.old → StandsSince D.state start self.new }
-        ensures untouched { CallsNone result → self.new.disk ≡ self.old.disk }
+        ensures { Admits D.state seat op.now result self.old self.new }
     {
         let write = write_of(op);
         let weight = op.weight();

@@ -1,4 +1,5 @@
-//! The core of a tree: the whole store as one value over any disk. Each of its calls is one atomic step of one seat.
+//! The core of a tree: the whole store as one value over any disk. Each of its calls is one atomic step of one seat, and what it promises is a
+//! record of `specs/Calls`.
 #![tactic(auto)]
 
 mod admission;

@@ -1,33 +1,19 @@
 //! Lookups.
-ghost use Rattle.std.specs.Prelude.{◌≡◌, ◌≢◌, ◌<◌, ◌^◌, ℕ, List, None, IsTrue};
-ghost use Rattle.blsm_model.specs.declared.key.Key.{Key};
-ghost use Rattle.blsm_model.specs.declared.row.Value.{Value};
-ghost use Rattle.blsm_model.specs.declared.op.Op.TheVariants.{Get};
-ghost use Rattle.blsm_model.specs.Facts.{Follows};
+ghost use Rattle.std.specs.Prelude.{◌≡◌, ◌≢◌, ◌<◌, ◌^◌, None, IsTrue};
 ghost use Rattle.blsm_model.specs.Geometry.{file_length};
+ghost use Rattle.blsm_model.specs.Histories.{answer_to_get};
 ghost use Rattle.blsm_model.specs.Stored.{as_reply};
 ghost use Rattle.disk_trait.specs.Reads.{OnlyReads};
-ghost use Rattle.pacing.specs.Pace.{Pace};
 ghost use Rattle.record_delta.specs.Records.{settled};
-ghost use Rattle.seat_book.specs.State.{may_note_in, noted_in};
-ghost use Rattle.tree_machine.specs.declared.step.Kind.TheVariants as kind;
-ghost use Rattle.tree_machine.specs.Machine.{Machine};
-ghost use Rattle.tree_machine.specs.Plays.{may};
-ghost use Rattle.tree_machine.specs.Steps.{Replied};
-ghost use Rattle.blsm_model.specs.Histories.{answer_to_get};
+ghost use Rattle.seat_book.specs.State.{may_note_in};
 ghost use Rattle.tree_file.specs.Tree.{Tree, HoldsTree};
 ghost use Rattle.tree_runs.specs.Holding.{AreGuided};
 ghost use Rattle.tree_runs.specs.Lookups.{HidesOlder};
-ghost use Rattle.core_moves.specs.Moves.{with_book};
 ghost use Rattle.core_moves.specs.Needs.{IsOn};
-ghost use Rattle.tree_core.specs.Answers.{reply_to_get};
+ghost use Rattle.tree_core.specs.Answers.{found_in, newest_in, reply_to_get};
+ghost use Rattle.tree_core.specs.Calls.{Gets};
 ghost use Rattle.tree_core.specs.Causes.{FindsBecause, IsFound, LooksNone};
 ghost use Rattle.tree_core.specs.declared.answers.Lookup.TheVariants as lookup;
-ghost use Rattle.tree_core.specs.Answers.{found_in, newest_in};
-ghost use Rattle.tree_core.specs.Core.{CoreState, HoldsPace, facts_of_held};
-ghost use Rattle.tree_core.specs.Holds.{KeepsHolds};
-ghost use Rattle.tree_core.specs.Standing.{StandsFor};
-ghost use Rattle.tree_core.specs.Steps.{MovesPace, IsStep, StandsSince};
 
 use crate::{Core, Lookup};
 use blsm_model::{Key, Op, ShortReply};
@@ -97,19 +83,7 @@ impl<D: Disk + Drop> Core<D> {
     #[inline(never)]
     pub fn get(&mut self, seat: u32, key: &Key) -> Lookup
         requires { IsTrue (may_note_in seat 0 self.old.held.book) }
-        ensures numbers { (pace : Pace) → HoldsPace self.old.held pace (D.state self.old.disk)
-            → MovesPace seat (kind.Get key.now) (Replied (reply_to_get result)) self.new.held (D.state self.new.disk) pace }
-        ensures steps { (opening : List (Key × Value)) (m : Machine) (pace : Pace) → IsTrue (D.state self.old.disk).is_honest
-            → StandsFor opening self.old.held m pace (D.state self.old.disk) → IsTrue (may m seat (kind.Get key.now))
-            → IsStep opening seat (kind.Get key.now) (Replied (reply_to_get result)) self.new.held (D.state self.old.disk) (D.state self.new.disk) m pace }
-        ensures cause { FindsBecause result key.now self.old.held (D.state self.old.disk) (D.state self.new.disk) }
-        ensures held { self.new.held ≡ with_book (noted_in seat (Get key.now) (reply_to_get result) self.old.held.book) self.old.held }
-        ensures reads { OnlyReads (file_length self.old.held.runs.sizes) 3 (D.state self.old.disk) (D.state self.new.disk) }
-        ensures hidden { HidesOlder (newest_in key.now self.old.held) → self.new.disk ≡ self.old.disk }
-        ensures holds { KeepsHolds self.old self.new }
-        ensures follows { Follows seat (facts_of_held self.old.held) (facts_of_held self.new.held) }
-        ensures lasts { (start : CoreState D) → StandsSince D.state start self.old → StandsSince D.state start self.new }
-        ensures untouched { LooksNone result → self.new.disk ≡ self.old.disk }
+        ensures { Gets D.state seat key.now result self.old self.new }
     {
         others_may_write();
         let found = look_up(&self.held, &mut self.disk, key);

@@ -1,31 +1,18 @@
 //! Callers pay for their writes.
-ghost use Rattle.std.specs.Prelude.{◌≡◌, ◌<◌, ◌+◌, ◌/◌, ℕ, List, Err, IsErr, IfOk, OnOk, IsTrue};
-ghost use Rattle.blsm_model.specs.declared.key.Key.{Key};
-ghost use Rattle.blsm_model.specs.declared.row.Value.{Value};
-ghost use Rattle.blsm_model.specs.Facts.{Follows};
+ghost use Rattle.std.specs.Prelude.{◌≡◌, ◌<◌, ◌+◌, ◌/◌, ℕ, Err, IsErr, IfOk, OnOk, IsTrue};
 ghost use Rattle.blsm_model.specs.Format.{callers};
 ghost use Rattle.blsm_model.specs.Geometry.{file_length};
 ghost use Rattle.disk_trait.specs.Disk.{TellsFaultsBy};
 ghost use Rattle.disk_trait.specs.Effects.{Affects};
-ghost use Rattle.pacing.specs.Pace.{Pace};
 ghost use Rattle.scan_view.specs.Pins.{beside_pins};
-ghost use Rattle.tree_machine.specs.declared.step.Kind.TheVariants as kind;
-ghost use Rattle.tree_machine.specs.Machine.{Machine};
-ghost use Rattle.tree_machine.specs.Plays.{may};
 ghost use Rattle.tree_file.specs.Tree.{Tree};
 ghost use Rattle.tree_runs.specs.Damage.{IsDamageAhead};
 ghost use Rattle.tree_runs.specs.Holding.{StandOver};
 ghost use Rattle.core_moves.specs.Needs.{IsOn, IsReady};
 ghost use Rattle.core_moves.specs.Moves.{KeepsAllButMerges};
 ghost use Rattle.core_pace.specs.Events.{TakesByPlan};
-ghost use Rattle.tree_core.specs.Answers.{answer_to_pay};
-ghost use Rattle.tree_core.specs.Causes.{PaysBecause, PaysNone};
-ghost use Rattle.tree_core.specs.Core.{CoreState, HoldsPace, facts_of_held};
-ghost use Rattle.tree_core.specs.Holds.{KeepsHolds};
-ghost use Rattle.tree_core.specs.Notes.{CountsPayment, Lessens, Settles};
+ghost use Rattle.tree_core.specs.Calls.{Pays};
 ghost use Rattle.tree_core.specs.Quanta.{MayTake, LeavesTaken};
-ghost use Rattle.tree_core.specs.Standing.{StandsFor};
-ghost use Rattle.tree_core.specs.Steps.{MovesPace, IsStep, StandsSince};
 
 use crate::{Core, Payment};
 use blsm_model::Why;
@@ -62,20 +49,7 @@ impl<D: Disk + Drop> Core<D> {
     #[inline(never)]
     pub fn pay(&mut self, seat: u32) -> Payment
         requires { seat < callers }
-        ensures numbers { (pace : Pace) → HoldsPace self.old.held pace (D.state self.old.disk)
-            → MovesPace seat kind.Pay (answer_to_pay result) self.new.held (D.state self.new.disk) pace }
-        ensures steps { (opening : List (Key × Value)) (m : Machine) (pace : Pace) → IsTrue (D.state self.old.disk).is_honest
-            → StandsFor opening self.old.held m pace (D.state self.old.disk) → IsTrue (may m seat kind.Pay)
-            → IsStep opening seat kind.Pay (answer_to_pay result) self.new.held (D.state self.old.disk) (D.state self.new.disk) m pace }
-        ensures cause { PaysBecause result seat self.old.held self.new.held (D.state self.old.disk) (D.state self.new.disk) }
-        ensures counts { CountsPayment result seat self.old.held.book self.new.held.book }
-        ensures settles { Settles result seat self.new.held }
-        ensures lessens { Lessens result seat self.old.held self.new.held }
-        ensures effect { Affects (beside_pins self.old.held.runs.sizes self.old.held.runs.space.pins) (file_length self.old.held.runs.sizes) (self.old.held.runs.sizes.quantum / 4 + 3) (D.state self.old.disk) (D.state self.new.disk) }
-        ensures holds { KeepsHolds self.old self.new }
-        ensures follows { Follows seat (facts_of_held self.old.held) (facts_of_held self.new.held) }
-        ensures lasts { (start : CoreState D) → StandsSince D.state start self.old → StandsSince D.state start self.new }
-        ensures untouched { PaysNone result → self.new.disk ≡ self.old.disk }
+        ensures { Pays D.state seat result self.old self.new }
     {
         if let Some(why) = self.held.book.stopped() {
             return Payment::Stopped(why);

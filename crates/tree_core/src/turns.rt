@@ -1,23 +1,16 @@
 //! Turns of work, by callers and workers.
-ghost use Rattle.std.specs.Prelude.{◌≡◌, ◌≤◌, ◌<◌, ◌+◌, ◌/◌, ℕ, List, Err, None, true, false, IsTrue, IsErr, IfOk, OnOk};
-ghost use Rattle.blsm_model.specs.declared.key.Key.{Key};
-ghost use Rattle.blsm_model.specs.declared.row.Value.{Value};
-ghost use Rattle.blsm_model.specs.Facts.{Follows};
+ghost use Rattle.std.specs.Prelude.{◌≡◌, ◌≤◌, ◌<◌, ◌+◌, ◌/◌, ℕ, Err, None, IsTrue, IsErr, IfOk, OnOk};
 ghost use Rattle.blsm_model.specs.Format.{callers};
 ghost use Rattle.blsm_model.specs.Geometry.{file_length};
 ghost use Rattle.disk_trait.specs.Disk.{TellsFaultsBy};
 ghost use Rattle.disk_trait.specs.Effects.{Affects};
 ghost use Rattle.gear_sched.specs.Gears.{first_debt, second_debt};
-ghost use Rattle.pacing.specs.Pace.{Pace};
 ghost use Rattle.seat_book.specs.Places.{HasPlaces};
 ghost use Rattle.seat_book.specs.State.{may_turn_in};
 ghost use Rattle.seat_book.specs.Turns.{turned_of};
 ghost use Rattle.scan_view.specs.Pins.{beside_pins};
-ghost use Rattle.tree_machine.specs.declared.step.Kind.TheVariants as kind;
-ghost use Rattle.tree_machine.specs.Machine.{Machine, seats};
+ghost use Rattle.tree_machine.specs.Machine.{seats};
 ghost use Rattle.tree_machine.specs.Outcomes.{calls_disk};
-ghost use Rattle.tree_machine.specs.Plays.{may};
-ghost use Rattle.tree_machine.specs.Steps.{Turn};
 ghost use Rattle.paced_tree.specs.Booking.{quanta_of_move};
 ghost use Rattle.tree_file.specs.Tree.{Tree};
 ghost use Rattle.tree_runs.specs.Damage.{IsDamageAhead};
@@ -26,13 +19,8 @@ ghost use Rattle.core_moves.specs.Needs.{IsOn, IsReady};
 ghost use Rattle.core_moves.specs.Moves.{KeepsAllButMerges};
 ghost use Rattle.core_pace.specs.Turns.{MayMove, TurnsBy, may_begin_in, move_at_rest, move_in, end_of_move};
 ghost use Rattle.core_lists.specs.Steps.{choice_of};
-ghost use Rattle.tree_core.specs.Causes.{TurnsBecause, TurnsNone};
-ghost use Rattle.tree_core.specs.Core.{CoreState, HoldsPace, facts_of_held};
-ghost use Rattle.tree_core.specs.Holds.{KeepsHolds};
-ghost use Rattle.tree_core.specs.Notes.{CountsTurn, HelpsOnce, NotesNone, OwesNothing};
+ghost use Rattle.tree_core.specs.Calls.{Helps, TurnsOnce};
 ghost use Rattle.tree_core.specs.Quanta.{LeavesMoved, as_moved, ended_by, quanta_by, stopped_by};
-ghost use Rattle.tree_core.specs.Standing.{StandsFor};
-ghost use Rattle.tree_core.specs.Steps.{MovesPace, IsStep, StandsSince};
 ghost use Rattle.tree_core.specs.Turning.{move_of};
 
 use crate::Core;
@@ -192,19 +180,7 @@ impl<D: Disk + Drop> Core<D> {
     pub fn work_turn(&mut self, seat: u32) -> Turned
         requires open { IsTrue (may_turn_in seat self.old.held.book) }
         requires even { self.old.held.book.stopped ≡ None → first_debt self.old.held.gears seat + second_debt self.old.held.gears seat ≡ 0 }
-        ensures numbers { (pace : Pace) → HoldsPace self.old.held pace (D.state self.old.disk)
-            → MovesPace seat kind.WorkTurn (Turn (turned_of result)) self.new.held (D.state self.new.disk) pace }
-        ensures steps { (opening : List (Key × Value)) (m : Machine) (pace : Pace) → IsTrue (D.state self.old.disk).is_honest
-            → StandsFor opening self.old.held m pace (D.state self.old.disk) → IsTrue (may m seat kind.WorkTurn)
-            → IsStep opening seat kind.WorkTurn (Turn (turned_of result)) self.new.held (D.state self.old.disk) (D.state self.new.disk) m pace }
-        ensures cause { TurnsBecause (turned_of result) false seat self.old.held self.new.held (D.state self.old.disk) (D.state self.new.disk) }
-        ensures counts { CountsTurn seat (turned_of result) self.old.held self.new.held }
-        ensures even_still { self.new.held.book.stopped ≡ None → OwesNothing seat self.new.held }
-        ensures effect { Affects (beside_pins self.old.held.runs.sizes self.old.held.runs.space.pins) (file_length self.old.held.runs.sizes) (self.old.held.runs.sizes.quantum / 4 + 9) (D.state self.old.disk) (D.state self.new.disk) }
-        ensures holds { KeepsHolds self.old self.new }
-        ensures follows { Follows seat (facts_of_held self.old.held) (facts_of_held self.new.held) }
-        ensures lasts { (start : CoreState D) → StandsSince D.state start self.old → StandsSince D.state start self.new }
-        ensures untouched { TurnsNone (turned_of result) → self.new.disk ≡ self.old.disk }
+        ensures { TurnsOnce D.state seat (turned_of result) self.old self.new }
     {
         has_places(&self.held.book);
         if let Some(why) = self.held.book.stopped() {
@@ -223,20 +199,7 @@ impl<D: Disk + Drop> Core<D> {
     #[inline(never)]
     pub fn worker_turn(&mut self, seat: u32) -> Turned
         requires { (callers ≤ seat) × (seat < seats) }
-        ensures numbers { (pace : Pace) → HoldsPace self.old.held pace (D.state self.old.disk)
-            → MovesPace seat kind.WorkerTurn (Turn (turned_of result)) self.new.held (D.state self.new.disk) pace }
-        ensures steps { (opening : List (Key × Value)) (m : Machine) (pace : Pace) → IsTrue (D.state self.old.disk).is_honest
-            → StandsFor opening self.old.held m pace (D.state self.old.disk) → IsTrue (may m seat kind.WorkerTurn)
-            → IsStep opening seat kind.WorkerTurn (Turn (turned_of result)) self.new.held (D.state self.old.disk) (D.state self.new.disk) m pace }
-        ensures cause { TurnsBecause (turned_of result) true seat self.old.held self.new.held (D.state self.old.disk) (D.state self.new.disk) }
-        ensures notes { NotesNone self.old.held.book self.new.held.book }
-        ensures helps { HelpsOnce seat self.old.held.book self.new.held.book }
-        ensures still { TurnsNone (turned_of result) → self.new.held.book.stopped ≡ self.old.held.book.stopped }
-        ensures effect { Affects (beside_pins self.old.held.runs.sizes self.old.held.runs.space.pins) (file_length self.old.held.runs.sizes) (self.old.held.runs.sizes.quantum / 4 + 9) (D.state self.old.disk) (D.state self.new.disk) }
-        ensures holds { KeepsHolds self.old self.new }
-        ensures follows { Follows seat (facts_of_held self.old.held) (facts_of_held self.new.held) }
-        ensures lasts { (start : CoreState D) → StandsSince D.state start self.old → StandsSince D.state start self.new }
-        ensures untouched { TurnsNone (turned_of result) → self.new.disk ≡ self.old.disk }
+        ensures { Helps D.state seat (turned_of result) self.old self.new }
     {
         has_places(&self.held.book);
         if let Some(why) = self.held.book.stopped() {

@@ -102,23 +102,5 @@ same_room seat entries rows old new p below eases room idle same work =
 
 -- ---- in the words of the core's steps
 
--- a seat that owes nothing while the store runs is even
-even_in : (seat : ℕ) (held : Held) → (held.book.stopped ≡ None → first_debt held.gears seat + second_debt held.gears seat ≡ 0) → is_even_in seat held ≡ true
-even_in seat held nothing = by (first_debt held.gears seat + second_debt held.gears seat) held.book.stopped nothing
-  where
-    by : (n : ℕ) (o : Option Why) → (o ≡ None → n ≡ 0) → (not (nat_lt 0 n) || is_some o) ≡ true
-    by n None owed = subst (λ (k : ℕ). (not (nat_lt 0 k) || false) ≡ true) (sym (owed refl)) refl
-    by n (Some why) owed = or_right (not (nat_lt 0 n)) true refl
-
-pub may_admit : (seat : ℕ) (op : Op) (held : Held) → is_write op ≡ true → may_note_in seat 0 held.book ≡ true → (held.book.stopped ≡ None → first_debt held.gears seat + second_debt held.gears seat ≡ 0)
-    → may_in held seat (kind.Admit op) ≡ true
-may_admit seat op held write note nothing = both (is_write op && may_note_in seat 0 held.book) (is_even_in seat held) (both (is_write op) (may_note_in seat 0 held.book) write note) (even_in seat held nothing)
-
-pub may_work : (seat : ℕ) (held : Held) → may_turn_in seat held.book ≡ true → (held.book.stopped ≡ None → first_debt held.gears seat + second_debt held.gears seat ≡ 0) → may_in held seat kind.WorkTurn ≡ true
-may_work seat held turns nothing = both (may_turn_in seat held.book) (is_even_in seat held) turns (even_in seat held nothing)
-
 pub may_read_on : (seat n : ℕ) (held : Held) → may_note_in seat n held.book ≡ true → 0 < n → n ≤ most_rows → may_in held seat (kind.Next n) ≡ true
 may_read_on seat n held note some few = both (may_note_in seat n held.book && nat_lt 0 n) (nat_le n most_rows) (both (may_note_in seat n held.book) (nat_lt 0 n) note (lt-ltb 0 n some)) (le-leb n most_rows few)
-
-pub may_help : (seat : ℕ) → callers ≤ seat → seat < seats → is_worker seat ≡ true
-may_help seat above below = both (nat_le callers seat) (nat_lt seat seats) (le-leb callers seat above) (lt-ltb seat seats below)

@@ -39,7 +39,7 @@ pub(crate) fn admit<R: Wait, D: Disk + Drop>(
 {
     let seat = caller.number();
     let mut core = lock.take(rt, caller);
-    let answer = calls::admit(&mut core, seat, op);
+    let answer = core.admit(seat, op);
     lock.give(caller, core);
     answer
 }
@@ -59,7 +59,7 @@ pub(crate) fn pay<R: Wait, D: Disk + Drop>(
 {
     let seat = caller.number();
     let mut core = lock.take(rt, caller);
-    let answer = calls::pay(&mut core, seat);
+    let answer = core.pay(seat);
     lock.give(caller, core);
     answer
 }
@@ -79,7 +79,7 @@ pub(crate) fn get<R: Wait, D: Disk + Drop>(
 {
     let seat = caller.number();
     let mut core = lock.take(rt, caller);
-    let answer = calls::get(&mut core, seat, key);
+    let answer = core.get(seat, key);
     lock.give(caller, core);
     answer
 }
@@ -164,7 +164,7 @@ pub(crate) fn turn<R: Wait, D: Disk + Drop>(
 {
     let seat = caller.number();
     let mut core = lock.take(rt, caller);
-    let answer = calls::work_turn(&mut core, seat);
+    let answer = core.work_turn(seat);
     lock.give(caller, core);
     answer
 }
@@ -184,7 +184,7 @@ pub(crate) fn end_work<R: Wait, D: Disk + Drop>(
 {
     let seat = caller.number();
     let mut core = lock.take(rt, caller);
-    let answer = calls::work_end(&mut core, seat, n);
+    let answer = core.work_end(seat, n);
     lock.give(caller, core);
     answer
 }
@@ -204,7 +204,7 @@ pub(crate) fn help<R: Wait, D: Disk + Drop>(
 {
     let seat = caller.number();
     let mut core = lock.take(rt, caller);
-    let answer = calls::worker_turn(&mut core, seat);
+    let answer = core.worker_turn(seat);
     lock.give(caller, core);
     answer
 }
@@ -223,6 +223,6 @@ pub(crate) fn leave<R: Wait, D: Disk + Drop>(
 {
     let seat = caller.number();
     let mut core = lock.take(rt, caller);
-    calls::leave(&mut core, seat);
+    core.leave(seat);
     lock.give(caller, core);
 }

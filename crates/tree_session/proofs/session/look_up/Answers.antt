@@ -33,7 +33,7 @@ returns g c =
       rests = subst (λ (h : Held). Rests h) (sym held) (record { idle = λ seat. c.requires.rests.idle seat; even = λ runs seat. c.requires.rests.even runs seat });
       proceeds =
           let effect = c.get-found.ensures.reads.effect in
-          proceeds_by state (faults_of reply) 3 old old new c.keeps.ensures.begins (λ from since. c.get-found.ensures.lasts from since) (reaches_by effect)
+          proceeds_by state (faults_of reply) 3 old old new c.keeps.ensures.begins (λ from since. c.get-found.ensures.goes.lasts from since) (reaches_by effect)
           (get_tells c.get-found.result c.args.key.now old.held new.held (state old.disk) (state new.disk) c.get-found.ensures.cause (ap (λ (h : Held). h.book.stopped) held))
           (ap (λ (h : Held). sum (drop callers h.book.seats.quanta)) held);
     }

@@ -26,11 +26,11 @@ returns-in_default g c =
     let mid = c.loop-turn.core in
     let new = c.work_turn.new.self in
     let core = c.loop-turn.invariant.keeps in
-    let moves = c.work_turn.ensures.numbers core.pace core.holds in
+    let moves = c.work_turn.ensures.goes.numbers core.pace core.holds in
     let ended = turned_of c.work_turn.result in
-    turned_early state c.args.seat c.args.n c.loop-turn._turn c.work_turn.result first mid new (omega arith) c.in_default.not-Worked c.loop-turn.invariant c.work_turn.ensures.cause c.work_turn.ensures.counts c.work_turn.ensures.even_still
-    (eases_by c.args.seat mid.held new.held c.work_turn.ensures.follows)
-    (proceeds_by state (faults_of_turn ended) (mid.held.runs.sizes.quantum / 4 + 9) first mid new (c.loop-turn.invariant.proceeds.lasts first c.keeps.ensures.begins) (λ from since. c.work_turn.ensures.lasts from since) (reaches_by c.work_turn.ensures.effect)
+    turned_early state c.args.seat c.args.n c.loop-turn._turn c.work_turn.result first mid new (omega arith) c.in_default.not-Worked c.loop-turn.invariant c.work_turn.ensures.cause c.work_turn.ensures.counts c.work_turn.ensures.even
+    (eases_by c.args.seat mid.held new.held c.work_turn.ensures.goes.follows)
+    (proceeds_by state (faults_of_turn ended) (mid.held.runs.sizes.quantum / 4 + 9) first mid new (c.loop-turn.invariant.proceeds.lasts first c.keeps.ensures.begins) (λ from since. c.work_turn.ensures.goes.lasts from since) (reaches_by c.work_turn.ensures.effect)
     (turn_tells ended c.args.seat mid.held new.held (state mid.disk) (state new.disk) c.work_turn.ensures.cause (λ none. ap (λ (d : g.row.D.Denot). (state d).faults) (c.work_turn.ensures.untouched none)) c.work_turn.ensures.counts.halted)
     (turn_alone ended c.args.seat mid.held new.held (state mid.disk) (state new.disk) core.pace (caller_is c.args.core.now.held.book c.args.seat c.args.n c.requires.note) core.holds moves c.work_turn.ensures.cause c.work_turn.ensures.counts))
 
@@ -41,10 +41,10 @@ loop-turn-preserved g c =
     let mid = c.loop-turn.core in
     let new = c.work_turn.new.self in
     let core = c.loop-turn.invariant.keeps in
-    let moves = c.work_turn.ensures.numbers core.pace core.holds in
-    turning_more state c.args.seat c.loop-turn._turn first mid new c.loop-turn.invariant c.in-Worked.ensures.counts c.work_turn.ensures.even_still
-    (eases_by c.args.seat mid.held new.held c.work_turn.ensures.follows) (record { pace = moves.next; holds = moves.holds })
-    (proceeds_by state 0 (mid.held.runs.sizes.quantum / 4 + 9) first mid new (c.loop-turn.invariant.proceeds.lasts first c.keeps.ensures.begins) (λ from since. c.work_turn.ensures.lasts from since) (reaches_by c.work_turn.ensures.effect)
+    let moves = c.work_turn.ensures.goes.numbers core.pace core.holds in
+    turning_more state c.args.seat c.loop-turn._turn first mid new c.loop-turn.invariant c.in-Worked.ensures.counts c.work_turn.ensures.even
+    (eases_by c.args.seat mid.held new.held c.work_turn.ensures.goes.follows) (record { pace = moves.next; holds = moves.holds })
+    (proceeds_by state 0 (mid.held.runs.sizes.quantum / 4 + 9) first mid new (c.loop-turn.invariant.proceeds.lasts first c.keeps.ensures.begins) (λ from since. c.work_turn.ensures.goes.lasts from since) (reaches_by c.work_turn.ensures.effect)
     (tells_ran mid.held new.held (state mid.disk) (state new.disk) c.in-Worked.ensures.cause.0)
     (turn_alone (turned_of c.work_turn.result) c.args.seat mid.held new.held (state mid.disk) (state new.disk) core.pace (caller_is c.args.core.now.held.book c.args.seat c.args.n c.requires.note) core.holds moves c.work_turn.ensures.cause c.work_turn.ensures.counts))
 

@@ -14,9 +14,9 @@ loop-smaller g c =
     let first = c.args.core.now in
     let mid = c.loop.core in
     let new = c.pay.new.self in
-    let moves = c.pay.ensures.numbers c.loop.invariant.keeps.pace c.loop.invariant.keeps.holds in
+    let moves = c.pay.ensures.goes.numbers c.loop.invariant.keeps.pace c.loop.invariant.keeps.holds in
     paying_less state c.args.seat c.pay.result first mid new c.in-Paid.is c.requires.written c.loop.invariant c.pay.ensures.counts (record { pace = moves.next; holds = moves.holds })
-    (proceeds_by state 0 (mid.held.runs.sizes.quantum / 4 + 3) first mid new (c.loop.invariant.proceeds.lasts first c.keeps.ensures.begins) (λ from since. c.pay.ensures.lasts from since) (reaches_by c.pay.ensures.effect)
+    (proceeds_by state 0 (mid.held.runs.sizes.quantum / 4 + 3) first mid new (c.loop.invariant.proceeds.lasts first c.keeps.ensures.begins) (λ from since. c.pay.ensures.goes.lasts from since) (reaches_by c.pay.ensures.effect)
     (pay_tells c.pay.result c.args.seat mid.held new.held (state mid.disk) (state new.disk) c.pay.ensures.cause (λ none. ap (λ (d : g.row.D.Denot). (state d).faults) (c.pay.ensures.untouched none)))
     (pay_alone c.pay.result c.args.seat mid.held new.held (state mid.disk) (state new.disk) c.loop.invariant.keeps.pace c.loop.invariant.keeps.holds moves c.pay.ensures.cause c.pay.ensures.counts (paying_has state c.args.seat first mid c.requires.written c.loop.invariant)))
 
@@ -26,10 +26,10 @@ loop-preserved g c =
     let first = c.args.core.now in
     let mid = c.loop.core in
     let new = c.pay.new.self in
-    let moves = c.pay.ensures.numbers c.loop.invariant.keeps.pace c.loop.invariant.keeps.holds in
-    paying_more state c.args.seat c.pay.result first mid new c.in-Paid.is c.loop.invariant c.pay.ensures.counts (eases_by c.args.seat mid.held new.held c.pay.ensures.follows)
+    let moves = c.pay.ensures.goes.numbers c.loop.invariant.keeps.pace c.loop.invariant.keeps.holds in
+    paying_more state c.args.seat c.pay.result first mid new c.in-Paid.is c.loop.invariant c.pay.ensures.counts (eases_by c.args.seat mid.held new.held c.pay.ensures.goes.follows)
     (record { pace = moves.next; holds = moves.holds })
-    (proceeds_by state 0 (mid.held.runs.sizes.quantum / 4 + 3) first mid new (c.loop.invariant.proceeds.lasts first c.keeps.ensures.begins) (λ from since. c.pay.ensures.lasts from since) (reaches_by c.pay.ensures.effect)
+    (proceeds_by state 0 (mid.held.runs.sizes.quantum / 4 + 3) first mid new (c.loop.invariant.proceeds.lasts first c.keeps.ensures.begins) (λ from since. c.pay.ensures.goes.lasts from since) (reaches_by c.pay.ensures.effect)
     (pay_tells c.pay.result c.args.seat mid.held new.held (state mid.disk) (state new.disk) c.pay.ensures.cause (λ none. ap (λ (d : g.row.D.Denot). (state d).faults) (c.pay.ensures.untouched none)))
     (pay_alone c.pay.result c.args.seat mid.held new.held (state mid.disk) (state new.disk) c.loop.invariant.keeps.pace c.loop.invariant.keeps.holds moves c.pay.ensures.cause c.pay.ensures.counts (paying_has state c.args.seat first mid c.requires.written c.loop.invariant)))
 
@@ -39,9 +39,9 @@ returns g c =
     let first = c.args.core.now in
     let mid = c.loop.core in
     let new = c.pay.new.self in
-    let moves = c.pay.ensures.numbers c.loop.invariant.keeps.pace c.loop.invariant.keeps.holds in
+    let moves = c.pay.ensures.goes.numbers c.loop.invariant.keeps.pace c.loop.invariant.keeps.holds in
     paid_off state c.args.seat c.pay.result first mid new c.in_default.not-Paid c.loop.invariant c.pay.ensures.cause c.pay.ensures.counts c.pay.ensures.settles
-    (eases_by c.args.seat mid.held new.held c.pay.ensures.follows) (record { pace = moves.next; holds = moves.holds })
-    (proceeds_by state 0 (mid.held.runs.sizes.quantum / 4 + 3) first mid new (c.loop.invariant.proceeds.lasts first c.keeps.ensures.begins) (λ from since. c.pay.ensures.lasts from since) (reaches_by c.pay.ensures.effect)
+    (eases_by c.args.seat mid.held new.held c.pay.ensures.goes.follows) (record { pace = moves.next; holds = moves.holds })
+    (proceeds_by state 0 (mid.held.runs.sizes.quantum / 4 + 3) first mid new (c.loop.invariant.proceeds.lasts first c.keeps.ensures.begins) (λ from since. c.pay.ensures.goes.lasts from since) (reaches_by c.pay.ensures.effect)
     (pay_tells c.pay.result c.args.seat mid.held new.held (state mid.disk) (state new.disk) c.pay.ensures.cause (λ none. ap (λ (d : g.row.D.Denot). (state d).faults) (c.pay.ensures.untouched none)))
     (pay_alone c.pay.result c.args.seat mid.held new.held (state mid.disk) (state new.disk) c.loop.invariant.keeps.pace c.loop.invariant.keeps.holds moves c.pay.ensures.cause c.pay.ensures.counts (paying_has state c.args.seat first mid c.requires.written c.loop.invariant)))

@@ -18,18 +18,18 @@ admit-answer-requires-clause-even g c =
     subst (λ (n : ℕ). c.take-core.result.held.book.stopped ≡ None → first_debt c.take-core.result.held.gears n + second_debt c.take-core.result.held.gears n ≡ 0) (sym c.number-seat.ensures) (even_ok g.D.Disk.state c.args.caller.now c.take-core.result c.take-core.ensures.2 0 c.requires.free)
 
 pub give-requires-clause-turn : goal.give-requires-clause-turn
-give-requires-clause-turn g c = turn_given g.D.Disk.state c.args.caller.now c.take-core.new.caller c.take-core.result c.admit-answer.new.core c.take-core.ensures c.number-seat.result c.number-seat.ensures (kind.Admit c.args.op.now) (c.admit-answer.result, c.admit-answer.ensures)
+give-requires-clause-turn g c = turn_given g.D.Disk.state c.args.caller.now c.take-core.new.caller c.take-core.result c.admit-answer.new.self c.take-core.ensures c.number-seat.result c.number-seat.ensures (kind.Admit c.args.op.now) (c.admit-answer.result, c.admit-answer.ensures)
 
 pub give-requires-clause-lasts : goal.give-requires-clause-lasts
-give-requires-clause-lasts g c = came_given g.D.Disk.state c.args.caller.now c.take-core.new.caller c.take-core.result c.admit-answer.new.core c.take-core.ensures c.number-seat.result c.number-seat.ensures (kind.Admit c.args.op.now) (c.admit-answer.result, c.admit-answer.ensures)
+give-requires-clause-lasts g c = came_given g.D.Disk.state c.args.caller.now c.take-core.new.caller c.take-core.result c.admit-answer.new.self c.take-core.ensures c.number-seat.result c.number-seat.ensures (kind.Admit c.args.op.now) (c.admit-answer.result, c.admit-answer.ensures)
 
 pub returns-clause-did : goal.returns-clause-did
 returns-clause-did g c =
     let state = g.D.Disk.state in
     let caller = c.args.caller.now in
     let b = c.take-core.result in
-    let w = c.admit-answer.new.core in
-    let turn = turn_by state caller c.take-core.new.caller c.take-core.result c.admit-answer.new.core c.take-core.ensures c.number-seat.result c.number-seat.ensures (kind.Admit c.args.op.now) (c.admit-answer.result, c.admit-answer.ensures) c.give.new.caller c.give.ensures in
+    let w = c.admit-answer.new.self in
+    let turn = turn_by state caller c.take-core.new.caller c.take-core.result c.admit-answer.new.self c.take-core.ensures c.number-seat.result c.number-seat.ensures (kind.Admit c.args.op.now) (c.admit-answer.result, c.admit-answer.ensures) c.give.new.caller c.give.ensures in
     let its = subst (λ (n : ℕ). Admits state n c.args.op.now c.admit-answer.result b w) c.number-seat.ensures c.admit-answer.ensures in
     admit_did state caller c.give.new.caller c.args.op.now c.admit-answer.result b w c.requires.number turn its (IsFree 1 0) c.requires.free
 
@@ -38,8 +38,8 @@ returns-clause-owing g c =
     let state = g.D.Disk.state in
     let caller = c.args.caller.now in
     let b = c.take-core.result in
-    let w = c.admit-answer.new.core in
-    let turn = turn_by state caller c.take-core.new.caller c.take-core.result c.admit-answer.new.core c.take-core.ensures c.number-seat.result c.number-seat.ensures (kind.Admit c.args.op.now) (c.admit-answer.result, c.admit-answer.ensures) c.give.new.caller c.give.ensures in
+    let w = c.admit-answer.new.self in
+    let turn = turn_by state caller c.take-core.new.caller c.take-core.result c.admit-answer.new.self c.take-core.ensures c.number-seat.result c.number-seat.ensures (kind.Admit c.args.op.now) (c.admit-answer.result, c.admit-answer.ensures) c.give.new.caller c.give.ensures in
     let its = subst (λ (n : ℕ). Admits state n c.args.op.now c.admit-answer.result b w) c.number-seat.ensures c.admit-answer.ensures in
     admit_owes state caller c.give.new.caller c.args.op.now c.admit-answer.result b w c.requires.number turn its
 
@@ -48,7 +48,7 @@ returns-clause-free g c =
     let state = g.D.Disk.state in
     let caller = c.args.caller.now in
     let b = c.take-core.result in
-    let w = c.admit-answer.new.core in
-    let turn = turn_by state caller c.take-core.new.caller c.take-core.result c.admit-answer.new.core c.take-core.ensures c.number-seat.result c.number-seat.ensures (kind.Admit c.args.op.now) (c.admit-answer.result, c.admit-answer.ensures) c.give.new.caller c.give.ensures in
+    let w = c.admit-answer.new.self in
+    let turn = turn_by state caller c.take-core.new.caller c.take-core.result c.admit-answer.new.self c.take-core.ensures c.number-seat.result c.number-seat.ensures (kind.Admit c.args.op.now) (c.admit-answer.result, c.admit-answer.ensures) c.give.new.caller c.give.ensures in
     let its = subst (λ (n : ℕ). Admits state n c.args.op.now c.admit-answer.result b w) c.number-seat.ensures c.admit-answer.ensures in
     λ not. admit_frees state caller c.give.new.caller c.args.op.now c.admit-answer.result b w c.requires.number turn its not

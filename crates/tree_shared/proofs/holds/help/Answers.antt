@@ -27,18 +27,18 @@ idle_only (code.BadPage page) is = absurd (cc is)
 idle_only (code.Halted why) is = absurd (cc is)
 
 pub give-requires-clause-turn : goal.give-requires-clause-turn
-give-requires-clause-turn g c = turn_given g.D.Disk.state c.args.caller.now c.take-core.new.caller c.take-core.result c.worker_turn-answer.new.core c.take-core.ensures c.number-seat.result c.number-seat.ensures kind.WorkerTurn (turned_of c.worker_turn-answer.result, c.worker_turn-answer.ensures)
+give-requires-clause-turn g c = turn_given g.D.Disk.state c.args.caller.now c.take-core.new.caller c.take-core.result c.worker_turn-answer.new.self c.take-core.ensures c.number-seat.result c.number-seat.ensures kind.WorkerTurn (turned_of c.worker_turn-answer.result, c.worker_turn-answer.ensures)
 
 pub give-requires-clause-lasts : goal.give-requires-clause-lasts
-give-requires-clause-lasts g c = came_given g.D.Disk.state c.args.caller.now c.take-core.new.caller c.take-core.result c.worker_turn-answer.new.core c.take-core.ensures c.number-seat.result c.number-seat.ensures kind.WorkerTurn (turned_of c.worker_turn-answer.result, c.worker_turn-answer.ensures)
+give-requires-clause-lasts g c = came_given g.D.Disk.state c.args.caller.now c.take-core.new.caller c.take-core.result c.worker_turn-answer.new.self c.take-core.ensures c.number-seat.result c.number-seat.ensures kind.WorkerTurn (turned_of c.worker_turn-answer.result, c.worker_turn-answer.ensures)
 
 pub returns-clause-did : goal.returns-clause-did
 returns-clause-did g c =
     let state = g.D.Disk.state in
     let caller = c.args.caller.now in
     let b = c.take-core.result in
-    let w = c.worker_turn-answer.new.core in
-    let turn = turn_by state caller c.take-core.new.caller c.take-core.result c.worker_turn-answer.new.core c.take-core.ensures c.number-seat.result c.number-seat.ensures kind.WorkerTurn (turned_of c.worker_turn-answer.result, c.worker_turn-answer.ensures) c.give.new.caller c.give.ensures in
+    let w = c.worker_turn-answer.new.self in
+    let turn = turn_by state caller c.take-core.new.caller c.take-core.result c.worker_turn-answer.new.self c.take-core.ensures c.number-seat.result c.number-seat.ensures kind.WorkerTurn (turned_of c.worker_turn-answer.result, c.worker_turn-answer.ensures) c.give.new.caller c.give.ensures in
     let its = subst (λ (n : ℕ). Helps state n (turned_of c.worker_turn-answer.result) b w) c.number-seat.ensures c.worker_turn-answer.ensures in
     help_did state caller c.give.new.caller (turned_of c.worker_turn-answer.result) b w turn its (HasHelped c.requires.knows.0 c.requires.knows.1) c.requires.knows.2
 
@@ -47,8 +47,8 @@ returns-clause-helped g c =
     let state = g.D.Disk.state in
     let caller = c.args.caller.now in
     let b = c.take-core.result in
-    let w = c.worker_turn-answer.new.core in
-    let turn = turn_by state caller c.take-core.new.caller c.take-core.result c.worker_turn-answer.new.core c.take-core.ensures c.number-seat.result c.number-seat.ensures kind.WorkerTurn (turned_of c.worker_turn-answer.result, c.worker_turn-answer.ensures) c.give.new.caller c.give.ensures in
+    let w = c.worker_turn-answer.new.self in
+    let turn = turn_by state caller c.take-core.new.caller c.take-core.result c.worker_turn-answer.new.self c.take-core.ensures c.number-seat.result c.number-seat.ensures kind.WorkerTurn (turned_of c.worker_turn-answer.result, c.worker_turn-answer.ensures) c.give.new.caller c.give.ensures in
     let its = subst (λ (n : ℕ). Helps state n (turned_of c.worker_turn-answer.result) b w) c.number-seat.ensures c.worker_turn-answer.ensures in
     help_counts state caller c.give.new.caller (turned_of c.worker_turn-answer.result) b w turn its
 
@@ -57,7 +57,7 @@ returns-clause-over g c =
     let state = g.D.Disk.state in
     let caller = c.args.caller.now in
     let b = c.take-core.result in
-    let w = c.worker_turn-answer.new.core in
-    let turn = turn_by state caller c.take-core.new.caller c.take-core.result c.worker_turn-answer.new.core c.take-core.ensures c.number-seat.result c.number-seat.ensures kind.WorkerTurn (turned_of c.worker_turn-answer.result, c.worker_turn-answer.ensures) c.give.new.caller c.give.ensures in
+    let w = c.worker_turn-answer.new.self in
+    let turn = turn_by state caller c.take-core.new.caller c.take-core.result c.worker_turn-answer.new.self c.take-core.ensures c.number-seat.result c.number-seat.ensures kind.WorkerTurn (turned_of c.worker_turn-answer.result, c.worker_turn-answer.ensures) c.give.new.caller c.give.ensures in
     let its = subst (λ (n : ℕ). Helps state n (turned_of c.worker_turn-answer.result) b w) c.number-seat.ensures c.worker_turn-answer.ensures in
     λ worked idle. help_over state caller c.give.new.caller (turned_of c.worker_turn-answer.result) b w turn its (λ is. worked (worked_only c.worker_turn-answer.result is)) (λ is. idle (idle_only c.worker_turn-answer.result is))

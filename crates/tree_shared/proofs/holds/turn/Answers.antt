@@ -30,18 +30,18 @@ work_turn-answer-requires-clause-even g c =
     subst (λ (n : ℕ). c.take-core.result.held.book.stopped ≡ None → first_debt c.take-core.result.held.gears n + second_debt c.take-core.result.held.gears n ≡ 0) (sym c.number-seat.ensures) (turn_even g.D.Disk.state c.args.caller.now c.take-core.result c.take-core.ensures.2 c.args.done c.requires.working)
 
 pub give-requires-clause-turn : goal.give-requires-clause-turn
-give-requires-clause-turn g c = turn_given g.D.Disk.state c.args.caller.now c.take-core.new.caller c.take-core.result c.work_turn-answer.new.core c.take-core.ensures c.number-seat.result c.number-seat.ensures kind.WorkTurn (turned_of c.work_turn-answer.result, c.work_turn-answer.ensures)
+give-requires-clause-turn g c = turn_given g.D.Disk.state c.args.caller.now c.take-core.new.caller c.take-core.result c.work_turn-answer.new.self c.take-core.ensures c.number-seat.result c.number-seat.ensures kind.WorkTurn (turned_of c.work_turn-answer.result, c.work_turn-answer.ensures)
 
 pub give-requires-clause-lasts : goal.give-requires-clause-lasts
-give-requires-clause-lasts g c = came_given g.D.Disk.state c.args.caller.now c.take-core.new.caller c.take-core.result c.work_turn-answer.new.core c.take-core.ensures c.number-seat.result c.number-seat.ensures kind.WorkTurn (turned_of c.work_turn-answer.result, c.work_turn-answer.ensures)
+give-requires-clause-lasts g c = came_given g.D.Disk.state c.args.caller.now c.take-core.new.caller c.take-core.result c.work_turn-answer.new.self c.take-core.ensures c.number-seat.result c.number-seat.ensures kind.WorkTurn (turned_of c.work_turn-answer.result, c.work_turn-answer.ensures)
 
 pub returns-clause-did : goal.returns-clause-did
 returns-clause-did g c =
     let state = g.D.Disk.state in
     let caller = c.args.caller.now in
     let b = c.take-core.result in
-    let w = c.work_turn-answer.new.core in
-    let turn = turn_by state caller c.take-core.new.caller c.take-core.result c.work_turn-answer.new.core c.take-core.ensures c.number-seat.result c.number-seat.ensures kind.WorkTurn (turned_of c.work_turn-answer.result, c.work_turn-answer.ensures) c.give.new.caller c.give.ensures in
+    let w = c.work_turn-answer.new.self in
+    let turn = turn_by state caller c.take-core.new.caller c.take-core.result c.work_turn-answer.new.self c.take-core.ensures c.number-seat.result c.number-seat.ensures kind.WorkTurn (turned_of c.work_turn-answer.result, c.work_turn-answer.ensures) c.give.new.caller c.give.ensures in
     let its = subst (λ (n : ℕ). TurnsOnce state n (turned_of c.work_turn-answer.result) b w) c.number-seat.ensures c.work_turn-answer.ensures in
     turn_did state caller c.give.new.caller (turned_of c.work_turn-answer.result) b w c.requires.number turn its (IsWorking c.args.done 0 0) c.requires.working
 
@@ -50,8 +50,8 @@ returns-clause-working g c =
     let state = g.D.Disk.state in
     let caller = c.args.caller.now in
     let b = c.take-core.result in
-    let w = c.work_turn-answer.new.core in
-    let turn = turn_by state caller c.take-core.new.caller c.take-core.result c.work_turn-answer.new.core c.take-core.ensures c.number-seat.result c.number-seat.ensures kind.WorkTurn (turned_of c.work_turn-answer.result, c.work_turn-answer.ensures) c.give.new.caller c.give.ensures in
+    let w = c.work_turn-answer.new.self in
+    let turn = turn_by state caller c.take-core.new.caller c.take-core.result c.work_turn-answer.new.self c.take-core.ensures c.number-seat.result c.number-seat.ensures kind.WorkTurn (turned_of c.work_turn-answer.result, c.work_turn-answer.ensures) c.give.new.caller c.give.ensures in
     let its = subst (λ (n : ℕ). TurnsOnce state n (turned_of c.work_turn-answer.result) b w) c.number-seat.ensures c.work_turn-answer.ensures in
     turn_works state caller c.give.new.caller (turned_of c.work_turn-answer.result) b w c.requires.number turn its c.args.done
 
@@ -60,7 +60,7 @@ returns-clause-early g c =
     let state = g.D.Disk.state in
     let caller = c.args.caller.now in
     let b = c.take-core.result in
-    let w = c.work_turn-answer.new.core in
-    let turn = turn_by state caller c.take-core.new.caller c.take-core.result c.work_turn-answer.new.core c.take-core.ensures c.number-seat.result c.number-seat.ensures kind.WorkTurn (turned_of c.work_turn-answer.result, c.work_turn-answer.ensures) c.give.new.caller c.give.ensures in
+    let w = c.work_turn-answer.new.self in
+    let turn = turn_by state caller c.take-core.new.caller c.take-core.result c.work_turn-answer.new.self c.take-core.ensures c.number-seat.result c.number-seat.ensures kind.WorkTurn (turned_of c.work_turn-answer.result, c.work_turn-answer.ensures) c.give.new.caller c.give.ensures in
     let its = subst (λ (n : ℕ). TurnsOnce state n (turned_of c.work_turn-answer.result) b w) c.number-seat.ensures c.work_turn-answer.ensures in
     λ not. turn_ends state caller c.give.new.caller (turned_of c.work_turn-answer.result) b w c.requires.number turn its (not_worked c.work_turn-answer.result not) c.args.done
