@@ -1,6 +1,6 @@
 -- An admission, as one call of the core.
 use Rattle.std.specs.Prelude.{◌≡◌, ℕ, ◌+◌, ◌<◌, ◌≤◌, ◌^◌, Bool, true, false, List, [], ◌∷◌, None, Some, IsTrue}
-use Rattle.std.proofs.Common.{◌∙◌, cond, refl, ap, sym, subst, arith}
+use Rattle.std.proofs.Common.{◌∙◌, cond, refl, sym, subst, arith}
 use Rattle.refusal.specs.Count.{HasRisen}
 use Rattle.blsm_model.specs.Book.{HasRoom}
 use Rattle.blsm_model.specs.Format.{least_weight, most_weight}
@@ -10,7 +10,6 @@ use Rattle.blsm_model.specs.Legal.{is_write, total_weight}
 use Rattle.blsm_model.specs.Sizes.{Sizes}
 use Rattle.blsm_model.specs.Values.{key_of}
 use Rattle.blsm_model.specs.declared.history.Reply.TheVariants.{Done, FaultLost, FaultUnsure, Full, Stopped}
-use Rattle.blsm_model.specs.declared.history.Reply.{Reply}
 use Rattle.blsm_model.specs.declared.history.Why.{Why}
 use Rattle.blsm_model.specs.declared.history.Why.TheVariants.{Faulted}
 use Rattle.blsm_model.specs.declared.key.Key.{Key}
@@ -37,11 +36,11 @@ use Rattle.core_moves.specs.Moves.{with_book}
 use Rattle.core_moves.specs.declared.held.Held.{Held}
 use Rattle.core_pace.specs.Events.{MayWrite}
 use Rattle.tree_core.specs.Answers.{reply_to_write}
-use Rattle.tree_core.specs.Calls.{Admits, GoesOnAs}
+use Rattle.tree_core.specs.Calls.{Admits}
 use Rattle.tree_core.specs.Causes.{AdmitsBecause, HasBegun, calls_to_admit}
 use Rattle.tree_core.specs.Core.{CoreState, HoldsPace, IsCore}
 use Rattle.tree_core.specs.Standing.{StandsFor}
-use Rattle.tree_core.specs.Steps.{IsStep, MovesPace, may_in}
+use Rattle.tree_core.specs.Steps.{IsStep, may_in}
 use Rattle.tree_core.specs.Taking.{Takes, TakesOver}
 use Rattle.tree_core.specs.declared.admission.Taking.{Taking}
 use Rattle.tree_core.specs.declared.admission.Taking.TheVariants.{Taken, Failed}

@@ -37,7 +37,7 @@ use Rattle.core_pace.proofs.EventLemmas.{deep_keeps, settled_between, moves_are_
 use Rattle.core_pace.proofs.CallLemmas.{paced_is_between, moves_keep_book}
 use Rattle.core_pace.proofs.MadeLemmas.{entry_is_paced}
 use Rattle.tree_core.specs.declared.admission.Taking.TheVariants.{Taken, Failed}
-use Rattle.tree_core.specs.Core.{IsTold, HoldsPace, IsCore}
+use Rattle.tree_core.specs.Core.{IsTold, HoldsPace}
 use Rattle.tree_core.specs.Steps.{MovesPace}
 use Rattle.tree_core.specs.Taking.{Takes}
 use Rattle.tree_core.proofs.TakingLemmas.{begun_keeps, weighs}

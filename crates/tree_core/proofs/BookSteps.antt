@@ -23,7 +23,7 @@ use Rattle.seat_book.proofs.KeepLemmas.{leave_keeps, ending_keeps, keeps_less, h
 use Rattle.seat_book.proofs.WordLemmas.{steps_book}
 use Rattle.tree_machine.specs.Machine as machine
 use Rattle.tree_machine.specs.Machine.{Machine, Turned, WorkSoFar, is_caller}
-use Rattle.tree_machine.specs.Steps.{Answer, Stepped, Well, Left, Replied, leave, reply_by, work_end, work_reply}
+use Rattle.tree_machine.specs.Steps.{Answer, Well, Left, Replied, leave, reply_by, work_end, work_reply}
 use Rattle.tree_machine.specs.Plays.{has_room, is_finished, may}
 use Rattle.tree_machine.specs.declared.step.Kind.{Kind}
 use Rattle.tree_machine.specs.declared.step.Kind.TheVariants as kind

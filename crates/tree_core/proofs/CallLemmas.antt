@@ -1,42 +1,33 @@
 -- What a call's clauses say together, for one link of a chain; and calls since a start, one after another.
-use Rattle.std.proofs.Common.{◌≡◌, List, [], ◌∷◌, ◌++◌, false, ap, refl, subst, sym, ◌∙◌}
-use Rattle.std.specs.Prelude.{◌+◌, ◌/◌, ◌≤◌, None, true, ℕ, IsTrue}
+use Rattle.std.proofs.Common.{◌≡◌, List, [], ◌∷◌, ◌++◌, false, refl, subst, ◌∙◌}
+use Rattle.std.specs.Prelude.{◌≤◌, true, ℕ, IsTrue}
 use Rattle.blsm_model.specs.Facts.{Follows}
 use Rattle.blsm_model.specs.Geometry.{file_length}
-use Rattle.blsm_model.specs.declared.history.Reply.{Reply}
 use Rattle.blsm_model.specs.declared.key.Key.{Key}
-use Rattle.blsm_model.specs.declared.op.Op.{Op}
 use Rattle.blsm_model.specs.declared.op.Op.TheVariants as op
 use Rattle.blsm_model.specs.declared.row.Value.{Value}
 use Rattle.disk_trait.specs.Disk.{DiskState}
-use Rattle.disk_trait.specs.Effects.{Affects}
-use Rattle.disk_trait.specs.Reads.{OnlyReads, only_reads_same}
-use Rattle.disk_trait.specs.Region.{IsSameOutside, same_file}
+use Rattle.disk_trait.specs.Reads.{OnlyReads}
+use Rattle.disk_trait.specs.Region.{IsSameOutside}
 use Rattle.pacing.specs.Pace.{Pace}
 use Rattle.scan_view.specs.Holds.{hold_of, pages_behind}
 use Rattle.scan_view.specs.Pins.{beside_pins}
-use Rattle.seat_book.specs.State.{ended_in, left_in, noted_in, work_in}
-use Rattle.tree_machine.specs.Machine.{Machine, Turned}
+use Rattle.seat_book.specs.State.{noted_in}
+use Rattle.tree_machine.specs.Machine.{Machine}
 use Rattle.tree_machine.specs.Plays.{may}
-use Rattle.tree_machine.specs.Steps.{Answer, Left, Replied, Turn, work_reply}
+use Rattle.tree_machine.specs.Steps.{Answer, Replied}
 use Rattle.tree_machine.specs.declared.step.Kind.{Kind}
 use Rattle.tree_machine.specs.declared.step.Kind.TheVariants as kind
 use Rattle.tree_machine.specs.declared.step.Step.{Step}
-use Rattle.tree_runs.specs.Lookups.{HidesOlder}
 use Rattle.tree_runs.specs.Runs.{page_share}
-use Rattle.core_moves.specs.Moves.{with_book}
-use Rattle.tree_core.specs.Answers.{answer_to_pay, newest_in, reply_to_drop, reply_to_get, reply_to_hold, reply_to_next, reply_to_write}
-use Rattle.tree_core.specs.Calls.{Admits, AreCalls, CameSince, EndsWork, Gets, GoesOnAs, Helps, HoldsRange, IsCall, Leaves, LetsGo, Pays, ReadsOn, TurnsOnce}
-use Rattle.tree_core.specs.Causes.{AdmitsBecause, CallsNone, DropsBecause, FindsBecause, HasBegun, HoldsBecause, LooksNone, PaysBecause, PaysNone, ScansBecause, ScansNone, TurnsBecause, TurnsNone, calls_to_admit}
+use Rattle.tree_core.specs.Answers.{reply_to_drop, reply_to_hold, reply_to_next}
+use Rattle.tree_core.specs.Calls.{AreCalls, CameSince, GoesOnAs, HoldsRange, IsCall, LetsGo, ReadsOn}
+use Rattle.tree_core.specs.Causes.{DropsBecause, HoldsBecause, ScansBecause, ScansNone}
 use Rattle.tree_core.specs.Core.{CoreState, HoldsPace, facts_of_held}
 use Rattle.tree_core.specs.Holds.{KeepsHolds, LeavesOthers, StandsWhole}
-use Rattle.tree_core.specs.Notes.{CountsPayment, CountsTurn, HasLeft, HelpsOnce, Lessens, NotesNone, NotesOne, OwesNothing, Settles}
 use Rattle.tree_core.specs.Standing.{StandsFor}
 use Rattle.tree_core.specs.Steps.{IsStep, IsWholeStep, MovesPace, StandsSince, may_in}
-use Rattle.tree_core.specs.declared.answers.Admission.{Admission}
 use Rattle.tree_core.specs.declared.answers.Holding.{Holding}
-use Rattle.tree_core.specs.declared.answers.Lookup.{Lookup}
-use Rattle.tree_core.specs.declared.answers.Payment.{Payment}
 use Rattle.tree_core.specs.declared.answers.Release.{Release}
 use Rattle.tree_core.specs.declared.answers.Scan.{Scan}
 use Rattle.tree_core.proofs.KeepLemmas.{is_held, whole_step}

@@ -16,8 +16,7 @@ use Rattle.blsm_model.specs.declared.op.Op.{Op}
 use Rattle.blsm_model.specs.declared.op.Write.{Write}
 use Rattle.blsm_model.specs.declared.history.Why.{Why}
 use Rattle.disk_trait.specs.Disk.{DiskState}
-use Rattle.disk_trait.specs.Effects.{Affects, affects_start, affects_wider}
-use Rattle.disk_trait.specs.Moments.{IsTimed}
+use Rattle.disk_trait.specs.Effects.{Affects, affects_wider}
 use Rattle.disk_trait.specs.Reads.{OnlyReads}
 use Rattle.disk_trait.specs.Region.{Region, IsSameOutside}
 use Rattle.gear_sched.specs.Gears.{first_debt, second_debt, plan_for}
@@ -47,7 +46,7 @@ use Rattle.tree_machine.proofs.FrameLemmas.{step_stays}
 use Rattle.tree_machine.proofs.PlayLemmas.{of_replicate}
 use Rattle.tree_runs.specs.Runs.{page_share}
 use Rattle.core_moves.specs.declared.held.Held.{Held}
-use Rattle.core_moves.specs.Moves.{KeepsAllButMerges, SettlesDeep, SettlesPass, begun_in, with_book, with_debts_forgiven, with_pass_begun}
+use Rattle.core_moves.specs.Moves.{KeepsAllButMerges, SettlesDeep, SettlesPass, begun_in, with_debts_forgiven, with_pass_begun}
 use Rattle.core_pace.specs.Events.{TakesByPlan}
 use Rattle.core_pace.specs.Turns.{TurnsBy}
 use Rattle.tree_core.specs.declared.admission.Taking.{Taking}

@@ -18,7 +18,7 @@ use Rattle.blsm_model.specs.Legal.{is_write}
 use Rattle.blsm_model.specs.declared.op.Op.{Op}
 use Rattle.blsm_model.specs.declared.history.Why.{Why}
 use Rattle.gear_sched.specs.Gears.{first_debt, second_debt}
-use Rattle.seat_book.specs.State.{BookState, may_note_in, may_turn_in}
+use Rattle.seat_book.specs.State.{may_note_in, may_turn_in}
 use Rattle.tree_machine.proofs.FoldLemmas.{both}
 use Rattle.tree_machine.specs.declared.step.Kind.{Kind}
 use Rattle.tree_machine.specs.declared.step.Kind.TheVariants as kind
@@ -27,7 +27,6 @@ use Rattle.tree_machine.specs.Machine.{Machine, is_caller, is_worker, seats}
 use Rattle.tree_machine.specs.Plays.{may}
 use Rattle.tree_machine.specs.Steps.{Answer}
 use Rattle.core_moves.specs.declared.held.Held.{Held}
-use Rattle.core_moves.specs.Moves.{with_book}
 use Rattle.tree_core.specs.Calls.{BesideHolds, GoesOnAs}
 use Rattle.tree_core.specs.Core.{CoreState, IsCore, IsTold, HoldsPace, facts_of_held}
 use Rattle.tree_core.specs.Holds.{AreFew, KeepsHolds, StandsWhole}

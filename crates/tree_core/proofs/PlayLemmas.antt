@@ -1,5 +1,5 @@
 -- Lists of steps: each step is the machine's, or is passed over.
-use Rattle.std.specs.Prelude.{◌≡◌, ℕ, ◌+◌, ◌<◌, ◌≤◌, Bool, true, false, not, ◌&&◌, ◌||◌, nat_le, nat_lt, List, [], ◌∷◌, ◌++◌, Option, None, Some, IsTrue, is_some, length, map}
+use Rattle.std.specs.Prelude.{◌≡◌, ℕ, ◌+◌, ◌<◌, ◌≤◌, Bool, true, false, not, ◌&&◌, ◌||◌, nat_le, nat_lt, List, [], ◌∷◌, ◌++◌, Option, None, Some, is_some, length, map}
 use Rattle.std.proofs.Common.{◌∙◌, ⊎_elim, cond, inl, inr, length-append, refl, ap, sym, subst, arith}
 use Rattle.std.proofs.lemmas.List.{map-append}
 use Rattle.std.proofs.lemmas.List.Sums.{fold-append}
@@ -13,11 +13,9 @@ use Rattle.blsm_model.specs.declared.history.Entry.{Entry}
 use Rattle.blsm_model.specs.declared.history.Why.{Why}
 use Rattle.blsm_model.specs.Sizes.{Sizes}
 use Rattle.disk_trait.specs.Disk.{DiskState, GoesOn}
-use Rattle.disk_trait.specs.Effects.{Affects}
 use Rattle.disk_trait.specs.Moments.{IsTimed, LeavesOnly, goes_on_start, leaves_only_run, leaves_only_weaken}
 use Rattle.gear_sched.specs.Gears.{GearState, first_debt, second_debt}
 use Rattle.pacing.specs.Pace.{Pace}
-use Rattle.scan_view.specs.Pins.{beside_pins}
 use Rattle.seat_book.specs.State.{BookState, book_of, may_note_in, may_turn_in, may_end_in}
 use Rattle.seat_book.proofs.WordLemmas.{reads_book}
 use Rattle.tree_machine.specs.declared.step.Kind.{Kind}
@@ -34,10 +32,9 @@ use Rattle.core_lists.specs.Shown.{ShowsHistory}
 use Rattle.core_lists.proofs.ShowingLemmas.{prefix_self, prefix_then, showing_is_kept}
 use Rattle.paced_tree.specs.Kept.{paced_all, paced_one}
 use Rattle.tree_core.specs.Core.{CoreState}
-use Rattle.tree_core.specs.Holds.{KeepsHolds, StandsWhole}
+use Rattle.tree_core.specs.Holds.{StandsWhole}
 use Rattle.tree_core.proofs.QuietLemmas.{leaves_now}
-use Rattle.tree_core.specs.Steps.{IsStep, IsWholeStep, IsPlayed, is_even_in, may_in}
-use Rattle.tree_core.proofs.KeepLemmas.{is_held, whole_step}
+use Rattle.tree_core.specs.Steps.{IsWholeStep, IsPlayed, is_even_in, may_in}
 
 -- ---- when a step may be made
 

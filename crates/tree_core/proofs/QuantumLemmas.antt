@@ -1,5 +1,5 @@
 -- What a payment and a turn leave, of the numbers, of the other seats, and of what is told.
-use Rattle.std.proofs.Common.{◌≡◌, ◌≢◌, ◌∙◌, ℕ, ◌≤◌, Bool, Some, refl, ap, sym, arith}
+use Rattle.std.proofs.Common.{◌≡◌, ◌≢◌, ◌∙◌, ℕ, ◌≤◌, Bool, Some, ap, sym, arith}
 use Rattle.std.specs.Prelude.{⊤}
 use Rattle.std.proofs.lemmas.List.{get_or-set_other}
 use Rattle.blsm_model.specs.Facts.{Follows}
@@ -7,9 +7,7 @@ use Rattle.blsm_model.specs.declared.history.Why.{Why}
 use Rattle.disk_trait.specs.Disk.{DiskState}
 use Rattle.gear_sched.specs.Gears.{GearState, first_debt, second_debt, forgiven, took_first, took_second}
 use Rattle.pacing.specs.Pace.{Pace, charge}
-use Rattle.tree_machine.specs.declared.step.Kind.{Kind}
 use Rattle.tree_machine.specs.Machine.{Counts}
-use Rattle.tree_machine.specs.Steps.{Answer}
 use Rattle.seat_book.specs.State.{BookState}
 use Rattle.seat_book.specs.Seats.{KeepsSeats}
 use Rattle.seat_book.proofs.KeepLemmas.{keeps_less, holds_follow}
@@ -18,8 +16,7 @@ use Rattle.core_moves.specs.Held.{IsOne, charge_in}
 use Rattle.core_moves.specs.Needs.{IsOn}
 use Rattle.core_moves.specs.Moves.{KeepsAllButMerges, with_book}
 use Rattle.core_pace.specs.Pacing.{HasPace, IsRunBook, IsPacedHeld}
-use Rattle.tree_core.specs.Core.{IsTold, HoldsPace, IsCore, beside_in, facts_of_held}
-use Rattle.tree_core.specs.Steps.{MovesPace}
+use Rattle.tree_core.specs.Core.{IsTold, HoldsPace, beside_in, facts_of_held}
 
 -- ---- numbers
 

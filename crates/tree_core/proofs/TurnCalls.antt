@@ -1,5 +1,5 @@
 -- A turn of a caller's work or of a worker, as one call of the core.
-use Rattle.std.specs.Prelude.{◌≡◌, ℕ, ◌+◌, ◌/◌, ◌≤◌, ◌<◌, ◌-◌, ◌^◌, Bool, true, false, List, None, Some, Ok, Err, IsErr, IsTrue, length}
+use Rattle.std.specs.Prelude.{◌≡◌, ℕ, ◌+◌, ◌/◌, ◌≤◌, ◌<◌, ◌-◌, ◌^◌, Bool, true, false, None, Some, Ok, Err, IsErr, IsTrue, length}
 use Rattle.std.specs.declared.result.Result.{Result}
 use Rattle.std.proofs.Common.{refl, ap, sym, subst}
 use Rattle.blsm_model.specs.Format.{callers}
@@ -25,7 +25,7 @@ use Rattle.tree_runs.specs.Damage.{IsDamageAhead}
 use Rattle.tree_runs.specs.Holding.{StandOver}
 use Rattle.core_moves.specs.declared.held.Held.{Held}
 use Rattle.core_moves.specs.Moves.{with_book}
-use Rattle.core_pace.specs.Turns.{end_of_move, move_in}
+use Rattle.core_pace.specs.Turns.{move_in}
 use Rattle.core_lists.specs.Going.{IsOpenTo, kind_of_turn}
 use Rattle.core_lists.specs.Steps.{HelpLands, WorkLands, choice_of}
 use Rattle.tree_core.specs.Calls.{BesideHolds, GoesOnAs, Helps, TurnsOnce}

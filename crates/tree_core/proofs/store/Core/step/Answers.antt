@@ -1,4 +1,4 @@
-use Rattle.std.proofs.Common.{refl, sym, subst}
+use Rattle.std.proofs.Common.{sym, subst}
 use Rattle.disk_trait.specs.Disk.{GoesOn}
 use Rattle.disk_trait.specs.Moments.{goes_on_start}
 use Rattle.tree_machine.specs.declared.step.Kind.TheVariants as kind
