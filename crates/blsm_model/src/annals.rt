@@ -91,6 +91,20 @@ impl Annals {
         self.room.entries[at] -= 1;
     }
 
+    /// Notes an entry whose reply gives these rows, as `note` does. They are copied once, to where they lie in the history.
+    pub fn note_rows(&mut self, seat: u32, op: Op, rows: &[Row])
+        requires few { length rows.now ≤ most_rows }
+        requires room { HasRoom self.old.room (record { seat = seat; op = op; reply = Rows rows.now }) }
+        ensures { self.new ≡ noted self.old (record { seat = seat; op = op; reply = Rows rows.now }) }
+    {
+        let count = rows.len() as u32;
+        let reply = keep_rows(&mut self.rows, rows);
+        self.stored.push_reserved(StoredEntry { seat, op, reply });
+        self.quanta.push_reserved(0);
+        self.room.entries[seat as usize] -= 1;
+        self.room.rows[seat as usize] -= count;
+    }
+
     /// Raises the quanta of the entry at a place by `n`.
     pub fn count(&mut self, place: u32, n: u64)
         requires place { place < length self.old.entries }
@@ -198,11 +212,7 @@ fn keep(rows: &mut Vec<Row>, reply: Reply) -> StoredReply
     ensures fits { FitsRows rows.new.items result }
 {
     match reply {
-        Reply::Rows(list) => {
-            let first = rows.len();
-            append(rows, &list);
-            StoredReply::Rows(first, rows.len())
-        }
+        Reply::Rows(list) => keep_rows(rows, list.as_slice()),
         Reply::Done => StoredReply::Short(ShortReply::Done),
         Reply::Is(value) => StoredReply::Short(ShortReply::Is(value)),
         Reply::Absent => StoredReply::Short(ShortReply::Absent),
@@ -219,6 +229,20 @@ fn keep(rows: &mut Vec<Row>, reply: Reply) -> StoredReply
     }
 }
 
+// The reply that gives these rows, which go to the end of the list.
+fn keep_rows(rows: &mut Vec<Row>, more: &[Row]) -> StoredReply
+    requires room { length rows.old.items + length more.now ≤ vec_capacity rows.old }
+    requires few { length more.now ≤ most_rows }
+    ensures rows { rows.new.items ≡ rows.old.items ++ more.now }
+    ensures capacity { vec_capacity rows.new ≡ vec_capacity rows.old }
+    ensures told { stored_reply rows.new.items result ≡ Rows more.now }
+    ensures fits { FitsRows rows.new.items result }
+{
+    let first = rows.len();
+    append(rows, more);
+    StoredReply::Rows(first, rows.len())
+}
+
 // The reply with its rows again.
 fn tell(reply: &StoredReply, rows: &[Row]) -> Reply
     requires { FitsRows rows.now reply.now }
@@ -231,13 +255,11 @@ fn tell(reply: &StoredReply, rows: &[Row]) -> Reply
 }
 
 // Puts rows at the end, in memory that is there.
-fn append(rows: &mut Vec<Row>, list: &RowList)
-    requires { length rows.old.items + length list.now ≤ vec_capacity rows.old }
-    ensures rows { rows.new.items ≡ rows.old.items ++ list.now }
+fn append(rows: &mut Vec<Row>, more: &[Row])
+    requires { length rows.old.items + length more.now ≤ vec_capacity rows.old }
+    ensures rows { rows.new.items ≡ rows.old.items ++ more.now }
     ensures capacity { vec_capacity rows.new ≡ vec_capacity rows.old }
-    ensures fits { length list.now ≤ most_rows }
 {
-    let more = list.as_slice();
     for row in more {
         rows.push_reserved(row.copy());
     }

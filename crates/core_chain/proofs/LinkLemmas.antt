@@ -28,8 +28,8 @@ use Rattle.tree_core.specs.declared.answers.Lookup.{Lookup}
 use Rattle.tree_core.specs.declared.answers.Lookup.TheVariants as lookup
 use Rattle.tree_core.specs.declared.answers.Payment.{Payment}
 use Rattle.tree_core.specs.declared.answers.Payment.TheVariants as payment
-use Rattle.tree_core.specs.declared.answers.Scan.{Scan}
-use Rattle.tree_core.specs.declared.answers.Scan.TheVariants as scan
+use Rattle.tree_core.specs.Scanned.{Scanned}
+use Rattle.tree_core.specs.Scanned as scanned
 use Rattle.tree_core.proofs.SizeLemmas.{made_sizes}
 
 -- ---- one link
@@ -107,12 +107,12 @@ get_rests state seat key lookup.Fault old new call some = absurd (never old.held
 get_rests state seat key (lookup.Damaged page) old new call some = absurd (never old.held.book.stopped some call.cause.0)
 get_rests state seat key (lookup.Stopped why) old new call some = call.untouched tt
 
-scan_rests : {D : Type 0} (state : D → DiskState) (seat n : ℕ) (answer : Scan) (old new : CoreState D) → ReadsOn state seat n answer old new → IsSome old.held.book.stopped → new.disk ≡ old.disk
-scan_rests state seat n (scan.Rows rows) old new call some = absurd (never old.held.book.stopped some call.cause.0)
-scan_rests state seat n scan.NoHold old new call some = call.untouched tt
-scan_rests state seat n scan.Fault old new call some = absurd (never old.held.book.stopped some call.cause.0)
-scan_rests state seat n (scan.Damaged page) old new call some = absurd (never old.held.book.stopped some call.cause.0)
-scan_rests state seat n (scan.Stopped why) old new call some = call.untouched tt
+scan_rests : {D : Type 0} (state : D → DiskState) (seat n : ℕ) (answer : Scanned) (old new : CoreState D) → ReadsOn state seat n answer old new → IsSome old.held.book.stopped → new.disk ≡ old.disk
+scan_rests state seat n (scanned.Rows rows) old new call some = absurd (never old.held.book.stopped some call.cause.0)
+scan_rests state seat n scanned.NoHold old new call some = call.untouched tt
+scan_rests state seat n scanned.Fault old new call some = absurd (never old.held.book.stopped some call.cause.0)
+scan_rests state seat n (scanned.Damaged page) old new call some = absurd (never old.held.book.stopped some call.cause.0)
+scan_rests state seat n (scanned.Stopped why) old new call some = call.untouched tt
 
 turn_rests : {D : Type 0} (state : D → DiskState) (is_worker : Bool) (seat : ℕ) (answer : Turned) (old new : CoreState D) → TurnsBecause answer is_worker seat old.held new.held (state old.disk) (state new.disk) → (TurnsNone answer → new.disk ≡ old.disk)
     → IsSome old.held.book.stopped → new.disk ≡ old.disk

@@ -35,8 +35,8 @@ use Rattle.tree_core.specs.declared.answers.Lookup.{Lookup}
 use Rattle.tree_core.specs.declared.answers.Lookup.TheVariants as lookup
 use Rattle.tree_core.specs.declared.answers.Payment.{Payment}
 use Rattle.tree_core.specs.declared.answers.Payment.TheVariants as payment
-use Rattle.tree_core.specs.declared.answers.Scan.{Scan}
-use Rattle.tree_core.specs.declared.answers.Scan.TheVariants as scan
+use Rattle.tree_core.specs.Scanned.{Scanned}
+use Rattle.tree_core.specs.Scanned as scanned
 use Rattle.tree_session.specs.Faults.{NamesCount, NamesStop, Reaches, faults_of, faults_of_turn, faults_told, is_by_fault}
 use Rattle.tree_session.proofs.BookLemmas.{ended_empty, reply_names, reply_tells}
 use Rattle.tree_session.proofs.FaultLemmas.{admit_names, reaches_by, reaches_none, reaches_then, reaches_wider}
@@ -128,7 +128,7 @@ module _ {D : Type 0} (state : D → DiskState) where
       by (lookup.Damaged page) is cause = quiet_entry (record { seat = seat; op = op.Get key; reply = reply_to_get (lookup.Damaged page) }) old new (noted (lookup.Damaged page) is) work refl refl stopped cause.1 tt
       by (lookup.Stopped why) is cause = quiet_entry (record { seat = seat; op = op.Get key; reply = reply_to_get (lookup.Stopped why) }) old new (noted (lookup.Stopped why) is) work refl refl stopped cause.1 (stopped ∙ cause.0)
 
-  scan_link : (seat n : ℕ) (answer : Scan) (old new : CoreState D) → ReadsOn state seat n answer old new → LinkTells old.held.book new.held.book (state old.disk) (state new.disk)
+  scan_link : (seat n : ℕ) (answer : Scanned) (old new : CoreState D) → ReadsOn state seat n answer old new → LinkTells old.held.book new.held.book (state old.disk) (state new.disk)
   scan_link seat n answer old new call = by answer refl call.cause call.untouched
     where
       stopped : new.held.book.stopped ≡ old.held.book.stopped
@@ -137,15 +137,15 @@ module _ {D : Type 0} (state : D → DiskState) where
       work : new.held.book.seats.work ≡ old.held.book.seats.work
       work = ap (λ (b : BookState). b.seats.work) call.book
 
-      noted : (given : Scan) → answer ≡ given → new.held.book.book.entries ≡ old.held.book.book.entries ++ record { seat = seat; op = op.Next n; reply = reply_to_next given } ∷ []
-      noted given is = ap (λ (b : BookState). b.book.entries) call.book ∙ ap (λ (a : Scan). old.held.book.book.entries ++ record { seat = seat; op = op.Next n; reply = reply_to_next a } ∷ []) is
+      noted : (given : Scanned) → answer ≡ given → new.held.book.book.entries ≡ old.held.book.book.entries ++ record { seat = seat; op = op.Next n; reply = reply_to_next given } ∷ []
+      noted given is = ap (λ (b : BookState). b.book.entries) call.book ∙ ap (λ (a : Scanned). old.held.book.book.entries ++ record { seat = seat; op = op.Next n; reply = reply_to_next a } ∷ []) is
 
-      by : (given : Scan) → answer ≡ given → ScansBecause given seat n old new (state old.disk) (state new.disk) → (ScansNone given → new.disk ≡ old.disk) → LinkTells old.held.book new.held.book (state old.disk) (state new.disk)
-      by (scan.Rows rows) is cause none = quiet_entry (record { seat = seat; op = op.Next n; reply = reply_to_next (scan.Rows rows) }) old new (noted (scan.Rows rows) is) work refl refl stopped cause.1 tt
-      by scan.NoHold is cause none = quiet_entry (record { seat = seat; op = op.Next n; reply = reply_to_next scan.NoHold }) old new (noted scan.NoHold is) work refl refl stopped (faults_same old new (none tt)) tt
-      by scan.Fault is cause none = lookup_entry (record { seat = seat; op = op.Next n; reply = reply_to_next scan.Fault }) old new (noted scan.Fault is) work refl refl cause.0 stopped cause.3 tt
-      by (scan.Damaged page) is cause none = quiet_entry (record { seat = seat; op = op.Next n; reply = reply_to_next (scan.Damaged page) }) old new (noted (scan.Damaged page) is) work refl refl stopped cause.2 tt
-      by (scan.Stopped why) is cause none = quiet_entry (record { seat = seat; op = op.Next n; reply = reply_to_next (scan.Stopped why) }) old new (noted (scan.Stopped why) is) work refl refl stopped cause.2 (stopped ∙ cause.0)
+      by : (given : Scanned) → answer ≡ given → ScansBecause given seat n old new (state old.disk) (state new.disk) → (ScansNone given → new.disk ≡ old.disk) → LinkTells old.held.book new.held.book (state old.disk) (state new.disk)
+      by (scanned.Rows rows) is cause none = quiet_entry (record { seat = seat; op = op.Next n; reply = reply_to_next (scanned.Rows rows) }) old new (noted (scanned.Rows rows) is) work refl refl stopped cause.1 tt
+      by scanned.NoHold is cause none = quiet_entry (record { seat = seat; op = op.Next n; reply = reply_to_next scanned.NoHold }) old new (noted scanned.NoHold is) work refl refl stopped (faults_same old new (none tt)) tt
+      by scanned.Fault is cause none = lookup_entry (record { seat = seat; op = op.Next n; reply = reply_to_next scanned.Fault }) old new (noted scanned.Fault is) work refl refl cause.0 stopped cause.3 tt
+      by (scanned.Damaged page) is cause none = quiet_entry (record { seat = seat; op = op.Next n; reply = reply_to_next (scanned.Damaged page) }) old new (noted (scanned.Damaged page) is) work refl refl stopped cause.2 tt
+      by (scanned.Stopped why) is cause none = quiet_entry (record { seat = seat; op = op.Next n; reply = reply_to_next (scanned.Stopped why) }) old new (noted (scanned.Stopped why) is) work refl refl stopped cause.2 (stopped ∙ cause.0)
 
   -- a command whose entry is noted in memory alone
   memory_link : (e : Entry) (old new : CoreState D) → is_failed_lookup e.op e.reply ≡ false → faults_of e.reply ≡ 0 → new.held.book ≡ noted_in e.seat e.op e.reply old.held.book → new.disk ≡ old.disk → NamesStop e.reply new.held.book.stopped

@@ -14,7 +14,7 @@ use mem_table::Table;
 use page_file::no_component;
 use page_space::Space;
 use refusal::NoMemory;
-use scan_view::Holds;
+use scan_view::{Holds, RowRoom};
 use std::alloc::Global;
 use std::process::Abort;
 use store_file::make_store;
@@ -102,12 +102,14 @@ impl File {
         );
         let annals = Annals::reserve(alloc, room())?;
         let holds = Holds::reserve(alloc)?;
+        let rows = RowRoom::reserve(alloc)?;
         Ok(Core::assemble(Parts {
             disk,
             runs,
             log,
             annals,
             holds,
+            rows,
         }))
     }
 }

@@ -3,7 +3,7 @@ ghost use Rattle.std.specs.Prelude.{◌≡◌};
 ghost use Rattle.blsm_model.specs.Components.{empty_component};
 
 use crate::store::{Entry, Store, base, key, put, table_of};
-use blsm_model::{Component, Row, RowList};
+use blsm_model::{Component, Row};
 use mem_table::Table;
 use page_file::{Broken, no_component};
 use page_space::{Role, Space};
@@ -24,8 +24,7 @@ fn is_row(rt: &impl Abort, row: &Row, (key, count, text): Written) {
     assert!(rt; row.value.text.as_bytes() == text);
 }
 
-fn are_rows(rt: &impl Abort, found: &RowList, rows: &[Written]) {
-    let found = found.as_slice();
+fn are_rows(rt: &impl Abort, found: &[Row], rows: &[Written]) {
     assert_eq!(rt; found.len(), rows.len());
     for (row, written) in found.iter().zip(rows) {
         is_row(rt, row, *written);
@@ -34,8 +33,8 @@ fn are_rows(rt: &impl Abort, found: &RowList, rows: &[Written]) {
 
 // A hold gives these rows.
 fn gives(rt: &impl Abort, store: &mut Store, hold: &mut Hold, n: u32, rows: &[Written]) {
-    let found = store.next(rt, hold, n).expect(rt, "rows");
-    are_rows(rt, &found, rows);
+    assert!(rt; store.next(rt, hold, n).is_ok());
+    are_rows(rt, store.room.as_slice(), rows);
 }
 
 // Or it breaks.
@@ -336,8 +335,8 @@ fn are_numbers(rt: &impl Abort, rows: &[Row], from: u16) -> u16 {
 fn gives_numbers(rt: &impl Abort, store: &mut Store, hold: &mut Hold) {
     let mut number = 0;
     for _ in 0..137u8 {
-        let found = store.next(rt, hold, 32).expect(rt, "rows");
-        number = are_numbers(rt, found.as_slice(), number);
+        assert!(rt; store.next(rt, hold, 32).is_ok());
+        number = are_numbers(rt, store.room.as_slice(), number);
     }
     assert_eq!(rt; number, FULL);
     gives(rt, store, hold, 32, &[]);

@@ -3,14 +3,14 @@ ghost use Rattle.std.specs.Prelude.{◌≡◌, length};
 ghost use Rattle.blsm_model.specs.Geometry.{file_length};
 ghost use Rattle.disk_mem.specs.Recorded.{told};
 
-use blsm_model::{Component, Geometry, Key, RowList, Text, Value};
+use blsm_model::{Component, Geometry, Key, Text, Value};
 use disk_mem::MemDisk;
 use disk_trait::Disk;
 use entry_codec::encode;
 use mem_table::Table;
 use page_file::{Broken, PAGE_LEN, no_component, write_page};
 use record_delta::{Rec, weight};
-use scan_view::Hold;
+use scan_view::{Hold, RowRoom};
 use std::alloc::Global;
 use std::process::Abort;
 
@@ -28,11 +28,12 @@ pub fn base(rt: &impl Abort, count: u64, text: &[u8]) -> Rec {
 /// An entry of a list that is written down.
 pub type Entry = (Key, Rec);
 
-/// A disk of the length of a store.
+/// A disk of the length of a store, and room for the rows that a hold gives.
 #[derive(Drop)]
 pub struct Store {
     pub geo: Geometry,
     pub disk: MemDisk,
+    pub room: RowRoom,
     ghost long: { length (told disk).bytes ≡ file_length geo },
 }
 
@@ -52,7 +53,8 @@ impl Store {
     pub fn blank(rt: &impl Abort, alloc: Global) -> Store {
         let geo = Geometry::new(17_408, 2, 16_384, 4_096).expect(rt, "a geometry");
         let disk = blank_disk(rt, alloc, &geo);
-        Store { geo, disk }
+        let room = RowRoom::reserve(alloc).expect(rt, "memory");
+        Store { geo, disk, room }
     }
 
     fn write_page(&mut self, rt: &impl Abort, number: u32, page: &[u8; PAGE_LEN]) {
@@ -76,10 +78,10 @@ impl Store {
         run
     }
 
-    /// The next rows of a hold.
-    pub fn next(&mut self, rt: &impl Abort, hold: &mut Hold, n: u32) -> Result<RowList, Broken> {
+    /// The next rows of a hold, in the room.
+    pub fn next(&mut self, rt: &impl Abort, hold: &mut Hold, n: u32) -> Result<(), Broken> {
         assert!(rt; n <= 32);
-        hold.next_rows(&mut self.disk, &self.geo, n)
+        hold.next_rows(&mut self.disk, &self.geo, n, &mut self.room)
     }
 }
 

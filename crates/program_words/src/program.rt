@@ -27,7 +27,8 @@ fn number<'a>(alloc: Global, name: &'a str, least: u64, most: u64) -> Arg<'a>
         .value_parser(ValueParser::Unsigned(least, most))
 }
 
-// `make`, with the four numbers of a geometry.
+// `make`, with the four numbers of a geometry. Each command is made in a call that stays one, since its parts take kilobytes on the stack.
+#[inline(never)]
 fn make<'a>(alloc: Global) -> Result<Command<'a>, AllocError>
     ensures { IfOk result (IsCommand make_app) }
 {
@@ -50,6 +51,7 @@ fn make<'a>(alloc: Global) -> Result<Command<'a>, AllocError>
 }
 
 // `run`, with its merge workers and their turns.
+#[inline(never)]
 fn run<'a>(alloc: Global) -> Result<Command<'a>, AllocError>
     ensures { IfOk result (IsCommand run_app) }
 {
@@ -62,6 +64,7 @@ fn run<'a>(alloc: Global) -> Result<Command<'a>, AllocError>
 }
 
 // A command on a file, with no option.
+#[inline(never)]
 fn on_file<'a>(alloc: Global, name: &'a str) -> Result<Command<'a>, AllocError>
     ensures { IfOk result (IsCommand (on_file_app name.entry.now)) }
 {
@@ -69,6 +72,7 @@ fn on_file<'a>(alloc: Global, name: &'a str) -> Result<Command<'a>, AllocError>
 }
 
 // `trial`, with its seed and its count.
+#[inline(never)]
 fn trial<'a>(alloc: Global) -> Result<Command<'a>, AllocError>
     ensures { IfOk result (IsCommand trial_app) }
 {

@@ -19,7 +19,7 @@ use crate::beginning::{Begun, settle_found};
 use blsm_model::{Annals, Room};
 use disk_trait::Disk;
 use refusal::NoMemory;
-use scan_view::Holds;
+use scan_view::{Holds, RowRoom};
 use std::alloc::Global;
 use tree_core::{Core, Parts};
 use tree_file::one_tree;
@@ -48,12 +48,13 @@ fn read_synced<D: Disk>(alloc: Global, disk: &mut D) -> Result<Found, Unreadable
     read_tree(alloc, disk)
 }
 
-// Memory for what reading doesn't fill: the merges, the history, and the callers' holds.
+// Memory for what reading doesn't fill: the merges, the history, the callers' holds, and the rows of one reply.
 #[derive(Drop)]
 struct Memory {
     merges: MergeRoom,
     annals: Annals,
     holds: Holds,
+    rows: RowRoom,
 }
 
 fn reserve(alloc: Global, room: Room) -> Result<Memory, NoMemory>
@@ -66,6 +67,7 @@ fn reserve(alloc: Global, room: Room) -> Result<Memory, NoMemory>
         merges: MergeRoom::reserve(alloc)?,
         annals: Annals::reserve(alloc, room)?,
         holds: Holds::reserve(alloc)?,
+        rows: RowRoom::reserve(alloc)?,
     })
 }
 
@@ -142,6 +144,7 @@ pub fn open_store<D: Disk + Drop>(
         merges,
         annals,
         holds,
+        rows,
     } = memory;
     match open_tree(alloc, &mut disk, merges) {
         Ok(begun) => {
@@ -152,6 +155,7 @@ pub fn open_store<D: Disk + Drop>(
                 log,
                 annals,
                 holds,
+                rows,
             }))
         }
         Err(why) => Err(NotOpened { disk, why }),

@@ -1,12 +1,11 @@
 -- Holds while runs are written.
-use Rattle.std.specs.Prelude.{◌≢◌, Option, Some, None, Result, Ok, slice_index_or, [], take, drop}
+use Rattle.std.specs.Prelude.{◌≢◌, ⊤, Option, Some, None, Result, Ok, slice_index_or, [], take, drop}
 use Rattle.std.specs.List.{Contains}
 use Rattle.std.proofs.Common.{◌≡◌, ◌∙◌, ◌+◌, ◌≤◌, ◌++◌, ℕ, List, ap, sym, subst, inl, inr, ⊎_elim, arith}
 use Rattle.std.proofs.lemmas.Bool.{cases_eq}
 use Rattle.std.proofs.lemmas.List.Elements.{Contains-append_left, Contains-append_right}
 use Rattle.disk_trait.specs.Region.{IsWithin as IsInside, IsSameOutside, outside, same_wider, span}
 use Rattle.blsm_model.specs.declared.row.Row.{Row}
-use Rattle.blsm_model.specs.declared.row.RowList.{RowList}
 use Rattle.blsm_model.specs.Sizes.{Sizes}
 use Rattle.page_space.specs.PageSet.{Members, IsIn, size}
 use Rattle.page_space.specs.Space.{SpaceState, HasRole, IsPinnedBy, IsWithin, KeepsOtherPins, role_size, pin_size}
@@ -57,13 +56,14 @@ held_by_others sizes old new seat other (Some hold) (Some rows) file keeps diffe
     record { has = held.has; pinned = λ page among. subst (λ (set : Members). IsIn set page) (sym (keeps other differs)) (held.pinned page among) }
 
 -- and what is left of them once the first are given
-pub next_pinned : (sizes : Sizes) (pins : List Members) (seat : ℕ) (rows : List Row) (n : ℕ) (old new : HoldState) (file later : List ℕ) (result : Result RowList Broken)
-    → ((before : HasRows sizes old rows file) → (result ≡ Ok (take n rows)) × (now : HasRows sizes new (drop n rows) later) × (pages_held now ≡ pages_held before))
-    → HasPinned sizes pins seat old rows file → (result ≡ Ok (take n rows)) × HasPinned sizes pins seat new (drop n rows) later
-next_pinned sizes pins seat rows n old new file later result gives held =
+pub next_pinned : (sizes : Sizes) (pins : List Members) (seat : ℕ) (rows : List Row) (n : ℕ) (old new : HoldState) (file later : List ℕ) (result : Result ⊤ Broken) (given : List Row)
+    → ((before : HasRows sizes old rows file) → (result ≡ Ok tt) × (given ≡ take n rows) × (now : HasRows sizes new (drop n rows) later) × (pages_held now ≡ pages_held before))
+    → HasPinned sizes pins seat old rows file → (result ≡ Ok tt) × (given ≡ take n rows) × HasPinned sizes pins seat new (drop n rows) later
+next_pinned sizes pins seat rows n old new file later result given gives held =
     let came = gives held.has in (
       came.0,
-      record { has = came.1; pinned = λ page among. held.pinned page (subst (λ (ns : List ℕ). Contains ns page) came.2 among) },
+      came.1,
+      record { has = came.2; pinned = λ page among. held.pinned page (subst (λ (ns : List ℕ). Contains ns page) came.3 among) },
     )
 
 -- ---- runs that are written

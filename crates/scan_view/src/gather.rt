@@ -1,5 +1,5 @@
 //! Rows that are gathered from a scan.
-ghost use Rattle.std.specs.Prelude.{◌≡◌, ◌≢◌, ◌+◌, ◌<◌, ◌≤◌, ◌++◌, ◌∷◌, [], ℕ, List, Ok, Err, length, take, drop, IsTrue, IsErr, IfOk};
+ghost use Rattle.std.specs.Prelude.{◌≡◌, ◌≢◌, ◌+◌, ◌<◌, ◌≤◌, ◌++◌, ◌∷◌, [], ℕ, List, Ok, Err, length, take, drop, IsTrue, OnOk};
 ghost use Rattle.blsm_model.specs.declared.component.Component.{Component};
 ghost use Rattle.blsm_model.specs.Format.{most_rows};
 ghost use Rattle.blsm_model.specs.Geometry.{file_length};
@@ -10,8 +10,9 @@ ghost use Rattle.scan_view.specs.Hold.{AreGiven, IsDamageOf, rows_of, view_of};
 ghost use Rattle.scan_view.specs.Left.{IsFile};
 ghost use Rattle.scan_view.specs.Scan.{IsScan, HaveBegun, pages_left};
 
+use crate::RowRoom;
 use crate::scan::Scan;
-use blsm_model::{Geometry, Key, Row, RowList};
+use blsm_model::{Geometry, Key, Row};
 use disk_trait::Disk;
 use page_file::Broken;
 use record_delta::{Rec, settle};
@@ -24,7 +25,7 @@ pub fn is_in_range(low: &Key, high: &Key, key: &Key) -> bool
 }
 
 // Puts an entry's row behind the others, where its key is in the range and has a value.
-fn put_row(rows: &mut RowList, low: &Key, high: &Key, key: Key, rec: Rec)
+fn put_row(rows: &mut RowRoom, low: &Key, high: &Key, key: Key, rec: Rec)
     requires { length rows.old < most_rows }
     ensures { rows.new ≡ rows.old ++ rows_of low.now high.now ((key, rec) ∷ []) }
 {
@@ -36,7 +37,9 @@ fn put_row(rows: &mut RowList, low: &Key, high: &Key, key: Key, rec: Rec)
     }
 }
 
-/// The next n rows of the range, or as many as there are. The scan ends at the last key that it passed.
+/// Fills the room with the next n rows of the range, or with as many as there are. The scan ends at the last key that it passed.
+/// It stays a call, so that its locals aren't added to a frame that has the scan's three pages.
+#[inline(never)]
 pub fn gather<D: Disk>(
     scan: &mut Scan,
     memory: &[(Key, Rec)],
@@ -45,28 +48,29 @@ pub fn gather<D: Disk>(
     disk: &mut D,
     geo: &Geometry,
     n: u32,
-) -> Result<RowList, Broken>
+    rows: &mut RowRoom,
+) -> Result<(), Broken>
     requires few { n ≤ most_rows }
     requires sorted { AreSorted memory.now }
     requires length { IsTrue (D.state disk.old).tells_bytes → length (D.state disk.old).bytes ≡ file_length geo.now }
     ensures rows { (file : List ℕ) (xs ys zs : Entries) → IsFile file (D.state disk.old) → IsScan geo.now scan.old xs ys zs file
         → result ≢ Err Broken.Fault
-        → (result ≡ Ok (take n (rows_of low.now high.now (above scan.old.at (view_of memory.now xs ys zs)))))
+        → (result ≡ Ok tt) × (rows.new ≡ take n (rows_of low.now high.now (above scan.old.at (view_of memory.now xs ys zs))))
         × (rows_of low.now high.now (above scan.new.at (view_of memory.now xs ys zs)) ≡ drop n (rows_of low.now high.now (above scan.old.at (view_of memory.now xs ys zs)))) }
-    ensures given { IfOk result (AreGiven n low.now high.now scan.old.at scan.new.at) }
+    ensures given { OnOk result (AreGiven n low.now high.now scan.old.at scan.new.at rows.new) }
     ensures damaged { (k : ℕ) (file : List ℕ) (c1 c1x c2 : Component) → result ≡ Err (Broken.Damaged k) → IsFile file (D.state disk.old)
         → HaveBegun geo.now c1 c1x c2 scan.old file → IsDamageOf geo.now c1 c1x c2 k file }
     ensures reads { Reads (file_length geo.now) (pages_left scan.old) result (D.state disk.old) (D.state disk.new) }
 {
-    let mut rows = RowList::new();
-    while rows.as_slice().len() < n as usize {
+    rows.clear();
+    while rows.len() < n {
         let Some((key, rec)) = scan.next(memory, disk, geo)? else {
-            return Ok(rows);
+            return Ok(());
         };
         if !(key < *high) {
-            return Ok(rows);
+            return Ok(());
         }
-        put_row(&mut rows, low, high, key, rec);
+        put_row(rows, low, high, key, rec);
     }
-    Ok(rows)
+    Ok(())
 }

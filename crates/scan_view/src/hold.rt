@@ -11,10 +11,11 @@ ghost use Rattle.tree_machine.specs.Lists.{rows_in};
 ghost use Rattle.scan_view.specs.Hold.{held_from, IsEmptyOrPaged, HasRows, AreGiven, IsDamageOf, pages_held};
 ghost use Rattle.scan_view.specs.Pins.{Pins};
 
+use crate::RowRoom;
 use crate::copy::{copy_of, copy_range};
 use crate::gather::gather;
 use crate::scan::Scan;
-use blsm_model::{CALLERS, Component, Geometry, Key, RowList};
+use blsm_model::{CALLERS, Component, Geometry, Key};
 use disk_trait::Disk;
 use mem_table::Table;
 use page_file::Broken;
@@ -92,8 +93,9 @@ impl Hold {
         })
     }
 
-    /// The next n rows, or as many as are left, from where the last call ended. It goes through the components from their first pages
-    /// on, with one call of the disk for each page at most, which reads, and takes no memory. After an `Err` the place stays.
+    /// Fills the room with the next n rows, or with as many as are left, from where the last call ended. It goes through the components from
+    /// their first pages on, with one call of the disk for each page at most, which reads, and takes no memory. After an `Err` the place stays,
+    /// and the room may have any rows.
     ///
     /// `Damaged` names a page of a component that isn't valid or doesn't go on; it never comes where the components read as lists.
     /// `Fault` comes only where the disk's count of faults rose.
@@ -102,14 +104,15 @@ impl Hold {
         disk: &mut D,
         geo: &Geometry,
         n: u32,
-    ) -> Result<RowList, Broken>
+        room: &mut RowRoom,
+    ) -> Result<(), Broken>
         requires few { n ≤ most_rows }
         requires length { IsTrue (D.state disk.old).tells_bytes → length (D.state disk.old).bytes ≡ file_length geo.now }
         // Of the rows that it has to give it gives the first n, and has the others left.
         ensures rows { (rows : List Row) → IsTrue (D.state disk.old).is_honest → (before : HasRows geo.now self.old rows (D.state disk.old).bytes)
             → result ≢ Err Broken.Fault
-            → (result ≡ Ok (take n rows)) × (now : HasRows geo.now self.new (drop n rows) (D.state disk.new).bytes) × (pages_held now ≡ pages_held before) }
-        ensures given { IfOk result (AreGiven n self.old.low self.old.high self.old.place self.new.place) }
+            → (result ≡ Ok tt) × (room.new ≡ take n rows) × (now : HasRows geo.now self.new (drop n rows) (D.state disk.new).bytes) × (pages_held now ≡ pages_held before) }
+        ensures given { OnOk result (AreGiven n self.old.low self.old.high self.old.place self.new.place room.new) }
         ensures damaged { (k : ℕ) → result ≡ Err (Broken.Damaged k) → IsTrue (D.state disk.old).is_honest
             → IsDamageOf geo.now self.old.c1 self.old.c1x self.old.c2 k (D.state disk.old).bytes }
         ensures moves { self.new ≡ record self.old { place = self.new.place } }
@@ -117,8 +120,17 @@ impl Hold {
         ensures reads { Reads (file_length geo.now) (self.old.c1.pages + self.old.c1x.pages + self.old.c2.pages) result (D.state disk.old) (D.state disk.new) }
     {
         let mut scan = Scan::start(&self.c1, &self.c1x, &self.c2, copy_of(&self.place));
-        let rows = gather(&mut scan, &self.memory, &self.low, &self.high, disk, geo, n)?;
+        gather(
+            &mut scan,
+            &self.memory,
+            &self.low,
+            &self.high,
+            disk,
+            geo,
+            n,
+            room,
+        )?;
         self.place = scan.at;
-        Ok(rows)
+        Ok(())
     }
 }

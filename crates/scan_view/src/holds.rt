@@ -1,5 +1,5 @@
 //! The holds of all callers.
-ghost use Rattle.std.specs.Prelude.{◌≡◌, ◌≢◌, ◌<◌, ◌≤◌, ℕ, List, Option, Some, None, Ok, Err, IsTrue, IsErr, IfOk, is_some, length, replicate, slice_index_or, slice_set, take, drop};
+ghost use Rattle.std.specs.Prelude.{◌≡◌, ◌≢◌, ◌<◌, ◌≤◌, ℕ, List, Option, Some, None, Ok, Err, IsTrue, IsErr, IfOk, OnOk, is_some, length, replicate, slice_index_or, slice_set, take, drop};
 ghost use Rattle.blsm_model.specs.declared.row.Row.{Row};
 ghost use Rattle.blsm_model.specs.Format.{callers, most_rows};
 ghost use Rattle.blsm_model.specs.Geometry.{file_length};
@@ -8,8 +8,8 @@ ghost use Rattle.page_file.specs.File.{Reads};
 ghost use Rattle.scan_view.specs.Holds.{hold_of, pages_behind, AreGivenBy, IsDamageBehind};
 ghost use Rattle.scan_view.specs.Pins.{HasHeld};
 
-use crate::Hold;
-use blsm_model::{CALLERS, Geometry, RowList};
+use crate::{Hold, RowRoom};
+use blsm_model::{CALLERS, Geometry};
 use disk_trait::Disk;
 use page_file::Broken;
 use refusal::NoMemory;
@@ -71,22 +71,23 @@ impl Holds {
         self.places[seat as usize] = None;
     }
 
-    /// The next rows of the caller's hold, as `Hold::next_rows` gives them.
+    /// Fills the room with the next rows of the caller's hold, as `Hold::next_rows` does.
     pub fn next_rows<D: Disk>(
         &mut self,
         seat: u32,
         disk: &mut D,
         geo: &Geometry,
         n: u32,
-    ) -> Result<RowList, Broken>
+        room: &mut RowRoom,
+    ) -> Result<(), Broken>
         requires seat { seat < callers }
         requires held { IsTrue (is_some (hold_of seat self.old)) }
         requires few { n ≤ most_rows }
         requires length { IsTrue (D.state disk.old).tells_bytes → length (D.state disk.old).bytes ≡ file_length geo.now }
         // Of the rows that it has to give it gives the first n, and has the others left, from pinned pages still.
         ensures rows { (pins : List Members) (rows : List Row) → IsTrue (D.state disk.old).is_honest → HasHeld geo.now pins seat (hold_of seat self.old) (Some rows) (D.state disk.old).bytes
-            → result ≢ Err Broken.Fault → (result ≡ Ok (take n rows)) × HasHeld geo.now pins seat (hold_of seat self.new) (Some (drop n rows)) (D.state disk.new).bytes }
-        ensures given { IfOk result (AreGivenBy n (hold_of seat self.old) (hold_of seat self.new)) }
+            → result ≢ Err Broken.Fault → (result ≡ Ok tt) × (room.new ≡ take n rows) × HasHeld geo.now pins seat (hold_of seat self.new) (Some (drop n rows)) (D.state disk.new).bytes }
+        ensures given { OnOk result (AreGivenBy n (hold_of seat self.old) (hold_of seat self.new) room.new) }
         ensures damaged { (k : ℕ) → result ≡ Err (Broken.Damaged k) → IsTrue (D.state disk.old).is_honest → IsDamageBehind geo.now (hold_of seat self.old) k (D.state disk.old).bytes }
         ensures others { (other : ℕ) → other ≢ seat → hold_of other self.new ≡ hold_of other self.old }
         ensures still { IsTrue (is_some (hold_of seat self.new)) }
@@ -97,6 +98,6 @@ impl Holds {
         let Some(hold) = &mut self.places[seat as usize] else {
             unreachable!();
         };
-        hold.next_rows(disk, geo, n)
+        hold.next_rows(disk, geo, n, room)
     }
 }

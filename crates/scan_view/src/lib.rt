@@ -10,9 +10,11 @@ mod holds;
 mod laws;
 mod least;
 mod records;
+mod row_room;
 mod scan;
 mod seek;
 
 pub use hold::Hold;
 pub use holds::Holds;
 pub use laws::{pins_stay, rows_stay};
+pub use row_room::RowRoom;

@@ -1,6 +1,6 @@
 //! The book.
 ghost use Rattle.std.specs.Prelude.{◌≡◌, ℕ, ◌+◌, ◌-◌, ◌<◌, ◌≤◌, ◌^◌, ◌&&◌, [], IsTrue, if◌then◌else◌, length, sum, take, drop, option_map, slice_index, slice_set};
-ghost use Rattle.blsm_model.specs.Format.{callers};
+ghost use Rattle.blsm_model.specs.Format.{callers, most_rows};
 ghost use Rattle.blsm_model.specs.Book.{HasRoom};
 ghost use Rattle.blsm_model.specs.Stored.{as_reply};
 ghost use Rattle.blsm_model.specs.Histories.{is_done};
@@ -15,7 +15,7 @@ ghost use Rattle.seat_book.specs.State.{opened_in, work_in, is_closed_in, may_no
 
 use crate::Turned;
 use crate::work::Work;
-use blsm_model::{Annals, CALLERS, Entry, Op, Reply, RowList, ShortReply, Totals, Why};
+use blsm_model::{Annals, CALLERS, Op, Row, ShortReply, Totals, Why};
 use std::marker::Model;
 
 const ALL_SEATS: usize = 24;
@@ -275,15 +275,12 @@ impl SeatBook {
     }
 
     /// Notes an entry whose reply gives these rows.
-    pub fn note_rows(&mut self, seat: u32, op: Op, rows: RowList)
-        requires { HasRoom self.old.book.room (record { seat = seat; op = op; reply = Rows rows }) }
-        ensures { self.new ≡ noted_in seat op (Rows rows) self.old }
+    pub fn note_rows(&mut self, seat: u32, op: Op, rows: &[Row])
+        requires few { length rows.now ≤ most_rows }
+        requires room { HasRoom self.old.book.room (record { seat = seat; op = op; reply = Rows rows.now }) }
+        ensures { self.new ≡ noted_in seat op (Rows rows.now) self.old }
     {
-        self.annals.note(Entry {
-            seat,
-            op,
-            reply: Reply::Rows(rows),
-        });
+        self.annals.note_rows(seat, op, rows);
     }
 
     /// Stops the tree for this cause.

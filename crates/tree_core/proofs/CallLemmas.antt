@@ -29,7 +29,7 @@ use Rattle.tree_core.specs.Standing.{StandsFor}
 use Rattle.tree_core.specs.Steps.{IsStep, IsWholeStep, MovesPace, StandsSince, may_in}
 use Rattle.tree_core.specs.declared.answers.Holding.{Holding}
 use Rattle.tree_core.specs.declared.answers.Release.{Release}
-use Rattle.tree_core.specs.declared.answers.Scan.{Scan}
+use Rattle.tree_core.specs.Scanned.{Scanned}
 use Rattle.tree_core.proofs.KeepLemmas.{is_held, whole_step}
 use Rattle.tree_core.proofs.PlayLemmas.{may_agrees}
 
@@ -71,7 +71,7 @@ holds_range state seat low high answer old new can numbers steps cause others bo
     record { goes = goes_holding state seat (kind.Hold low high) (Replied (reply_to_hold answer)) old new can numbers follows lasts begins steps; cause = cause; others = others; book = book; untouched = untouched }
 
 -- the next rows of a hold
-pub reads_on : {D : Type 0} (state : D → DiskState) (seat n : ℕ) (answer : Scan) (old new : CoreState D)
+pub reads_on : {D : Type 0} (state : D → DiskState) (seat n : ℕ) (answer : Scanned) (old new : CoreState D)
     (can : may_in old.held seat (kind.Next n) ≡ true)
     (numbers : (pace : Pace) → HoldsPace old.held pace (state old.disk) → MovesPace seat (kind.Next n) (Replied (reply_to_next answer)) new.held (state new.disk) pace)
     (steps : (opening : List (Key × Value)) (m : Machine) (pace : Pace) → IsTrue (state old.disk).is_honest → StandsWhole state opening old m pace → IsTrue (may m seat (kind.Next n)) → IsWholeStep state opening seat (kind.Next n) (Replied (reply_to_next answer)) old new m pace)

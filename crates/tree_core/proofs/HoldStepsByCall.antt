@@ -38,8 +38,8 @@ use Rattle.tree_runs.specs.Holding.{AreOf}
 use Rattle.core_moves.specs.declared.held.Held.{Held}
 use Rattle.tree_core.specs.declared.answers.Holding.{Holding}
 use Rattle.tree_core.specs.declared.answers.Holding.TheVariants as holds
-use Rattle.tree_core.specs.declared.answers.Scan.{Scan}
-use Rattle.tree_core.specs.declared.answers.Scan.TheVariants as scan
+use Rattle.tree_core.specs.Scanned.{Scanned}
+use Rattle.tree_core.specs.Scanned as scanned
 use Rattle.tree_core.specs.declared.answers.Release.{Release}
 use Rattle.tree_core.specs.declared.answers.Release.TheVariants as release
 use Rattle.tree_core.specs.Answers.{reply_to_hold, reply_to_next, reply_to_drop}
@@ -72,12 +72,12 @@ few_given n (Some old) (Some new) rows given = given.few
 few_given n None new rows given = absurd given
 few_given n (Some old) None rows given = absurd given
 
-few_by_next : {D : Type 0} (answer : Scan) (seat n : ℕ) (old new : CoreState D) (d d2 : DiskState) → ScansBecause answer seat n old new d d2 → length (rows_given (reply_to_next answer)) ≤ n
-few_by_next (scan.Rows rows) seat n old new d d2 because = few_given n (hold_of seat old.holds) (hold_of seat new.holds) rows because.2
-few_by_next scan.NoHold seat n old new d d2 because = omega arith
-few_by_next scan.Fault seat n old new d d2 because = omega arith
-few_by_next (scan.Damaged page) seat n old new d d2 because = omega arith
-few_by_next (scan.Stopped why) seat n old new d d2 because = omega arith
+few_by_next : {D : Type 0} (answer : Scanned) (seat n : ℕ) (old new : CoreState D) (d d2 : DiskState) → ScansBecause answer seat n old new d d2 → length (rows_given (reply_to_next answer)) ≤ n
+few_by_next (scanned.Rows rows) seat n old new d d2 because = few_given n (hold_of seat old.holds) (hold_of seat new.holds) rows because.2
+few_by_next scanned.NoHold seat n old new d d2 because = omega arith
+few_by_next scanned.Fault seat n old new d d2 because = omega arith
+few_by_next (scanned.Damaged page) seat n old new d d2 because = omega arith
+few_by_next (scanned.Stopped why) seat n old new d d2 because = omega arith
 
 pub hold_room : (seat : ℕ) (low high : Key) (answer : Holding) (b : BookState) → may_note_in seat 0 b ≡ true → HasRoom b.book.room (record { seat = seat; op = op.Hold low high; reply = reply_to_hold answer })
 hold_room seat low high answer b can = note_has_room b seat 0 (op.Hold low high) (reply_to_hold answer) can (none_by_hold answer)
@@ -85,7 +85,7 @@ hold_room seat low high answer b can = note_has_room b seat 0 (op.Hold low high)
 pub drop_room : (seat : ℕ) (answer : Release) (b : BookState) → may_note_in seat 0 b ≡ true → HasRoom b.book.room (record { seat = seat; op = op.Release; reply = reply_to_drop answer })
 drop_room seat answer b can = note_has_room b seat 0 op.Release (reply_to_drop answer) can (none_by_drop answer)
 
-pub next_room : {D : Type 0} (answer : Scan) (seat n : ℕ) (old new : CoreState D) (d d2 : DiskState) (b : BookState) → ScansBecause answer seat n old new d d2 → may_note_in seat n b ≡ true
+pub next_room : {D : Type 0} (answer : Scanned) (seat n : ℕ) (old new : CoreState D) (d d2 : DiskState) (b : BookState) → ScansBecause answer seat n old new d d2 → may_note_in seat n b ≡ true
     → HasRoom b.book.room (record { seat = seat; op = op.Next n; reply = reply_to_next answer })
 next_room answer seat n old new d d2 b because can = note_has_room b seat n (op.Next n) (reply_to_next answer) can (few_by_next answer seat n old new d d2 because)
 
@@ -202,24 +202,24 @@ was_damaged : (sizes : Sizes) (old : Option HoldState) (page : ℕ) (file : List
 was_damaged sizes (Some old) page file damage = refl
 was_damaged sizes None page file damage = absurd damage
 
-given_is_none_other : (rows : RowList) → scan.Rows rows ≢ scan.Fault
+given_is_none_other : (rows : RowList) → scanned.Rows rows ≢ scanned.Fault
 given_is_none_other rows same = cc same
 
-damage_is_none_other : (page : ℕ) → scan.Damaged page ≢ scan.Fault
+damage_is_none_other : (page : ℕ) → scanned.Damaged page ≢ scanned.Fault
 damage_is_none_other page same = cc same
 
-damage_gives_none : (page : ℕ) (rows : RowList) → scan.Damaged page ≢ scan.Rows rows
+damage_gives_none : (page : ℕ) (rows : RowList) → scanned.Damaged page ≢ scanned.Rows rows
 damage_gives_none page rows same = cc same
 
 -- a reading on gives the first n of the rows to come, and keeps the others
-abbrev pub GivesRows : {D : Type 0} → ℕ → ℕ → Scan → CoreState D → List (Option HoldState) → DiskState → DiskState → Type 0
+abbrev pub GivesRows : {D : Type 0} → ℕ → ℕ → Scanned → CoreState D → List (Option HoldState) → DiskState → DiskState → Type 0
 GivesRows seat n answer old after before now =
-    (rows : List Row) → IsTrue before.is_honest → old.held.book.stopped ≡ None → HasHeld old.held.runs.sizes old.held.runs.space.pins seat (hold_of seat old.holds) (Some rows) before.bytes → answer ≢ scan.Fault
-    → (answer ≡ scan.Rows (take n rows)) × HasHeld old.held.runs.sizes old.held.runs.space.pins seat (hold_of seat after) (Some (drop n rows)) now.bytes
+    (rows : List Row) → IsTrue before.is_honest → old.held.book.stopped ≡ None → HasHeld old.held.runs.sizes old.held.runs.space.pins seat (hold_of seat old.holds) (Some rows) before.bytes → answer ≢ scanned.Fault
+    → (answer ≡ scanned.Rows (take n rows)) × HasHeld old.held.runs.sizes old.held.runs.space.pins seat (hold_of seat after) (Some (drop n rows)) now.bytes
 
-pub next_steps : {D : Type 0} {end most : ℕ} (state : D → DiskState) (opening : List (Key × Value)) (seat n : ℕ) (answer : Scan) (old : CoreState D) (after : List (Option HoldState)) (disk : D) (m : Machine) (pace : Pace)
+pub next_steps : {D : Type 0} {end most : ℕ} (state : D → DiskState) (opening : List (Key × Value)) (seat n : ℕ) (answer : Scanned) (old : CoreState D) (after : List (Option HoldState)) (disk : D) (m : Machine) (pace : Pace)
     → OnlyReads end most (state old.disk) (state disk) → IsTrue (state old.disk).is_honest → seat < callers → MovesHold seat old.held old.held old.holds after
-    → ScansBecause answer seat n (undisked old.held old.holds) (undisked old.held after) (state old.disk) (state disk) → (answer ≡ scan.Fault → (state disk).faults < 2 ^ 64) → GivesRows seat n answer old after (state old.disk) (state disk)
+    → ScansBecause answer seat n (undisked old.held old.holds) (undisked old.held after) (state old.disk) (state disk) → (answer ≡ scanned.Fault → (state disk).faults < 2 ^ 64) → GivesRows seat n answer old after (state old.disk) (state disk)
     → StandsWhole state opening old m pace → may m seat (kind.Next n) ≡ true
     → IsWholeStep state opening seat (kind.Next n) (Replied (reply_to_next answer)) old (after_it disk old.held after seat (op.Next n) (reply_to_next answer) old.held) m pace
 next_steps state opening seat n answer old after disk m pace reads honest below moves because counted gives stands can = by answer because counted gives
@@ -252,18 +252,18 @@ next_steps state opening seat n answer old after disk m pace reads honest below 
     kept r outcome same does possible whole = hold_step state opening seat (kind.Next n) (op.Next n) r outcome old old.held after disk m.holds m pace (next_kind seat n) moves reads honest stands can does possible whole
         (λ runs. same_rows old.held old.held old.holds after m d (state disk) refl same bytes (stands.rows runs))
 
-    by : (a : Scan) → ScansBecause a seat n (undisked old.held old.holds) (undisked old.held after) d (state disk) → (a ≡ scan.Fault → (state disk).faults < 2 ^ 64) → GivesRows seat n a old after d (state disk)
+    by : (a : Scanned) → ScansBecause a seat n (undisked old.held old.holds) (undisked old.held after) d (state disk) → (a ≡ scanned.Fault → (state disk).faults < 2 ^ 64) → GivesRows seat n a old after d (state disk)
         → IsWholeStep state opening seat (kind.Next n) (Replied (reply_to_next a)) old (after_it disk old.held after seat (op.Next n) (reply_to_next a) old.held) m pace
-    by (scan.Rows rows) because counted gives =
+    by (scanned.Rows rows) because counted gives =
         let come = to_come (was_held n (hold_of seat old.holds) (hold_of seat after) rows because.2) because.0 in
         let given = gives come.0 honest because.0 (has come.0 come.1 because.0) (given_is_none_other rows) in
         let left = Some (drop n come.0) in
         hold_step state opening seat (kind.Next n) (op.Next n) (reply.Rows rows) Well old old.held after disk (slice_set m.holds seat left) m pace (next_kind seat n) moves reads honest stands can
-        (running Well (Some come.0) because.0 come.1 ∙ ap (λ (a : Scan). replied seat (op.Next n) (reply_to_next a) (holding seat left m)) (sym given.0)) tt refl
+        (running Well (Some come.0) because.0 come.1 ∙ ap (λ (a : Scanned). replied seat (op.Next n) (reply_to_next a) (holding seat left m)) (sym given.0)) tt refl
         (λ runs. seat_rows seat old.held old.held old.holds after m left d (state disk) moves below stands.stands.paced.stands.places bytes given.1 (stands.rows runs))
-    by scan.NoHold because counted gives =
+    by scanned.NoHold because counted gives =
         kept reply.NoHold Well because.2 (running Well None because.0 (none_held old.held.runs.sizes old.held.runs.space.pins seat d.bytes (hold_of seat old.holds) (held_by seat m) because.1 (stands.rows because.0 seat below))) tt refl
-    by scan.Fault because counted gives =
+    by scanned.Fault because counted gives =
         let come = to_come because.1 because.0 in
         kept reply.Fault (FailedAfter 0 (state disk).faults) because.2 (running (FailedAfter 0 (state disk).faults) (Some come.0) because.0 come.1) (
           ap (λ (o : Option Why). not (is_some o) && is_some (held_by seat m)) (stopped_is ∙ because.0) ∙ ap (λ (o : Option (List Row)). true && is_some o) come.1,
@@ -271,15 +271,15 @@ next_steps state opening seat n answer old after disk m pace reads honest below 
           rose d.faults (state disk).faults reads.effect.goes_on.faults (counted refl) because.3,
           refl,
         ) refl
-    by (scan.Damaged page) because counted gives =
+    by (scanned.Damaged page) because counted gives =
         let come = to_come (was_damaged old.held.runs.sizes (hold_of seat old.holds) page d.bytes (because.3 honest)) because.0 in
         absurd (damage_gives_none page (take n come.0) (gives come.0 honest because.0 (has come.0 come.1 because.0) (damage_is_none_other page)).0)
-    by (scan.Stopped why) because counted gives = kept (reply.Stopped why) Well because.1 (by_stop Well (Some why) because.0) tt refl
+    by (scanned.Stopped why) because counted gives = kept (reply.Stopped why) Well because.1 (by_stop Well (Some why) because.0) tt refl
 
 -- what a reading on is due to doesn't speak of the entry
-pub next_cause : {D : Type 0} (answer : Scan) (seat n : ℕ) (old new : CoreState D) (d d2 : DiskState) → ScansBecause answer seat n (undisked old.held old.holds) (undisked old.held new.holds) d d2 → ScansBecause answer seat n old new d d2
-next_cause (scan.Rows rows) seat n old new d d2 because = because
-next_cause scan.NoHold seat n old new d d2 because = because
-next_cause scan.Fault seat n old new d d2 because = because
-next_cause (scan.Damaged page) seat n old new d d2 because = because
-next_cause (scan.Stopped why) seat n old new d d2 because = because
+pub next_cause : {D : Type 0} (answer : Scanned) (seat n : ℕ) (old new : CoreState D) (d d2 : DiskState) → ScansBecause answer seat n (undisked old.held old.holds) (undisked old.held new.holds) d d2 → ScansBecause answer seat n old new d d2
+next_cause (scanned.Rows rows) seat n old new d d2 because = because
+next_cause scanned.NoHold seat n old new d d2 because = because
+next_cause scanned.Fault seat n old new d d2 because = because
+next_cause (scanned.Damaged page) seat n old new d d2 because = because
+next_cause (scanned.Stopped why) seat n old new d d2 because = because

@@ -29,4 +29,5 @@ mod AdmissionCalls
 mod HoldSteps
 mod HoldStepsByCall
 mod HoldStepsLast
+mod ScanLemmas
 pub mod CallLemmas

@@ -19,8 +19,8 @@ use Rattle.tree_core.specs.declared.answers.Payment.{Payment}
 use Rattle.tree_core.specs.declared.answers.Payment.TheVariants as payment
 use Rattle.tree_core.specs.declared.answers.Holding.{Holding}
 use Rattle.tree_core.specs.declared.answers.Holding.TheVariants as holding
-use Rattle.tree_core.specs.declared.answers.Scan.{Scan}
-use Rattle.tree_core.specs.declared.answers.Scan.TheVariants as scan
+use Rattle.tree_core.specs.Scanned.{Scanned}
+use Rattle.tree_core.specs.Scanned as scanned
 use Rattle.tree_core.specs.declared.answers.Release.{Release}
 use Rattle.tree_core.specs.declared.answers.Release.TheVariants as release
 use Rattle.tree_core.specs.declared.answers.Lookup.{Lookup}
@@ -51,12 +51,12 @@ reply_to_hold holding.Held = reply.Held
 reply_to_hold holding.NoMemory = reply.NoMemory
 reply_to_hold (holding.Stopped why) = reply.Stopped why
 
-abbrev pub reply_to_next : Scan → Reply
-reply_to_next (scan.Rows rows) = reply.Rows rows
-reply_to_next scan.NoHold = reply.NoHold
-reply_to_next scan.Fault = reply.Fault
-reply_to_next (scan.Damaged page) = reply.Damaged page
-reply_to_next (scan.Stopped why) = reply.Stopped why
+abbrev pub reply_to_next : Scanned → Reply
+reply_to_next (scanned.Rows rows) = reply.Rows rows
+reply_to_next scanned.NoHold = reply.NoHold
+reply_to_next scanned.Fault = reply.Fault
+reply_to_next (scanned.Damaged page) = reply.Damaged page
+reply_to_next (scanned.Stopped why) = reply.Stopped why
 
 abbrev pub reply_to_drop : Release → Reply
 reply_to_drop release.Done = reply.Done

@@ -34,7 +34,7 @@ use Rattle.tree_core.specs.declared.answers.Holding.{Holding}
 use Rattle.tree_core.specs.declared.answers.Lookup.{Lookup}
 use Rattle.tree_core.specs.declared.answers.Payment.{Payment}
 use Rattle.tree_core.specs.declared.answers.Release.{Release}
-use Rattle.tree_core.specs.declared.answers.Scan.{Scan}
+use Rattle.tree_core.specs.Scanned.{Scanned}
 
 -- What each call says: it might be made, it moves the pace by its answer, follows from what stood, what lasts goes on lasting, and begins anew there.
 -- On an honest disk it is the machine's own step.
@@ -87,7 +87,7 @@ pub record HoldsRange {D : Type 0} (state : D → DiskState) (seat : ℕ) (low h
   pub book : new.held.book ≡ noted_in seat (op.Hold low high) (reply_to_hold answer) old.held.book
   pub untouched : new.disk ≡ old.disk
 
-pub record ReadsOn {D : Type 0} (state : D → DiskState) (seat n : ℕ) (answer : Scan) (old new : CoreState D) : Type 0 where
+pub record ReadsOn {D : Type 0} (state : D → DiskState) (seat n : ℕ) (answer : Scanned) (old new : CoreState D) : Type 0 where
   pub goes : GoesOnAs state seat (kind.Next n) (Replied (reply_to_next answer)) old new
   pub cause : ScansBecause answer seat n old new (state old.disk) (state new.disk)
   pub book : new.held.book ≡ noted_in seat (op.Next n) (reply_to_next answer) old.held.book
@@ -142,7 +142,7 @@ IsCall state seat (kind.Admit op) old new = (answer : Admission) × Admits state
 IsCall state seat kind.Pay old new = (answer : Payment) × Pays state seat answer old new
 IsCall state seat (kind.Get key) old new = (answer : Lookup) × Gets state seat key answer old new
 IsCall state seat (kind.Hold low high) old new = (answer : Holding) × HoldsRange state seat low high answer old new
-IsCall state seat (kind.Next n) old new = (answer : Scan) × ReadsOn state seat n answer old new
+IsCall state seat (kind.Next n) old new = (answer : Scanned) × ReadsOn state seat n answer old new
 IsCall state seat kind.Release old new = (answer : Release) × LetsGo state seat answer old new
 IsCall state seat kind.WorkTurn old new = (answer : Turned) × TurnsOnce state seat answer old new
 IsCall state seat (kind.WorkEnd n) old new = (reply : Reply) × EndsWork state seat n reply old new

@@ -37,8 +37,8 @@ use Rattle.tree_core.specs.declared.answers.Lookup.{Lookup}
 use Rattle.tree_core.specs.declared.answers.Lookup.TheVariants as lookup
 use Rattle.tree_core.specs.declared.answers.Holding.{Holding}
 use Rattle.tree_core.specs.declared.answers.Holding.TheVariants as holding
-use Rattle.tree_core.specs.declared.answers.Scan.{Scan}
-use Rattle.tree_core.specs.declared.answers.Scan.TheVariants as scan
+use Rattle.tree_core.specs.Scanned.{Scanned}
+use Rattle.tree_core.specs.Scanned as scanned
 use Rattle.tree_core.specs.declared.answers.Release.{Release}
 use Rattle.tree_core.specs.declared.answers.Release.TheVariants as release
 use Rattle.tree_core.specs.Answers.{newest_in}
@@ -173,21 +173,21 @@ HoldsBecause holding.NoMemory seat low high old new = (old.held.book.stopped ≡
 HoldsBecause (holding.Stopped why) seat low high old new = (old.held.book.stopped ≡ Some why) × (new.holds ≡ old.holds) × (new.held.runs ≡ old.held.runs)
 
 -- the disk isn't called without a hold, or where the store is stopped
-abbrev pub ScansNone : Scan → Type 0
-ScansNone scan.NoHold = ⊤
-ScansNone (scan.Stopped why) = ⊤
+abbrev pub ScansNone : Scanned → Type 0
+ScansNone scanned.NoHold = ⊤
+ScansNone (scanned.Stopped why) = ⊤
 ScansNone _ = ⊥
 
 -- What reading on in a hold is due to, on every disk. Where no rows are given the hold stays as it is.
-abbrev pub ScansBecause : {D : Type 0} → Scan → ℕ → ℕ → CoreState D → CoreState D → DiskState → DiskState → Type 0
-ScansBecause (scan.Rows rows) seat n old new before after = (old.held.book.stopped ≡ None) × (after.faults ≡ before.faults) × AreGivenBy n (hold_of seat old.holds) (hold_of seat new.holds) rows
-ScansBecause scan.NoHold seat n old new before after = (old.held.book.stopped ≡ None) × (hold_of seat old.holds ≡ None) × (new.holds ≡ old.holds)
-ScansBecause scan.Fault seat n old new before after =
+abbrev pub ScansBecause : {D : Type 0} → Scanned → ℕ → ℕ → CoreState D → CoreState D → DiskState → DiskState → Type 0
+ScansBecause (scanned.Rows rows) seat n old new before after = (old.held.book.stopped ≡ None) × (after.faults ≡ before.faults) × AreGivenBy n (hold_of seat old.holds) (hold_of seat new.holds) rows
+ScansBecause scanned.NoHold seat n old new before after = (old.held.book.stopped ≡ None) × (hold_of seat old.holds ≡ None) × (new.holds ≡ old.holds)
+ScansBecause scanned.Fault seat n old new before after =
     (old.held.book.stopped ≡ None) × IsTrue (is_some (hold_of seat old.holds)) × (new.holds ≡ old.holds) × HasRisen before.faults after.faults
-ScansBecause (scan.Damaged page) seat n old new before after =
+ScansBecause (scanned.Damaged page) seat n old new before after =
     (old.held.book.stopped ≡ None) × (new.holds ≡ old.holds) × (after.faults ≡ before.faults)
     × (IsTrue before.is_honest → IsDamageBehind old.held.runs.sizes (hold_of seat old.holds) page before.bytes)
-ScansBecause (scan.Stopped why) seat n old new before after = (old.held.book.stopped ≡ Some why) × (new.holds ≡ old.holds) × (after.faults ≡ before.faults)
+ScansBecause (scanned.Stopped why) seat n old new before after = (old.held.book.stopped ≡ Some why) × (new.holds ≡ old.holds) × (after.faults ≡ before.faults)
 
 -- What dropping a hold is due to. Once it is dropped the seat pins nothing.
 abbrev pub DropsBecause : {D : Type 0} → Release → ℕ → CoreState D → CoreState D → Type 0

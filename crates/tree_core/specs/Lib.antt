@@ -3,6 +3,7 @@ pub mod Parts
 pub mod Standing
 pub mod Holds
 pub mod HoldMoves
+pub mod Scanned
 pub mod Answers
 pub mod Causes
 pub mod Notes

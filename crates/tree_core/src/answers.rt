@@ -1,6 +1,6 @@
 //! What the calls answer.
 
-use blsm_model::{RowList, Value, Why};
+use blsm_model::{Value, Why};
 
 /// What an admission answers.
 #[derive(Clone, Copy, PartialEq, Eq, Debug)]
@@ -60,10 +60,10 @@ pub enum Holding {
 }
 
 /// What reading on in a hold answers.
-#[derive(PartialEq, Eq, Debug, Drop)]
+#[derive(Clone, Copy, PartialEq, Eq, Debug)]
 pub enum Scan {
-    /// The next rows.
-    Rows(RowList),
+    /// So many rows were noted, the next ones of the hold: the history has them.
+    Rows(u32),
     /// The caller has no hold.
     NoHold,
     /// A call of the disk failed.

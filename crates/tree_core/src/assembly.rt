@@ -22,7 +22,7 @@ use blsm_model::Annals;
 use core_moves::Held;
 use disk_trait::Disk;
 use gear_sched::Gears;
-use scan_view::Holds;
+use scan_view::{Holds, RowRoom};
 use seat_book::SeatBook;
 use tree_log::LoggedTables;
 use tree_runs::Runs;
@@ -40,6 +40,8 @@ pub struct Parts<D: Disk + Drop> {
     pub annals: Annals,
     /// The room for the callers' holds, of which there is none.
     pub holds: Holds,
+    /// The room for the rows of one reply.
+    pub rows: RowRoom,
 }
 
 impl<D: Disk + Drop> Core<D> {
@@ -78,6 +80,7 @@ impl<D: Disk + Drop> Core<D> {
                 book,
             },
             holds: parts.holds,
+            rows: parts.rows,
         }
     }
 }

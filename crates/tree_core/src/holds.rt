@@ -26,12 +26,13 @@ ghost use Rattle.tree_runs.specs.Runs.{AreRuns, page_share};
 ghost use Rattle.tree_runs.specs.Holding.{AreOf};
 ghost use Rattle.core_moves.specs.Needs.{IsOn};
 ghost use Rattle.tree_core.specs.declared.answers.Holding.TheVariants as holding;
-ghost use Rattle.tree_core.specs.declared.answers.Scan.TheVariants as scan;
 ghost use Rattle.tree_core.specs.Answers.{reply_to_hold, reply_to_next, reply_to_drop};
 ghost use Rattle.tree_core.specs.Causes.{HoldsBecause, ScansBecause, DropsBecause, ScansNone};
 ghost use Rattle.tree_core.specs.Core.{CoreState, HoldsPace, facts_of_held};
 ghost use Rattle.tree_core.specs.Holds.{AreFew, LeavesOthers, StandsWhole};
 ghost use Rattle.tree_core.specs.HoldMoves.{MovesHold, undisked};
+ghost use Rattle.tree_core.specs.Scanned as scanned;
+ghost use Rattle.tree_core.specs.Scanned.{Counts, rows_noted, scanned_by, scanned_in};
 ghost use Rattle.tree_core.specs.Steps.{MovesPace, IsWholeStep, StandsSince};
 
 use crate::{Core, Holding, Release, Scan};
@@ -40,7 +41,7 @@ use core_moves::Held;
 use disk_trait::Disk;
 use page_file::Broken;
 use refusal::NoMemory;
-use scan_view::Holds;
+use scan_view::{Holds, RowRoom};
 use seat_book::SeatBook;
 use std::alloc::Global;
 use tree_runs::others_may_write;
@@ -82,20 +83,28 @@ fn take_hold(
     }
 }
 
-// The next rows of the seat's hold, if it has one.
-fn read_on<D: Disk>(held: &Held, holds: &mut Holds, disk: &mut D, seat: u32, n: u32) -> Scan
+// The room is filled with the next rows of the seat's hold, if it has one.
+fn read_on<D: Disk>(
+    held: &Held,
+    holds: &mut Holds,
+    disk: &mut D,
+    room: &mut RowRoom,
+    seat: u32,
+    n: u32,
+) -> Scan
     requires seat { seat < callers }
     requires few { n ≤ most_rows }
     requires on { held.now.book.stopped ≡ None → IsOn held.now (D.state disk.old) }
-    ensures cause { ScansBecause result seat n (undisked held.now holds.old) (undisked held.now holds.new) (D.state disk.old) (D.state disk.new) }
+    ensures cause { ScansBecause (scanned_by result room.new) seat n (undisked held.now holds.old) (undisked held.now holds.new) (D.state disk.old) (D.state disk.new) }
+    ensures counts { Counts result room.new }
     ensures rows { (rows : List Row) → IsTrue (D.state disk.old).is_honest → held.now.book.stopped ≡ None
-        → HasHeld held.now.runs.sizes held.now.runs.space.pins seat (hold_of seat holds.old) (Some rows) (D.state disk.old).bytes → result ≢ scan.Fault
-        → (result ≡ scan.Rows (take n rows)) × HasHeld held.now.runs.sizes held.now.runs.space.pins seat (hold_of seat holds.new) (Some (drop n rows)) (D.state disk.new).bytes }
+        → HasHeld held.now.runs.sizes held.now.runs.space.pins seat (hold_of seat holds.old) (Some rows) (D.state disk.old).bytes → scanned_by result room.new ≢ scanned.Fault
+        → (scanned_by result room.new ≡ scanned.Rows (take n rows)) × HasHeld held.now.runs.sizes held.now.runs.space.pins seat (hold_of seat holds.new) (Some (drop n rows)) (D.state disk.new).bytes }
     ensures others { (other : ℕ) → other ≢ seat → hold_of other holds.new ≡ hold_of other holds.old }
     ensures few { AreFew held.now.runs.sizes holds.old → AreFew held.now.runs.sizes holds.new }
-    ensures counted { result ≡ scan.Fault → (D.state disk.new).faults < 2 ^ 64 }
+    ensures counted { scanned_by result room.new ≡ scanned.Fault → (D.state disk.new).faults < 2 ^ 64 }
     ensures reads { OnlyReads (file_length held.now.runs.sizes) (pages_behind (hold_of seat holds.old)) (D.state disk.old) (D.state disk.new) }
-    ensures untouched { ScansNone result → disk.new ≡ disk.old }
+    ensures untouched { ScansNone (scanned_by result room.new) → disk.new ≡ disk.old }
 {
     if let Some(why) = held.book.stopped() {
         return Scan::Stopped(why);
@@ -103,8 +112,8 @@ fn read_on<D: Disk>(held: &Held, holds: &mut Holds, disk: &mut D, seat: u32, n: 
     if !holds.has(seat) {
         return Scan::NoHold;
     }
-    match holds.next_rows(seat, disk, &held.runs.geometry(), n) {
-        Ok(rows) => Scan::Rows(rows),
+    match holds.next_rows(seat, disk, &held.runs.geometry(), n, room) {
+        Ok(()) => Scan::Rows(room.len()),
         Err(Broken::Fault) => {
             // The disk's count is a number of 64 bits.
             let _faults = disk.faults();
@@ -154,12 +163,12 @@ fn release_reply(release: &Release) -> ShortReply
     }
 }
 
-fn note_scan(book: &mut SeatBook, seat: u32, n: u32, scan: &Scan)
-    requires { HasRoom book.old.book.room (record { seat = seat; op = op.Next n; reply = reply_to_next scan.now }) }
-    ensures { book.new ≡ noted_in seat (op.Next n) (reply_to_next scan.now) book.old }
+fn note_scan(book: &mut SeatBook, seat: u32, n: u32, scan: &Scan, room: &RowRoom)
+    requires { HasRoom book.old.book.room (record { seat = seat; op = op.Next n; reply = reply_to_next (scanned_by scan.now room.now) }) }
+    ensures { book.new ≡ noted_in seat (op.Next n) (reply_to_next (scanned_by scan.now room.now)) book.old }
 {
     match scan {
-        Scan::Rows(rows) => book.note_rows(seat, Op::Next(n), rows.copy()),
+        Scan::Rows(_) => book.note_rows(seat, Op::Next(n), room.as_slice()),
         Scan::NoHold => book.note(seat, Op::Next(n), ShortReply::NoHold),
         Scan::Fault => book.note(seat, Op::Next(n), ShortReply::Fault),
         Scan::Damaged(page) => book.note(seat, Op::Next(n), ShortReply::Damaged(*page)),
@@ -196,31 +205,39 @@ impl<D: Disk + Drop> Core<D> {
         holding
     }
 
-    /// Gives the next `n` rows of the caller's hold, 1 to 32, or as many as are left. It notes one entry. It only reads, and a failure leaves the
-    /// place and doesn't stop the store.
+    /// Notes the next `n` rows of the caller's hold, 1 to 32, or as many as are left, in one entry, and answers how many they are. It only reads
+    /// the disk, and a failure leaves the place and doesn't stop the store.
     #[inline(never)]
     pub fn next_rows(&mut self, seat: u32, n: u32) -> Scan
         requires note { IsTrue (may_note_in seat n self.old.held.book) }
         requires some { 0 < n }
         requires few { n ≤ most_rows }
         ensures numbers { (pace : Pace) → HoldsPace self.old.held pace (D.state self.old.disk)
-            → MovesPace seat (kind.Next n) (Replied (reply_to_next result)) self.new.held (D.state self.new.disk) pace }
+            → MovesPace seat (kind.Next n) (Replied (reply_to_next (scanned_in result self.new.held.book))) self.new.held (D.state self.new.disk) pace }
         ensures steps { (opening : List (Key × Value)) (m : Machine) (pace : Pace) → IsTrue (D.state self.old.disk).is_honest
             → StandsWhole D.state opening self.old m pace → IsTrue (may m seat (kind.Next n))
-            → IsWholeStep D.state opening seat (kind.Next n) (Replied (reply_to_next result)) self.old self.new m pace }
-        ensures cause { ScansBecause result seat n self.old self.new (D.state self.old.disk) (D.state self.new.disk) }
-        ensures book { self.new.held.book ≡ noted_in seat (op.Next n) (reply_to_next result) self.old.held.book }
+            → IsWholeStep D.state opening seat (kind.Next n) (Replied (reply_to_next (scanned_in result self.new.held.book))) self.old self.new m pace }
+        ensures cause { ScansBecause (scanned_in result self.new.held.book) seat n self.old self.new (D.state self.old.disk) (D.state self.new.disk) }
+        ensures counts { Counts result (rows_noted self.new.held.book.book) }
+        ensures book { self.new.held.book ≡ noted_in seat (op.Next n) (reply_to_next (scanned_in result self.new.held.book)) self.old.held.book }
         ensures others { LeavesOthers seat self.old self.new }
         ensures runs { self.new.held.runs ≡ self.old.held.runs }
         ensures few { pages_behind (hold_of seat self.old.holds) ≤ page_share self.old.held.runs.sizes }
         ensures reads { OnlyReads (file_length self.old.held.runs.sizes) (pages_behind (hold_of seat self.old.holds)) (D.state self.old.disk) (D.state self.new.disk) }
-        ensures untouched { ScansNone result → self.new.disk ≡ self.old.disk }
+        ensures untouched { ScansNone (scanned_in result self.new.held.book) → self.new.disk ≡ self.old.disk }
         ensures follows { Follows seat (facts_of_held self.old.held) (facts_of_held self.new.held) }
         ensures lasts { (start : CoreState D) → StandsSince D.state start self.old → StandsSince D.state start self.new }
     {
         others_may_write();
-        let scan = read_on(&self.held, &mut self.holds, &mut self.disk, seat, n);
-        note_scan(&mut self.held.book, seat, n, &scan);
+        let scan = read_on(
+            &self.held,
+            &mut self.holds,
+            &mut self.disk,
+            &mut self.rows,
+            seat,
+            n,
+        );
+        note_scan(&mut self.held.book, seat, n, &scan, &self.rows);
         scan
     }
 

@@ -10,7 +10,7 @@ ghost use Rattle.tree_core.specs.Steps.{StandsSince};
 use blsm_model::{Annals, Geometry, Totals};
 use core_moves::Held;
 use disk_trait::Disk;
-use scan_view::Holds;
+use scan_view::{Holds, RowRoom};
 use std::marker::Model;
 
 /// The whole store: the disk, what it has in memory, and the callers' holds. Seats are numbered from 0: callers below 16, and then eight workers.
@@ -22,6 +22,8 @@ pub struct Core<D: Disk + Drop> {
     pub(crate) disk: D,
     pub(crate) held: Held,
     pub(crate) holds: Holds,
+    // The rows of the last `next`, before they were noted.
+    pub(crate) rows: RowRoom,
 }
 
 impl<D: Disk + Drop> Model for Core<D> {

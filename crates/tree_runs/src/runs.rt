@@ -104,7 +104,7 @@ impl Runs {
         let mut merges = room.merges;
         let here = &mut *merges;
         here.pass = None;
-        here.deep = due_deep(geometry, &catalogue, deep, &mut guides);
+        begin_due(&mut here.deep, geometry, &catalogue, deep, &mut guides);
         Runs {
             geometry: *geometry,
             catalogue,
@@ -197,28 +197,30 @@ impl Runs {
     }
 }
 
-// The deep merge that a catalogue asks for: one that has taken nothing, where C1' has pages. Its run's filter and fences are empty then.
-fn due_deep(
+// Puts the deep merge that a catalogue asks for where it is to lie, since it takes some 14 KB: one that has taken nothing, where C1' has pages. Its
+// run's filter and fences are empty then.
+fn begin_due(
+    slot: &mut Option<Deep>,
     geo: &Geometry,
     catalogue: &Catalog,
     role: Role,
     guides: &mut Vec<Guide>,
-) -> Option<Deep>
+)
     requires guides { AreGuides geo.now guides.old.items }
     requires role { role ≡ first_tags.deep }
     requires older { catalogue.now.c2.pages ≡ 0 → catalogue.now.c2 ≡ empty_component }
-    ensures begun { result ≡ due_deep role catalogue.now }
+    ensures begun { slot.new ≡ due_deep role catalogue.now }
     ensures guides { guides.new.items ≡ due_guides geo.now catalogue.now guides.old.items }
     ensures reserved { AreGuides geo.now guides.new.items }
     ensures others { KeepsOtherGuides role guides.old.items guides.new.items }
-    ensures running { (sizes : Sizes) (honest : Bool) (file : List ℕ) (space : SpaceState) → DeepRuns sizes honest file space (guide_at guides.new.items role) result }
+    ensures running { (sizes : Sizes) (honest : Bool) (file : List ℕ) (space : SpaceState) → DeepRuns sizes honest file space (guide_at guides.new.items role) slot.new }
     ensures merge { (sizes : Sizes) (file : List ℕ) (space : SpaceState) (c1x c2 : List RunPage)
         → ReadsAs sizes catalogue.now.c1x c1x file → AreElsewhere space role c1x → ReadsAs sizes catalogue.now.c2 c2 file → AreElsewhere space role c2
-        → IsDeepOver sizes file space (guide_at guides.new.items role) result c1x c2 }
+        → IsDeepOver sizes file space (guide_at guides.new.items role) slot.new c1x c2 }
 {
     if catalogue.c1x.pages == 0 {
-        None
+        *slot = None;
     } else {
-        Some(begin_deep(geo, &catalogue.c1x, &catalogue.c2, role, guides))
+        *slot = Some(begin_deep(geo, &catalogue.c1x, &catalogue.c2, role, guides));
     }
 }

@@ -25,8 +25,8 @@ use Rattle.tree_core.specs.declared.answers.Holding.{Holding}
 use Rattle.tree_core.specs.declared.answers.Holding.TheVariants as holding
 use Rattle.tree_core.specs.declared.answers.Release.{Release}
 use Rattle.tree_core.specs.declared.answers.Release.TheVariants as release
-use Rattle.tree_core.specs.declared.answers.Scan.{Scan}
-use Rattle.tree_core.specs.declared.answers.Scan.TheVariants as scan
+use Rattle.tree_core.specs.Scanned.{Scanned}
+use Rattle.tree_core.specs.Scanned as scanned
 use Rattle.tree_session.specs.Faults.{NamesStop, Proceeds, Reaches, TellsFaults, TellsNone, faults_of}
 use Rattle.tree_session.specs.Lines.{Rests, rows_of}
 use Rattle.tree_session.specs.Session.{Performs, most_calls}
@@ -97,21 +97,21 @@ drop_names release.NoHold seat old new because same = tt
 drop_names (release.Stopped why) seat old new because same = same ∙ because.0
 
 -- a next tells a fault without a stop, as a get does
-pub scan_tells : {D : Type 0} (answer : Scan) (seat n : ℕ) (old new : CoreState D) (before after : DiskState) → ScansBecause answer seat n old new before after → new.held.book.stopped ≡ old.held.book.stopped → (ScansNone answer → after.faults ≡ before.faults)
+pub scan_tells : {D : Type 0} (answer : Scanned) (seat n : ℕ) (old new : CoreState D) (before after : DiskState) → ScansBecause answer seat n old new before after → new.held.book.stopped ≡ old.held.book.stopped → (ScansNone answer → after.faults ≡ before.faults)
     → TellsFaults (faults_of (reply_to_next answer)) old.held new.held before after
-scan_tells (scan.Rows rows) seat n old new before after because same none = tells_quiet old.held new.held before after same because.1
-scan_tells scan.NoHold seat n old new before after because same none = tells_quiet old.held new.held before after same (none tt)
-scan_tells scan.Fault seat n old new before after because same none = tells_lookup old.held new.held before after because.0 same because.3
-scan_tells (scan.Damaged page) seat n old new before after because same none = tells_quiet old.held new.held before after same because.2
-scan_tells (scan.Stopped why) seat n old new before after because same none = tells_quiet old.held new.held before after same because.2
+scan_tells (scanned.Rows rows) seat n old new before after because same none = tells_quiet old.held new.held before after same because.1
+scan_tells scanned.NoHold seat n old new before after because same none = tells_quiet old.held new.held before after same (none tt)
+scan_tells scanned.Fault seat n old new before after because same none = tells_lookup old.held new.held before after because.0 same because.3
+scan_tells (scanned.Damaged page) seat n old new before after because same none = tells_quiet old.held new.held before after same because.2
+scan_tells (scanned.Stopped why) seat n old new before after because same none = tells_quiet old.held new.held before after same because.2
 
-pub scan_names : {D : Type 0} (answer : Scan) (seat n : ℕ) (old new : CoreState D) (before after : DiskState) → ScansBecause answer seat n old new before after → new.held.book.stopped ≡ old.held.book.stopped
+pub scan_names : {D : Type 0} (answer : Scanned) (seat n : ℕ) (old new : CoreState D) (before after : DiskState) → ScansBecause answer seat n old new before after → new.held.book.stopped ≡ old.held.book.stopped
     → NamesStop (reply_to_next answer) new.held.book.stopped
-scan_names (scan.Rows rows) seat n old new before after because same = tt
-scan_names scan.NoHold seat n old new before after because same = tt
-scan_names scan.Fault seat n old new before after because same = tt
-scan_names (scan.Damaged page) seat n old new before after because same = tt
-scan_names (scan.Stopped why) seat n old new before after because same = same ∙ because.0
+scan_names (scanned.Rows rows) seat n old new before after because same = tt
+scan_names scanned.NoHold seat n old new before after because same = tt
+scan_names scanned.Fault seat n old new before after because same = tt
+scan_names (scanned.Damaged page) seat n old new before after because same = tt
+scan_names (scanned.Stopped why) seat n old new before after because same = same ∙ because.0
 
 given_few : (n : ℕ) (old new : Option HoldState) (rows : List Row) → AreGivenBy n old new rows → length rows ≤ n
 given_few n (Some old) (Some new) rows given = given.few
@@ -119,9 +119,9 @@ given_few n (Some old) None rows given = absurd given
 given_few n None new rows given = absurd given
 
 -- nor does it give more rows than it was asked for
-pub scan_rows : {D : Type 0} (answer : Scan) (seat n : ℕ) (old new : CoreState D) (before after : DiskState) → ScansBecause answer seat n old new before after → length (rows_given (reply_to_next answer)) ≤ n
-scan_rows (scan.Rows rows) seat n old new before after because = given_few n (hold_of seat old.holds) (hold_of seat new.holds) rows because.2
-scan_rows scan.NoHold seat n old new before after because = omega arith
-scan_rows scan.Fault seat n old new before after because = omega arith
-scan_rows (scan.Damaged page) seat n old new before after because = omega arith
-scan_rows (scan.Stopped why) seat n old new before after because = omega arith
+pub scan_rows : {D : Type 0} (answer : Scanned) (seat n : ℕ) (old new : CoreState D) (before after : DiskState) → ScansBecause answer seat n old new before after → length (rows_given (reply_to_next answer)) ≤ n
+scan_rows (scanned.Rows rows) seat n old new before after because = given_few n (hold_of seat old.holds) (hold_of seat new.holds) rows because.2
+scan_rows scanned.NoHold seat n old new before after because = omega arith
+scan_rows scanned.Fault seat n old new before after because = omega arith
+scan_rows (scanned.Damaged page) seat n old new before after because = omega arith
+scan_rows (scanned.Stopped why) seat n old new before after because = omega arith

@@ -29,7 +29,7 @@ pub(crate) fn hold<D: Disk + Drop>(
     begins(core);
 }
 
-// Reads on in a caller's hold. The rows, which are large, are dropped here, so that no other command has room for them among its locals.
+// Reads on in a caller's hold.
 pub(crate) fn read_on<D: Disk + Drop>(core: &mut Core<D>, seat: u32, n: u32)
     requires some { 0 < n }
     requires few { n ≤ most_rows }
@@ -38,7 +38,7 @@ pub(crate) fn read_on<D: Disk + Drop>(core: &mut Core<D>, seat: u32, n: u32)
     ensures { Performs D.state seat (op.Next n) core.old core.new }
 {
     keeps(core);
-    let _rows = core.next_rows(seat, n);
+    let _scan = core.next_rows(seat, n);
     begins(core);
 }
 

@@ -1,6 +1,10 @@
 -- Commands, turn by turn.
-use Rattle.std.proofs.Common.{◌≡◌, ◌∙◌, ⊎_elim, inl, inr, ℕ, ◌≤◌, List, [], ◌∷◌, length, refl, ap, arith}
+use Rattle.std.proofs.Common.{◌≡◌, ◌≢◌, ◌∙◌, ⊎_elim, inl, inr, ℕ, ◌+◌, ◌≤◌, List, [], ◌∷◌, length, refl, ap, sym, subst, arith}
+use Rattle.blsm_model.specs.Stored.{as_reply}
 use Rattle.blsm_model.specs.declared.history.Entry.{Entry}
+use Rattle.blsm_model.specs.declared.history.Line.{Line}
+use Rattle.blsm_model.specs.declared.history.ShortReply.{ShortReply}
+use Rattle.blsm_model.specs.declared.op.Op.{Op}
 use Rattle.disk_trait.specs.Disk.{DiskState}
 use Rattle.turn_lock.specs.Callers.{Held as Caller, Lock}
 use Rattle.turn_lock.specs.Plays.{renewed}
@@ -9,7 +13,12 @@ use Rattle.turn_lock.specs.Views.{size}
 use Rattle.turn_lock.proofs.TurnLemmas.{did_then, went_same, went_then}
 use Rattle.tree_core.specs.Calls.{CameSince}
 use Rattle.tree_core.specs.Core.{CoreState}
+use Rattle.tree_session.specs.Lines.{rows_of}
+use Rattle.tree_shared.specs.Runs.{DoesLine}
 use Rattle.tree_shared.specs.Seats.{DidOn, KnowsOf, WentOn, IsFree, IsWorking, facts_of}
+use Rattle.tree_shared.specs.Told.{IsAnswered}
+use Rattle.tree_shared.specs.declared.told.Told.{Told}
+use Rattle.tree_shared.specs.declared.told.Told.TheVariants as told
 
 module _ {D : Type 0} (state : D → DiskState) where
   -- the same caller of the lock
@@ -43,6 +52,18 @@ module _ {D : Type 0} (state : D → DiskState) where
   -- turns that note nothing, and then an entry
   pub did_ended : (c d e : Caller (CoreState D)) (entry : Entry) → WentOn state c [] d → DidOn state d (entry ∷ []) e → DidOn state c (entry ∷ []) e
   did_ended c d e entry one two = went_then facts_of (CameSince state) c d e [] (entry ∷ []) one two
+
+  -- a command that notes the reply that it tells
+  pub answered : (op given : Op) (short : ShortReply) (c d : Caller (CoreState D)) → op ≡ given → DidOn state c (record { seat = c.number; op = given; reply = as_reply short } ∷ []) d → IsAnswered state op (told.Short short) c d
+  answered op given short c d is did = (as_reply short, refl, subst (λ (o : Op). DidOn state c (record { seat = c.number; op = o; reply = as_reply short } ∷ []) d) (sym is) did)
+
+  pub answered_as : (op given : Op) (answer : Told) (c d : Caller (CoreState D)) → op ≡ given → IsAnswered state given answer c d → IsAnswered state op answer c d
+  answered_as op given answer c d is answers = subst (λ (o : Op). IsAnswered state o answer c d) (sym is) answers
+
+  -- a line of this caller that was answered
+  pub own_line : (line : Line) (answer : Told) (c d : Caller (CoreState D)) → line.seat ≡ c.number → IsAnswered state line.op answer c d
+      → ((entries rows : ℕ) → KnowsOf (IsFree (entries + 1) (rows + rows_of line.op)) c → KnowsOf (IsFree entries rows) d) → DoesLine state line c d
+  own_line line answer c d own answers free = record { other = λ not. absurd (not own); its = λ _. (answers.0, answers.2); free = λ _. free }
 
 -- a free caller is in a work of no turns
 pub works_none : {D : Type 0} (entries rows : ℕ) (c : Caller (CoreState D)) → KnowsOf (IsFree entries rows) c → KnowsOf (IsWorking 0 entries rows) c

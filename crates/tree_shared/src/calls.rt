@@ -4,6 +4,7 @@ ghost use Rattle.blsm_model.specs.Format.{most_rows};
 ghost use Rattle.seat_book.specs.State.{may_note_in};
 ghost use Rattle.tree_core.specs.Calls.{HoldsRange, LetsGo, ReadsOn};
 ghost use Rattle.tree_core.specs.Core.{IsCore};
+ghost use Rattle.tree_core.specs.Scanned.{Counts, rows_noted, scanned_in};
 ghost use Rattle.tree_core.specs.Steps.{StandsSince};
 
 use blsm_model::Key;
@@ -38,7 +39,8 @@ pub(crate) fn next_rows<D: Disk + Drop>(core: &mut Core<D>, seat: u32, n: u32) -
     requires note { IsTrue (may_note_in seat n core.old.held.book) }
     requires some { 0 < n }
     requires few { n ≤ most_rows }
-    ensures { ReadsOn D.state seat n result core.old core.new }
+    ensures reads { ReadsOn D.state seat n (scanned_in result core.new.held.book) core.old core.new }
+    ensures counts { Counts result (rows_noted core.new.held.book.book) }
 {
     let answer = core.next_rows(seat, n);
     begins(core);

@@ -8,9 +8,11 @@ ghost use Rattle.turn_lock.specs.Tallies.{IsOf};
 ghost use Rattle.tree_machine.specs.Plays.{most_turns};
 ghost use Rattle.tree_session.specs.Lines.{IsCommand, rows_of};
 ghost use Rattle.tree_shared.specs.Seats.{DidOn, WentOn, KnowsOf, IsFinished, IsFree, IsOwing};
+ghost use Rattle.tree_shared.specs.Told.{IsAnswered};
 
+use crate::Told;
 use crate::holds::{admit, end_work, get, hold, let_go, pay, read_on, turn};
-use blsm_model::{Gate, Key, Op, Point, Reply, ShortReply};
+use blsm_model::{Gate, Key, Op, Point, ShortReply};
 use disk_trait::Disk;
 use seat_book::Turned;
 use std::alloc::Global;
@@ -136,21 +138,21 @@ fn next<R: Wait, D: Disk + Drop>(
     lock: &TurnLock<Core<D>>,
     caller: &mut Caller<Core<D>>,
     n: u32,
-) -> Reply
+) -> Told
     requires lock { IsOf lock.now caller.old }
     requires number { caller.old.number < callers }
     requires some { 0 < n }
     requires few { n ≤ most_rows }
     requires free { KnowsOf (IsFree 1 n) caller.old }
-    ensures did { DidOn D.state caller.old (record { seat = caller.old.number; op = op.Next n; reply = result } ∷ []) caller.new }
+    ensures did { IsAnswered D.state (op.Next n) result caller.old caller.new }
     ensures free { (entries rows : ℕ) → KnowsOf (IsFree (entries + 1) (rows + n)) caller.old → KnowsOf (IsFree entries rows) caller.new }
 {
     match read_on(rt, lock, caller, n) {
-        Scan::Rows(rows) => Reply::Rows(rows),
-        Scan::NoHold => Reply::NoHold,
-        Scan::Fault => Reply::Fault,
-        Scan::Damaged(page) => Reply::Damaged(page),
-        Scan::Stopped(why) => Reply::Stopped(why),
+        Scan::Rows(count) => Told::Rows(count),
+        Scan::NoHold => Told::Short(ShortReply::NoHold),
+        Scan::Fault => Told::Short(ShortReply::Fault),
+        Scan::Damaged(page) => Told::Short(ShortReply::Damaged(page)),
+        Scan::Stopped(why) => Told::Short(ShortReply::Stopped(why)),
     }
 }
 
@@ -220,26 +222,26 @@ fn perform<R: Wait, D: Disk + Drop, G: Gate>(
     caller: &mut Caller<Core<D>>,
     op: &Op,
     gate: &G,
-) -> Reply
+) -> Told
     requires lock { IsOf lock.now caller.old }
     requires number { caller.old.number < callers }
     requires command { IsCommand op.now }
     requires free { KnowsOf (IsFree 1 (rows_of op.now)) caller.old }
-    ensures did { DidOn D.state caller.old (record { seat = caller.old.number; op = op.now; reply = result } ∷ []) caller.new }
+    ensures did { IsAnswered D.state op.now result caller.old caller.new }
     ensures free { (entries rows : ℕ) → KnowsOf (IsFree (entries + 1) (rows + rows_of op.now)) caller.old → KnowsOf (IsFree entries rows) caller.new }
 {
     match op {
-        Op::Put(..) | Op::Add(..) | Op::Del(_) => write(rt, lock, caller, op, gate).to_reply(),
-        Op::Get(key) => look_up(rt, lock, caller, key).to_reply(),
-        Op::Hold(low, high) => hold_range(rt, alloc, lock, caller, low, high).to_reply(),
+        Op::Put(..) | Op::Add(..) | Op::Del(_) => Told::Short(write(rt, lock, caller, op, gate)),
+        Op::Get(key) => Told::Short(look_up(rt, lock, caller, key)),
+        Op::Hold(low, high) => Told::Short(hold_range(rt, alloc, lock, caller, low, high)),
         Op::Next(n) => next(rt, lock, caller, *n),
-        Op::Release => release(rt, lock, caller).to_reply(),
-        Op::Work(n) => work(rt, lock, caller, *n).to_reply(),
+        Op::Release => Told::Short(release(rt, lock, caller)),
+        Op::Work(n) => Told::Short(work(rt, lock, caller, *n)),
     }
 }
 
-/// Does a command of the caller to its end, one step in each hold of the lock, and answers its reply. A write is admitted and then paid for
-/// until nothing is owed; a work ends at its first turn that finds nothing to do.
+/// Does a command of the caller to its end, one step in each hold of the lock, and answers its reply, of rows only how many they are. A write is
+/// admitted and then paid for until nothing is owed; a work ends at its first turn that finds nothing to do.
 pub fn do_one<R: Wait, D: Disk + Drop, G: Gate>(
     rt: &R,
     alloc: Global,
@@ -247,15 +249,15 @@ pub fn do_one<R: Wait, D: Disk + Drop, G: Gate>(
     caller: &mut Caller<Core<D>>,
     op: &Op,
     gate: &G,
-) -> Reply
+) -> Told
     requires lock { IsOf lock.now caller.old }
     requires number { caller.old.number < callers }
     requires command { IsCommand op.now }
     requires free { KnowsOf (IsFree 1 (rows_of op.now)) caller.old }
-    ensures did { DidOn D.state caller.old (record { seat = caller.old.number; op = op.now; reply = result } ∷ []) caller.new }
+    ensures did { IsAnswered D.state op.now result caller.old caller.new }
     ensures free { (entries rows : ℕ) → KnowsOf (IsFree (entries + 1) (rows + rows_of op.now)) caller.old → KnowsOf (IsFree entries rows) caller.new }
 {
-    let reply = perform(rt, alloc, lock, caller, op, gate);
+    let told = perform(rt, alloc, lock, caller, op, gate);
     gate.at(caller.number(), Point::Answered);
-    reply
+    told
 }

@@ -1,14 +1,16 @@
 //! One hold of the lock each: the value is taken, one call of the core is made, and the value is given back.
-ghost use Rattle.std.specs.Prelude.{◌≡◌, ◌≢◌, ◌+◌, ◌<◌, ◌≤◌, ℕ, [], ◌∷◌, IsTrue, true};
+ghost use Rattle.std.specs.Prelude.{◌≡◌, ◌≢◌, ◌+◌, ◌<◌, ◌≤◌, ℕ, List, [], ◌∷◌, IsTrue, true};
 ghost use Rattle.blsm_model.specs.Format.{callers, most_rows};
 ghost use Rattle.blsm_model.specs.Stored.{as_reply};
 ghost use Rattle.blsm_model.specs.declared.op.Op.TheVariants as op;
+ghost use Rattle.blsm_model.specs.declared.row.Row.{Row};
 ghost use Rattle.seat_book.specs.declared.turned.Turned.TheVariants.{Worked, Idle};
 ghost use Rattle.tree_machine.specs.Machine.{seats, turn_more};
 ghost use Rattle.tree_machine.specs.Plays.{most_turns};
 ghost use Rattle.blsm_model.specs.Legal.{is_write};
 ghost use Rattle.turn_lock.specs.Tallies.{IsOf};
 ghost use Rattle.tree_core.specs.Answers.{reply_to_drop, reply_to_get, reply_to_hold, reply_to_next, reply_to_write};
+ghost use Rattle.tree_core.specs.Scanned.{Counts, scanned_by};
 ghost use Rattle.tree_core.specs.declared.answers.Admission.TheVariants as admission;
 ghost use Rattle.tree_core.specs.declared.answers.Payment.TheVariants as payment;
 ghost use Rattle.tree_shared.specs.Seats.{DidOn, KnowsOf, HasHelped, IsFinished, IsFree, IsGone, IsOwing, IsWorking};
@@ -106,7 +108,7 @@ pub(crate) fn hold<R: Wait, D: Disk + Drop>(
     answer
 }
 
-// The next rows of a hold.
+// The next rows of a hold are noted.
 pub(crate) fn read_on<R: Wait, D: Disk + Drop>(
     rt: &R,
     lock: &TurnLock<Core<D>>,
@@ -118,7 +120,9 @@ pub(crate) fn read_on<R: Wait, D: Disk + Drop>(
     requires some { 0 < n }
     requires few { n ≤ most_rows }
     requires free { KnowsOf (IsFree 1 n) caller.old }
-    ensures did { DidOn D.state caller.old (record { seat = caller.old.number; op = op.Next n; reply = reply_to_next result } ∷ []) caller.new }
+    // The answer tells how many rows the entry has.
+    ensures did { (rows : List Row) × Counts result rows
+        × DidOn D.state caller.old (record { seat = caller.old.number; op = op.Next n; reply = reply_to_next (scanned_by result rows) } ∷ []) caller.new }
     ensures free { (entries rows : ℕ) → KnowsOf (IsFree (entries + 1) (rows + n)) caller.old → KnowsOf (IsFree entries rows) caller.new }
 {
     let seat = caller.number();

@@ -62,7 +62,7 @@ fn do_line<R: Wait, D: Disk + Drop, G: Gate>(
     ensures does { DoesLine D.state line.now caller.old caller.new }
 {
     if line.seat == caller.number() {
-        let _reply = do_one(rt, alloc, lock, caller, &line.op, gate);
+        let _told = do_one(rt, alloc, lock, caller, &line.op, gate);
     }
 }
 

@@ -8,7 +8,9 @@ mod commands;
 mod holds;
 mod jobs;
 mod laws;
+mod told;
 
 pub use commands::do_one;
 pub use jobs::{run_all, worker};
 pub use laws::an_opened_core_is_fresh;
+pub use told::Told;

@@ -158,7 +158,7 @@ fn note_row(rt: &impl Abort, book: &mut SeatBook) {
     let rows = one_row(rt);
     assert!(rt; rows.as_slice().len() == 1);
     assert!(rt; book.may_note(2, 1));
-    book.note_rows(2, Op::Next(1), rows);
+    book.note_rows(2, Op::Next(1), rows.as_slice());
 }
 
 #[test]

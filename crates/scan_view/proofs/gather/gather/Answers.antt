@@ -18,13 +18,13 @@ use Rattle.scan_view.proofs.gather.gather.Goals as goal
 
 pub loop-scan-init : goal.loop-scan-init
 loop-scan-init g c = record {
-  given = subst (AreGiven c.args.n c.args.low.now c.args.high.now c.args.scan.now.at c.args.scan.now.at) (sym c.new-rows.ensures)
+  given = subst (AreGiven c.args.n c.args.low.now c.args.high.now c.args.scan.now.at c.args.scan.now.at) (sym c.clear.ensures)
       (given_none c.args.n c.args.low.now c.args.high.now c.args.scan.now.at);
   effect = only_reads_start (g.D.Disk.state c.args.disk.now) (g.met.D.Disk.timed c.args.disk.now);
   one_a_page = omega arith;
   stands = refl;
   list = λ file xs ys zs is scan.
-      (scan, sym (ap (λ (l : List Row). l ++ rows_of c.args.low.now c.args.high.now (above c.args.scan.now.at (view_of c.args.memory.now xs ys zs))) c.new-rows.ensures));
+      (scan, sym (ap (λ (l : List Row). l ++ rows_of c.args.low.now c.args.high.now (above c.args.scan.now.at (view_of c.args.memory.now xs ys zs))) c.clear.ensures));
   begun = λ file c1 c1x c2 is begun. begun;
 }
 
@@ -64,7 +64,7 @@ returns-in_default-clause-rows g c = λ file xs ys zs is scan other.
     let none : first_of (above at view) ≡ None = one_value c.next.result _ _ came.0 (c.in_ok-key.was ∙ ap Ok c.in_default.is) in
     let at_is : c.next.new.self.at ≡ at = c.in_ok-key.ensures.passed ∙ ap (λ (found : Option (Key × Rec)). key_or found at) c.in_default.is in
     let parts = last_rows c.args.n (rows_of low high (above c.args.scan.now.at view)) c.loop-scan.rows (rows_of low high (above at view)) now.1 (rows_none low high at view none) inv.given.few in
-    (ap Ok parts.0, ap (λ (k : Option Key). rows_of low high (above k view)) at_is ∙ parts.1)
+    (refl, parts.0, ap (λ (k : Option Key). rows_of low high (above k view)) at_is ∙ parts.1)
 
 pub returns-in_default-clause-reads : goal.returns-in_default-clause-reads
 returns-in_default-clause-reads g c =
@@ -89,7 +89,7 @@ returns-then-not-lt-clause-rows g c = λ file xs ys zs is scan other.
     let past : is_lt (key_cmp key high) ≡ false = sym c.lt.ensures ∙ c.if-not-lt.true in
     let ended = rows_ended low high at view (key, c.in-Some.rec) (view_sorted c.args.memory.now xs ys zs now.0.sorted_c2) first past in
     let parts = last_rows c.args.n (rows_of low high (above c.args.scan.now.at view)) c.loop-scan.rows (rows_of low high (above at view)) now.1 ended.0 inv.given.few in
-    (ap Ok parts.0, ap (λ (k : Option Key). rows_of low high (above k view)) at_is ∙ ended.1 ∙ sym ended.0 ∙ parts.1)
+    (refl, parts.0, ap (λ (k : Option Key). rows_of low high (above k view)) at_is ∙ ended.1 ∙ sym ended.0 ∙ parts.1)
 
 pub returns-then-not-lt-clause-given : goal.returns-then-not-lt-clause-given
 returns-then-not-lt-clause-given g c =
@@ -117,7 +117,7 @@ loop-scan-preserved g c =
     let reads = reads_after total (g.met.D.Disk.timed c.loop-scan.disk) inv.stands inv.effect c.next.ensures.reads (omega (arith, inv.one_a_page, c.next.ensures.reads.effect.effect.calls)) in
     record {
       given = subst (λ (k : Option Key). AreGiven c.args.n low high old k c.put_row.new.rows) (sym at_is)
-          (subst (AreGiven c.args.n low high old (Some key)) (sym c.put_row.ensures) (given_more c.args.n low high old at key c.in-Some.rec rows above_at (omega (arith, c.loop-scan-test.true, ap {B = ℕ} (λ (l : List Row). length l) c.as_slice.ensures.rows)) inv.given));
+          (subst (AreGiven c.args.n low high old (Some key)) (sym c.put_row.ensures) (given_more c.args.n low high old at key c.in-Some.rec rows above_at (omega (arith, c.loop-scan-test.true, c.len.ensures)) inv.given));
       effect = reads.effect;
       one_a_page = omega (arith, inv.one_a_page, c.in_ok-key.ensures.one_a_page);
       stands = c.next.ensures.reads.stands (calm_of c.next.result _ c.in_ok-key.was) ∙ inv.stands;
@@ -145,5 +145,5 @@ returns-clause-rows g c = λ file xs ys zs is scan other.
     let view = view_of c.args.memory.now xs ys zs in
     let now = inv.list file xs ys zs is scan in
     let parts = first_rows c.args.n (rows_of low high (above c.args.scan.now.at view)) c.loop-scan.rows (rows_of low high (above at view)) now.1
-    (omega (arith, inv.given.few, c.loop-scan-test.false, ap {B = ℕ} (λ (l : List Row). length l) c.as_slice.ensures.rows)) in
-    (ap Ok parts.0, parts.1)
+    (omega (arith, inv.given.few, c.loop-scan-test.false, c.len.ensures)) in
+    (refl, parts.0, parts.1)

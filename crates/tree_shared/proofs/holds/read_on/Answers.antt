@@ -17,8 +17,8 @@ use Rattle.blsm_model.specs.declared.row.Row.{Row}
 use Rattle.scan_view.specs.Hold.{HoldState}
 use Rattle.scan_view.specs.Holds.{AreGivenBy}
 use Rattle.tree_core.specs.Causes.{ScansBecause}
-use Rattle.tree_core.specs.declared.answers.Scan.{Scan}
-use Rattle.tree_core.specs.declared.answers.Scan.TheVariants as scan
+use Rattle.tree_core.specs.Scanned.{Scanned, rows_noted, scanned_in}
+use Rattle.tree_core.specs.Scanned as scanned
 use Rattle.tree_shared.proofs.holds.read_on.Goals as goal
 
 given_few : (n : ℕ) (rows : List Row) (old new : Option HoldState) → AreGivenBy n old new rows → length rows ≤ n
@@ -26,22 +26,22 @@ given_few n rows (Some old) (Some new) given = given.few
 given_few n rows (Some old) None given = absurd given
 given_few n rows None new given = absurd given
 
-gives_few : {D : Type 0} (answer : Scan) (seat n : ℕ) (old new : CoreState D) (before after : DiskState) → ScansBecause answer seat n old new before after → length (rows_given (reply_to_next answer)) ≤ n
-gives_few (scan.Rows rows) seat n old new before after because = given_few n rows _ _ because.2
-gives_few scan.NoHold seat n old new before after because = omega arith
-gives_few scan.Fault seat n old new before after because = omega arith
-gives_few (scan.Damaged page) seat n old new before after because = omega arith
-gives_few (scan.Stopped why) seat n old new before after because = omega arith
+gives_few : {D : Type 0} (answer : Scanned) (seat n : ℕ) (old new : CoreState D) (before after : DiskState) → ScansBecause answer seat n old new before after → length (rows_given (reply_to_next answer)) ≤ n
+gives_few (scanned.Rows rows) seat n old new before after because = given_few n rows _ _ because.2
+gives_few scanned.NoHold seat n old new before after because = omega arith
+gives_few scanned.Fault seat n old new before after because = omega arith
+gives_few (scanned.Damaged page) seat n old new before after because = omega arith
+gives_few (scanned.Stopped why) seat n old new before after because = omega arith
 
 pub next_rows-answer-requires-clause-note : goal.next_rows-answer-requires-clause-note
 next_rows-answer-requires-clause-note g c =
     subst (λ (n : ℕ). may_note_in n c.args.n c.take-core.result.held.book ≡ true) (sym c.number-seat.ensures) (note_ok g.D.Disk.state c.args.caller.now c.take-core.result c.take-core.ensures.2 c.args.n c.requires.number c.requires.free)
 
 pub give-requires-clause-turn : goal.give-requires-clause-turn
-give-requires-clause-turn g c = turn_given g.D.Disk.state c.args.caller.now c.take-core.new.caller c.take-core.result c.next_rows-answer.new.core c.take-core.ensures c.number-seat.result c.number-seat.ensures (kind.Next c.args.n) (c.next_rows-answer.result, c.next_rows-answer.ensures)
+give-requires-clause-turn g c = turn_given g.D.Disk.state c.args.caller.now c.take-core.new.caller c.take-core.result c.next_rows-answer.new.core c.take-core.ensures c.number-seat.result c.number-seat.ensures (kind.Next c.args.n) (scanned_in c.next_rows-answer.result c.next_rows-answer.new.core.held.book, c.next_rows-answer.ensures.reads)
 
 pub give-requires-clause-lasts : goal.give-requires-clause-lasts
-give-requires-clause-lasts g c = came_given g.D.Disk.state c.args.caller.now c.take-core.new.caller c.take-core.result c.next_rows-answer.new.core c.take-core.ensures c.number-seat.result c.number-seat.ensures (kind.Next c.args.n) (c.next_rows-answer.result, c.next_rows-answer.ensures)
+give-requires-clause-lasts g c = came_given g.D.Disk.state c.args.caller.now c.take-core.new.caller c.take-core.result c.next_rows-answer.new.core c.take-core.ensures c.number-seat.result c.number-seat.ensures (kind.Next c.args.n) (scanned_in c.next_rows-answer.result c.next_rows-answer.new.core.held.book, c.next_rows-answer.ensures.reads)
 
 pub returns-clause-did : goal.returns-clause-did
 returns-clause-did g c =
@@ -49,9 +49,13 @@ returns-clause-did g c =
     let caller = c.args.caller.now in
     let b = c.take-core.result in
     let w = c.next_rows-answer.new.core in
-    let turn = turn_by state caller c.take-core.new.caller c.take-core.result c.next_rows-answer.new.core c.take-core.ensures c.number-seat.result c.number-seat.ensures (kind.Next c.args.n) (c.next_rows-answer.result, c.next_rows-answer.ensures) c.give.new.caller c.give.ensures in
-    let its = subst (λ (n : ℕ). ReadsOn state n c.args.n c.next_rows-answer.result b w) c.number-seat.ensures c.next_rows-answer.ensures in
-    note_did state caller c.give.new.caller (op.Next c.args.n) (reply_to_next c.next_rows-answer.result) b w c.requires.number turn (notes_one caller.number (op.Next c.args.n) (reply_to_next c.next_rows-answer.result) b.held.book w.held.book its.book) (ap (λ (h : Held). h.gears) its.others.rest) (IsFree 1 c.args.n) c.requires.free
+    let turn = turn_by state caller c.take-core.new.caller c.take-core.result c.next_rows-answer.new.core c.take-core.ensures c.number-seat.result c.number-seat.ensures (kind.Next c.args.n) (scanned_in c.next_rows-answer.result c.next_rows-answer.new.core.held.book, c.next_rows-answer.ensures.reads) c.give.new.caller c.give.ensures in
+    let told = scanned_in c.next_rows-answer.result w.held.book in
+    let its = subst (λ (n : ℕ). ReadsOn state n c.args.n told b w) c.number-seat.ensures c.next_rows-answer.ensures.reads in (
+      rows_noted w.held.book.book,
+      c.next_rows-answer.ensures.counts,
+      note_did state caller c.give.new.caller (op.Next c.args.n) (reply_to_next told) b w c.requires.number turn (notes_one caller.number (op.Next c.args.n) (reply_to_next told) b.held.book w.held.book its.book) (ap (λ (h : Held). h.gears) its.others.rest) (IsFree 1 c.args.n) c.requires.free,
+    )
 
 pub returns-clause-free : goal.returns-clause-free
 returns-clause-free g c =
@@ -59,6 +63,7 @@ returns-clause-free g c =
     let caller = c.args.caller.now in
     let b = c.take-core.result in
     let w = c.next_rows-answer.new.core in
-    let turn = turn_by state caller c.take-core.new.caller c.take-core.result c.next_rows-answer.new.core c.take-core.ensures c.number-seat.result c.number-seat.ensures (kind.Next c.args.n) (c.next_rows-answer.result, c.next_rows-answer.ensures) c.give.new.caller c.give.ensures in
-    let its = subst (λ (n : ℕ). ReadsOn state n c.args.n c.next_rows-answer.result b w) c.number-seat.ensures c.next_rows-answer.ensures in
-    note_frees state caller c.give.new.caller (op.Next c.args.n) (reply_to_next c.next_rows-answer.result) b w c.requires.number turn (notes_one caller.number (op.Next c.args.n) (reply_to_next c.next_rows-answer.result) b.held.book w.held.book its.book) (ap (λ (h : Held). h.gears) its.others.rest) c.args.n (gives_few c.next_rows-answer.result caller.number c.args.n b w (state b.disk) (state w.disk) its.cause)
+    let turn = turn_by state caller c.take-core.new.caller c.take-core.result c.next_rows-answer.new.core c.take-core.ensures c.number-seat.result c.number-seat.ensures (kind.Next c.args.n) (scanned_in c.next_rows-answer.result c.next_rows-answer.new.core.held.book, c.next_rows-answer.ensures.reads) c.give.new.caller c.give.ensures in
+    let told = scanned_in c.next_rows-answer.result w.held.book in
+    let its = subst (λ (n : ℕ). ReadsOn state n c.args.n told b w) c.number-seat.ensures c.next_rows-answer.ensures.reads in
+    note_frees state caller c.give.new.caller (op.Next c.args.n) (reply_to_next told) b w c.requires.number turn (notes_one caller.number (op.Next c.args.n) (reply_to_next told) b.held.book w.held.book its.book) (ap (λ (h : Held). h.gears) its.others.rest) c.args.n (gives_few told caller.number c.args.n b w (state b.disk) (state w.disk) its.cause)

@@ -17,11 +17,12 @@ returns-clause-rows g c = λ pins rows honest held other.
     let is : hold_of c.args.seat items ≡ Some c.in-Some.hold = sym read ∙ c.in-Some.is in
     let now = subst (λ (h : Option HoldState). HasHeld sizes pins c.args.seat h (Some rows) old.bytes) is
     (subst (λ (hs : List (Option HoldState)). HasHeld sizes pins c.args.seat (hold_of c.args.seat hs) (Some rows) old.bytes) (sym c.self.view_is) held) in
-    let came = next_pinned sizes pins c.args.seat rows c.args.n c.in-Some.hold c.next_rows.new.self old.bytes new.bytes c.next_rows.result
+    let came = next_pinned sizes pins c.args.seat rows c.args.n c.in-Some.hold c.next_rows.new.self old.bytes new.bytes c.next_rows.result c.next_rows.new.room
     (λ before. c.next_rows.ensures.rows rows honest before other) now in (
       came.0,
+      came.1,
       subst (λ (h : Option HoldState). HasHeld sizes pins c.args.seat h (Some (drop c.args.n rows)) new.bytes)
-          (sym (get_or-set_same items c.args.seat (Some c.next_rows.new.self) None (omega (arith, c.self.invariant, c.requires.seat)))) came.1,
+          (sym (get_or-set_same items c.args.seat (Some c.next_rows.new.self) None (omega (arith, c.self.invariant, c.requires.seat)))) came.2,
     )
 
 pub returns-clause-pages : goal.returns-clause-pages

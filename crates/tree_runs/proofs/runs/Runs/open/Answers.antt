@@ -93,13 +93,13 @@ returns-clause-running c = λ honest file.
     let sizes = c.args.geometry.now in
     let space = c.args.space in
     let tag = c.new-deep.ensures in
-    let after = c.due_deep-here.new.guides.items in
-    let begins = c.due_deep-here.ensures.begun ∙ ap (λ (tag : ℕ). due_deep tag c.args.catalogue) tag in
+    let after = c.begin_due.new.guides.items in
+    let begins = c.begin_due.ensures.begun ∙ ap (λ (tag : ℕ). due_deep tag c.args.catalogue) tag in
     let same = ap (λ (r : RunsState). r.guides) (returns-clause-opened c) in
     let goes = subst (λ (t : ℕ). DeepRuns sizes honest file space (guide_at after t) (due_deep 4 c.args.catalogue)) tag
-    (subst (λ (d : Option DeepState). DeepRuns sizes honest file space (guide_at after c.new-deep.result) d) begins (c.due_deep-here.ensures.running sizes honest file space)) in
+    (subst (λ (d : Option DeepState). DeepRuns sizes honest file space (guide_at after c.new-deep.result) d) begins (c.begin_due.ensures.running sizes honest file space)) in
     subst (λ (r : RunsState). AreRunning honest file r) (sym (returns-clause-opened c)) (record {
-      in_order = runs_opened sizes c.args.catalogue space c.args.guides c.requires.read (subst (λ (gs : List GuideState). AreGuides sizes gs) same c.due_deep-here.ensures.reserved);
+      in_order = runs_opened sizes c.args.catalogue space c.args.guides c.requires.read (subst (λ (gs : List GuideState). AreGuides sizes gs) same c.begin_due.ensures.reserved);
       pass = tt;
       deep = subst (λ (gs : List GuideState). DeepRuns sizes honest file space (guide_at gs 4) (due_deep 4 c.args.catalogue)) same goes;
     })
@@ -109,15 +109,15 @@ returns-clause-lists c = λ tree a file holds is c1 c1x c2 guided.
     let sizes = c.args.geometry.now in
     let space = c.args.space in
     let tag = c.new-deep.ensures in
-    let after = c.due_deep-here.new.guides.items in
-    let begins = c.due_deep-here.ensures.begun ∙ ap (λ (tag : ℕ). due_deep tag c.args.catalogue) tag in
+    let after = c.begin_due.new.guides.items in
+    let begins = c.begin_due.ensures.begun ∙ ap (λ (tag : ℕ). due_deep tag c.args.catalogue) tag in
     let same = ap (λ (r : RunsState). r.guides) (returns-clause-opened c) in
     let once = c.requires.read.one_tag in
     let newer = subst (λ (k : Catalog). ReadsAs sizes k.c1x tree.c1x file) is holds.c1x in
     let older = subst (λ (k : Catalog). ReadsAs sizes k.c2 tree.c2 file) is holds.c2 in
     let over = subst (λ (t : ℕ). IsDeepOver sizes file space (guide_at after t) (due_deep 4 c.args.catalogue) tree.c1x tree.c2) tag
     (subst (λ (d : Option DeepState). IsDeepOver sizes file space (guide_at after c.new-deep.result) d tree.c1x tree.c2) begins
-    (c.due_deep-here.ensures.merge sizes file space tree.c1x tree.c2
+    (c.begin_due.ensures.merge sizes file space tree.c1x tree.c2
     newer (elsewhere space 1 c.new-deep.result tree.c1x once (omega (arith, tag)) c1x)
     older (elsewhere space 2 c.new-deep.result tree.c2 once (omega (arith, tag)) c2))) in
     subst (λ (r : RunsState). AreOf r tree a file) (sym (returns-clause-opened c)) (record {
@@ -129,5 +129,5 @@ returns-clause-lists c = λ tree a file holds is c1 c1x c2 guided.
       pass = tt;
       deep = subst (λ (gs : List GuideState). IsDeepOver sizes file space (guide_at gs 4) (due_deep 4 c.args.catalogue) tree.c1x tree.c2) same over;
       guided = subst (λ (gs : List GuideState). AreGuided gs first_tags tree) same
-          (all_guided_still c.args.guides after first_tags tree (subst (λ (gs : List GuideState). KeepsOtherGuides c.new-deep.result gs after) c.guides.view_is c.due_deep-here.ensures.others) (omega (arith, tag)) (omega (arith, tag)) (omega (arith, tag)) guided);
+          (all_guided_still c.args.guides after first_tags tree (subst (λ (gs : List GuideState). KeepsOtherGuides c.new-deep.result gs after) c.guides.view_is c.begin_due.ensures.others) (omega (arith, tag)) (omega (arith, tag)) (omega (arith, tag)) guided);
     })

@@ -1,4 +1,4 @@
-use Rattle.tree_runs.proofs.runs.due_deep.Goals as goal
+use Rattle.tree_runs.proofs.runs.begin_due.Goals as goal
 
 pub returns-else-catalogue-eq0-clause-merge : goal.returns-else-catalogue-eq0-clause-merge
 returns-else-catalogue-eq0-clause-merge c = c.begin_deep.ensures.merge
