@@ -17,6 +17,7 @@ use Rattle.disk_trait.specs.Disk.{DiskState}
 use Rattle.tree_machine.specs.Machine.{WorkSoFar, no_work}
 use Rattle.tree_machine.specs.Outcomes.{is_failed_lookup}
 use Rattle.tree_machine.specs.Steps.{one_if}
+use Rattle.gear_sched.specs.declared.Plan.{Plan}
 use Rattle.core_moves.specs.declared.held.Held.{Held}
 use Rattle.seat_book.specs.State.{BookState}
 use Rattle.tree_core.specs.Causes.{FoundDamaged, HasFailed, RanOn}
@@ -152,7 +153,7 @@ stays_ran told pend left old new before after ran few = record {
   halted = λ why is. absurd (cc (ran.ran, is));
 }
 
-pub stays_damaged : (page told pend left : ℕ) (old new : Held) (before after : DiskState) → FoundDamaged page old new before after → told + left ≤ pend → Stays 0 told pend left old.book.stopped new.book.stopped before after
+pub stays_damaged : {plan : Plan} (page told pend left : ℕ) (old new : Held) (before after : DiskState) → FoundDamaged plan page old new before after → told + left ≤ pend → Stays 0 told pend left old.book.stopped new.book.stopped before after
 stays_damaged page told pend left old new before after found few = record {
   stop = inr (ap is_by_fault found.ran, ap is_by_fault found.stopped);
   risen = omega (arith, found.faults);
@@ -188,7 +189,7 @@ stops_failed told pend left old new before after failed few = record { ran = fai
 abbrev pub How : (lookups told pend left : ℕ) → Option Why → Option Why → DiskState → DiskState → Type 0
 How lookups told pend left old new before after = Stays lookups told pend left old new before after ⊎ ((lookups ≡ 0) × Stops told pend left old new before after)
 
-halted_by : (lookups told pend left : ℕ) (old new : Option Why) (before after : DiskState) → How lookups told pend left old new before after → (why : Why) → old ≡ Some why → new ≡ Some why
+pub halted_by : (lookups told pend left : ℕ) (old new : Option Why) (before after : DiskState) → How lookups told pend left old new before after → (why : Why) → old ≡ Some why → new ≡ Some why
 halted_by lookups told pend left old new before after how why is =
     ⊎_elim (λ (s : Stays lookups told pend left old new before after). s.halted why is) (λ (s : (lookups ≡ 0) × Stops told pend left old new before after). absurd (cc (s.1.ran, is))) how
 

@@ -107,6 +107,11 @@ one_more : {D : Type 0} (state : D → DiskState) (calls : List (Step × CoreSta
 one_more state [] seat k start old new are call = (subst (λ (core : CoreState _). IsCall state seat k core new) are call, refl)
 one_more state (one ∷ calls) seat k start old new are call = (are.0, one_more state calls seat k one.1 old new are.1 call)
 
+-- calls behind calls
+pub calls_then : {D : Type 0} (state : D → DiskState) (calls more : List (Step × CoreState D)) (start mid end : CoreState D) → AreCalls state calls start mid → AreCalls state more mid end → AreCalls state (calls ++ more) start end
+calls_then state [] more start mid end are rest = subst (λ (core : CoreState _). AreCalls state more core end) are rest
+calls_then state (one ∷ calls) more start mid end are rest = (are.0, calls_then state calls more one.1 mid end are.1 rest)
+
 -- with one call more
 pub came_more : {D : Type 0} (state : D → DiskState) (seat : ℕ) (k : Kind) (start old new : CoreState D) → CameSince state start old → IsCall state seat k old new
     → (StandsSince state start old → StandsSince state start new) → CameSince state start new

@@ -27,7 +27,6 @@ use Rattle.tree_machine.specs.Machine.{Machine}
 use Rattle.tree_machine.specs.Plays.{may}
 use Rattle.tree_machine.specs.Steps.{Answer, Paid, Settled, Turn}
 use Rattle.tree_machine.specs.declared.step.Kind.TheVariants as kind
-use Rattle.tree_runs.specs.Damage.{IsDamageAhead}
 use Rattle.tree_runs.specs.Holding.{StandOver}
 use Rattle.core_moves.specs.declared.held.Held.{Held}
 use Rattle.core_moves.specs.Moves.{KeepsAllButMerges, with_book, with_debts_forgiven}
@@ -35,6 +34,7 @@ use Rattle.core_moves.specs.Needs.{IsOn}
 use Rattle.core_pace.specs.Events.{TakesByPlan}
 use Rattle.core_lists.specs.Steps.{PaymentLands}
 use Rattle.tree_core.specs.Calls.{BesideHolds, GoesOnAs, Pays}
+use Rattle.tree_core.specs.Causes.{IsDamageAhead}
 use Rattle.tree_core.specs.Core.{CoreState, HoldsPace, IsCore, facts_of_held}
 use Rattle.tree_core.specs.Quanta.{LeavesTaken}
 use Rattle.tree_core.specs.Steps.{IsStep, MovesPace}
@@ -97,7 +97,7 @@ pub record Paying {D : Type 0} (state : D → DiskState) (seat : ℕ) (plan : Pl
   pub kept : KeepsAllButMerges (IsErr result) forgiven taken
   pub told : TellsFaultsBy (Err Fault) result (state old.disk) (state disk)
   pub effect : Affects (beside_pins forgiven.runs.sizes forgiven.runs.space.pins) (file_length forgiven.runs.sizes) (forgiven.runs.sizes.quantum / 4 + 3) (state old.disk) (state disk)
-  pub ahead : (n : ℕ) → result ≡ Err (Damaged n) → IsTrue (state old.disk).tells_bytes → IsDamageAhead taken.runs n (state disk).bytes
+  pub ahead : (n : ℕ) → result ≡ Err (Damaged n) → IsTrue (state old.disk).tells_bytes → IsDamageAhead plan taken.runs n (state disk).bytes
   pub lists : (tree : Tree) → IsTrue (state old.disk).is_honest → StandOver forgiven.runs tree forgiven.log.a.entries (state old.disk) → LeavesTaken plan result forgiven taken tree (state old.disk) (state disk)
 
 module _ {D : Type 0} (state : D → DiskState) (seat : ℕ) (plan : Plan) (result : Result ℕ Broken) (old : CoreState D) (forgiven taken : Held) (disk : D) (t : Paying state seat plan result old forgiven taken disk) where
@@ -195,7 +195,7 @@ pay_damaged state seat page plan broken old forgiven taken disk b t is stops =
     record {
       goes = goes.0;
       beside = goes.1;
-      cause = record { ran = t.plans.ran; faults = t.told.stands (λ same. cc (same, is)); stopped = ap (λ (x : BookState). x.stopped) stops; ahead = t.ahead page (ap (λ (x : Broken). Err x) is) };
+      cause = record { ran = t.plans.ran; faults = t.told.stands (λ same. cc (same, is)); stopped = ap (λ (x : BookState). x.stopped) stops; ahead = λ tells. subst (λ (p : Plan). IsDamageAhead p taken.runs page after.bytes) t.plans.plan_is (t.ahead page (ap (λ (x : Broken). Err x) is) tells) };
       counts = record { annals = notes.annals; work = notes.work };
       settles = tt;
       lessens = tt;

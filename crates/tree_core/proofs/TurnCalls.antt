@@ -21,7 +21,6 @@ use Rattle.tree_machine.specs.Machine.{Machine, Turned, seats}
 use Rattle.tree_machine.specs.Outcomes.{calls_disk}
 use Rattle.tree_machine.specs.Steps.{Turn}
 use Rattle.tree_machine.specs.declared.step.Kind.TheVariants as kind
-use Rattle.tree_runs.specs.Damage.{IsDamageAhead}
 use Rattle.tree_runs.specs.Holding.{StandOver}
 use Rattle.core_moves.specs.declared.held.Held.{Held}
 use Rattle.core_moves.specs.Moves.{with_book}
@@ -29,7 +28,7 @@ use Rattle.core_pace.specs.Turns.{move_in}
 use Rattle.core_lists.specs.Going.{IsOpenTo, kind_of_turn}
 use Rattle.core_lists.specs.Steps.{HelpLands, WorkLands, choice_of}
 use Rattle.tree_core.specs.Calls.{BesideHolds, GoesOnAs, Helps, TurnsOnce}
-use Rattle.tree_core.specs.Causes.{TurnsBecause, TurnsNone}
+use Rattle.tree_core.specs.Causes.{IsDamageAhead, TurnsBecause, TurnsNone, merge_of}
 use Rattle.tree_core.specs.Core.{CoreState, IsCore}
 use Rattle.tree_core.specs.Quanta.{LeavesMoved, ended_by}
 use Rattle.tree_core.specs.Steps.{may_in}
@@ -108,7 +107,7 @@ pub record Turning {D : Type 0} (state : D → DiskState) (w : Bool) (seat : ℕ
   pub timed : IsTimed (state disk)
   pub ends : Ends w seat mv made faults old.held moved ended b (state old.disk) (state disk)
   pub effect : Affects (beside_pins old.held.runs.sizes old.held.runs.space.pins) (file_length old.held.runs.sizes) (old.held.runs.sizes.quantum / 4 + 9) (state old.disk) (state disk)
-  pub ahead : (n : ℕ) → made ≡ Err (Damaged n) → IsTrue (state old.disk).tells_bytes → IsDamageAhead moved.runs n (state disk).bytes
+  pub ahead : (n : ℕ) → made ≡ Err (Damaged n) → IsTrue (state old.disk).tells_bytes → IsDamageAhead (merge_of mv) moved.runs n (state disk).bytes
   pub counted : faults ≡ (state disk).faults
   pub few : (state disk).faults < 2 ^ 64
   pub called : IsErr made → calls_disk (choice_of mv) ≡ true

@@ -26,7 +26,6 @@ use Rattle.tree_machine.specs.Steps.{Turn}
 use Rattle.seat_book.specs.State.{BookState, deep_counted_in, helped_in, may_turn_in, pass_counted_in, stopped_in, turned_in, work_in}
 use Rattle.seat_book.specs.Seats.{KeepsSeats}
 use Rattle.seat_book.proofs.KeepLemmas.{keeps_itself, keeps_both, keeps_less, deep_keeps, pass_keeps, quantum_keeps, stop_keeps, turn_keeps, worker_keeps}
-use Rattle.tree_runs.specs.Damage.{IsDamageAhead}
 use Rattle.core_moves.specs.declared.held.Held.{Held}
 use Rattle.core_moves.specs.Held.{is_run_full}
 use Rattle.core_moves.specs.Needs.{IsOn, IsReady}
@@ -37,7 +36,7 @@ use Rattle.core_pace.proofs.CallLemmas.{between_is_ready, paced_is_between}
 use Rattle.core_pace.proofs.MadeLemmas.{failed_work_is_told, failed_help_is_told}
 use Rattle.core_pace.proofs.TurnLemmas.{turn_may_move, work_is_paced, help_is_paced, turn_is_told, help_is_told, book_is_paced}
 use Rattle.core_lists.specs.Going.{kind_of_turn}
-use Rattle.tree_core.specs.Causes.{RanOn, TurnsBecause}
+use Rattle.tree_core.specs.Causes.{IsDamageAhead, RanOn, TurnsBecause, merge_of}
 use Rattle.tree_core.specs.Core.{HoldsPace, facts_of_held}
 use Rattle.tree_core.specs.Quanta.{ended_by, quanta_by, stopped_by}
 use Rattle.tree_core.specs.Steps.{MovesPace}
@@ -312,15 +311,15 @@ well_because pacing.Rotate w seat old new before after is ran = (ran, λ idle. c
 well_because pacing.Idle w seat old new before after is ran = (ran, sym is)
 
 ended_because : (w : Bool) (seat : ℕ) (mv : Move) (made : Result ℕ Broken) (faults : ℕ) (old moved : Held) (b : BookState) (before after : DiskState) → old.book.stopped ≡ None → mv ≡ move_in w old → IfOk made (λ n. TurnsBy mv seat n old moved)
-    → TellsFaultsBy (Err Fault) made before after → ((n : ℕ) → made ≡ Err (Damaged n) → IsTrue before.tells_bytes → IsDamageAhead moved.runs n after.bytes)
+    → TellsFaultsBy (Err Fault) made before after → ((n : ℕ) → made ≡ Err (Damaged n) → IsTrue before.tells_bytes → IsDamageAhead (merge_of mv) moved.runs n after.bytes)
     → b.stopped ≡ (stopped_by made faults moved.book).stopped → faults ≡ after.faults → TurnsBecause (ended_by made mv) w seat old (with_book b moved) before after
 ended_because w seat mv (Ok n) faults old moved b before after ran is moves told ahead stops counted =
     well_because mv w seat old (with_book b moved) before after is (record { ran = ran; runs = stops ∙ (moved_open mv seat n old moved moves).stopped ∙ ran; faults = told.stands (λ same. cc same) })
 ended_because w seat mv (Err Fault) faults old moved b before after ran is moves told ahead stops counted = record { ran = ran; faults = told.failed refl; stopped = stops ∙ ap (λ (n : ℕ). Some (why.Faulted n)) counted }
-ended_because w seat mv (Err (Damaged page)) faults old moved b before after ran is moves told ahead stops counted = record { ran = ran; faults = told.stands (λ same. cc same); stopped = stops; ahead = ahead page refl }
+ended_because w seat mv (Err (Damaged page)) faults old moved b before after ran is moves told ahead stops counted = record { ran = ran; faults = told.stands (λ same. cc same); stopped = stops; ahead = λ tells. subst (λ (m : Move). IsDamageAhead (merge_of m) moved.runs page after.bytes) is (ahead page refl tells) }
 
 pub turn_because : (w : Bool) (seat : ℕ) (mv : Move) (made : Result ℕ Broken) (faults : ℕ) (old moved : Held) (ended : Turned) (b : BookState) (before after : DiskState) → Ends w seat mv made faults old moved ended b before after
-    → ((n : ℕ) → made ≡ Err (Damaged n) → IsTrue before.tells_bytes → IsDamageAhead moved.runs n after.bytes) → faults ≡ after.faults → TurnsBecause ended w seat old (with_book b moved) before after
+    → ((n : ℕ) → made ≡ Err (Damaged n) → IsTrue before.tells_bytes → IsDamageAhead (merge_of mv) moved.runs n after.bytes) → faults ≡ after.faults → TurnsBecause ended w seat old (with_book b moved) before after
 turn_because w seat mv made faults old moved ended b before after e ahead counted =
     subst (λ (t : Turned). TurnsBecause t w seat old (with_book b moved) before after) (sym e.ended_is)
     (ended_because w seat mv made faults old moved b before after e.turns.ran e.turns.is e.moves e.told ahead

@@ -16,14 +16,15 @@ use Rattle.page_space.specs.PageSet.{none_of}
 use Rattle.page_space.specs.Space.{pins_of}
 use Rattle.scan_view.specs.Hold.{held_from}
 use Rattle.scan_view.specs.Holds.{hold_of, AreGivenBy, IsDamageBehind}
-use Rattle.gear_sched.specs.declared.Plan.TheVariants.{Nothing}
-use Rattle.pacing.specs.Steps.{Idle}
+use Rattle.gear_sched.specs.declared.Plan.{Plan}
+use Rattle.gear_sched.specs.declared.Plan.TheVariants.{Snow, Deep, Nothing}
+use Rattle.pacing.specs.Steps.{Move, TakeDeep, TakeSnow, Idle}
 use Rattle.tree_machine.specs.Steps.{is_del}
 use Rattle.tree_machine.specs.Machine.{Turned}
 use Rattle.tree_machine.specs.Machine as machine
 use Rattle.seat_book.specs.State.{is_closed_in, noted_in}
-use Rattle.tree_runs.specs.Runs.{left_for_pass, left_for_deep}
-use Rattle.tree_runs.specs.Damage.{IsDamageAhead}
+use Rattle.tree_runs.specs.Runs.{RunsState, left_for_pass, left_for_deep}
+use Rattle.tree_runs.specs.Damage.{DeepMeetsDamage, PassMeetsDamage}
 use Rattle.tree_runs.specs.Holding.{PinsComponents}
 use Rattle.tree_runs.specs.Lookups.{AreToldBy, IsDamageBelow, from_newest}
 use Rattle.core_moves.specs.declared.held.Held.{Held}
@@ -58,12 +59,24 @@ pub record HasFailed (old new : Held) (before after : DiskState) : Type 0 where
   pub faults : HasRisen before.faults after.faults
   pub stopped : new.book.stopped ≡ Some (why.Faulted after.faults)
 
--- It ran, and a page was found damaged: it stops, and names the page, which a merge comes to next.
-pub record FoundDamaged (page : ℕ) (old new : Held) (before after : DiskState) : Type 0 where
+-- the merge of which a move takes a quantum, if it takes one
+abbrev pub merge_of : Move → Plan
+merge_of TakeDeep = Deep
+merge_of TakeSnow = Snow
+merge_of _ = Nothing
+
+-- in this file that merge comes to this page next, and it isn't valid or doesn't go on from there
+abbrev pub IsDamageAhead : Plan → RunsState → ℕ → List ℕ → Type 0
+IsDamageAhead Snow runs n file = PassMeetsDamage runs.sizes runs.pass n file
+IsDamageAhead Deep runs n file = DeepMeetsDamage runs.sizes runs.deep n file
+IsDamageAhead Nothing runs n file = ⊥
+
+-- It ran, and a page was found damaged: it stops, and names the page, to which the merge comes next whose quantum it was.
+pub record FoundDamaged (plan : Plan) (page : ℕ) (old new : Held) (before after : DiskState) : Type 0 where
   pub ran : old.book.stopped ≡ None
   pub faults : after.faults ≡ before.faults
   pub stopped : new.book.stopped ≡ Some (why.BadPage page)
-  pub ahead : IsTrue before.tells_bytes → IsDamageAhead new.runs page after.bytes
+  pub ahead : IsTrue before.tells_bytes → IsDamageAhead plan new.runs page after.bytes
 
 -- A write is full exactly by the charge; a store that is stopped only notes that it is.
 abbrev pub AdmitsBecause : Admission → ℕ → Op → Held → Held → DiskState → DiskState → Type 0
@@ -109,7 +122,7 @@ abbrev pub PaysBecause : Payment → ℕ → Held → Held → DiskState → Dis
 PaysBecause payment.Paid seat old new before after = RanOn old new before after × (plan_in seat old ≡ Nothing → ⊥)
 PaysBecause payment.Settled seat old new before after = (old.book.stopped ≡ None) × (plan_in seat old ≡ Nothing) × (new ≡ with_debts_forgiven seat old)
 PaysBecause payment.Fault seat old new before after = HasFailed old new before after
-PaysBecause (payment.Damaged page) seat old new before after = FoundDamaged page old new before after
+PaysBecause (payment.Damaged page) seat old new before after = FoundDamaged (plan_in seat old) page old new before after
 PaysBecause (payment.Stopped why) seat old new before after = (old.book.stopped ≡ Some why) × (new ≡ old)
 
 -- nor by a payment of nothing
@@ -130,7 +143,7 @@ TurnsBecause machine.Worked is_worker seat old new before after = RanOn old new 
 TurnsBecause machine.Idle is_worker seat old new before after = RanOn old new before after × (move_in is_worker old ≡ Idle)
 TurnsBecause machine.Closed is_worker seat old new before after = (old.book.stopped ≡ None) × (is_worker ≡ true) × (is_closed_in old.book ≡ true) × (new ≡ with_book new.book old)
 TurnsBecause machine.Failed is_worker seat old new before after = HasFailed old new before after
-TurnsBecause (machine.BadPage page) is_worker seat old new before after = FoundDamaged page old new before after
+TurnsBecause (machine.BadPage page) is_worker seat old new before after = FoundDamaged (merge_of (move_in is_worker old)) page old new before after
 TurnsBecause (machine.Halted why) is_worker seat old new before after = (old.book.stopped ≡ Some why) × (new ≡ with_book new.book old)
 
 -- the key has a value, or none
@@ -187,6 +200,7 @@ ScansBecause scanned.Fault seat n old new before after =
 ScansBecause (scanned.Damaged page) seat n old new before after =
     (old.held.book.stopped ≡ None) × (new.holds ≡ old.holds) × (after.faults ≡ before.faults)
     × (IsTrue before.is_honest → IsDamageBehind old.held.runs.sizes (hold_of seat old.holds) page before.bytes)
+    × IsTrue (is_some (hold_of seat old.holds))
 ScansBecause (scanned.Stopped why) seat n old new before after = (old.held.book.stopped ≡ Some why) × (new.holds ≡ old.holds) × (after.faults ≡ before.faults)
 
 -- What dropping a hold is due to. Once it is dropped the seat pins nothing.

@@ -6,12 +6,12 @@ ghost use Rattle.disk_trait.specs.Disk.{TellsFaultsBy};
 ghost use Rattle.disk_trait.specs.Effects.{Affects};
 ghost use Rattle.scan_view.specs.Pins.{beside_pins};
 ghost use Rattle.tree_file.specs.Tree.{Tree};
-ghost use Rattle.tree_runs.specs.Damage.{IsDamageAhead};
 ghost use Rattle.tree_runs.specs.Holding.{StandOver};
 ghost use Rattle.core_moves.specs.Needs.{IsOn, IsReady};
 ghost use Rattle.core_moves.specs.Moves.{KeepsAllButMerges};
 ghost use Rattle.core_pace.specs.Events.{TakesByPlan};
 ghost use Rattle.tree_core.specs.Calls.{Pays};
+ghost use Rattle.tree_core.specs.Causes.{IsDamageAhead};
 ghost use Rattle.tree_core.specs.Quanta.{MayTake, LeavesTaken};
 
 use crate::{Core, Payment};
@@ -30,7 +30,7 @@ fn take<D: Disk>(held: &mut Held, disk: &mut D, seat: u32, plan: Plan) -> Result
     ensures lists { (tree : Tree) → IsTrue (D.state disk.old).is_honest → StandOver held.old.runs tree held.old.log.a.entries (D.state disk.old)
         → LeavesTaken plan result held.old held.new tree (D.state disk.old) (D.state disk.new) }
     ensures takes { IfOk result (λ n. TakesByPlan plan seat n held.old held.new) }
-    ensures damaged { (n : ℕ) → result ≡ Err (Broken.Damaged n) → IsTrue (D.state disk.old).tells_bytes → IsDamageAhead held.new.runs n (D.state disk.new).bytes }
+    ensures damaged { (n : ℕ) → result ≡ Err (Broken.Damaged n) → IsTrue (D.state disk.old).tells_bytes → IsDamageAhead plan held.new.runs n (D.state disk.new).bytes }
     ensures on { OnOk result (IsOn held.new (D.state disk.new)) }
     ensures kept { KeepsAllButMerges (IsErr result) held.old held.new }
     ensures effect { Affects (beside_pins held.old.runs.sizes held.old.runs.space.pins) (file_length held.old.runs.sizes) (held.old.runs.sizes.quantum / 4 + 3) (D.state disk.old) (D.state disk.new) }

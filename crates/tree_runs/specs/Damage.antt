@@ -1,10 +1,9 @@
 -- The damaged page that a running merge has come to.
-use Rattle.std.specs.Prelude.{◌⊎◌, ℕ, List, Option, Some, None}
+use Rattle.std.specs.Prelude.{ℕ, List, Option, Some, None}
 use Rattle.blsm_model.specs.Sizes.{Sizes}
 use Rattle.run_cursor.specs.Cursor.{IsDamageAt}
 use Rattle.snow_merge.specs.Pass.{SnowState}
 use Rattle.deep_merge.specs.Merge.{DeepState, MeetsDamage}
-use Rattle.tree_runs.specs.Runs.{RunsState}
 
 -- in this file the pass comes to this page next, and it isn't valid or doesn't go on from there
 abbrev pub PassMeetsDamage : Sizes → Option SnowState → ℕ → List ℕ → Type 0
@@ -15,7 +14,3 @@ PassMeetsDamage sizes (Some snow) n file = IsDamageAt sizes snow.c1 n file
 abbrev pub DeepMeetsDamage : Sizes → Option DeepState → ℕ → List ℕ → Type 0
 DeepMeetsDamage sizes None n file = ⊥
 DeepMeetsDamage sizes (Some merge) n file = MeetsDamage sizes merge n file
-
--- one of the two does
-abbrev pub IsDamageAhead : RunsState → ℕ → List ℕ → Type 0
-IsDamageAhead runs n file = PassMeetsDamage runs.sizes runs.pass n file ⊎ DeepMeetsDamage runs.sizes runs.deep n file

@@ -20,6 +20,7 @@ use Rattle.disk_trait.specs.Moments.{syncs_later_run, syncs_later_start, goes_on
 use Rattle.disk_trait.specs.Region.{Region}
 use Rattle.tree_machine.specs.Machine as machine
 use Rattle.tree_machine.specs.Machine.{Turned}
+use Rattle.gear_sched.specs.declared.Plan.{Plan}
 use Rattle.core_moves.specs.declared.held.Held.{Held}
 use Rattle.tree_core.specs.Answers.{reply_to_write, reply_to_get}
 use Rattle.tree_core.specs.Causes.{RanOn, HasFailed, FoundDamaged, AdmitsBecause, CallsNone, PaysBecause, PaysNone, TurnsBecause, TurnsNone, FindsBecause}
@@ -52,7 +53,7 @@ tells_failed told old new before after few failed = record {
   halted = λ why is. absurd (cc (failed.ran, is));
 }
 
-pub tells_damaged : (page : ℕ) (old new : Held) (before after : DiskState) → FoundDamaged page old new before after → TellsFaults 0 old new before after
+pub tells_damaged : {plan : Plan} (page : ℕ) (old new : Held) (before after : DiskState) → FoundDamaged plan page old new before after → TellsFaults 0 old new before after
 tells_damaged page old new before after found = record {
   risen = omega (arith, found.faults);
   quiet = λ none calm. found.faults;

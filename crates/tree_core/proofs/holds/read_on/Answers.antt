@@ -60,4 +60,5 @@ returns-in-Err-Damaged-clause-cause g c =
       c.in-Err-Damaged.ensures.reads.stands (damage_no_fault e page c.in-Err-Damaged.field-0-is),
       λ honest. subst (λ (z : Sizes). IsDamageBehind z (hold_of c.args.seat c.args.holds.now) page file) c.geometry.ensures
           (c.in-Err-Damaged.ensures.damaged page (ap Err c.in-Err-Damaged.field-0-is) honest),
+      search rules,
     )

@@ -1,5 +1,6 @@
-use Rattle.std.proofs.Common.{inl, inr, sym, subst}
+use Rattle.std.proofs.Common.{sym, subst}
 use Rattle.gear_sched.specs.declared.Plan.{Plan}
+use Rattle.tree_core.specs.Causes.{IsDamageAhead}
 use Rattle.tree_core.specs.Quanta.{LeavesTaken}
 use Rattle.tree_core.proofs.payment.take.Goals as goal
 
@@ -16,7 +17,9 @@ returns-in-Deep-clause-lists g c = λ tree honest over.
     (record { stands = stands.0; each = stands.1; taken = c.deep_quantum.ensures.lists tree honest over })
 
 pub returns-in-Snow-clause-damaged : goal.returns-in-Snow-clause-damaged
-returns-in-Snow-clause-damaged g c = λ n is tells. inl (c.pass_quantum.ensures.damaged n is tells)
+returns-in-Snow-clause-damaged g c = λ n is tells.
+    subst (λ (p : Plan). IsDamageAhead p c.pass_quantum.new.self.runs n (g.D.Disk.state c.pass_quantum.new.disk).bytes) (sym c.in-Snow.is) (c.pass_quantum.ensures.damaged n is tells)
 
 pub returns-in-Deep-clause-damaged : goal.returns-in-Deep-clause-damaged
-returns-in-Deep-clause-damaged g c = λ n is tells. inr (c.deep_quantum.ensures.damaged n is tells)
+returns-in-Deep-clause-damaged g c = λ n is tells.
+    subst (λ (p : Plan). IsDamageAhead p c.deep_quantum.new.self.runs n (g.D.Disk.state c.deep_quantum.new.disk).bytes) (sym c.in-Deep.is) (c.deep_quantum.ensures.damaged n is tells)

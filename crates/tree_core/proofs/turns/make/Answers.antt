@@ -7,6 +7,7 @@ use Rattle.tree_runs.specs.Holding.{IsDeepSwapped, IsPassSwapped, IsRotated}
 use Rattle.core_moves.specs.Held.{is_run_full}
 use Rattle.core_moves.specs.Moves.{SwapsDeepIn, SwapsPassIn, RotatesIn, TurnsLog}
 use Rattle.core_pace.specs.Turns.{TurnsBy}
+use Rattle.tree_core.specs.Causes.{IsDamageAhead, merge_of}
 use Rattle.tree_core.specs.Quanta.{LeavesMoved}
 use Rattle.tree_core.specs.Turning.{move_of}
 use Rattle.tree_core.specs.declared.turns.Choice.{Choice}
@@ -154,7 +155,9 @@ pub returns-in-Rotate-clause-damaged : goal.returns-in-Rotate-clause-damaged
 returns-in-Rotate-clause-damaged g c = λ n is tells. absurd (swap_not_named c.rotate.result c.no_quantum-in-Rotate.result n c.no_quantum-in-Rotate.ensures is)
 
 pub returns-in-DeepQuantum-clause-damaged : goal.returns-in-DeepQuantum-clause-damaged
-returns-in-DeepQuantum-clause-damaged g c = λ n is tells. inr (c.deep_quantum.ensures.damaged n is tells)
+returns-in-DeepQuantum-clause-damaged g c = λ n is tells.
+    subst (λ (ch : Choice). IsDamageAhead (merge_of (move_of ch)) c.deep_quantum.new.self.runs n (g.D.Disk.state c.deep_quantum.new.disk).bytes) (sym c.in-DeepQuantum.is) (c.deep_quantum.ensures.damaged n is tells)
 
 pub returns-in-PassQuantum-clause-damaged : goal.returns-in-PassQuantum-clause-damaged
-returns-in-PassQuantum-clause-damaged g c = λ n is tells. inl (c.pass_quantum.ensures.damaged n is tells)
+returns-in-PassQuantum-clause-damaged g c = λ n is tells.
+    subst (λ (ch : Choice). IsDamageAhead (merge_of (move_of ch)) c.pass_quantum.new.self.runs n (g.D.Disk.state c.pass_quantum.new.disk).bytes) (sym c.in-PassQuantum.is) (c.pass_quantum.ensures.damaged n is tells)
