@@ -29,7 +29,7 @@ use Rattle.tree_core.specs.Scanned.{Scanned}
 use Rattle.tree_core.specs.Scanned as scanned
 use Rattle.tree_session.specs.Faults.{NamesStop, Proceeds, Reaches, TellsFaults, TellsNone, faults_of}
 use Rattle.tree_session.specs.Lines.{Rests, rows_of}
-use Rattle.tree_session.specs.Session.{Performs, most_calls}
+use Rattle.tree_session.specs.Session.{IsMade, Performs, most_calls}
 use Rattle.tree_session.proofs.BookLemmas.{count_none}
 use Rattle.tree_session.proofs.FaultLemmas.{none_told, proceeds_by, reaches_none, tells_lookup, tells_quiet}
 
@@ -46,8 +46,8 @@ still_rests seat op reply old new leaves book rests =
 
 pub notes_alone : {D : Type 0} (state : D → DiskState) (seat : ℕ) (op : Op) (reply : Reply) (old new : CoreState D) → LeavesOthers seat old new → new.held.book ≡ noted_in seat op reply old.held.book → Rests old.held
     → length (rows_given reply) ≤ rows_of op → TellsNone op reply → NamesStop reply new.held.book.stopped → StandsSince state new new
-    → Proceeds state (faults_of reply) (most_calls old.held.runs.sizes op 0 (swaps_due_in old.held)) old new → Performs state seat op old new
-notes_alone state seat op reply old new leaves book rests rows calm names begins proceeds =
+    → Proceeds state (faults_of reply) (most_calls old.held.runs.sizes op 0 (swaps_due_in old.held)) old new → IsMade state old new → Performs state seat op old new
+notes_alone state seat op reply old new leaves book rests rows calm names begins proceeds made =
     let entry : Entry = record { seat = seat; op = op; reply = reply } in
     record {
       reply = reply;
@@ -60,19 +60,20 @@ notes_alone state seat op reply old new leaves book rests rows calm names begins
       rests = still_rests seat op reply old new leaves book rests;
       begins = begins;
       proceeds = proceeds;
+      made = made;
     }
 
 -- and one that calls no disk
 pub in_memory : {D : Type 0} (state : D → DiskState) (seat : ℕ) (op : Op) (reply : Reply) (old new : CoreState D) → LeavesOthers seat old new → new.held.book ≡ noted_in seat op reply old.held.book → Rests old.held
     → length (rows_given reply) ≤ 0 → faults_of reply ≡ 0 → most_calls old.held.runs.sizes op 0 (swaps_due_in old.held) ≡ 0 → NamesStop reply new.held.book.stopped → StandsSince state old old → StandsSince state new new
-    → ((from : CoreState D) → StandsSince state from old → StandsSince state from new) → new.disk ≡ old.disk → Performs state seat op old new
-in_memory {D} state seat op reply old new leaves book rests rows quiet calls names since begins lasts disk =
+    → ((from : CoreState D) → StandsSince state from old → StandsSince state from new) → new.disk ≡ old.disk → IsMade state old new → Performs state seat op old new
+in_memory {D} state seat op reply old new leaves book rests rows quiet calls names since begins lasts disk made =
     notes_alone state seat op reply old new leaves book rests (omega (arith, rows)) (none_told op reply quiet) names begins
     (subst (λ (told : ℕ). Proceeds state told (most_calls old.held.runs.sizes op 0 (swaps_due_in old.held)) old new) (sym quiet) (subst (λ (few : ℕ). Proceeds state 0 few old new) (sym calls)
     (proceeds_by state 0 0 old old new since lasts
     (subst (λ (d : D). Reaches (file_length old.held.runs.sizes) 0 (state old.disk) (state d)) (sym disk) (reaches_none (state old.disk)))
     (tells_quiet old.held new.held (state old.disk) (state new.disk) (ap (λ (b : BookState). b.stopped) book) (ap (λ (d : D). (state d).faults) disk))
-    (ap (λ (b : BookState). sum (drop callers b.seats.quanta)) book))))
+    (ap (λ (b : BookState). sum (drop callers b.seats.quanta)) book)))) made
 
 -- ---- what is told
 

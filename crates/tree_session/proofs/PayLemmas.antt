@@ -12,9 +12,10 @@ use Rattle.tree_core.specs.Notes.{CountsPayment, OwesNothing, Settles, with_paym
 use Rattle.tree_core.specs.declared.answers.Payment.{Payment}
 use Rattle.tree_core.specs.declared.answers.Payment.TheVariants as payment
 use Rattle.tree_session.specs.Faults.{Proceeds}
-use Rattle.tree_session.specs.Session.{EasesOthers, PaysOff}
+use Rattle.tree_session.specs.Session.{EasesOthers, IsMade, PaysOff}
 use Rattle.tree_session.proofs.BookLemmas.{count_none, count_more, pays_less, left_in}
 use Rattle.tree_session.proofs.FaultLemmas.{proceeds_more, proceeds_none, eases_none, eases_then}
+use Rattle.tree_session.proofs.MadeLemmas.{made_none, made_then}
 
 -- So many payments were made for the seat's last write that was done.
 pub record Paying {D : Type 0} (state : D → DiskState) (seat : ℕ) (old new : CoreState D) : Type 0 where
@@ -24,6 +25,7 @@ pub record Paying {D : Type 0} (state : D → DiskState) (seat : ℕ) (old new :
   pub others : EasesOthers seat old.held new.held
   pub keeps : IsCore new.held (state new.disk)
   pub proceeds : Proceeds state 0 (quanta * (old.held.runs.sizes.quantum / 4 + 3)) old new
+  pub made : IsMade state old new
 
 pub paying_none : {D : Type 0} (state : D → DiskState) (seat : ℕ) (old : CoreState D) → IsCore old.held (state old.disk) → Paying state seat old old
 paying_none state seat old keeps = record {
@@ -33,6 +35,7 @@ paying_none state seat old keeps = record {
   others = eases_none seat old.held;
   keeps = keeps;
   proceeds = proceeds_none state (0 * (old.held.runs.sizes.quantum / 4 + 3)) old;
+  made = made_none state old;
 }
 
 -- the payment that was made
@@ -40,8 +43,8 @@ paid_as : (answer : Payment) (seat : ℕ) (old new : Held) → answer ≡ paymen
 paid_as answer seat old new is counts = subst (λ (a : Payment). new.book.book ≡ with_payment a seat old.book.book) is counts.annals
 
 pub paying_more : {D : Type 0} (state : D → DiskState) (seat : ℕ) (answer : Payment) (old mid new : CoreState D) → answer ≡ payment.Paid → Paying state seat old mid
-    → CountsPayment answer seat mid.held.book new.held.book → EasesOthers seat mid.held new.held → IsCore new.held (state new.disk) → Proceeds state 0 (mid.held.runs.sizes.quantum / 4 + 3) mid new → Paying state seat old new
-paying_more state seat answer old mid new is so_far counts others keeps proceeds = record {
+    → CountsPayment answer seat mid.held.book new.held.book → EasesOthers seat mid.held new.held → IsCore new.held (state new.disk) → Proceeds state 0 (mid.held.runs.sizes.quantum / 4 + 3) mid new → IsMade state mid new → Paying state seat old new
+paying_more state seat answer old mid new is so_far counts others keeps proceeds made = record {
   quanta = so_far.quanta + 1;
   annals = paid_as answer seat mid.held new.held is counts
       ∙ ap (λ (b : Book). counted_up b (last_write seat b.entries) 1) so_far.annals ∙ count_more old.held.book.book (last_write seat old.held.book.book.entries) so_far.quanta;
@@ -49,6 +52,7 @@ paying_more state seat answer old mid new is so_far counts others keeps proceeds
   others = eases_then seat old.held mid.held new.held so_far.others others;
   keeps = keeps;
   proceeds = proceeds_more state 0 so_far.quanta 3 old mid new so_far.proceeds proceeds;
+  made = made_then state old mid new so_far.made made;
 }
 
 -- the seat has its write still
@@ -74,8 +78,8 @@ ends (payment.Stopped why) seat old new before after not because counts settles 
 
 pub paid_off : {D : Type 0} (state : D → DiskState) (seat : ℕ) (answer : Payment) (old mid new : CoreState D) → (answer ≡ payment.Paid → ⊥) → Paying state seat old mid
     → PaysBecause answer seat mid.held new.held (state mid.disk) (state new.disk) → CountsPayment answer seat mid.held.book new.held.book → Settles answer seat new.held → EasesOthers seat mid.held new.held
-    → IsCore new.held (state new.disk) → Proceeds state 0 (mid.held.runs.sizes.quantum / 4 + 3) mid new → PaysOff state seat old new
-paid_off state seat answer old mid new not so_far because counts settles others keeps proceeds =
+    → IsCore new.held (state new.disk) → Proceeds state 0 (mid.held.runs.sizes.quantum / 4 + 3) mid new → IsMade state mid new → PaysOff state seat old new
+paid_off state seat answer old mid new not so_far because counts settles others keeps proceeds made =
     let last = ends answer seat mid.held new.held (state mid.disk) (state new.disk) not because counts settles in
     record {
       quanta = so_far.quanta;
@@ -85,4 +89,5 @@ paid_off state seat answer old mid new not so_far because counts settles others 
       others = eases_then seat old.held mid.held new.held so_far.others others;
       keeps = keeps;
       proceeds = proceeds_more state 0 so_far.quanta 3 old mid new so_far.proceeds proceeds;
+      made = made_then state old mid new so_far.made made;
     }

@@ -24,6 +24,7 @@ use Rattle.tree_session.specs.Faults.{NamesStop, Proceeds, TellsFaults, TellsNon
 use Rattle.tree_session.specs.Lines.{HasRoomFor, Rests, rows_asked, rows_of}
 use Rattle.tree_session.specs.Session.{AreDone, Performs, Runs, TookFew, calls_for, most_calls, most_quanta}
 use Rattle.tree_session.proofs.BookLemmas.{end_counted}
+use Rattle.tree_session.proofs.MadeLemmas.{made_none, made_then}
 use Rattle.tree_session.proofs.FaultLemmas.{calm_before, names_still, proceeds_none, proceeds_then}
 
 -- ---- lists
@@ -166,6 +167,7 @@ runs_none state old rests = record {
   rests = rests;
   alone = refl;
   proceeds = proceeds_none state 0 old;
+  made = made_none state old;
 }
 
 pub runs_more : {D : Type 0} (state : D → DiskState) (lines : List Line) (line : Line) (old mid new : CoreState D) → length mid.held.book.book.quanta ≡ length mid.held.book.book.entries
@@ -197,6 +199,7 @@ runs_more state lines line old mid new places some so_far did =
           (subst (λ (calls : ℕ). Proceeds state (faults_told so_far.added + faults_of did.reply) calls old new) (sym all.1)
           (proceeds_then state (faults_told so_far.added) (faults_of did.reply) (calls_for state lines old mid so_far.done)
           (most_calls mid.held.runs.sizes line.op did.quanta (swaps_due_in mid.held)) old mid new so_far.proceeds did.proceeds));
+      made = made_then state old mid new so_far.made did.made;
     }
 
 -- each entry has its quanta still

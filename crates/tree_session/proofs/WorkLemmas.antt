@@ -29,8 +29,9 @@ use Rattle.tree_core.specs.Notes.{CountsTurn, OwesNothing, quanta_of_turn}
 use Rattle.tree_core.specs.Steps.{StandsSince}
 use Rattle.tree_session.specs.Faults.{NamesStop, Proceeds, Reaches, faults_of, faults_of_turn, is_by_fault}
 use Rattle.tree_session.specs.Lines.{Rests}
-use Rattle.tree_session.specs.Session.{EasesOthers, Performs, Turns}
+use Rattle.tree_session.specs.Session.{EasesOthers, IsMade, Performs, Turns}
 use Rattle.tree_session.proofs.BookLemmas.{ended_empty, finished_early, finished_full, reply_gives_none, reply_names, reply_tells}
+use Rattle.tree_session.proofs.MadeLemmas.{made_none, made_then}
 use Rattle.tree_session.proofs.FaultLemmas.{eases_none, eases_then, proceeds_by, proceeds_more, proceeds_none, proceeds_then, proceeds_wider, reaches_none, tells_quiet, turn_calm}
 
 -- ---- turns that worked
@@ -46,6 +47,7 @@ pub record Turning {D : Type 0} (state : D → DiskState) (seat t : ℕ) (old ne
   pub others : EasesOthers seat old.held new.held
   pub keeps : IsCore new.held (state new.disk)
   pub proceeds : Proceeds state 0 (t * (old.held.runs.sizes.quantum / 4 + 9)) old new
+  pub made : IsMade state old new
 
 pub turning_none : {D : Type 0} (state : D → DiskState) (seat : ℕ) (old : CoreState D) → Rests old.held → IsCore old.held (state old.disk) → Turning state seat 0 old old
 turning_none state seat old rests keeps =
@@ -60,6 +62,7 @@ turning_none state seat old rests keeps =
       others = eases_none seat old.held;
       keeps = keeps;
       proceeds = proceeds_none state (0 * (old.held.runs.sizes.quantum / 4 + 9)) old;
+      made = made_none state old;
     }
 
 pub one_at_most : (ended : Turned) (mv : Move) → quanta_of_turn ended mv ≤ 1
@@ -94,8 +97,8 @@ one_more seat t ended old new turns few counts =
 
 pub turning_more : {D : Type 0} (state : D → DiskState) (seat t : ℕ) (old mid new : CoreState D) → Turning state seat t old mid → CountsTurn seat machine.Worked mid.held new.held
     → (new.held.book.stopped ≡ None → OwesNothing seat new.held) → EasesOthers seat mid.held new.held → IsCore new.held (state new.disk)
-    → Proceeds state 0 (mid.held.runs.sizes.quantum / 4 + 9) mid new → Turning state seat (t + 1) old new
-turning_more state seat t old mid new so_far counts even others keeps proceeds =
+    → Proceeds state 0 (mid.held.runs.sizes.quantum / 4 + 9) mid new → IsMade state mid new → Turning state seat (t + 1) old new
+turning_more state seat t old mid new so_far counts even others keeps proceeds made =
     let more = one_more seat t machine.Worked mid.held new.held so_far.turns so_far.few counts in
     record {
       annals = counts.annals ∙ so_far.annals;
@@ -107,6 +110,7 @@ turning_more state seat t old mid new so_far counts even others keeps proceeds =
       others = eases_then seat old.held mid.held new.held so_far.others others;
       keeps = keeps;
       proceeds = proceeds_more state 0 t 9 old mid new so_far.proceeds proceeds;
+      made = made_then state old mid new so_far.made made;
     }
 
 -- ---- the last turn
@@ -122,8 +126,8 @@ not_worked (code.Halted why) not = refl
 -- which didn't work
 pub turned_early : {D : Type 0} (state : D → DiskState) (seat n t : ℕ) (ended : code_of.Turned) (old mid new : CoreState D) → t < n → (ended ≡ code.Worked → ⊥) → Turning state seat t old mid
     → TurnsBecause (turned_of ended) false seat mid.held new.held (state mid.disk) (state new.disk) → CountsTurn seat (turned_of ended) mid.held new.held → (new.held.book.stopped ≡ None → OwesNothing seat new.held) → EasesOthers seat mid.held new.held → Proceeds state (faults_of_turn (turned_of ended)) (mid.held.runs.sizes.quantum / 4 + 9) mid new
-    → Turns state seat n old new
-turned_early state seat n t ended old mid new below not so_far because counts even others proceeds =
+    → IsMade state mid new → Turns state seat n old new
+turned_early state seat n t ended old mid new below not so_far because counts even others proceeds made =
     let more = one_more seat t (turned_of ended) mid.held new.held so_far.turns so_far.few counts in
     record {
       annals = counts.annals ∙ so_far.annals;
@@ -139,6 +143,7 @@ turned_early state seat n t ended old mid new below not so_far because counts ev
           let within : (t + 1) * share ≤ n * share = mul-le-mul_right share (omega (arith, below)) in
           subst (λ (last : Turned). Proceeds state (faults_of_turn last) (n * share) old new) (sym more.last)
           (proceeds_wider state told ((t + 1) * share) (n * share) old new within (proceeds_more state told t 9 old mid new so_far.proceeds proceeds));
+      made = made_then state old mid new so_far.made made;
     }
 
 -- or all of them did
@@ -153,14 +158,15 @@ turned_all state seat n t old new all so_far = record {
   others = so_far.others;
   proceeds = subst (λ (told : ℕ). Proceeds state told (n * (old.held.runs.sizes.quantum / 4 + 9)) old new) (sym so_far.last)
       (subst (λ (m : ℕ). Proceeds state 0 (m * (old.held.runs.sizes.quantum / 4 + 9)) old new) all so_far.proceeds);
+  made = so_far.made;
 }
 
 -- ---- the end
 
 pub work_ended : {D : Type 0} (state : D → DiskState) (seat n : ℕ) (old mid new : CoreState D) → StandsSince state mid mid → StandsSince state new new → Rests old.held → (old.held.book.stopped ≡ None → mid.held.book.stopped ≡ None → (any : ℕ) → OwesNothing any mid.held)
     → Turns state seat n old mid → new.disk ≡ mid.disk → new.held ≡ with_book (ended_in seat n mid.held.book) mid.held
-    → ((from : CoreState D) → StandsSince state from mid → StandsSince state from new) → Performs state seat (Work n) old new
-work_ended {D} state seat n old mid new since begins rests even turns disk held lasts = record {
+    → ((from : CoreState D) → StandsSince state from mid → StandsSince state from new) → IsMade state mid new → Performs state seat (Work n) old new
+work_ended {D} state seat n old mid new since begins rests even turns disk held lasts made = record {
   reply = reply;
   quanta = (work_in seat mid.held.book).quanta;
   annals = ap (λ (h : Held). h.book.book) held ∙ ap (λ (b : Book). counted_up (noted b entry) (length b.entries) (work_in seat mid.held.book).quanta) turns.annals;
@@ -173,6 +179,7 @@ work_ended {D} state seat n old mid new since begins rests even turns disk held 
     even = λ runs any. subst (λ (h : Held). OwesNothing any h) (sym held) (even (ran (stopped runs)) (stopped runs) any);
   };
   begins = begins;
+  made = made_then state old mid new turns.made made;
   proceeds =
       let calls : n * (old.held.runs.sizes.quantum / 4 + 9) + 0 ≡ n * (old.held.runs.sizes.quantum / 4 + 9) = omega arith in
       subst (λ (told : ℕ). Proceeds state told (n * (old.held.runs.sizes.quantum / 4 + 9)) old new) told

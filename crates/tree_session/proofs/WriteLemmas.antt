@@ -20,8 +20,9 @@ use Rattle.tree_core.specs.declared.answers.Admission.{Admission}
 use Rattle.tree_core.specs.declared.answers.Admission.TheVariants as admission
 use Rattle.tree_session.specs.Faults.{Proceeds, faults_of}
 use Rattle.tree_session.specs.Lines.{Rests, rows_of}
-use Rattle.tree_session.specs.Session.{EasesOthers, PaysOff, Performs, most_calls}
+use Rattle.tree_session.specs.Session.{EasesOthers, IsMade, PaysOff, Performs, most_calls}
 use Rattle.tree_session.proofs.BookLemmas.{all_even, calls_of_write, count_none, last_is, paid_few}
+use Rattle.tree_session.proofs.MadeLemmas.{made_then}
 use Rattle.tree_session.proofs.FaultLemmas.{admit_calm, admit_names, eases_then, none_told, proceeds_then, proceeds_wider}
 
 -- a write that isn't admitted leaves no debt
@@ -46,8 +47,8 @@ idle_still : (old new : BookState) → new.seats.work ≡ old.seats.work → ((a
 idle_still old new same idle any = ap (λ (l : List WorkSoFar). slice_index_or l any no_work) same ∙ idle any
 
 pub write_refused : {D : Type 0} (state : D → DiskState) (seat : ℕ) (op : Op) (answer : Admission) (old new : CoreState D) → is_write op ≡ true → (answer ≡ admission.Admitted → ⊥) → AdmitsBecause answer seat op old.held new.held (state old.disk) (state new.disk)
-    → NotesOne seat op (reply_to_write answer) old.held.book new.held.book → Rests old.held → Proceeds state (faults_of (reply_to_write answer)) (calls_to_admit old.held) old new → StandsSince state new new → Performs state seat op old new
-write_refused state seat op answer old new write not because notes rests proceeds begins =
+    → NotesOne seat op (reply_to_write answer) old.held.book new.held.book → Rests old.held → Proceeds state (faults_of (reply_to_write answer)) (calls_to_admit old.held) old new → StandsSince state new new → IsMade state old new → Performs state seat op old new
+write_refused state seat op answer old new write not because notes rests proceeds begins made =
     let entry : Entry = record { seat = seat; op = op; reply = reply_to_write answer } in
     record {
       reply = reply_to_write answer;
@@ -64,11 +65,12 @@ write_refused state seat op answer old new write not because notes rests proceed
       begins = begins;
       proceeds = proceeds_wider state (faults_of (reply_to_write answer)) (calls_to_admit old.held) (most_calls old.held.runs.sizes op 0 (swaps_due_in old.held)) old new
           (omega (arith, calls_of_write old.held.runs.sizes op 0 (swaps_due_in old.held) write)) proceeds;
+      made = made;
     }
 
 pub write_taken : {D : Type 0} (state : D → DiskState) (seat : ℕ) (op : Op) (old mid new : CoreState D) → is_write op ≡ true → IsCore old.held (state old.disk) → old.held.book.stopped ≡ None
-    → NotesOne seat op Done old.held.book mid.held.book → EasesOthers seat old.held mid.held → Rests old.held → Proceeds state 0 (calls_to_admit old.held) old mid → PaysOff state seat mid new → StandsSince state new new → Performs state seat op old new
-write_taken state seat op old mid new write keeps ran notes eases rests admits pays begins =
+    → NotesOne seat op Done old.held.book mid.held.book → EasesOthers seat old.held mid.held → Rests old.held → Proceeds state 0 (calls_to_admit old.held) old mid → PaysOff state seat mid new → StandsSince state new new → IsMade state old mid → Performs state seat op old new
+write_taken state seat op old mid new write keeps ran notes eases rests admits pays begins made =
     let entry : Entry = record { seat = seat; op = op; reply = Done } in
     let last = last_is seat op old.held.book mid.held.book write notes.annals in
     let annals : new.held.book.book ≡ counted_up (noted old.held.book.book entry) (length old.held.book.book.entries) pays.quanta =
@@ -90,4 +92,5 @@ write_taken state seat op old mid new write keeps ran notes eases rests admits p
       };
       begins = begins;
       proceeds = subst (λ (calls : ℕ). Proceeds state 0 calls old new) (sym (calls_of_write old.held.runs.sizes op pays.quanta (swaps_due_in old.held) write)) proceeds;
+      made = made_then state old mid new made pays.made;
     }

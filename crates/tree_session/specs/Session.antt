@@ -18,8 +18,10 @@ use Rattle.gear_sched.specs.Gears.{first_debt, second_debt}
 use Rattle.seat_book.specs.State.{work_in}
 use Rattle.tree_machine.specs.Plays.{is_finished}
 use Rattle.tree_machine.specs.Steps.{last_write}
+use Rattle.tree_machine.specs.declared.step.Step.{Step}
 use Rattle.tree_runs.specs.Runs.{page_share}
 use Rattle.core_moves.specs.declared.held.Held.{Held}
+use Rattle.tree_core.specs.Calls.{AreCalls}
 use Rattle.tree_core.specs.Causes.{swaps_due_in}
 use Rattle.tree_core.specs.Core.{CoreState, IsCore}
 use Rattle.tree_core.specs.Notes.{OwesNothing}
@@ -49,6 +51,10 @@ most_calls sizes Release quanta due = 0
 most_calls sizes (Work n) quanta due = n * (sizes.quantum / 4 + 9)
 most_calls sizes op quanta due = (4 + 9 * due) + (quanta + 1) * (sizes.quantum / 4 + 3)
 
+-- Some calls of the core led from the one to the other. Each has all that the core says of it: why it answered so, and by which of the disk's bytes.
+abbrev pub IsMade : {D : Type 0} → (D → DiskState) → CoreState D → CoreState D → Type 0
+IsMade {D} state old new = (calls : List (Step × CoreState D)) × AreCalls state calls old new
+
 -- One entry is noted for it, with few quanta and few calls of the disk, and the session rests again.
 pub record Performs {D : Type 0} (state : D → DiskState) (seat : ℕ) (op : Op) (old new : CoreState D) : Type 0 where
   pub reply : Reply
@@ -64,6 +70,7 @@ pub record Performs {D : Type 0} (state : D → DiskState) (seat : ℕ) (op : Op
   -- and what lasts begins there anew
   pub begins : StandsSince state new new
   pub proceeds : Proceeds state (faults_of reply) (most_calls old.held.runs.sizes op quanta (swaps_due_in old.held)) old new
+  pub made : IsMade state old new
 
 -- ---- a script
 
@@ -99,6 +106,7 @@ pub record Runs {D : Type 0} (state : D → DiskState) (lines : List Line) (old 
   pub alone : sum (drop callers new.held.book.seats.quanta) ≡ sum (drop callers old.held.book.seats.quanta)
   pub rests : Rests new.held
   pub proceeds : Proceeds state (faults_told added) (calls_for state lines old new done) old new
+  pub made : IsMade state old new
 
 -- ---- the parts of a command
 
@@ -116,6 +124,7 @@ pub record PaysOff {D : Type 0} (state : D → DiskState) (seat : ℕ) (old new 
   pub others : EasesOthers seat old.held new.held
   pub keeps : IsCore new.held (state new.disk)
   pub proceeds : Proceeds state 0 ((quanta + 1) * (old.held.runs.sizes.quantum / 4 + 3)) old new
+  pub made : IsMade state old new
 
 -- A caller's work of n turns was done, and is open still.
 pub record Turns {D : Type 0} (state : D → DiskState) (seat n : ℕ) (old new : CoreState D) : Type 0 where
@@ -127,3 +136,4 @@ pub record Turns {D : Type 0} (state : D → DiskState) (seat n : ℕ) (old new 
   pub even : new.held.book.stopped ≡ None → OwesNothing seat new.held
   pub others : EasesOthers seat old.held new.held
   pub proceeds : Proceeds state (faults_of_turn (work_in seat new.held.book).last) (n * (old.held.runs.sizes.quantum / 4 + 9)) old new
+  pub made : IsMade state old new

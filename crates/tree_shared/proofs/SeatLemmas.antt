@@ -4,7 +4,7 @@ use Rattle.std.specs.Prelude.{is_some, nat_le, nat_lt, slice_index, slice_index_
 use Rattle.std.proofs.lemmas.Bool.{false≢true, le-leb, lt-ltb}
 use Rattle.blsm_model.specs.Book.{Book, rows_given}
 use Rattle.blsm_model.specs.Facts.{Eases, Part, entries_of}
-use Rattle.blsm_model.specs.Format.{callers, most_rows}
+use Rattle.blsm_model.specs.Format.{callers}
 use Rattle.blsm_model.specs.declared.history.Entry.{Entry}
 use Rattle.blsm_model.specs.declared.history.Reply.{Reply}
 use Rattle.blsm_model.specs.declared.op.Op.{Op}
@@ -13,12 +13,10 @@ use Rattle.gear_sched.specs.Gears.{first_debt, second_debt}
 use Rattle.seat_book.specs.State.{BookState, may_note_in, work_in}
 use Rattle.seat_book.specs.Seats.{turns_in}
 use Rattle.tree_machine.specs.Machine.{WorkSoFar, is_caller, no_work}
-use Rattle.tree_machine.specs.declared.step.Kind.TheVariants as kind
 use Rattle.tree_machine.specs.Plays.{has_room}
 use Rattle.core_moves.specs.declared.held.Held.{Held}
 use Rattle.tree_core.specs.Core.{facts_of_held}
 use Rattle.tree_core.specs.Notes.{NotesOne}
-use Rattle.tree_core.specs.Steps.{may_in}
 use Rattle.tree_shared.specs.Seats.{HasRoomFor, IsEven}
 
 pub or_left : (a b : Bool) → a ≡ true → (a || b) ≡ true
@@ -97,8 +95,3 @@ same_room seat entries rows old new p below eases room idle same work =
     let turns : (work_in seat old.book).turns ≡ 0 = sym (caller_turns seat old.book is) ∙ (eases.turns ∙ idle) in
     let works : (work_in seat new.book).turns ≡ (work_in seat old.book).turns = ap (λ (l : List WorkSoFar). (slice_index_or l seat no_work).turns) work in
     ((omega (arith, had, has, room.0), omega (arith, had_rows, has_rows, room.1)), caller_turns seat new.book is ∙ (works ∙ turns))
-
--- ---- in the words of the core's steps
-
-pub may_read_on : (seat n : ℕ) (held : Held) → may_note_in seat n held.book ≡ true → 0 < n → n ≤ most_rows → may_in held seat (kind.Next n) ≡ true
-may_read_on seat n held note some few = both (may_note_in seat n held.book && nat_lt 0 n) (nat_le n most_rows) (both (may_note_in seat n held.book) (nat_lt 0 n) note (lt-ltb 0 n some)) (le-leb n most_rows few)

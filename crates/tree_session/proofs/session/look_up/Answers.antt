@@ -5,11 +5,13 @@ use Rattle.blsm_model.specs.Format.{callers}
 use Rattle.blsm_model.specs.declared.history.Entry.{Entry}
 use Rattle.blsm_model.specs.declared.op.Op.TheVariants.{Get}
 use Rattle.core_moves.specs.declared.held.Held.{Held}
+use Rattle.tree_machine.specs.declared.step.Kind.TheVariants as kind
 use Rattle.tree_core.specs.Answers.{reply_to_get}
 use Rattle.tree_session.specs.Faults.{faults_of}
 use Rattle.tree_session.specs.Lines.{Rests}
 use Rattle.tree_session.proofs.BookLemmas.{count_none}
 use Rattle.tree_session.proofs.FaultLemmas.{get_names, get_tells, proceeds_by, reaches_by}
+use Rattle.tree_session.proofs.MadeLemmas.{made_by}
 use Rattle.tree_session.proofs.GetLemmas.{get_rows}
 use Rattle.tree_session.proofs.session.look_up.Goals as goal
 
@@ -36,4 +38,5 @@ returns g c =
           proceeds_by state (faults_of reply) 3 old old new c.keeps.ensures.begins (λ from since. c.get-found.ensures.goes.lasts from since) (reaches_by effect)
           (get_tells c.get-found.result c.args.key.now old.held new.held (state old.disk) (state new.disk) c.get-found.ensures.cause (ap (λ (h : Held). h.book.stopped) held))
           (ap (λ (h : Held). sum (drop callers h.book.seats.quanta)) held);
+      made = made_by state c.args.seat (kind.Get c.args.key.now) old new (c.get-found.result, c.get-found.ensures);
     }

@@ -1,7 +1,9 @@
 use Rattle.std.specs.Prelude.{◌+◌, ◌/◌}
 use Rattle.std.proofs.Common.{ap}
+use Rattle.tree_machine.specs.declared.step.Kind.TheVariants as kind
 use Rattle.tree_session.proofs.AloneLemmas.{pay_alone}
 use Rattle.tree_session.proofs.FaultLemmas.{eases_by, pay_tells, proceeds_by, reaches_by}
+use Rattle.tree_session.proofs.MadeLemmas.{made_by}
 use Rattle.tree_session.proofs.PayLemmas.{paying_has, paying_none, paying_more, paying_less, paid_off}
 use Rattle.tree_session.proofs.writes.pay_off.Goals as goal
 
@@ -32,6 +34,7 @@ loop-preserved g c =
     (proceeds_by state 0 (mid.held.runs.sizes.quantum / 4 + 3) first mid new (c.loop.invariant.proceeds.lasts first c.keeps.ensures.begins) (λ from since. c.pay.ensures.goes.lasts from since) (reaches_by c.pay.ensures.effect)
     (pay_tells c.pay.result c.args.seat mid.held new.held (state mid.disk) (state new.disk) c.pay.ensures.cause (λ none. ap (λ (d : g.row.D.Denot). (state d).faults) (c.pay.ensures.untouched none)))
     (pay_alone c.pay.result c.args.seat mid.held new.held (state mid.disk) (state new.disk) c.loop.invariant.keeps.pace c.loop.invariant.keeps.holds moves c.pay.ensures.cause c.pay.ensures.counts (paying_has state c.args.seat first mid c.requires.written c.loop.invariant)))
+    (made_by state c.args.seat kind.Pay mid new (c.pay.result, c.pay.ensures))
 
 pub returns : goal.returns
 returns g c =
@@ -45,3 +48,4 @@ returns g c =
     (proceeds_by state 0 (mid.held.runs.sizes.quantum / 4 + 3) first mid new (c.loop.invariant.proceeds.lasts first c.keeps.ensures.begins) (λ from since. c.pay.ensures.goes.lasts from since) (reaches_by c.pay.ensures.effect)
     (pay_tells c.pay.result c.args.seat mid.held new.held (state mid.disk) (state new.disk) c.pay.ensures.cause (λ none. ap (λ (d : g.row.D.Denot). (state d).faults) (c.pay.ensures.untouched none)))
     (pay_alone c.pay.result c.args.seat mid.held new.held (state mid.disk) (state new.disk) c.loop.invariant.keeps.pace c.loop.invariant.keeps.holds moves c.pay.ensures.cause c.pay.ensures.counts (paying_has state c.args.seat first mid c.requires.written c.loop.invariant)))
+    (made_by state c.args.seat kind.Pay mid new (c.pay.result, c.pay.ensures))

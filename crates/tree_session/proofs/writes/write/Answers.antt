@@ -1,12 +1,14 @@
 use Rattle.std.proofs.Common.{ap, arith}
 use Rattle.blsm_model.specs.declared.history.Reply.TheVariants.{Done}
 use Rattle.seat_book.proofs.WordLemmas.{note_has_room}
+use Rattle.tree_machine.specs.declared.step.Kind.TheVariants as kind
 use Rattle.tree_core.specs.Answers.{reply_to_write}
 use Rattle.tree_core.specs.Causes.{calls_to_admit}
 use Rattle.tree_session.specs.Faults.{faults_of}
 use Rattle.tree_session.proofs.AloneLemmas.{admit_alone}
 use Rattle.tree_session.proofs.BookLemmas.{last_is}
 use Rattle.tree_session.proofs.FaultLemmas.{admit_tells, eases_by, proceeds_by, reaches_by, tells_ran}
+use Rattle.tree_session.proofs.MadeLemmas.{made_by}
 use Rattle.tree_session.proofs.WriteLemmas.{write_refused, write_taken}
 use Rattle.tree_session.proofs.writes.write.Goals as goal
 
@@ -27,6 +29,7 @@ returns g c =
     (eases_by c.args.seat old.held mid.held c.admit.ensures.goes.follows) c.requires.rests
     (proceeds_by state 0 (calls_to_admit old.held) old old mid c.keeps.ensures.begins (λ from since. c.admit.ensures.goes.lasts from since) (reaches_by c.admit.ensures.effect) (tells_ran old.held mid.held (state old.disk) (state mid.disk) ran)
     (admit_alone c.admit.result c.args.seat c.args.op.now old.held mid.held (state old.disk) (state mid.disk) core.pace core.holds (c.admit.ensures.goes.numbers core.pace core.holds) c.admit.ensures.notes)) c.pay_off.ensures c.begins-2.ensures
+    (made_by state c.args.seat (kind.Admit c.args.op.now) old mid (c.admit.result, c.admit.ensures))
 
 pub returns-in_default : goal.returns-in_default
 returns-in_default g c =
@@ -38,3 +41,4 @@ returns-in_default g c =
     (proceeds_by state (faults_of (reply_to_write c.admit.result)) (calls_to_admit old.held) old old new c.keeps.ensures.begins (λ from since. c.admit.ensures.goes.lasts from since) (reaches_by c.admit.ensures.effect)
     (admit_tells c.admit.result c.args.seat c.args.op.now old.held new.held (state old.disk) (state new.disk) c.admit.ensures.cause (λ none. ap (λ (d : g.row.D.Denot). (state d).faults) (c.admit.ensures.untouched none)))
     (admit_alone c.admit.result c.args.seat c.args.op.now old.held new.held (state old.disk) (state new.disk) core.pace core.holds (c.admit.ensures.goes.numbers core.pace core.holds) c.admit.ensures.notes)) c.begins.ensures
+    (made_by state c.args.seat (kind.Admit c.args.op.now) old new (c.admit.result, c.admit.ensures))

@@ -1,6 +1,6 @@
 use Rattle.tree_core.specs.Scanned.{scanned_in}
 use Rattle.tree_core.proofs.CallLemmas.{reads_on}
-use Rattle.tree_shared.proofs.SeatLemmas.{may_read_on}
+use Rattle.tree_session.proofs.MayLemmas.{may_read_on}
 use Rattle.tree_shared.proofs.calls.next_rows.Goals as goal
 
 pub returns-clause-reads : goal.returns-clause-reads
