@@ -6,3 +6,6 @@ pub mod QuantaLemmas
 pub mod HelpLemmas
 pub mod StepLemmas
 pub mod RowLemmas
+pub mod DamageLemmas
+pub mod HoldLemmas
+pub mod ReplyLemmas

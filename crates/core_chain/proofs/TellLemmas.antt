@@ -223,7 +223,7 @@ module _ {D : Type 0} (state : D → DiskState) where
       (inl (stays_same 0 (pending old.held.book) (pending new.held.book) old.held.book.stopped new.held.book.stopped (state old.disk) (state new.disk) (ap (λ (h : Held). h.book.stopped) call.held) (faults_same old new call.untouched)
       (same_pending old.held.book new.held.book (ap (λ (h : Held). h.book.seats.work) call.held))))
 
-  link_tells : (seat : ℕ) (k : Kind) (old new : CoreState D) → IsCall state seat k old new → LinkTells old.held.book new.held.book (state old.disk) (state new.disk)
+  pub link_tells : (seat : ℕ) (k : Kind) (old new : CoreState D) → IsCall state seat k old new → LinkTells old.held.book new.held.book (state old.disk) (state new.disk)
   link_tells seat (kind.Admit op) old new call = admit_link seat op call.0 old new (writes_as state seat old op call.1.goes.may).0 call.1
   link_tells seat kind.Pay old new call = pay_link seat call.0 old new call.1
   link_tells seat (kind.Get key) old new call = get_link seat key call.0 old new call.1

@@ -1,5 +1,7 @@
 //! Chains of calls. The functions do nothing: each stands for the law that its clause names.
-ghost use Rattle.std.specs.Prelude.{List, IsTrue};
+ghost use Rattle.std.specs.Prelude.{◌≡◌, ◌∷◌, ◌++◌, ℕ, List, [], None, Some, IsTrue};
+ghost use Rattle.blsm_model.specs.declared.history.Entry.{Entry};
+ghost use Rattle.blsm_model.specs.declared.history.Why.TheVariants.{BadPage};
 ghost use Rattle.blsm_model.specs.declared.key.Key.{Key};
 ghost use Rattle.blsm_model.specs.declared.row.Value.{Value};
 ghost use Rattle.pacing.specs.Pace.{Pace};
@@ -8,7 +10,10 @@ ghost use Rattle.tree_machine.specs.declared.step.Step.{Step};
 ghost use Rattle.tree_core.specs.Calls.{AreCalls};
 ghost use Rattle.tree_core.specs.Core.{CoreState, IsCore};
 ghost use Rattle.tree_core.specs.Holds.{StandsWhole};
+ghost use Rattle.core_chain.specs.Damage.{StopsAtPage};
+ghost use Rattle.core_chain.specs.Holds.{ChainTellsHolds, HoldsNone};
 ghost use Rattle.core_chain.specs.Quanta.{ChainHelps, ChainTakesFew};
+ghost use Rattle.core_chain.specs.Replies.{IsNoted};
 ghost use Rattle.core_chain.specs.Rows.{RowsStay};
 ghost use Rattle.core_chain.specs.Start.{IsUnasked};
 ghost use Rattle.core_chain.specs.Steps.{ChainIsSteps};
@@ -34,6 +39,25 @@ pub fn calls_take_few<D: Disk + Drop>(core: &Core<D>)
 pub fn calls_help<D: Disk + Drop>(core: &Core<D>)
     ensures { (calls : List (Step × CoreState D)) (start : CoreState D) → IsUnasked D.state start → AreCalls D.state calls start core.now
         → ChainHelps D.state calls start core.now }
+{}
+
+/// Where a damaged page stopped the store one of the calls did: the merge whose quantum it took came to that page, and the page's bytes show the damage
+/// where the disk tells them.
+pub fn calls_meet_damage<D: Disk + Drop>(core: &Core<D>)
+    ensures { (calls : List (Step × CoreState D)) (start : CoreState D) (page : ℕ) → start.held.book.stopped ≡ None → AreCalls D.state calls start core.now
+        → core.now.held.book.stopped ≡ Some (BadPage page) → StopsAtPage D.state calls start core.now page }
+{}
+
+/// From a core of which nothing was asked, and where nobody holds rows: no reply denies a hold, or makes one up.
+pub fn calls_tell_holds<D: Disk + Drop>(core: &Core<D>)
+    ensures { (calls : List (Step × CoreState D)) (start : CoreState D) → start.held.book.book.entries ≡ [] → HoldsNone start → AreCalls D.state calls start core.now
+        → ChainTellsHolds core.now }
+{}
+
+/// Each entry was noted by one of the calls, which says why it has its reply.
+pub fn calls_note<D: Disk + Drop>(core: &Core<D>)
+    ensures { (calls : List (Step × CoreState D)) (start : CoreState D) (front behind : List Entry) (e : Entry) → start.held.book.book.entries ≡ [] → AreCalls D.state calls start core.now
+        → core.now.held.book.book.entries ≡ front ++ e ∷ behind → IsNoted D.state calls start core.now front e }
 {}
 
 /// On an honest disk they are steps of the machine, one for each call, timed by the disk's clock.

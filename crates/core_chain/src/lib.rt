@@ -4,4 +4,7 @@
 
 mod laws;
 
-pub use laws::{calls_are_steps, calls_help, calls_take_few, calls_tell, rows_stay};
+pub use laws::{
+    calls_are_steps, calls_help, calls_meet_damage, calls_note, calls_take_few, calls_tell,
+    calls_tell_holds, rows_stay,
+};

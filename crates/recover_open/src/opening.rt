@@ -112,10 +112,11 @@ pub fn open_store<D: Disk + Drop>(
     requires entries { sum room.entries ≤ most_entries }
     requires rows { sum room.rows ≤ most_rows_asked }
 
-    // On every disk: no entry, no table, no C1'; the charge is what C1 and C2 weigh, the count of faults is the disk's, and the file was as long as the
+    // On every disk: no entry, no hold, no table, no C1'; the charge is what C1 and C2 weigh, the count of faults is the disk's, and the file was as long as the
     // sizes say.
     ensures opened { IfOk result (λ core. IsOpened (no_entries room) (D.state core.disk).faults core.held) }
     ensures long { IfOk result (λ core. HasLengthOf core.held.runs.sizes (D.state disk)) }
+    ensures none { IfOk result (λ core. core.holds ≡ replicate callers None) }
     ensures charge { IfOk result (λ core. charge_in core.held ≡ core.held.runs.catalogue.c1.weight + core.held.runs.catalogue.c2.weight) }
 
     // On an honest disk: the disk read as a map, for which the core stands; or what it read as is why it isn't opened.

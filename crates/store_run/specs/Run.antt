@@ -1,5 +1,5 @@
 -- The run of a script over the store on a disk: what it leaves to be printed, and what holds of it on every disk, honest or not.
-use Rattle.std.specs.Prelude.{◌≡◌, ◌≤◌, ◌<◌, ◌+◌, ◌*◌, ◌||◌, ℕ, Bool, true, false, None, List, slice_index, sum}
+use Rattle.std.specs.Prelude.{◌≡◌, ◌≤◌, ◌<◌, ◌+◌, ◌*◌, ◌||◌, ℕ, Bool, true, false, None, Some, List, ◌∷◌, ◌++◌, slice_index, sum}
 use Rattle.std.specs.List.{AllByRecursion, list_any}
 use Rattle.refusal.specs.Count.{HasRisenBy}
 use Rattle.blsm_model.specs.Geometry.{high_mark}
@@ -9,17 +9,24 @@ use Rattle.blsm_model.specs.Sizes.{Sizes, IsGeometry}
 use Rattle.blsm_model.specs.declared.history.Entry.{Entry}
 use Rattle.blsm_model.specs.declared.history.Line.{Line}
 use Rattle.blsm_model.specs.declared.history.Totals.{Totals}
+use Rattle.blsm_model.specs.declared.history.Why.TheVariants.{BadPage}
 use Rattle.core_moves.specs.declared.held.Held.{Held}
 use Rattle.core_moves.specs.Held.{charge_in}
 use Rattle.disk_trait.specs.Disk.{DiskState}
 use Rattle.gear_sched.specs.Gears.{GearState, first_debt, second_debt}
 use Rattle.seat_book.specs.Seats.{turns_in}
 use Rattle.seat_book.specs.State.{BookState, totals_in, work_in}
+use Rattle.tree_core.specs.Calls.{AreCalls}
+use Rattle.tree_core.specs.Core.{CoreState}
 use Rattle.tree_core.specs.Notes.{HasLeft}
 use Rattle.tree_machine.specs.Machine.{seats}
 use Rattle.tree_machine.specs.Outcomes.{is_by_page, is_damaged}
+use Rattle.tree_machine.specs.declared.step.Step.{Step}
 use Rattle.tree_session.specs.Faults.{NamesCount, NamesStop, faults_told, is_by_fault}
 use Rattle.tree_session.specs.Session.{TookFew}
+use Rattle.core_chain.specs.Damage.{StopsAtPage}
+use Rattle.core_chain.specs.Holds.{TellHolds}
+use Rattle.core_chain.specs.Replies.{IsNoted}
 use Rattle.store_run.specs.declared.run.Ending.{Ending}
 use Rattle.store_run.specs.declared.run.Ending.TheVariants.{Well, Faulted, Damaged}
 use Rattle.store_run.specs.declared.run.Finished.{Finished}
@@ -97,3 +104,17 @@ pub record AreCounted (run : Run) (first last : DiskState) : Type 0 where
   pub risen : HasRisenBy (faults_told run.entries) first.faults last.faults
   pub quiet : faults_told run.entries ≡ 0 → is_by_fault run.totals.stopped ≡ false → last.faults ≡ first.faults
   pub stop : NamesCount run.totals.stopped first last
+
+-- Calls of the core led from the opened store to what is printed, and each has its cause.
+pub record HasCauses {D : Type 0} (state : D → DiskState) (run : Run) (last : D) : Type 0 where
+  pub calls : List (Step × CoreState D)
+  pub opened : CoreState D
+  pub end : CoreState D
+  pub are : AreCalls state calls opened end
+  pub last_is : end.disk ≡ last
+  -- an entry's reply is due to what the call found that noted it
+  pub replies : (front behind : List Entry) (e : Entry) → run.entries ≡ front ++ e ∷ behind → IsNoted state calls opened end front e
+  -- no reply denies a hold, or makes one up
+  pub holds : TellHolds run.entries
+  -- a page that stopped the store was damaged by its bytes when a merge came to it
+  pub stops : (page : ℕ) → run.totals.stopped ≡ Some (BadPage page) → StopsAtPage state calls opened end page

@@ -14,13 +14,16 @@ ghost use Rattle.tree_reading.specs.Reading.{IsWhy};
 ghost use Rattle.recover_open.specs.Opening.{HasLengthOf, KeepsMapOf, ReadsAsNone};
 ghost use Rattle.tree_session.specs.Faults.{Reaches};
 ghost use Rattle.tree_session.specs.Lines.{AreRunnable, HasRoomFor};
-ghost use Rattle.store_run.specs.Run.{AreCounted, CameToEnd, IsEnding, IsRunInOrder, IsRunOf, run_at, run_of};
+ghost use Rattle.store_run.specs.Run.{AreCounted, CameToEnd, HasCauses, IsEnding, IsRunInOrder, IsRunOf, run_at, run_of};
 ghost use Rattle.store_run.specs.Headline.{Headline, IsServed};
 
 use crate::ending::ending;
 use alone_run::runs_alone;
 use blsm_model::{Annals, Gate, Line, Room, Totals};
-use core_chain::{calls_are_steps, calls_help, calls_take_few, calls_tell};
+use core_chain::{
+    calls_are_steps, calls_help, calls_meet_damage, calls_note, calls_take_few, calls_tell,
+    calls_tell_holds,
+};
 use disk_trait::Disk;
 use recover_open::{Unreadable, open_store};
 use std::alloc::Global;
@@ -97,6 +100,8 @@ pub fn run_over<R: Threads + Wait + Sync, D: Disk + Send + Drop, G: Gate + Sync>
     ensures ended { IfOk result.1 (λ finished. CameToEnd workers turns (run_of finished)) }
     ensures counted { IfOk result.1 (λ finished. AreCounted (run_of finished) (D.state disk) (D.state result.0)) }
     ensures ending { IfOk result.1 (λ finished. IsEnding finished.ending (run_of finished) (D.state result.0).faults) }
+    // Why each reply is so, and what stopped the store.
+    ensures causes { IfOk result.1 (λ finished. HasCauses D.state (run_of finished) result.0) }
     ensures reaches { (end : ℕ) × (calls : ℕ) × (IsTrue (D.state disk).tells_bytes → end ≤ max superblock_length (length (D.state disk).bytes))
         × Reaches end calls (D.state disk) (D.state result.0) }
     ensures faults { IsErr result.1 → TellsFaultsBy (Err Unreadable.Fault) result.1 (D.state disk) (D.state result.0) }
@@ -131,6 +136,9 @@ pub fn run_over<R: Threads + Wait + Sync, D: Disk + Send + Drop, G: Gate + Sync>
             calls_take_few(&core);
             calls_are_steps(&core);
             calls_help(&core);
+            calls_tell_holds(&core);
+            calls_meet_damage(&core);
+            calls_note(&core);
             let (disk, finished) = finish(core, charge);
             (disk, Ok(finished))
         }

@@ -1,8 +1,10 @@
 use Rattle.std.specs.Prelude.{ℕ}
-use Rattle.std.proofs.Common.{ap, subst, sym, ◌∙◌}
+use Rattle.std.proofs.Common.{◌≡◌, ap, subst, sym, ◌∙◌}
+use Rattle.core_chain.specs.Holds.{TellHolds}
+use Rattle.core_chain.proofs.HoldLemmas.{holds_none}
 use Rattle.recover_open.specs.Opening.{KeepsMapOf, no_entries}
 use Rattle.seat_book.specs.State.{BookState}
-use Rattle.store_run.specs.Run.{run_at, run_of}
+use Rattle.store_run.specs.Run.{Run, run_at, run_of}
 use Rattle.store_run.proofs.FaultLemmas.{ReachesInside, calm_opening, counted_of, disk_inside, refused_calm, refused_faults, spares_of_file, stays_inside}
 use Rattle.store_run.proofs.HeadlineLemmas.{whole_headline}
 use Rattle.store_run.proofs.RunLemmas.{by_threads, ended_of, few_turned, is_fresh, is_unasked, no_entries_yet, printed_of}
@@ -75,6 +77,26 @@ returns-in-Ok-run_all-clause-reaches g c =
     let unasked = is_unasked state (no_entries c.args.room) (state old.disk).faults old opened rests c.charge-charge.ensures.kept c.charge-charge.ensures.begins in
     let has = by_threads state c.args.lines.now c.args.workers c.args.turns old new runs (c.calls_tell.ensures runs.came.calls old unasked runs.came.are) (c.calls_take_few.ensures runs.came.calls old unasked runs.came.are) in
     disk_inside state c.args.lines.now (no_entries c.args.room) (state old.disk).faults (state c.args.disk) old new opened c.charge-charge.ensures.kept c.in-Ok.ensures.effect has c.finish-disk.result.0 c.finish-disk.ensures.disk
+
+pub returns-in-Ok-run_all-clause-causes : goal.returns-in-Ok-run_all-clause-causes
+returns-in-Ok-run_all-clause-causes g c =
+    let state = g.D.Disk.state in
+    let old = c.in-Ok.core in
+    let new = c.in-Ok-run_all.core in
+    let came = c.in-Ok-run_all.ensures.came in
+    let opened = c.in-Ok.ensures.opened in
+    let none = no_entries_yet (no_entries c.args.room) (state old.disk).faults old.held opened in
+    let is : run_of c.finish-disk.result.1 ≡ run_at c.charge-charge.result new.held = c.finish-disk.ensures.finished in
+    record {
+      calls = came.calls;
+      opened = old;
+      end = new;
+      are = came.are;
+      last_is = sym c.finish-disk.ensures.disk;
+      replies = λ front behind e within. c.calls_note.ensures came.calls old front behind e none came.are (sym (ap (λ (run : Run). run.entries) is) ∙ within);
+      holds = subst (λ (run : Run). TellHolds run.entries) (sym is) (c.calls_tell_holds.ensures came.calls old none (holds_none old c.in-Ok.ensures.none) came.are).replies;
+      stops = λ page stopped. c.calls_meet_damage.ensures came.calls old page (ap (λ (b : BookState). b.stopped) opened.book) came.are (sym (ap (λ (run : Run). run.totals.stopped) is) ∙ stopped);
+    }
 
 pub returns-in-Ok-run_all-clause-headline : goal.returns-in-Ok-run_all-clause-headline
 returns-in-Ok-run_all-clause-headline g c = λ honest.
