@@ -1,4 +1,5 @@
 // The numbers of a store's geometry.
+use crate::asserts::{assert_same, assert_same_at, assert_that};
 use blsm_model::{Geometry, GeometryFault};
 use std::process::Abort;
 
@@ -53,30 +54,34 @@ fn geometry(rt: &impl Abort, (half, ratio, low, quantum): (u64, u64, u64, u64)) 
 fn has_numbers(rt: &impl Abort, case: &Case) {
     let geometry = geometry(rt, case.numbers);
     let (half, ratio, low, quantum) = case.numbers;
-    assert_eq!(rt; (geometry.half(), geometry.ratio()), (half, ratio));
-    assert_eq!(rt; (geometry.low(), geometry.quantum()), (low, quantum));
+    assert_same(rt, (geometry.half(), geometry.ratio()), (half, ratio));
+    assert_same(rt, (geometry.low(), geometry.quantum()), (low, quantum));
 }
 
 fn has_marks(rt: &impl Abort, case: &Case) {
     let geometry = geometry(rt, case.numbers);
     let (high, c1, capacity) = case.marks;
-    assert_eq!(rt; geometry.high_mark(), high);
-    assert_eq!(rt; geometry.c1_mark(), c1);
-    assert_eq!(rt; geometry.capacity(), capacity);
-    assert_eq!(rt; geometry.c1_way(), case.way);
+    assert_same(rt, geometry.high_mark(), high);
+    assert_same(rt, geometry.c1_mark(), c1);
+    assert_same(rt, geometry.capacity(), capacity);
+    assert_same(rt, geometry.c1_way(), case.way);
 }
 
 fn has_bounds(rt: &impl Abort, case: &Case) {
     let geometry = geometry(rt, case.numbers);
-    assert_eq!(rt; (geometry.first_gear(), geometry.second_gear()), case.gears);
-    assert_eq!(rt; (geometry.bound(14), geometry.bound(512)), case.bounds);
-    assert_eq!(rt; (geometry.pages(), geometry.length()), case.disk);
+    assert_same(
+        rt,
+        (geometry.first_gear(), geometry.second_gear()),
+        case.gears,
+    );
+    assert_same(rt, (geometry.bound(14), geometry.bound(512)), case.bounds);
+    assert_same(rt, (geometry.pages(), geometry.length()), case.disk);
 }
 
 // A write of 14 bytes is taken up to 14 below this limit, and not past it.
 fn has_limit(rt: &impl Abort, geometry: &Geometry, is_del: bool, limit: u64) {
-    assert!(rt; geometry.admits(is_del, limit.saturating_sub(14), 14));
-    assert!(rt; !geometry.admits(is_del, limit.saturating_sub(13), 14));
+    assert_that(rt, geometry.admits(is_del, limit.saturating_sub(14), 14));
+    assert_that(rt, !geometry.admits(is_del, limit.saturating_sub(13), 14));
 }
 
 fn has_limits(rt: &impl Abort, case: &Case) {
@@ -107,7 +112,7 @@ fn the_smallest_store_is_full_at_its_edges(rt: HostRuntime) {
         (false, u64::MAX, false),
     ];
     for (is_del, charge, taken) in cases {
-        assert_eq!(rt; geometry.admits(is_del, charge, 14), taken, "at {charge}");
+        assert_same_at(&rt, geometry.admits(is_del, charge, 14), taken, charge);
     }
 }
 
@@ -127,10 +132,11 @@ fn the_first_number_out_of_range_is_named(rt: HostRuntime) {
     ];
     for ((half, ratio, low, quantum), outcome) in cases {
         let made = Geometry::new(half, ratio, low, quantum).map(|_| ());
-        assert_eq!(rt; made, outcome, "at {half} {ratio} {low} {quantum}");
+        assert_same_at(&rt, made, outcome, (half, ratio, low, quantum));
     }
-    assert_eq!(rt;
+    assert_same(
+        &rt,
         Geometry::new(32_768, 4, 16_384, 4_096),
-        Ok(Geometry::default())
+        Ok(Geometry::default()),
     );
 }

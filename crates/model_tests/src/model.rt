@@ -3,6 +3,7 @@ ghost use Rattle.std.specs.Prelude.{◌≡◌, ◌≤◌};
 ghost use Rattle.std.specs.Ordering.{is_lt};
 ghost use Rattle.blsm_model.specs.Keys.{key_cmp};
 
+use crate::asserts::{assert_same, assert_same_at, assert_that};
 use crate::samples::{key, value};
 use crate::scripts::note;
 use blsm_model::{
@@ -24,10 +25,11 @@ fn keys_are_ordered_bytewise(rt: HostRuntime) {
     let rising: [&[u8]; 6] = [b"a", b"aa", b"ab", b"b", b"b\x00", b"\xff"];
     for low in 0..rising.len() {
         for high in 0..rising.len() {
-            assert_eq!(rt;
+            assert_same_at(
+                &rt,
                 is_below(&key(&rt, rising[low]), &key(&rt, rising[high])),
                 low < high,
-                "at {low} {high}"
+                (low, high),
             );
         }
     }
@@ -37,18 +39,10 @@ fn keys_are_ordered_bytewise(rt: HostRuntime) {
 fn keys_and_texts_have_their_lengths(rt: HostRuntime) {
     let bytes = [b'x'; 436];
     for (len, is_key) in [(0, false), (1, true), (64, true), (65, false)] {
-        assert_eq!(rt;
-            Key::from_bytes(&bytes[..len]).is_some(),
-            is_key,
-            "at {len}"
-        );
+        assert_same_at(&rt, Key::from_bytes(&bytes[..len]).is_some(), is_key, len);
     }
     for (len, is_text) in [(0, true), (435, true), (436, false)] {
-        assert_eq!(rt;
-            Text::from_bytes(&bytes[..len]).is_some(),
-            is_text,
-            "at {len}"
-        );
+        assert_same_at(&rt, Text::from_bytes(&bytes[..len]).is_some(), is_text, len);
     }
 }
 
@@ -56,11 +50,11 @@ fn keys_and_texts_have_their_lengths(rt: HostRuntime) {
 fn writes_weigh_their_entry(rt: HostRuntime) {
     let bytes = [b'x'; 435];
     let heaviest = Op::Put(key(&rt, &bytes[..64]), value(&rt, 9, &bytes));
-    assert_eq!(rt; heaviest.weight(), Op::MAX_WEIGHT);
+    assert_same(&rt, heaviest.weight(), Op::MAX_WEIGHT);
     let put = Op::Put(key(&rt, b"a"), value(&rt, 5, b"hi"));
-    assert_eq!(rt; put.weight(), 16);
-    assert_eq!(rt; Op::Add(key(&rt, b"a"), 7).weight(), 14);
-    assert_eq!(rt; Op::Del(key(&rt, b"a")).weight(), 14);
+    assert_same(&rt, put.weight(), 16);
+    assert_same(&rt, Op::Add(key(&rt, b"a"), 7).weight(), 14);
+    assert_same(&rt, Op::Del(key(&rt, b"a")).weight(), 14);
 }
 
 fn row(rt: &impl Abort, count: u64, text: &[u8]) -> Row {
@@ -85,20 +79,20 @@ fn entry_of(row: Row) -> Entry {
 fn a_write_is_copied(rt: HostRuntime) {
     let row = row(&rt, 5, b"hi");
     let put = Write::Put(row.key.copy(), row.value.copy());
-    assert!(rt; put.copy() == put);
+    assert_that(&rt, put.copy() == put);
 }
 
 #[test]
 fn copies_are_the_same(rt: HostRuntime) {
     let entry = entry_of(row(&rt, 5, b"hi"));
     let copy = entry.copy();
-    assert!(rt; copy == entry);
+    assert_that(&rt, copy == entry);
     let line = Line {
         seat: 15,
         op: copy.op,
     };
-    assert!(rt; line.copy() == line);
-    assert!(rt; line.op == entry.op);
+    assert_that(&rt, line.copy() == line);
+    assert_that(&rt, line.op == entry.op);
 }
 
 // Annals with room for so many entries and rows of seat 3.
@@ -135,43 +129,43 @@ fn count(rt: &impl Abort, annals: &mut Annals, place: u32, quanta: u8) {
 // An entry of seat 3, with its quanta.
 fn has_entry(rt: &impl Abort, annals: &Annals, place: u32, quanta: u64, op: &Op) {
     assert!(rt; (place as usize) < annals.len());
-    assert_eq!(rt; (annals.seat(place), annals.quanta(place)), (3, quanta));
-    assert!(rt; annals.op(place) == op);
+    assert_same(rt, (annals.seat(place), annals.quanta(place)), (3, quanta));
+    assert_that(rt, annals.op(place) == op);
 }
 
 // The first reply has rows.
 fn replies_rows(rt: &impl Abort, annals: &Annals, rows: RowList) {
     assert!(rt; 0 < annals.len());
-    assert!(rt; annals.short_reply(0).is_none());
-    assert_eq!(rt; annals.rows(0).len(), 2);
-    assert!(rt; annals.reply(0) == Reply::Rows(rows));
+    assert_that(rt, annals.short_reply(0).is_none());
+    assert_same(rt, annals.rows(0).len(), 2);
+    assert_that(rt, annals.reply(0) == Reply::Rows(rows));
 }
 
 // The second reply has none.
 fn replies_done(rt: &impl Abort, annals: &Annals) {
     assert!(rt; 1 < annals.len());
-    assert!(rt; annals.short_reply(1) == Some(&ShortReply::Done));
-    assert!(rt; annals.rows(1).is_empty());
-    assert!(rt; annals.reply(1) == Reply::Done);
+    assert_that(rt, annals.short_reply(1) == Some(&ShortReply::Done));
+    assert_that(rt, annals.rows(1).is_empty());
+    assert_that(rt, annals.reply(1) == Reply::Done);
 }
 
 // What is left of the room of two seats.
 fn has_left(rt: &impl Abort, annals: &Annals) {
     let left = annals.room();
-    assert_eq!(rt; (left.entries[3], left.rows[3]), (0, 3));
-    assert_eq!(rt; (left.entries[4], left.rows[4]), (0, 0));
+    assert_same(rt, (left.entries[3], left.rows[3]), (0, 3));
+    assert_same(rt, (left.entries[4], left.rows[4]), (0, 0));
 }
 
 #[test]
 fn annals_tell_what_was_noted(rt: HostRuntime) {
     let mut annals = annals_of(&rt, rt.alloc(), 2, 5);
-    assert!(rt; annals.is_empty());
+    assert_that(&rt, annals.is_empty());
     note(&rt, &mut annals, 3, Op::Next(2), Reply::Rows(two_rows(&rt)));
     note_release(&rt, &mut annals);
     count(&rt, &mut annals, 1, 7);
     count(&rt, &mut annals, 1, 2);
-    assert_eq!(rt; annals.len(), 2);
-    assert!(rt; !annals.is_empty());
+    assert_same(&rt, annals.len(), 2);
+    assert_that(&rt, !annals.is_empty());
     has_entry(&rt, &annals, 0, 0, &Op::Next(2));
     has_entry(&rt, &annals, 1, 9, &Op::Release);
     replies_rows(&rt, &annals, two_rows(&rt));
@@ -231,7 +225,7 @@ fn a_value_tells_its_entries_and_its_peak(rt: HostRuntime) {
         peak: 14,
         most: 28,
     };
-    assert_eq!(rt; told(&tally), (1, 14));
+    assert_same(&rt, told(&tally), (1, 14));
 }
 
 fn pass<G: Gate>(gate: &G) {
@@ -248,7 +242,7 @@ fn the_shipped_gate_lets_through(_rt: HostRuntime) {
 fn is_answered(rt: &impl Abort, plain: &mut Plain, op: Op, reply: Reply) {
     assert!(rt; Plain::can_answer(&op));
     let answer = plain.answer(&op).expect(rt, "memory");
-    assert!(rt; answer == reply);
+    assert_that(rt, answer == reply);
 }
 
 fn is_got(rt: &impl Abort, plain: &mut Plain, name: &[u8], reply: Reply) {
@@ -286,8 +280,8 @@ fn the_plain_store_answers_the_worked_examples(rt: HostRuntime) {
 // The entry of this place is that of this seat, with this reply.
 fn has_reply(rt: &impl Abort, history: &[Entry], place: usize, seat: u32, reply: Reply) {
     let entry = history.get(place).expect(rt, "so many");
-    assert!(rt; entry.seat == seat);
-    assert!(rt; entry.reply == reply);
+    assert_that(rt, entry.seat == seat);
+    assert_that(rt, entry.reply == reply);
 }
 
 fn line(seat: u32, op: Op) -> Line {
@@ -302,6 +296,6 @@ fn a_script_runs_line_by_line(rt: HostRuntime) {
     ];
     assert!(rt; Plain::can_run(&script));
     let history = run(rt.alloc(), &script, 14).expect(&rt, "memory");
-    assert_eq!(rt; history.len(), 2);
+    assert_same(&rt, history.len(), 2);
     has_reply(&rt, &history, 1, 15, Reply::Is(value(&rt, 7, b"")));
 }

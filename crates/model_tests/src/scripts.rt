@@ -2,6 +2,7 @@
 ghost use Rattle.std.specs.Prelude.{◌≡◌, length};
 ghost use Rattle.blsm_model.specs.Book.{noted, rows_given};
 
+use crate::asserts::{assert_same, assert_that};
 use crate::samples::{key, sink, value};
 use blsm_model::{Annals, Entry, Line, Op, Reply, Room, Row, RowList, Totals, Value, Why};
 use refusal::Failed;
@@ -28,7 +29,7 @@ fn script_of(rt: &impl Abort, alloc: Global, text: &[u8]) -> Script {
 // The line of this place is this one.
 fn is_line(rt: &impl Abort, script: &Script, place: usize, seat: u32, op: Op) {
     let line = script.lines().get(place).expect(rt, "so many");
-    assert!(rt; *line == Line { seat, op });
+    assert_that(rt, *line == Line { seat, op });
 }
 
 fn is_put(rt: &impl Abort, script: &Script, place: usize, seat: u32, name: &[u8], value: Value) {
@@ -61,15 +62,17 @@ fn works_and_holds_are_read(rt: HostRuntime) {
 #[test]
 fn a_script_has_room_for_its_entries_and_rows(rt: HostRuntime) {
     let script = script_of(&rt, rt.alloc(), SCRIPT);
-    assert_eq!(rt; script.lines().len(), 11);
+    assert_same(&rt, script.lines().len(), 11);
     let room = script.room();
-    assert_eq!(rt;
+    assert_same(
+        &rt,
         room.entries,
-        [4, 1, 4, 0, 0, 0, 0, 0, 0, 0, 0, 0, 0, 0, 0, 2]
+        [4, 1, 4, 0, 0, 0, 0, 0, 0, 0, 0, 0, 0, 0, 0, 2],
     );
-    assert_eq!(rt;
+    assert_same(
+        &rt,
         room.rows,
-        [5, 0, 33, 0, 0, 0, 0, 0, 0, 0, 0, 0, 0, 0, 0, 0]
+        [5, 0, 33, 0, 0, 0, 0, 0, 0, 0, 0, 0, 0, 0, 0, 0],
     );
 }
 
@@ -127,7 +130,7 @@ fn the_first_bad_line_is_named(rt: HostRuntime) {
         (b"1 work 1 1", Err(ScriptFault::Bad(1))),
     ];
     for (text, wanted) in cases {
-        assert_eq!(rt; count_lines(rt.alloc(), text), wanted);
+        assert_same(&rt, count_lines(rt.alloc(), text), wanted);
     }
 }
 
@@ -163,12 +166,12 @@ fn a_line_of_a_hold_has_its_words(rt: HostRuntime) {
         (b"1 drop\n1 drop a\n1 next 0", Err(ScriptFault::Bad(2))),
     ];
     for (text, wanted) in cases {
-        assert_eq!(rt; count_lines(rt.alloc(), text), wanted);
+        assert_same(&rt, count_lines(rt.alloc(), text), wanted);
     }
 }
 
 fn add_text(rt: &impl Abort, text: &mut Vec<u8>, more: &[u8]) {
-    assert!(rt; text.extend_from_slice(more).is_ok());
+    assert_that(rt, text.extend_from_slice(more).is_ok());
 }
 
 // A line, so many times.
@@ -193,7 +196,7 @@ fn a_script_asks_for_so_many_rows(rt: HostRuntime) {
     for (more, wanted) in cases {
         let mut text = repeated(&rt, rt.alloc(), b"1 next 32\n", MOST_ROWS_ASKED / 32);
         add_text(&rt, &mut text, more);
-        assert_eq!(rt; count_lines(rt.alloc(), &text), wanted);
+        assert_same(&rt, count_lines(rt.alloc(), &text), wanted);
     }
 }
 
@@ -214,18 +217,19 @@ fn keys_and_texts_have_their_limits(rt: HostRuntime) {
         (64, 436, Err(ScriptFault::Bad(1))),
     ] {
         let line = put_line(&rt, rt.alloc(), key_len, text_len);
-        assert_eq!(rt; count_lines(rt.alloc(), &line), wanted);
+        assert_same(&rt, count_lines(rt.alloc(), &line), wanted);
     }
 }
 
 #[test]
 fn scripts_have_their_limit(rt: HostRuntime) {
     let mut text = repeated(&rt, rt.alloc(), b"1 get a\n", MOST_LINES);
-    assert_eq!(rt; count_lines(rt.alloc(), &text), Ok(65536));
+    assert_same(&rt, count_lines(rt.alloc(), &text), Ok(65536));
     add_text(&rt, &mut text, b"1 get a");
-    assert_eq!(rt;
+    assert_same(
+        &rt,
         count_lines(rt.alloc(), &text),
-        Err(ScriptFault::Bad(65537))
+        Err(ScriptFault::Bad(65537)),
     );
 }
 
@@ -301,8 +305,8 @@ fn is_printed(
 ) {
     let mut sink = sink(rt, alloc, 2000, &[]);
     let answer = print_history(&mut sink, charge, annals, totals);
-    assert_eq!(rt; answer, Ok(()));
-    assert_eq!(rt; sink.bytes(), text);
+    assert_same(rt, answer, Ok(()));
+    assert_same(rt, sink.bytes(), text);
 }
 
 #[test]
@@ -337,9 +341,9 @@ fn is_printed_to(
 ) {
     let mut sink = sink(rt, alloc, 1000, &[call]);
     let faults = if answer.is_ok() { 0 } else { 1 };
-    assert_eq!(rt; print_history(&mut sink, 0, annals, &totals(16)), answer);
-    assert_eq!(rt; sink.bytes(), text);
-    assert_eq!(rt; sink.faults(), faults);
+    assert_same(rt, print_history(&mut sink, 0, annals, &totals(16)), answer);
+    assert_same(rt, sink.bytes(), text);
+    assert_same(rt, sink.faults(), faults);
 }
 
 // The history is printed in calls of these parts: a sink that fails at a call holds the parts before it, and there is no
@@ -390,10 +394,11 @@ fn a_sink_with_too_little_room_holds_a_front(rt: HostRuntime) {
     let annals = four_entries(&rt, rt.alloc());
     let mut sink = sink(&rt, rt.alloc(), 40, &[]);
     let answer = print_history(&mut sink, 0, &annals, &totals(16));
-    assert_eq!(rt; answer, Err(Failed));
-    assert_eq!(rt;
+    assert_same(&rt, answer, Err(Failed));
+    assert_same(
+        &rt,
         sink.bytes(),
-        b"open charge 0\n1 1 put a 5 hi => ok q0\n".as_slice()
+        b"open charge 0\n1 1 put a 5 hi => ok q0\n".as_slice(),
     );
 }
 
@@ -429,7 +434,7 @@ fn note_nexts(rt: &impl Abort, annals: &mut Annals) {
 fn note_work(rt: &impl Abort, annals: &mut Annals) {
     note_last(rt, annals, Op::Work(1000), Reply::Did(6));
     assert!(rt; 9 < annals.len());
-    assert!(rt; annals.quanta(9) == 0);
+    assert_that(rt, annals.quanta(9) == 0);
     annals.count(9, 12);
 }
 

@@ -1,4 +1,5 @@
 // Sources and sinks in memory.
+use crate::asserts::assert_same;
 use crate::samples::sink;
 use refusal::Failed;
 use std::alloc::Global;
@@ -19,14 +20,14 @@ fn faultless(rt: &impl Abort, alloc: Global, bytes: &[u8]) -> FaultlessSource {
 fn gives<S: Source>(rt: &impl Abort, source: &mut S, bytes: &[u8]) {
     let mut piece = [0u8; 3];
     let answer = source.read(&mut piece);
-    assert_eq!(rt; answer, Ok(bytes.len()));
+    assert_same(rt, answer, Ok(bytes.len()));
     assert!(rt; bytes.len() <= 3);
-    assert_eq!(rt; &piece[..bytes.len()], bytes);
+    assert_same(rt, &piece[..bytes.len()], bytes);
 }
 
 fn read_fails<S: Source>(rt: &impl Abort, source: &mut S) {
     let mut piece = [0u8; 3];
-    assert_eq!(rt; source.read(&mut piece), Err(Failed));
+    assert_same(rt, source.read(&mut piece), Err(Failed));
 }
 
 #[test]
@@ -44,7 +45,7 @@ fn a_source_gives_its_bytes_but_for_listed_calls(rt: HostRuntime) {
 fn a_faultless_source_gives_its_bytes(rt: HostRuntime) {
     let mut source = faultless(&rt, rt.alloc(), b"xy");
     let no_room = source.read(&mut []);
-    assert_eq!(rt; no_room, Ok(0));
+    assert_same(&rt, no_room, Ok(0));
     gives(&rt, &mut source, b"xy");
     gives(&rt, &mut source, b"");
 }
@@ -59,10 +60,10 @@ fn a_sink_takes_bytes_but_for_listed_calls_and_its_limit(rt: HostRuntime) {
         (b"f", Err(Failed)),
         (b"", Ok(0)),
     ] {
-        assert_eq!(rt; sink.write(bytes), answer);
+        assert_same(&rt, sink.write(bytes), answer);
     }
-    assert_eq!(rt; sink.bytes(), b"abcde".as_slice());
-    assert_eq!(rt; sink.faults(), 2);
+    assert_same(&rt, sink.bytes(), b"abcde".as_slice());
+    assert_same(&rt, sink.faults(), 2);
 }
 
 #[test]
@@ -73,9 +74,9 @@ fn a_faultless_sink_fails_past_its_limit_alone(rt: HostRuntime) {
         (b"cd", Err(Failed)),
         (b"c", Ok(1)),
     ] {
-        assert_eq!(rt; sink.write(bytes), answer);
+        assert_same(&rt, sink.write(bytes), answer);
     }
-    assert_eq!(rt; sink.bytes(), b"abc".as_slice());
+    assert_same(&rt, sink.bytes(), b"abc".as_slice());
 }
 
 #[test]
@@ -87,9 +88,9 @@ fn a_whole_text_is_written_or_a_front_of_it(rt: HostRuntime) {
         (b"four", Ok(())),
         (b"", Ok(())),
     ] {
-        assert_eq!(rt; write_all(&mut sink, text), answer);
+        assert_same(&rt, write_all(&mut sink, text), answer);
     }
-    assert_eq!(rt; sink.bytes(), b"one four".as_slice());
+    assert_same(&rt, sink.bytes(), b"one four".as_slice());
 }
 
 #[test]
@@ -104,7 +105,7 @@ fn a_source_is_read_to_its_end_up_to_a_limit(rt: HostRuntime) {
     ] {
         let mut source = source(&rt, rt.alloc(), b"abcde", &fails);
         let got = read_all(rt.alloc(), &mut source, limit).map(|bytes| bytes.len());
-        assert_eq!(rt; got, wanted);
+        assert_same(&rt, got, wanted);
     }
 }
 
@@ -112,7 +113,7 @@ fn a_source_is_read_to_its_end_up_to_a_limit(rt: HostRuntime) {
 fn is_read_whole(rt: &impl Abort, alloc: Global, text: &[u8]) {
     let mut source = faultless(rt, alloc, text);
     let bytes = read_all(alloc, &mut source, text.len()).expect(rt, "all");
-    assert_eq!(rt; bytes.as_slice(), text);
+    assert_same(rt, bytes.as_slice(), text);
 }
 
 #[test]

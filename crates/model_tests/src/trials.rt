@@ -4,6 +4,7 @@ ghost use Rattle.std.specs.List.{All};
 ghost use Rattle.blsm_model.specs.Format.{most_lines};
 ghost use Rattle.script_text.specs.Generated.{HasMadeKeys};
 
+use crate::asserts::{assert_same, assert_that};
 use crate::samples::{key, sink, value};
 use crate::scripts::note;
 use blsm_model::{Annals, Entry, Line, Op, Plain, Totals, run};
@@ -24,14 +25,14 @@ fn is_put(rt: &impl Abort, script: &Script, place: usize, name: &[u8], count: u6
 // The line of this place is this one, of seat 0.
 fn is_line(rt: &impl Abort, script: &Script, place: usize, op: Op) {
     let line = script.lines().get(place).expect(rt, "so many");
-    assert!(rt; *line == Line { seat: 0, op });
+    assert_that(rt, *line == Line { seat: 0, op });
 }
 
 fn of_seed(rt: &impl Abort, alloc: Global, seed: u64, count: u32) -> Script
     requires { count ≤ most_lines }
 {
     let script = generate(alloc, seed, count).expect(rt, "memory");
-    assert_eq!(rt; script.lines().len(), count as usize);
+    assert_same(rt, script.lines().len(), count as usize);
     script
 }
 
@@ -120,8 +121,8 @@ fn is_summed_up(rt: &impl Abort, alloc: Global, seed: u64, count: u32, annals: &
 {
     let mut sink = sink(rt, alloc, 1000, &[]);
     let answer = print_summary(&mut sink, seed, count, annals, &TOTALS);
-    assert_eq!(rt; answer, Ok(()));
-    assert_eq!(rt; sink.bytes(), text);
+    assert_same(rt, answer, Ok(()));
+    assert_same(rt, sink.bytes(), text);
 }
 
 const OF_SEED_7: &[u8] = b"trial seed 7 count 1000
@@ -165,6 +166,6 @@ fn a_summary_over_a_sink_that_fails(rt: HostRuntime) {
     let annals = play(&rt, rt.alloc(), 0, 0, 0);
     let mut failing = sink(&rt, rt.alloc(), 1000, &[1]);
     let answer = print_summary(&mut failing, 0, 0, &annals, &TOTALS);
-    assert_eq!(rt; answer, Err(Failed));
-    assert_eq!(rt; failing.bytes(), b"".as_slice());
+    assert_same(&rt, answer, Err(Failed));
+    assert_same(&rt, failing.bytes(), b"".as_slice());
 }
