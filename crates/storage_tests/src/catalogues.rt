@@ -4,6 +4,7 @@ ghost use Rattle.blsm_model.specs.Geometry.{file_length};
 ghost use Rattle.blsm_model.specs.Lanes.{spare_of};
 ghost use Rattle.disk_mem.specs.Recorded.{told};
 
+use crate::asserts::{assert_same, assert_same_at, assert_that};
 use crate::samples::{disk_of, has_bytes, put, smallest};
 use blsm_model::{Component, Geometry};
 use catalog_swap::{
@@ -231,8 +232,8 @@ fn reads_as(
     let geo = smallest(rt);
     let mut disk = make_disk(rt, alloc, &geo, odd, even);
     let found = newest(&mut disk, &geo).map(|catalog| catalog.version);
-    assert_eq!(rt; found, outcome);
-    assert_eq!(rt; disk.faults(), 0);
+    assert_same(rt, found, outcome);
+    assert_same(rt, disk.faults(), 0);
 }
 
 #[test]
@@ -282,7 +283,7 @@ impl Pair {
         if found == Ok(self.now) {
             return false;
         }
-        assert_eq!(rt; found, Ok(self.next), "pick {pick}");
+        assert_same_at(rt, found, Ok(self.next), pick);
         true
     }
 
@@ -317,11 +318,12 @@ impl Pair {
         let mut disk = make_disk(rt, alloc, &geo, self.odd, self.even);
         disk.stop_after(calls + 2);
         let outcome = self.commit(&mut disk, &geo);
-        assert_eq!(rt; outcome.is_ok(), calls >= all, "after {calls} calls");
-        assert_eq!(rt;
+        assert_same_at(rt, outcome.is_ok(), calls >= all, calls);
+        assert_same_at(
+            rt,
             self.find(rt, &disk, &geo),
             (calls < all, calls + 2 >= all),
-            "after {calls} calls"
+            calls,
         );
     }
 }
@@ -349,7 +351,7 @@ fn third_slot() -> [u8; SLOT_LEN] {
 // The smallest store's disk with the third catalogue.
 fn with_third(rt: &impl Abort, alloc: Global, geo: &Geometry) -> MemDisk {
     let mut disk = make_disk(rt, alloc, geo, ODD, EVEN);
-    assert!(rt; second_and_third().commit(&mut disk, geo).is_ok());
+    assert_that(rt, second_and_third().commit(&mut disk, geo).is_ok());
     disk
 }
 
@@ -368,7 +370,7 @@ fn the_third_stands_where_the_first_stood(rt: HostRuntime) {
     }
     has_bytes(&rt, &mut disk, ODD_SLOT, third_slot());
     has_bytes(&rt, &mut disk, EVEN_SLOT, slot(EVEN));
-    assert_eq!(rt; read_slots(&rt, &mut disk, &geo), Ok(third()));
+    assert_same(&rt, read_slots(&rt, &mut disk, &geo), Ok(third()));
     one_newest();
     one_body();
     first_newest();

@@ -1,6 +1,7 @@
 // Disks and a shelf in memory: which calls fail, and what each crash image has.
 ghost use Rattle.std.specs.Prelude.{◌≤◌};
 
+use crate::asserts::{assert_same, assert_same_at, assert_that, assert_that_at};
 use disk_mem::{FaultlessDisk, MemDisk, MemShelf};
 use disk_trait::{Disk, Shelf};
 use std::alloc::Global;
@@ -23,18 +24,18 @@ fn make_disk(rt: &impl Abort, alloc: Global, kept: u64) -> MemDisk {
 }
 
 fn write<D: Disk>(rt: &impl Abort, disk: &mut D, at: u64, from: &[u8]) {
-    assert!(rt; disk.write(at, from).is_ok());
+    assert_that(rt, disk.write(at, from).is_ok());
 }
 
 fn read_two<D: Disk>(rt: &impl Abort, disk: &mut D) -> [u8; 2] {
     let mut two = [0; 2];
-    assert!(rt; disk.read(0, &mut two).is_ok());
+    assert_that(rt, disk.read(0, &mut two).is_ok());
     two
 }
 
 fn read_four<D: Disk>(rt: &impl Abort, disk: &mut D) -> [u8; 4] {
     let mut four = [0; 4];
-    assert!(rt; disk.read(0, &mut four).is_ok());
+    assert_that(rt, disk.read(0, &mut four).is_ok());
     four
 }
 
@@ -81,42 +82,30 @@ const ATTEMPTS: [(Attempt, bool, u64, u64); 9] = [
 // An attempt by itself.
 fn by_itself(rt: &impl Abort, alloc: Global, attempt: Attempt, expected: (bool, u64)) {
     let mut disk = make_disk(rt, alloc, RECORD);
-    assert_eq!(rt; outcome_of(&mut disk, attempt), expected, "{attempt:?}");
+    assert_same_at(rt, outcome_of(&mut disk, attempt), expected, attempt);
 }
 
 // Where its call is listed, which the next one isn't.
 fn by_list(rt: &impl Abort, alloc: Global, attempt: Attempt, faults: u64) {
     let mut disk = make_disk(rt, alloc, RECORD);
-    assert!(rt; disk.fail(3).is_ok());
-    assert_eq!(rt;
-        outcome_of(&mut disk, attempt),
-        (true, faults),
-        "{attempt:?}"
-    );
-    assert!(rt; disk.len().is_ok(), "{attempt:?}");
+    assert_that(rt, disk.fail(3).is_ok());
+    assert_same_at(rt, outcome_of(&mut disk, attempt), (true, faults), attempt);
+    assert_that_at(rt, disk.len().is_ok(), attempt);
 }
 
 // Behind a stop, which has no end.
 fn by_stop(rt: &impl Abort, alloc: Global, attempt: Attempt, faults: u64) {
     let mut disk = make_disk(rt, alloc, RECORD);
     disk.stop_after(2);
-    assert_eq!(rt;
-        outcome_of(&mut disk, attempt),
-        (true, faults),
-        "{attempt:?}"
-    );
-    assert!(rt; disk.len().is_err(), "{attempt:?}");
+    assert_same_at(rt, outcome_of(&mut disk, attempt), (true, faults), attempt);
+    assert_that_at(rt, disk.len().is_err(), attempt);
 }
 
 // At the end of the record, which has no end either. A call takes sixteen bytes of it, a write also its own.
 fn by_record(rt: &impl Abort, alloc: Global, attempt: Attempt, faults: u64) {
     let mut disk = make_disk(rt, alloc, 16 + 2 + 16 + 15);
-    assert_eq!(rt;
-        outcome_of(&mut disk, attempt),
-        (true, faults),
-        "{attempt:?}"
-    );
-    assert!(rt; disk.len().is_err(), "{attempt:?}");
+    assert_same_at(rt, outcome_of(&mut disk, attempt), (true, faults), attempt);
+    assert_that_at(rt, disk.len().is_err(), attempt);
 }
 
 #[test]
@@ -140,11 +129,11 @@ fn a_faultless_disk_fails_past_its_bytes_and_its_limit(rt: HostRuntime) {
     for (attempt, fails_alone, faults_alone, _) in ATTEMPTS {
         let mut disk = faultless(&rt, rt.alloc());
         let alone = outcome_of(&mut disk, attempt);
-        assert_eq!(rt; alone, (fails_alone, faults_alone), "{attempt:?}");
+        assert_same_at(&rt, alone, (fails_alone, faults_alone), attempt);
     }
     let mut disk = faultless(&rt, rt.alloc());
     write(&rt, &mut disk, 1, b"xyz");
-    assert_eq!(rt; read_four(&rt, &mut disk), *b"axyz");
+    assert_same(&rt, read_four(&rt, &mut disk), *b"axyz");
 }
 
 // What stands of a write over "ab" of "xy", and over "cd" of "zw", by its two digits as one number.
@@ -156,12 +145,12 @@ const BACKS: [[u8; 2]; 6] = [*b"cd", *b"zd", *b"zw", [0, b'd'], [b'z', 0], [0, 0
 fn torn(rt: &impl Abort, alloc: Global, failing: u64) -> MemDisk {
     let mut disk = mem_disk(rt, alloc, LIMIT, RECORD);
     write(rt, &mut disk, 0, b"abcd");
-    assert!(rt; disk.sync().is_ok());
-    assert!(rt; disk.fail(failing).is_ok());
-    assert_eq!(rt; disk.write(0, b"xy").is_err(), failing == 3);
-    assert_eq!(rt; disk.write(2, b"zw").is_err(), failing == 4);
-    assert!(rt; disk.fail(5).is_ok());
-    assert!(rt; disk.sync().is_err());
+    assert_that(rt, disk.sync().is_ok());
+    assert_that(rt, disk.fail(failing).is_ok());
+    assert_same(rt, disk.write(0, b"xy").is_err(), failing == 3);
+    assert_same(rt, disk.write(2, b"zw").is_err(), failing == 4);
+    assert_that(rt, disk.fail(5).is_ok());
+    assert_that(rt, disk.sync().is_err());
     disk
 }
 
@@ -170,17 +159,17 @@ fn reads_torn(rt: &impl Abort, disk: &MemDisk, pick: u64) {
     let [a, b] = FRONTS[(pick % 6) as usize];
     let [c, d] = BACKS[(pick / 6 % 6) as usize];
     let mut image = image(rt, disk, pick);
-    assert_eq!(rt; read_four(rt, &mut image), [a, b, c, d], "{pick}");
-    assert_eq!(rt; image.faults(), 0);
+    assert_same_at(rt, read_four(rt, &mut image), [a, b, c, d], pick);
+    assert_same(rt, image.faults(), 0);
 }
 
 // After a sync that ends well each image is as the disk reads.
 fn settles(rt: &impl Abort, mut disk: MemDisk) {
-    assert!(rt; disk.sync().is_ok());
+    assert_that(rt, disk.sync().is_ok());
     let reads = read_four(rt, &mut disk);
     for pick in [0, 2, 35] {
         let mut image = image(rt, &disk, pick);
-        assert_eq!(rt; read_four(rt, &mut image), reads, "{pick}");
+        assert_same_at(rt, read_four(rt, &mut image), reads, pick);
     }
 }
 
@@ -204,8 +193,8 @@ fn images_end_anywhere_in_a_torn_write_past_the_end(rt: HostRuntime) {
     write(&rt, &mut disk, 2, b"cd");
     for (pick, length) in [(0, 2), (1, 3), (2, 4), (3, 3), (4, 4), (5, 4)] {
         let mut image = image(&rt, &disk, pick);
-        assert_eq!(rt; image.len(), Ok(length), "{pick}");
-        assert_eq!(rt; read_two(&rt, &mut image), *b"ab", "{pick}");
+        assert_same_at(&rt, image.len(), Ok(length), pick);
+        assert_same_at(&rt, read_two(&rt, &mut image), *b"ab", pick);
     }
 }
 
@@ -215,7 +204,7 @@ const WRITES: u64 = 64;
 fn make_pending(rt: &impl Abort, alloc: Global) -> MemDisk {
     let mut disk = mem_disk(rt, alloc, 2 * WRITES, 4_000);
     write(rt, &mut disk, 0, &[b'.'; 128]);
-    assert!(rt; disk.sync().is_ok());
+    assert_that(rt, disk.sync().is_ok());
     for place in 0..WRITES {
         write(rt, &mut disk, 2 * place, b"xy");
     }
@@ -250,11 +239,12 @@ fn stand(
     let mut image = image(rt, disk, pick);
     for at in 0..WRITES {
         let mut pair = [0; 2];
-        assert!(rt; image.read(2 * at, &mut pair).is_ok());
-        assert_eq!(rt;
+        assert_that(rt, image.read(2 * at, &mut pair).is_ok());
+        assert_same_at(
+            rt,
             pair,
             pair_at(at, (kind, place), torn),
-            "{kind} {place} {at}"
+            (kind, place, at),
         );
     }
 }
@@ -300,24 +290,24 @@ fn images_have_fronts_and_all_but_one_of_many_writes(rt: HostRuntime) {
 
 // The disk reads so, and its first image too.
 fn both_read(rt: &impl Abort, disk: &mut MemDisk, two: [u8; 2]) {
-    assert_eq!(rt; read_two(rt, disk), two);
+    assert_same(rt, read_two(rt, disk), two);
     let mut image = image(rt, disk, 0);
-    assert_eq!(rt; read_two(rt, &mut image), two);
+    assert_same(rt, read_two(rt, &mut image), two);
 }
 
 // The bytes change before their call, and in each image from that call on; what is written over them later may stand.
 #[test]
 fn a_poke_changes_bytes_and_images_from_its_call_on(rt: HostRuntime) {
     let mut disk = make_disk(&rt, rt.alloc(), RECORD);
-    assert!(rt; disk.poke(4, 1, b"xyz").is_ok());
+    assert_that(&rt, disk.poke(4, 1, b"xyz").is_ok());
     both_read(&rt, &mut disk, *b"ab");
     both_read(&rt, &mut disk, *b"ax");
     write(&rt, &mut disk, 0, b"cd");
     for (pick, reads) in [(0, *b"ax"), (1, *b"cx"), (2, *b"cd")] {
         let mut image = image(&rt, &disk, pick);
-        assert_eq!(rt; read_two(&rt, &mut image), reads, "{pick}");
+        assert_same_at(&rt, read_two(&rt, &mut image), reads, pick);
     }
-    assert_eq!(rt; disk.len(), Ok(2));
+    assert_same(&rt, disk.len(), Ok(2));
 }
 
 // A shelf with room for so many fetches, and disks of these names.
@@ -325,7 +315,7 @@ fn shelf_of(rt: &impl Abort, alloc: Global, fetches: u32, names: &[&str]) -> Mem
     let mut shelf = MemShelf::new(alloc, fetches).expect(rt, "memory");
     for name in names {
         let disk = make_disk(rt, alloc, RECORD);
-        assert!(rt; shelf.put(alloc, name, disk).is_ok());
+        assert_that(rt, shelf.put(alloc, name, disk).is_ok());
     }
     shelf
 }
@@ -335,7 +325,7 @@ fn fetch(rt: &impl Abort, shelf: &mut MemShelf, name: &str) -> MemDisk {
 }
 
 fn is_out(rt: &impl Abort, shelf: &mut MemShelf, name: &str, makes: bool) {
-    assert!(rt; shelf.fetch(name, makes).is_err(), "{name}");
+    assert_that_at(rt, shelf.fetch(name, makes).is_err(), name);
 }
 
 // Two disks are written and given back. The first is given back twice, and the second time another disk, which is dropped.
@@ -344,7 +334,7 @@ fn write_both(rt: &impl Abort, alloc: Global, shelf: &mut MemShelf) {
     let mut right = shelf.fetch("right", true).expect(rt, "a disk");
     write(rt, &mut left, 0, b"lt");
     write(rt, &mut right, 0, b"rt");
-    assert!(rt; right.write(9, b"rt").is_err());
+    assert_that(rt, right.write(9, b"rt").is_err());
 
     // One that is out, and one that the shelf doesn't hold.
     is_out(rt, shelf, "left", false);
@@ -359,7 +349,7 @@ fn two_disks_of_a_shelf_are_out_at_once(rt: HostRuntime) {
     let mut shelf = shelf_of(&rt, rt.alloc(), 5, &["left", "right"]);
     write_both(&rt, rt.alloc(), &mut shelf);
     let mut left = fetch(&rt, &mut shelf, "left");
-    assert_eq!(rt; read_two(&rt, &mut left), *b"lt");
+    assert_same(&rt, read_two(&rt, &mut left), *b"lt");
 
     // There was room for five fetches.
     is_out(&rt, &mut shelf, "right", false);
@@ -369,9 +359,9 @@ fn two_disks_of_a_shelf_are_out_at_once(rt: HostRuntime) {
 fn a_disk_comes_back_with_its_count_at_zero(rt: HostRuntime) {
     let mut shelf = shelf_of(&rt, rt.alloc(), 2, &["mem"]);
     let mut disk = fetch(&rt, &mut shelf, "mem");
-    assert!(rt; disk.write(2, b"xyz").is_err());
-    assert_eq!(rt; disk.faults(), 1);
+    assert_that(&rt, disk.write(2, b"xyz").is_err());
+    assert_same(&rt, disk.faults(), 1);
     shelf.give_back("mem", disk);
     let disk = fetch(&rt, &mut shelf, "mem");
-    assert_eq!(rt; disk.faults(), 0);
+    assert_same(&rt, disk.faults(), 0);
 }

@@ -3,6 +3,7 @@ ghost use Rattle.std.specs.Prelude.{◌≡◌, ◌≤◌, ◌<◌, ◌+◌, ◌-
 ghost use Rattle.refusal.specs.Count.{HasRisen};
 ghost use Rattle.disk_trait.specs.Untold.{untold_state, untold_timed, untold_as_read};
 
+use crate::asserts::assert_same_at;
 use crate::samples::put;
 use disk_trait::Disk;
 use gated_write::{OPEN, write_gated};
@@ -113,10 +114,10 @@ fn written(rt: &impl Abort, failing: u64, ends_well: bool, bytes: [u8; SIZE], ca
     let mut slate = Slate::new(failing);
     let outcome = write_gated(&mut slate, 2, &[5, 6]);
     let faults = if ends_well { 0 } else { 1 };
-    assert_eq!(rt; outcome.is_ok(), ends_well, "call {failing}");
-    assert_eq!(rt; slate.bytes, bytes, "call {failing}");
-    assert_eq!(rt; slate.calls, calls, "call {failing}");
-    assert_eq!(rt; slate.faults(), faults, "call {failing}");
+    assert_same_at(rt, outcome.is_ok(), ends_well, failing);
+    assert_same_at(rt, slate.bytes, bytes, failing);
+    assert_same_at(rt, slate.calls, calls, failing);
+    assert_same_at(rt, slate.faults(), faults, failing);
 }
 
 // The gate opens with the third call, once the text was written and synced; a call that fails ends it there.

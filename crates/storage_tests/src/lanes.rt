@@ -9,6 +9,7 @@ ghost use Rattle.record_delta.specs.declared.record.Rec.{Rec};
 ghost use Rattle.blsm_model.specs.Lanes.{region_length};
 ghost use Rattle.gated_log.specs.Lane.{HasEntries, IsDamaged};
 
+use crate::asserts::{assert_same, assert_same_at, assert_that, assert_that_at};
 use crate::samples::{blank, has_bytes, smallest};
 use blsm_model::{Geometry, Key, Text, Value};
 use disk_mem::MemDisk;
@@ -55,7 +56,10 @@ fn write_lane(rt: &impl Abort, disk: &mut MemDisk, geometry: &Geometry, lane: u8
     ensures { length (told disk.new).bytes ≡ file_length geometry.now }
 {
     let _length = region_len(geometry);
-    assert!(rt; disk.write(place_in_file(geometry, lane, 0), bytes).is_ok());
+    assert_that(
+        rt,
+        disk.write(place_in_file(geometry, lane, 0), bytes).is_ok(),
+    );
 }
 
 // Appends an entry that fits.
@@ -97,10 +101,7 @@ fn append_times(
     ensures length { length (told disk.new).bytes ≡ file_length geometry.now }
 {
     for i in 0..times {
-        assert!(rt;
-            append(rt, disk, geometry, lanes, lane, key, rec),
-            "entry {i}"
-        );
+        assert_that_at(rt, append(rt, disk, geometry, lanes, lane, key, rec), i);
     }
 }
 
@@ -117,7 +118,7 @@ fn answers(
     ensures sizes { replay.new.sizes ≡ geometry.now }
     ensures length { length (told disk.new).bytes ≡ file_length geometry.now }
 {
-    assert!(rt; replay.next(disk) == expected);
+    assert_that(rt, replay.next(disk) == expected);
 }
 
 // A lane has so many entries, or this is wrong with it.
@@ -132,7 +133,7 @@ fn has_count(
     requires length { length (told disk.old).bytes ≡ file_length geometry.now }
     ensures { length (told disk.new).bytes ≡ file_length geometry.now }
 {
-    assert!(rt; count(disk, geometry, lane) == outcome, "lane {lane}");
+    assert_that_at(rt, count(disk, geometry, lane) == outcome, lane);
 }
 
 fn key(rt: &impl Abort, bytes: &[u8]) -> Key {
@@ -155,10 +156,13 @@ fn write_two(rt: &impl Abort, disk: &mut MemDisk, geometry: &Geometry)
     let mut lanes = Lanes::resume(geometry, [0, 1, 2], [0, 0, 0]);
     let a = key(rt, b"a");
     let put = base(rt, 5, b"hi");
-    assert!(rt; append(rt, disk, geometry, &mut lanes, 0, &a, &put));
-    assert_eq!(rt; lanes.end(0), 17);
-    assert!(rt; append(rt, disk, geometry, &mut lanes, 0, &a, &Rec::Tomb));
-    assert_eq!(rt; lanes.end(0), 32);
+    assert_that(rt, append(rt, disk, geometry, &mut lanes, 0, &a, &put));
+    assert_same(rt, lanes.end(0), 17);
+    assert_that(
+        rt,
+        append(rt, disk, geometry, &mut lanes, 0, &a, &Rec::Tomb),
+    );
+    assert_same(rt, lanes.end(0), 32);
 }
 
 // They are read back, and behind them nothing, twice.
@@ -169,12 +173,12 @@ fn read_two(rt: &impl Abort, disk: &mut MemDisk, geometry: &Geometry)
     let mut replay = Replay::new(geometry, 0);
     let put = Some((key(rt, b"a"), base(rt, 5, b"hi")));
     answers(rt, disk, geometry, &mut replay, Ok(put));
-    assert_eq!(rt; replay.end(), 17);
+    assert_same(rt, replay.end(), 17);
     let del = Some((key(rt, b"a"), Rec::Tomb));
     answers(rt, disk, geometry, &mut replay, Ok(del));
     answers(rt, disk, geometry, &mut replay, Ok(None));
     answers(rt, disk, geometry, &mut replay, Ok(None));
-    assert_eq!(rt; replay.end(), 32);
+    assert_same(rt, replay.end(), 32);
 }
 
 #[test]
@@ -190,7 +194,7 @@ fn a_put_and_a_del_are_read_back(rt: HostRuntime) {
         4_096,
         *b"\x01\x01\x00\x01\x00\x02\x00\x00\x00\x00\x00\x00\x00\x05ahi\x01\x03\x00\x01\x00\x00\x00\x00\x00\x00\x00\x00\x00\x00a\x00",
     );
-    assert_eq!(rt; disk.faults(), 0);
+    assert_same(&rt, disk.faults(), 0);
 }
 
 // A lane's first bytes, and how many entries it has or what is wrong with it.
@@ -257,10 +261,10 @@ fn reads_as(rt: &impl Abort, alloc: Global, row: &Row) {
     assert!(rt; row.lane < 3);
     assert!(rt; row.bytes.len() <= 100);
     write_lane(rt, &mut disk, &geometry, row.lane, row.bytes);
-    assert!(rt;
+    assert_that_at(
+        rt,
         count(&mut disk, &geometry, row.lane) == row.outcome,
-        "{:?}",
-        row.bytes
+        row.bytes,
     );
 }
 
@@ -282,8 +286,8 @@ fn fill(rt: &impl Abort, disk: &mut MemDisk, geometry: &Geometry)
     let longest = base(rt, u64::MAX, &[b't'; 435]);
     append_times(rt, disk, geometry, &mut lanes, 1, &key, &longest, 135);
     let last = base(rt, 0, &[b't'; 298]);
-    assert!(rt; append(rt, disk, geometry, &mut lanes, 1, &key, &last));
-    assert_eq!(rt; lanes.end(1), 69_631);
+    assert_that(rt, append(rt, disk, geometry, &mut lanes, 1, &key, &last));
+    assert_same(rt, lanes.end(1), 69_631);
 }
 
 // The gate at the end of a full lane is found open.
@@ -291,9 +295,9 @@ fn open_last_gate(rt: &impl Abort, disk: &mut MemDisk, geometry: &Geometry)
     requires { length (told disk.old).bytes ≡ file_length geometry.now }
     ensures { length (told disk.new).bytes ≡ file_length geometry.now }
 {
-    assert!(rt; region_len(geometry) == 69_632);
+    assert_that(rt, region_len(geometry) == 69_632);
     let place = place_in_file(geometry, 1, 69_631);
-    assert!(rt; disk.write(place, b"\x01").is_ok());
+    assert_that(rt, disk.write(place, b"\x01").is_ok());
 }
 
 // A lane of 69,632 bytes. The regions beside it stay as they were, and the gate at its end may be found open.
@@ -313,13 +317,13 @@ fn a_lane_is_full_to_its_last_byte(rt: HostRuntime) {
 fn append_failing(rt: &impl Abort, alloc: Global, call: u64, outcome: bool, end: u64, faults: u64) {
     let geometry = smallest(rt);
     let mut disk = blank(rt, alloc, &geometry, 1_000);
-    assert!(rt; disk.fail(call).is_ok());
+    assert_that(rt, disk.fail(call).is_ok());
     let mut lanes = Lanes::resume(&geometry, [0, 1, 2], [0, 0, 0]);
     let a = key(rt, b"a");
     let done = append(rt, &mut disk, &geometry, &mut lanes, 0, &a, &Rec::Tomb);
-    assert_eq!(rt; done, outcome, "call {call}");
-    assert_eq!(rt; lanes.end(0), end, "call {call}");
-    assert_eq!(rt; disk.faults(), faults, "call {call}");
+    assert_same_at(rt, done, outcome, call);
+    assert_same_at(rt, lanes.end(0), end, call);
+    assert_same_at(rt, disk.faults(), faults, call);
 }
 
 // The disk fails at one of the four calls of an append, or at none of them.
@@ -342,7 +346,7 @@ fn failing_next(rt: &impl Abort, alloc: Global, geometry: &Geometry) -> MemDisk
 {
     let mut disk = blank(rt, alloc, geometry, 1_000);
     write_lane(rt, &mut disk, geometry, 0, b"\x01\x00");
-    assert!(rt; disk.fail(4).is_ok());
+    assert_that(rt, disk.fail(4).is_ok());
     disk
 }
 
@@ -358,18 +362,18 @@ fn a_read_that_fails_is_a_fault(rt: HostRuntime) {
         &mut replay,
         Err(LaneBroken::Fault),
     );
-    assert_eq!(rt; (disk.faults(), replay.end()), (1, 0));
+    assert_same(&rt, (disk.faults(), replay.end()), (1, 0));
     answers(&rt, &mut disk, &geometry, &mut replay, Ok(None));
-    assert_eq!(rt; (disk.faults(), replay.end()), (1, 0));
+    assert_same(&rt, (disk.faults(), replay.end()), (1, 0));
 }
 
 #[test]
 fn the_lanes_turn(rt: HostRuntime) {
     let geometry = smallest(&rt);
     let mut lanes = Lanes::resume(&geometry, [2, 0, 1], [32, 7, 17]);
-    assert_eq!(rt; (lanes.a(), lanes.b(), lanes.spare()), (2, 0, 1));
+    assert_same(&rt, (lanes.a(), lanes.b(), lanes.spare()), (2, 0, 1));
     lanes.turn();
-    assert_eq!(rt; (lanes.a(), lanes.b(), lanes.spare()), (0, 1, 2));
-    assert_eq!(rt; (lanes.end(0), lanes.end(1), lanes.end(2)), (32, 0, 17));
+    assert_same(&rt, (lanes.a(), lanes.b(), lanes.spare()), (0, 1, 2));
+    assert_same(&rt, (lanes.end(0), lanes.end(1), lanes.end(2)), (32, 0, 17));
     kept_lanes();
 }

@@ -3,6 +3,7 @@ ghost use Rattle.std.specs.Prelude.{◌≡◌, length};
 ghost use Rattle.blsm_model.specs.Geometry.{file_length};
 ghost use Rattle.disk_mem.specs.Recorded.{told};
 
+use crate::asserts::{assert_same, assert_that};
 use blsm_model::Geometry;
 use disk_mem::MemDisk;
 use disk_trait::Disk;
@@ -24,8 +25,8 @@ pub fn disk_of(rt: &impl Abort, alloc: Global, geo: &Geometry, bytes: &[u8], rec
     let length = geo.length();
     let kept = length.saturating_add(u64::from(record));
     let mut disk = MemDisk::new(alloc, length, kept).expect(rt, "memory");
-    assert!(rt; disk.write(0, bytes).is_ok());
-    assert!(rt; disk.sync().is_ok());
+    assert_that(rt, disk.write(0, bytes).is_ok());
+    assert_that(rt, disk.sync().is_ok());
     disk
 }
 
@@ -40,8 +41,8 @@ pub fn blank(rt: &impl Abort, alloc: Global, geo: &Geometry, record: u32) -> Mem
 /// Whether the bytes of a disk from an offset on are these.
 pub fn has_bytes<const N: usize>(rt: &impl Abort, disk: &mut MemDisk, at: u64, bytes: [u8; N]) {
     let mut found = [0xee; N];
-    assert!(rt; disk.read(at, &mut found).is_ok());
-    assert_eq!(rt; found, bytes);
+    assert_that(rt, disk.read(at, &mut found).is_ok());
+    assert_same(rt, found, bytes);
 }
 
 /// Puts bytes over others from a place on, as far as there are any.

@@ -1,6 +1,7 @@
 // Making and reading, over disks in memory.
 ghost use Rattle.std.specs.Prelude.{◌+◌, ◌≤◌};
 
+use crate::asserts::{assert_same, assert_same_at, assert_that};
 use crate::samples::{SMALLEST_LENGTH, put, smallest};
 use blsm_model::Geometry;
 use disk_mem::{FaultlessDisk, MemDisk};
@@ -24,13 +25,13 @@ const DEFAULT_LENGTH: u64 = 23_511_040;
 // A store that was made on a disk with room for so many bytes.
 fn make(rt: &impl Abort, alloc: Global, length: u64, geometry: &Geometry) -> FaultlessDisk {
     let mut disk = FaultlessDisk::new(alloc, length).expect(rt, "memory");
-    assert!(rt; make_store(&mut disk, geometry).is_ok());
+    assert_that(rt, make_store(&mut disk, geometry).is_ok());
     disk
 }
 
 fn read<const N: usize>(rt: &impl Abort, disk: &mut FaultlessDisk, at: u64) -> [u8; N] {
     let mut found = [0; N];
-    assert!(rt; disk.read(at, &mut found).is_ok());
+    assert_that(rt, disk.read(at, &mut found).is_ok());
     found
 }
 
@@ -38,11 +39,11 @@ fn read<const N: usize>(rt: &impl Abort, disk: &mut FaultlessDisk, at: u64) -> [
 fn the_default_store_is_made_and_read(rt: HostRuntime) {
     let geometry = Geometry::default();
     let mut disk = make(&rt, rt.alloc(), DEFAULT_LENGTH, &geometry);
-    assert_eq!(rt; disk.len(), Ok(DEFAULT_LENGTH));
-    assert_eq!(rt; read::<27>(&rt, &mut disk, 0), DEFAULT_SUPERBLOCK);
-    assert_eq!(rt; read::<20>(&rt, &mut disk, 512), CATALOGUE_BEGINS);
-    assert_eq!(rt; read_geometry(&mut disk), Ok(geometry));
-    assert_eq!(rt; read_store(&mut disk), Ok(geometry));
+    assert_same(&rt, disk.len(), Ok(DEFAULT_LENGTH));
+    assert_same(&rt, read::<27>(&rt, &mut disk, 0), DEFAULT_SUPERBLOCK);
+    assert_same(&rt, read::<20>(&rt, &mut disk, 512), CATALOGUE_BEGINS);
+    assert_same(&rt, read_geometry(&mut disk), Ok(geometry));
+    assert_same(&rt, read_store(&mut disk), Ok(geometry));
     one_geometry();
 }
 
@@ -63,12 +64,12 @@ fn reads_as(rt: &impl Abort, disk: &mut FaultlessDisk, geometry: Geometry, reads
         NotAStore => (Err(StoreBroken::NotAStore), Err(StoreBroken::NotAStore)),
         DamagedSlots => (Err(StoreBroken::DamagedSlots), Ok(geometry)),
     };
-    assert_eq!(rt; read_store(disk), whole);
-    assert_eq!(rt; read_geometry(disk), alone);
+    assert_same(rt, read_store(disk), whole);
+    assert_same(rt, read_geometry(disk), alone);
 }
 
 fn write_byte(rt: &impl Abort, disk: &mut FaultlessDisk, at: u64, byte: [u8; 1]) {
-    assert!(rt; disk.write(at, &byte).is_ok());
+    assert_that(rt, disk.write(at, &byte).is_ok());
 }
 
 // One byte is changed, and then as it was.
@@ -130,11 +131,12 @@ fn is_no_store(rt: &impl Abort, alloc: Global, length: u64, head: &[u8])
     let mut file = vec![in alloc; 0; length as usize].expect(rt, "memory");
     put(&mut file, 0, head);
     let mut disk = FaultlessDisk::new(alloc, SMALLEST_LENGTH + 1).expect(rt, "memory");
-    assert!(rt; disk.write(0, file.as_slice()).is_ok());
-    assert_eq!(rt;
+    assert_that(rt, disk.write(0, file.as_slice()).is_ok());
+    assert_same_at(
+        rt,
         read_store(&mut disk),
         Err(StoreBroken::NotAStore),
-        "{length} bytes"
+        length,
     );
 }
 
@@ -159,7 +161,7 @@ fn is_made(rt: &impl Abort, disk: &MemDisk, geometry: &Geometry, pick: u64) -> b
     if found == Ok(*geometry) {
         return true;
     }
-    assert_eq!(rt; found, Err(StoreBroken::NotAStore));
+    assert_same(rt, found, Err(StoreBroken::NotAStore));
     false
 }
 
@@ -183,12 +185,8 @@ fn stops_after(rt: &impl Abort, alloc: Global, calls: u64, picks: u64, finds: (b
     let mut disk = MemDisk::new(alloc, SMALLEST_LENGTH, kept).expect(rt, "memory");
     disk.stop_after(calls);
     let outcome = make_store(&mut disk, &geometry);
-    assert_eq!(rt; outcome.is_ok(), calls == 857, "after {calls} calls");
-    assert_eq!(rt;
-        find(rt, &disk, &geometry, picks),
-        finds,
-        "after {calls} calls"
-    );
+    assert_same_at(rt, outcome.is_ok(), calls == 857, calls);
+    assert_same_at(rt, find(rt, &disk, &geometry, picks), finds, calls);
 }
 
 // The smallest store is made over a disk that stops after so many calls. Each image that is picked is no store, but where the
