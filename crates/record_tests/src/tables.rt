@@ -1,6 +1,7 @@
 // The memory table, beside the list of the writes.
 ghost use Rattle.std.specs.Prelude.{◌≡◌, ◌<◌};
 
+use crate::asserts::{assert_same, assert_that};
 use crate::samples::{base, key, value};
 use blsm_model::{Key, Value, Write, value_of};
 use mem_table::{Above, Steps, Table};
@@ -104,18 +105,18 @@ fn place_among(keys: &[Key], key: &Key) -> Option<u32> {
 // The table has a key's place and record as the lists do, whichever way they are looked up.
 fn as_written(rt: &impl Abort, table: &Table, written: &Written, key: &Key) {
     let record = fold_writes(&written.writes, key);
-    assert_eq!(rt; table.place_of(key), place_among(&written.keys, key));
+    assert_same(rt, table.place_of(key), place_among(&written.keys, key));
     let found = searched::<Brand>(table, key, Blank::new(1));
-    assert_eq!(rt; found, record);
-    assert_eq!(rt; table.get(key), record);
-    assert_eq!(rt; settled(table, key), value_of(&written.writes, key));
+    assert_same(rt, &found, &record);
+    assert_same(rt, table.get(key), record);
+    assert_same(rt, settled(table, key), value_of(&written.writes, key));
 }
 
 fn note(rt: &impl Abort, written: &mut Written, write: Write) {
     let key = key_of(&write);
-    assert!(rt; written.writes.push(write).is_ok());
+    assert_that(rt, written.writes.push(write).is_ok());
     if place_among(&written.keys, &key).is_none() {
-        assert!(rt; written.keys.push(key).is_ok());
+        assert_that(rt, written.keys.push(key).is_ok());
     }
 }
 
@@ -140,15 +141,15 @@ fn walk(rt: &impl Abort, table: &Table, keys: &[Key]) {
         next = match next {
             Some((key, rec)) => {
                 assert!(rt; place_among(keys, &key).is_some());
-                assert_eq!(rt; table.get(&key), Some(rec.copy()));
+                assert_same(rt, table.get(&key), Some(rec.copy()));
                 weights = weights.wrapping_add(weight(&key, &rec));
                 table.least_above(Some(key))
             }
             None => rt.abort(),
         };
     }
-    assert!(rt; next.is_none());
-    assert_eq!(rt; weights, table.weight());
+    assert_that(rt, next.is_none());
+    assert_same(rt, weights, table.weight());
 }
 
 // A pass: so many writes, from key to key, and the table is empty again.
@@ -198,13 +199,13 @@ fn searched<L: Ledger>(table: &Table, key: &Key, blank: Blank) -> Option<Rec>
 fn has(rt: &impl Abort, table: &Table, name: &[u8], rec: Option<Rec>) {
     let key = key(rt, name);
     let found = searched::<Brand>(table, &key, Blank::new(1));
-    assert_eq!(rt; found, table.get(&key));
-    assert_eq!(rt; found, rec);
+    assert_same(rt, &found, &table.get(&key));
+    assert_same(rt, found, rec);
 }
 
 // It came as this one in the order of the keys, from 0 on.
 fn stands_at(rt: &impl Abort, table: &Table, name: &[u8], place: Option<u32>) {
-    assert_eq!(rt; table.place_of(&key(rt, name)), place);
+    assert_same(rt, table.place_of(&key(rt, name)), place);
 }
 
 // Behind the key of these letters, or from the first key on, the next one is this.
@@ -213,12 +214,12 @@ fn goes_on(rt: &impl Abort, table: &Table, name: Option<&[u8]>, next: &[u8], rec
         Some(name) => Some(key(rt, name)),
         None => None,
     };
-    assert_eq!(rt; table.least_above(from), Some((key(rt, next), rec)));
+    assert_same(rt, table.least_above(from), Some((key(rt, next), rec)));
 }
 
 fn is_empty(rt: &impl Abort, table: &Table) {
-    assert!(rt; table.least_above(None).is_none());
-    assert_eq!(rt; table.weight(), 0);
+    assert_that(rt, table.least_above(None).is_none());
+    assert_same(rt, table.weight(), 0);
     has(rt, table, b"a", None);
 }
 
@@ -230,12 +231,12 @@ fn three_keys_in_order(rt: HostRuntime) {
     fold_of(&rt, &mut table, b"aa", Rec::Tomb);
     fold_of(&rt, &mut table, b"a", Rec::Delta(7));
     fold_of(&rt, &mut table, b"b", Rec::Delta(u64::MAX));
-    assert_eq!(rt; table.weight(), 14 + 15 + 16);
+    assert_same(&rt, table.weight(), 14 + 15 + 16);
     has(&rt, &table, b"b", Some(base(&rt, 4, b"hi")));
     goes_on(&rt, &table, None, b"a", Rec::Delta(7));
     goes_on(&rt, &table, Some(b"a"), b"aa", Rec::Tomb);
     goes_on(&rt, &table, Some(b"ab"), b"b", base(&rt, 4, b"hi"));
-    assert!(rt; table.least_above(Some(key(&rt, b"b"))).is_none());
+    assert_that(&rt, table.least_above(Some(key(&rt, b"b"))).is_none());
     table.clear();
     is_empty(&rt, &table);
     fold_of(&rt, &mut table, b"b", Rec::Delta(1));
@@ -275,15 +276,15 @@ fn a_table_from_a_key_on(rt: HostRuntime) {
         table: &table,
         key: None,
     };
-    assert_eq!(rt; head_of(&all), Some((key(&rt, b"a"), Rec::Delta(7))));
+    assert_same(&rt, head_of(&all), Some((key(&rt, b"a"), Rec::Delta(7))));
     let behind = Above {
         table: &table,
         key: Some(key(&rt, b"a")),
     };
-    assert_eq!(rt; head_of(&behind), Some((key(&rt, b"b"), Rec::Tomb)));
+    assert_same(&rt, head_of(&behind), Some((key(&rt, b"b"), Rec::Tomb)));
     let none = Above {
         table: &table,
         key: Some(key(&rt, b"b")),
     };
-    assert!(rt; head_of(&none).is_none());
+    assert_that(&rt, head_of(&none).is_none());
 }
