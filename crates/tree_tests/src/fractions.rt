@@ -1,4 +1,5 @@
 // Fractions of merges that are under way.
+use crate::asserts::{assert_same, assert_that};
 use blsm_model::Geometry;
 use progress_est::{Fraction, before, inprogress1, inprogress2, outprogress1};
 
@@ -9,9 +10,9 @@ fn fractions_are_compared_exactly(rt: HostRuntime) {
         over: 6_148_914_691_236_517_206,
         under: u64::MAX,
     };
-    assert!(rt; before(third, more));
-    assert!(rt; !before(more, third));
-    assert!(rt; !before(third, third));
+    assert_that(&rt, before(third, more));
+    assert_that(&rt, !before(more, third));
+    assert_that(&rt, !before(third, third));
 }
 
 #[test]
@@ -23,6 +24,6 @@ fn merges_have_their_fractions(rt: HostRuntime) {
         (outprogress1(&geo, 5), 229_376),
     ];
     for (found, under) in rows {
-        assert_eq!(rt; found, Fraction { over: 5, under });
+        assert_same(&rt, found, Fraction { over: 5, under });
     }
 }

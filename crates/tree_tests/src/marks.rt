@@ -1,4 +1,5 @@
 // The marks of the memory table.
+use crate::asserts::{assert_same, assert_same_at};
 use spring_mark::{may_begin, must_begin};
 
 #[test]
@@ -11,7 +12,7 @@ fn a_pass_begins_past_the_low_mark(rt: HostRuntime) {
         (u64::MAX, u64::MAX, u64::MAX, true),
     ];
     for (s, w, low, must) in cases {
-        assert_eq!(rt; must_begin(s, w, low), must, "at {s} {w} {low}");
+        assert_same_at(&rt, must_begin(s, w, low), must, (s, w, low));
     }
-    assert_eq!(rt; (may_begin(14, 14), may_begin(15, 14)), (false, true));
+    assert_same(&rt, (may_begin(14, 14), may_begin(15, 14)), (false, true));
 }
