@@ -2,6 +2,7 @@
 ghost use Rattle.std.specs.Prelude.{◌≡◌};
 ghost use Rattle.blsm_model.specs.Components.{empty_component};
 
+use crate::asserts::{assert_same, assert_same_at, assert_that};
 use crate::store::{Entry, Store, base, key, put, table_of};
 use blsm_model::{Component, Row};
 use mem_table::Table;
@@ -19,13 +20,13 @@ const ROLES: [u8; 3] = [0, 1, 2];
 type Written<'a> = (&'a [u8], u64, &'a [u8]);
 
 fn is_row(rt: &impl Abort, row: &Row, (key, count, text): Written) {
-    assert!(rt; row.key.as_bytes() == key);
-    assert_eq!(rt; row.value.count, count);
-    assert!(rt; row.value.text.as_bytes() == text);
+    assert_that(rt, row.key.as_bytes() == key);
+    assert_same(rt, row.value.count, count);
+    assert_that(rt, row.value.text.as_bytes() == text);
 }
 
 fn are_rows(rt: &impl Abort, found: &[Row], rows: &[Written]) {
-    assert_eq!(rt; found.len(), rows.len());
+    assert_same(rt, found.len(), rows.len());
     for (row, written) in found.iter().zip(rows) {
         is_row(rt, row, *written);
     }
@@ -33,13 +34,13 @@ fn are_rows(rt: &impl Abort, found: &[Row], rows: &[Written]) {
 
 // A hold gives these rows.
 fn gives(rt: &impl Abort, store: &mut Store, hold: &mut Hold, n: u32, rows: &[Written]) {
-    assert!(rt; store.next(rt, hold, n).is_ok());
+    assert_that(rt, store.next(rt, hold, n).is_ok());
     are_rows(rt, store.room.as_slice(), rows);
 }
 
 // Or it breaks.
 fn breaks(rt: &impl Abort, store: &mut Store, hold: &mut Hold, n: u32, broken: Broken) {
-    assert_eq!(rt; store.next(rt, hold, n).err(), Some(broken));
+    assert_same(rt, store.next(rt, hold, n).err(), Some(broken));
 }
 
 fn claim(rt: &impl Abort, space: &mut Space, role: u8, page: u32) {
@@ -70,7 +71,7 @@ struct Tree {
 fn is_component(rt: &impl Abort, run: &Component)
     ensures { run.now.pages ≡ 0 → run.now ≡ empty_component }
 {
-    assert!(rt; run.pages != 0 || *run == no_component());
+    assert_that(rt, run.pages != 0 || *run == no_component());
 }
 
 impl Tree {
@@ -173,10 +174,10 @@ fn release_all(rt: &impl Abort, space: &mut Space) {
         assert!(rt; role < Role::COUNT);
         space.release(Role::new(role));
     }
-    assert!(rt; space.pages() == 798);
+    assert_that(rt, space.pages() == 798);
     for (page, free) in [(2, false), (5, false), (9, false), (3, true)] {
         assert!(rt; page < space.pages());
-        assert_eq!(rt; space.is_free(page), free, "page {page}");
+        assert_same_at(rt, space.is_free(page), free, page);
     }
 }
 
@@ -219,7 +220,7 @@ fn the_place_stays_after_an_error(rt: HostRuntime) {
     let mut hold = held(&rt, rt.alloc(), &mut store, b"b", b"z");
     gives(&rt, &mut store, &mut hold, 1, &[(b"c", 3, b"")]);
     // Four calls wrote the store, and three read; the ninth is the second read of a page.
-    assert!(rt; store.disk.fail(9).is_ok());
+    assert_that(&rt, store.disk.fail(9).is_ok());
     breaks(&rt, &mut store, &mut hold, 32, Broken::Fault);
     let rest: [Written; 4] = [
         (b"d", 15, b"x"),
@@ -239,8 +240,8 @@ fn the_place_stays_where_a_page_is_damaged(rt: HostRuntime) {
     let mut hold = held(&rt, rt.alloc(), &mut store, b"c", b"f");
     gives(&rt, &mut store, &mut hold, 1, &[(b"c", 3, b"")]);
     // Calls 8 to 10 read the three pages, and calls 11 to 13 do again.
-    assert!(rt; store.disk.poke(8, USED, &[0xff]).is_ok());
-    assert!(rt; store.disk.poke(11, USED, &[0]).is_ok());
+    assert_that(&rt, store.disk.poke(8, USED, &[0xff]).is_ok());
+    assert_that(&rt, store.disk.poke(11, USED, &[0]).is_ok());
     breaks(&rt, &mut store, &mut hold, 1, Broken::Damaged(9));
     gives(&rt, &mut store, &mut hold, 1, &[(b"d", 15, b"x")]);
 }
@@ -252,7 +253,7 @@ fn front(rt: &impl Abort, alloc: Global) -> Vec<Entry> {
     let mut entries = Vec::new(alloc);
     for number in 0..9u8 {
         let entry = named(rt, &[b'a', number], u64::from(number), &TEXT);
-        assert!(rt; entries.push(entry).is_ok());
+        assert_that(rt, entries.push(entry).is_ok());
     }
     entries
 }
@@ -307,7 +308,7 @@ fn full_table(rt: &impl Abort, alloc: Global) -> Table
         let rec = base(rt, u64::from(number), b"");
         put(rt, &mut table, &key(rt, &number.to_be_bytes()), &rec);
     }
-    assert_eq!(rt; table.weight(), 65_535);
+    assert_same(rt, table.weight(), 65_535);
     table
 }
 
@@ -335,10 +336,10 @@ fn are_numbers(rt: &impl Abort, rows: &[Row], from: u16) -> u16 {
 fn gives_numbers(rt: &impl Abort, store: &mut Store, hold: &mut Hold) {
     let mut number = 0;
     for _ in 0..137u8 {
-        assert!(rt; store.next(rt, hold, 32).is_ok());
+        assert_that(rt, store.next(rt, hold, 32).is_ok());
         number = are_numbers(rt, store.room.as_slice(), number);
     }
-    assert_eq!(rt; number, FULL);
+    assert_same(rt, number, FULL);
     gives(rt, store, hold, 32, &[]);
 }
 

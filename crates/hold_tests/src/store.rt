@@ -3,6 +3,7 @@ ghost use Rattle.std.specs.Prelude.{◌≡◌, length};
 ghost use Rattle.blsm_model.specs.Geometry.{file_length};
 ghost use Rattle.disk_mem.specs.Recorded.{told};
 
+use crate::asserts::assert_that;
 use blsm_model::{Component, Geometry, Key, Text, Value};
 use disk_mem::MemDisk;
 use disk_trait::Disk;
@@ -44,7 +45,7 @@ fn blank_disk(rt: &impl Abort, alloc: Global, geo: &Geometry) -> MemDisk
     let length = geo.length();
     let zeros = vec![in alloc; 0; length as usize].expect(rt, "memory");
     let mut disk = MemDisk::new(alloc, length, length.saturating_add(100_000)).expect(rt, "memory");
-    assert!(rt; disk.write(0, &zeros).is_ok());
+    assert_that(rt, disk.write(0, &zeros).is_ok());
     disk
 }
 
@@ -59,7 +60,10 @@ impl Store {
 
     fn write_page(&mut self, rt: &impl Abort, number: u32, page: &[u8; PAGE_LEN]) {
         assert!(rt; u64::from(number) < self.geo.pages());
-        assert!(rt; write_page(&mut self.disk, &self.geo, number, page).is_ok());
+        assert_that(
+            rt,
+            write_page(&mut self.disk, &self.geo, number, page).is_ok(),
+        );
     }
 
     /// Writes a component whose pages have these numbers and entries.
