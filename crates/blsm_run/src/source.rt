@@ -9,7 +9,8 @@ use text_io::{ReadFault, Source, read_all};
 // How many bytes a script may have.
 const MAX_SCRIPT: usize = 8_388_608;
 
-/// Reads the source to its end, as a script.
+/// Reads the source to its end, as a script. It stays a call, since a piece of the text and a line are kilobytes on the stack.
+#[inline(never)]
 pub(crate) fn read_source<S: Source>(alloc: Global, source: &mut S) -> Result<Script, Refusal>
     ensures { ReadsScript (S.left source.old) (S.left source.new) (S.faults source.old) (S.faults source.new) result }
 {

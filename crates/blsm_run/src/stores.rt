@@ -1,4 +1,5 @@
-//! What is done to the store on the disk of a name. The disk goes back to the shelf whatever happens.
+//! What is done to the store on the disk of a name. The disk goes back to the shelf whatever happens. Each stays a call, so
+//! that the frame of who carries a request out has the locals of none.
 ghost use Rattle.std.specs.Prelude.{◌+◌, ◌≤◌, false, sum, true};
 ghost use Rattle.blsm_model.specs.Format.{callers, most_entries, most_rows_asked};
 ghost use Rattle.tree_machine.specs.Machine.{seats};
@@ -17,6 +18,7 @@ use std::thread::Threads;
 use store_run::{Finished, run_over};
 
 /// Makes a store of this geometry on the disk of a name, which may be a new one, and answers its length in bytes.
+#[inline(never)]
 pub(crate) fn make_on_shelf<H: Shelf>(
     shelf: &mut H,
     name: &str,
@@ -37,6 +39,7 @@ pub(crate) fn make_on_shelf<H: Shelf>(
 }
 
 /// Runs a script over the store on the disk of a name, beside so many merge workers with so many turns each.
+#[inline(never)]
 pub(crate) fn run_on_shelf<R: Threads + Wait + Sync, H: Shelf, G: Gate + Sync>(
     rt: &R,
     alloc: Global,
@@ -68,6 +71,7 @@ pub(crate) fn run_on_shelf<R: Threads + Wait + Sync, H: Shelf, G: Gate + Sync>(
 }
 
 /// Checks the store on the disk of a name.
+#[inline(never)]
 pub(crate) fn check_on_shelf<H: Shelf>(
     alloc: Global,
     shelf: &mut H,

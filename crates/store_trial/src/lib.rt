@@ -29,6 +29,7 @@ fn made(alloc: Global) -> Result<FaultlessDisk, NoMemory>
 }
 
 /// Makes the script of so many commands from this seed and runs it over a new store, whose disk it gives back. Only want of memory keeps it from that.
+#[inline(never)]
 pub fn try_seed(alloc: Global, seed: u64, count: u32) -> Result<(FaultlessDisk, Finished), NoMemory>
     requires { count ≤ most_lines }
     ensures { IfOk result (λ tried. IsTrialOf seed count (run_of tried.1) tried.0) }

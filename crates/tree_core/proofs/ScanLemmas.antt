@@ -1,6 +1,6 @@
 -- What a next gave, by the entry that it noted.
 use Rattle.std.specs.Prelude.{◌≡◌, ℕ, ◌-◌, List, [], ◌∷◌, ◌++◌, length, slice_index_or}
-use Rattle.std.proofs.Common.{refl, ap, sym, subst, ◌∙◌, arith}
+use Rattle.std.proofs.Common.{refl, ap, sym, ◌∙◌, arith}
 use Rattle.std.proofs.lemmas.List.{get_or_push, length_push}
 use Rattle.blsm_model.specs.Book.{no_entry, rows_given}
 use Rattle.blsm_model.specs.declared.history.Entry.{Entry}

@@ -1,4 +1,4 @@
-use Rattle.std.specs.Prelude.{◌≡◌, ◌≢◌, ⊤, ℕ, List, Some, Ok, Err, take, drop}
+use Rattle.std.specs.Prelude.{◌≡◌, ◌≢◌, ⊤, ℕ, List, Some, Ok, Err, drop}
 use Rattle.std.specs.declared.result.Result.{Result}
 use Rattle.std.proofs.Common.{ap, sym, subst, arith, rules}
 use Rattle.blsm_model.specs.Sizes.{Sizes}
