@@ -4,6 +4,7 @@ ghost use Rattle.blsm_model.specs.Components.{empty_component};
 ghost use Rattle.blsm_model.specs.Geometry.{file_length};
 ghost use Rattle.disk_mem.specs.Recorded.{told};
 
+use crate::asserts::{assert_same, assert_same_at, assert_that};
 use crate::drafts::Draft;
 use crate::samples::{FIRST_PAGE, Guide, NO_PAGE, blank, fail, guide_of, smallest};
 use blsm_model::{Component, Geometry, Key, Text, Value};
@@ -54,7 +55,7 @@ fn write(rt: &impl Abort, disk: &mut MemDisk, geo: &Geometry, n: u32, page: &[u8
     ensures { length (told disk.new).bytes ≡ file_length geo.now }
 {
     assert!(rt; u64::from(n) < geo.pages());
-    assert!(rt; write_page(disk, geo, n, page).is_ok());
+    assert_that(rt, write_page(disk, geo, n, page).is_ok());
 }
 
 // The component of three pages, 5, 2 and 9, with 15 entries: seven, seven and one.
@@ -110,9 +111,9 @@ fn goes_on(
     requires { length (told disk.old).bytes ≡ file_length geo.now }
     ensures { length (told disk.new).bytes ≡ file_length geo.now }
 {
-    assert_eq!(rt; cursor.advance(disk, geo), Ok(()));
-    assert_eq!(rt; cursor.head(), head);
-    assert_eq!(rt; cursor.left(), left);
+    assert_same(rt, cursor.advance(disk, geo), Ok(()));
+    assert_same(rt, cursor.head(), head);
+    assert_same(rt, cursor.left(), left);
 }
 
 #[test]
@@ -120,8 +121,8 @@ fn a_cursor_gives_the_entries_in_order(rt: HostRuntime) {
     let geo = smallest(&rt);
     let mut disk = disk_of_three(&rt, rt.alloc(), &geo);
     let mut cursor = Cursor::start(&THREE);
-    assert_eq!(rt; cursor.head(), None);
-    assert_eq!(rt; cursor.left(), 15);
+    assert_same(&rt, cursor.head(), None);
+    assert_same(&rt, cursor.left(), 15);
     for place in 0..15u16 {
         let entry = entry_of(&rt, place);
         goes_on(
@@ -152,9 +153,10 @@ fn finds(
     requires length { length (told disk.old).bytes ≡ file_length geo.now }
     ensures { length (told disk.new).bytes ≡ file_length geo.now }
 {
-    assert_eq!(rt;
+    assert_same(
+        rt,
         find(disk, geo, run, &guide.filter, &guide.fences, key),
-        Ok(rec)
+        Ok(rec),
     );
 }
 
@@ -164,7 +166,7 @@ fn an_empty_component(rt: HostRuntime) {
     let mut disk = blank(&rt, rt.alloc(), &geo, 200_000);
     let run = no_component();
     let mut cursor = Cursor::start(&run);
-    assert_eq!(rt; cursor.left(), 0);
+    assert_same(&rt, cursor.left(), 0);
     goes_on(&rt, &mut disk, &geo, &mut cursor, None, 0);
     let guide = guide_of(&rt, rt.alloc(), &mut disk, &geo, &run);
     finds(
@@ -362,8 +364,8 @@ fn walk(
         let left = cursor.left();
         let outcome = cursor.advance(disk, geo);
         if outcome.is_err() {
-            assert_eq!(rt; cursor.head(), head);
-            assert_eq!(rt; cursor.left(), left);
+            assert_same(rt, cursor.head(), head);
+            assert_same(rt, cursor.left(), left);
             return (given, outcome);
         }
         if cursor.head().is_none() {
@@ -381,7 +383,7 @@ fn change(rt: &impl Abort, disk: &mut MemDisk, geo: &Geometry, n: u32, bytes: &[
     let mut page = [0; PAGE_LEN];
     assert!(rt; u64::from(n) < geo.pages());
     let at = FIRST_PAGE + 4_096 * u64::from(n);
-    assert_eq!(rt; disk.read(at, &mut page), Ok(()));
+    assert_same(rt, disk.read(at, &mut page), Ok(()));
     for (at, byte) in bytes {
         assert!(rt; (*at as usize) < PAGE_LEN);
         page[*at as usize] = *byte;
@@ -401,9 +403,10 @@ fn answers(
     requires { length (told disk.old).bytes ≡ file_length geo.now }
     ensures { length (told disk.new).bytes ≡ file_length geo.now }
 {
-    assert_eq!(rt;
+    assert_same(
+        rt,
         find(disk, geo, &THREE, &guide.filter, &guide.fences, name),
-        expected
+        expected,
     );
 }
 
@@ -412,13 +415,11 @@ fn is_damaged(rt: &impl Abort, disk: &mut MemDisk, geo: &Geometry, damage: &Dama
     requires { length (told disk.old).bytes ≡ file_length geo.now }
 {
     let broken = Broken::Damaged(damage.damaged);
-    assert_eq!(rt;
+    assert_same_at(
+        rt,
         walk(rt, disk, geo, &damage.run),
         (damage.given, Err(broken)),
-        "page {}: {:?}, {:?}",
-        damage.page,
-        damage.bytes,
-        damage.run
+        (damage.page, damage.bytes, damage.run),
     );
 }
 
@@ -485,9 +486,13 @@ fn a_fault_leaves_the_cursor(rt: HostRuntime) {
     let guide = guide_of(&rt, rt.alloc(), &mut disk, &geo, &THREE);
     fail(&rt, &mut disk, 10);
     fail(&rt, &mut disk, 14);
-    assert_eq!(rt; walk(&rt, &mut disk, &geo, &THREE), (7, Err(Broken::Fault)));
-    assert_eq!(rt; disk.faults(), 1);
-    assert_eq!(rt; walk(&rt, &mut disk, &geo, &THREE), (15, Ok(())));
+    assert_same(
+        &rt,
+        walk(&rt, &mut disk, &geo, &THREE),
+        (7, Err(Broken::Fault)),
+    );
+    assert_same(&rt, disk.faults(), 1);
+    assert_same(&rt, walk(&rt, &mut disk, &geo, &THREE), (15, Ok(())));
     answers(
         &rt,
         &mut disk,
@@ -496,5 +501,5 @@ fn a_fault_leaves_the_cursor(rt: HostRuntime) {
         &key(&rt, b"l"),
         Err(Broken::Fault),
     );
-    assert_eq!(rt; disk.faults(), 2);
+    assert_same(&rt, disk.faults(), 2);
 }

@@ -1,4 +1,5 @@
 // The filters of a run: the one that its writer fills, and the one that is made anew from its pages.
+use crate::asserts::{assert_same, assert_that, assert_that_at};
 use crate::samples::{blank, empty_guide, free_map, guide_of, smallest};
 use crate::trips::{entry, write};
 use bloom_bits::{Filter, fnv1a};
@@ -11,7 +12,7 @@ const KEYS: u32 = 500;
 fn check_present(rt: &impl Abort, filter: &Filter) {
     for n in 0..KEYS {
         let (key, _) = entry(rt, n.saturating_mul(2));
-        assert!(rt; filter.may(&key), "key {n}");
+        assert_that_at(rt, filter.may(&key), n);
     }
 }
 
@@ -36,7 +37,7 @@ fn a_filter_says_yes_to_each_key_of_a_run_of_500(rt: HostRuntime) {
     let mut space = free_map(&rt, rt.alloc(), &geo);
     let mut guide = empty_guide(&rt, rt.alloc());
     let run = write(&rt, &mut disk, &geo, &mut space, &mut guide, KEYS);
-    assert!(rt; run.pages != 0);
+    assert_that(&rt, run.pages != 0);
     let anew = guide_of(&rt, rt.alloc(), &mut disk, &geo, &run);
     check_present(&rt, &guide.filter);
     check_present(&rt, &anew.filter);
@@ -47,7 +48,7 @@ fn a_filter_says_yes_to_each_key_of_a_run_of_500(rt: HostRuntime) {
 // Published numbers of the hash.
 #[test]
 fn the_hash_has_its_published_numbers(rt: HostRuntime) {
-    assert_eq!(rt; fnv1a(b""), 0xcbf2_9ce4_8422_2325);
-    assert_eq!(rt; fnv1a(b"a"), 0xaf63_dc4c_8601_ec8c);
-    assert_eq!(rt; fnv1a(b"foobar"), 0x8594_4171_f739_67e8);
+    assert_same(&rt, fnv1a(b""), 0xcbf2_9ce4_8422_2325);
+    assert_same(&rt, fnv1a(b"a"), 0xaf63_dc4c_8601_ec8c);
+    assert_same(&rt, fnv1a(b"foobar"), 0x8594_4171_f739_67e8);
 }

@@ -3,6 +3,7 @@ ghost use Rattle.std.specs.Prelude.{◌≡◌, ◌<◌, ◌+◌, length};
 ghost use Rattle.blsm_model.specs.Geometry.{file_length};
 ghost use Rattle.disk_mem.specs.Recorded.{told};
 
+use crate::asserts::{assert_same, assert_same_at, assert_that};
 use crate::drafts::Draft;
 use crate::samples::{FIRST_PAGE, NO_PAGE, PAGES, blank, fail, smallest, validity, zeros};
 use blsm_model::{Component, Geometry};
@@ -22,7 +23,7 @@ fn faultless(rt: &impl Abort, alloc: Global, geo: &Geometry) -> FaultlessDisk
 {
     let zeros = zeros(rt, alloc, geo);
     let mut disk = FaultlessDisk::new(alloc, geo.length()).expect(rt, "memory");
-    assert!(rt; disk.write(0, zeros.as_slice()).is_ok());
+    assert_that(rt, disk.write(0, zeros.as_slice()).is_ok());
     disk
 }
 
@@ -40,7 +41,7 @@ fn found(
     assert!(rt; u64::from(n) < geo.pages());
     let mut found = [0xee; PAGE_LEN];
     let outcome = read_page(disk, geo, n, &mut found);
-    assert!(rt; found == *page);
+    assert_that(rt, found == *page);
     outcome
 }
 
@@ -50,8 +51,8 @@ fn stands(rt: &impl Abort, disk: &mut FaultlessDisk, n: u32, page: &[u8; PAGE_LE
 {
     let mut found = [0xee; PAGE_LEN];
     let at = FIRST_PAGE + u64::from(n) * 4_096;
-    assert!(rt; disk.read(at, &mut found).is_ok());
-    assert!(rt; found == *page);
+    assert_that(rt, disk.read(at, &mut found).is_ok());
+    assert_that(rt, found == *page);
 }
 
 // Writes a page and reads it again: what is read of it, and that the same bytes are read, and at its place in the file.
@@ -66,7 +67,7 @@ fn written(
     ensures { length disk.new.bytes ≡ file_length geo.now }
 {
     assert!(rt; u64::from(n) < geo.pages());
-    assert!(rt; write_page(disk, geo, n, page).is_ok());
+    assert_that(rt, write_page(disk, geo, n, page).is_ok());
     stands(rt, disk, n, page);
     found(rt, disk, geo, n, page)
 }
@@ -157,11 +158,11 @@ fn each_byte_of_a_page_counts(rt: HostRuntime) {
     let mut disk = faultless(&rt, rt.alloc(), &geo);
     for change in &changes() {
         let page = changed(&rt, change.bytes);
-        assert_eq!(rt;
+        assert_same_at(
+            &rt,
             written(&rt, &mut disk, &geo, 7, &page),
             validity(change.is_valid, 7),
-            "{:?}",
-            change.bytes
+            change.bytes,
         );
     }
 }
@@ -196,10 +197,11 @@ fn an_entry_has_its_lengths(rt: HostRuntime) {
     ];
     for (kind, key_len, text_len, is_valid) in rows {
         let page = page_of(&rt, kind, key_len, text_len);
-        assert_eq!(rt;
+        assert_same_at(
+            &rt,
             written(&rt, &mut disk, &geo, 0, &page),
             validity(is_valid, 0),
-            "kind {kind}, a key of {key_len} and a text of {text_len} bytes"
+            (kind, key_len, text_len),
         );
     }
 }
@@ -228,7 +230,7 @@ fn last_byte(byte: u8) -> [u8; 64] {
 // A page's head says so.
 fn has_head(rt: &impl Abort, page: &[u8; PAGE_LEN], count: u16, used: u16, next: u32) {
     let next = if next == NO_PAGE { None } else { Some(next) };
-    assert_eq!(rt; PageHead::read(page), PageHead { count, used, next });
+    assert_same(rt, PageHead::read(page), PageHead { count, used, next });
 }
 
 #[test]
@@ -248,10 +250,11 @@ fn a_page_with_a_next_one_is_full(rt: HostRuntime) {
     ];
     for (used, count, next, is_valid) in rows {
         let page = filled(&rt, used, next);
-        assert_eq!(rt;
+        assert_same_at(
+            &rt,
             written(&rt, &mut disk, &geo, 5, &page),
             validity(is_valid, 5),
-            "{used} bytes, next {next}"
+            (used, next),
         );
         has_head(&rt, &page, count, used, next);
     }
@@ -272,15 +275,15 @@ fn is_blank(rt: &impl Abort, disk: &mut FaultlessDisk, geo: &Geometry, n: u32) -
 #[test]
 fn a_page_is_written_at_its_place(rt: HostRuntime) {
     let geo = smallest(&rt);
-    assert_eq!(rt; geo.pages(), u64::from(PAGES));
+    assert_same(&rt, geo.pages(), u64::from(PAGES));
     let mut disk = faultless(&rt, rt.alloc(), &geo);
     let page = two_entries(&rt);
-    assert_eq!(rt; written(&rt, &mut disk, &geo, 0, &page), Ok(()));
-    assert_eq!(rt; written(&rt, &mut disk, &geo, 2, &page), Ok(()));
-    assert_eq!(rt; written(&rt, &mut disk, &geo, PAGES - 1, &page), Ok(()));
-    assert!(rt; is_blank(&rt, &mut disk, &geo, 1));
-    assert!(rt; is_blank(&rt, &mut disk, &geo, 3));
-    assert!(rt; is_blank(&rt, &mut disk, &geo, PAGES - 2));
+    assert_same(&rt, written(&rt, &mut disk, &geo, 0, &page), Ok(()));
+    assert_same(&rt, written(&rt, &mut disk, &geo, 2, &page), Ok(()));
+    assert_same(&rt, written(&rt, &mut disk, &geo, PAGES - 1, &page), Ok(()));
+    assert_that(&rt, is_blank(&rt, &mut disk, &geo, 1));
+    assert_that(&rt, is_blank(&rt, &mut disk, &geo, 3));
+    assert_that(&rt, is_blank(&rt, &mut disk, &geo, PAGES - 2));
 }
 
 #[test]
@@ -292,14 +295,15 @@ fn laws_of_pages_are_called(rt: HostRuntime) {
     one_order();
     one_component();
     chains();
-    assert_eq!(rt;
+    assert_same(
+        &rt,
         no_component(),
         Component {
             first: NO_PAGE,
             pages: 0,
             entries: 0,
-            weight: 0
-        }
+            weight: 0,
+        },
     );
 }
 
@@ -319,7 +323,7 @@ fn read_one(rt: &impl Abort, disk: &mut MemDisk, geo: &Geometry) -> Result<(), B
     assert!(rt; 1 < geo.pages());
     let mut found = [0xee; PAGE_LEN];
     let outcome = read_page(disk, geo, 1, &mut found);
-    assert!(rt; outcome.is_err() || found == two_entries(rt));
+    assert_that(rt, outcome.is_err() || found == two_entries(rt));
     outcome
 }
 
@@ -330,13 +334,13 @@ fn a_call_that_fails_is_told(rt: HostRuntime) {
     let mut disk = blank(&rt, rt.alloc(), &geo, 10_000);
     fail(&rt, &mut disk, 3);
     fail(&rt, &mut disk, 5);
-    assert_eq!(rt; write_one(&rt, &mut disk, &geo), Err(Failed));
-    assert_eq!(rt; disk.faults(), 1);
-    assert_eq!(rt; write_one(&rt, &mut disk, &geo), Ok(()));
-    assert_eq!(rt; read_one(&rt, &mut disk, &geo), Err(Broken::Fault));
-    assert_eq!(rt; disk.faults(), 2);
-    assert_eq!(rt; read_one(&rt, &mut disk, &geo), Ok(()));
-    assert_eq!(rt; disk.faults(), 2);
+    assert_same(&rt, write_one(&rt, &mut disk, &geo), Err(Failed));
+    assert_same(&rt, disk.faults(), 1);
+    assert_same(&rt, write_one(&rt, &mut disk, &geo), Ok(()));
+    assert_same(&rt, read_one(&rt, &mut disk, &geo), Err(Broken::Fault));
+    assert_same(&rt, disk.faults(), 2);
+    assert_same(&rt, read_one(&rt, &mut disk, &geo), Ok(()));
+    assert_same(&rt, disk.faults(), 2);
 }
 
 // What is read of page 0, and its 39th byte.
@@ -352,8 +356,8 @@ fn read_first(
 {
     let mut found = [0xee; PAGE_LEN];
     assert!(rt; 0 < geo.pages());
-    assert_eq!(rt; read_page(disk, geo, 0, &mut found), expected);
-    assert_eq!(rt; found[38], byte);
+    assert_same(rt, read_page(disk, geo, 0, &mut found), expected);
+    assert_same(rt, found[38], byte);
 }
 
 // A byte of the page changes by no call of the disk.
@@ -361,9 +365,16 @@ fn read_first(
 fn a_page_that_changed_by_itself_is_damaged(rt: HostRuntime) {
     let geo = smallest(&rt);
     let mut disk = blank(&rt, rt.alloc(), &geo, 10_000);
-    assert!(rt; disk.poke(5, FIRST_PAGE.saturating_add(38), b"\x01").is_ok());
+    assert_that(
+        &rt,
+        disk.poke(5, FIRST_PAGE.saturating_add(38), b"\x01").is_ok(),
+    );
     assert!(rt; 0 < geo.pages());
-    assert_eq!(rt; write_page(&mut disk, &geo, 0, &two_entries(&rt)), Ok(()));
+    assert_same(
+        &rt,
+        write_page(&mut disk, &geo, 0, &two_entries(&rt)),
+        Ok(()),
+    );
     read_first(&rt, &mut disk, &geo, Ok(()), 0);
     read_first(&rt, &mut disk, &geo, Err(Broken::Damaged(0)), 1);
 }
@@ -382,10 +393,10 @@ fn reads(rt: &impl Abort, disk: &mut MemDisk, geo: &Geometry, n: u32, page: &[u8
 fn write_pages(rt: &impl Abort, alloc: Global, geo: &Geometry, page: &[u8; PAGE_LEN]) -> MemDisk {
     let mut disk = blank(rt, alloc, geo, 20_000);
     assert!(rt; 2 < geo.pages());
-    assert_eq!(rt; write_page(&mut disk, geo, 0, page), Ok(()));
-    assert_eq!(rt; write_page(&mut disk, geo, 2, page), Ok(()));
-    assert!(rt; disk.sync().is_ok());
-    assert_eq!(rt; write_page(&mut disk, geo, 1, page), Ok(()));
+    assert_same(rt, write_page(&mut disk, geo, 0, page), Ok(()));
+    assert_same(rt, write_page(&mut disk, geo, 2, page), Ok(()));
+    assert_that(rt, disk.sync().is_ok());
+    assert_same(rt, write_page(&mut disk, geo, 1, page), Ok(()));
     disk
 }
 
@@ -400,9 +411,9 @@ fn has_pages(
 ) {
     let mut image = disk.image(pick).expect(rt, "memory");
     assert_eq!(rt; image.len(), Ok(geo.length()));
-    assert!(rt; reads(rt, &mut image, geo, 0, page));
-    assert!(rt; reads(rt, &mut image, geo, 2, page));
-    assert_eq!(rt; reads(rt, &mut image, geo, 1, page), is_written);
+    assert_that(rt, reads(rt, &mut image, geo, 0, page));
+    assert_that(rt, reads(rt, &mut image, geo, 2, page));
+    assert_same(rt, reads(rt, &mut image, geo, 1, page), is_written);
 }
 
 // A crash after page 1 was written leaves the pages beside it, and of page 1 nothing, its first 37 or 38 bytes, all, or zeros.

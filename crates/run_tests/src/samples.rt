@@ -5,6 +5,7 @@ ghost use Rattle.blsm_model.specs.Geometry.{page_count, file_length};
 ghost use Rattle.disk_mem.specs.Recorded.{told};
 ghost use Rattle.run_writer.specs.Writer.{IsInside};
 
+use crate::asserts::{assert_same, assert_that};
 use bloom_bits::{Fences, Filter};
 use blsm_model::{Component, Geometry, Key};
 use disk_mem::MemDisk;
@@ -46,8 +47,8 @@ pub fn blank(rt: &impl Abort, alloc: Global, geo: &Geometry, record: u32) -> Mem
     let kept = length.saturating_add(u64::from(record));
     let zeros = zeros(rt, alloc, geo);
     let mut disk = MemDisk::new(alloc, length, kept).expect(rt, "memory");
-    assert!(rt; disk.write(0, zeros.as_slice()).is_ok());
-    assert!(rt; disk.sync().is_ok());
+    assert_that(rt, disk.write(0, zeros.as_slice()).is_ok());
+    assert_that(rt, disk.sync().is_ok());
     disk
 }
 
@@ -56,7 +57,7 @@ pub fn free_map(rt: &impl Abort, alloc: Global, geo: &Geometry) -> Space
     ensures { result.pages ≡ page_count geo.now }
 {
     let space = Space::reserve(alloc, geo.pages() as u32).expect(rt, "memory");
-    assert!(rt; u64::from(space.pages()) == geo.pages());
+    assert_that(rt, u64::from(space.pages()) == geo.pages());
     space
 }
 
@@ -64,7 +65,7 @@ pub fn free_map(rt: &impl Abort, alloc: Global, geo: &Geometry) -> Space
 pub fn fail(rt: &impl Abort, disk: &mut MemDisk, call: u64)
     ensures { (told disk.new).bytes ≡ (told disk.old).bytes }
 {
-    assert!(rt; disk.fail(call).is_ok());
+    assert_that(rt, disk.fail(call).is_ok());
 }
 
 /// What a page is that is valid, or isn't.
@@ -107,7 +108,11 @@ pub fn guide_of(
 {
     let mut filter = Filter::with_bits(alloc, run.weight).expect(rt, "memory");
     let mut fences = Fences::reserve(alloc, run.pages).expect(rt, "memory");
-    assert_eq!(rt; rebuild(disk, geo, run, &mut filter, &mut fences), Ok(()));
+    assert_same(
+        rt,
+        rebuild(disk, geo, run, &mut filter, &mut fences),
+        Ok(()),
+    );
     Guide { filter, fences }
 }
 
@@ -127,7 +132,7 @@ pub fn push_entry(
     ensures inside { IsInside (page_count geo.now) writer.new }
     ensures length { length (told disk.new).bytes ≡ file_length geo.now }
 {
-    assert!(rt; u64::from(space.pages()) == geo.pages());
+    assert_that(rt, u64::from(space.pages()) == geo.pages());
     assert!(rt; u64::from(writer.component().pages) < geo.pages());
     assert!(rt; space.has_free());
     assert!(rt; guide.fences.takes(key));

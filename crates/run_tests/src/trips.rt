@@ -3,6 +3,7 @@ ghost use Rattle.std.specs.Prelude.{◌≡◌, ◌≢◌, length};
 ghost use Rattle.blsm_model.specs.Geometry.{file_length};
 ghost use Rattle.disk_mem.specs.Recorded.{told};
 
+use crate::asserts::{assert_same, assert_that};
 use crate::samples::{Guide, blank, empty_guide, free_map, push_entry, smallest};
 use blsm_model::{Component, Geometry, Key, Text, Value};
 use disk_mem::MemDisk;
@@ -41,7 +42,10 @@ pub fn write(
     let mut writer = Writer::start(Role::new(1));
     for n in 0..count {
         let (key, rec) = entry(rt, n.saturating_mul(2));
-        assert!(rt; push_entry(rt, &mut writer, disk, geo, space, guide, &key, &rec).is_ok());
+        assert_that(
+            rt,
+            push_entry(rt, &mut writer, disk, geo, space, guide, &key, &rec).is_ok(),
+        );
     }
     writer.end(disk, geo).expect(rt, "a run")
 }
@@ -51,8 +55,8 @@ fn goes_on(rt: &impl Abort, disk: &mut MemDisk, geo: &Geometry, cursor: &mut Cur
     requires { length (told disk.old).bytes ≡ file_length geo.now }
     ensures { length (told disk.new).bytes ≡ file_length geo.now }
 {
-    assert_eq!(rt; cursor.advance(disk, geo), Ok(()));
-    assert_eq!(rt; cursor.head(), Some(entry(rt, n)));
+    assert_same(rt, cursor.advance(disk, geo), Ok(()));
+    assert_same(rt, cursor.head(), Some(entry(rt, n)));
 }
 
 // A cursor gives the entries of the first 2,000 even numbers, in order.
@@ -65,8 +69,8 @@ fn walk(rt: &impl Abort, disk: &mut MemDisk, geo: &Geometry, run: &Component)
     'entries: for n in 0..2_000u32 {
         goes_on(rt, disk, geo, &mut cursor, n.saturating_mul(2));
     }
-    assert_eq!(rt; cursor.advance(disk, geo), Ok(()));
-    assert_eq!(rt; cursor.head(), None);
+    assert_same(rt, cursor.advance(disk, geo), Ok(()));
+    assert_same(rt, cursor.head(), None);
 }
 
 // A lookup of the key of a number finds its entry, or none.
@@ -84,9 +88,10 @@ fn finds(
 {
     let (key, rec) = entry(rt, n);
     let expected = if has { Some(rec) } else { None };
-    assert_eq!(rt;
+    assert_same(
+        rt,
         find(disk, geo, run, &guide.filter, &guide.fences, &key),
-        Ok(expected)
+        Ok(expected),
     );
 }
 
@@ -115,8 +120,8 @@ fn a_run_of_2000_entries_is_read_back(rt: HostRuntime) {
     let mut space = free_map(&rt, rt.alloc(), &geo);
     let mut guide = empty_guide(&rt, rt.alloc());
     let run = write(&rt, &mut disk, &geo, &mut space, &mut guide, 2_000);
-    assert_eq!(rt; run.entries, 2_000);
-    assert!(rt; run.pages != 0);
+    assert_same(&rt, run.entries, 2_000);
+    assert_that(&rt, run.pages != 0);
     walk(&rt, &mut disk, &geo, &run);
     look_up(&rt, &mut disk, &geo, &run, &guide);
 }

@@ -10,6 +10,7 @@ ghost use Rattle.disk_mem.specs.Recorded.{told};
 ghost use Rattle.page_file.specs.Entry.{AreRising};
 ghost use Rattle.run_writer.specs.Writer.{IsInside};
 
+use crate::asserts::{assert_same, assert_same_at, assert_that, assert_that_at};
 use crate::samples::{Guide, NO_PAGE, blank, empty_guide, fail, free_map, push_entry, smallest};
 use bloom_bits::{Fences, Filter};
 use blsm_model::{Component, Geometry, Key, Text, Value};
@@ -94,7 +95,10 @@ fn push_one(
     ensures inside { IsInside (page_count geo.now) writer.new }
     ensures length { length (told disk.new).bytes ≡ file_length geo.now }
 {
-    assert!(rt; push(rt, writer, disk, geo, space, guide, n, lengths).is_ok());
+    assert_that(
+        rt,
+        push(rt, writer, disk, geo, space, guide, n, lengths).is_ok(),
+    );
 }
 
 // Pushes the entries of the first numbers.
@@ -244,13 +248,14 @@ fn check_run(
         let is_last = n + 1 == component.pages;
         let to = count.min(u32::saturating_add(from, per_page));
         let next = if is_last { None } else { Some(n + 1) };
-        assert!(rt;
+        assert_that_at(
+            rt,
             is_page_of(rt, &mut disk, &geo, n, from, to, lengths, next),
-            "page {n}"
+            n,
         );
         from = to;
     }
-    assert_eq!(rt; from, count);
+    assert_same(rt, from, count);
     component
 }
 
@@ -259,14 +264,15 @@ fn a_run_of_2000_entries(rt: HostRuntime) {
     let lengths = Lengths { key: 4, text: 432 };
     let component = check_run(&rt, rt.alloc(), lengths, 2_000, 9);
     // 222 pages of 9 entries, and one of 2.
-    assert_eq!(rt;
+    assert_same(
+        &rt,
         component,
         Component {
             first: 0,
             pages: 223,
             entries: 2_000,
-            weight: 898_000
-        }
+            weight: 898_000,
+        },
     );
 }
 
@@ -283,11 +289,7 @@ fn a_page_is_closed_where_the_next_entry_does_not_fit(rt: HostRuntime) {
     ];
     for (key, text, count, per_page, pages) in rows {
         let component = check_run(&rt, rt.alloc(), Lengths { key, text }, count, per_page);
-        assert_eq!(rt;
-            component.pages,
-            pages,
-            "{count} entries of a text of {text}"
-        );
+        assert_same_at(&rt, component.pages, pages, (count, text));
     }
 }
 
@@ -304,8 +306,8 @@ fn end_none(rt: &impl Abort, writer: &mut Writer, disk: &mut MemDisk, geo: &Geom
         entries: 0,
         weight: 0,
     };
-    assert_eq!(rt; writer.component(), none);
-    assert_eq!(rt; writer.end(disk, geo), Ok(none));
+    assert_same(rt, writer.component(), none);
+    assert_same(rt, writer.end(disk, geo), Ok(none));
 }
 
 fn is_no_page(rt: &impl Abort, disk: &mut MemDisk, geo: &Geometry, space: &mut Space)
@@ -314,14 +316,18 @@ fn is_no_page(rt: &impl Abort, disk: &mut MemDisk, geo: &Geometry, space: &mut S
 {
     let mut page = [0; PAGE_LEN];
     assert!(rt; 0 < geo.pages());
-    assert_eq!(rt; read_page(disk, geo, 0, &mut page), Err(Broken::Damaged(0)));
+    assert_same(
+        rt,
+        read_page(disk, geo, 0, &mut page),
+        Err(Broken::Damaged(0)),
+    );
     least_is(rt, space, 0);
 }
 
 // The least free page.
 fn least_is(rt: &impl Abort, space: &mut Space, page: u32) {
     assert!(rt; space.has_free());
-    assert_eq!(rt; space.take(), page);
+    assert_same(rt, space.take(), page);
 }
 
 // The run of one entry of 25 bytes ends.
@@ -336,8 +342,8 @@ fn end_one(rt: &impl Abort, writer: &mut Writer, disk: &mut MemDisk, geo: &Geome
         entries: 1,
         weight: 25,
     };
-    assert_eq!(rt; weight(&key(rt, 1, 5), &base(rt, 1, 7)), 25);
-    assert_eq!(rt; writer.end(disk, geo), Ok(one));
+    assert_same(rt, weight(&key(rt, 1, 5), &base(rt, 1, 7)), 25);
+    assert_same(rt, writer.end(disk, geo), Ok(one));
 }
 
 #[test]
@@ -361,9 +367,15 @@ fn runs_of_no_entry_and_of_one(rt: HostRuntime) {
         lengths,
     );
     // It is on the disk only once the run has ended.
-    assert!(rt; !is_page_of(&rt, &mut disk, &geo, 0, 1, 2, lengths, None));
+    assert_that(
+        &rt,
+        !is_page_of(&rt, &mut disk, &geo, 0, 1, 2, lengths, None),
+    );
     end_one(&rt, &mut writer, &mut disk, &geo);
-    assert!(rt; is_page_of(&rt, &mut disk, &geo, 0, 1, 2, lengths, None));
+    assert_that(
+        &rt,
+        is_page_of(&rt, &mut disk, &geo, 0, 1, 2, lengths, None),
+    );
 }
 
 // A map of which another role has pages 0 and 2.
@@ -395,11 +407,23 @@ fn the_least_free_pages_are_taken(rt: HostRuntime) {
         20,
         lengths,
     );
-    assert!(rt; writer.end(&mut disk, &geo).is_ok());
-    assert!(rt; is_page_of(&rt, &mut disk, &geo, 1, 0, 9, lengths, Some(3)));
-    assert!(rt; is_page_of(&rt, &mut disk, &geo, 3, 9, 18, lengths, Some(4)));
-    assert!(rt; is_page_of(&rt, &mut disk, &geo, 4, 18, 20, lengths, None));
-    assert!(rt; !is_page_of(&rt, &mut disk, &geo, 2, 9, 18, lengths, Some(3)));
+    assert_that(&rt, writer.end(&mut disk, &geo).is_ok());
+    assert_that(
+        &rt,
+        is_page_of(&rt, &mut disk, &geo, 1, 0, 9, lengths, Some(3)),
+    );
+    assert_that(
+        &rt,
+        is_page_of(&rt, &mut disk, &geo, 3, 9, 18, lengths, Some(4)),
+    );
+    assert_that(
+        &rt,
+        is_page_of(&rt, &mut disk, &geo, 4, 18, 20, lengths, None),
+    );
+    assert_that(
+        &rt,
+        !is_page_of(&rt, &mut disk, &geo, 2, 9, 18, lengths, Some(3)),
+    );
     // They are its role's.
     space.release(Role::new(4));
     least_is(&rt, &mut space, 1);
@@ -432,9 +456,9 @@ fn push_fails(
 {
     let before = writer.component();
     let outcome = push(rt, writer, disk, geo, space, guide, 9, lengths);
-    assert_eq!(rt; outcome, Err(Failed));
-    assert_eq!(rt; writer.component(), before);
-    assert_eq!(rt; disk.faults(), 1);
+    assert_same(rt, outcome, Err(Failed));
+    assert_same(rt, writer.component(), before);
+    assert_same(rt, disk.faults(), 1);
 }
 
 // An end whose page's write fails may be tried again.
@@ -443,9 +467,9 @@ fn end_twice(rt: &impl Abort, writer: &mut Writer, disk: &mut MemDisk, geo: &Geo
     requires length { length (told disk.old).bytes ≡ file_length geo.now }
     ensures length { length (told disk.new).bytes ≡ file_length geo.now }
 {
-    assert_eq!(rt; writer.end(disk, geo), Err(Failed));
-    assert_eq!(rt; disk.faults(), 2);
-    assert!(rt; writer.end(disk, geo).is_ok());
+    assert_same(rt, writer.end(disk, geo), Err(Failed));
+    assert_same(rt, disk.faults(), 2);
+    assert_that(rt, writer.end(disk, geo).is_ok());
 }
 
 // The third call, the first page's write, and the fifth, the last one's, fail.
@@ -488,8 +512,14 @@ fn a_write_that_fails_is_told(rt: HostRuntime) {
         lengths,
     );
     end_twice(&rt, &mut writer, &mut disk, &geo);
-    assert!(rt; is_page_of(&rt, &mut disk, &geo, 0, 0, 9, lengths, Some(2)));
-    assert!(rt; is_page_of(&rt, &mut disk, &geo, 2, 9, 10, lengths, None));
+    assert_that(
+        &rt,
+        is_page_of(&rt, &mut disk, &geo, 0, 0, 9, lengths, Some(2)),
+    );
+    assert_that(
+        &rt,
+        is_page_of(&rt, &mut disk, &geo, 2, 9, 10, lengths, None),
+    );
 }
 
 #[test]
@@ -506,7 +536,8 @@ fn a_list_of_one_entry(rt: HostRuntime) {
     };
     let mut filter = Filter::with_bits(rt.alloc(), 64).expect(&rt, "memory");
     let mut fences = Fences::reserve(rt.alloc(), 1).expect(&rt, "memory");
-    assert_eq!(rt;
+    assert_same(
+        &rt,
         write_all(
             &mut disk,
             &geo,
@@ -514,12 +545,12 @@ fn a_list_of_one_entry(rt: HostRuntime) {
             Role::new(2),
             &mut filter,
             &mut fences,
-            &entries
+            &entries,
         ),
-        Ok(one)
+        Ok(one),
     );
-    assert!(rt; filter.may(&entries[0].0));
-    assert_eq!(rt; fences.page_of(&entries[0].0), Some(0));
+    assert_that(&rt, filter.may(&entries[0].0));
+    assert_same(&rt, fences.page_of(&entries[0].0), Some(0));
     a_run_has_room();
     where_a_run_writes();
 }
