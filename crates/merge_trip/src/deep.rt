@@ -1,4 +1,5 @@
 // Deep merges of lists, beside plain merges of them.
+use crate::asserts::{assert_same, assert_that};
 use crate::helpers::{File, Memory, Merged, Store};
 use crate::plain::{Draws, Plain, Records, draw_list, push, settled, weight_of};
 use blsm_model::{Component, Key};
@@ -65,8 +66,8 @@ fn check_quantum(
     quantum: u64,
     left: u64,
 ) {
-    assert_eq!(rt; plain.quantum(rt, newer, older, quantum), *taken);
-    assert!(rt; plain.cursor(rt) == *cursor);
+    assert_same(rt, plain.quantum(rt, newer, older, quantum), *taken);
+    assert_that(rt, plain.cursor(rt) == *cursor);
     assert!(rt; *taken <= left && *taken < quantum.saturating_add(2 * 512));
     assert!(rt; *taken >= quantum || *taken == left);
 }
@@ -87,7 +88,7 @@ fn check_quanta(
         check_quantum(rt, &mut plain, one, (newer, older), quantum, left);
         left = left.saturating_sub(one.0);
     }
-    assert!(rt; merged.run.is_none() || left == 0);
+    assert_that(rt, merged.run.is_none() || left == 0);
     settled(rt, alloc, plain.out.as_slice())
 }
 
@@ -261,12 +262,12 @@ impl Stops {
         self.check_images(rt, &store.file, &c1x, &c2);
         if let Some(run) = merged.run {
             // Each call has failed: those that read the inputs' pages, and those that write the new run's.
-            assert_eq!(rt; faults_of(&store), 0);
-            assert_eq!(rt; (c1x.pages, c2.pages, run.pages), (2, 2, 3));
-            assert_eq!(rt; call, 2 + 2 + 2 + 3);
+            assert_same(rt, faults_of(&store), 0);
+            assert_same(rt, (c1x.pages, c2.pages, run.pages), (2, 2, 3));
+            assert_same(rt, call, 2 + 2 + 2 + 3);
             return false;
         }
-        assert_eq!(rt; faults_of(&store), 1);
+        assert_same(rt, faults_of(&store), 1);
         self.begin_anew(rt, alloc, Inputs { store, c1x, c2 }, &merged);
         true
     }

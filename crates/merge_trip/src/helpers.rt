@@ -6,6 +6,7 @@ ghost use Rattle.disk_mem.specs.Recorded.{told};
 ghost use Rattle.page_space.specs.Space.{SpaceState, IsWithin, role_size, pin_size, seat_count};
 ghost use Rattle.merge_ends.specs.Output.{TakesPages};
 
+use crate::asserts::{assert_same, assert_that};
 use crate::plain::{key_of, push};
 use bloom_bits::{Fences, Filter};
 use blsm_model::{Component, Geometry, Key};
@@ -45,8 +46,8 @@ fn blank_disk(rt: &impl Abort, alloc: Global, geo: &Geometry) -> MemDisk
     let mut disk = MemDisk::new(alloc, length, length.saturating_add(2_000_000)).expect(
         rt, "memory",
     );
-    assert!(rt; disk.write(0, &zeros).is_ok());
-    assert!(rt; disk.sync().is_ok());
+    assert_that(rt, disk.write(0, &zeros).is_ok());
+    assert_that(rt, disk.sync().is_ok());
     disk
 }
 
@@ -70,19 +71,19 @@ impl File {
     pub fn sync(&mut self, rt: &impl Abort)
         ensures { self.new.geo ≡ self.old.geo }
     {
-        assert!(rt; self.disk.sync().is_ok());
+        assert_that(rt, self.disk.sync().is_ok());
     }
 
     /// This call of the disk is to fail.
     pub fn fail(&mut self, rt: &impl Abort, call: u64)
         ensures { self.new.geo ≡ self.old.geo }
     {
-        assert!(rt; self.disk.fail(call).is_ok());
+        assert_that(rt, self.disk.fail(call).is_ok());
     }
 
     /// Asserts that a run has just the records of a list.
     pub fn check(&mut self, rt: &impl Abort, run: &Component, list: &[Option<Rec>]) {
-        assert!(rt; run.pages != 0 || *run == no_component());
+        assert_that(rt, run.pages != 0 || *run == no_component());
         let mut cursor = Cursor::start(run);
         for (number, rec) in list.iter().enumerate() {
             if let Some(rec) = rec {
@@ -94,17 +95,17 @@ impl File {
 
     /// Asserts that this is the next entry of a run.
     pub fn goes_on(&mut self, rt: &impl Abort, cursor: &mut Cursor, key: Key, rec: Rec) {
-        assert_eq!(rt; self.next(rt, cursor), Some((key, rec)));
+        assert_same(rt, self.next(rt, cursor), Some((key, rec)));
     }
 
     /// Asserts that a run has no next entry.
     pub fn is_at_end(&mut self, rt: &impl Abort, cursor: &mut Cursor) {
-        assert!(rt; self.next(rt, cursor).is_none());
+        assert_that(rt, self.next(rt, cursor).is_none());
     }
 
     // The next entry of a run, if there is one.
     fn next(&mut self, rt: &impl Abort, cursor: &mut Cursor) -> Option<(Key, Rec)> {
-        assert_eq!(rt; cursor.advance(&mut self.disk, &self.geo), Ok(()));
+        assert_same(rt, cursor.advance(&mut self.disk, &self.geo), Ok(()));
         cursor.head()
     }
 }
@@ -116,7 +117,7 @@ fn free_map(rt: &impl Abort, alloc: Global, geo: &Geometry) -> Space
 {
     match Space::reserve(alloc, geo.pages() as u32) {
         Ok(space) => {
-            assert!(rt; u64::from(space.pages()) == geo.pages());
+            assert_that(rt, u64::from(space.pages()) == geo.pages());
             space
         }
         Err(_) => rt.abort(),
@@ -251,7 +252,7 @@ impl Store {
     pub fn over_image(self, rt: &impl Abort, pick: u64) -> Store {
         let Store { file, space, live } = self;
         let file = file.image(rt, pick);
-        assert!(rt; u64::from(space.pages()) == file.geo.pages());
+        assert_that(rt, u64::from(space.pages()) == file.geo.pages());
         Store { file, space, live }
     }
 
@@ -271,7 +272,7 @@ impl Store {
             live,
         } = self;
         let File { geo, mut disk } = file;
-        assert!(rt; c1.pages != 0 || *c1 == no_component());
+        assert_that(rt, c1.pages != 0 || *c1 == no_component());
         let _role = role.number();
         a_run_has_room();
         let mut filter = empty_filter(rt, alloc);
@@ -299,8 +300,8 @@ impl Store {
             ) {
                 Ok(taken) => taken,
                 Err(broken) => {
-                    assert_eq!(rt; broken, Broken::Fault);
-                    assert_eq!(rt; snow.cursor(), at);
+                    assert_same(rt, broken, Broken::Fault);
+                    assert_same(rt, snow.cursor(), at);
                     return ended(File { geo, disk }, space, live, role, None, quanta);
                 }
             };
@@ -340,8 +341,8 @@ impl Store {
             live,
         } = self;
         let File { geo, mut disk } = file;
-        assert!(rt; c1x.pages != 0 || *c1x == no_component());
-        assert!(rt; c2.pages != 0 || *c2 == no_component());
+        assert_that(rt, c1x.pages != 0 || *c1x == no_component());
+        assert_that(rt, c2.pages != 0 || *c2 == no_component());
         let _role = role.number();
         a_run_has_room();
         let mut filter = empty_filter(rt, alloc);
@@ -363,8 +364,8 @@ impl Store {
             let taken = match deep.quantum(&mut disk, &geo, &mut space, &mut filter, &mut fences) {
                 Ok(taken) => taken,
                 Err(broken) => {
-                    assert_eq!(rt; broken, Broken::Fault);
-                    assert_eq!(rt; deep.cursor(), at);
+                    assert_same(rt, broken, Broken::Fault);
+                    assert_same(rt, deep.cursor(), at);
                     return ended(File { geo, disk }, space, live, role, None, quanta);
                 }
             };

@@ -1,6 +1,7 @@
 // Passes of tables over runs, beside plain merges of them.
 ghost use Rattle.std.specs.Prelude.{◌≤◌};
 
+use crate::asserts::{assert_same, assert_that};
 use crate::helpers::{Behind, Coming, File, Memory, Merged, Store, is_ahead};
 use crate::plain::{Draws, Plain, Records, base, draw_list, draw_record, fold_into, key_of, push};
 use blsm_model::{Component, Key};
@@ -53,9 +54,10 @@ fn pass_over_nothing(
 
 // The record of c in a table.
 fn has_c(rt: &impl Abort, memory: &Memory, count: u64, length: usize) {
-    assert_eq!(rt;
+    assert_same(
+        rt,
         memory.table.get(&letter(rt, b'c')),
-        Some(base(rt, count, length))
+        Some(base(rt, count, length)),
     );
 }
 
@@ -67,10 +69,10 @@ fn a_table_that_grows_ahead_of_the_cursor(rt: HostRuntime) {
     let merged = pass_over_nothing(&rt, rt.alloc(), &mut own, &mut coming);
     // Three records of 449 bytes, then the other two and the one of 14 bytes that joined.
     assert_eq!(rt; merged.quanta.len(), 2);
-    assert!(rt; merged.quanta[0] == (1_347, Some(letter(&rt, b'd'))));
-    assert!(rt; merged.quanta[1] == (912, Some(letter(&rt, b'g'))));
+    assert_that(&rt, merged.quanta[0] == (1_347, Some(letter(&rt, b'd'))));
+    assert_that(&rt, merged.quanta[1] == (912, Some(letter(&rt, b'g'))));
     let run = merged.run.expect(&rt, "no fault");
-    assert_eq!(rt; (run.entries, run.weight), (6, 2_259));
+    assert_same(&rt, (run.entries, run.weight), (6, 2_259));
     has_c(&rt, &own, 0, 435);
     has_c(&rt, &coming.next, 1, 0);
 }
@@ -90,7 +92,7 @@ fn make_store(
 // A table has just the records of a list, whose keys are all of those that may be.
 fn check_table(rt: &impl Abort, memory: &Memory, list: &[Option<Rec>]) {
     for (number, rec) in list.iter().enumerate() {
-        assert!(rt; memory.table.get(&key_of(rt, number)) == copied(rec));
+        assert_that(rt, memory.table.get(&key_of(rt, number)) == copied(rec));
     }
 }
 
@@ -142,13 +144,13 @@ fn check_quanta(
 ) -> Records {
     let mut plain = Plain::begin(rt, alloc, lists.c1.len());
     for (round, (taken, cursor)) in merged.quanta.as_slice().iter().enumerate() {
-        assert_eq!(rt; lists.quantum(rt, &mut plain, quantum), *taken);
-        assert!(rt; plain.cursor(rt) == *cursor);
+        assert_same(rt, lists.quantum(rt, &mut plain, quantum), *taken);
+        assert_that(rt, plain.cursor(rt) == *cursor);
         assert!(rt; *taken < quantum.saturating_add(2 * 512));
         lists.come_in(coming, round, cursor);
     }
     if merged.run.is_some() {
-        assert_eq!(rt; lists.quantum(rt, &mut plain, quantum), 0);
+        assert_same(rt, lists.quantum(rt, &mut plain, quantum), 0);
     }
     plain.out
 }
@@ -296,12 +298,12 @@ fn fails_at(rt: &impl Abort, alloc: Global, lists: &mut Lists, call: u64) -> boo
     let (store, merged) = store.pass(rt, alloc, &c1, Role::new(NEW), &mut own, &mut coming);
     if let Some(run) = merged.run {
         // Each call has failed: those that read C1's pages, and those that write the new run's.
-        assert_eq!(rt; faults_of(&store), 0);
-        assert_eq!(rt; (c1.pages, run.pages), (2, 3));
-        assert_eq!(rt; call, 2 + 2 + 3);
+        assert_same(rt, faults_of(&store), 0);
+        assert_same(rt, (c1.pages, run.pages), (2, 3));
+        assert_same(rt, call, 2 + 2 + 3);
         return false;
     }
-    assert_eq!(rt; faults_of(&store), 1);
+    assert_same(rt, faults_of(&store), 1);
     let _out = check_quanta(rt, alloc, 1_024, &merged, lists, &coming);
     let _pages = pass_beside(rt, alloc, (store, c1), &mut own, lists, &mut coming);
     true

@@ -1,6 +1,7 @@
 // What merges do, plainly, over lists that have a record, or none, for each of the keys of the numbers from 0 on.
 ghost use Rattle.std.specs.Prelude.{◌<◌};
 
+use crate::asserts::assert_that;
 use blsm_model::{Key, Text, Value};
 use record_delta::{Rec, weight};
 use std::alloc::Global;
@@ -69,7 +70,7 @@ pub fn draw_record(rt: &impl Abort, draws: &mut Draws, longer: u64) -> Rec
 
 /// Puts one more at the end of a list.
 pub fn push<T: Drop>(rt: &impl Abort, list: &mut Vec<T>, item: T) {
-    assert!(rt; list.push(item).is_ok());
+    assert_that(rt, list.push(item).is_ok());
 }
 
 // The record of one more key, where it has one.

@@ -1,4 +1,5 @@
 // One step of a merge.
+use crate::asserts::assert_same;
 use blsm_model::Key;
 use merge_step::least_group;
 use record_delta::{Rec, Stream};
@@ -34,7 +35,7 @@ fn run_at(rt: &impl Abort, name: &[u8], rec: Rec) -> Standing {
 // Of these two runs this is the least group, with its weight.
 fn least_is(rt: &impl Abort, newer: Standing, older: Standing, rec: Rec, weight: u64) {
     let group = least_group(&newer, &older);
-    assert_eq!(rt; group, Some((key(rt, b"x"), rec, weight)));
+    assert_same(rt, group, Some((key(rt, b"x"), rec, weight)));
 }
 
 #[test]

@@ -1,4 +1,5 @@
 // What passes have written, a deep merge settles.
+use crate::asserts::{assert_same, assert_that};
 use crate::helpers::{File, Memory, Merged, Store};
 use blsm_model::{Component, Key, Text, Value};
 use page_space::Role;
@@ -40,7 +41,7 @@ fn merge_two(rt: &impl Abort, alloc: Global) -> (Store, Merged) {
 
 // A run has these two entries, y and z, as bases.
 fn has_two(rt: &impl Abort, file: &mut File, run: &Component, y: Rec, z: Rec) {
-    assert!(rt; run.pages != 0);
+    assert_that(rt, run.pages != 0);
     let mut cursor = Cursor::start(run);
     file.goes_on(rt, &mut cursor, key(rt, b"y"), y);
     file.goes_on(rt, &mut cursor, key(rt, b"z"), z);
@@ -54,8 +55,11 @@ fn a_tombstone_and_a_delta_over_two_bases(rt: HostRuntime) {
     let run = merged.run.expect(&rt, "no fault");
     // Records of 14 and 17 bytes of x, and of 14 each of y and z.
     assert_eq!(rt; merged.quanta.len(), 1);
-    assert!(rt; merged.quanta[0] == (14 + 14 + 17 + 14, Some(key(&rt, b"z"))));
-    assert_eq!(rt; (run.pages, run.entries, run.weight), (1, 2, 28));
+    assert_that(
+        &rt,
+        merged.quanta[0] == (14 + 14 + 17 + 14, Some(key(&rt, b"z"))),
+    );
+    assert_same(&rt, (run.pages, run.entries, run.weight), (1, 2, 28));
     let y = base(&rt, 4, b"");
     let z = base(&rt, 1, b"");
     has_two(&rt, &mut store.file, &run, y, z);
