@@ -1,5 +1,6 @@
 // Damage of the superblock, the length and the slots, and which of several damages is told. A damaged store is neither checked nor opened,
 // and nothing is written.
+use crate::asserts::{assert_same, assert_that};
 use crate::lanes::spoil_lane;
 use crate::pages::spoil_page;
 use crate::rich::make_rich;
@@ -18,22 +19,22 @@ const MOST_VERSION: u64 = 1 << 62;
 
 /// Writes bytes at a place of a disk.
 pub fn poke(rt: &impl Abort, disk: &mut MemDisk, at: u64, bytes: &[u8]) {
-    assert!(rt; disk.write(at, bytes).is_ok());
+    assert_that(rt, disk.write(at, bytes).is_ok());
 }
 
 /// Reads a byte at a place of a disk.
 pub fn peek(rt: &impl Abort, disk: &mut MemDisk, at: u64) -> u8 {
     let mut byte = [0];
-    assert!(rt; disk.read(at, &mut byte).is_ok());
+    assert_that(rt, disk.read(at, &mut byte).is_ok());
     byte[0]
 }
 
 /// Neither checking nor opening takes the store on a disk, for this reason, and the disk stays as it was.
 pub fn check_refused(rt: &impl Abort, alloc: Global, disk: &MemDisk, why: Unreadable) {
     let mut damaged = copy(rt, disk);
-    assert_eq!(rt; check_store(alloc, &mut damaged), Err(why));
+    assert_same(rt, check_store(alloc, &mut damaged), Err(why));
     let (found, after) = refused(rt, alloc, damaged);
-    assert_eq!(rt; found, why);
+    assert_same(rt, found, why);
     check_same(rt, copy(rt, disk), copy(rt, &after));
     check_same(rt, copy(rt, disk), after);
 }
@@ -116,7 +117,7 @@ fn a_superblock_with_another_byte_is_no_store(rt: HostRuntime) {
 fn copy_page(rt: &impl Abort, from: &mut MemDisk, into: &mut MemDisk, at: u64, length: u64) {
     let mut bytes = [0u8; 4_096];
     let count = length.saturating_sub(at).min(4_096) as usize;
-    assert!(rt; from.read(at, &mut bytes[..count]).is_ok());
+    assert_that(rt, from.read(at, &mut bytes[..count]).is_ok());
     poke(rt, into, at, &bytes[..count]);
 }
 
@@ -171,7 +172,7 @@ fn two_slots_of_one_version_are_damaged(rt: HostRuntime) {
     let mut disk = make_rich(&rt, alloc).disk;
     let slot = slot_of(&rt, alloc, &disk);
     let mut bytes = [0; SLOT_LEN];
-    assert!(rt; disk.read(slot, &mut bytes).is_ok());
+    assert_that(&rt, disk.read(slot, &mut bytes).is_ok());
     poke(&rt, &mut disk, other_slot(slot), &bytes);
     check_damaged(&rt, alloc, &disk, Place::Slots);
 }

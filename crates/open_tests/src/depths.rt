@@ -1,4 +1,5 @@
 // How many pages a get reads, by what the memory table and the components have of the key.
+use crate::asserts::{assert_same, assert_same_at, assert_that, assert_that_at};
 use crate::maps::{follow, told_at};
 use crate::rich::{KEYS, fill_c1x, fill_c2};
 use crate::samples::{add, del, key_of, long, put};
@@ -29,9 +30,10 @@ fn fill_memory(rt: &impl Abort, alloc: Global, core: &mut Core<MemDisk>) {
 // C1 has 2, 3 and 7, C1' has 1, 2, 5 and 6, and C2 has 2, 6 and 8.
 fn check_deep(rt: &impl Abort, alloc: Global, disk: &mut MemDisk) {
     let found = report(rt, alloc, disk);
-    assert_eq!(rt;
+    assert_same(
+        rt,
         (found.c1.entries, found.c1x.entries, found.c2.entries),
-        (3, 4, 3)
+        (3, 4, 3),
     );
 }
 
@@ -52,7 +54,7 @@ fn get_from(rt: &impl Abort, alloc: Global, numbers: &[usize]) -> (Annals, u64) 
         make(alloc, &mut core, 0, Kind::Get(key_of(rt, *number)));
     }
     let (mut disk, annals, totals) = core.end();
-    assert!(rt; totals.stopped.is_none());
+    assert_that(rt, totals.stopped.is_none());
     check_deep(rt, alloc, &mut disk);
     (annals, calls_of(disk))
 }
@@ -60,14 +62,14 @@ fn get_from(rt: &impl Abort, alloc: Global, numbers: &[usize]) -> (Annals, u64) 
 // A get of the key of this number reads so many pages, and tells what the writes led to.
 fn check_get(rt: &impl Abort, alloc: Global, before: u64, number: usize, reads: u64) {
     let (annals, calls) = get_from(rt, alloc, &[number]);
-    assert_eq!(rt; calls, before.saturating_add(reads), "of key {number}");
+    assert_same_at(rt, calls, before.saturating_add(reads), number);
     let last = (annals.len() as u32).saturating_sub(1);
     let told = told_at(rt, &annals, last);
     let map = follow(rt, alloc, KEYS, &annals);
     let Some(value) = map.get(number) else {
         rt.abort()
     };
-    assert!(rt; told == *value, "of key {number}");
+    assert_that_at(rt, told == *value, number);
 }
 
 // Two deltas over a base, a base and a tombstone in C1', a base in C1 under a delta in memory and one alone, a base and a tombstone in memory

@@ -1,4 +1,5 @@
 // A disk on which one call fails, each in turn.
+use crate::asserts::{assert_same_at, assert_that, assert_that_at};
 use crate::maps::map_of;
 use crate::rich::{KEYS, Rich, make_rich};
 use crate::stops::{calls_of, calls_of_opening};
@@ -12,20 +13,21 @@ use std::process::Abort;
 // A disk with what a disk has, of which this call fails.
 fn failing(rt: &impl Abort, disk: &MemDisk, call: u64) -> MemDisk {
     let mut disk = copy(rt, disk);
-    assert!(rt; disk.fail(call).is_ok());
+    assert_that(rt, disk.fail(call).is_ok());
     disk
 }
 
 // Checking tells a fault of a call, and what it told before once the disk answers.
 fn check_checking(rt: &impl Abort, alloc: Global, store: &Rich, call: u64, then: &Report) {
     let mut disk = failing(rt, &store.disk, call);
-    assert_eq!(rt;
+    assert_same_at(
+        rt,
         check_store(alloc, &mut disk),
         Err(Unreadable::Fault),
-        "call {call}"
+        call,
     );
-    assert_eq!(rt; disk.faults(), 1, "call {call}");
-    assert_eq!(rt; report(rt, alloc, &mut disk), *then, "call {call}");
+    assert_same_at(rt, disk.faults(), 1, call);
+    assert_same_at(rt, report(rt, alloc, &mut disk), *then, call);
 }
 
 #[test]
@@ -44,10 +46,10 @@ fn checking_tells_each_fault(rt: HostRuntime) {
 // Opening tells a fault of a call, and the disk that is given back opens to the map.
 fn check_opening(rt: &impl Abort, alloc: Global, store: &Rich, call: u64) {
     let (why, disk) = refused(rt, alloc, failing(rt, &store.disk, call));
-    assert_eq!(rt; why, Unreadable::Fault, "call {call}");
-    assert_eq!(rt; disk.faults(), 1, "call {call}");
+    assert_same_at(rt, why, Unreadable::Fault, call);
+    assert_same_at(rt, disk.faults(), 1, call);
     let (map, _) = map_of(rt, alloc, open(rt, alloc, disk), KEYS);
-    assert!(rt; map == store.map, "call {call}");
+    assert_that_at(rt, map == store.map, call);
 }
 
 #[test]

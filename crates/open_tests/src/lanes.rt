@@ -1,4 +1,5 @@
 // Damage of the lanes, and lanes as heavy and as long as they may be.
+use crate::asserts::assert_same;
 use crate::damage::{LANES_AT, check_damaged, check_opens, peek, poke, slot_of};
 use crate::rich::make_rich;
 use crate::samples::{key_of, value};
@@ -125,7 +126,7 @@ fn check_filled(rt: &impl Abort, alloc: Global, lane: u8) {
     let geo = smallest(rt);
     let mut disk = filled(rt, alloc, &geo, lane, 360);
     let found = report(rt, alloc, &mut disk);
-    assert_eq!(rt; found.lane_a.saturating_add(found.lane_b), 136);
+    assert_same(rt, found.lane_a.saturating_add(found.lane_b), 136);
     check_opens(rt, alloc, &disk);
     let disk = filled(rt, alloc, &geo, lane, 361);
     check_damaged(rt, alloc, &disk, Place::Lane(lane));
@@ -140,7 +141,7 @@ fn a_gate_past_its_region_is_damaged(rt: HostRuntime) {
 // The core of a store weighs so much.
 fn check_charge(rt: &impl Abort, alloc: Global, disk: &MemDisk, charge: u64) {
     let core = open(rt, alloc, copy(rt, disk));
-    assert_eq!(rt; core.charge(), charge);
+    assert_same(rt, core.charge(), charge);
 }
 
 // Records of so many bytes in lane A as the high mark opens with them, and is damaged with 14 bytes more.

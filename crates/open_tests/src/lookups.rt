@@ -1,4 +1,5 @@
 // A store of more than a hundred pages is opened again and read whole by gets alone, whose calls of the disk are counted.
+use crate::asserts::{assert_same, assert_that, assert_that_at};
 use crate::maps::told_at;
 use crate::samples::value;
 use crate::stops::calls_of;
@@ -60,10 +61,14 @@ fn change_first(rt: &impl Abort, alloc: Global, core: &mut Core<MemDisk>) {
 // All keys are in C2, on more than a hundred pages, and those that were changed in a lane.
 fn check_wide(rt: &impl Abort, alloc: Global, disk: &mut MemDisk) {
     let found = report(rt, alloc, disk);
-    assert_eq!(rt; (found.c1, found.c1x), (no_component(), no_component()));
-    assert_eq!(rt; found.c2.entries, KEYS as u64);
+    assert_same(rt, (found.c1, found.c1x), (no_component(), no_component()));
+    assert_same(rt, found.c2.entries, KEYS as u64);
     assert!(rt; 100 < found.c2.pages, "{} pages", found.c2.pages);
-    assert_eq!(rt; found.lane_a.saturating_add(found.lane_b), CHANGED as u64);
+    assert_same(
+        rt,
+        found.lane_a.saturating_add(found.lane_b),
+        CHANGED as u64,
+    );
 }
 
 // The disk of the store, behind the calls that made it. An image of it would take long, since each sync among them copies the file.
@@ -73,7 +78,7 @@ fn make_wide(rt: &impl Abort, alloc: Global) -> MemDisk {
     fill_c2(rt, alloc, &mut core);
     change_first(rt, alloc, &mut core);
     let (mut disk, _, totals) = core.end();
-    assert!(rt; totals.stopped.is_none());
+    assert_that(rt, totals.stopped.is_none());
     check_wide(rt, alloc, &mut disk);
     disk
 }
@@ -90,7 +95,7 @@ fn get_first(rt: &impl Abort, alloc: Global, keys: usize, last: u8) -> (Annals, 
         );
     }
     let (disk, annals, _) = core.end();
-    assert_eq!(rt; annals.len(), keys);
+    assert_same(rt, annals.len(), keys);
     (annals, calls_of(disk))
 }
 
@@ -114,9 +119,9 @@ fn each_key_is_got_by_a_read_of_one_page_a_component(rt: HostRuntime) {
     let (annals, calls) = get_all(&rt, alloc, PRESENT);
     for number in 0..KEYS {
         let found = told_at(&rt, &annals, number as u32);
-        assert!(rt; found == Some(value_of(&rt, number)), "of key {number}");
+        assert_that_at(&rt, found == Some(value_of(&rt, number)), number);
     }
-    assert_eq!(rt; calls, (KEYS + CHANGED) as u64);
+    assert_same(&rt, calls, (KEYS + CHANGED) as u64);
 }
 
 // The filters say no, but for one key in a hundred at most.
@@ -125,10 +130,7 @@ fn keys_between_them_are_absent_by_the_filters(rt: HostRuntime) {
     let alloc = rt.alloc();
     let (annals, calls) = get_all(&rt, alloc, ABSENT);
     for number in 0..KEYS {
-        assert!(rt;
-            told_at(&rt, &annals, number as u32).is_none(),
-            "of key {number}"
-        );
+        assert_that_at(&rt, told_at(&rt, &annals, number as u32).is_none(), number);
     }
     assert!(rt; calls < 10, "{calls} calls");
 }

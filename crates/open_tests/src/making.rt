@@ -1,4 +1,5 @@
 // Stores that are made: of three geometries, on disks that have bytes, and a making that is stopped at each of its calls.
+use crate::asserts::{assert_same, assert_same_at, assert_that};
 use crate::damage::poke;
 use crate::maps::{empty, map_of};
 use crate::samples::Draws;
@@ -25,32 +26,33 @@ const DRAWN: u64 = 4;
 // A store that was just made has its first catalogue, and nothing else.
 fn check_first(rt: &impl Abort, alloc: Global, disk: &mut MemDisk) {
     let found = report(rt, alloc, disk);
-    assert_eq!(rt; found.version, 1);
+    assert_same(rt, found.version, 1);
     for run in [found.c1, found.c1x, found.c2] {
-        assert_eq!(rt; run, no_component());
-        assert_eq!(rt;
+        assert_same(rt, run, no_component());
+        assert_same(
+            rt,
             (run.first, run.pages, run.entries, run.weight),
-            (u32::MAX, 0, 0, 0)
+            (u32::MAX, 0, 0, 0),
         );
     }
-    assert_eq!(rt; (found.lane_a, found.lane_b), (0, 0));
+    assert_same(rt, (found.lane_a, found.lane_b), (0, 0));
 }
 
 // A core has no key.
 fn check_empty(rt: &impl Abort, alloc: Global, core: Core<MemDisk>) -> MemDisk {
-    assert_eq!(rt; core.charge(), 0);
+    assert_same(rt, core.charge(), 0);
     let (map, disk) = map_of(rt, alloc, core, KEYS);
-    assert!(rt; map == empty(rt, alloc, KEYS));
+    assert_that(rt, map == empty(rt, alloc, KEYS));
     disk
 }
 
 // A store of this geometry is made, and opens to the empty map.
 fn check_made(rt: &impl Abort, alloc: Global, geo: &Geometry) {
     let mut disk = made(rt, alloc, geo);
-    assert_eq!(rt; disk.len().expect(rt, "a length"), geo.length());
+    assert_same(rt, disk.len().expect(rt, "a length"), geo.length());
     check_first(rt, alloc, &mut disk);
     let core = open(rt, alloc, disk);
-    assert!(rt; core.geometry() == *geo);
+    assert_that(rt, core.geometry() == *geo);
     let mut disk = check_empty(rt, alloc, core);
     check_first(rt, alloc, &mut disk);
 }
@@ -70,7 +72,7 @@ fn check_full(rt: &impl Abort, alloc: Global, bytes: &[u8]) {
     let disk = copy(rt, &disk);
     let mut after = copy(rt, &disk);
     let made = make_store(&mut after, &smallest(rt));
-    assert_eq!(rt; made, Err(NotMade::NotEmpty(bytes.len() as u64)));
+    assert_same(rt, made, Err(NotMade::NotEmpty(bytes.len() as u64)));
     check_same(rt, copy(rt, &disk), copy(rt, &after));
     check_same(rt, disk, after);
 }
@@ -89,7 +91,7 @@ fn a_store_is_not_made_again(rt: HostRuntime) {
     let geo = smallest(&rt);
     let mut disk = made(&rt, alloc, &geo);
     let again = make_store(&mut disk, &geo);
-    assert_eq!(rt; again, Err(NotMade::NotEmpty(geo.length())));
+    assert_same(&rt, again, Err(NotMade::NotEmpty(geo.length())));
     check_same(&rt, made(&rt, alloc, &geo), disk);
 }
 
@@ -100,7 +102,7 @@ fn check_image(rt: &impl Abort, alloc: Global, disk: &MemDisk, pick: u64) {
             let _ = check_empty(rt, alloc, core);
         }
         Err(NotOpened { why, .. }) => {
-            assert_eq!(rt; why, Unreadable::NotAStore, "at image {pick}");
+            assert_same_at(rt, why, Unreadable::NotAStore, pick);
         }
     }
 }
@@ -123,14 +125,14 @@ fn check_stop(rt: &impl Abort, alloc: Global, geo: &Geometry, calls: u64, draws:
     let mut disk = blank(rt, alloc, geo);
     disk.stop_after(calls);
     let made = make_store(&mut disk, geo);
-    assert_eq!(rt; made, Err(NotMade::Fault), "behind {calls} calls");
+    assert_same_at(rt, made, Err(NotMade::Fault), calls);
     check_images(rt, alloc, &disk, draws);
 }
 
 // How many calls a making takes.
 fn calls_of_making(rt: &impl Abort, alloc: Global, geo: &Geometry) -> u64 {
     let mut disk = blank(rt, alloc, geo);
-    assert_eq!(rt; make_store(&mut disk, geo), Ok(()));
+    assert_same(rt, make_store(&mut disk, geo), Ok(()));
     check_images(rt, alloc, &disk, &mut Draws(0));
     calls_of(disk)
 }

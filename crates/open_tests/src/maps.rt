@@ -1,4 +1,5 @@
 // Plain maps: what a history leads to, and what a core looks up.
+use crate::asserts::assert_same;
 use crate::samples::{key_of, number_of};
 use crate::stores::make;
 use blsm_model::{Annals, Op, ShortReply, Text, Value};
@@ -75,7 +76,7 @@ pub fn map_of(rt: &impl Abort, alloc: Global, core: Core<MemDisk>, keys: usize) 
     let mut core = core;
     look_up(rt, alloc, &mut core, keys);
     let (disk, annals, _) = core.end();
-    assert_eq!(rt; annals.len(), keys);
+    assert_same(rt, annals.len(), keys);
     let mut map = Vec::new(alloc);
     for place in 0..annals.len() as u32 {
         map.push(told_at(rt, &annals, place)).expect(rt, "memory");

@@ -1,4 +1,5 @@
 // What an opening leaves: of three geometries, after drawn steps, and a second time.
+use crate::asserts::{assert_same, assert_that};
 use crate::maps::{Map, follow, map_of};
 use crate::samples::{Draws, add, del, draw_write, key_of, put};
 use crate::stores::{copy, made, make, open, report, smallest, steepest, work, write};
@@ -50,9 +51,9 @@ fn schedule(rt: &impl Abort, alloc: Global, disk: MemDisk, seed: u64, steps: u32
 // A store was settled: C1' and both lanes are empty, and the core's charge is what C1 and C2 weigh.
 fn check_settled(rt: &impl Abort, alloc: Global, disk: &mut MemDisk, charge: u64) {
     let found = report(rt, alloc, disk);
-    assert_eq!(rt; found.c1x, no_component());
-    assert_eq!(rt; (found.lane_a, found.lane_b), (0, 0));
-    assert_eq!(rt; found.c1.weight.saturating_add(found.c2.weight), charge);
+    assert_same(rt, found.c1x, no_component());
+    assert_same(rt, (found.lane_a, found.lane_b), (0, 0));
+    assert_same(rt, found.c1.weight.saturating_add(found.c2.weight), charge);
 }
 
 // Opens the store on a disk, which has the map and is settled then. Answers the disk.
@@ -60,7 +61,7 @@ fn check_opening(rt: &impl Abort, alloc: Global, disk: MemDisk, map: &Map) -> Me
     let core = open(rt, alloc, disk);
     let charge = core.charge();
     let (found, mut disk) = map_of(rt, alloc, core, map.len());
-    assert!(rt; found == *map);
+    assert_that(rt, found == *map);
     check_settled(rt, alloc, &mut disk, charge);
     disk
 }
@@ -70,7 +71,7 @@ fn check_twice(rt: &impl Abort, alloc: Global, disk: MemDisk, map: &Map) -> MemD
     let mut once = check_opening(rt, alloc, disk, map);
     let then = report(rt, alloc, &mut once);
     let mut twice = check_opening(rt, alloc, once, map);
-    assert_eq!(rt; report(rt, alloc, &mut twice), then);
+    assert_same(rt, report(rt, alloc, &mut twice), then);
     twice
 }
 
@@ -79,7 +80,7 @@ fn check_schedule(rt: &impl Abort, alloc: Global, disk: MemDisk, seed: u64, step
     let core = schedule(rt, alloc, disk, seed, steps);
     let (disk, annals, totals) = core.end();
     assert!(rt; 0 < totals.passes);
-    assert!(rt; totals.stopped.is_none());
+    assert_that(rt, totals.stopped.is_none());
     let map = follow(rt, alloc, KEYS as usize, &annals);
     let _ = check_twice(rt, alloc, disk, &map);
 }
@@ -121,30 +122,34 @@ fn run_merges(rt: &impl Abort, alloc: Global, core: &mut Core<MemDisk>) {
 // What the reading of that store tells.
 fn check_merges(rt: &impl Abort, alloc: Global, disk: &mut MemDisk) {
     let found = report(rt, alloc, disk);
-    assert_eq!(rt; found.version, 6);
-    assert_eq!(rt; found.c1, no_component());
-    assert_eq!(rt;
+    assert_same(rt, found.version, 6);
+    assert_same(rt, found.c1, no_component());
+    assert_same(
+        rt,
         (found.c1x.pages, found.c1x.entries, found.c1x.weight),
-        (1, 2, 30)
+        (1, 2, 30),
     );
-    assert_eq!(rt;
+    assert_same(
+        rt,
         (found.c2.pages, found.c2.entries, found.c2.weight),
-        (1, 2, 33)
+        (1, 2, 33),
     );
-    assert_eq!(rt; (found.lane_a, found.lane_b), (1, 0));
+    assert_same(rt, (found.lane_a, found.lane_b), (1, 0));
 }
 
 // What the reading tells once it was opened: the deep merge and a pass were swapped in.
 fn check_merged(rt: &impl Abort, alloc: Global, disk: &mut MemDisk) {
     let found = report(rt, alloc, disk);
-    assert_eq!(rt; found.version, 8);
-    assert_eq!(rt;
+    assert_same(rt, found.version, 8);
+    assert_same(
+        rt,
         (found.c1.pages, found.c1.entries, found.c1.weight),
-        (1, 1, 16)
+        (1, 1, 16),
     );
-    assert_eq!(rt;
+    assert_same(
+        rt,
         (found.c2.pages, found.c2.entries, found.c2.weight),
-        (1, 2, 30)
+        (1, 2, 30),
     );
 }
 

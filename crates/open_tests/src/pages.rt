@@ -1,4 +1,5 @@
 // Damage of the pages of components.
+use crate::asserts::{assert_same, assert_that};
 use crate::damage::{
     C1_AT, C1X_AT, C2_AT, check_damaged, check_opens, peek, poke, poke_component, slot_of,
 };
@@ -131,8 +132,8 @@ fn make_chain(rt: &impl Abort, alloc: Global) -> Chain {
     let (disk, _, _) = core.end();
     let mut disk = copy(rt, &disk);
     let found = report(rt, alloc, &mut disk);
-    assert_eq!(rt; (found.c1, found.c1x), (no_component(), no_component()));
-    assert_eq!(rt; (found.c2.pages, found.c2.entries), (3, 25));
+    assert_same(rt, (found.c1, found.c1x), (no_component(), no_component()));
+    assert_same(rt, (found.c2.pages, found.c2.entries), (3, 25));
     Chain {
         disk: copy(rt, &disk),
         run: found.c2,
@@ -143,7 +144,7 @@ fn make_chain(rt: &impl Abort, alloc: Global) -> Chain {
 fn next_of(rt: &impl Abort, disk: &mut MemDisk, page: u32) -> u32 {
     let mut bytes = [0; 4];
     let at = page_at(&smallest(rt), page).saturating_add(NEXT_AT);
-    assert!(rt; disk.read(at, &mut bytes).is_ok());
+    assert_that(rt, disk.read(at, &mut bytes).is_ok());
     u32::from_be_bytes(bytes)
 }
 
@@ -153,7 +154,7 @@ fn pages_of(rt: &impl Abort, chain: &Chain) -> [u32; 3] {
     let first = chain.run.first;
     let second = next_of(rt, &mut disk, first);
     let third = next_of(rt, &mut disk, second);
-    assert_eq!(rt; next_of(rt, &mut disk, third), u32::MAX);
+    assert_same(rt, next_of(rt, &mut disk, third), u32::MAX);
     [first, second, third]
 }
 

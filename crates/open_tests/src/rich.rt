@@ -1,4 +1,5 @@
 // A store in the midst of its merges: on its disk C1, C1' and C2 have entries, and both lanes have records.
+use crate::asserts::{assert_same, assert_that};
 use crate::maps::{Map, follow};
 use crate::samples::{add, del, long, put};
 use crate::stores::{admit, copy, made, open, quickest, report, work, write};
@@ -56,11 +57,12 @@ pub struct Rich {
 // All parts have something.
 fn check_rich(rt: &impl Abort, alloc: Global, disk: &mut MemDisk) {
     let found = report(rt, alloc, disk);
-    assert_eq!(rt;
+    assert_same(
+        rt,
         (found.c1.entries, found.c1x.entries, found.c2.entries),
-        (2, 4, 3)
+        (2, 4, 3),
     );
-    assert_eq!(rt; (found.lane_a, found.lane_b), (5, 2));
+    assert_same(rt, (found.lane_a, found.lane_b), (5, 2));
 }
 
 /// The store.
@@ -71,7 +73,7 @@ pub fn make_rich(rt: &impl Abort, alloc: Global) -> Rich {
     fill_c1(rt, alloc, &mut core);
     fill_lanes(rt, alloc, &mut core);
     let (disk, annals, totals) = core.end();
-    assert!(rt; totals.stopped.is_none());
+    assert_that(rt, totals.stopped.is_none());
     let mut disk = copy(rt, &disk);
     check_rich(rt, alloc, &mut disk);
     Rich {

@@ -1,4 +1,5 @@
 // An opening that is stopped at each of its calls of the disk. What each image holds that a crash may leave then is opened.
+use crate::asserts::{assert_same, assert_same_at, assert_that, assert_that_at};
 use crate::maps::{Map, map_of};
 use crate::rich::{KEYS, Rich, make_rich};
 use crate::samples::Draws;
@@ -60,8 +61,8 @@ pub fn is_same_at(
     let mut here = [0u8; 4_096];
     let mut there = [0u8; 4_096];
     let count = length.saturating_sub(at).min(4_096) as usize;
-    assert!(rt; one.read(at, &mut here[..count]).is_ok());
-    assert!(rt; two.read(at, &mut there[..count]).is_ok());
+    assert_that(rt, one.read(at, &mut here[..count]).is_ok());
+    assert_that(rt, two.read(at, &mut there[..count]).is_ok());
     here == there
 }
 
@@ -70,10 +71,10 @@ pub fn check_same(rt: &impl Abort, one: MemDisk, two: MemDisk) {
     let mut one = one;
     let mut two = two;
     let length = one.len().expect(rt, "a length");
-    assert_eq!(rt; two.len().expect(rt, "a length"), length);
+    assert_same(rt, two.len().expect(rt, "a length"), length);
     for page in 0..length / 4_096 + 1 {
         let at = page.saturating_mul(4_096).min(length);
-        assert!(rt; is_same_at(rt, &mut one, &mut two, at, length), "at {at}");
+        assert_that_at(rt, is_same_at(rt, &mut one, &mut two, at, length), at);
     }
 }
 
@@ -87,7 +88,7 @@ fn check_few(rt: &impl Abort, disk: &MemDisk) {
 fn check_image(rt: &impl Abort, alloc: Global, disk: &MemDisk, map: &Map, pick: u64) {
     let core = open(rt, alloc, image(rt, disk, pick));
     let (found, _) = map_of(rt, alloc, core, KEYS);
-    assert!(rt; found == *map, "at image {pick}");
+    assert_that_at(rt, found == *map, pick);
 }
 
 // Images with those writes whole that a kind and a place name, and one write more torn by drawn digits.
@@ -149,8 +150,8 @@ fn check_stop(rt: &impl Abort, alloc: Global, store: &Rich, calls: u64, draws: &
     let mut disk = copy(rt, &store.disk);
     disk.stop_after(calls);
     let (why, disk) = refused(rt, alloc, disk);
-    assert_eq!(rt; why, Unreadable::Fault, "behind {calls} calls");
-    assert_eq!(rt; disk.faults(), 1, "behind {calls} calls");
+    assert_same_at(rt, why, Unreadable::Fault, calls);
+    assert_same_at(rt, disk.faults(), 1, calls);
     check_images(rt, alloc, &disk, &store.map, draws);
 }
 

@@ -2,6 +2,7 @@
 ghost use Rattle.std.specs.Prelude.{◌≡◌, ◌≤◌, false, sum};
 ghost use Rattle.blsm_model.specs.Format.{most_entries, most_rows_asked};
 
+use crate::asserts::assert_same;
 use blsm_model::{CALLERS, Geometry, Op, Room};
 use disk_mem::MemDisk;
 use recover_open::{Report, Unreadable, check_store, make_store, open_store};
@@ -81,7 +82,7 @@ pub fn copy(rt: &impl Abort, disk: &MemDisk) -> MemDisk {
 /// The disk of a store that was just made.
 pub fn made(rt: &impl Abort, alloc: Global, geo: &Geometry) -> MemDisk {
     let mut disk = blank(rt, alloc, geo);
-    assert_eq!(rt; make_store(&mut disk, geo), Ok(()));
+    assert_same(rt, make_store(&mut disk, geo), Ok(()));
     copy(rt, &disk)
 }
 
