@@ -1,7 +1,10 @@
 //! Tests of the core of the tree over disks in memory: writes and what they cost, merges and holds, schedules of many seats beside a plain
-//! map, a plain store, sums of weights and stored lines, and stops at each call of the disk with what their images hold.
+//! map, a plain store, sums of weights and stored lines, stops at each call of the disk with what their images hold, and pages that turn to
+//! zeros.
 #![tactic(auto)]
 
+#[cfg(test)]
+mod damage;
 #[cfg(test)]
 mod holds;
 #[cfg(test)]

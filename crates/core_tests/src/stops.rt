@@ -271,9 +271,9 @@ fn check_images(rt: &impl Abort, alloc: Global, geo: Geometry, left: &Left, draw
     check_all_torn(rt, alloc, geo, &left.disk, &maps, draws);
 }
 
-// How many calls of a disk have come, none of which was past its record: all calls behind a number of calls fail, and with each failure
-// that number rises by two.
-fn calls_of(disk: MemDisk) -> u64 {
+/// How many calls of a disk have come, none of which was past its record: all calls behind a number of calls fail, and with each failure
+/// that number rises by two.
+pub fn calls_of(disk: MemDisk) -> u64 {
     let mut disk = disk;
     for calls in 0..100_000u64 {
         disk.stop_after(calls.saturating_mul(2));
