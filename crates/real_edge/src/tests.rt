@@ -1,8 +1,11 @@
+ghost use Rattle.std.specs.Prelude.{IsTrue};
+
 use super::*;
 use disk_trait::{Disk, Shelf};
 use refusal::Failed;
 use std::alloc::{Alloc, Global};
 use std::cell::Cell;
+use std::fmt::Debug;
 use std::fs::{File, Metadata, OpenFile};
 use std::io::{PipeReader, Read, Write};
 use std::os::fd::AsRawFd;
@@ -11,6 +14,37 @@ use std::process::Abort;
 use std::rt::Files;
 use std::{fs, io};
 use text_io::{Sink, Source};
+
+// Assertions as functions: the text of a macro is proved anew wherever it stands.
+
+// It is so.
+fn assert_that(rt: &impl Abort, is_so: bool)
+    ensures { IsTrue is_so }
+{
+    assert!(rt; is_so);
+}
+
+// It is so, at this case.
+fn assert_that_at<P: Debug + Drop>(rt: &impl Abort, is_so: bool, at: P)
+    ensures { IsTrue is_so }
+{
+    assert!(rt; is_so, "at {at:?}");
+}
+
+// Both are the same.
+fn assert_same<T: PartialEq + Debug + Drop>(rt: &impl Abort, found: T, wanted: T) {
+    assert_eq!(rt; found, wanted);
+}
+
+// Both are the same, at this case.
+fn assert_same_at<T: PartialEq + Debug + Drop, P: Debug + Drop>(
+    rt: &impl Abort,
+    found: T,
+    wanted: T,
+    at: P,
+) {
+    assert_eq!(rt; found, wanted, "at {at:?}");
+}
 
 // A stream whose first calls fail so, and each later one moves one byte.
 #[derive(Drop)]
@@ -61,19 +95,19 @@ impl Write for FailsFirst {
 fn a_refused_read_is_not_tried_again(rt: HostRuntime) {
     let mut source = StdSource::new(fails_first(1, io::ErrorKind::Other));
     let mut two = [0; 2];
-    assert!(rt; source.read(&mut two).is_err());
-    assert_eq!(rt; (source.reader.calls, source.faults), (1, 1));
-    assert_eq!(rt; source.read(&mut two), Ok(1));
-    assert_eq!(rt; (source.reader.calls, source.faults), (2, 1));
+    assert_that(&rt, source.read(&mut two).is_err());
+    assert_same(&rt, (source.reader.calls, source.faults), (1, 1));
+    assert_same(&rt, source.read(&mut two), Ok(1));
+    assert_same(&rt, (source.reader.calls, source.faults), (2, 1));
 }
 
 #[test]
 fn a_refused_write_is_not_tried_again(rt: HostRuntime) {
     let mut sink = StdSink::new(fails_first(1, io::ErrorKind::Other));
-    assert!(rt; sink.write(b"ab").is_err());
-    assert_eq!(rt; (sink.writer.calls, sink.faults), (1, 1));
-    assert_eq!(rt; sink.write(b"ab"), Ok(1));
-    assert_eq!(rt; (sink.writer.calls, sink.faults), (2, 1));
+    assert_that(&rt, sink.write(b"ab").is_err());
+    assert_same(&rt, (sink.writer.calls, sink.faults), (1, 1));
+    assert_same(&rt, sink.write(b"ab"), Ok(1));
+    assert_same(&rt, (sink.writer.calls, sink.faults), (2, 1));
 }
 
 // A call that a signal interrupted is made again, and no fault.
@@ -81,25 +115,25 @@ fn a_refused_write_is_not_tried_again(rt: HostRuntime) {
 fn an_interrupted_read_is_made_again(rt: HostRuntime) {
     let mut source = StdSource::new(fails_first(3, io::ErrorKind::Interrupted));
     let mut two = [0; 2];
-    assert_eq!(rt; source.read(&mut two), Ok(1));
-    assert_eq!(rt; (source.reader.calls, source.faults), (4, 0));
+    assert_same(&rt, source.read(&mut two), Ok(1));
+    assert_same(&rt, (source.reader.calls, source.faults), (4, 0));
 }
 
 #[test]
 fn an_interrupted_write_is_made_again(rt: HostRuntime) {
     let mut sink = StdSink::new(fails_first(3, io::ErrorKind::Interrupted));
-    assert_eq!(rt; sink.write(b"ab"), Ok(1));
-    assert_eq!(rt; (sink.writer.calls, sink.faults), (4, 0));
+    assert_same(&rt, sink.write(b"ab"), Ok(1));
+    assert_same(&rt, (sink.writer.calls, sink.faults), (4, 0));
 }
 
 #[test]
 fn a_reader_is_a_source(rt: HostRuntime) {
     let mut source = StdSource::new(b"abc".as_slice());
     let mut two = [0; 2];
-    assert_eq!(rt; source.read(&mut two).is_ok(), true);
-    assert_eq!(rt; two, *b"ab");
-    assert_eq!(rt; source.read(&mut two), Ok(1));
-    assert_eq!(rt; source.read(&mut two), Ok(0));
+    assert_same(&rt, source.read(&mut two).is_ok(), true);
+    assert_same(&rt, two, *b"ab");
+    assert_same(&rt, source.read(&mut two), Ok(1));
+    assert_same(&rt, source.read(&mut two), Ok(0));
 }
 
 #[test]
@@ -107,21 +141,21 @@ fn a_writer_is_a_sink(rt: HostRuntime) {
     let mut bytes = Vec::new(rt.alloc());
     {
         let mut sink = StdSink::new(&mut bytes);
-        assert_eq!(rt; sink.write(b"ab"), Ok(2));
-        assert_eq!(rt; sink.write(b""), Ok(0));
-        assert_eq!(rt; sink.write(b"c"), Ok(1));
+        assert_same(&rt, sink.write(b"ab"), Ok(2));
+        assert_same(&rt, sink.write(b""), Ok(0));
+        assert_same(&rt, sink.write(b"c"), Ok(1));
     }
-    assert_eq!(rt; bytes.as_slice(), b"abc".as_slice());
+    assert_same(&rt, bytes.as_slice(), b"abc".as_slice());
 
     // A writer that takes a part of a piece, and then nothing more.
     let mut two = [0; 2];
     {
         let mut sink = StdSink::new(two.as_mut_slice());
-        assert_eq!(rt; sink.write(b"abc"), Ok(2));
-        assert!(rt; sink.write(b"c").is_err());
-        assert_eq!(rt; sink.write(b""), Ok(0));
+        assert_same(&rt, sink.write(b"abc"), Ok(2));
+        assert_that(&rt, sink.write(b"c").is_err());
+        assert_same(&rt, sink.write(b""), Ok(0));
     }
-    assert_eq!(rt; two, *b"ab");
+    assert_same(&rt, two, *b"ab");
 }
 
 // A file of four bytes. One call fails, by its number, and each read and write moves one byte.
@@ -202,9 +236,9 @@ fn a_refused_call_of_a_file_is_one_fault(rt: HostRuntime) {
             calls: Cell::new(0),
             failing,
         });
-        assert_eq!(rt; five_calls(&mut disk), outcomes, "call {failing}");
-        assert_eq!(rt; disk.file.calls.get(), calls, "call {failing}");
-        assert_eq!(rt; disk.faults(), faults, "call {failing}");
+        assert_same_at(&rt, five_calls(&mut disk), outcomes, failing);
+        assert_same_at(&rt, disk.file.calls.get(), calls, failing);
+        assert_same_at(&rt, disk.faults(), faults, failing);
     }
 }
 
@@ -215,10 +249,10 @@ fn a_write_makes_a_length_known(rt: HostRuntime) {
         calls: Cell::new(0),
         failing: 0,
     });
-    assert_eq!(rt; disk.write(4, b"ab"), Ok(()));
-    assert_eq!(rt; disk.file.calls.get(), 3);
-    assert_eq!(rt; disk.write(6, b"c"), Ok(()));
-    assert_eq!(rt; disk.file.calls.get(), 4);
+    assert_same(&rt, disk.write(4, b"ab"), Ok(()));
+    assert_same(&rt, disk.file.calls.get(), 3);
+    assert_same(&rt, disk.write(6, b"c"), Ok(()));
+    assert_same(&rt, disk.file.calls.get(), 4);
 }
 
 fn write_six(disk: &mut FileDisk<File>) -> Result<(), Failed> {
@@ -251,7 +285,7 @@ fn fetch<R: Abort + Files<File = File> + Alloc>(
 }
 
 fn put<R: Abort + Files<File = File>>(rt: &R, name: &str, bytes: &[u8]) {
-    assert!(rt; fs::write(rt, name, bytes).is_ok(), "{name}");
+    assert_that_at(rt, fs::write(rt, name, bytes).is_ok(), name);
 }
 
 fn exists<R: Abort + Files>(rt: &R, name: &str) -> bool {
@@ -262,12 +296,12 @@ fn exists<R: Abort + Files>(rt: &R, name: &str) -> bool {
 }
 
 fn remove<R: Abort + Files>(rt: &R, name: &str) {
-    assert!(rt; rt.remove_file(name).is_ok(), "{name}");
+    assert_that_at(rt, rt.remove_file(name).is_ok(), name);
 }
 
 fn has<R: Abort + Files + Alloc>(rt: &R, name: &str, bytes: &[u8]) {
     match fs::read(rt, name) {
-        Ok(found) => assert_eq!(rt; found.as_slice(), bytes),
+        Ok(found) => assert_same(rt, found.as_slice(), bytes),
         Err(_) => assert!(rt; false, "{name}"),
     }
 }
@@ -276,14 +310,14 @@ fn has<R: Abort + Files + Alloc>(rt: &R, name: &str, bytes: &[u8]) {
 fn keeps_six<R: Abort + Files<File = File> + Alloc>(rt: &R, name: &str) {
     let mut shelf = shelf(rt);
     let mut disk = fetch(rt, &mut shelf, name, true);
-    assert_eq!(rt; disk.len(), Ok(0));
-    assert_eq!(rt; write_six(&mut disk), Ok(()));
-    assert_eq!(rt; disk.len(), Ok(6));
+    assert_same(rt, disk.len(), Ok(0));
+    assert_same(rt, write_six(&mut disk), Ok(()));
+    assert_same(rt, disk.len(), Ok(6));
     shelf.give_back(name, disk);
     has(rt, name, b"abCDEF");
     reads_four(rt, &mut shelf, name, false);
     reads_four(rt, &mut shelf, name, true);
-    assert_eq!(rt; shelf.faults, 0);
+    assert_same(rt, shelf.faults, 0);
 }
 
 fn reads_four<R: Abort + Files<File = File> + Alloc>(
@@ -293,33 +327,36 @@ fn reads_four<R: Abort + Files<File = File> + Alloc>(
     fresh: bool,
 ) {
     let mut disk = fetch(rt, shelf, name, fresh);
-    assert_eq!(rt; read_four(&mut disk), Ok(*b"bCDE"));
+    assert_same(rt, read_four(&mut disk), Ok(*b"bCDE"));
     shelf.give_back(name, disk);
 }
 
 // What is written stands in the file of that name, and is there at the next fetch, fresh or not.
 #[test]
 fn a_file_keeps_what_is_written(rt: HostRuntime) {
-    assert!(rt; fs::create_dir(&rt, "real_edge_files").is_ok());
+    assert_that(&rt, fs::create_dir(&rt, "real_edge_files").is_ok());
     for name in ["real_edge_file", "real_edge_files/one"] {
         keeps_six(&rt, name);
         remove(&rt, name);
     }
-    assert!(rt; fs::remove_dir(&rt, "real_edge_files").is_ok());
+    assert_that(&rt, fs::remove_dir(&rt, "real_edge_files").is_ok());
 }
 
 // A link leads to its file, also where it is fetched fresh, and to the folder of that file.
 #[test]
 fn a_link_leads_to_its_file(rt: HostRuntime) {
-    assert!(rt; fs::create_dir(&rt, "real_edge_far").is_ok());
+    assert_that(&rt, fs::create_dir(&rt, "real_edge_far").is_ok());
     put(&rt, "real_edge_far/one", b"abCDEF");
-    assert!(rt; symlink(&rt, "real_edge_far/one", "real_edge_near").is_ok());
+    assert_that(
+        &rt,
+        symlink(&rt, "real_edge_far/one", "real_edge_near").is_ok(),
+    );
     let mut shelf = shelf(&rt);
     reads_four(&rt, &mut shelf, "real_edge_near", true);
     reads_four(&rt, &mut shelf, "real_edge_near", false);
     remove(&rt, "real_edge_near");
     remove(&rt, "real_edge_far/one");
-    assert!(rt; fs::remove_dir(&rt, "real_edge_far").is_ok());
+    assert_that(&rt, fs::remove_dir(&rt, "real_edge_far").is_ok());
 }
 
 // How many of these calls on a file of three bytes end well.
@@ -343,13 +380,13 @@ fn a_file_refuses_what_lies_past_its_end(rt: HostRuntime) {
     put(&rt, "real_edge_end", b"abc");
     let mut shelf = shelf(&rt);
     let mut disk = fetch(&rt, &mut shelf, "real_edge_end", true);
-    assert_eq!(rt; past_end(&mut disk), 0);
-    assert_eq!(rt; disk.faults(), 6);
-    assert_eq!(rt; disk.read(3, &mut []), Ok(()));
-    assert_eq!(rt; disk.write(3, b"de"), Ok(()));
-    assert_eq!(rt; read_four(&mut disk), Ok(*b"bcde"));
+    assert_same(&rt, past_end(&mut disk), 0);
+    assert_same(&rt, disk.faults(), 6);
+    assert_same(&rt, disk.read(3, &mut []), Ok(()));
+    assert_same(&rt, disk.write(3, b"de"), Ok(()));
+    assert_same(&rt, read_four(&mut disk), Ok(*b"bcde"));
     shelf.give_back("real_edge_end", disk);
-    assert_eq!(rt; shelf.faults, 6);
+    assert_same(&rt, shelf.faults, 6);
     has(&rt, "real_edge_end", b"abcde");
     remove(&rt, "real_edge_end");
 }
@@ -359,30 +396,30 @@ fn a_file_refuses_what_lies_past_its_end(rt: HostRuntime) {
 fn a_file_made_in_vain_is_removed(rt: HostRuntime) {
     let mut shelf = shelf(&rt);
     let mut disk = fetch(&rt, &mut shelf, "real_edge_vain", true);
-    assert_eq!(rt; write_six(&mut disk), Ok(()));
-    assert!(rt; disk.read(7, &mut []).is_err());
+    assert_same(&rt, write_six(&mut disk), Ok(()));
+    assert_that(&rt, disk.read(7, &mut []).is_err());
     shelf.give_back("real_edge_vain", disk);
-    assert!(rt; !exists(&rt, "real_edge_vain"));
+    assert_that(&rt, !exists(&rt, "real_edge_vain"));
     let disk = fetch(&rt, &mut shelf, "real_edge_vain", true);
     shelf.give_back("real_edge_vain", disk);
-    assert!(rt; exists(&rt, "real_edge_vain"));
+    assert_that(&rt, exists(&rt, "real_edge_vain"));
     remove(&rt, "real_edge_vain");
 }
 
 // Refused by a fetch, fresh or not, with a fault for each.
 fn refuses<R: Abort + Files<File = File> + Alloc>(rt: &R, name: &str) {
     let mut shelf = shelf(rt);
-    assert!(rt; shelf.fetch(name, false).is_err(), "{name}");
-    assert!(rt; shelf.fetch(name, true).is_err(), "{name}");
-    assert_eq!(rt; shelf.faults, 2);
+    assert_that_at(rt, shelf.fetch(name, false).is_err(), name);
+    assert_that_at(rt, shelf.fetch(name, true).is_err(), name);
+    assert_same(rt, shelf.faults, 2);
 }
 
 // A folder, a pipe and a device are no files, and nothing is written to them.
 #[test]
 fn a_file_alone_is_fetched(rt: HostRuntime) {
-    assert!(rt; fs::create_dir(&rt, "real_edge_folder").is_ok());
+    assert_that(&rt, fs::create_dir(&rt, "real_edge_folder").is_ok());
     refuses(&rt, "real_edge_folder");
-    assert!(rt; fs::remove_dir(&rt, "real_edge_folder").is_ok());
+    assert_that(&rt, fs::remove_dir(&rt, "real_edge_folder").is_ok());
     refuses(&rt, "/dev/null");
     refuses_pipe(&rt);
 }
@@ -397,7 +434,7 @@ fn refuses_pipe<R: Abort + Files<File = File> + Alloc<A = Global>>(rt: &R) {
         Err(_) => assert!(rt; false, "no memory"),
     }
     drop(writer);
-    assert_eq!(rt; left_in(reader), Ok(0));
+    assert_same(rt, left_in(reader), Ok(0));
 }
 
 // How many bytes of the first eight a pipe without writers has.
@@ -409,7 +446,10 @@ fn left_in(mut reader: PipeReader) -> Result<usize, Failed> {
 // Each fetch that fails is one fault, and makes no file. A link that leads nowhere is not followed.
 #[test]
 fn a_fetch_that_fails_is_one_fault(rt: HostRuntime) {
-    assert!(rt; symlink(&rt, "real_edge_missing", "real_edge_link").is_ok());
+    assert_that(
+        &rt,
+        symlink(&rt, "real_edge_missing", "real_edge_link").is_ok(),
+    );
     let rows = [
         ("real_edge_missing", false),
         ("real_edge_link", true),
@@ -419,10 +459,10 @@ fn a_fetch_that_fails_is_one_fault(rt: HostRuntime) {
     ];
     let mut shelf = shelf(&rt);
     for (name, fresh) in rows {
-        assert!(rt; shelf.fetch(name, fresh).is_err(), "{name}");
+        assert_that_at(&rt, shelf.fetch(name, fresh).is_err(), name);
     }
-    assert_eq!(rt; shelf.faults, 5);
-    assert!(rt; !exists(&rt, "real_edge_missing"));
+    assert_same(&rt, shelf.faults, 5);
+    assert_that(&rt, !exists(&rt, "real_edge_missing"));
     remove(&rt, "real_edge_link");
 }
 
@@ -432,8 +472,8 @@ fn a_file_that_is_out_is_not_fetched(rt: HostRuntime) {
     let mut one = shelf(&rt);
     let mut other = shelf(&rt);
     let disk = fetch(&rt, &mut one, "real_edge_out", true);
-    assert!(rt; one.fetch("real_edge_out", true).is_err());
-    assert!(rt; other.fetch("real_edge_out", false).is_err());
+    assert_that(&rt, one.fetch("real_edge_out", true).is_err());
+    assert_that(&rt, other.fetch("real_edge_out", false).is_err());
     one.give_back("real_edge_out", disk);
     let disk = fetch(&rt, &mut other, "real_edge_out", false);
     other.give_back("real_edge_out", disk);
