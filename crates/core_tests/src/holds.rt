@@ -1,4 +1,5 @@
 // A hold over merges.
+use crate::asserts::{assert_same, assert_that_at};
 use crate::samples::{del, key, put, value};
 use crate::stores::{check_reply, fresh, make, work, write};
 use blsm_model::{Annals, Geometry, Row, ShortReply, Totals};
@@ -56,20 +57,20 @@ fn row(rt: &impl Abort, name: &[u8], count: u64) -> Row {
 // The rows of an entry are these.
 fn check_rows(rt: &impl Abort, annals: &Annals, place: u32, rows: &[Row]) {
     assert!(rt; (place as usize) < annals.len());
-    assert!(rt; annals.short_reply(place).is_none(), "at {place}");
-    assert!(rt; annals.rows(place) == rows, "at {place}");
+    assert_that_at(rt, annals.short_reply(place).is_none(), place);
+    assert_that_at(rt, annals.rows(place) == rows, place);
 }
 
 // The first next gave a and b, as they were held, and the second none.
 fn check_held(rt: &impl Abort, annals: &Annals) {
-    assert_eq!(rt; annals.len(), 12);
+    assert_same(rt, annals.len(), 12);
     check_rows(rt, annals, 7, &[row(rt, b"a", 1), row(rt, b"b", 2)]);
     check_rows(rt, annals, 8, &[]);
 }
 
 fn check_totals(rt: &impl Abort, totals: &Totals) {
-    assert_eq!(rt; (totals.peak, totals.callers), (28, 4));
-    assert_eq!(rt; (totals.passes, totals.deeps), (2, 2));
+    assert_same(rt, (totals.peak, totals.callers), (28, 4));
+    assert_same(rt, (totals.passes, totals.deeps), (2, 2));
 }
 
 // A hold keeps the rows of its moment over writes and merges.

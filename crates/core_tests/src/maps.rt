@@ -1,6 +1,7 @@
 // Plain maps: what a history leads to, and what a disk holds.
 ghost use Rattle.std.specs.Prelude.{◌≡◌};
 
+use crate::asserts::{assert_same, assert_same_at, assert_that, assert_that_at};
 use crate::samples::number_of;
 use crate::stores::File;
 use blsm_model::{Annals, CALLERS, Component, Geometry, Key, Op, Row, ShortReply, Text, Value};
@@ -64,9 +65,9 @@ fn nothing<T>(rt: &impl Abort, alloc: Global, keys: usize) -> Vec<Option<T>> {
 fn check_get(rt: &impl Abort, map: &[Option<Value>], key: &Key, reply: &ShortReply, place: u32) {
     match reply {
         ShortReply::Is(value) => {
-            assert!(rt; value_of(map, key) == Some(value), "at {place}");
+            assert_that_at(rt, value_of(map, key) == Some(value), place);
         }
-        ShortReply::Absent => assert!(rt; value_of(map, key).is_none(), "at {place}"),
+        ShortReply::Absent => assert_that_at(rt, value_of(map, key).is_none(), place),
         _ => {}
     }
 }
@@ -108,14 +109,14 @@ fn check_rows(rt: &impl Abort, hold: &mut Snapshot, rows: &[Row], n: u32, place:
         if given < n as usize {
             if let Some(Some(value)) = hold.map.get(number) {
                 let row = rows.get(given).expect(rt, "a row");
-                assert_eq!(rt; number_of(&row.key), number, "at {place}");
-                assert!(rt; row.value == *value, "at {place}");
+                assert_same_at(rt, number_of(&row.key), number, place);
+                assert_that_at(rt, row.value == *value, place);
                 given = given.saturating_add(1);
             }
             hold.next = number.saturating_add(1);
         }
     }
-    assert_eq!(rt; given, rows.len(), "at {place}");
+    assert_same_at(rt, given, rows.len(), place);
 }
 
 // A next tells the next rows of the caller's hold.
@@ -258,7 +259,7 @@ impl File {
 
     /// The next entry of a component, if there is one.
     pub fn next(&mut self, rt: &impl Abort, cursor: &mut Cursor) -> Option<(Key, Rec)> {
-        assert_eq!(rt; cursor.advance(&mut self.disk, &self.geo), Ok(()));
+        assert_same(rt, cursor.advance(&mut self.disk, &self.geo), Ok(()));
         cursor.head()
     }
 
@@ -269,14 +270,14 @@ impl File {
         alloc: Global,
         component: &Component,
     ) -> Vec<(Key, Rec)> {
-        assert!(rt; component.pages != 0 || *component == no_component());
+        assert_that(rt, component.pages != 0 || *component == no_component());
         let mut entries = Vec::new(alloc);
         let mut cursor = Cursor::start(component);
         for _ in 0..component.entries {
             let entry = self.next(rt, &mut cursor).expect(rt, "an entry");
             entries.push(entry).expect(rt, "memory");
         }
-        assert!(rt; self.next(rt, &mut cursor).is_none());
+        assert_that(rt, self.next(rt, &mut cursor).is_none());
         entries
     }
 

@@ -1,4 +1,5 @@
 // Passes and deep merges of a few keys, by what they hold.
+use crate::asserts::{assert_same, assert_same_at, assert_that};
 use crate::samples::{add, del, key, put, value};
 use crate::stores::{File, check_reply, fresh, geometry, make, work, write};
 use blsm_model::{Annals, Component, Geometry, Key, ShortReply};
@@ -66,10 +67,10 @@ fn check_told(rt: &impl Abort, annals: &Annals) {
 
 // Asserts that the two works did one quantum each, and no other command any.
 fn check_two_quanta(rt: &impl Abort, annals: &Annals) {
-    assert_eq!(rt; annals.len(), 16);
+    assert_same(rt, annals.len(), 16);
     for place in 0..annals.len() as u32 {
         let worked = place == 5 || place == 11;
-        assert_eq!(rt; annals.quanta(place), u64::from(worked), "at {place}");
+        assert_same_at(rt, annals.quanta(place), u64::from(worked), place);
     }
 }
 
@@ -82,8 +83,8 @@ fn writes_join_a_pass_or_wait(rt: HostRuntime) {
     let (_, annals, totals) = core.end();
     check_told(&rt, &annals);
     check_two_quanta(&rt, &annals);
-    assert_eq!(rt; (totals.peak, totals.callers), (2_273, 2));
-    assert_eq!(rt; (totals.passes, totals.deeps), (1, 0));
+    assert_same(&rt, (totals.peak, totals.callers), (2_273, 2));
+    assert_same(&rt, (totals.passes, totals.deeps), (1, 0));
 }
 
 // A put that is merged down, a del, an add and a lookup.
@@ -106,10 +107,10 @@ fn check_down(rt: &impl Abort, annals: &Annals) {
 
 // Asserts that the work did two quanta, and no other command any.
 fn check_one_work(rt: &impl Abort, annals: &Annals) {
-    assert_eq!(rt; annals.len(), 5);
+    assert_same(rt, annals.len(), 5);
     for place in 0..annals.len() as u32 {
         let quanta = if place == 1 { 2 } else { 0 };
-        assert_eq!(rt; annals.quanta(place), quanta, "at {place}");
+        assert_same_at(rt, annals.quanta(place), quanta, place);
     }
 }
 
@@ -121,10 +122,10 @@ fn a_work_merges_down(rt: HostRuntime) {
     let (_, annals, totals) = core.end();
     check_down(&rt, &annals);
     check_one_work(&rt, &annals);
-    assert_eq!(rt; (totals.peak, totals.high), (17, 65_536));
-    assert_eq!(rt; (totals.callers, totals.workers), (2, 0));
-    assert_eq!(rt; (totals.passes, totals.deeps), (1, 1));
-    assert_eq!(rt; totals.charge, 17 + 14);
+    assert_same(&rt, (totals.peak, totals.high), (17, 65_536));
+    assert_same(&rt, (totals.callers, totals.workers), (2, 0));
+    assert_same(&rt, (totals.passes, totals.deeps), (1, 1));
+    assert_same(&rt, totals.charge, 17 + 14);
 }
 
 // A C2 in which x has 100 and z has 1.
@@ -163,7 +164,7 @@ fn merged(rt: &impl Abort, alloc: Global, turns: u32) -> File {
     merge_two(rt, alloc, &mut core);
     merge_over(rt, alloc, &mut core, turns);
     let (disk, annals, _) = core.end();
-    assert_eq!(rt; annals.len(), 9);
+    assert_same(rt, annals.len(), 9);
     check_merged(rt, &annals, turns);
     File::over(rt, geo, disk)
 }
@@ -181,7 +182,7 @@ fn check_two(
     two: [(Key, Rec); 2],
 ) {
     let entries = file.entries(rt, alloc, component);
-    assert!(rt; entries.as_slice() == two.as_slice());
+    assert_that(rt, entries.as_slice() == two.as_slice());
 }
 
 // Before the deep merge's swap C1' has the tombstone and the delta, and C2 the bases.
@@ -190,8 +191,8 @@ fn a_tombstone_and_a_delta_wait(rt: HostRuntime) {
     let alloc = rt.alloc();
     let mut file = merged(&rt, alloc, 4);
     let catalogue = file.newest(&rt);
-    assert_eq!(rt; catalogue.version, 6);
-    assert_eq!(rt; catalogue.c1, no_component());
+    assert_same(&rt, catalogue.version, 6);
+    assert_same(&rt, catalogue.c1, no_component());
     let x = (key(&rt, b"x"), Rec::Tomb);
     let y = (key(&rt, b"y"), Rec::Delta(4));
     check_two(&rt, alloc, &mut file, &catalogue.c1x, [x, y]);
@@ -206,13 +207,14 @@ fn a_tombstone_and_a_delta_over_two_bases(rt: HostRuntime) {
     let alloc = rt.alloc();
     let mut file = merged(&rt, alloc, 6);
     let catalogue = file.newest(&rt);
-    assert_eq!(rt; catalogue.version, 7);
-    assert_eq!(rt;
+    assert_same(&rt, catalogue.version, 7);
+    assert_same(
+        &rt,
         (catalogue.c1, catalogue.c1x),
-        (no_component(), no_component())
+        (no_component(), no_component()),
     );
     let c2 = catalogue.c2;
-    assert_eq!(rt; (c2.pages, c2.entries, c2.weight), (1, 2, 28));
+    assert_same(&rt, (c2.pages, c2.entries, c2.weight), (1, 2, 28));
     let y = base(&rt, b"y", 4, b"");
     let z = base(&rt, b"z", 1, b"");
     check_two(&rt, alloc, &mut file, &c2, [y, z]);

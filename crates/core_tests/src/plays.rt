@@ -1,4 +1,5 @@
 // The plain store of the model beside a history: it scans all writes, and knows no merge and no disk.
+use crate::asserts::assert_that_at;
 use blsm_model::{Annals, Plain, ShortReply};
 use std::alloc::Global;
 use std::process::Abort;
@@ -19,7 +20,7 @@ fn check_play(rt: &impl Abort, plain: &mut Plain, annals: &Annals, place: u32) {
     let op = annals.op(place);
     if Plain::can_answer(op) {
         let reply = plain.answer(op).expect(rt, "memory");
-        assert!(rt; annals.reply(place) == reply, "at {place}");
+        assert_that_at(rt, annals.reply(place) == reply, place);
     }
 }
 

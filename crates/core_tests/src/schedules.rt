@@ -2,6 +2,7 @@
 // them, which a tree of whole lists without a disk left too.
 ghost use Rattle.std.specs.Prelude.{◌<◌};
 
+use crate::asserts::{assert_that, assert_that_at};
 use crate::lines::line_of;
 use crate::maps::follow;
 use crate::plays::check_plays;
@@ -67,7 +68,7 @@ fn check_totals(rt: &impl Abort, totals: &Totals) {
 fn check_map(rt: &impl Abort, alloc: Global, file: File, annals: &Annals) {
     let history = follow(rt, alloc, KEYS as usize, annals);
     let map = file.map(rt, alloc, KEYS as usize);
-    assert!(rt; map == history.map);
+    assert_that(rt, map == history.map);
 }
 
 // So many drawn steps, and then the end.
@@ -87,7 +88,7 @@ fn check(rt: &impl Abort, alloc: Global, geo: Geometry, seed: u64, steps: u32, t
     let (disk, annals, totals) = core.end();
     let mut file = File::over(rt, geo, disk);
     let line = line_of(rt, alloc, &mut file, &annals, &totals);
-    assert!(rt; line.as_str() == told, "{seed}: {line}");
+    assert_that_at(rt, line.as_str() == told, (seed, line));
     check_totals(rt, &totals);
     check_plays(rt, alloc, &annals);
     check_weights(rt, alloc, &mut file, &annals, &totals);

@@ -1,6 +1,7 @@
 // Stops at each call of the disk, what each call answers then, and what each image holds.
 ghost use Rattle.std.specs.Prelude.{◌≡◌};
 
+use crate::asserts::{assert_same, assert_same_at, assert_that, assert_that_at};
 use crate::maps::{Map, apply, follow};
 use crate::samples::{Draws, add, del, key_of, put};
 use crate::stores::{File, check_reply, geometry, make, work, write};
@@ -105,7 +106,7 @@ fn run_until(rt: &impl Abort, alloc: Global, made: &File, calls: u64) -> Left {
     let charge = core.charge();
     go_on(rt, alloc, &mut core);
     let left = left_of(core);
-    assert_eq!(rt; left.totals.charge, charge);
+    assert_same(rt, left.totals.charge, charge);
     left
 }
 
@@ -132,16 +133,16 @@ fn failed_gets(annals: &Annals) -> u64 {
 fn check_stopped_at(rt: &impl Abort, annals: &Annals, place: u32, why: Why) {
     assert!(rt; (place as usize) < annals.len());
     let reply = annals.short_reply(place);
-    assert!(rt; reply == Some(&ShortReply::Stopped(why)), "at {place}");
-    assert_eq!(rt; annals.quanta(place), 0, "at {place}");
+    assert_that_at(rt, reply == Some(&ShortReply::Stopped(why)), place);
+    assert_same_at(rt, annals.quanta(place), 0, place);
 }
 
 // After a stop each call answers it with the disk's count, and the disk has no further call.
 fn check_stopped(rt: &impl Abort, left: &Left) {
     let faults = left.disk.faults();
-    assert_eq!(rt; faults, failed_gets(&left.annals).saturating_add(1));
+    assert_same(rt, faults, failed_gets(&left.annals).saturating_add(1));
     let why = Why::Faulted(faults);
-    assert_eq!(rt; left.totals.stopped, Some(why));
+    assert_same(rt, left.totals.stopped, Some(why));
     let entries = left.annals.len() as u32;
     for place in entries.saturating_sub(MORE)..entries {
         check_stopped_at(rt, &left.annals, place, why);
@@ -186,15 +187,15 @@ fn check_image(
     pick: u64,
 ) {
     let map = File::image(rt, geo, disk, pick).map(rt, alloc, KEYS);
-    assert!(rt; map == maps.without || map == maps.with, "at image {pick}");
+    assert_that_at(rt, map == maps.without || map == maps.with, pick);
 }
 
 // Whether two disks have the same bytes on a page of the file, or on its last one.
 fn is_same_at(rt: &impl Abort, one: &mut MemDisk, two: &mut MemDisk, at: u64) -> bool {
     let mut here = [0u8; 4_096];
     let mut there = [0u8; 4_096];
-    assert!(rt; one.read(at, &mut here).is_ok());
-    assert!(rt; two.read(at, &mut there).is_ok());
+    assert_that(rt, one.read(at, &mut here).is_ok());
+    assert_that(rt, two.read(at, &mut there).is_ok());
     here == there
 }
 
@@ -205,7 +206,7 @@ fn check_few(rt: &impl Abort, geo: &Geometry, disk: &MemDisk) {
     let last = geo.length().saturating_sub(4_096);
     for page in 0..geo.length() / 4_096 + 1 {
         let at = page.saturating_mul(4_096).min(last);
-        assert!(rt; is_same_at(rt, &mut some, &mut all, at), "at {at}");
+        assert_that_at(rt, is_same_at(rt, &mut some, &mut all, at), at);
     }
 }
 
@@ -289,8 +290,8 @@ fn calls_of_run(rt: &impl Abort, alloc: Global, made: &File) -> u64 {
     let mut core = remade(rt, made).start(rt, alloc);
     run(rt, alloc, &mut core);
     let left = left_of(core);
-    assert_eq!(rt; (left.totals.passes, left.totals.deeps), (2, 1));
-    assert_eq!(rt; left.totals.stopped, None);
+    assert_same(rt, (left.totals.passes, left.totals.deeps), (2, 1));
+    assert_same(rt, left.totals.stopped, None);
     check_images(rt, alloc, made.geo, &left, &mut Draws(0));
     let all = calls_of(left.disk).saturating_sub(1);
     assert!(rt; 50 < all && all < 100, "{all} calls");
@@ -322,13 +323,13 @@ fn second_append_fails(rt: &impl Abort, alloc: Global) -> Core<MemDisk> {
 
 // What the commands were told: one write is unsure, and the command after it is told the stop.
 fn check_unsure(rt: &impl Abort, left: &Left, why: Why) {
-    assert_eq!(rt; left.annals.len(), 3);
+    assert_same(rt, left.annals.len(), 3);
     check_reply(rt, &left.annals, 0, &ShortReply::Done);
     check_reply(rt, &left.annals, 1, &ShortReply::FaultUnsure);
     check_reply(rt, &left.annals, 2, &ShortReply::Stopped(why));
-    assert_eq!(rt; left.totals.stopped, Some(why));
-    assert_eq!(rt; (left.totals.peak, left.totals.callers), (14, 0));
-    assert_eq!(rt; (left.totals.passes, left.totals.deeps), (0, 0));
+    assert_same(rt, left.totals.stopped, Some(why));
+    assert_same(rt, (left.totals.peak, left.totals.callers), (14, 0));
+    assert_same(rt, (left.totals.passes, left.totals.deeps), (0, 0));
 }
 
 // A write whose append fails is unsure, and the store is stopped, for workers too. A step that may not be made notes nothing.
@@ -337,7 +338,7 @@ fn a_failed_append_stops_the_store(rt: HostRuntime) {
     let mut core = second_append_fails(&rt, rt.alloc());
     write_and_fail(&rt, rt.alloc(), &mut core);
     let why = Why::Faulted(1);
-    assert!(rt; core.worker_turn(CALLERS) == Turned::Halted(why));
+    assert_that(&rt, core.worker_turn(CALLERS) == Turned::Halted(why));
     check_unsure(&rt, &left_of(core), why);
 }
 

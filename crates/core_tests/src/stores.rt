@@ -4,6 +4,7 @@ ghost use Rattle.blsm_model.specs.Geometry.{file_length};
 ghost use Rattle.catalog_swap.specs.Text.{first_catalog};
 ghost use Rattle.disk_mem.specs.Recorded.{told};
 
+use crate::asserts::{assert_same, assert_that, assert_that_at};
 use crate::samples::most_quanta;
 use blsm_model::{Annals, CALLERS, Geometry, Op, Room, ShortReply};
 use catalog_swap::Catalog;
@@ -167,17 +168,17 @@ pub fn work(alloc: Global, core: &mut Core<MemDisk>, turns: u32) {
 // A core over a fresh store has no history, and its numbers are 0.
 fn check_start(rt: &impl Abort, core: Core<MemDisk>, geo: &Geometry) {
     let (_, annals, totals) = core.end();
-    assert!(rt; annals.is_empty());
-    assert_eq!(rt; totals.high, geo.high_mark());
-    assert_eq!(rt; (totals.peak, totals.charge), (0, 0));
-    assert!(rt; totals.stopped.is_none());
+    assert_that(rt, annals.is_empty());
+    assert_same(rt, totals.high, geo.high_mark());
+    assert_same(rt, (totals.peak, totals.charge), (0, 0));
+    assert_that(rt, totals.stopped.is_none());
 }
 
 // A store that was just made has its first catalogue.
 fn check_fresh(rt: &impl Abort, alloc: Global, geo: Geometry) {
     let mut file = File::make(rt, alloc, geo);
     let now = file.newest(rt);
-    assert!(rt; now == first_catalogue());
+    assert_that(rt, now == first_catalogue());
     check_start(rt, file.start(rt, alloc), &geo);
 }
 
@@ -196,5 +197,5 @@ pub fn has_reply(annals: &Annals, place: u32, reply: &ShortReply) -> bool {
 
 /// Asserts that an entry has this reply.
 pub fn check_reply(rt: &impl Abort, annals: &Annals, place: u32, reply: &ShortReply) {
-    assert!(rt; has_reply(annals, place, reply), "at {place}");
+    assert_that_at(rt, has_reply(annals, place, reply), place);
 }

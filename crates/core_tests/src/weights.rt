@@ -1,4 +1,5 @@
 // Sums of weights: of the writes of a history, and of what is on the disk.
+use crate::asserts::{assert_same, assert_that_at};
 use crate::stores::File;
 use blsm_model::{Annals, Component, Geometry, Op, ShortReply, Totals};
 use record_delta::weight;
@@ -8,8 +9,8 @@ use std::process::Abort;
 // A write that was refused for its size would have brought the charge past what the geometry admits.
 fn check_refused(rt: &impl Abort, geo: &Geometry, op: &Op, charge: u64, place: u32) {
     let is_del = matches!(op, Op::Del(_));
-    assert!(rt; op.is_write(), "at {place}");
-    assert!(rt; !geo.admits(is_del, charge, op.weight()), "at {place}");
+    assert_that_at(rt, op.is_write(), place);
+    assert_that_at(rt, !geo.admits(is_del, charge, op.weight()), place);
 }
 
 // What the entry at a place adds to the weights: that of its write, where it is done.
@@ -43,7 +44,7 @@ fn weight_of(rt: &impl Abort, alloc: Global, file: &mut File, component: &Compon
     for (key, rec) in &file.entries(rt, alloc, component) {
         sum = sum.saturating_add(weight(key, rec));
     }
-    assert_eq!(rt; sum, component.weight);
+    assert_same(rt, sum, component.weight);
     sum
 }
 

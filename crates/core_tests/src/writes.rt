@@ -1,6 +1,7 @@
 // Writes, what their callers pay, and the edges of a small store.
 ghost use Rattle.std.specs.Prelude.{◌≡◌};
 
+use crate::asserts::{assert_same, assert_same_at};
 use crate::samples::{add, del, most_quanta, put, put_of};
 use crate::stores::{check_reply, fresh, geometry, has_reply, smallest, steepest, write};
 use blsm_model::{Annals, CALLERS, Geometry, ShortReply, Totals};
@@ -20,7 +21,7 @@ fn quanta_of(annals: &Annals) -> u64 {
 
 // Asserts that there are so many entries, that each has its write's work bound at most, and that so many are done from the first on.
 fn check_bounds(rt: &impl Abort, geo: &Geometry, annals: &Annals, entries: usize, done: u32) {
-    assert_eq!(rt; annals.len(), entries);
+    assert_same(rt, annals.len(), entries);
     for place in 0..annals.len() as u32 {
         let most = most_quanta(geo, annals.op(place));
         assert!(rt; annals.quanta(place) <= most, "at {place}");
@@ -41,10 +42,10 @@ fn write_hundred(rt: &impl Abort, alloc: Global, core: &mut Core<MemDisk>) {
 
 // Each thirty-third of a hundred writes paid a quantum.
 fn check_thirds(rt: &impl Abort, annals: &Annals) {
-    assert_eq!(rt; annals.len(), 100);
+    assert_same(rt, annals.len(), 100);
     for place in 0..annals.len() as u32 {
         let pays = place == 32 || place == 65 || place == 98;
-        assert_eq!(rt; annals.quanta(place), u64::from(pays), "at {place}");
+        assert_same_at(rt, annals.quanta(place), u64::from(pays), place);
     }
 }
 
@@ -55,8 +56,8 @@ fn each_thirty_third_write_pays(rt: HostRuntime) {
     write_hundred(&rt, rt.alloc(), &mut core);
     let (_, annals, totals) = core.end();
     check_thirds(&rt, &annals);
-    assert_eq!(rt; (totals.peak, totals.callers), (512, 3));
-    assert_eq!(rt; (totals.passes, totals.deeps), (3, 0));
+    assert_same(&rt, (totals.peak, totals.callers), (512, 3));
+    assert_same(&rt, (totals.passes, totals.deeps), (3, 0));
 }
 
 // So many writes of 512 bytes, of as many keys, by so many callers in turn.
@@ -69,8 +70,8 @@ fn write_many(rt: &impl Abort, alloc: Global, core: &mut Core<MemDisk>, writes: 
 
 // A hundred writes of 512 bytes were paid by their callers alone.
 fn check_payers(rt: &impl Abort, annals: &Annals, totals: &Totals) {
-    assert_eq!(rt; quanta_of(annals), totals.callers);
-    assert_eq!(rt; (totals.workers, totals.charge), (0, 51_200));
+    assert_same(rt, quanta_of(annals), totals.callers);
+    assert_same(rt, (totals.workers, totals.charge), (0, 51_200));
     assert!(rt; 0 < totals.passes);
     assert!(rt; totals.peak <= totals.high);
 }
@@ -119,8 +120,8 @@ fn a_small_store_is_full_at_its_edge(rt: HostRuntime) {
     let (_, annals, totals) = core.end();
     check_bounds(&rt, &geo, &annals, 242, 238);
     check_edge(&rt, &annals);
-    assert_eq!(rt; geo.bound(512), 3);
-    assert_eq!(rt; quanta_of(&annals), totals.callers);
+    assert_same(&rt, geo.bound(512), 3);
+    assert_same(&rt, quanta_of(&annals), totals.callers);
     assert!(rt; totals.peak <= totals.high);
     assert!(rt; 0 < totals.deeps);
 }

@@ -1,4 +1,5 @@
 // A plain judge of histories: the list of the writes, and the rows that each caller holds, entry by entry.
+use crate::asserts::{assert_same, assert_that};
 use blsm_model::{Annals, CALLERS, Key, Line, Op, Reply, Row, Write, value_of};
 use std::alloc::Global;
 use std::process::Abort;
@@ -35,7 +36,7 @@ fn place(rt: &impl Abort, rows: &mut Vec<Row>, row: Row) {
         }
     }
     assert!(rt; at <= rows.len());
-    assert!(rt; rows.insert(at, row).is_ok());
+    assert_that(rt, rows.insert(at, row).is_ok());
 }
 
 // The rows of a range after these writes.
@@ -68,7 +69,7 @@ impl Held {
             .get(self.given..)
             .expect(rt, "no more rows than there are");
         let some = left.len().min(n as usize);
-        assert!(rt; left.get(..some).expect(rt, "so many") == given);
+        assert_that(rt, left.get(..some).expect(rt, "so many") == given);
         self.given = self.given.saturating_add(some);
     }
 }
@@ -77,7 +78,7 @@ impl Judge {
     pub fn new(rt: &impl Abort, alloc: Global) -> Judge {
         let mut held = Vec::new(alloc);
         for _ in 0..CALLERS {
-            assert!(rt; held.push(None).is_ok());
+            assert_that(rt, held.push(None).is_ok());
         }
         Judge {
             writes: Vec::new(alloc),
@@ -97,23 +98,23 @@ impl Judge {
                 Reply::Rows(rows) => held.give(rt, n, rows.as_slice()),
                 _ => rt.abort(),
             },
-            None => assert!(rt; *reply == Reply::NoHold),
+            None => assert_that(rt, *reply == Reply::NoHold),
         }
     }
 
     fn release(&mut self, rt: &impl Abort, seat: u32, reply: &Reply) {
         let held = self.held.get_mut(seat as usize).expect(rt, "a caller");
         match held {
-            Some(_) => assert!(rt; *reply == Reply::Done),
-            None => assert!(rt; *reply == Reply::NoHold),
+            Some(_) => assert_that(rt, *reply == Reply::Done),
+            None => assert_that(rt, *reply == Reply::NoHold),
         }
         *held = None;
     }
 
     fn get(&self, rt: &impl Abort, key: &Key, reply: &Reply) {
         match value_of(&self.writes, key) {
-            Some(value) => assert!(rt; *reply == Reply::Is(value)),
-            None => assert!(rt; *reply == Reply::Absent),
+            Some(value) => assert_that(rt, *reply == Reply::Is(value)),
+            None => assert_that(rt, *reply == Reply::Absent),
         }
     }
 
@@ -122,7 +123,7 @@ impl Judge {
         match op {
             Op::Get(key) => self.get(rt, key, reply),
             Op::Hold(low, high) => {
-                assert!(rt; *reply == Reply::Held);
+                assert_that(rt, *reply == Reply::Held);
                 self.hold(rt, alloc, seat, low, high);
             }
             Op::Next(n) => self.next(rt, seat, *n, reply),
@@ -132,8 +133,8 @@ impl Judge {
                 _ => rt.abort(),
             },
             Op::Put(..) | Op::Add(..) | Op::Del(_) => {
-                assert!(rt; *reply == Reply::Done);
-                assert!(rt; self.writes.push(op.write()).is_ok());
+                assert_that(rt, *reply == Reply::Done);
+                assert_that(rt, self.writes.push(op.write()).is_ok());
             }
         }
     }
@@ -166,16 +167,16 @@ fn asks_its_lines(rt: &impl Abort, lines: &[Line], annals: &Annals, seat: u32) {
     for line in lines {
         if line.seat == seat {
             assert!(rt; place < count);
-            assert!(rt; *annals.op(place) == line.op);
+            assert_that(rt, *annals.op(place) == line.op);
             place = next_of(annals, seat, place + 1);
         }
     }
-    assert_eq!(rt; place, count);
+    assert_same(rt, place, count);
 }
 
 /// Each caller's lines stand in the history once, in order, and nothing else does.
 pub fn asks_the_lines(rt: &impl Abort, lines: &[Line], annals: &Annals) {
-    assert_eq!(rt; annals.len(), lines.len());
+    assert_same(rt, annals.len(), lines.len());
     for seat in 0..CALLERS {
         asks_its_lines(rt, lines, annals, seat);
     }

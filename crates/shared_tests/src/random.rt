@@ -1,6 +1,7 @@
 // Scripts that are made: by a seed, or of like lines.
 ghost use Rattle.std.specs.Prelude.{◌<◌};
 
+use crate::asserts::assert_that;
 use crate::stores::script;
 use script_text::Script;
 use std::alloc::{AllocError, Global};
@@ -57,7 +58,7 @@ pub fn any_script(rt: &impl Abort, alloc: Global, seed: u64, lines: u32) -> Scri
     let mut text = String::new(alloc);
     let mut draws = Draws(seed);
     for _ in 0..lines {
-        assert!(rt; add_line(alloc, &mut text, &mut draws).is_ok());
+        assert_that(rt, add_line(alloc, &mut text, &mut draws).is_ok());
     }
     script(rt, alloc, text.as_bytes())
 }
@@ -75,16 +76,16 @@ fn add_puts(alloc: Global, text: &mut String, caller: u32, count: u32) -> Result
 pub fn each_puts(rt: &impl Abort, alloc: Global, count: u32) -> Script {
     let mut text = String::new(alloc);
     for caller in 1..16 {
-        assert!(rt; add_puts(alloc, &mut text, caller, 1).is_ok());
+        assert_that(rt, add_puts(alloc, &mut text, caller, 1).is_ok());
     }
-    assert!(rt; add_puts(alloc, &mut text, 16, count).is_ok());
+    assert_that(rt, add_puts(alloc, &mut text, 16, count).is_ok());
     script(rt, alloc, text.as_bytes())
 }
 
 /// Caller 1 has so many puts.
 pub fn puts_of_one(rt: &impl Abort, alloc: Global, count: u32) -> Script {
     let mut text = String::new(alloc);
-    assert!(rt; add_puts(alloc, &mut text, 1, count).is_ok());
+    assert_that(rt, add_puts(alloc, &mut text, 1, count).is_ok());
     script(rt, alloc, text.as_bytes())
 }
 

@@ -1,6 +1,7 @@
 // Stores on disks in memory, and runs of scripts over them.
 ghost use Rattle.std.specs.Prelude.{◌≤◌};
 
+use crate::asserts::assert_same;
 use blsm_model::{Annals, Gate, Geometry, Totals};
 use disk_mem::MemDisk;
 use recover_open::{make_store, open_store};
@@ -31,7 +32,7 @@ pub fn fresh(rt: &impl Abort, alloc: Global, low: u64) -> MemDisk {
     let Ok(mut disk) = MemDisk::new(alloc, length, kept) else {
         rt.abort()
     };
-    assert_eq!(rt; make_store(&mut disk, &geometry), Ok(()));
+    assert_same(rt, make_store(&mut disk, &geometry), Ok(()));
     disk
 }
 

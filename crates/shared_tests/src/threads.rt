@@ -1,6 +1,7 @@
 // Runs of callers and workers in threads, whose histories are judged however the threads interleave.
 ghost use Rattle.std.specs.Prelude.{◌≤◌};
 
+use crate::asserts::{assert_same, assert_that};
 use crate::gates::{Fifteen, OneWorker};
 use crate::judge::{Judge, asks_the_lines};
 use crate::random::{any_script, each_puts, lookups, puts_of_one};
@@ -30,7 +31,7 @@ fn run_judged<R: Abort + Threads + Wait + Sync, G: Gate + Sync>(
     requires { workers ≤ 8 }
 {
     let ran = run(rt, alloc, fresh(rt, alloc, low), script, workers, gate);
-    assert_eq!(rt; ran.totals.stopped, None);
+    assert_same(rt, ran.totals.stopped, None);
     asks_the_lines(rt, script.lines(), &ran.annals);
     let mut judge = Judge::new(rt, alloc);
     judge.judge_all(rt, alloc, &ran.annals);
@@ -71,7 +72,7 @@ fn sixteen_callers_run_beside_one_another(rt: HostRuntime) {
     let script = each_puts(&rt, alloc, 1);
     let gate = Fifteen::new(1);
     let _ran = run_judged(&rt, alloc, LOW, &script, 2, &gate);
-    assert!(rt; !gate.gave_up());
+    assert_that(&rt, !gate.gave_up());
 }
 
 // Callers 1 to 15 owe for a put each while caller 16 makes a hundred, in a store that begins a pass at each write.
@@ -81,7 +82,7 @@ fn a_caller_writes_on_beside_fifteen_that_owe(rt: HostRuntime) {
     let script = each_puts(&rt, alloc, 100);
     let gate = Fifteen::new(100);
     let (ran, _judge) = run_judged(&rt, alloc, 0, &script, 2, &gate);
-    assert!(rt; !gate.gave_up());
+    assert_that(&rt, !gate.gave_up());
     assert!(rt; ran.totals.peak <= 65_536);
 }
 
@@ -92,7 +93,7 @@ fn a_worker_merges(rt: HostRuntime) {
     let script = puts_of_one(&rt, alloc, 33);
     let gate = OneWorker::new(33);
     let (ran, _judge) = run_judged(&rt, alloc, LOW, &script, 1, &gate);
-    assert!(rt; !gate.gave_up());
+    assert_that(&rt, !gate.gave_up());
     assert!(rt; ran.totals.workers >= 1);
 }
 
