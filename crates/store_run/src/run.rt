@@ -129,6 +129,7 @@ pub fn run_over<R: Threads + Wait + Sync, D: Disk + Send + Drop, G: Gate + Sync>
         Ok(core) => core,
         Err(refused) => return (refused.disk, Err(refused.why)),
     };
+    core.kept();
     let charge = core.charge();
     match run_all(rt, alloc, core, lines, workers, turns, gate) {
         Ok(core) => {
@@ -178,10 +179,10 @@ pub fn run_in_order<D: Disk + Drop>(
         Ok(core) => core,
         Err(refused) => return (refused.disk, Err(refused.why)),
     };
+    core.kept();
     let charge = core.charge();
     run_lines(alloc, &mut core, lines);
-    // Asked once more for what its type keeps to the end.
-    let _charge_now = core.charge();
+    core.kept();
     let (disk, finished) = finish(core, charge);
     (disk, Ok(finished))
 }

@@ -275,11 +275,3 @@ next_steps state opening seat n answer old after disk m pace reads honest below 
         let come = to_come (was_damaged old.held.runs.sizes (hold_of seat old.holds) page d.bytes (because.3 honest)) because.0 in
         absurd (damage_gives_none page (take n come.0) (gives come.0 honest because.0 (has come.0 come.1 because.0) (damage_is_none_other page)).0)
     by (scanned.Stopped why) because counted gives = kept (reply.Stopped why) Well because.1 (by_stop Well (Some why) because.0) tt refl
-
--- what a reading on is due to doesn't speak of the entry
-pub next_cause : {D : Type 0} (answer : Scanned) (seat n : ℕ) (old new : CoreState D) (d d2 : DiskState) → ScansBecause answer seat n (undisked old.held old.holds) (undisked old.held new.holds) d d2 → ScansBecause answer seat n old new d d2
-next_cause (scanned.Rows rows) seat n old new d d2 because = because
-next_cause scanned.NoHold seat n old new d d2 because = because
-next_cause scanned.Fault seat n old new d d2 because = because
-next_cause (scanned.Damaged page) seat n old new d d2 because = because
-next_cause (scanned.Stopped why) seat n old new d d2 because = because

@@ -6,7 +6,7 @@ use Rattle.blsm_model.specs.declared.row.Value.{Value}
 use Rattle.blsm_model.specs.Facts.{Follows}
 use Rattle.blsm_model.specs.Geometry.{high_mark}
 use Rattle.blsm_model.specs.Sizes.{Sizes}
-use Rattle.blsm_model.specs.Format.{callers}
+use Rattle.blsm_model.specs.Format.{callers, most_rows}
 use Rattle.std.proofs.lemmas.Bool.{le-leb, lt-ltb}
 use Rattle.disk_trait.specs.Disk.{DiskState, GoesOn}
 use Rattle.disk_trait.specs.Effects.{Affects}
@@ -34,6 +34,7 @@ use Rattle.tree_core.specs.Standing.{StandsFor}
 use Rattle.tree_core.specs.Steps.{MovesPace, IsStep, IsPlayed, IsWholeStep, StandsSince, is_even_in, may_in}
 use Rattle.tree_core.proofs.KeepLemmas.{is_held, whole_step}
 use Rattle.tree_core.proofs.PlayLemmas.{may_agrees, none_is_played, both_are_played, played_by}
+use Rattle.tree_core.proofs.SizeLemmas.{made_sizes}
 
 -- at the start
 pub since_now : {D : Type 0} (state : D → DiskState) (core : CoreState D) (pace : Pace) → IsTimed (state core.disk) → IsTold core.held pace → StandsSince state core core
@@ -59,18 +60,14 @@ since_played state start old new since sizes peak goes played = record {
       (one.0 ++ two.0, both_are_played state opening one.0 two.0 start old new m pace one.1 two.1);
 }
 
--- What a call says that has nothing to do with holds: it moves the pace, is one step of the machine, and writes beside the pages that are pinned. So what
--- lasts from a start on lasts over it.
-pub goes_on_by : {D : Type 0} {end most : ℕ} (state : D → DiskState) (seat : ℕ) (k : Kind) (answer : Answer) (old new : CoreState D) → IsCore old.held (state old.disk) → IsTimed (state new.disk) → is_held k ≡ false → may_in old.held seat k ≡ true
-    → KeepsHolds old new → Affects (beside_pins old.held.runs.sizes old.held.runs.space.pins) end most (state old.disk) (state new.disk) → Follows seat (facts_of_held old.held) (facts_of_held new.held)
+-- What a call says that is one step of the machine and moves the pace. What lasts from a start on lasts over it.
+pub goes_by : {D : Type 0} (state : D → DiskState) (seat : ℕ) (k : Kind) (answer : Answer) (old new : CoreState D) → IsCore old.held (state old.disk) → IsTimed (state new.disk) → may_in old.held seat k ≡ true
+    → GoesOn (state old.disk) (state new.disk) → Follows seat (facts_of_held old.held) (facts_of_held new.held)
     → ((pace : Pace) → HoldsPace old.held pace (state old.disk) → MovesPace seat k answer new.held (state new.disk) pace)
-    → ((opening : List (Key × Value)) (m : Machine) (pace : Pace) → IsTrue (state old.disk).is_honest → StandsFor opening old.held m pace (state old.disk) → may m seat k ≡ true
-    → IsStep opening seat k answer new.held (state old.disk) (state new.disk) m pace)
-    → GoesOnAs state seat k answer old new × BesideHolds state seat k answer old new
-goes_on_by {D} state seat k answer old new core timed none can keeps effect follows numbers steps = (
-  record { may = can; numbers = numbers; steps = whole; follows = follows; lasts = lasts; begins = since_now state new moves.next timed told },
-  record { holds = keeps; step = step },
-)
+    → ((opening : List (Key × Value)) (m : Machine) (pace : Pace) → IsTrue (state old.disk).is_honest → StandsWhole state opening old m pace → IsWholeStep state opening seat k answer old new m pace)
+    → GoesOnAs state seat k answer old new
+goes_by {D} state seat k answer old new core timed can goes follows numbers steps =
+    record { may = can; numbers = numbers; steps = steps; follows = follows; lasts = lasts; begins = since_now state new moves.next timed told }
   where
     moves : MovesPace seat k answer new.held (state new.disk) core.pace
     moves = numbers core.pace core.holds
@@ -78,38 +75,54 @@ goes_on_by {D} state seat k answer old new core timed none can keeps effect foll
     told : IsTold new.held moves.next
     told = moves.holds.told
 
-    step : (opening : List (Key × Value)) (m : Machine) (pace : Pace) → IsTrue (state old.disk).is_honest → StandsFor opening old.held m pace (state old.disk) → IsStep opening seat k answer new.held (state old.disk) (state new.disk) m pace
-    step opening m pace honest stands = steps opening m pace honest stands (may_agrees seat k old.held m stands.book stands.gears ∙ can)
-
-    whole : (opening : List (Key × Value)) (m : Machine) (pace : Pace) → IsTrue (state old.disk).is_honest → StandsWhole state opening old m pace → IsWholeStep state opening seat k answer old new m pace
-    whole opening m pace honest stands = whole_step state opening seat k answer old new m pace none keeps (effect.bytes honest) stands (step opening m pace honest stands.stands)
-
     lasts : (start : CoreState D) → StandsSince state start old → StandsSince state start new
     lasts start since =
         let one : Step = record { seat = seat; kind = k } in
-        since_played state start old new since keeps.sizes (omega (arith, told.peak, told.told.paced.within.peak, ap high_mark told.sizes)) effect.goes_on
-        (λ opening m pace honest stands. (one ∷ [], played_by state opening one k answer old new m pace refl can effect.goes_on stands (λ may. whole opening m pace honest stands)))
+        since_played state start old new since (sym told.sizes ∙ made_sizes seat k answer core.pace moves.next moves.made ∙ core.holds.told.sizes) (omega (arith, told.peak, told.told.paced.within.peak, ap high_mark told.sizes)) goes
+        (λ opening m pace honest stands. (one ∷ [], played_by state opening one k answer old new m pace refl can goes stands (λ may. steps opening m pace honest stands)))
+
+-- And one that has nothing to do with holds: it writes beside the pages that are pinned.
+pub goes_on_by : {D : Type 0} {end most : ℕ} (state : D → DiskState) (seat : ℕ) (k : Kind) (answer : Answer) (old new : CoreState D) → IsCore old.held (state old.disk) → IsTimed (state new.disk) → is_held k ≡ false → may_in old.held seat k ≡ true
+    → KeepsHolds old new → Affects (beside_pins old.held.runs.sizes old.held.runs.space.pins) end most (state old.disk) (state new.disk) → Follows seat (facts_of_held old.held) (facts_of_held new.held)
+    → ((pace : Pace) → HoldsPace old.held pace (state old.disk) → MovesPace seat k answer new.held (state new.disk) pace)
+    → ((opening : List (Key × Value)) (m : Machine) (pace : Pace) → IsTrue (state old.disk).is_honest → StandsFor opening old.held m pace (state old.disk) → may m seat k ≡ true
+    → IsStep opening seat k answer new.held (state old.disk) (state new.disk) m pace)
+    → GoesOnAs state seat k answer old new × BesideHolds state seat k answer old new
+goes_on_by state seat k answer old new core timed none can keeps effect follows numbers steps = (
+  goes_by state seat k answer old new core timed can effect.goes_on follows numbers
+      (λ opening m pace honest stands. whole_step state opening seat k answer old new m pace none keeps (effect.bytes honest) stands (step opening m pace honest stands.stands)),
+  record { holds = keeps; step = step },
+)
+  where
+    step : (opening : List (Key × Value)) (m : Machine) (pace : Pace) → IsTrue (state old.disk).is_honest → StandsFor opening old.held m pace (state old.disk) → IsStep opening seat k answer new.held (state old.disk) (state new.disk) m pace
+    step opening m pace honest stands = steps opening m pace honest stands (may_agrees seat k old.held m stands.book stands.gears ∙ can)
 
 -- And the core, as it is told of, keeps what its type keeps.
+pub core_kept : {D : Type 0} (state : D → DiskState) {seat : ℕ} {k : Kind} {answer : Answer} {inside old new : CoreState D} → inside ≡ old → IsCore inside.held (state inside.disk) → GoesOnAs state seat k answer old new → IsCore new.held (state new.disk)
+core_kept {D} state is core goes =
+    let moves = goes.numbers core.pace (subst (λ (s : CoreState D). HoldsPace s.held core.pace (state s.disk)) is core.holds) in
+    record { pace = moves.next; holds = moves.holds }
+
 pub kept_on : {D : Type 0} (state : D → DiskState) {seat : ℕ} {k : Kind} {answer : Answer} {inside old new : CoreState D} → inside ≡ old → IsTimed (state inside.disk) → IsCore inside.held (state inside.disk) × AreFew inside.held.runs.sizes inside.holds
     → new.holds ≡ inside.holds → GoesOnAs state seat k answer old new → IsCore new.held (state new.disk) × AreFew new.held.runs.sizes new.holds
 kept_on {D} state {seat} {k} {answer} {inside} {old} {new} is timed kept same goes = (
-  record { pace = moves.next; holds = moves.holds },
+  core_kept state is kept.0 goes,
   subst (λ (s : Sizes). AreFew s new.holds) (sym sizes) (subst (λ (holds : List (Option HoldState)). AreFew inside.held.runs.sizes holds) (sym same) kept.1),
 )
   where
-    holds : HoldsPace old.held kept.0.pace (state old.disk)
-    holds = subst (λ (s : CoreState D). HoldsPace s.held kept.0.pace (state s.disk)) is kept.0.holds
-
-    moves : MovesPace seat k answer new.held (state new.disk) kept.0.pace
-    moves = goes.numbers kept.0.pace holds
+    since : StandsSince state inside inside
+    since = since_now state inside kept.0.pace timed kept.0.holds.told
 
     sizes : new.held.runs.sizes ≡ inside.held.runs.sizes
-    sizes = (goes.lasts old (since_now state old kept.0.pace (subst (λ (s : CoreState D). IsTimed (state s.disk)) is timed) holds.told)).sizes ∙ sym (ap (λ (s : CoreState D). s.held.runs.sizes) is)
+    sizes = (goes.lasts old (subst (λ (s : CoreState D). StandsSince state s s) is since)).sizes ∙ sym (ap (λ (s : CoreState D). s.held.runs.sizes) is)
 
 -- a caller may leave
 pub may_leave : (seat : ℕ) → seat < callers → is_caller seat ≡ true
 may_leave seat below = lt-ltb seat callers below
+
+pub may_next : (seat n : ℕ) (held : Held) → may_note_in seat n held.book ≡ true → 0 < n → n ≤ most_rows → may_in held seat (kind.Next n) ≡ true
+may_next seat n held note some few =
+    both (may_note_in seat n held.book && nat_lt 0 n) (nat_le n most_rows) (both (may_note_in seat n held.book) (nat_lt 0 n) note (lt-ltb 0 n some)) (le-leb n most_rows few)
 
 -- a seat that owes nothing while the store runs is even
 pub even_in : (seat : ℕ) (held : Held) → (held.book.stopped ≡ None → first_debt held.gears seat + second_debt held.gears seat ≡ 0) → is_even_in seat held ≡ true

@@ -28,6 +28,6 @@ mod PaymentCalls
 mod AdmissionCalls
 mod HoldSteps
 mod HoldStepsByCall
-mod HoldStepsLast
+mod HoldCalls
 mod ScanLemmas
 pub mod CallLemmas

@@ -1,5 +1,5 @@
 -- A turn of a caller's work or of a worker: what its move requires, and the numbers that it leaves.
-use Rattle.std.proofs.Common.{◌≡◌, ◌∙◌, ℕ, ◌+◌, ◌≤◌, ◌<◌, ◌&&◌, Bool, true, false, List, Some, None, Ok, Err, refl, ap, sym, subst, arith}
+use Rattle.std.proofs.Common.{◌≡◌, ◌∙◌, ℕ, ◌≤◌, ◌<◌, ◌&&◌, Bool, true, false, List, Some, None, Ok, Err, refl, ap, sym, subst, arith}
 use Rattle.std.specs.Prelude.{⊤, IfOk, OnOk, IsErr, IsTrue, length, nat_lt, replicate, slice_index, slice_index_or, if◌then◌else◌}
 use Rattle.std.specs.declared.result.Result.{Result}
 use Rattle.std.proofs.lemmas.Bool.{ltb-true}
@@ -24,6 +24,7 @@ use Rattle.tree_machine.specs.Plays.{most_turns}
 use Rattle.tree_machine.proofs.PlayLemmas.{of_replicate}
 use Rattle.tree_machine.specs.Steps.{Turn}
 use Rattle.seat_book.specs.State.{BookState, deep_counted_in, helped_in, may_turn_in, pass_counted_in, stopped_in, turned_in, work_in}
+use Rattle.seat_book.specs.Places.{HasPlaces}
 use Rattle.seat_book.specs.Seats.{KeepsSeats}
 use Rattle.seat_book.proofs.KeepLemmas.{keeps_itself, keeps_both, keeps_less, deep_keeps, pass_keeps, quantum_keeps, stop_keeps, turn_keeps, worker_keeps}
 use Rattle.core_moves.specs.declared.held.Held.{Held}
@@ -40,6 +41,7 @@ use Rattle.tree_core.specs.Causes.{IsDamageAhead, RanOn, TurnsBecause, merge_of}
 use Rattle.tree_core.specs.Core.{HoldsPace, facts_of_held}
 use Rattle.tree_core.specs.Quanta.{ended_by, quanta_by, stopped_by}
 use Rattle.tree_core.specs.Steps.{MovesPace}
+use Rattle.tree_core.specs.Turning.{IsEven, MayCount, counted_by}
 use Rattle.tree_core.proofs.QuantumLemmas.{holds_running, holds_stopped, on_rebooked, told_after_failure, kept_once, LeavesDebts, debts_stay, debts_first, debts_second, follows_by}
 
 -- ---- whose turn it is
@@ -48,16 +50,6 @@ use Rattle.tree_core.proofs.QuantumLemmas.{holds_running, holds_stopped, on_rebo
 abbrev pub IsSeat : Bool → ℕ → BookState → Type 0
 IsSeat true seat b = (callers ≤ seat) × (seat < seats)
 IsSeat false seat b = (seat < callers) × (length b.seats.work ≡ callers)
-
--- a caller that works owes nothing
-abbrev pub IsEven : Bool → ℕ → Held → Type 0
-IsEven true seat held = ⊤
-IsEven false seat held = first_debt held.gears seat + second_debt held.gears seat ≡ 0
-
--- how it counts in the book
-abbrev pub counted_by : Bool → ℕ → Turned → ℕ → BookState → BookState
-counted_by true seat ended quanta b = helped_in seat b
-counted_by false seat ended quanta b = turned_in seat ended quanta b
 
 -- A turn in a store that runs, and its move.
 pub record Turns (w : Bool) (seat : ℕ) (mv : Move) (old : Held) : Type 0 where
@@ -268,11 +260,17 @@ moved_work : (mv : Move) (seat : ℕ) (made : Result ℕ Broken) (old moved : He
 moved_work mv seat (Ok n) old moved moves kept = (moved_open mv seat n old moved moves).work
 moved_work mv seat (Err broken) old moved moves kept = ap (λ (x : BookState). x.seats.work) (kept.book refl)
 
-pub turn_open : (mv : Move) (seat : ℕ) (made : Result ℕ Broken) (faults : ℕ) (old moved : Held) (b : BookState) → IfOk made (λ n. TurnsBy mv seat n old moved) → KeepsAllButMerges (IsErr made) old moved → b ≡ stopped_by made faults moved.book
+turn_open : (mv : Move) (seat : ℕ) (made : Result ℕ Broken) (faults : ℕ) (old moved : Held) (b : BookState) → IfOk made (λ n. TurnsBy mv seat n old moved) → KeepsAllButMerges (IsErr made) old moved → b ≡ stopped_by made faults moved.book
     → IsTrue (may_turn_in seat old.book) → IsTrue (may_turn_in seat b)
 turn_open mv seat made faults old moved b moves kept is ok =
     subst (λ (works : List WorkSoFar). IsTrue (is_caller seat && nat_lt (slice_index_or works seat no_work).turns most_turns))
     (sym (ap (λ (x : BookState). x.seats.work) is ∙ stopped_work made faults moved.book ∙ moved_work mv seat made old moved moves kept)) ok
+
+-- whoever might take the turn may count it
+pub count_open : (w : Bool) (mv : Move) (seat : ℕ) (made : Result ℕ Broken) (faults : ℕ) (old moved : Held) (b : BookState) → IfOk made (λ n. TurnsBy mv seat n old moved) → KeepsAllButMerges (IsErr made) old moved → b ≡ stopped_by made faults moved.book
+    → MayCount w seat old.book → MayCount w seat b
+count_open true mv seat made faults old moved b moves kept is may = may
+count_open false mv seat made faults old moved b moves kept is may = turn_open mv seat made faults old moved b moves kept is may
 
 -- ---- what it leaves to the other seats
 
@@ -330,9 +328,18 @@ turn_because w seat mv made faults old moved ended b before after e ahead counte
 pub working_caller : (seat : ℕ) (b : BookState) → IsTrue (may_turn_in seat b) → seat < callers
 working_caller seat b ok = ltb-true seat callers (both_hold (is_caller seat) (nat_lt (work_in seat b).turns most_turns) ok).0
 
-pub work_turns : (seat : ℕ) (mv : Move) (old : Held) → IsTrue (may_turn_in seat old.book) → (old.book.stopped ≡ None → first_debt old.gears seat + second_debt old.gears seat ≡ 0) → length old.book.seats.work ≡ callers
-    → None ≡ old.book.stopped → mv ≡ move_in false old → Turns false seat mv old
-work_turns seat mv old ok even places ran is = record { ran = sym ran; is_seat = (working_caller seat old.book ok, places); even = even (sym ran); is = is }
+pub counts_as : (w : Bool) (seat : ℕ) (ended : Turned) (quanta n : ℕ) (b c d : BookState) → b ≡ counted_by w seat ended quanta c → quanta ≡ n → c ≡ d → b ≡ counted_by w seat ended n d
+counts_as w seat ended quanta n b c d is same_n same = is ∙ ap (λ (k : ℕ). counted_by w seat ended k c) same_n ∙ ap (λ (x : BookState). counted_by w seat ended n x) same
 
-pub counts_work : (seat : ℕ) (ended : Turned) (quanta n : ℕ) (b c d : BookState) → b ≡ turned_in seat ended quanta c → quanta ≡ n → c ≡ d → b ≡ counted_by false seat ended n d
-counts_work seat ended quanta n b c d is same_n same = is ∙ ap (λ (k : ℕ). turned_in seat ended k c) same_n ∙ ap (λ (x : BookState). turned_in seat ended n x) same
+-- ---- a turn, as its conditions are told
+
+seat_is : (w : Bool) (seat : ℕ) (b : BookState) → MayCount w seat b → HasPlaces b → IsSeat w seat b
+seat_is true seat b may places = may
+seat_is false seat b may places = (working_caller seat b may, places.work)
+
+pub turns_at : (w : Bool) (seat : ℕ) (mv : Move) (held : Held) → MayCount w seat held.book → (held.book.stopped ≡ None → IsEven w seat held) → HasPlaces held.book → None ≡ held.book.stopped → mv ≡ move_in w held → Turns w seat mv held
+turns_at w seat mv held may even places ran is = record { ran = sym ran; is_seat = seat_is w seat held.book may places; even = even (sym ran); is = is }
+
+pub turn_seat : (w : Bool) (seat : ℕ) (b : BookState) → MayCount w seat b → seat < seats
+turn_seat true seat b may = may.1
+turn_seat false seat b may = omega (arith, working_caller seat b may)

@@ -60,7 +60,8 @@ use Rattle.tree_core.specs.Standing.{StandsFor, HasStopped}
 use Rattle.tree_core.specs.Steps.{IsStep}
 use Rattle.tree_core.proofs.QuantumLemmas.{charge_kept, kept_once}
 use Rattle.tree_core.proofs.QuantumSteps.{RunsAt, stands_running, standing_at, steady_at, shows_at, leaves_same, step_by}
-use Rattle.tree_core.proofs.TurnLemmas.{Turns, Ends, KeepsOpen, counted_by, counted_book, counted_stops, moved_open, ended_moves}
+use Rattle.tree_core.specs.Turning.{counted_by}
+use Rattle.tree_core.proofs.TurnLemmas.{Turns, Ends, KeepsOpen, counted_book, counted_stops, moved_open, ended_moves}
 
 -- ---- a store that is stopped
 

@@ -92,6 +92,7 @@ pub record ReadsOn {D : Type 0} (state : D → DiskState) (seat n : ℕ) (answer
   pub cause : ScansBecause answer seat n old new (state old.disk) (state new.disk)
   pub book : new.held.book ≡ noted_in seat (op.Next n) (reply_to_next answer) old.held.book
   pub others : LeavesOthers seat old new
+  pub runs : new.held.runs ≡ old.held.runs
   pub few : pages_behind (hold_of seat old.holds) ≤ page_share old.held.runs.sizes
   pub reads : OnlyReads (file_length old.held.runs.sizes) (pages_behind (hold_of seat old.holds)) (state old.disk) (state new.disk)
   pub untouched : ScansNone answer → new.disk ≡ old.disk

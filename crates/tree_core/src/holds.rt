@@ -2,38 +2,30 @@
 ghost use Rattle.std.specs.Prelude.{◌≡◌, ◌≢◌, ◌+◌, ◌<◌, ◌≤◌, ◌^◌, ℕ, List, None, Some, IsTrue, take, drop};
 ghost use Rattle.blsm_model.specs.declared.key.Key.{Key};
 ghost use Rattle.blsm_model.specs.declared.row.Row.{Row};
-ghost use Rattle.blsm_model.specs.declared.row.Value.{Value};
 ghost use Rattle.blsm_model.specs.declared.op.Op.TheVariants as op;
 ghost use Rattle.blsm_model.specs.Book.{HasRoom};
-ghost use Rattle.blsm_model.specs.Facts.{Follows};
 ghost use Rattle.blsm_model.specs.Format.{callers, most_rows};
 ghost use Rattle.blsm_model.specs.Geometry.{capacity, file_length};
 ghost use Rattle.blsm_model.specs.Stored.{as_reply};
 ghost use Rattle.disk_trait.specs.Reads.{OnlyReads};
-ghost use Rattle.pacing.specs.Pace.{Pace};
 ghost use Rattle.record_delta.specs.Entries.{Entries};
 ghost use Rattle.page_file.specs.Component.{entries_of};
 ghost use Rattle.scan_view.specs.Holds.{hold_of, pages_behind};
 ghost use Rattle.scan_view.specs.Pins.{HasHeld};
 ghost use Rattle.seat_book.specs.State.{may_note_in, noted_in};
-ghost use Rattle.tree_machine.specs.declared.step.Kind.TheVariants as kind;
 ghost use Rattle.tree_machine.specs.Lists.{rows_in};
-ghost use Rattle.tree_machine.specs.Machine.{Machine};
-ghost use Rattle.tree_machine.specs.Plays.{may};
-ghost use Rattle.tree_machine.specs.Steps.{Replied};
 ghost use Rattle.tree_file.specs.Tree.{Tree};
-ghost use Rattle.tree_runs.specs.Runs.{AreRuns, page_share};
+ghost use Rattle.tree_runs.specs.Runs.{AreRuns};
 ghost use Rattle.tree_runs.specs.Holding.{AreOf};
 ghost use Rattle.core_moves.specs.Needs.{IsOn};
 ghost use Rattle.tree_core.specs.declared.answers.Holding.TheVariants as holding;
 ghost use Rattle.tree_core.specs.Answers.{reply_to_hold, reply_to_next, reply_to_drop};
+ghost use Rattle.tree_core.specs.Calls.{HoldsRange, LetsGo, ReadsOn};
 ghost use Rattle.tree_core.specs.Causes.{HoldsBecause, ScansBecause, DropsBecause, ScansNone};
-ghost use Rattle.tree_core.specs.Core.{CoreState, HoldsPace, facts_of_held};
-ghost use Rattle.tree_core.specs.Holds.{AreFew, LeavesOthers, StandsWhole};
+ghost use Rattle.tree_core.specs.Holds.{AreFew};
 ghost use Rattle.tree_core.specs.HoldMoves.{MovesHold, undisked};
 ghost use Rattle.tree_core.specs.Scanned as scanned;
 ghost use Rattle.tree_core.specs.Scanned.{Counts, rows_noted, scanned_by, scanned_in};
-ghost use Rattle.tree_core.specs.Steps.{MovesPace, IsWholeStep, StandsSince};
 
 use crate::{Core, Holding, Release, Scan};
 use blsm_model::{Key, Op, ShortReply};
@@ -184,17 +176,7 @@ impl<D: Disk + Drop> Core<D> {
     #[inline(never)]
     pub fn hold(&mut self, alloc: Global, seat: u32, low: &Key, high: &Key) -> Holding
         requires { IsTrue (may_note_in seat 0 self.old.held.book) }
-        ensures numbers { (pace : Pace) → HoldsPace self.old.held pace (D.state self.old.disk)
-            → MovesPace seat (kind.Hold low.now high.now) (Replied (reply_to_hold result)) self.new.held (D.state self.new.disk) pace }
-        ensures steps { (opening : List (Key × Value)) (m : Machine) (pace : Pace) → IsTrue (D.state self.old.disk).is_honest
-            → StandsWhole D.state opening self.old m pace → IsTrue (may m seat (kind.Hold low.now high.now))
-            → IsWholeStep D.state opening seat (kind.Hold low.now high.now) (Replied (reply_to_hold result)) self.old self.new m pace }
-        ensures cause { HoldsBecause result seat low.now high.now self.old self.new }
-        ensures book { self.new.held.book ≡ noted_in seat (op.Hold low.now high.now) (reply_to_hold result) self.old.held.book }
-        ensures others { LeavesOthers seat self.old self.new }
-        ensures untouched { self.new.disk ≡ self.old.disk }
-        ensures follows { Follows seat (facts_of_held self.old.held) (facts_of_held self.new.held) }
-        ensures lasts { (start : CoreState D) → StandsSince D.state start self.old → StandsSince D.state start self.new }
+        ensures { HoldsRange D.state seat low.now high.now result self.old self.new }
     {
         let holding = take_hold(&mut self.held, &mut self.holds, alloc, seat, low, high);
         self.held.book.note(
@@ -212,21 +194,9 @@ impl<D: Disk + Drop> Core<D> {
         requires note { IsTrue (may_note_in seat n self.old.held.book) }
         requires some { 0 < n }
         requires few { n ≤ most_rows }
-        ensures numbers { (pace : Pace) → HoldsPace self.old.held pace (D.state self.old.disk)
-            → MovesPace seat (kind.Next n) (Replied (reply_to_next (scanned_in result self.new.held.book))) self.new.held (D.state self.new.disk) pace }
-        ensures steps { (opening : List (Key × Value)) (m : Machine) (pace : Pace) → IsTrue (D.state self.old.disk).is_honest
-            → StandsWhole D.state opening self.old m pace → IsTrue (may m seat (kind.Next n))
-            → IsWholeStep D.state opening seat (kind.Next n) (Replied (reply_to_next (scanned_in result self.new.held.book))) self.old self.new m pace }
-        ensures cause { ScansBecause (scanned_in result self.new.held.book) seat n self.old self.new (D.state self.old.disk) (D.state self.new.disk) }
+        ensures reads { ReadsOn D.state seat n (scanned_in result self.new.held.book) self.old self.new }
+        // The answer tells how many rows the entry has.
         ensures counts { Counts result (rows_noted self.new.held.book.book) }
-        ensures book { self.new.held.book ≡ noted_in seat (op.Next n) (reply_to_next (scanned_in result self.new.held.book)) self.old.held.book }
-        ensures others { LeavesOthers seat self.old self.new }
-        ensures runs { self.new.held.runs ≡ self.old.held.runs }
-        ensures few { pages_behind (hold_of seat self.old.holds) ≤ page_share self.old.held.runs.sizes }
-        ensures reads { OnlyReads (file_length self.old.held.runs.sizes) (pages_behind (hold_of seat self.old.holds)) (D.state self.old.disk) (D.state self.new.disk) }
-        ensures untouched { ScansNone (scanned_in result self.new.held.book) → self.new.disk ≡ self.old.disk }
-        ensures follows { Follows seat (facts_of_held self.old.held) (facts_of_held self.new.held) }
-        ensures lasts { (start : CoreState D) → StandsSince D.state start self.old → StandsSince D.state start self.new }
     {
         others_may_write();
         let scan = read_on(
@@ -245,17 +215,7 @@ impl<D: Disk + Drop> Core<D> {
     #[inline(never)]
     pub fn drop_hold(&mut self, seat: u32) -> Release
         requires { IsTrue (may_note_in seat 0 self.old.held.book) }
-        ensures numbers { (pace : Pace) → HoldsPace self.old.held pace (D.state self.old.disk)
-            → MovesPace seat kind.Release (Replied (reply_to_drop result)) self.new.held (D.state self.new.disk) pace }
-        ensures steps { (opening : List (Key × Value)) (m : Machine) (pace : Pace) → IsTrue (D.state self.old.disk).is_honest
-            → StandsWhole D.state opening self.old m pace → IsTrue (may m seat kind.Release)
-            → IsWholeStep D.state opening seat kind.Release (Replied (reply_to_drop result)) self.old self.new m pace }
-        ensures cause { DropsBecause result seat self.old self.new }
-        ensures book { self.new.held.book ≡ noted_in seat op.Release (reply_to_drop result) self.old.held.book }
-        ensures others { LeavesOthers seat self.old self.new }
-        ensures untouched { self.new.disk ≡ self.old.disk }
-        ensures follows { Follows seat (facts_of_held self.old.held) (facts_of_held self.new.held) }
-        ensures lasts { (start : CoreState D) → StandsSince D.state start self.old → StandsSince D.state start self.new }
+        ensures { LetsGo D.state seat result self.old self.new }
     {
         let release = let_go(&mut self.held, &mut self.holds, seat);
         self.held

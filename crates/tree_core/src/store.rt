@@ -47,13 +47,19 @@ impl<D: Disk + Drop> Core<D> {
 
     /// The charge, in bytes: what the components weigh, and what the memory table counts.
     pub fn charge(&self) -> u64
-        ensures charge { result ≡ charge_in self.now.held }
-        // What its type keeps on every disk.
-        ensures kept { IsCore self.now.held (D.state self.now.disk) }
+        ensures { result ≡ charge_in self.now.held }
+    {
+        self.held.charge()
+    }
+
+    /// Does nothing. Its clauses are what the store keeps at each call, whatever the disk did.
+    pub fn kept(&self)
+        ensures core { IsCore self.now.held (D.state self.now.disk) }
         ensures few { AreFew self.now.held.runs.sizes self.now.holds }
         ensures begins { StandsSince D.state self.now self.now }
     {
-        self.held.charge()
+        // What the type keeps is known where a field is used.
+        let _ = &self.disk;
     }
 
     /// The disk, the history, and the numbers of the run, when it is over.

@@ -1,12 +1,12 @@
 //! Turns of work, by callers and workers.
-ghost use Rattle.std.specs.Prelude.{◌≡◌, ◌≤◌, ◌<◌, ◌+◌, ◌/◌, ℕ, Err, None, IsTrue, IsErr, IfOk, OnOk};
+ghost use Rattle.std.specs.Prelude.{◌≡◌, ◌&&◌, ◌≤◌, ◌<◌, ◌+◌, ◌/◌, ℕ, Err, None, IsTrue, IsErr, IfOk, OnOk};
 ghost use Rattle.blsm_model.specs.Format.{callers};
 ghost use Rattle.blsm_model.specs.Geometry.{file_length};
 ghost use Rattle.disk_trait.specs.Disk.{TellsFaultsBy};
 ghost use Rattle.disk_trait.specs.Effects.{Affects};
 ghost use Rattle.gear_sched.specs.Gears.{first_debt, second_debt};
 ghost use Rattle.seat_book.specs.Places.{HasPlaces};
-ghost use Rattle.seat_book.specs.State.{may_turn_in};
+ghost use Rattle.seat_book.specs.State.{is_closed_in, may_turn_in};
 ghost use Rattle.seat_book.specs.Turns.{turned_of};
 ghost use Rattle.scan_view.specs.Pins.{beside_pins};
 ghost use Rattle.tree_machine.specs.Machine.{seats};
@@ -21,7 +21,7 @@ ghost use Rattle.core_lists.specs.Steps.{choice_of};
 ghost use Rattle.tree_core.specs.Calls.{Helps, TurnsOnce};
 ghost use Rattle.tree_core.specs.Causes.{IsDamageAhead, merge_of};
 ghost use Rattle.tree_core.specs.Quanta.{LeavesMoved, as_moved, ended_by, quanta_by, stopped_by};
-ghost use Rattle.tree_core.specs.Turning.{move_of};
+ghost use Rattle.tree_core.specs.Turning.{IsEven, MayCount, TakesTurn, counted_by, move_of};
 
 use crate::Core;
 use blsm_model::Why;
@@ -171,50 +171,68 @@ fn end(book: &mut SeatBook, faults: u64, choice: Choice, made: Result<u64, Broke
     }
 }
 
+// Whether the store is closed to a turn: to a worker's, once all callers left.
+fn is_closed_to(book: &SeatBook, is_worker: bool) -> bool
+    ensures { result ≡ (is_worker && is_closed_in book.now) }
+{
+    is_worker && book.is_closed()
+}
+
+// Counts a turn that ended so; a caller's with its quanta.
+fn count(book: &mut SeatBook, seat: u32, is_worker: bool, ended: Turned, quanta: u32)
+    requires may { MayCount is_worker seat book.old }
+    requires quanta { quanta ≤ 1 }
+    ensures { book.new ≡ counted_by is_worker seat (turned_of ended) quanta book.old }
+{
+    if is_worker {
+        book.worker_turn(seat);
+    } else {
+        book.turn(seat, ended, quanta);
+    }
+}
+
 impl<D: Disk + Drop> Core<D> {
+    // A turn of a worker, or of a caller's work.
+    #[inline(never)]
+    fn turn(&mut self, seat: u32, is_worker: bool) -> Turned
+        requires may { MayCount is_worker seat self.old.held.book }
+        requires even { self.old.held.book.stopped ≡ None → IsEven is_worker seat self.old.held }
+        ensures { TakesTurn is_worker D.state seat (turned_of result) self.old self.new }
+    {
+        has_places(&self.held.book);
+        if let Some(why) = self.held.book.stopped() {
+            count(&mut self.held.book, seat, is_worker, Turned::Halted(why), 0);
+            return Turned::Halted(why);
+        }
+        if is_closed_to(&self.held.book, is_worker) {
+            count(&mut self.held.book, seat, is_worker, Turned::Closed, 0);
+            return Turned::Closed;
+        }
+        turns_land();
+        let choice = choose(&self.held, is_worker);
+        let made = make(&mut self.held, &mut self.disk, seat, choice);
+        let (ended, quanta) = end(&mut self.held.book, self.disk.faults(), choice, made);
+        count(&mut self.held.book, seat, is_worker, ended, quanta);
+        ended
+    }
+
     /// A caller does one turn of its work: it swaps in a merge that is done, does a quantum, begins a pass where the memory table has
     /// entries, or rotates a C1 that has some; with nothing of these to do it is idle.
     ///
     /// The caller must owe nothing, unless the store is stopped, and its open work must have had fewer than 100,000 turns.
-    #[inline(never)]
     pub fn work_turn(&mut self, seat: u32) -> Turned
         requires open { IsTrue (may_turn_in seat self.old.held.book) }
         requires even { self.old.held.book.stopped ≡ None → first_debt self.old.held.gears seat + second_debt self.old.held.gears seat ≡ 0 }
         ensures { TurnsOnce D.state seat (turned_of result) self.old self.new }
     {
-        has_places(&self.held.book);
-        if let Some(why) = self.held.book.stopped() {
-            self.held.book.turn(seat, Turned::Halted(why), 0);
-            return Turned::Halted(why);
-        }
-        turns_land();
-        let choice = choose(&self.held, false);
-        let made = make(&mut self.held, &mut self.disk, seat, choice);
-        let (ended, quanta) = end(&mut self.held.book, self.disk.faults(), choice, made);
-        self.held.book.turn(seat, ended, quanta);
-        ended
+        self.turn(seat, false)
     }
 
     /// A worker does one turn: as a caller's, but it begins a pass past the low mark of the spring only, and rotates nothing.
-    #[inline(never)]
     pub fn worker_turn(&mut self, seat: u32) -> Turned
         requires { (callers ≤ seat) × (seat < seats) }
         ensures { Helps D.state seat (turned_of result) self.old self.new }
     {
-        has_places(&self.held.book);
-        if let Some(why) = self.held.book.stopped() {
-            self.held.book.worker_turn(seat);
-            return Turned::Halted(why);
-        }
-        if self.held.book.is_closed() {
-            self.held.book.worker_turn(seat);
-            return Turned::Closed;
-        }
-        turns_land();
-        let choice = choose(&self.held, true);
-        let made = make(&mut self.held, &mut self.disk, seat, choice);
-        let (ended, _) = end(&mut self.held.book, self.disk.faults(), choice, made);
-        self.held.book.worker_turn(seat);
-        ended
+        self.turn(seat, true)
     }
 }

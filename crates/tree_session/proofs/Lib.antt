@@ -1,7 +1,6 @@
 pub mod FaultLemmas
 pub mod GetLemmas
 pub mod MadeLemmas
-pub mod MayLemmas
 pub mod HoldLemmas
 pub mod AloneLemmas
 pub mod BookLemmas

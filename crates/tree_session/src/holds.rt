@@ -6,7 +6,6 @@ ghost use Rattle.seat_book.specs.State.{may_note_in};
 ghost use Rattle.tree_session.specs.Lines.{Rests};
 ghost use Rattle.tree_session.specs.Session.{Performs};
 
-use crate::writes::{begins, keeps};
 use blsm_model::Key;
 use disk_trait::Disk;
 use std::alloc::Global;
@@ -24,9 +23,8 @@ pub(crate) fn hold<D: Disk + Drop>(
     requires rests { Rests core.old.held }
     ensures { Performs D.state seat (op.Hold low.now high.now) core.old core.new }
 {
-    keeps(core);
+    core.kept();
     let _holding = core.hold(alloc, seat, low, high);
-    begins(core);
 }
 
 // Reads on in a caller's hold.
@@ -37,9 +35,8 @@ pub(crate) fn read_on<D: Disk + Drop>(core: &mut Core<D>, seat: u32, n: u32)
     requires rests { Rests core.old.held }
     ensures { Performs D.state seat (op.Next n) core.old core.new }
 {
-    keeps(core);
+    core.kept();
     let _scan = core.next_rows(seat, n);
-    begins(core);
 }
 
 // Drops a caller's hold.
@@ -48,7 +45,6 @@ pub(crate) fn let_go<D: Disk + Drop>(core: &mut Core<D>, seat: u32)
     requires rests { Rests core.old.held }
     ensures { Performs D.state seat op.Release core.old core.new }
 {
-    keeps(core);
+    core.kept();
     let _release = core.drop_hold(seat);
-    begins(core);
 }

@@ -7,7 +7,7 @@ ghost use Rattle.tree_session.specs.Session.{Performs, Runs};
 
 use crate::holds::{hold, let_go, read_on};
 use crate::works::work;
-use crate::writes::{begins, keeps, write};
+use crate::writes::write;
 use blsm_model::{Key, Line, Op};
 use disk_trait::Disk;
 use std::alloc::Global;
@@ -19,9 +19,8 @@ fn look_up<D: Disk + Drop>(core: &mut Core<D>, seat: u32, key: &Key)
     requires rests { Rests core.old.held }
     ensures { Performs D.state seat (Get key.now) core.old core.new }
 {
-    keeps(core);
+    core.kept();
     let _found = core.get(seat, key);
-    begins(core);
 }
 
 /// Does the command of a line to its end. A write is admitted and paid for, a work ends at its first turn that finds nothing to do.
@@ -54,7 +53,7 @@ pub fn run_lines<D: Disk + Drop>(alloc: Global, core: &mut Core<D>, lines: &[Lin
     requires rests { Rests core.old.held }
     ensures { Runs D.state lines.now core.old core.new }
 {
-    keeps(core);
+    core.kept();
     for line in lines {
         perform(alloc, core, line);
     }

@@ -6,7 +6,6 @@ ghost use Rattle.tree_machine.specs.Plays.{most_turns};
 ghost use Rattle.tree_session.specs.Lines.{Rests};
 ghost use Rattle.tree_session.specs.Session.{Performs, Turns};
 
-use crate::writes::{begins, keeps};
 use disk_trait::Disk;
 use seat_book::Turned;
 use tree_core::Core;
@@ -19,7 +18,7 @@ fn turn<D: Disk + Drop>(core: &mut Core<D>, seat: u32, n: u32)
     requires rests { Rests core.old.held }
     ensures { Turns D.state seat n core.old core.new }
 {
-    keeps(core);
+    core.kept();
     for _turn in 0..n {
         match core.work_turn(seat) {
             Turned::Worked => {}
@@ -37,7 +36,6 @@ pub(crate) fn work<D: Disk + Drop>(core: &mut Core<D>, seat: u32, n: u32)
     ensures { Performs D.state seat (Work n) core.old core.new }
 {
     turn(core, seat, n);
-    keeps(core);
+    core.kept();
     let _reply = core.work_end(seat, n);
-    begins(core);
 }

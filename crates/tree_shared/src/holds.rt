@@ -15,7 +15,6 @@ ghost use Rattle.tree_core.specs.declared.answers.Admission.TheVariants as admis
 ghost use Rattle.tree_core.specs.declared.answers.Payment.TheVariants as payment;
 ghost use Rattle.tree_shared.specs.Seats.{DidOn, KnowsOf, HasHelped, IsFinished, IsFree, IsGone, IsOwing, IsWorking};
 
-use crate::calls;
 use blsm_model::{Key, Op, ShortReply};
 use disk_trait::Disk;
 use seat_book::Turned;
@@ -103,7 +102,7 @@ pub(crate) fn hold<R: Wait, D: Disk + Drop>(
 {
     let seat = caller.number();
     let mut core = lock.take(rt, caller);
-    let answer = calls::hold(&mut core, alloc, seat, low, high);
+    let answer = core.hold(alloc, seat, low, high);
     lock.give(caller, core);
     answer
 }
@@ -127,7 +126,7 @@ pub(crate) fn read_on<R: Wait, D: Disk + Drop>(
 {
     let seat = caller.number();
     let mut core = lock.take(rt, caller);
-    let answer = calls::next_rows(&mut core, seat, n);
+    let answer = core.next_rows(seat, n);
     lock.give(caller, core);
     answer
 }
@@ -146,7 +145,7 @@ pub(crate) fn let_go<R: Wait, D: Disk + Drop>(
 {
     let seat = caller.number();
     let mut core = lock.take(rt, caller);
-    let answer = calls::drop_hold(&mut core, seat);
+    let answer = core.drop_hold(seat);
     lock.give(caller, core);
     answer
 }

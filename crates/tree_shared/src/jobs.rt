@@ -10,7 +10,6 @@ ghost use Rattle.tree_session.specs.Lines.{AreRunnable, IsCommand, rows_asked, r
 ghost use Rattle.tree_shared.specs.Seats.{KnowsOf, HasHelped, IsFree, IsGone};
 ghost use Rattle.tree_shared.specs.Runs.{DoesLine, Ends, Helped, IsFresh, IsNew, RanLines, RunsAll, Starts, TellsEnd};
 
-use crate::calls::begins;
 use crate::commands::do_one;
 use crate::holds::{help, leave};
 use blsm_model::{CALLERS, Gate, Line, Point};
@@ -167,7 +166,7 @@ pub fn run_all<R: Threads + Wait + Sync, D: Disk + Send + Drop, G: Gate + Sync>(
     requires few { callers + workers ≤ seats }
     ensures { MatchResult result (λ end. RunsAll D.state script.now workers turns core end) (λ back. back ≡ core) }
 {
-    begins(&core);
+    core.kept();
     let (lock, first) = match TurnLock::new(alloc, core) {
         Ok(made) => made,
         Err(core) => return Err(core),
@@ -183,6 +182,6 @@ pub fn run_all<R: Threads + Wait + Sync, D: Disk + Send + Drop, G: Gate + Sync>(
         gate,
     );
     let end = lock.close(first);
-    begins(&end);
+    end.kept();
     Ok(end)
 }

@@ -3,7 +3,6 @@
 //! One hold of the lock is one call of the core. Between two holds a gate is called, at which a test may make threads wait for one another.
 #![tactic(auto)]
 
-mod calls;
 mod commands;
 mod holds;
 mod jobs;

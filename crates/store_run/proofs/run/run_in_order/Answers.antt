@@ -28,9 +28,9 @@ returns-clause-counted g c =
     let old = c.in-Ok.core in
     let new = c.run_lines.new.core in
     let opened = c.in-Ok.ensures.opened in
-    let has = by_lines state c.args.lines.now (no_entries c.args.room) (state old.disk).faults old new opened c.charge-charge_now.ensures.kept c.charge-charge.ensures.begins c.run_lines.ensures in
+    let has = by_lines state c.args.lines.now (no_entries c.args.room) (state old.disk).faults old new opened c.kept-2.ensures.core c.kept.ensures.begins c.run_lines.ensures in
     counted_of state c.args.lines.now (no_entries c.args.room) (state old.disk).faults (state c.args.disk) old new opened (calm_opening (state c.args.disk) (state old.disk) c.in-Ok.ensures.faults) has
-    (run_of c.finish-disk.result.1) (c.finish-disk.ensures.finished ∙ ap (λ (n : ℕ). run_at n new.held) c.charge-charge.ensures.charge) c.finish-disk.result.0 c.finish-disk.ensures.disk
+    (run_of c.finish-disk.result.1) (c.finish-disk.ensures.finished ∙ ap (λ (n : ℕ). run_at n new.held) c.charge-charge.ensures) c.finish-disk.result.0 c.finish-disk.ensures.disk
 
 pub returns-clause-reaches : goal.returns-clause-reaches
 returns-clause-reaches g c =
@@ -38,8 +38,8 @@ returns-clause-reaches g c =
     let old = c.in-Ok.core in
     let new = c.run_lines.new.core in
     let opened = c.in-Ok.ensures.opened in
-    let has = by_lines state c.args.lines.now (no_entries c.args.room) (state old.disk).faults old new opened c.charge-charge_now.ensures.kept c.charge-charge.ensures.begins c.run_lines.ensures in
-    disk_inside state c.args.lines.now (no_entries c.args.room) (state old.disk).faults (state c.args.disk) old new opened c.charge-charge.ensures.kept c.in-Ok.ensures.effect has c.finish-disk.result.0 c.finish-disk.ensures.disk
+    let has = by_lines state c.args.lines.now (no_entries c.args.room) (state old.disk).faults old new opened c.kept-2.ensures.core c.kept.ensures.begins c.run_lines.ensures in
+    disk_inside state c.args.lines.now (no_entries c.args.room) (state old.disk).faults (state c.args.disk) old new opened c.kept.ensures.core c.in-Ok.ensures.effect has c.finish-disk.result.0 c.finish-disk.ensures.disk
 
 pub returns-clause-served : goal.returns-clause-served
 returns-clause-served g c = λ honest.
@@ -50,8 +50,8 @@ returns-clause-served g c = λ honest.
     let annals = no_entries c.args.room in
     let faults = (state old.disk).faults in
     let runs = c.run_lines.ensures in
-    let begins = c.charge-charge.ensures.begins in
-    let kept = c.charge-charge_now.ensures.kept in
+    let begins = c.kept.ensures.begins in
+    let kept = c.kept-2.ensures.core in
     served_in_order c.seats_apart.ensures.opening c.outcomes_are_told.ensures.pages state c.args.room c.args.lines.now (state c.args.disk) old new honest
     (record {
       opens = c.in-Ok.ensures.stands honest;
@@ -62,4 +62,4 @@ returns-clause-served g c = λ honest.
       run = by_lines state c.args.lines.now annals faults old new opened kept begins runs;
     })
     (lines_asked state c.args.lines.now annals faults old new opened kept begins runs) (lines_alone state c.args.lines.now annals faults old new opened kept begins runs)
-    c.finish-disk.result.0 c.finish-disk.ensures.disk (run_of c.finish-disk.result.1) (c.finish-disk.ensures.finished ∙ ap (λ (n : ℕ). run_at n new.held) c.charge-charge.ensures.charge)
+    c.finish-disk.result.0 c.finish-disk.ensures.disk (run_of c.finish-disk.result.1) (c.finish-disk.ensures.finished ∙ ap (λ (n : ℕ). run_at n new.held) c.charge-charge.ensures)

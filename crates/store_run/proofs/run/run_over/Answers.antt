@@ -40,15 +40,15 @@ returns-in-Ok-run_all-clause-ran g c =
     let runs = c.in-Ok-run_all.ensures in
     let opened = c.in-Ok.ensures.opened in
     let rests = c.an_opened_core_rests.ensures (no_entries c.args.room) (state old.disk).faults old.held opened in
-    let unasked = is_unasked state (no_entries c.args.room) (state old.disk).faults old opened rests c.charge-charge.ensures.kept c.charge-charge.ensures.begins in
+    let unasked = is_unasked state (no_entries c.args.room) (state old.disk).faults old opened rests c.kept.ensures.core c.kept.ensures.begins in
     let has = by_threads state c.args.lines.now c.args.workers c.args.turns old new runs (c.calls_tell.ensures runs.came.calls old unasked runs.came.are) (c.calls_take_few.ensures runs.came.calls old unasked runs.came.are) in
-    printed_of state c.args.lines.now c.args.workers c.args.turns old new has runs (run_of c.finish-disk.result.1) (c.finish-disk.ensures.finished ∙ ap (λ (n : ℕ). run_at n new.held) c.charge-charge.ensures.charge)
+    printed_of state c.args.lines.now c.args.workers c.args.turns old new has runs (run_of c.finish-disk.result.1) (c.finish-disk.ensures.finished ∙ ap (λ (n : ℕ). run_at n new.held) c.charge-charge.ensures)
     (state c.args.disk) c.in-Ok.ensures.long
 
 pub returns-in-Ok-run_all-clause-ended : goal.returns-in-Ok-run_all-clause-ended
 returns-in-Ok-run_all-clause-ended g c =
     ended_of g.D.Disk.state c.args.lines.now c.args.workers c.args.turns c.in-Ok.core c.in-Ok-run_all.core c.in-Ok-run_all.ensures (run_of c.finish-disk.result.1)
-    (c.finish-disk.ensures.finished ∙ ap (λ (n : ℕ). run_at n c.in-Ok-run_all.core.held) c.charge-charge.ensures.charge)
+    (c.finish-disk.ensures.finished ∙ ap (λ (n : ℕ). run_at n c.in-Ok-run_all.core.held) c.charge-charge.ensures)
 
 pub returns-in-Ok-run_all-clause-counted : goal.returns-in-Ok-run_all-clause-counted
 returns-in-Ok-run_all-clause-counted g c =
@@ -58,10 +58,10 @@ returns-in-Ok-run_all-clause-counted g c =
     let runs = c.in-Ok-run_all.ensures in
     let opened = c.in-Ok.ensures.opened in
     let rests = c.an_opened_core_rests.ensures (no_entries c.args.room) (state old.disk).faults old.held opened in
-    let unasked = is_unasked state (no_entries c.args.room) (state old.disk).faults old opened rests c.charge-charge.ensures.kept c.charge-charge.ensures.begins in
+    let unasked = is_unasked state (no_entries c.args.room) (state old.disk).faults old opened rests c.kept.ensures.core c.kept.ensures.begins in
     let has = by_threads state c.args.lines.now c.args.workers c.args.turns old new runs (c.calls_tell.ensures runs.came.calls old unasked runs.came.are) (c.calls_take_few.ensures runs.came.calls old unasked runs.came.are) in
     counted_of state c.args.lines.now (no_entries c.args.room) (state old.disk).faults (state c.args.disk) old new opened (calm_opening (state c.args.disk) (state old.disk) c.in-Ok.ensures.faults) has
-    (run_of c.finish-disk.result.1) (c.finish-disk.ensures.finished ∙ ap (λ (n : ℕ). run_at n new.held) c.charge-charge.ensures.charge) c.finish-disk.result.0 c.finish-disk.ensures.disk
+    (run_of c.finish-disk.result.1) (c.finish-disk.ensures.finished ∙ ap (λ (n : ℕ). run_at n new.held) c.charge-charge.ensures) c.finish-disk.result.0 c.finish-disk.ensures.disk
 
 pub returns-in-Ok-run_all-clause-ending : goal.returns-in-Ok-run_all-clause-ending
 returns-in-Ok-run_all-clause-ending g c = subst (λ d. Rattle.store_run.specs.Run.IsEnding c.finish-disk.result.1.ending (run_of c.finish-disk.result.1) (g.D.Disk.state d).faults) (sym c.finish-disk.ensures.disk) c.finish-disk.ensures.ending
@@ -74,9 +74,9 @@ returns-in-Ok-run_all-clause-reaches g c =
     let runs = c.in-Ok-run_all.ensures in
     let opened = c.in-Ok.ensures.opened in
     let rests = c.an_opened_core_rests.ensures (no_entries c.args.room) (state old.disk).faults old.held opened in
-    let unasked = is_unasked state (no_entries c.args.room) (state old.disk).faults old opened rests c.charge-charge.ensures.kept c.charge-charge.ensures.begins in
+    let unasked = is_unasked state (no_entries c.args.room) (state old.disk).faults old opened rests c.kept.ensures.core c.kept.ensures.begins in
     let has = by_threads state c.args.lines.now c.args.workers c.args.turns old new runs (c.calls_tell.ensures runs.came.calls old unasked runs.came.are) (c.calls_take_few.ensures runs.came.calls old unasked runs.came.are) in
-    disk_inside state c.args.lines.now (no_entries c.args.room) (state old.disk).faults (state c.args.disk) old new opened c.charge-charge.ensures.kept c.in-Ok.ensures.effect has c.finish-disk.result.0 c.finish-disk.ensures.disk
+    disk_inside state c.args.lines.now (no_entries c.args.room) (state old.disk).faults (state c.args.disk) old new opened c.kept.ensures.core c.in-Ok.ensures.effect has c.finish-disk.result.0 c.finish-disk.ensures.disk
 
 pub returns-in-Ok-run_all-clause-causes : goal.returns-in-Ok-run_all-clause-causes
 returns-in-Ok-run_all-clause-causes g c =
@@ -111,7 +111,7 @@ returns-in-Ok-run_all-clause-headline g c = λ honest.
     let are = runs.came.are in
     let opens = c.in-Ok.ensures.stands honest in
     let rests = c.an_opened_core_rests.ensures annals faults old.held opened in
-    let unasked = is_unasked state annals faults old opened rests c.charge-charge.ensures.kept c.charge-charge.ensures.begins in
+    let unasked = is_unasked state annals faults old opened rests c.kept.ensures.core c.kept.ensures.begins in
     let goes_on = c.in-Ok.ensures.effect.effect.goes_on in
     let honest_then = goes_on.is_honest ∙ honest in
     whole_headline c.seats_apart.ensures.opening c.outcomes_are_told.ensures.pages c.runs_alone.ensures.alone state (g.met.D.Disk g.world.𝓛 g.world.𝓜 g.world.𝓡 ((λ s x. x), (λ x. x), (λ x. x), λ x. x)).timed c.args.room c.args.lines.now c.args.workers c.args.turns (state c.args.disk) old new
@@ -124,9 +124,9 @@ returns-in-Ok-run_all-clause-headline g c = λ honest.
       run = by_threads state c.args.lines.now c.args.workers c.args.turns old new runs (c.calls_tell.ensures calls old unasked are) (c.calls_take_few.ensures calls old unasked are);
     })
     (no_entries_yet annals faults old.held opened) (c.in-Ok.ensures.keeps old.held.runs.sizes opens.pairs honest opens.reads) runs
-    (λ opening m pace stands. c.calls_are_steps.ensures opening calls old m pace c.charge-charge.ensures.kept are honest_then stands)
+    (λ opening m pace stands. c.calls_are_steps.ensures opening calls old m pace c.kept.ensures.core are honest_then stands)
     (few_turned state calls annals faults old new opened (c.calls_help.ensures calls old unasked are)) (c.calls_help.ensures calls old unasked are).rests
-    c.finish-disk.result.0 c.finish-disk.ensures.disk (run_of c.finish-disk.result.1) (c.finish-disk.ensures.finished ∙ ap (λ (n : ℕ). run_at n new.held) c.charge-charge.ensures.charge)
+    c.finish-disk.result.0 c.finish-disk.ensures.disk (run_of c.finish-disk.result.1) (c.finish-disk.ensures.finished ∙ ap (λ (n : ℕ). run_at n new.held) c.charge-charge.ensures)
 
 pub returns-in-Ok-run_all-clause-untouched : goal.returns-in-Ok-run_all-clause-untouched
 returns-in-Ok-run_all-clause-untouched g c = λ honest none. let opens = c.in-Ok.ensures.stands honest in absurd (none c.in-Ok.core.held.runs.sizes opens.pairs opens.reads)

@@ -1,4 +1,4 @@
-use Rattle.std.proofs.Common.{ℕ, Ok, inl, inr, refl, sym, subst}
+use Rattle.std.proofs.Common.{ℕ, Ok, refl, sym, subst}
 use Rattle.std.specs.Prelude.{IfOk}
 use Rattle.std.specs.declared.result.Result.{Result}
 use Rattle.page_file.specs.declared.file.Broken.{Broken}

@@ -31,11 +31,11 @@ returns g c =
       rows = get_rows c.get-found.result;
       calm = λ calm. tt;
       names = get_names c.get-found.result c.args.key.now old.held new.held (state old.disk) (state new.disk) c.get-found.ensures.cause (ap (λ (h : Held). h.book.stopped) held);
-      begins = c.begins.ensures;
+      begins = c.get-found.ensures.goes.begins;
       rests = subst (λ (h : Held). Rests h) (sym held) (record { idle = λ seat. c.requires.rests.idle seat; even = λ runs seat. c.requires.rests.even runs seat });
       proceeds =
           let effect = c.get-found.ensures.reads.effect in
-          proceeds_by state (faults_of reply) 3 old old new c.keeps.ensures.begins (λ from since. c.get-found.ensures.goes.lasts from since) (reaches_by effect)
+          proceeds_by state (faults_of reply) 3 old old new c.kept.ensures.begins (λ from since. c.get-found.ensures.goes.lasts from since) (reaches_by effect)
           (get_tells c.get-found.result c.args.key.now old.held new.held (state old.disk) (state new.disk) c.get-found.ensures.cause (ap (λ (h : Held). h.book.stopped) held))
           (ap (λ (h : Held). sum (drop callers h.book.seats.quanta)) held);
       made = made_by state c.args.seat (kind.Get c.args.key.now) old new (c.get-found.result, c.get-found.ensures);

@@ -13,7 +13,7 @@ use Rattle.tree_session.proofs.session.run_lines.Goals as goal
 pub loop-line-init : goal.loop-line-init
 loop-line-init g c = record {
   runs = runs_none g.D.Disk.state c.args.core.now c.requires.rests;
-  places = core_places c.args.core.now.held (g.D.Disk.state c.args.core.now.disk) c.keeps.ensures.core;
+  places = core_places c.args.core.now.held (g.D.Disk.state c.args.core.now.disk) c.kept.ensures.core;
   left = c.requires.room;
 }
 

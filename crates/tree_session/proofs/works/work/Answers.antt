@@ -10,7 +10,7 @@ returns g c =
     let state = g.D.Disk.state in
     let old = c.args.core.now in
     let mid = c.turn.new.core in
-    work_ended g.D.Disk.state c.args.seat c.args.n old mid c.work_end-reply.new.self c.keeps.ensures.begins c.begins.ensures c.requires.rests
+    work_ended g.D.Disk.state c.args.seat c.args.n old mid c.work_end-reply.new.self c.kept.ensures.begins c.work_end-reply.ensures.goes.begins c.requires.rests
     (λ ran runs. all_even c.args.seat old.held mid.held (c.requires.rests.even ran) c.turn.ensures.others (c.turn.ensures.even runs))
     c.turn.ensures c.work_end-reply.ensures.untouched c.work_end-reply.ensures.held (λ from since. c.work_end-reply.ensures.goes.lasts from since)
     (made_by state c.args.seat (kind.WorkEnd c.args.n) mid c.work_end-reply.new.self (as_reply c.work_end-reply.result, c.work_end-reply.ensures))

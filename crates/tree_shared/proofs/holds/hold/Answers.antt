@@ -24,18 +24,18 @@ hold-answer-requires g c =
     subst (λ (n : ℕ). may_note_in n 0 c.take-core.result.held.book ≡ true) (sym c.number-seat.ensures) (note_ok g.D.Disk.state c.args.caller.now c.take-core.result c.take-core.ensures.2 0 c.requires.number c.requires.free)
 
 pub give-requires-clause-turn : goal.give-requires-clause-turn
-give-requires-clause-turn g c = turn_given g.D.Disk.state c.args.caller.now c.take-core.new.caller c.take-core.result c.hold-answer.new.core c.take-core.ensures c.number-seat.result c.number-seat.ensures (kind.Hold c.args.low.now c.args.high.now) (c.hold-answer.result, c.hold-answer.ensures)
+give-requires-clause-turn g c = turn_given g.D.Disk.state c.args.caller.now c.take-core.new.caller c.take-core.result c.hold-answer.new.self c.take-core.ensures c.number-seat.result c.number-seat.ensures (kind.Hold c.args.low.now c.args.high.now) (c.hold-answer.result, c.hold-answer.ensures)
 
 pub give-requires-clause-lasts : goal.give-requires-clause-lasts
-give-requires-clause-lasts g c = came_given g.D.Disk.state c.args.caller.now c.take-core.new.caller c.take-core.result c.hold-answer.new.core c.take-core.ensures c.number-seat.result c.number-seat.ensures (kind.Hold c.args.low.now c.args.high.now) (c.hold-answer.result, c.hold-answer.ensures)
+give-requires-clause-lasts g c = came_given g.D.Disk.state c.args.caller.now c.take-core.new.caller c.take-core.result c.hold-answer.new.self c.take-core.ensures c.number-seat.result c.number-seat.ensures (kind.Hold c.args.low.now c.args.high.now) (c.hold-answer.result, c.hold-answer.ensures)
 
 pub returns-clause-did : goal.returns-clause-did
 returns-clause-did g c =
     let state = g.D.Disk.state in
     let caller = c.args.caller.now in
     let b = c.take-core.result in
-    let w = c.hold-answer.new.core in
-    let turn = turn_by state caller c.take-core.new.caller c.take-core.result c.hold-answer.new.core c.take-core.ensures c.number-seat.result c.number-seat.ensures (kind.Hold c.args.low.now c.args.high.now) (c.hold-answer.result, c.hold-answer.ensures) c.give.new.caller c.give.ensures in
+    let w = c.hold-answer.new.self in
+    let turn = turn_by state caller c.take-core.new.caller c.take-core.result c.hold-answer.new.self c.take-core.ensures c.number-seat.result c.number-seat.ensures (kind.Hold c.args.low.now c.args.high.now) (c.hold-answer.result, c.hold-answer.ensures) c.give.new.caller c.give.ensures in
     let its = subst (λ (n : ℕ). HoldsRange state n c.args.low.now c.args.high.now c.hold-answer.result b w) c.number-seat.ensures c.hold-answer.ensures in
     note_did state caller c.give.new.caller (op.Hold c.args.low.now c.args.high.now) (reply_to_hold c.hold-answer.result) b w c.requires.number turn (notes_one caller.number (op.Hold c.args.low.now c.args.high.now) (reply_to_hold c.hold-answer.result) b.held.book w.held.book its.book) (ap (λ (h : Held). h.gears) its.others.rest) (IsFree 1 0) c.requires.free
 
@@ -44,7 +44,7 @@ returns-clause-free g c =
     let state = g.D.Disk.state in
     let caller = c.args.caller.now in
     let b = c.take-core.result in
-    let w = c.hold-answer.new.core in
-    let turn = turn_by state caller c.take-core.new.caller c.take-core.result c.hold-answer.new.core c.take-core.ensures c.number-seat.result c.number-seat.ensures (kind.Hold c.args.low.now c.args.high.now) (c.hold-answer.result, c.hold-answer.ensures) c.give.new.caller c.give.ensures in
+    let w = c.hold-answer.new.self in
+    let turn = turn_by state caller c.take-core.new.caller c.take-core.result c.hold-answer.new.self c.take-core.ensures c.number-seat.result c.number-seat.ensures (kind.Hold c.args.low.now c.args.high.now) (c.hold-answer.result, c.hold-answer.ensures) c.give.new.caller c.give.ensures in
     let its = subst (λ (n : ℕ). HoldsRange state n c.args.low.now c.args.high.now c.hold-answer.result b w) c.number-seat.ensures c.hold-answer.ensures in
     note_frees_none state caller c.give.new.caller (op.Hold c.args.low.now c.args.high.now) (reply_to_hold c.hold-answer.result) b w c.requires.number turn (notes_one caller.number (op.Hold c.args.low.now c.args.high.now) (reply_to_hold c.hold-answer.result) b.held.book w.held.book its.book) (ap (λ (h : Held). h.gears) its.others.rest) (gives_none c.hold-answer.result)

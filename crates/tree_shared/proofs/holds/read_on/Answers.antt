@@ -38,18 +38,18 @@ next_rows-answer-requires-clause-note g c =
     subst (λ (n : ℕ). may_note_in n c.args.n c.take-core.result.held.book ≡ true) (sym c.number-seat.ensures) (note_ok g.D.Disk.state c.args.caller.now c.take-core.result c.take-core.ensures.2 c.args.n c.requires.number c.requires.free)
 
 pub give-requires-clause-turn : goal.give-requires-clause-turn
-give-requires-clause-turn g c = turn_given g.D.Disk.state c.args.caller.now c.take-core.new.caller c.take-core.result c.next_rows-answer.new.core c.take-core.ensures c.number-seat.result c.number-seat.ensures (kind.Next c.args.n) (scanned_in c.next_rows-answer.result c.next_rows-answer.new.core.held.book, c.next_rows-answer.ensures.reads)
+give-requires-clause-turn g c = turn_given g.D.Disk.state c.args.caller.now c.take-core.new.caller c.take-core.result c.next_rows-answer.new.self c.take-core.ensures c.number-seat.result c.number-seat.ensures (kind.Next c.args.n) (scanned_in c.next_rows-answer.result c.next_rows-answer.new.self.held.book, c.next_rows-answer.ensures.reads)
 
 pub give-requires-clause-lasts : goal.give-requires-clause-lasts
-give-requires-clause-lasts g c = came_given g.D.Disk.state c.args.caller.now c.take-core.new.caller c.take-core.result c.next_rows-answer.new.core c.take-core.ensures c.number-seat.result c.number-seat.ensures (kind.Next c.args.n) (scanned_in c.next_rows-answer.result c.next_rows-answer.new.core.held.book, c.next_rows-answer.ensures.reads)
+give-requires-clause-lasts g c = came_given g.D.Disk.state c.args.caller.now c.take-core.new.caller c.take-core.result c.next_rows-answer.new.self c.take-core.ensures c.number-seat.result c.number-seat.ensures (kind.Next c.args.n) (scanned_in c.next_rows-answer.result c.next_rows-answer.new.self.held.book, c.next_rows-answer.ensures.reads)
 
 pub returns-clause-did : goal.returns-clause-did
 returns-clause-did g c =
     let state = g.D.Disk.state in
     let caller = c.args.caller.now in
     let b = c.take-core.result in
-    let w = c.next_rows-answer.new.core in
-    let turn = turn_by state caller c.take-core.new.caller c.take-core.result c.next_rows-answer.new.core c.take-core.ensures c.number-seat.result c.number-seat.ensures (kind.Next c.args.n) (scanned_in c.next_rows-answer.result c.next_rows-answer.new.core.held.book, c.next_rows-answer.ensures.reads) c.give.new.caller c.give.ensures in
+    let w = c.next_rows-answer.new.self in
+    let turn = turn_by state caller c.take-core.new.caller c.take-core.result c.next_rows-answer.new.self c.take-core.ensures c.number-seat.result c.number-seat.ensures (kind.Next c.args.n) (scanned_in c.next_rows-answer.result c.next_rows-answer.new.self.held.book, c.next_rows-answer.ensures.reads) c.give.new.caller c.give.ensures in
     let told = scanned_in c.next_rows-answer.result w.held.book in
     let its = subst (λ (n : ℕ). ReadsOn state n c.args.n told b w) c.number-seat.ensures c.next_rows-answer.ensures.reads in (
       rows_noted w.held.book.book,
@@ -62,8 +62,8 @@ returns-clause-free g c =
     let state = g.D.Disk.state in
     let caller = c.args.caller.now in
     let b = c.take-core.result in
-    let w = c.next_rows-answer.new.core in
-    let turn = turn_by state caller c.take-core.new.caller c.take-core.result c.next_rows-answer.new.core c.take-core.ensures c.number-seat.result c.number-seat.ensures (kind.Next c.args.n) (scanned_in c.next_rows-answer.result c.next_rows-answer.new.core.held.book, c.next_rows-answer.ensures.reads) c.give.new.caller c.give.ensures in
+    let w = c.next_rows-answer.new.self in
+    let turn = turn_by state caller c.take-core.new.caller c.take-core.result c.next_rows-answer.new.self c.take-core.ensures c.number-seat.result c.number-seat.ensures (kind.Next c.args.n) (scanned_in c.next_rows-answer.result c.next_rows-answer.new.self.held.book, c.next_rows-answer.ensures.reads) c.give.new.caller c.give.ensures in
     let told = scanned_in c.next_rows-answer.result w.held.book in
     let its = subst (λ (n : ℕ). ReadsOn state n c.args.n told b w) c.number-seat.ensures c.next_rows-answer.ensures.reads in
     note_frees state caller c.give.new.caller (op.Next c.args.n) (reply_to_next told) b w c.requires.number turn (notes_one caller.number (op.Next c.args.n) (reply_to_next told) b.held.book w.held.book its.book) (ap (λ (h : Held). h.gears) its.others.rest) c.args.n (gives_few told caller.number c.args.n b w (state b.disk) (state w.disk) its.cause)

@@ -36,7 +36,7 @@ pub take-requires-clause-runs : goal.take-requires-clause-runs
 take-requires-clause-runs g c = record { pace = c.self.invariant.0.pace; live = c.self.invariant.0.holds.live (sym c.stopped.ensures ∙ none_of c.stopped.result c.in_default.not-Some) }
 
 pub take-requires-clause-may : goal.take-requires-clause-may
-take-requires-clause-may g c = may_write_at c.self.view_is c.args.seat c.args.op.now c.charge-charge.result c.weight-weight.result c.geometry.result c.is_del.result c.requires.note c.requires.even (sym c.stopped.ensures ∙ none_of c.stopped.result c.in_default.not-Some) c.charge-charge.ensures.charge c.weight-weight.ensures.weight c.geometry.ensures c.is_del.ensures c.weight-weight.ensures.least c.weight-weight.ensures.bound (c.admits.ensures.0 c.if-not-admits.false)
+take-requires-clause-may g c = may_write_at c.self.view_is c.args.seat c.args.op.now c.charge-charge.result c.weight-weight.result c.geometry.result c.is_del.result c.requires.note c.requires.even (sym c.stopped.ensures ∙ none_of c.stopped.result c.in_default.not-Some) c.charge-charge.ensures c.weight-weight.ensures.weight c.geometry.ensures c.is_del.ensures c.weight-weight.ensures.least c.weight-weight.ensures.bound (c.admits.ensures.0 c.if-not-admits.false)
 
 pub note-requires-in-Taken : goal.note-requires-in-Taken
 note-requires-in-Taken g c =
@@ -79,7 +79,7 @@ returns-then-not-admits g c =
     let weight = c.weight-weight.ensures in
     let fits = write_fits c.args.op.now c.write_of-write.result c.write_of-write.ensures.write c.write_of-write.ensures.fits (subst (λ (n : ℕ). least_weight ≤ n) weight.weight weight.least) (subst (λ (n : ℕ). n ≤ most_weight) weight.weight weight.bound) in
     let same = noted_same c.args.seat c.args.op.now c.copy-then-not-admits.result (Full c.charge-charge.result) old.held.book c.note-then-not-admits.new.self c.note-then-not-admits.ensures c.copy-then-not-admits.ensures in
-    let charge_is = c.charge-charge.ensures.charge ∙ ap (λ (s : CoreState g.row.D.Denot). charge_in s.held) (sym c.self.view_is) in
+    let charge_is = c.charge-charge.ensures ∙ ap (λ (s : CoreState g.row.D.Denot). charge_in s.held) (sym c.self.view_is) in
     let past = past_as c.charge-charge.result (charge_in old.held) c.weight-weight.result _ c.geometry.result old.held.runs.sizes c.is_del.result _ charge_is weight.weight (c.geometry.ensures ∙ ap (λ (s : CoreState g.row.D.Denot). s.held.runs.sizes) (sym c.self.view_is)) c.is_del.ensures
     (λ within. false≢true (sym c.if-not-admits.true ∙ c.admits.ensures.1 within)) in
     subst (λ (s : CoreState g.row.D.Denot). Admits g.D.Disk.state c.args.seat c.args.op.now (admission.Full c.charge-charge.result) s (record old { held = with_book c.note-then-not-admits.new.self old.held })) c.self.view_is
@@ -92,7 +92,7 @@ returns-in-Taken g c =
     let room = subst (λ (s : CoreState g.row.D.Denot). may_note_in c.args.seat 0 s.held.book ≡ true) (sym c.self.view_is) c.requires.note in
     let weight = c.weight-weight.ensures in
     let fits = write_fits c.args.op.now c.write_of-write.result c.write_of-write.ensures.write c.write_of-write.ensures.fits (subst (λ (n : ℕ). least_weight ≤ n) weight.weight weight.least) (subst (λ (n : ℕ). n ≤ most_weight) weight.weight weight.bound) in
-    let writing = may_write_at c.self.view_is c.args.seat c.args.op.now c.charge-charge.result c.weight-weight.result c.geometry.result c.is_del.result c.requires.note c.requires.even (sym c.stopped.ensures ∙ none_of c.stopped.result c.in_default.not-Some) c.charge-charge.ensures.charge c.weight-weight.ensures.weight c.geometry.ensures c.is_del.ensures c.weight-weight.ensures.least c.weight-weight.ensures.bound (c.admits.ensures.0 c.if-not-admits.false) in
+    let writing = may_write_at c.self.view_is c.args.seat c.args.op.now c.charge-charge.result c.weight-weight.result c.geometry.result c.is_del.result c.requires.note c.requires.even (sym c.stopped.ensures ∙ none_of c.stopped.result c.in_default.not-Some) c.charge-charge.ensures c.weight-weight.ensures.weight c.geometry.ensures c.is_del.ensures c.weight-weight.ensures.least c.weight-weight.ensures.bound (c.admits.ensures.0 c.if-not-admits.false) in
     let same = noted_same c.args.seat c.args.op.now c.copy-in-Taken.result Done c.take.new.held.book c.note-in-Taken.new.self c.note-in-Taken.ensures c.copy-in-Taken.ensures in
     subst (λ (s : CoreState g.row.D.Denot). Admits g.D.Disk.state c.args.seat c.args.op.now admission.Admitted s (record { disk = c.take.new.disk; held = with_book c.note-in-Taken.new.self c.take.new.held; holds = old.holds })) c.self.view_is
     (admit_taken g.D.Disk.state c.args.seat c.args.op.now old c.self.invariant.0 (g.met.D.Disk.timed old.disk) can room fits c.write_of-write.result c.take.new.disk c.take.new.held c.note-in-Taken.new.self (g.met.D.Disk.timed c.take.new.disk) c.write_of-write.ensures.write (sym c.stopped.ensures ∙ none_of c.stopped.result c.in_default.not-Some) writing
@@ -105,7 +105,7 @@ returns-in-Failed g c =
     let room = subst (λ (s : CoreState g.row.D.Denot). may_note_in c.args.seat 0 s.held.book ≡ true) (sym c.self.view_is) c.requires.note in
     let weight = c.weight-weight.ensures in
     let fits = write_fits c.args.op.now c.write_of-write.result c.write_of-write.ensures.write c.write_of-write.ensures.fits (subst (λ (n : ℕ). least_weight ≤ n) weight.weight weight.least) (subst (λ (n : ℕ). n ≤ most_weight) weight.weight weight.bound) in
-    let writing = may_write_at c.self.view_is c.args.seat c.args.op.now c.charge-charge.result c.weight-weight.result c.geometry.result c.is_del.result c.requires.note c.requires.even (sym c.stopped.ensures ∙ none_of c.stopped.result c.in_default.not-Some) c.charge-charge.ensures.charge c.weight-weight.ensures.weight c.geometry.ensures c.is_del.ensures c.weight-weight.ensures.least c.weight-weight.ensures.bound (c.admits.ensures.0 c.if-not-admits.false) in
+    let writing = may_write_at c.self.view_is c.args.seat c.args.op.now c.charge-charge.result c.weight-weight.result c.geometry.result c.is_del.result c.requires.note c.requires.even (sym c.stopped.ensures ∙ none_of c.stopped.result c.in_default.not-Some) c.charge-charge.ensures c.weight-weight.ensures.weight c.geometry.ensures c.is_del.ensures c.weight-weight.ensures.least c.weight-weight.ensures.bound (c.admits.ensures.0 c.if-not-admits.false) in
     let begun = c.in-Failed.begun in
     let same = stopped_same c.args.seat c.args.op.now c.copy-in-Failed.result (cond begun FaultUnsure FaultLost) (as_reply c.failed.result) c.faults.result (g.D.Disk.state c.take.new.disk).faults c.take.new.held.book c.stop.new.self c.note-in-Failed.new.self
     c.stop.ensures c.faults.ensures c.note-in-Failed.ensures c.copy-in-Failed.ensures c.failed.ensures in

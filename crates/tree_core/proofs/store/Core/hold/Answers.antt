@@ -1,78 +1,26 @@
-use Rattle.std.specs.Prelude.{◌≡◌, true, IsTrue}
-use Rattle.std.proofs.Common.{ap, subst, sym, ◌∙◌}
+use Rattle.std.specs.Prelude.{◌≡◌, true}
+use Rattle.std.proofs.Common.{subst}
 use Rattle.blsm_model.specs.Stored.{as_reply}
-use Rattle.blsm_model.specs.declared.op.Op.TheVariants as op
-use Rattle.disk_trait.specs.Disk.{GoesOn}
-use Rattle.disk_trait.specs.Moments.{goes_on_start}
-use Rattle.pacing.specs.Pace.{Pace}
-use Rattle.seat_book.specs.State.{BookState, may_note_in, noted_in}
+use Rattle.seat_book.specs.State.{may_note_in}
 use Rattle.core_moves.specs.Moves.{with_book}
-use Rattle.tree_machine.specs.Plays.{may}
-use Rattle.tree_machine.specs.Steps.{Replied}
-use Rattle.tree_machine.specs.declared.step.Kind.TheVariants as kind
 use Rattle.tree_core.specs.Answers.{reply_to_hold}
-use Rattle.tree_core.specs.Core.{CoreState, HoldsPace}
-use Rattle.tree_core.specs.Holds.{StandsWhole, LeavesOthers}
-use Rattle.tree_core.specs.Steps.{MovesPace, IsWholeStep}
-use Rattle.tree_core.proofs.HoldSteps.{hold_kind, moved_on, hold_moves, leaves_others}
-use Rattle.tree_core.proofs.HoldStepsByCall.{hold_room, hold_steps, noted_hold, notes_below}
-use Rattle.tree_core.proofs.HoldStepsLast.{since_whole}
+use Rattle.tree_core.specs.Calls.{HoldsRange}
+use Rattle.tree_core.specs.Core.{CoreState}
+use Rattle.tree_core.proofs.HoldCalls.{hold_does}
+use Rattle.tree_core.proofs.HoldStepsByCall.{noted_hold}
+use Rattle.tree_core.proofs.LastLemmas.{core_kept}
 use Rattle.tree_core.proofs.store.Core.hold.Goals as goal
 
--- the core before the call and after it
-abbrev before : (g : _) (c : goal.After-note g) → CoreState g.row.D.Denot
-before g c = record { disk = c.self.inside.disk; held = c.self.inside.held; holds = c.self.inside.holds }
-
-abbrev after_with : (g : _) (c : goal.After-note g) → BookState → CoreState g.row.D.Denot
-after_with g c b = record { disk = c.self.inside.disk; held = with_book b c.take_hold-holding.new.held; holds = c.take_hold-holding.new.holds }
-
-can : (g : _) (c : goal.After-note g) → may_note_in c.args.seat 0 c.self.inside.held.book ≡ true
-can g c = subst (λ (s : CoreState g.row.D.Denot). may_note_in c.args.seat 0 s.held.book ≡ true) (sym c.self.view_is) c.requires
-
-noted : (g : _) (c : goal.After-note g) → c.note.new.self ≡ noted_in c.args.seat (op.Hold c.args.low.now c.args.high.now) (reply_to_hold c.take_hold-holding.result) c.self.inside.held.book
-noted g c = noted_hold c.note.new.self c.copy.result c.args.low.now c.copy-2.result c.args.high.now (as_reply c.held_reply.result) (reply_to_hold c.take_hold-holding.result) c.take_hold-holding.ensures.moves c.note.ensures c.copy.ensures c.copy-2.ensures c.held_reply.ensures
-
-moved : (g : _) (c : goal.After-note g) (pace : Pace) → HoldsPace c.self.inside.held pace (g.D.Disk.state c.self.inside.disk)
-    → MovesPace c.args.seat (kind.Hold c.args.low.now c.args.high.now) (Replied (reply_to_hold c.take_hold-holding.result)) (with_book c.note.new.self c.take_hold-holding.new.held) (g.D.Disk.state c.self.inside.disk) pace
-moved g c pace holds =
-    let moves = c.take_hold-holding.ensures.moves in
-    let d = g.D.Disk.state c.self.inside.disk in
-    subst (λ (b : BookState). MovesPace c.args.seat (kind.Hold c.args.low.now c.args.high.now) (Replied (reply_to_hold c.take_hold-holding.result)) (with_book b c.take_hold-holding.new.held) d pace) (sym (noted g c))
-    (hold_moves (reply_to_hold c.take_hold-holding.result) pace (hold_kind c.args.seat c.args.low.now c.args.high.now) moves (moved_on d moves) (hold_room c.args.seat c.args.low.now c.args.high.now c.take_hold-holding.result c.self.inside.held.book (can g c)) holds)
+pub returns : goal.returns
+returns g c =
+    let old = c.self.inside in
+    let taken = c.take_hold-holding in
+    let e = taken.ensures in
+    let noted = noted_hold c.note.new.self c.copy.result c.args.low.now c.copy-2.result c.args.high.now (as_reply c.held_reply.result) (reply_to_hold taken.result) e.moves c.note.ensures c.copy.ensures c.copy-2.ensures c.held_reply.ensures in
+    let new : CoreState g.row.D.Denot = record { disk = old.disk; held = with_book c.note.new.self taken.new.held; holds = taken.new.holds } in
+    subst (λ (s : CoreState g.row.D.Denot). may_note_in c.args.seat 0 s.held.book ≡ true → HoldsRange g.D.Disk.state c.args.seat c.args.low.now c.args.high.now taken.result s new) c.self.view_is
+    (λ can. hold_does g.D.Disk.state c.args.seat c.args.low.now c.args.high.now taken.result (record { disk = old.disk; held = old.held; holds = old.holds }) c.note.new.self c.self.invariant.0 (g.met.D.Disk.timed old.disk) can
+    e.moves e.cause (λ tree table file made of. e.rows tree table file made of) noted) c.requires
 
 pub invariant_of-self : goal.invariant_of-self
-invariant_of-self g c =
-    let now = moved g c c.self.invariant.0.pace c.self.invariant.0.holds in
-    (record { pace = now.next; holds = now.holds }, c.take_hold-holding.ensures.few c.self.invariant.1)
-
-pub returns-clause-numbers : goal.returns-clause-numbers
-returns-clause-numbers g c = λ pace.
-    subst
-    (λ (s : CoreState g.row.D.Denot). HoldsPace s.held pace (g.D.Disk.state s.disk)
-    → MovesPace c.args.seat (kind.Hold c.args.low.now c.args.high.now) (Replied (reply_to_hold c.take_hold-holding.result)) (with_book c.note.new.self c.take_hold-holding.new.held) (g.D.Disk.state c.self.inside.disk) pace) c.self.view_is (moved g c pace)
-
-pub returns-clause-steps : goal.returns-clause-steps
-returns-clause-steps g c = λ opening m pace.
-    let seat = c.args.seat in
-    let answer = c.take_hold-holding.result in
-    let ensures = c.take_hold-holding.ensures in
-    subst
-    (λ (s : CoreState g.row.D.Denot). IsTrue (g.D.Disk.state s.disk).is_honest → StandsWhole g.D.Disk.state opening s m pace → IsTrue (may m seat (kind.Hold c.args.low.now c.args.high.now))
-    → IsWholeStep g.D.Disk.state opening seat (kind.Hold c.args.low.now c.args.high.now) (Replied (reply_to_hold answer)) s (after_with g c c.note.new.self) m pace) c.self.view_is
-    (λ honest stands may. subst (λ (b : BookState). IsWholeStep g.D.Disk.state opening seat (kind.Hold c.args.low.now c.args.high.now) (Replied (reply_to_hold answer)) (before g c) (after_with g c b) m pace) (sym (noted g c))
-    (hold_steps g.D.Disk.state opening seat c.args.low.now c.args.high.now answer (before g c) c.take_hold-holding.new.held c.take_hold-holding.new.holds m pace (g.met.D.Disk.timed c.self.inside.disk) honest (notes_below seat 0 c.self.inside.held.book (can g c)) ensures.moves ensures.cause ensures.rows stands may))
-
-pub returns-clause-others : goal.returns-clause-others
-returns-clause-others g c =
-    subst (λ (s : CoreState g.row.D.Denot). LeavesOthers c.args.seat s (after_with g c c.note.new.self)) c.self.view_is (leaves_others (before g c) c.self.inside.disk c.note.new.self c.take_hold-holding.ensures.moves)
-
-pub returns-clause-lasts : goal.returns-clause-lasts
-returns-clause-lasts g c = λ start.
-    let d = g.D.Disk.state c.self.inside.disk in
-    let pace = c.self.invariant.0.pace in
-    let holds = subst (λ (s : CoreState g.row.D.Denot). HoldsPace s.held pace (g.D.Disk.state s.disk)) c.self.view_is c.self.invariant.0.holds in
-    let goes = subst (λ (s : CoreState g.row.D.Denot). GoesOn (g.D.Disk.state s.disk) d) c.self.view_is (goes_on_start d) in
-    since_whole g.D.Disk.state c.args.seat (kind.Hold c.args.low.now c.args.high.now) (Replied (reply_to_hold c.take_hold-holding.result)) start c.args.self.now (after_with g c c.note.new.self) pace holds (returns-clause-numbers g c pace holds) goes c.requires (returns-clause-steps g c)
-
-pub returns-clause-book : goal.returns-clause-book
-returns-clause-book g c = noted g c ∙ ap (λ (s : CoreState g.row.D.Denot). noted_in c.args.seat (op.Hold c.args.low.now c.args.high.now) (reply_to_hold c.take_hold-holding.result) s.held.book) c.self.view_is
+invariant_of-self g c = (core_kept g.D.Disk.state c.self.view_is c.self.invariant.0 (returns g c).goes, c.take_hold-holding.ensures.few c.self.invariant.1)

@@ -1,26 +1,36 @@
-use Rattle.std.proofs.Common.{sym, subst}
-use Rattle.disk_trait.specs.Disk.{GoesOn}
-use Rattle.disk_trait.specs.Moments.{goes_on_start}
 use Rattle.tree_machine.specs.declared.step.Kind.TheVariants as kind
 use Rattle.tree_core.proofs.PlayLemmas.{goes_still, played_by}
 use Rattle.tree_core.proofs.store.Core.step.Goals as goal
 
+pub returns-in-Hold-clause-goes_on : goal.returns-in-Hold-clause-goes_on
+returns-in-Hold-clause-goes_on g c = goes_still g.D.Disk.state c.hold.ensures.untouched
+
 pub returns-in-Hold-clause-played : goal.returns-in-Hold-clause-played
 returns-in-Hold-clause-played g c = λ opening m pace honest whole.
-    played_by g.D.Disk.state opening c.args.step.now (kind.Hold c.in-Hold.low c.in-Hold.high) _ c.args.self.now c.hold.new.self m pace c.in-Hold.is c.requires
-    (subst (λ (disk : g.row.D.Denot). GoesOn (g.D.Disk.state c.args.self.now.disk) (g.D.Disk.state disk)) (sym c.hold.ensures.untouched) (goes_on_start (g.D.Disk.state c.args.self.now.disk))) whole (c.hold.ensures.steps opening m pace honest whole)
+    played_by g.D.Disk.state opening c.args.step.now (kind.Hold c.in-Hold.low c.in-Hold.high) _ c.args.self.now c.hold.new.self m pace c.in-Hold.is c.requires (goes_still g.D.Disk.state c.hold.ensures.untouched) whole (λ may. c.hold.ensures.goes.steps opening m pace honest whole)
+
+pub returns-in-Hold-clause-lasts : goal.returns-in-Hold-clause-lasts
+returns-in-Hold-clause-lasts g c = λ start since. c.hold.ensures.goes.lasts start since
+
+pub returns-in-Next-clause-goes_on : goal.returns-in-Next-clause-goes_on
+returns-in-Next-clause-goes_on g c = c.next_rows.ensures.reads.reads.effect.goes_on
 
 pub returns-in-Next-clause-played : goal.returns-in-Next-clause-played
 returns-in-Next-clause-played g c = λ opening m pace honest whole.
-    played_by g.D.Disk.state opening c.args.step.now (kind.Next c.in-Next.n) _ c.args.self.now c.next_rows.new.self m pace c.in-Next.is c.requires
-    c.next_rows.ensures.reads.effect.goes_on whole (c.next_rows.ensures.steps opening m pace honest whole)
+    played_by g.D.Disk.state opening c.args.step.now (kind.Next c.in-Next.n) _ c.args.self.now c.next_rows.new.self m pace c.in-Next.is c.requires c.next_rows.ensures.reads.reads.effect.goes_on whole (λ may. c.next_rows.ensures.reads.goes.steps opening m pace honest whole)
+
+pub returns-in-Next-clause-lasts : goal.returns-in-Next-clause-lasts
+returns-in-Next-clause-lasts g c = λ start since. c.next_rows.ensures.reads.goes.lasts start since
+
+pub returns-in-Release-clause-goes_on : goal.returns-in-Release-clause-goes_on
+returns-in-Release-clause-goes_on g c = goes_still g.D.Disk.state c.drop_hold.ensures.untouched
 
 pub returns-in-Release-clause-played : goal.returns-in-Release-clause-played
 returns-in-Release-clause-played g c = λ opening m pace honest whole.
-    played_by g.D.Disk.state opening c.args.step.now kind.Release _ c.args.self.now c.drop_hold.new.self m pace c.in-Release.is c.requires
-    (subst (λ (disk : g.row.D.Denot). GoesOn (g.D.Disk.state c.args.self.now.disk) (g.D.Disk.state disk)) (sym c.drop_hold.ensures.untouched) (goes_on_start (g.D.Disk.state c.args.self.now.disk))) whole (c.drop_hold.ensures.steps opening m pace honest whole)
+    played_by g.D.Disk.state opening c.args.step.now kind.Release _ c.args.self.now c.drop_hold.new.self m pace c.in-Release.is c.requires (goes_still g.D.Disk.state c.drop_hold.ensures.untouched) whole (λ may. c.drop_hold.ensures.goes.steps opening m pace honest whole)
 
--- ---- calls of one clause
+pub returns-in-Release-clause-lasts : goal.returns-in-Release-clause-lasts
+returns-in-Release-clause-lasts g c = λ start since. c.drop_hold.ensures.goes.lasts start since
 
 pub returns-in-Get-clause-played : goal.returns-in-Get-clause-played
 returns-in-Get-clause-played g c = λ opening m pace honest whole.
