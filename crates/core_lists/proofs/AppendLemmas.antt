@@ -20,7 +20,7 @@ use Rattle.blsm_model.specs.Histories.{writes_of, counted, counted_writes, writt
 use Rattle.blsm_model.specs.Images.{counted_with}
 use Rattle.blsm_model.specs.Legal.{is_write, total_weight}
 use Rattle.blsm_model.specs.Rows.{map_of, puts_of}
-use Rattle.blsm_model.specs.Values.{key_of, added_count, weight_of}
+use Rattle.blsm_model.specs.Values.{key_of}
 use Rattle.record_delta.specs.Records.{record_of}
 use Rattle.record_delta.specs.Entries.{with_record}
 use Rattle.gear_sched.specs.Gears.{first_debt, second_debt}
@@ -38,7 +38,9 @@ use Rattle.tree_machine.specs.Steps.{Well, is_del, replied, admit_fitting, unles
 use Rattle.tree_machine.specs.Plays.{has_room, is_between, may_note, is_even, stepped}
 use Rattle.tree_machine.specs.declared.step.Kind.TheVariants as kind
 use Rattle.tree_machine.specs.declared.step.Step.{Step}
+use Rattle.tree_machine.specs.Stands.{FitsFormat}
 use Rattle.tree_machine.proofs.FoldLemmas.{both_hold}
+use Rattle.tree_machine.proofs.LightLemmas.{write_is_light}
 use Rattle.tree_machine.proofs.CarryLemmas.{ready_carries}
 use Rattle.paced_tree.specs.Kept.{IsPacedTree}
 use Rattle.paced_tree.specs.Numbers.{IsPaceOf}
@@ -130,12 +132,12 @@ module _ (opening : List (Key × Value)) (m : Machine) (pace : Pace) (fronts : F
       let inner = both_hold (is_write op) (may_note seat 0 m) parts.0 in
       let noting = both_hold (is_caller seat && has_room m.book.room seat 0) (is_between seat m) inner.1 in
       let weighs = writes_once op write [] is.writes in
-      let each = subst (λ (ws : List Write). AllByRecursion (λ x. (added_count x < 2 ^ 64) × (weight_of x ≤ most_weight) × (least_weight ≤ weight_of x)) ws) is.writes is.fits in
+      let each = subst (λ (ws : List Write). AllByRecursion FitsFormat ws) is.writes is.fits in
       record {
         caller = caller_below seat (both_hold (is_caller seat) (has_room m.book.room seat 0) noting.0).0;
         settled = subst (λ (q : Pace). first_debt q.gears seat + second_debt q.gears seat ≡ 0) is.paced.of_tree.numbers (even_owes m seat parts.1 is.runs);
-        light = subst (λ (n : ℕ). least_weight ≤ n) (sym weighs) each.0.2;
-        heavy = subst (λ (n : ℕ). n ≤ most_weight) (sym weighs) each.0.1;
+        light = subst (λ (n : ℕ). least_weight ≤ n) (sym weighs) each.0.least;
+        heavy = subst (λ (n : ℕ). n ≤ most_weight) (sym weighs) (write_is_light write each.0);
         room = subst (λ (q : Pace). pace_charge q + w ≤ charge_limit q.gears.sizes (is_del op)) is.paced.of_tree.numbers is.room;
         lands = lands_at m pace seat op is.paced.stands.sound (has_way opening m pace is.paced) goes write w weighs;
       }

@@ -2,7 +2,7 @@
 ghost use Rattle.std.specs.Prelude.{◌≡◌, ◌+◌, ◌<◌, ◌≤◌, ◌^◌, false, is_ok, if◌then◌else◌, IsTrue, OnOk, OnErr};
 ghost use Rattle.disk_trait.specs.Disk.{TellsFaults};
 ghost use Rattle.disk_trait.specs.Effects.{Affects};
-ghost use Rattle.blsm_model.specs.Format.{callers, most_weight};
+ghost use Rattle.blsm_model.specs.Format.{callers};
 ghost use Rattle.blsm_model.specs.Geometry.{file_length};
 ghost use Rattle.record_delta.specs.Records.{weight};
 ghost use Rattle.record_delta.specs.Entries.{is_above};
@@ -61,7 +61,6 @@ impl Held {
     ) -> Result<(), Failed>
         requires seat { seat < callers }
         requires settled { first_debt self.old.gears seat + second_debt self.old.gears seat ≡ 0 }
-        requires weight { weight key.now rec.now ≤ most_weight }
         requires fits { WriteFits key.now rec.now self.old }
         requires one { IsOne self.old }
         requires on { IsOn self.old (D.state disk.old) }

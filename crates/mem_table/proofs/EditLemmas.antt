@@ -18,7 +18,7 @@ use Rattle.blsm_model.specs.Values.{key_of}
 use Rattle.record_delta.specs.declared.record.Rec.{Rec}
 use Rattle.record_delta.specs.Records.{weight, settled, write_of, IsRecord}
 use Rattle.record_delta.specs.Folding.{fold, over, kept_after}
-use Rattle.record_delta.proofs.FoldingLemmas.{weight-fold_le, key_of-write_of, stands_rec}
+use Rattle.record_delta.proofs.FoldingLemmas.{fold_lighter, key_of-write_of, stands_rec}
 use Rattle.record_delta.specs.Entries.{Entries, AreSorted, record_of_key, entries_weight, with_record}
 use Rattle.mem_table.specs.Entries.{StandFor}
 use Rattle.mem_table.specs.Places.{IsAt, IsGapFor}
@@ -85,7 +85,7 @@ pub weight_more : (es : Entries) (key : Key) (rec : Rec) → AreSorted es → en
 weight_more es key rec sorted =
     let none : Key × Rec = (key, rec) in
     elim (place_of es key (sorted_test es sorted)) [
-      | inl p ↦ omega (arith, total_at es key rec p.0 none sorted p.1, weight-fold_le key rec (get_or es p.0 none).1)
+      | inl p ↦ omega (arith, total_at es key rec p.0 none sorted p.1, fold_lighter key rec (get_or es p.0 none).1)
       | inr p ↦ omega (arith, total_apart es key rec p.0 p.1)
     ]
 

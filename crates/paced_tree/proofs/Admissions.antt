@@ -3,9 +3,9 @@ use Rattle.std.proofs.Common.{◌≡◌, ◌∙◌, refl, sym, ap, subst, ℕ, �
 use Rattle.std.specs.Prelude.{◌==◌, nat_lt, is_some}
 use Rattle.std.specs.List.{AllByRecursion}
 use Rattle.std.proofs.lemmas.Bool.{false≢true, ltb-false}
-use Rattle.blsm_model.specs.Format.{callers, least_weight, most_weight}
+use Rattle.blsm_model.specs.Format.{callers}
 use Rattle.blsm_model.specs.Geometry.{charge_limit}
-use Rattle.blsm_model.specs.Values.{key_of, added_count, weight_of}
+use Rattle.blsm_model.specs.Values.{key_of, weight_of}
 use Rattle.blsm_model.specs.Histories.{is_done, writes_of}
 use Rattle.blsm_model.specs.Legal.{is_write, total_weight}
 use Rattle.blsm_model.specs.declared.key.Key.{Key}
@@ -32,7 +32,9 @@ use Rattle.tree_machine.specs.Layers.{IsSound, IsPassCounted, HasWay}
 use Rattle.tree_machine.specs.Machine.{Machine, charge}
 use Rattle.tree_machine.specs.Moves.{goes_to_a, with_write, take_write, with_peak, note, stop}
 use Rattle.tree_machine.specs.Steps.{Outcome, Well, FailedAfter, Broken, NoRoom, replied, is_del, deep_swapped, swaps_due, ready_for, taken_once, admit, admit_fitting}
+use Rattle.tree_machine.specs.Stands.{FitsFormat}
 use Rattle.tree_machine.proofs.CarryLemmas.{ready_carries}
+use Rattle.tree_machine.proofs.LightLemmas.{write_is_light}
 use Rattle.tree_machine.proofs.QuantumLemmas.{weight_parts}
 use Rattle.tree_machine.proofs.WeightLemmas.{weight_with, weight_of_record}
 use Rattle.tree_machine.proofs.WriteLemmas.{behind_kept}
@@ -118,7 +120,7 @@ pub owes_none : (m : Machine) (seat : ℕ) → Rattle.tree_machine.specs.Machine
 owes_none m seat is = omega (arith, ltb-false 0 (first_debt m.gears seat + second_debt m.gears seat) is)
 
 module _ (m : Machine) (l : Pace) (seat : ℕ) (op : Op) (w : Write) (sound : IsSound m) (way : HasWay m) (paced : IsPaced (with_numbers_of m l)) (of_tree : IsPaceOf m (with_numbers_of m l))
-    (caller : seat < callers) (settled : first_debt m.gears seat + second_debt m.gears seat ≡ 0) (fits : (added_count w < 2 ^ 64) × (weight_of w ≤ most_weight) × (least_weight ≤ weight_of w))
+    (caller : seat < callers) (settled : first_debt m.gears seat + second_debt m.gears seat ≡ 0) (fits : FitsFormat w)
     (room : charge m + weight_of w ≤ charge_limit m.gears.sizes (is_del op)) (writes : writes_of op ≡ w ∷ []) (is_write_op : is_write op ≡ true) where
   abbrev ready : Machine
   ready = ready_for (weight_of w) m
@@ -146,7 +148,7 @@ module _ (m : Machine) (l : Pace) (seat : ℕ) (op : Op) (w : Write) (sound : Is
 
   pub written_paced : IsPaced (pace_with_write ready_pace seat (weight_of w) ahead then_weighs)
   written_paced = step_keeps (with_numbers_of m l) (Admit seat (weight_of w) (is_del op) ahead then_weighs) paced
-      (record { caller = caller; settled = settled; light = fits.2; heavy = fits.1; room = room; lands = lands })
+      (record { caller = caller; settled = settled; light = fits.least; heavy = write_is_light w fits; room = room; lands = lands })
 
   pub written_of : IsPaceOf (note seat op Done (with_peak (take_write seat w ready))) (pace_with_write ready_pace seat (weight_of w) ahead then_weighs)
   written_of = record {
@@ -187,7 +189,7 @@ module _ (m : Machine) (l : Pace) (seat : ℕ) (op : Op) (sound : IsSound m) (wa
       }
 
   one_goes : (o : Op) (w : Write) → writes_of o ≡ w ∷ [] → is_write o ≡ true → first_debt m.gears seat + second_debt m.gears seat ≡ 0
-      → (added_count w < 2 ^ 64) × (weight_of w ≤ most_weight) × (least_weight ≤ weight_of w) → charge m + total_weight (w ∷ []) ≤ charge_limit m.gears.sizes (is_del o)
+      → FitsFormat w → charge m + total_weight (w ∷ []) ≤ charge_limit m.gears.sizes (is_del o)
       → Goes (note seat o Done (with_peak (taken_once seat (w ∷ []) (ready_for (total_weight (w ∷ [])) m)))) (admitted seat o (w ∷ []) (ready_for (total_weight (w ∷ [])) m) (with_numbers_of m l))
   one_goes o w writes writing settled fits room =
       subst (λ n. Goes (note seat o Done (with_peak (take_write seat w (ready_for n m))))
@@ -199,7 +201,7 @@ module _ (m : Machine) (l : Pace) (seat : ℕ) (op : Op) (sound : IsSound m) (wa
       })
 
   done_goes : (o : Op) → is_write o ≡ true → first_debt m.gears seat + second_debt m.gears seat ≡ 0
-      → AllByRecursion (λ w. (added_count w < 2 ^ 64) × (weight_of w ≤ most_weight) × (least_weight ≤ weight_of w)) (writes_of o) → charge m + total_weight (writes_of o) ≤ charge_limit m.gears.sizes (is_del o)
+      → AllByRecursion FitsFormat (writes_of o) → charge m + total_weight (writes_of o) ≤ charge_limit m.gears.sizes (is_del o)
       → Goes (note seat o Done (with_peak (taken_once seat (writes_of o) (ready_for (total_weight (writes_of o)) m)))) (admitted seat o (writes_of o) (ready_for (total_weight (writes_of o)) m) (with_numbers_of m l))
   done_goes (Put key value) writing settled fits room = one_goes (Put key value) (write.Put key value) refl refl settled fits.0 room
   done_goes (Add key count) writing settled fits room = one_goes (Add key count) (write.Add key count) refl refl settled fits.0 room
@@ -211,7 +213,7 @@ module _ (m : Machine) (l : Pace) (seat : ℕ) (op : Op) (sound : IsSound m) (wa
   done_goes (Rattle.blsm_model.specs.declared.op.Op.TheVariants.Work n) writing settled fits room = absurd (false≢true writing)
 
   pub admit_goes : (outcome : Outcome) → m.stopped ≡ None → is_write op ≡ true → first_debt m.gears seat + second_debt m.gears seat ≡ 0
-      → AllByRecursion (λ w. (added_count w < 2 ^ 64) × (weight_of w ≤ most_weight) × (least_weight ≤ weight_of w)) (writes_of op)
+      → AllByRecursion FitsFormat (writes_of op)
       → Goes (cond (nat_lt (charge_limit m.gears.sizes (is_del op)) (charge m + total_weight (writes_of op))) (replied seat op (Full (charge m)) m) (admit_fitting m seat op (total_weight (writes_of op)) outcome)).state
       (cond (nat_lt (charge_limit m.gears.sizes (is_del op)) (charge m + total_weight (writes_of op))) (with_numbers_of m l) (after_admission m (with_numbers_of m l) seat op (total_weight (writes_of op)) outcome))
   admit_goes outcome runs writing settled fits = by (nat_lt (charge_limit m.gears.sizes (is_del op)) (charge m + total_weight (writes_of op))) refl
@@ -231,7 +233,7 @@ module _ (m : Machine) (l : Pace) (seat : ℕ) (op : Op) (sound : IsSound m) (wa
 
 pub admission_goes : (m : Machine) (p : Pace) (seat : ℕ) (op : Op) (outcome : Outcome) → IsSound m → HasWay m → Goes m p → seat < callers → is_write op ≡ true
     → (m.stopped ≡ None → first_debt m.gears seat + second_debt m.gears seat ≡ 0)
-    → AllByRecursion (λ w. (added_count w < 2 ^ 64) × (weight_of w ≤ most_weight) × (least_weight ≤ weight_of w)) (writes_of op)
+    → AllByRecursion FitsFormat (writes_of op)
     → Goes (admit m seat op outcome).state (unless_stopped m.stopped p
     (cond (nat_lt (charge_limit m.gears.sizes (is_del op)) (charge m + total_weight (writes_of op))) p (after_admission m p seat op (total_weight (writes_of op)) outcome)))
 admission_goes m p seat op outcome sound way g caller writing settled fits = by m.stopped refl

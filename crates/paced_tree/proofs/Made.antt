@@ -6,7 +6,7 @@ use Rattle.std.proofs.lemmas.Bool.{false≢true, ltb-false, leb-true}
 use Rattle.std.proofs.lemmas.List.{get_or_past}
 use Rattle.blsm_model.specs.Format.{callers, least_weight, most_weight}
 use Rattle.blsm_model.specs.Geometry.{charge_limit}
-use Rattle.blsm_model.specs.Values.{key_of, added_count, weight_of}
+use Rattle.blsm_model.specs.Values.{key_of, weight_of}
 use Rattle.blsm_model.specs.Histories.{writes_of}
 use Rattle.blsm_model.specs.Legal.{is_write, total_weight}
 use Rattle.blsm_model.specs.declared.key.Key.{Key}
@@ -34,7 +34,8 @@ use Rattle.tree_machine.specs.Moves.{goes_to_a, with_write, stop, pass_quantum, 
 use Rattle.tree_machine.specs.Steps as machine
 use Rattle.tree_machine.specs.Steps.{Outcome, Well, FailedAfter, Broken, NoRoom, Paid, Choice, SwapDeep, SwapPass, DeepQuantum, PassQuantum, Begin, Rotate, Rest, ended_as, is_del, swaps_due, forgive, ready_for, deep_swapped, replied, unless_stopped as machine_unless, admit, admit_fitting, pay, pay_running, pay_forgiven, pay_planned, do_pay, do_turn, work_turning, worker_turning}
 use Rattle.tree_machine.specs.Plays.{has_room, is_between, may_note, is_even, most_turns, may, stepped_as}
-use Rattle.tree_machine.specs.Stands.{Stands, WritesFit}
+use Rattle.tree_machine.specs.Stands.{FitsFormat, Stands, WritesFit}
+use Rattle.tree_machine.proofs.LightLemmas.{write_is_light}
 use Rattle.tree_machine.proofs.FoldLemmas.{both_hold}
 use Rattle.paced_tree.specs.Numbers.{with_numbers_of}
 use Rattle.paced_tree.specs.After.{weight_after, admitted, after_admission, after_payment, after_turn, unless_stopped, pace_after, quantum_for_plan, quantum_for_move}
@@ -50,7 +51,7 @@ use Rattle.paced_tree.proofs.Steps.{caller_below, even_owes}
 
 module _ (m : Machine) (l : Pace) (seat : ℕ) (op : Op) (sound : IsSound m) (way : HasWay m) (g : Goes m (with_numbers_of m l)) (caller : seat < callers) (settled : first_debt m.gears seat + second_debt m.gears seat ≡ 0) (write : is_write op ≡ true) where
   written_made : (ws : List Write) → ws ≡ writes_of op → ((w : Write) (rest : List Write) → ws ≡ w ∷ rest → total_weight ws ≡ weight_of w)
-      → AllByRecursion (λ w. (added_count w < 2 ^ 64) × (weight_of w ≤ most_weight) × (least_weight ≤ weight_of w)) ws → charge m + total_weight (writes_of op) ≤ charge_limit m.gears.sizes (is_del op)
+      → AllByRecursion FitsFormat ws → charge m + total_weight (writes_of op) ≤ charge_limit m.gears.sizes (is_del op)
       → IsAdmission seat op (with_numbers_of m l) (admitted seat op ws (ready_for (total_weight (writes_of op)) m) (with_numbers_of m l))
   written_made [] is one fits room = absurd (false≢true (ap some_write is ∙ writes op write))
     where
@@ -79,8 +80,8 @@ module _ (m : Machine) (l : Pace) (seat : ℕ) (op : Op) (sound : IsSound m) (wa
           record {
             caller = caller;
             settled = settled;
-            light = subst (λ n. least_weight ≤ n) (sym weighs ∙ weight_is) fits.0.2;
-            heavy = subst (λ n. n ≤ most_weight) (sym weighs ∙ weight_is) fits.0.1;
+            light = subst (λ n. least_weight ≤ n) (sym weighs ∙ weight_is) fits.0.least;
+            heavy = subst (λ n. n ≤ most_weight) (sym weighs ∙ weight_is) (write_is_light w fits.0);
             room = room;
             lands = lands_at m (with_numbers_of m l) seat op sound way g w (total_weight (writes_of op)) (sym weight_is ∙ weighs);
           },
@@ -88,7 +89,7 @@ module _ (m : Machine) (l : Pace) (seat : ℕ) (op : Op) (sound : IsSound m) (wa
         ),
       )
 
-  admission_made : (outcome : Outcome) → AllByRecursion (λ w. (added_count w < 2 ^ 64) × (weight_of w ≤ most_weight) × (least_weight ≤ weight_of w)) (writes_of op)
+  admission_made : (outcome : Outcome) → AllByRecursion FitsFormat (writes_of op)
       → charge m + total_weight (writes_of op) ≤ charge_limit m.gears.sizes (is_del op)
       → IsAdmittedBy (admit_fitting m seat op (total_weight (writes_of op)) outcome).answer seat op (with_numbers_of m l) (after_admission m (with_numbers_of m l) seat op (total_weight (writes_of op)) outcome)
   admission_made Well fits room = written_made (writes_of op) refl (writes_once op) fits room
@@ -103,7 +104,7 @@ module _ (m : Machine) (l : Pace) (seat : ℕ) (op : Op) (sound : IsSound m) (wa
       by true false = inr refl
       by false c = refl
 
-  admit_made : (outcome : Outcome) → AllByRecursion (λ w. (added_count w < 2 ^ 64) × (weight_of w ≤ most_weight) × (least_weight ≤ weight_of w)) (writes_of op)
+  admit_made : (outcome : Outcome) → AllByRecursion FitsFormat (writes_of op)
       → m.stopped ≡ None → IsAdmittedBy (admit m seat op outcome).answer seat op (with_numbers_of m l) (pace_after m (with_numbers_of m l) seat (kind.Admit op) outcome)
   admit_made outcome fits runs =
       subst (λ o. IsAdmittedBy (machine_unless o seat op m (cond (nat_lt (charge_limit m.gears.sizes (is_del op)) (charge m + total_weight (writes_of op))) (replied seat op (Full (charge m)) m) (admit_fitting m seat op (total_weight (writes_of op)) outcome))).answer seat op (with_numbers_of m l)

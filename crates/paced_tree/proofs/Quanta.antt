@@ -12,6 +12,7 @@ use Rattle.tree_machine.specs.Machine.{Machine}
 use Rattle.tree_machine.proofs.MergeLemmas.{groups_sorted, groups_ahead, quantum_keeps, written_as_it_is, written_as_base}
 use Rattle.tree_machine.proofs.QuantumLemmas.{quantum_weighs, quantum_enough, quantum_few, done_weighs, weight_parts, took_newer, took_older, light_none}
 use Rattle.tree_machine.proofs.NumberLemmas.{pass_light, deep_light}
+use Rattle.tree_machine.proofs.LightLemmas.{light_weighs}
 use Rattle.paced_tree.specs.Numbers.{taken_of, with_numbers_of, HasTaken}
 use Rattle.paced_tree.specs.After.{snow_of, deep_of}
 
@@ -111,7 +112,7 @@ snow_is m pass l is sound some =
     let weighs = quantum_weighs m.gears.sizes.quantum pass m.lists.a m.lists.c1 sound.layered.sorted_a sound.layered.sorted_c1 in (
       record {
         enough = enough counted.2 (enough_taken m.gears.sizes.quantum pass m.lists.a m.lists.c1 sound.layered.sorted_a sound.layered.sorted_c1);
-        few = quantum_few m.gears.sizes.quantum most_weight pass m.lists.a m.lists.c1 some sound.light.a sound.light.c1;
+        few = quantum_few m.gears.sizes.quantum most_weight pass m.lists.a m.lists.c1 some (light_weighs m.lists.a sound.light.a) (light_weighs m.lists.c1 sound.light.c1);
         left = omega (arith, counted.2, most);
         written = omega (arith, counted.2, pass_writes m.gears.sizes.quantum pass m.lists.a m.lists.c1 sound.layered.sorted_a sound.layered.sorted_c1 over.1);
       },
@@ -135,7 +136,7 @@ deep_is m deep l is sound some =
     let most = all_at_most m.gears.sizes.quantum deep m.lists.c1x m.lists.c2 sound.layered.sorted_c1x sound.layered.sorted_c2 in
     record {
       enough = enough counted.2 (enough_taken m.gears.sizes.quantum deep m.lists.c1x m.lists.c2 sound.layered.sorted_c1x sound.layered.sorted_c2);
-      few = quantum_few m.gears.sizes.quantum most_weight deep m.lists.c1x m.lists.c2 some sound.light.c1x sound.light.c2;
+      few = quantum_few m.gears.sizes.quantum most_weight deep m.lists.c1x m.lists.c2 some (light_weighs m.lists.c1x sound.light.c1x) (light_weighs m.lists.c2 sound.light.c2);
       left = omega (arith, counted.2, most);
       written = omega (arith, counted.2, deep_writes m.gears.sizes.quantum deep m.lists.c1x m.lists.c2 sound.layered.sorted_c1x sound.layered.sorted_c2 over);
     }

@@ -38,6 +38,7 @@ use Rattle.tree_machine.proofs.GrowLemmas.{step_room}
 use Rattle.tree_machine.proofs.FrameLemmas.{step_fixed}
 use Rattle.tree_machine.proofs.FoldLemmas.{both_hold}
 use Rattle.tree_machine.proofs.QuantumLemmas.{quantum_weighs, quantum_few}
+use Rattle.tree_machine.proofs.LightLemmas.{light_weighs}
 use Rattle.paced_tree.specs.Kept.{AreComponents, IsPacedTree, paced_one, paced_all, AllFit}
 use Rattle.paced_tree.specs.Laws.{work_in, RunCommits, RunIsSmall}
 use Rattle.paced_tree.proofs.Moves.{of_pace}
@@ -74,7 +75,7 @@ pass_takes seat m sound some = by m.merges.pass
     by None = omega arith
     by (Some pass) =
         let weighs = quantum_weighs m.gears.sizes.quantum pass m.lists.a m.lists.c1 sound.layered.sorted_a sound.layered.sorted_c1 in
-        let few = quantum_few m.gears.sizes.quantum most_weight pass m.lists.a m.lists.c1 some sound.light.a sound.light.c1 in
+        let few = quantum_few m.gears.sizes.quantum most_weight pass m.lists.a m.lists.c1 some (light_weighs m.lists.a sound.light.a) (light_weighs m.lists.c1 sound.light.c1) in
         omega (arith, weighs, few)
 
 deep_takes : (seat : ℕ) (m : Machine) → IsSound m → 1 ≤ m.gears.sizes.quantum → passed_by m.merges.deep (deep_quantum seat m).merges.deep m.lists.c1x m.lists.c2 ≤ most_taken m.gears.sizes
@@ -84,7 +85,7 @@ deep_takes seat m sound some = by m.merges.deep
     by None = omega arith
     by (Some deep) =
         let weighs = quantum_weighs m.gears.sizes.quantum deep m.lists.c1x m.lists.c2 sound.layered.sorted_c1x sound.layered.sorted_c2 in
-        let few = quantum_few m.gears.sizes.quantum most_weight deep m.lists.c1x m.lists.c2 some sound.light.c1x sound.light.c2 in
+        let few = quantum_few m.gears.sizes.quantum most_weight deep m.lists.c1x m.lists.c2 some (light_weighs m.lists.c1x sound.light.c1x) (light_weighs m.lists.c2 sound.light.c2) in
         omega (arith, weighs, few)
 
 -- the other merge's cursor stands

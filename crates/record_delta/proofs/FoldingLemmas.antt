@@ -1,5 +1,5 @@
 -- What a record stands for after one more write.
-use Rattle.std.proofs.Common.{◌≡◌, ℕ, ◌+◌, ◌%◌, ◌^◌, ◌<◌, ◌≤◌, max, ◌++◌, List, [], ◌∷◌, Bool, cond, true, false, Some, None, Option, refl, ap, sym, ◌∙◌, ◌⊎◌, inl, inr, map, append-nil, zero-add, add_assoc, arith}
+use Rattle.std.proofs.Common.{◌≡◌, ℕ, ◌+◌, ◌%◌, ◌^◌, ◌<◌, ◌≤◌, ◌++◌, List, [], ◌∷◌, Bool, cond, true, false, Some, None, Option, refl, ap, sym, ◌∙◌, ◌⊎◌, inl, inr, length, map, append-nil, zero-add, add_assoc, arith}
 use Rattle.std.proofs.lemmas.List.{map-append}
 use Rattle.std.proofs.lemmas.List.Sums.{fold-append}
 use Rattle.std.proofs.lemmas.List.Elements.{filter-append}
@@ -8,13 +8,14 @@ use Rattle.blsm_model.specs.declared.key.Key.{Key}
 use Rattle.blsm_model.specs.declared.row.Value.{Value}
 use Rattle.blsm_model.specs.declared.op.Write.{Write}
 use Rattle.blsm_model.specs.declared.op.Write.TheVariants.{Put, Add, Del}
+use Rattle.blsm_model.specs.Format.{most_weight, overhead}
 use Rattle.blsm_model.specs.Keys.{same_key}
 use Rattle.std.proofs.Math.Nat.{mod-eq_of_lt, mod-add-mod, add-mod-mod}
 use Rattle.blsm_model.specs.Values.{key_of, base_of, writes_of_key, value_at}
 use Rattle.blsm_model.proofs.ValueLemmas.{value_at-put, value_at-add, value_at-del, value_at-other}
 use Rattle.record_delta.specs.declared.record.Rec.{Rec}
 use Rattle.record_delta.specs.declared.record.Rec.TheVariants.{Base, Delta, Tomb}
-use Rattle.record_delta.specs.Records.{write_of, count_of, record_of, weight, bare, settled}
+use Rattle.record_delta.specs.Records.{write_of, count_of, record_of, weight, bare, settled, IsWithin}
 use Rattle.record_delta.specs.Folding.{fold, sum_of, over, folded, record_at, StandsFor, kept_after, StandsForMore}
 
 by_test : (b : Bool) → (b ≡ true) ⊎ (b ≡ false)
@@ -134,9 +135,29 @@ fold_associative (Delta d) (Delta e) (Base v) = ap (λ n. Base (record { count =
 fold_associative (Delta d) (Delta e) (Delta c) = ap (λ n. Delta n) (sym (sums_regroup d e c))
 fold_associative (Delta d) (Delta e) Tomb = refl
 
-pub weight-fold_le : (key : Key) (newer older : Rec) → weight key (fold newer older) ≤ max (weight key newer) (weight key older)
-weight-fold_le key (Base v) older = omega arith
-weight-fold_le key Tomb older = omega arith
-weight-fold_le key (Delta d) (Base v) = omega arith
-weight-fold_le key (Delta d) (Delta c) = omega arith
-weight-fold_le key (Delta d) Tomb = omega arith
+-- ---- how much a folded record weighs
+
+pub fold_lighter : (key : Key) (newer older : Rec) → weight key (fold newer older) + (overhead + length key) ≤ weight key newer + weight key older
+fold_lighter key (Base v) older = omega arith
+fold_lighter key Tomb older = omega arith
+fold_lighter key (Delta d) (Base v) = omega arith
+fold_lighter key (Delta d) (Delta c) = omega arith
+fold_lighter key (Delta d) Tomb = omega arith
+
+pub fold_grows : (key : Key) (newer older : Rec) → weight key newer ≤ weight key (fold newer older)
+fold_grows key (Base v) older = omega arith
+fold_grows key Tomb older = omega arith
+fold_grows key (Delta d) (Base v) = omega arith
+fold_grows key (Delta d) (Delta c) = omega arith
+fold_grows key (Delta d) Tomb = omega arith
+
+pub fold_within : (key : Key) (newer older : Rec) → IsWithin key newer → IsWithin key older → IsWithin key (fold newer older)
+fold_within key (Base v) older new old = new
+fold_within key Tomb older new old = new
+fold_within key (Delta d) (Base v) new old = record { key_most = new.key_most; text_most = old.text_most }
+fold_within key (Delta d) (Delta c) new old = record { key_most = new.key_most; text_most = new.text_most }
+fold_within key (Delta d) Tomb new old = record { key_most = new.key_most; text_most = new.text_most }
+
+-- what is within the format's lengths weighs no more than its heaviest entry
+pub within_is_light : (key : Key) (rec : Rec) → IsWithin key rec → weight key rec ≤ most_weight
+within_is_light key rec within = omega (arith, within.key_most, within.text_most)

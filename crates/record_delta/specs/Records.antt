@@ -4,7 +4,7 @@ use Rattle.blsm_model.specs.declared.key.Key.{Key}
 use Rattle.blsm_model.specs.declared.row.Value.{Value}
 use Rattle.blsm_model.specs.declared.op.Write.{Write}
 use Rattle.blsm_model.specs.declared.op.Write.TheVariants.{Put, Add, Del}
-use Rattle.blsm_model.specs.Format.{most_text, overhead}
+use Rattle.blsm_model.specs.Format.{most_key, most_text, overhead}
 use Rattle.record_delta.specs.declared.record.Rec.{Rec}
 use Rattle.record_delta.specs.declared.record.Rec.TheVariants.{Base, Delta, Tomb}
 
@@ -36,6 +36,11 @@ text_of Tomb = []
 pub record IsRecord (rec : Rec) : Type 0 where
   pub count_fits : count_of rec < 2 ^ 64
   pub text_fits : length (text_of rec) ≤ most_text
+
+-- the lengths of a key and of its record's text are within the format's
+pub record IsWithin (key : Key) (rec : Rec) : Type 0 where
+  pub key_most : length key ≤ most_key
+  pub text_most : length (text_of rec) ≤ most_text
 
 -- the weight of a record with its key, in bytes
 abbrev pub weight : Key → Rec → ℕ

@@ -1,10 +1,11 @@
 //! Folding a newer record over an older one, and settling what is left.
-ghost use Rattle.std.specs.Prelude.{◌≡◌, ◌<◌, ◌≤◌, ◌^◌, max, [], ◌∷◌, ◌++◌, List};
+ghost use Rattle.std.specs.Prelude.{◌≡◌, ◌+◌, ◌<◌, ◌≤◌, ◌^◌, [], ◌∷◌, ◌++◌, List, length};
 ghost use Rattle.blsm_model.specs.declared.key.Key.{Key};
 ghost use Rattle.blsm_model.specs.declared.op.Write.{Write};
+ghost use Rattle.blsm_model.specs.Format.{overhead};
 ghost use Rattle.blsm_model.specs.Values.{value_at, key_of};
 ghost use Rattle.record_delta.specs.declared.record.Rec.{Rec};
-ghost use Rattle.record_delta.specs.Records.{count_of, record_of, write_of, weight as weight_with, settle as settle_of, settled};
+ghost use Rattle.record_delta.specs.Records.{count_of, record_of, write_of, weight as weight_with, settle as settle_of, settled, IsWithin};
 ghost use Rattle.record_delta.specs.Folding.{fold as fold_of, record_at, kept_after, StandsFor};
 
 use crate::Rec;
@@ -15,7 +16,10 @@ pub fn fold(newer: Rec, older: Rec) -> Rec
     ensures record { result ≡ fold_of newer older }
     // Which two of three are folded first makes no difference.
     ensures associative { (oldest : Rec) → fold_of result oldest ≡ fold_of newer (fold_of older oldest) }
-    ensures weight { (key : Key) → weight_with key result ≤ max (weight_with key newer) (weight_with key older) }
+    // It weighs what both do at most, less one key and what an entry has besides, and what the newer one does at least.
+    ensures lighter { (key : Key) → weight_with key result + (overhead + length key) ≤ weight_with key newer + weight_with key older }
+    ensures grows { (key : Key) → weight_with key newer ≤ weight_with key result }
+    ensures within { (key : Key) → IsWithin key newer → IsWithin key older → IsWithin key result }
     // Where the older one stood for writes, the folded one stands for those and the newer one's.
     ensures stands { (key : Key) (writes : List Write) → StandsFor (Some older) writes key → StandsFor (Some result) (writes ++ write_of key newer ∷ []) key }
 {

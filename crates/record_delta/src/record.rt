@@ -2,7 +2,7 @@
 ghost use Rattle.std.specs.Prelude.{◌≡◌, ◌≤◌, ⊤, length};
 ghost use Rattle.blsm_model.specs.Format.{least_weight, most_weight};
 ghost use Rattle.blsm_model.specs.Values.{key_of, weight_of};
-ghost use Rattle.record_delta.specs.Records.{record_of, write_of, IsRecord, weight as weight_with};
+ghost use Rattle.record_delta.specs.Records.{record_of, write_of, IsRecord, IsWithin, weight as weight_with};
 ghost use Rattle.record_delta.specs.Folding.{StandsForMore};
 
 use blsm_model::{Key, Op, Value, Write};
@@ -65,6 +65,7 @@ pub fn weight(key: &Key, rec: &Rec) -> u64
     ensures weight { result ≡ weight_with key.now rec.now }
     ensures not_empty { 1 ≤ length key.now }
     ensures least { least_weight ≤ result }
+    ensures within { IsWithin key.now rec.now }
     ensures most { result ≤ most_weight }
 {
     let text = match rec {

@@ -6,7 +6,6 @@ use Rattle.std.proofs.lemmas.Bool.{false≢true, lt-ltb}
 use Rattle.std.proofs.lemmas.Option.{none-some}
 use Rattle.refusal.specs.Count.{HasRisen}
 use Rattle.blsm_model.specs.Sizes.{Sizes}
-use Rattle.blsm_model.specs.Format.{least_weight, most_weight}
 use Rattle.blsm_model.specs.Book.{Book}
 use Rattle.blsm_model.specs.Geometry.{charge_limit}
 use Rattle.blsm_model.specs.declared.key.Key.{Key}
@@ -21,13 +20,11 @@ use Rattle.blsm_model.specs.declared.history.Reply.TheVariants.{Done, Full, Faul
 use Rattle.blsm_model.specs.Histories.{is_done, writes_of}
 use Rattle.blsm_model.specs.Images.{is_unsure}
 use Rattle.blsm_model.specs.Legal.{total_weight}
-use Rattle.blsm_model.specs.Values.{added_count, weight_of}
 use Rattle.disk_trait.specs.Disk.{DiskState}
 use Rattle.disk_trait.specs.Moments.{IsTimed, LeavesOnly, leaves_only_start, leaves_only_weaken, leaves_only_now}
 use Rattle.pacing.specs.Pace.{Pace}
 use Rattle.paced_tree.specs.After.{pace_after}
 use Rattle.paced_tree.specs.Kept.{IsPacedTree}
-use Rattle.paced_tree.proofs.Counted.{writes_once}
 use Rattle.paced_tree.proofs.Promises.{has_way, step_is_paced}
 use Rattle.seat_book.specs.State.{BookState, noted_in, stopped_in}
 use Rattle.tree_machine.specs.declared.step.Kind.{Kind}
@@ -37,7 +34,7 @@ use Rattle.tree_machine.specs.Merges.{Merge}
 use Rattle.tree_machine.specs.Moves.{note, stop, swap_deep, with_peak}
 use Rattle.tree_machine.specs.Outcomes.{IsPossible, calls, is_broken}
 use Rattle.tree_machine.specs.Plays.{may}
-use Rattle.tree_machine.specs.Stands.{WritesFit}
+use Rattle.tree_machine.specs.Stands.{FitsFormat, WritesFit}
 use Rattle.tree_machine.specs.Steps.{Outcome, Well, FailedAfter, Stepped, Replied, admit, admit_fitting, deep_swapped, is_del, one_if, ready_for, replied, swaps_due, taken_once, unless_stopped}
 use Rattle.tree_machine.specs.Layers.{IsSound}
 use Rattle.tree_machine.proofs.ToldLemmas.{none_is_some}
@@ -64,10 +61,8 @@ use Rattle.tree_core.proofs.BoundLemmas.{rose}
 use Rattle.tree_core.proofs.TakingLists.{tells_of}
 
 -- a command's write fits the format
-pub write_fits : (op : Op) (write : Write) → writes_of op ≡ write ∷ [] → added_count write < 2 ^ 64 → least_weight ≤ total_weight (writes_of op) → total_weight (writes_of op) ≤ most_weight → WritesFit (kind.Admit op)
-write_fits op write writes counts light heavy =
-    let weighs = writes_once op write [] writes in
-    subst (λ (ws : List Write). AllByRecursion (λ w. (added_count w < 2 ^ 64) × (weight_of w ≤ most_weight) × (least_weight ≤ weight_of w)) ws) (sym writes) ((counts, subst (λ (n : ℕ). n ≤ most_weight) weighs heavy, subst (λ (n : ℕ). least_weight ≤ n) weighs light), tt)
+pub write_fits : (op : Op) (write : Write) → writes_of op ≡ write ∷ [] → FitsFormat write → WritesFit (kind.Admit op)
+write_fits op write writes fits = subst (λ (ws : List Write). AllByRecursion FitsFormat ws) (sym writes) (fits, tt)
 
 -- ---- what the next state shows
 

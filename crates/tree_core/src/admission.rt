@@ -7,7 +7,7 @@ ghost use Rattle.blsm_model.specs.declared.history.Reply.TheVariants.{FaultLost,
 ghost use Rattle.blsm_model.specs.Geometry.{file_length};
 ghost use Rattle.blsm_model.specs.Histories.{writes_of};
 ghost use Rattle.blsm_model.specs.Legal.{is_write, total_weight};
-ghost use Rattle.blsm_model.specs.Values.{added_count, key_of as key_of_write};
+ghost use Rattle.blsm_model.specs.Values.{key_of as key_of_write};
 ghost use Rattle.disk_trait.specs.Effects.{Affects};
 ghost use Rattle.gear_sched.specs.Gears.{first_debt, second_debt};
 ghost use Rattle.pacing.specs.Pace.{Pace};
@@ -17,7 +17,7 @@ ghost use Rattle.scan_view.specs.Pins.{beside_pins};
 ghost use Rattle.tree_machine.specs.declared.step.Kind.TheVariants as kind;
 ghost use Rattle.tree_machine.specs.Machine.{Machine};
 ghost use Rattle.tree_machine.specs.Plays.{may};
-ghost use Rattle.tree_machine.specs.Stands.{WritesFit};
+ghost use Rattle.tree_machine.specs.Stands.{FitsFormat, WritesFit};
 ghost use Rattle.tree_machine.specs.Steps.{is_del};
 ghost use Rattle.core_pace.specs.Events.{MayWrite};
 ghost use Rattle.tree_core.specs.Calls.{Admits};
@@ -74,11 +74,11 @@ fn key_of(write: &Write) -> &Key
     }
 }
 
-// The write that a command asks for, as `Op::write` has it. What it adds to a count is a number of 64 bits.
+// The write that a command asks for, as `Op::write` has it. It fits the format.
 fn write_of(op: &Op) -> Write
     requires { IsTrue (is_write op.now) }
     ensures write { writes_of op.now ≡ result ∷ [] }
-    ensures fits { added_count result < 2 ^ 64 }
+    ensures fits { FitsFormat result }
 {
     match op {
         Op::Put(key, value) => Write::Put(key.copy(), value.copy()),

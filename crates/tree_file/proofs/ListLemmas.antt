@@ -1,12 +1,11 @@
 -- The lists of a tree that a file holds.
-use Rattle.std.specs.Prelude.{◌≡◌, ◌++◌, ℕ, ◌≤◌, List, [], ◌∷◌, Option, None, fold, refl}
-use Rattle.std.proofs.Common.{ap, arith}
+use Rattle.std.specs.Prelude.{◌≡◌, ◌++◌, ℕ, List, [], ◌∷◌, Option, None, fold, refl}
+use Rattle.std.proofs.Common.{ap}
 use Rattle.std.proofs.lemmas.List.Elements.{All-head, All-tail}
-use Rattle.blsm_model.specs.Format.{most_weight}
 use Rattle.blsm_model.specs.Sizes.{Sizes}
 use Rattle.blsm_model.specs.declared.key.Key.{Key}
 use Rattle.record_delta.specs.declared.record.Rec.{Rec}
-use Rattle.record_delta.specs.Records.{weight}
+use Rattle.record_delta.specs.Records.{IsWithin}
 use Rattle.record_delta.specs.Entries.{Entries, AreSorted, replayed, with_record}
 use Rattle.entry_codec.specs.Spelling.{IsEntry}
 use Rattle.page_file.specs.Component.{RunPage, AreChained, ReadsAs, entries_of}
@@ -18,8 +17,8 @@ use Rattle.tree_machine.proofs.LightLemmas.{light_with, light_append}
 use Rattle.tree_file.specs.Tree.{Tree, HoldsTree, lists_of}
 use Rattle.tree_file.specs.Places.{appended_a, appended_b}
 
-light_entry : (e : Key × Rec) → IsEntry e.0 e.1 → weight e.0 e.1 ≤ most_weight
-light_entry e entry = omega (arith, entry.key_most, entry.in_range.text_fits)
+light_entry : (e : Key × Rec) → IsEntry e.0 e.1 → IsWithin e.0 e.1
+light_entry e entry = record { key_most = entry.key_most; text_most = entry.in_range.text_fits }
 
 light_entries : (es : Entries) → AreEntries es → AreLight es
 light_entries [] each = tt

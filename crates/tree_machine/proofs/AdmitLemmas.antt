@@ -19,7 +19,7 @@ use Rattle.blsm_model.specs.declared.history.Entry.{Entry}
 use Rattle.blsm_model.specs.Book.{Book}
 use Rattle.blsm_model.specs.Sizes.{Sizes}
 use Rattle.blsm_model.specs.Geometry.{limits_of, charge_limit}
-use Rattle.blsm_model.specs.Values.{key_of, added_count, value_at, weight_of}
+use Rattle.blsm_model.specs.Values.{key_of, value_at, weight_of}
 use Rattle.blsm_model.specs.Histories.{after, object_after, counted, counted_writes, written, writes_of, is_refusal}
 use Rattle.blsm_model.specs.Legal.{IsLegal, MayReply, NamesNoOther, limit_for, is_running, is_write, total_weight}
 use Rattle.blsm_model.proofs.HoldLemmas.{held-refusal, held-still}
@@ -32,9 +32,8 @@ use Rattle.tree_machine.specs.Merges.{Merge}
 use Rattle.tree_machine.specs.Machine.{Machine, in_pass, charge, memory_charge}
 use Rattle.tree_machine.specs.Moves.{goes_to_a, with_write, take_write, with_peak, note, stop}
 use Rattle.tree_machine.specs.Steps.{Outcome, Well, FailedAfter, Broken, NoRoom, replied, is_del, deep_swapped, swaps_due, ready_for, taken_once, admit, admit_fitting}
-use Rattle.tree_machine.specs.Stands.{IsTold, AreWorks, Stands}
+use Rattle.tree_machine.specs.Stands.{FitsFormat, IsTold, AreWorks, Stands}
 use Rattle.tree_machine.proofs.CarryLemmas.{carries_itself, deep_swapped_carries, ready_carries}
-use Rattle.blsm_model.specs.Format.{least_weight, most_weight}
 use Rattle.tree_machine.proofs.LightLemmas.{light_write}
 use Rattle.tree_machine.proofs.WriteLemmas.{write_layered, value_in-write, behind_kept}
 use Rattle.tree_machine.proofs.WeightLemmas.{weight_with, weight_of_record}
@@ -136,19 +135,19 @@ deep_counted key rec lists running input admitted taken w false (Some deep) coun
 taken : Machine → ℕ → Write → Machine
 taken m seat w = with_peak (take_write seat w m)
 
-write_ready : (opening : List (Key × Value)) (m : Machine) (seat : ℕ) (op : Op) (w : Write) → Stands opening m → (added_count w < 2 ^ 64) × (weight_of w ≤ most_weight) × (least_weight ≤ weight_of w) → counted (entry_of seat op Done) ≡ w ∷ []
+write_ready : (opening : List (Key × Value)) (m : Machine) (seat : ℕ) (op : Op) (w : Write) → Stands opening m → FitsFormat w → counted (entry_of seat op Done) ≡ w ∷ []
     → ((s : ℕ) → (after (object_after opening m.book.entries) (entry_of seat op Done)).held s ≡ (object_after opening m.book.entries).held s)
     → IsReadyFor opening (taken m seat w) (entry_of seat op Done)
 unfolding taken
 write_ready opening m seat op w stands fits counts still = record {
   sound = record {
     layered = write_layered (key_of w) (record_of w) m.lists m.merges stands.sound.layered;
-    light = light_write (key_of w) (record_of w) m.lists m.merges (omega (arith, weight_of_record w, fits.1)) stands.sound.light;
+    light = light_write (key_of w) (record_of w) m.lists m.merges fits.within stands.sound.light;
     charged = charged (in_pass m) refl;
     pass = pass_counted (key_of w) (record_of w) m.lists m.gears.pass m.gears.pass_c1 m.gears.pass_memory m.gears.pass_admitted m.gears.pass_taken (weight_of w) m.merges.pass stands.sound.layered.sorted_a stands.sound.pass;
     deep = deep_counted (key_of w) (record_of w) m.lists m.gears.deep m.gears.deep_input m.gears.deep_admitted m.gears.deep_taken (weight_of w) (goes_to_a m.merges.pass (key_of w)) m.merges.deep stands.sound.deep;
   };
-  values = λ q. value_in-write w m.lists m.merges.pass (written opening m.book.entries) fits.0 stands.sound.layered.pass stands.values q
+  values = λ q. value_in-write w m.lists m.merges.pass (written opening m.book.entries) fits.counts stands.sound.layered.pass stands.values q
       ∙ ap (λ ws. value_at (written opening m.book.entries ++ ws) q) (sym counts);
   places = stands.places;
   held = λ s within. stands.held s within ∙ sym (still s);
@@ -189,7 +188,7 @@ write_ready opening m seat op w stands fits counts still = record {
             by true = omega arith
             by false = heavy
 
-written_stands : (opening : List (Key × Value)) (m : Machine) (seat : ℕ) (op : Op) (w : Write) → Stands opening m → m.stopped ≡ None → (added_count w < 2 ^ 64) × (weight_of w ≤ most_weight) × (least_weight ≤ weight_of w) → counted (entry_of seat op Done) ≡ w ∷ []
+written_stands : (opening : List (Key × Value)) (m : Machine) (seat : ℕ) (op : Op) (w : Write) → Stands opening m → m.stopped ≡ None → FitsFormat w → counted (entry_of seat op Done) ≡ w ∷ []
     → ((s : ℕ) → (after (object_after opening m.book.entries) (entry_of seat op Done)).held s ≡ (object_after opening m.book.entries).held s)
     → MayReply (limits_of m.gears.sizes m.counts.charge) opening m.book.entries seat op Done → Stands opening (note seat op Done (with_peak (take_write seat w m)))
 unfolding taken
@@ -202,7 +201,7 @@ written_stands opening m seat op w stands none fits counts still may =
 
 -- a write that fits
 fitting_stands : (opening : List (Key × Value)) (m : Machine) (seat : ℕ) (op : Op) (weight : ℕ) (outcome : Outcome) → Stands opening m → HasWay m → m.stopped ≡ None
-    → is_write op ≡ true → AllByRecursion (λ w. (added_count w < 2 ^ 64) × (weight_of w ≤ most_weight) × (least_weight ≤ weight_of w)) (writes_of op) → Stands opening (admit_fitting m seat op weight outcome).state
+    → is_write op ≡ true → AllByRecursion FitsFormat (writes_of op) → Stands opening (admit_fitting m seat op weight outcome).state
 fitting_stands opening m seat op weight outcome stands way none is_one fit = by outcome
   where
     failed : (n : Machine) (reply : Reply) (faults : ℕ) → Carries m n → is_refusal reply ≡ true → counted (entry_of seat op reply) ≡ [] → NamesNoOther (Faulted faults) reply
@@ -222,7 +221,7 @@ fitting_stands opening m seat op weight outcome stands way none is_one fit = by 
     after_failure commits faults true = lost faults (commits == 0)
     after_failure commits faults false = failed (ready_for weight m) FaultUnsure faults (ready_carries weight m stands.sound way) refl refl tt (λ before running. (running, is_one))
 
-    done : (o : Op) → is_write o ≡ true → AllByRecursion (λ w. (added_count w < 2 ^ 64) × (weight_of w ≤ most_weight) × (least_weight ≤ weight_of w)) (writes_of o) → Stands opening (note seat o Done (with_peak (taken_once seat (writes_of o) (ready_for weight m))))
+    done : (o : Op) → is_write o ≡ true → AllByRecursion FitsFormat (writes_of o) → Stands opening (note seat o Done (with_peak (taken_once seat (writes_of o) (ready_for weight m))))
     done o is fits = one o is fits
       where
         ready : Stands opening (ready_for weight m)
@@ -231,7 +230,7 @@ fitting_stands opening m seat op weight outcome stands way none is_one fit = by 
         still_none : (ready_for weight m).stopped ≡ None
         still_none = (ready_carries weight m stands.sound way).stopped ∙ none
 
-        one : (o : Op) → is_write o ≡ true → AllByRecursion (λ w. (added_count w < 2 ^ 64) × (weight_of w ≤ most_weight) × (least_weight ≤ weight_of w)) (writes_of o) → Stands opening (note seat o Done (with_peak (taken_once seat (writes_of o) (ready_for weight m))))
+        one : (o : Op) → is_write o ≡ true → AllByRecursion FitsFormat (writes_of o) → Stands opening (note seat o Done (with_peak (taken_once seat (writes_of o) (ready_for weight m))))
         one (Put key value) is fits = written_stands opening (ready_for weight m) seat (Put key value) (write.Put key value) ready still_none fits.0 refl
             (λ s. held-still (object_after opening (ready_for weight m).book.entries) (entry_of seat (Put key value) Done) s refl) (ready.told.running still_none, refl)
         one (Add key count) is fits = written_stands opening (ready_for weight m) seat (Add key count) (write.Add key count) ready still_none fits.0 refl
@@ -251,7 +250,7 @@ limit_is sizes at_opening (Del key) = refl
 limit_is sizes at_opening _ = refl
 
 pub admit_stands : (opening : List (Key × Value)) (m : Machine) (seat : ℕ) (op : Op) (outcome : Outcome) → Stands opening m → HasWay m → is_write op ≡ true
-    → AllByRecursion (λ w. (added_count w < 2 ^ 64) × (weight_of w ≤ most_weight) × (least_weight ≤ weight_of w)) (writes_of op) → Stands opening (admit m seat op outcome).state
+    → AllByRecursion FitsFormat (writes_of op) → Stands opening (admit m seat op outcome).state
 admit_stands opening m seat op outcome stands way is_one fit =
     unless_stands opening m seat op
     (cond (nat_lt (charge_limit m.gears.sizes (is_del op)) (charge m + total_weight (writes_of op))) (replied seat op (Full (charge m)) m) (admit_fitting m seat op (total_weight (writes_of op)) outcome))

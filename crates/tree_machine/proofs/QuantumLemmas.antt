@@ -240,7 +240,7 @@ until_few weigh most wanted (e ∷ es) light some = by (nat_lt (weigh e.0) wante
     by false is more = omega (arith, light e.0, sum_by-cons (λ e. weigh e.0) e [])
 
 -- a record of a list weighs no more than the heaviest
-pub light_any : (most : ℕ) (es : Entries) → AllByRecursion (λ e. weight e.0 e.1 ≤ most) es → (key : Key) → weight_of_any key (record_of_key key es) ≤ most
+light_any : (most : ℕ) (es : Entries) → AllByRecursion (λ e. weight e.0 e.1 ≤ most) es → (key : Key) → weight_of_any key (record_of_key key es) ≤ most
 light_any most [] all key = omega arith
 light_any most (e ∷ es) all key = by (eq_by_cmp key_cmp key e.0) refl (light_any most es all.1 key)
   where

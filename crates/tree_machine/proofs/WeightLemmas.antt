@@ -16,7 +16,7 @@ use Rattle.record_delta.specs.declared.record.Rec.{Rec}
 use Rattle.record_delta.specs.declared.record.Rec.TheVariants.{Base, Delta, Tomb}
 use Rattle.record_delta.specs.Records.{weight, settle, record_of}
 use Rattle.record_delta.specs.Folding.{over}
-use Rattle.record_delta.proofs.FoldingLemmas.{weight-fold_le}
+use Rattle.record_delta.proofs.FoldingLemmas.{fold_lighter}
 use Rattle.record_delta.specs.Entries.{AreSorted, Entries, entries_weight, folded_over, record_of_key, settled_base, settled_entries, with_record}
 use Rattle.tree_machine.specs.Merges.{Merge, is_done}
 use Rattle.tree_machine.specs.Layers.{IsMergeOf, as_base, as_it_is}
@@ -28,7 +28,7 @@ pub weigh_first : (e : Key × Rec) (es : Entries) → entries_weight (e ∷ es) 
 weigh_first e es = sum_by-cons (λ f. weight f.0 f.1) e es
 
 over_weight : (key : Key) (rec old : Rec) → weight key (over rec (Some old)) ≤ weight key rec + weight key old
-over_weight key rec old = omega (arith, weight-fold_le key rec old)
+over_weight key rec old = omega (arith, fold_lighter key rec old)
 
 -- a folded record adds no more than its own weight
 pub weight_with : (key : Key) (rec : Rec) (es : Entries) → AreSorted es → entries_weight (with_record key rec es) ≤ entries_weight es + weight key rec

@@ -4,8 +4,7 @@ use Rattle.std.specs.List.{AllByRecursion}
 use Rattle.blsm_model.specs.declared.key.Key.{Key}
 use Rattle.record_delta.specs.declared.record.Rec.{Rec}
 use Rattle.record_delta.specs.declared.record.Rec.TheVariants.{Base}
-use Rattle.blsm_model.specs.Format.{most_weight}
-use Rattle.record_delta.specs.Records.{settled, weight}
+use Rattle.record_delta.specs.Records.{settled, IsWithin}
 use Rattle.record_delta.specs.Entries.{AreSorted, Entries, entries_weight, is_above, over_any, record_of_key, up_to}
 use Rattle.tree_machine.specs.Lists.{Lists, value_in, memory_weight}
 use Rattle.tree_machine.specs.Merges.{Merge, is_empty}
@@ -74,9 +73,9 @@ IsDeepCounted c1x c2 running input admitted taken None = (running ≡ false) × 
 IsDeepCounted c1x c2 running input admitted taken (Some deep) =
     (running ≡ true) × (input ≡ entries_weight c1x + entries_weight c2) × (taken ≡ entries_weight (up_to deep.cursor c1x) + entries_weight (up_to deep.cursor c2))
 
--- no record weighs more than the heaviest entry
+-- the keys and texts are within the format's lengths, so no record weighs more than the heaviest entry
 abbrev pub AreLight : Entries → Type 0
-AreLight entries = AllByRecursion (λ e. weight e.0 e.1 ≤ most_weight) entries
+AreLight entries = AllByRecursion (λ e. IsWithin e.0 e.1) entries
 
 pub record AllLight (lists : Lists) (merges : Merges) : Type 0 where
   pub b : AreLight lists.b
