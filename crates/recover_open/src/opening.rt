@@ -104,6 +104,9 @@ pub struct NotOpened<D: Drop> {
 ///
 /// `NotAStore`, `Damaged` and `Worn` come as `read_tree` tells them, `Fault` just where the disk's count of faults rose, and `NoMemory` where memory
 /// was refused, also that for filters and fences, whose size is known once the geometry is read. The disk is given back, with what it had.
+///
+/// It stays a call, so that the parts of a core aren't added to the frame of who runs it.
+#[inline(never)]
 pub fn open_store<D: Disk + Drop>(
     alloc: Global,
     disk: D,

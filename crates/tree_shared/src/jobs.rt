@@ -151,7 +151,9 @@ fn run_rest<R: Threads + Wait + Sync, D: Disk + Send + Drop, G: Gate + Sync>(
 /// Runs the lines of a script over a core: sixteen callers do their own ones, each in order, and so many workers take so many turns, each in a
 /// thread of its own where one can be made.
 ///
-/// Where memory is refused for the lock the core comes back, and nothing was done.
+/// Where memory is refused for the lock the core comes back, and nothing was done. It stays a call, so that the lock round the core isn't added to the
+/// frame of who opened the store.
+#[inline(never)]
 pub fn run_all<R: Threads + Wait + Sync, D: Disk + Send + Drop, G: Gate + Sync>(
     rt: &R,
     alloc: Global,
