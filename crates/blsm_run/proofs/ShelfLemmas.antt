@@ -23,7 +23,7 @@ use Rattle.tree_session.specs.Faults.{faults_told}
 use Rattle.store_run.specs.declared.run.Finished.{Finished}
 use Rattle.store_run.specs.Headline.{Headline}
 use Rattle.store_trial.specs.Trial.{IsRoomOf}
-use Rattle.store_run.specs.Run.{AreCounted, CameToEnd, IsEnding, IsRunOf, run_of}
+use Rattle.store_run.specs.Run.{AreCounted, CameToEnd, HasCauses, IsEnding, IsRunOf, run_of}
 use Rattle.blsm_run.specs.Outcome.{refusal_of_making, refusal_of_store}
 use Rattle.blsm_run.specs.Outside.{HasRisenOnce, IsQuietCount, OfTheDisk}
 use Rattle.blsm_run.specs.Stores.{WasCalm, HasFailedOnce, LeavesMade, WasMade, MakesOnShelf, LeavesClosed, WasRefused, HasRunOn, RunsOnShelf, StaysWithin, WasUnreadable, WasChecked, ChecksOnShelf}
@@ -61,12 +61,15 @@ was_empty result (suc n) is full =
     absurd cc
 
 module _ {D : Type 0} (state : D → DiskState) (name : List ℕ) (old mid new : ShelfState D) (disk last : D) (w : CameBack state name old mid new disk last) where
+  given_back : IsTrue old.tells_disks → new.disk_at name ≡ Some last
+  given_back tells = (w.put (w.told ∙ tells) (w.taken tells).out).stands
+
   -- what is said of the disk as it was fetched and as it was given back
   of_the_disk : (P : DiskState → DiskState → Type 0) → P (state disk) (state last) → OfTheDisk state name old new P
   of_the_disk P says tells =
       let took = w.taken tells in
       subst (λ (o : Option D). IfSome o (λ stood. (first : D) × (final : D) × IsFreshCount (state stood) (state first) × (new.disk_at name ≡ Some final) × P (state first) (state final))) (sym took.stood.1)
-      (disk, last, took.stood.2, (w.put (w.told ∙ tells) took.out).stands, says)
+      (disk, last, took.stood.2, given_back tells, says)
 
   stood : IsTrue old.tells_disks → IsSome (old.disk_at name)
   stood tells = subst (λ (o : Option D). IsSome o) (sym (w.taken tells).stood.1) refl
@@ -116,10 +119,10 @@ module _ {D : Type 0} (state : D → DiskState) (name : List ℕ) (old mid new :
   -- ---- running
 
   pub ran : (lines : List Line) (workers turns : ℕ) (finished : Finished) (room : Room) → IsRoomOf room lines → (sizes : Sizes) × HasLengthOf sizes (state disk) × IsRunOf sizes lines workers turns (run_of finished) → CameToEnd workers turns (run_of finished) → AreCounted (run_of finished) (state disk) (state last)
-      → IsEnding finished.ending (run_of finished) (state last).faults → StaysWithin (state disk) (state last)
+      → IsEnding finished.ending (run_of finished) (state last).faults → HasCauses state (run_of finished) last → StaysWithin (state disk) (state last)
       → (IsTrue (state disk).is_honest → (sizes : Sizes) × IsRunOf sizes lines workers turns (run_of finished) × Headline state sizes lines workers turns (run_of finished) room (state disk) (state last))
       → RunsOnShelf state name lines workers turns old new (Ok finished)
-  ran lines workers turns finished room has_room printed came counted ended inside headline = record {
+  ran lines workers turns finished room has_room printed came counted ended causes inside headline = record {
     sizes = printed.0;
     printed = printed.2;
     came = came;
@@ -132,6 +135,9 @@ module _ {D : Type 0} (state : D → DiskState) (name : List ℕ) (old mid new :
           long = printed.1;
           headline = λ honest. let said = headline honest in (said.0, room, has_room, said.1, said.2);
         });
+    last = last;
+    back = given_back;
+    causes = causes;
     count = (state last).faults;
     ended = ended;
     rose = rises_so;

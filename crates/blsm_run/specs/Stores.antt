@@ -1,5 +1,5 @@
 -- What is done to the store on the disk of a name of a shelf, and what that answers.
-use Rattle.std.specs.Prelude.{◌≡◌, ◌⊎◌, ◌<◌, ◌≤◌, ◌+◌, ◌-◌, ◌^◌, ℕ, [], max, min, IsTrue, IsSome, List, length, Result, Ok, Err}
+use Rattle.std.specs.Prelude.{◌≡◌, ◌⊎◌, ◌<◌, ◌≤◌, ◌+◌, ◌-◌, ◌^◌, ℕ, [], max, min, IsTrue, IsSome, List, Some, length, Result, Ok, Err}
 use Rattle.refusal.specs.Count.{HasRisenBy}
 use Rattle.disk_trait.specs.Disk.{DiskState}
 use Rattle.disk_trait.specs.Effects.{Affects}
@@ -29,7 +29,7 @@ use Rattle.tree_session.specs.Faults.{Reaches, faults_told}
 use Rattle.store_run.specs.declared.run.Ending.{Ending}
 use Rattle.store_run.specs.declared.run.Finished.{Finished}
 use Rattle.store_run.specs.Headline.{Headline}
-use Rattle.store_run.specs.Run.{Run, AreCounted, CameToEnd, IsEnding, IsRunOf, run_of}
+use Rattle.store_run.specs.Run.{Run, AreCounted, CameToEnd, HasCauses, IsEnding, IsRunOf, run_of}
 use Rattle.blsm_run.specs.declared.outcome.Refusal.{Refusal}
 use Rattle.blsm_run.specs.declared.outcome.Refusal.TheVariants as refusal
 use Rattle.blsm_run.specs.Outside.{HasRisenOnce, OfTheDisk}
@@ -118,6 +118,10 @@ pub record IsRunOnShelf {D : Type 0} (state : D → DiskState) (name : List ℕ)
   -- one stood there
   pub stood : IsTrue old.tells_disks → IsSome (old.disk_at name)
   pub disk : OfTheDisk state name old new (HasRunOn state sizes lines workers turns run ending)
+  -- why each reply is so, and what stopped the store, by the calls that led to the disk that was given back
+  pub last : D
+  pub back : IsTrue old.tells_disks → new.disk_at name ≡ Some last
+  pub causes : HasCauses state run last
   -- it ended by the disk's own count of faults, by which the shelf's rose, and by what was found
   pub count : ℕ
   pub ended : IsEnding ending run count

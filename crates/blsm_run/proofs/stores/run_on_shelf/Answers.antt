@@ -28,7 +28,7 @@ returns-in-Ok-outcome-clause-runs g c =
     let m = c.run_over-disk.ensures in
     let w : CameBack state name old mid new first last = record { count = fetched.count; taken = fetched.taken; stands = fetched.stands; told = fetched.told.disks; put = back.put; faults = back.faults } in
     let is = c.in-Ok-outcome.is in
-    ran state name old mid new first last w c.args.lines.now c.args.workers c.args.turns c.in-Ok-outcome.finished c.args.room c.requires.room (IfOk-at_ok _ is m.ran) (IfOk-at_ok _ is m.ended) (IfOk-at_ok _ is m.counted) (IfOk-at_ok _ is m.ending) m.reaches (λ honest. IfOk-at_ok _ is (m.headline honest))
+    ran state name old mid new first last w c.args.lines.now c.args.workers c.args.turns c.in-Ok-outcome.finished c.args.room c.requires.room (IfOk-at_ok _ is m.ran) (IfOk-at_ok _ is m.ended) (IfOk-at_ok _ is m.counted) (IfOk-at_ok _ is m.ending) (IfOk-at_ok _ is m.causes) m.reaches (λ honest. IfOk-at_ok _ is (m.headline honest))
 
 pub returns-in-Err-clause-runs : goal.returns-in-Err-clause-runs
 returns-in-Err-clause-runs g c =
