@@ -245,7 +245,7 @@ served_in_order keeps damaged {D} state room lines first old new honest session 
     let come = session.run.since.come opens.pairs _ _ honest_then opens.stands in
     let served = served_from keeps damaged state room lines first old new _ _ _ _ session opens.stands come.0 come.1 in
     let printed : IsRunInOrder old.held.runs.sizes lines (run_at (charge_in old.held) new.held) = record {
-      printed = is_run_of state lines 0 0 (charge_in old.held) old new session.run (omega (arith, alone));
+      printed = is_run_of state lines 0 0 old new session.run (omega (arith, alone));
       in_order = in_order;
     } in
     subst (λ (r : Run). RunInOrder state lines room r first (state disk)) (sym is)
@@ -315,6 +315,6 @@ pub whole_headline : StepKeepsOpening → NoneDamaged → RunsAlone → {D : Typ
 whole_headline keeps damaged law {D} state timed room lines workers turns first old new session none map_kept runs steps few rests disk same run is =
     let opens = session.opens in
     let headline = headline_from keeps damaged law state timed room lines workers turns first old new _ _ _ _ session none map_kept opens.stands runs (steps opens.pairs _ _ opens.stands) few rests in
-    let printed = is_run_of state lines workers turns (charge_in old.held) old new session.run (workers_took state lines workers turns old new runs) in
+    let printed = is_run_of state lines workers turns old new session.run (workers_took state lines workers turns old new runs) in
     subst (λ (r : Run). RunAndHeadline state lines workers turns room r first (state disk)) (sym is)
     (subst (λ (d : D). RunAndHeadline state lines workers turns room (run_at (charge_in old.held) new.held) first (state d)) (sym same) (old.held.runs.sizes, printed, headline))

@@ -5,7 +5,7 @@ use Rattle.std.proofs.Common.{◌∙◌, refl, ap, sym, subst, arith, get_or-dro
 use Rattle.std.proofs.lemmas.List.Sums.{sum_by-cons}
 use Rattle.blsm_model.specs.Book.{Book}
 use Rattle.blsm_model.specs.Format.{callers}
-use Rattle.blsm_model.specs.Geometry.{file_length, high_mark}
+use Rattle.blsm_model.specs.Geometry.{capacity, file_length, high_mark}
 use Rattle.blsm_model.specs.Scripts.{IsOfScript, asked, asked_in}
 use Rattle.blsm_model.specs.Sizes.{Sizes, IsGeometry}
 use Rattle.blsm_model.specs.declared.history.Entry.{Entry}
@@ -63,11 +63,18 @@ no_quanta_yet annals faults held opened = ap (λ (b : BookState). b.book.quanta)
 geometry_of : (held : Held) (d : DiskState) → IsCore held d → IsGeometry held.runs.sizes
 geometry_of held d core = subst IsGeometry core.holds.told.sizes core.holds.told.told.paced.within.sizes
 
+-- on every disk the charge is within the capacity
+charge_fits : (held : Held) (d : DiskState) → IsCore held d → charge_in held ≤ capacity held.runs.sizes
+charge_fits held d core =
+    let told = core.holds.told in
+    subst (λ (s : Sizes). charge_in held ≤ capacity s) told.sizes (subst (λ (n : ℕ). n ≤ capacity core.pace.gears.sizes) told.charge_is told.told.paced.within.full)
+
 -- ---- a run, whoever's threads made it
 
 -- From a core that was just opened a script led here.
 pub record HasRun {D : Type 0} (state : D → DiskState) (lines : List Line) (old new : CoreState D) : Type 0 where
   pub keeps : IsCore new.held (state new.disk)
+  pub full : charge_in old.held ≤ capacity old.held.runs.sizes
   pub since : StandsSince state old new
   pub of_script : IsOfScript lines new.held.book.book.entries
   pub few : TookFew old.held.runs.sizes new.held.book.book.entries new.held.book.book.quanta
@@ -78,7 +85,7 @@ pub record HasRun {D : Type 0} (state : D → DiskState) (lines : List Line) (ol
   pub effect : Reaches (file_length old.held.runs.sizes) calls (state old.disk) (state new.disk)
 
 -- one thread did the lines one after another
-module _ {D : Type 0} (state : D → DiskState) (lines : List Line) (annals : Book) (faults : ℕ) (old new : CoreState D) (opened : IsOpened annals faults old.held) (core : IsCore new.held (state new.disk))
+module _ {D : Type 0} (state : D → DiskState) (lines : List Line) (annals : Book) (faults : ℕ) (old new : CoreState D) (opened : IsOpened annals faults old.held) (first : IsCore old.held (state old.disk)) (core : IsCore new.held (state new.disk))
     (begins : StandsSince state old old) (runs : Runs state lines old new) where
   lines_added : new.held.book.book.entries ≡ runs.added
   lines_added = runs.entries ∙ ap (λ (es : List Entry). es ++ runs.added) (no_entries_yet annals faults old.held opened)
@@ -92,6 +99,7 @@ module _ {D : Type 0} (state : D → DiskState) (lines : List Line) (annals : Bo
   pub by_lines : HasRun state lines old new
   by_lines = record {
     keeps = core;
+    full = charge_fits old.held (state old.disk) first;
     since = runs.proceeds.lasts old begins;
     of_script = of_script lines new.held.book.book.entries lines_asked;
     few =
@@ -108,10 +116,11 @@ module _ {D : Type 0} (state : D → DiskState) (lines : List Line) (annals : Bo
   lines_alone = runs.alone ∙ ap (λ (b : BookState). sum (drop callers b.seats.quanta)) opened.book
 
 -- callers and workers did it by calls of the core, each in its turn
-pub by_threads : {D : Type 0} (state : D → DiskState) (lines : List Line) (workers turns : ℕ) (old new : CoreState D) → (runs : RunsAll state lines workers turns old new)
+pub by_threads : {D : Type 0} (state : D → DiskState) (lines : List Line) (workers turns : ℕ) (old new : CoreState D) → IsCore old.held (state old.disk) → (runs : RunsAll state lines workers turns old new)
     → ChainTells state runs.came.calls old new → ChainTakesFew state runs.came.calls old new → HasRun state lines old new
-by_threads state lines workers turns old new runs tells takes = record {
+by_threads state lines workers turns old new core runs tells takes = record {
   keeps = runs.keeps;
+  full = charge_fits old.held (state old.disk) core;
   since = runs.came.since;
   of_script = runs.of_script;
   few = takes.few;
@@ -154,10 +163,11 @@ ended_of state lines workers turns old new runs run is =
 
 -- ---- what it leaves to be printed
 
-pub is_run_of : {D : Type 0} (state : D → DiskState) (lines : List Line) (workers turns charge : ℕ) (old new : CoreState D) → HasRun state lines old new
-    → sum (drop callers new.held.book.seats.quanta) ≤ workers * turns → IsRunOf old.held.runs.sizes lines workers turns (run_at charge new.held)
-is_run_of state lines workers turns charge old new run helped = record {
+pub is_run_of : {D : Type 0} (state : D → DiskState) (lines : List Line) (workers turns : ℕ) (old new : CoreState D) → HasRun state lines old new
+    → sum (drop callers new.held.book.seats.quanta) ≤ workers * turns → IsRunOf old.held.runs.sizes lines workers turns (run_at (charge_in old.held) new.held)
+is_run_of state lines workers turns old new run helped = record {
   geometry = subst IsGeometry run.since.sizes (geometry_of new.held (state new.disk) run.keeps);
+  full = run.full;
   of_script = run.of_script;
   few = run.few;
   callers = run.by_callers;
@@ -171,7 +181,7 @@ is_run_of state lines workers turns charge old new run helped = record {
 pub printed_of : {D : Type 0} (state : D → DiskState) (lines : List Line) (workers turns : ℕ) (old new : CoreState D) → HasRun state lines old new → RunsAll state lines workers turns old new → (run : Run) → run ≡ run_at (charge_in old.held) new.held
     → (first : DiskState) → HasLengthOf old.held.runs.sizes first → (sizes : Sizes) × HasLengthOf sizes first × IsRunOf sizes lines workers turns run
 printed_of state lines workers turns old new has runs run is first long =
-    (old.held.runs.sizes, long, subst (λ (r : Run). IsRunOf old.held.runs.sizes lines workers turns r) (sym is) (is_run_of state lines workers turns (charge_in old.held) old new has (workers_took state lines workers turns old new runs)))
+    (old.held.runs.sizes, long, subst (λ (r : Run). IsRunOf old.held.runs.sizes lines workers turns r) (sym is) (is_run_of state lines workers turns old new has (workers_took state lines workers turns old new runs)))
 
 -- ---- a core that was just opened
 

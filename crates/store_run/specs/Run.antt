@@ -2,7 +2,7 @@
 use Rattle.std.specs.Prelude.{◌≡◌, ◌≤◌, ◌<◌, ◌+◌, ◌*◌, ◌||◌, ℕ, Bool, true, false, None, Some, List, ◌∷◌, ◌++◌, slice_index, sum}
 use Rattle.std.specs.List.{AllByRecursion, list_any}
 use Rattle.refusal.specs.Count.{HasRisenBy}
-use Rattle.blsm_model.specs.Geometry.{high_mark}
+use Rattle.blsm_model.specs.Geometry.{capacity, high_mark}
 use Rattle.blsm_model.specs.Format.{callers}
 use Rattle.blsm_model.specs.Scripts.{IsOfScript, asked, asked_in}
 use Rattle.blsm_model.specs.Sizes.{Sizes, IsGeometry}
@@ -58,6 +58,8 @@ finds_damage run = list_any (λ e. is_damaged e.reply) run.entries || is_by_page
 -- so many merge workers helped, each of which takes so many turns at most
 pub record IsRunOf (sizes : Sizes) (lines : List Line) (workers turns : ℕ) (run : Run) : Type 0 where
   pub geometry : IsGeometry sizes
+  -- what was charged at the opening is within the capacity
+  pub full : run.charge ≤ capacity sizes
   -- each caller's commands, once, in order
   pub of_script : IsOfScript lines run.entries
   -- a write took no more quanta than its work bound, a work of n turns no more than n, and the others none; their sum is printed
@@ -112,6 +114,8 @@ pub record HasCauses {D : Type 0} (state : D → DiskState) (run : Run) (last : 
   pub end : CoreState D
   pub are : AreCalls state calls opened end
   pub last_is : end.disk ≡ last
+  -- what is printed first is the core's charge when it was opened
+  pub charge : run.charge ≡ charge_in opened.held
   -- an entry's reply is due to what the call found that noted it
   pub replies : (front behind : List Entry) (e : Entry) → run.entries ≡ front ++ e ∷ behind → IsNoted state calls opened end front e
   -- no reply denies a hold, or makes one up

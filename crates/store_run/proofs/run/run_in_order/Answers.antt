@@ -28,7 +28,7 @@ returns-clause-counted g c =
     let old = c.in-Ok.core in
     let new = c.run_lines.new.core in
     let opened = c.in-Ok.ensures.opened in
-    let has = by_lines state c.args.lines.now (no_entries c.args.room) (state old.disk).faults old new opened c.kept-2.ensures.core c.kept.ensures.begins c.run_lines.ensures in
+    let has = by_lines state c.args.lines.now (no_entries c.args.room) (state old.disk).faults old new opened c.kept.ensures.core c.kept-2.ensures.core c.kept.ensures.begins c.run_lines.ensures in
     counted_of state c.args.lines.now (no_entries c.args.room) (state old.disk).faults (state c.args.disk) old new opened (calm_opening (state c.args.disk) (state old.disk) c.in-Ok.ensures.faults) has
     (run_of c.finish-disk.result.1) (c.finish-disk.ensures.finished ∙ ap (λ (n : ℕ). run_at n new.held) c.charge-charge.ensures) c.finish-disk.result.0 c.finish-disk.ensures.disk
 
@@ -38,7 +38,7 @@ returns-clause-reaches g c =
     let old = c.in-Ok.core in
     let new = c.run_lines.new.core in
     let opened = c.in-Ok.ensures.opened in
-    let has = by_lines state c.args.lines.now (no_entries c.args.room) (state old.disk).faults old new opened c.kept-2.ensures.core c.kept.ensures.begins c.run_lines.ensures in
+    let has = by_lines state c.args.lines.now (no_entries c.args.room) (state old.disk).faults old new opened c.kept.ensures.core c.kept-2.ensures.core c.kept.ensures.begins c.run_lines.ensures in
     disk_inside state c.args.lines.now (no_entries c.args.room) (state old.disk).faults (state c.args.disk) old new opened c.kept.ensures.core c.in-Ok.ensures.effect has c.finish-disk.result.0 c.finish-disk.ensures.disk
 
 pub returns-clause-served : goal.returns-clause-served
@@ -59,7 +59,7 @@ returns-clause-served g c = λ honest.
       calls = c.in-Ok.ensures.calls;
       calm = calm_opening (state c.args.disk) (state old.disk) c.in-Ok.ensures.faults;
       ran = ap (λ (b : BookState). b.stopped) opened.book;
-      run = by_lines state c.args.lines.now annals faults old new opened kept begins runs;
+      run = by_lines state c.args.lines.now annals faults old new opened c.kept.ensures.core kept begins runs;
     })
-    (lines_asked state c.args.lines.now annals faults old new opened kept begins runs) (lines_alone state c.args.lines.now annals faults old new opened kept begins runs)
+    (lines_asked state c.args.lines.now annals faults old new opened c.kept.ensures.core kept begins runs) (lines_alone state c.args.lines.now annals faults old new opened c.kept.ensures.core kept begins runs)
     c.finish-disk.result.0 c.finish-disk.ensures.disk (run_of c.finish-disk.result.1) (c.finish-disk.ensures.finished ∙ ap (λ (n : ℕ). run_at n new.held) c.charge-charge.ensures)

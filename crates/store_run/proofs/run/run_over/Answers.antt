@@ -41,7 +41,7 @@ returns-in-Ok-run_all-clause-ran g c =
     let opened = c.in-Ok.ensures.opened in
     let rests = c.an_opened_core_rests.ensures (no_entries c.args.room) (state old.disk).faults old.held opened in
     let unasked = is_unasked state (no_entries c.args.room) (state old.disk).faults old opened rests c.kept.ensures.core c.kept.ensures.begins in
-    let has = by_threads state c.args.lines.now c.args.workers c.args.turns old new runs (c.calls_tell.ensures runs.came.calls old unasked runs.came.are) (c.calls_take_few.ensures runs.came.calls old unasked runs.came.are) in
+    let has = by_threads state c.args.lines.now c.args.workers c.args.turns old new c.kept.ensures.core runs (c.calls_tell.ensures runs.came.calls old unasked runs.came.are) (c.calls_take_few.ensures runs.came.calls old unasked runs.came.are) in
     printed_of state c.args.lines.now c.args.workers c.args.turns old new has runs (run_of c.finish-disk.result.1) (c.finish-disk.ensures.finished ∙ ap (λ (n : ℕ). run_at n new.held) c.charge-charge.ensures)
     (state c.args.disk) c.in-Ok.ensures.long
 
@@ -59,7 +59,7 @@ returns-in-Ok-run_all-clause-counted g c =
     let opened = c.in-Ok.ensures.opened in
     let rests = c.an_opened_core_rests.ensures (no_entries c.args.room) (state old.disk).faults old.held opened in
     let unasked = is_unasked state (no_entries c.args.room) (state old.disk).faults old opened rests c.kept.ensures.core c.kept.ensures.begins in
-    let has = by_threads state c.args.lines.now c.args.workers c.args.turns old new runs (c.calls_tell.ensures runs.came.calls old unasked runs.came.are) (c.calls_take_few.ensures runs.came.calls old unasked runs.came.are) in
+    let has = by_threads state c.args.lines.now c.args.workers c.args.turns old new c.kept.ensures.core runs (c.calls_tell.ensures runs.came.calls old unasked runs.came.are) (c.calls_take_few.ensures runs.came.calls old unasked runs.came.are) in
     counted_of state c.args.lines.now (no_entries c.args.room) (state old.disk).faults (state c.args.disk) old new opened (calm_opening (state c.args.disk) (state old.disk) c.in-Ok.ensures.faults) has
     (run_of c.finish-disk.result.1) (c.finish-disk.ensures.finished ∙ ap (λ (n : ℕ). run_at n new.held) c.charge-charge.ensures) c.finish-disk.result.0 c.finish-disk.ensures.disk
 
@@ -75,7 +75,7 @@ returns-in-Ok-run_all-clause-reaches g c =
     let opened = c.in-Ok.ensures.opened in
     let rests = c.an_opened_core_rests.ensures (no_entries c.args.room) (state old.disk).faults old.held opened in
     let unasked = is_unasked state (no_entries c.args.room) (state old.disk).faults old opened rests c.kept.ensures.core c.kept.ensures.begins in
-    let has = by_threads state c.args.lines.now c.args.workers c.args.turns old new runs (c.calls_tell.ensures runs.came.calls old unasked runs.came.are) (c.calls_take_few.ensures runs.came.calls old unasked runs.came.are) in
+    let has = by_threads state c.args.lines.now c.args.workers c.args.turns old new c.kept.ensures.core runs (c.calls_tell.ensures runs.came.calls old unasked runs.came.are) (c.calls_take_few.ensures runs.came.calls old unasked runs.came.are) in
     disk_inside state c.args.lines.now (no_entries c.args.room) (state old.disk).faults (state c.args.disk) old new opened c.kept.ensures.core c.in-Ok.ensures.effect has c.finish-disk.result.0 c.finish-disk.ensures.disk
 
 pub returns-in-Ok-run_all-clause-causes : goal.returns-in-Ok-run_all-clause-causes
@@ -93,6 +93,7 @@ returns-in-Ok-run_all-clause-causes g c =
       end = new;
       are = came.are;
       last_is = sym c.finish-disk.ensures.disk;
+      charge = ap (λ (run : Run). run.charge) is ∙ c.charge-charge.ensures;
       replies = λ front behind e within. c.calls_note.ensures came.calls old front behind e none came.are (sym (ap (λ (run : Run). run.entries) is) ∙ within);
       holds = subst (λ (run : Run). TellHolds run.entries) (sym is) (c.calls_tell_holds.ensures came.calls old none (holds_none old c.in-Ok.ensures.none) came.are).replies;
       stops = λ page stopped. c.calls_meet_damage.ensures came.calls old page (ap (λ (b : BookState). b.stopped) opened.book) came.are (sym (ap (λ (run : Run). run.totals.stopped) is) ∙ stopped);
@@ -121,7 +122,7 @@ returns-in-Ok-run_all-clause-headline g c = λ honest.
       calls = c.in-Ok.ensures.calls;
       calm = calm_opening (state c.args.disk) (state old.disk) c.in-Ok.ensures.faults;
       ran = ap (λ (b : BookState). b.stopped) opened.book;
-      run = by_threads state c.args.lines.now c.args.workers c.args.turns old new runs (c.calls_tell.ensures calls old unasked are) (c.calls_take_few.ensures calls old unasked are);
+      run = by_threads state c.args.lines.now c.args.workers c.args.turns old new c.kept.ensures.core runs (c.calls_tell.ensures calls old unasked are) (c.calls_take_few.ensures calls old unasked are);
     })
     (no_entries_yet annals faults old.held opened) (c.in-Ok.ensures.keeps old.held.runs.sizes opens.pairs honest opens.reads) runs
     (λ opening m pace stands. c.calls_are_steps.ensures opening calls old m pace c.kept.ensures.core are honest_then stands)
