@@ -4,7 +4,6 @@ use Rattle.std.specs.Ordering.{is_lt}
 use Rattle.std.specs.Cmp.{tied_itself}
 use Rattle.std.proofs.lemmas.Bool.{false≢true}
 use Rattle.std.proofs.lemmas.Cmp.{nat_list_cmp_total}
-use Rattle.blsm_model.specs.declared.component.Component.{Component}
 use Rattle.blsm_model.specs.declared.key.Key.{Key}
 use Rattle.blsm_model.specs.Sizes.{Sizes}
 use Rattle.disk_trait.specs.Disk.{DiskState}
@@ -19,12 +18,11 @@ use Rattle.page_file.specs.declared.file.Broken.{Broken}
 use Rattle.page_file.specs.declared.file.Broken.TheVariants.{Fault}
 use Rattle.page_file.specs.Component.{numbers_of}
 use Rattle.run_cursor.specs.Cursor.{CursorState, from_head, HasAhead, IsAdvanced}
-use Rattle.run_cursor.specs.Given.{HasGiven, HasGivenMore}
 use Rattle.merge_ends.specs.Input.{head_above, key_of}
 use Rattle.merge_ends.proofs.InputLemmas.{stale_left}
 use Rattle.merge_ends.proofs.GroupLemmas.{above_further, further}
 use Rattle.merge_step.proofs.TakenLemmas.{first_above, taken}
-use Rattle.scan_view.specs.Left.{IsFile, IsAheadOf, IsFromOne, HasLeft, HasBegun, count_left}
+use Rattle.scan_view.specs.Left.{IsFile, IsAheadOf, IsFromOne, HasLeft, count_left}
 
 -- ---- answers of calls
 
@@ -66,11 +64,6 @@ left_on sizes file at old new entries stale has advanced = by_rest has.rest refl
       left_is = ap (λ h. above at (from_head h es)) then.0 ∙ sym (ap (above at) is) ∙ sym (stale_left at old.head has.rest stale) ∙ has.left_is;
     }
 
-begun_on : (sizes : Sizes) (run : Component) (new : CursorState) (given : Entries) (file : List ℕ) → (head : Option (Key × Rec)) → HasGivenMore sizes run new head given file
-    → HasBegun sizes run new file
-begun_on sizes run new given file None more = (given, more.1)
-begun_on sizes run new given file (Some e) more = (_, more)
-
 -- by what a call of `advance` says of lists
 pub advance_left : (result : Result (Unit {0}) Broken) (sizes : Sizes) (file bytes : List ℕ) (at : Option Key) (old new : CursorState) (entries : Entries) → bytes ≡ file
     → head_above at old.head ≡ false → HasLeft sizes at old entries file
@@ -81,13 +74,7 @@ advance_left result sizes file bytes at old new entries same stale has list othe
     let advanced = list here.rest here.ahead other in
     (advanced.0, subst (λ (b : List ℕ). HasLeft sizes at new entries b) same (left_on sizes bytes at old new entries stale here advanced.1))
 
-pub advance_begun : (sizes : Sizes) (file bytes : List ℕ) (run : Component) (old new : CursorState) → bytes ≡ file → HasBegun sizes run old file
-    → ((given : Entries) → HasGiven sizes run old given bytes → HasGivenMore sizes run new new.head given bytes) → HasBegun sizes run new file
-advance_begun sizes file bytes run old new same begun more =
-    subst (λ (b : List ℕ). HasBegun sizes run new b) same
-    (begun_on sizes run new begun.0 bytes new.head (more begun.0 (subst (λ (b : List ℕ). HasGiven sizes run old begun.0 b) (sym same) begun.1)))
-
-none_of : (es : Entries) → length es ≡ 0 → es ≡ []
+pub none_of : (es : Entries) → length es ≡ 0 → es ≡ []
 none_of [] is = refl
 none_of (e ∷ es) is = absurd (omega (arith, is))
 

@@ -1,5 +1,6 @@
 pub mod FoldLemmas
 pub mod LeftLemmas
+pub mod ReadLemmas
 pub mod ScanLemmas
 pub mod RowLemmas
 pub mod RangeLemmas

@@ -21,10 +21,11 @@ use Rattle.record_delta.specs.declared.record.Rec.{Rec}
 use Rattle.record_delta.specs.Records.{settle}
 use Rattle.record_delta.specs.Entries.{Entries, AreSorted, is_above, above, first_of}
 use Rattle.merge_step.proofs.MergedLemmas.{left, right, less, test, is_true, turned}
-use Rattle.merge_step.proofs.TakenLemmas.{below_above, taken}
+use Rattle.merge_step.proofs.TakenLemmas.{below_above, first_above, taken}
 use Rattle.merge_ends.proofs.GroupLemmas.{first_none, further}
 use Rattle.tree_machine.specs.Lists.{settled_pairs}
 use Rattle.scan_view.specs.Hold.{AreGiven, rows_of}
+use Rattle.scan_view.specs.Told.{is_before}
 use Rattle.scan_view.proofs.FoldLemmas.{sorted_above}
 
 -- ---- the pairs
@@ -154,22 +155,16 @@ rows_step low high at es e sorted is = by_list (above at es) refl is
         ap (rows_of low high) here ∙ rows_cons low high e more (subst AreSorted here (sorted_above at es sorted))
         ∙ ap (λ (l : Entries). rows_of low high (e ∷ []) ++ rows_of low high l) (sym (taken at es more e sorted here).0)
 
--- and where it is behind the range, nothing is left
-pub rows_ended : (low high : Key) (at : Option Key) (es : Entries) (e : Key × Rec) → AreSorted es → first_of (above at es) ≡ Some e → is_lt (key_cmp e.0 high) ≡ false
-    → (rows_of low high (above at es) ≡ []) × (rows_of low high (above (Some e.0) es) ≡ [])
-rows_ended low high at es e sorted is past = by_list (above at es) refl is
+-- above a key that isn't before the range's end nothing is left
+pub rows_behind : (low high : Key) (at : Option Key) (es : Entries) → is_before high at ≡ false → AreSorted es → rows_of low high (above at es) ≡ []
+rows_behind low high None es past sorted = absurd (false≢true (sym past))
+rows_behind low high (Some key) es past sorted = by_list (above (Some key) es) refl
   where
-    by_list : (rest : Entries) → above at es ≡ rest → first_of rest ≡ Some e → (rows_of low high (above at es) ≡ []) × (rows_of low high (above (Some e.0) es) ≡ [])
-    by_list [] left_is none = absurd (cc)
-    by_list (x ∷ more) left_is some =
-        let same : x ≡ e = cc in
-        let here : above at es ≡ e ∷ more = left_is ∙ ap (λ (y : Key × Rec). y ∷ more) same in
-        let rising : AreSorted (e ∷ more) = subst AreSorted here (sorted_above at es sorted) in
-        let all : rows_of low high (e ∷ more) ≡ [] = rows_past low high e more rising past in (
-          ap (rows_of low high) here ∙ all,
-          ap (rows_of low high) (taken at es more e sorted here).0 ∙ ap (λ (l : List Row). l ++ rows_of low high more) (sym (past_none low high e past))
-              ∙ sym (rows_cons low high e more rising) ∙ all,
-        )
+    by_list : (rest : Entries) → above (Some key) es ≡ rest → rows_of low high rest ≡ []
+    by_list [] left_is = refl
+    by_list (e ∷ more) left_is =
+        rows_past low high e more (subst AreSorted left_is (sorted_above (Some key) es sorted))
+        (still_past high key e.0 past (less _ (test _ (first_above (Some key) es more e left_is))))
 
 -- ---- all rows, and the first n
 
@@ -255,3 +250,35 @@ given_more n low high old at key rec rows key_above short given = by (one_of low
 pub given_none : (n : ℕ) (low high : Key) (at : Option Key) → AreGiven n low high at at []
 unfolding IsStrictlySortedBy
 given_none n low high at = record { few = omega arith; inside = tt; rise = tt; above_old = tt; up_to_new = tt; onward = λ q q_above. q_above }
+
+-- ---- rows that were given before
+
+-- rows that were given before, up to a place, and those that are given from there: all of them rise
+pub rise_on : (place : Option Key) (before rows : List Row) → IsStrictlySortedBy key_cmp (map (λ r. r.key) before) → AllByRecursion (λ r. is_above place r.key ≡ false) before
+    → IsStrictlySortedBy key_cmp (map (λ r. r.key) rows) → AllByRecursion (λ r. is_above place r.key ≡ true) rows → IsStrictlySortedBy key_cmp (map (λ r. r.key) (before ++ rows))
+unfolding IsStrictlySortedBy
+rise_on place [] rows rise up_to rows_rise rows_above = rows_rise
+rise_on place (x ∷ before) rows rise up_to rows_rise rows_above = (all_below before rise.0, rise_on place before rows rise.1 up_to.1 rows_rise rows_above)
+  where
+    below_rows : (rs : List Row) → AllByRecursion (λ r. is_above place r.key ≡ true) rs → AllByRecursion (λ k. key_cmp x.key k ≡ Less) (map (λ r. r.key) rs)
+    below_rows [] all = tt
+    below_rows (r ∷ rs) all = (below_above place x.key r.key up_to.0 all.0, below_rows rs all.1)
+
+    all_below : (rs : List Row) → AllByRecursion (λ k. key_cmp x.key k ≡ Less) (map (λ r. r.key) rs) → AllByRecursion (λ k. key_cmp x.key k ≡ Less) (map (λ r. r.key) (rs ++ rows))
+    all_below [] all = below_rows rows rows_above
+    all_below (r ∷ rs) all = (all.0, all_below rs all.1)
+
+-- and all are up to the new place
+pub up_to_on : (old new : Option Key) (before rows : List Row) → ((key : Key) → is_above new key ≡ true → is_above old key ≡ true) → AllByRecursion (λ r. is_above old r.key ≡ false) before
+    → AllByRecursion (λ r. is_above new r.key ≡ false) rows → AllByRecursion (λ r. is_above new r.key ≡ false) (before ++ rows)
+up_to_on old new [] rows onward up_to rows_up_to = rows_up_to
+up_to_on old new (x ∷ before) rows onward up_to rows_up_to = (by (is_above new x.key) refl, up_to_on old new before rows onward up_to.1 rows_up_to)
+  where
+    by : (b : Bool) → is_above new x.key ≡ b → is_above new x.key ≡ false
+    by true is = absurd (false≢true (sym up_to.0 ∙ onward x.key is))
+    by false is = is
+
+-- before any row
+pub none_rise : IsStrictlySortedBy key_cmp (map (λ (r : Row). r.key) [])
+unfolding IsStrictlySortedBy
+none_rise = tt

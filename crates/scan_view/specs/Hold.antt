@@ -1,5 +1,5 @@
 -- What contracts see of a hold, which is a snapshot of a range, and the rows that it has still to give.
-use Rattle.std.specs.Prelude.{◌≡◌, ◌⊎◌, ◌++◌, ℕ, ◌≤◌, true, false, List, Option, None, length, map, filter}
+use Rattle.std.specs.Prelude.{◌≡◌, ◌++◌, ℕ, ◌≤◌, true, false, List, Option, None, length, map, filter}
 use Rattle.std.specs.List.{AllByRecursion}
 use Rattle.std.specs.List.Sorted.{IsStrictlySortedBy}
 use Rattle.blsm_model.specs.declared.component.Component.{Component}
@@ -10,8 +10,6 @@ use Rattle.blsm_model.specs.Keys.{key_cmp, in_range}
 use Rattle.blsm_model.specs.Sizes.{Sizes}
 use Rattle.record_delta.specs.Entries.{Entries, AreSorted, folded_over, is_above, above}
 use Rattle.page_file.specs.Component.{numbers_of, HasList}
-use Rattle.run_cursor.specs.Cursor.{CursorState, IsDamageAt}
-use Rattle.run_cursor.specs.Given.{HasGiven}
 use Rattle.tree_machine.specs.Lists.{settled_pairs}
 
 -- The range, which has low and hasn't high; the records that the memory table had of it; the components of that moment; and the place:
@@ -82,17 +80,3 @@ pub record AreGiven (n : ℕ) (low high : Key) (old new : Option Key) (rows : Li
   pub up_to_new : AllByRecursion (λ r. is_above new r.key ≡ false) rows
   -- what is above the new place was above the old one
   pub onward : (key : Key) → is_above new key ≡ true → is_above old key ≡ true
-
--- ---- what is damaged
-
--- In this file the component begins with some entries, and the page of this number, which is to come behind them, isn't a valid one or
--- doesn't go on.
-pub record IsDamageIn (sizes : Sizes) (run : Component) (n : ℕ) (file : List ℕ) : Type 0 where
-  pub cursor : CursorState
-  pub given : Entries
-  pub begins : HasGiven sizes run cursor given file
-  pub damage : IsDamageAt sizes cursor n file
-
--- one of the three components is damaged at this page
-abbrev pub IsDamageOf : Sizes → (c1 c1x c2 : Component) → ℕ → List ℕ → Type 0
-IsDamageOf sizes c1 c1x c2 n file = IsDamageIn sizes c1 n file ⊎ (IsDamageIn sizes c1x n file ⊎ IsDamageIn sizes c2 n file)

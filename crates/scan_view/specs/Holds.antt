@@ -1,8 +1,9 @@
 -- The holds of all callers: for each seat its hold, if it has one.
-use Rattle.std.specs.Prelude.{ℕ, ◌+◌, List, Option, Some, None, slice_index_or}
+use Rattle.std.specs.Prelude.{◌≡◌, ℕ, ◌+◌, List, Option, Some, None, slice_index_or}
 use Rattle.blsm_model.specs.declared.row.Row.{Row}
 use Rattle.blsm_model.specs.Sizes.{Sizes}
-use Rattle.scan_view.specs.Hold.{HoldState, AreGiven, IsDamageOf}
+use Rattle.scan_view.specs.Hold.{HoldState, AreGiven}
+use Rattle.scan_view.specs.Told.{AreTold, IsNeeded}
 
 abbrev pub hold_of : ℕ → List (Option HoldState) → Option HoldState
 hold_of seat holds = slice_index_or holds seat None
@@ -12,12 +13,18 @@ abbrev pub pages_behind : Option HoldState → ℕ
 pages_behind None = 0
 pages_behind (Some hold) = hold.c1.pages + hold.c1x.pages + hold.c2.pages
 
--- on any disk: so many rows at most, of keys in the hold's range, which rise from above its old place on, up to its new one at most
+-- on any disk: so many rows at most, of keys in the hold's range, which rise from above its old place on, up to its new one at most; and the place
+-- alone has moved
 abbrev pub AreGivenBy : ℕ → Option HoldState → Option HoldState → List Row → Type 0
-AreGivenBy n (Some old) (Some new) rows = AreGiven n old.low old.high old.place new.place rows
+AreGivenBy n (Some old) (Some new) rows = AreGiven n old.low old.high old.place new.place rows × (new ≡ record old { place = new.place })
 AreGivenBy n old new rows = ⊥
 
--- one of its components is damaged at this page
-abbrev pub IsDamageBehind : Sizes → Option HoldState → ℕ → List ℕ → Type 0
-IsDamageBehind sizes None k file = ⊥
-IsDamageBehind sizes (Some hold) k file = IsDamageOf sizes hold.c1 hold.c1x hold.c2 k file
+-- in this file the pages of the hold's components say so
+abbrev pub AreToldBehind : Sizes → ℕ → Option HoldState → Option HoldState → List Row → List ℕ → Type 0
+AreToldBehind sizes n (Some old) (Some new) rows file = AreTold sizes n old new.place rows file
+AreToldBehind sizes n old new rows file = ⊥
+
+-- its next row can't be told without this page, which is damaged
+abbrev pub IsDamageBehind : Sizes → ℕ → Option HoldState → ℕ → List ℕ → Type 0
+IsDamageBehind sizes n None k file = ⊥
+IsDamageBehind sizes n (Some hold) k file = IsNeeded sizes n hold k file

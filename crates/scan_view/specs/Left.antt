@@ -1,5 +1,5 @@
--- What a cursor has left of a list above a key.
-use Rattle.std.specs.Prelude.{◌≡◌, ◌⊎◌, ℕ, ◌+◌, true, List, Option, Some, None, IfSome, IsTrue, if◌then◌else◌}
+-- What a cursor has left of a list above a key, and what it has given up to it.
+use Rattle.std.specs.Prelude.{◌≡◌, ◌⊎◌, ℕ, ◌+◌, true, List, [], Option, Some, None, IfSome, IsTrue, if◌then◌else◌}
 use Rattle.blsm_model.specs.declared.component.Component.{Component}
 use Rattle.blsm_model.specs.declared.key.Key.{Key}
 use Rattle.blsm_model.specs.Sizes.{Sizes}
@@ -9,6 +9,7 @@ use Rattle.record_delta.specs.Entries.{Entries, is_above, above}
 use Rattle.run_cursor.specs.Cursor.{CursorState, from_head, HasAhead}
 use Rattle.run_cursor.specs.Given.{HasGiven}
 use Rattle.merge_ends.specs.Input.{key_of, head_above}
+use Rattle.scan_view.specs.Told.{IsFront}
 
 -- an honest disk that reads as this file
 pub record IsFile (file : List ℕ) (d : DiskState) : Type 0 where
@@ -30,9 +31,16 @@ pub record HasLeft (sizes : Sizes) (at : Option Key) (cursor : CursorState) (ent
   pub ahead : HasAhead sizes cursor rest file
   pub left_is : above at (from_head cursor.head rest) ≡ above at entries
 
--- in this file a cursor has given the entries that its component begins with
-abbrev pub HasBegun : Sizes → Component → CursorState → List ℕ → Type 0
-HasBegun sizes run cursor file = (given : Entries) × HasGiven sizes run cursor given file
+-- In this file a cursor has given these entries, with which its component begins. Of them its head alone may be above the key.
+pub record HasRead (sizes : Sizes) (run : Component) (at : Option Key) (cursor : CursorState) (given : Entries) (file : List ℕ) : Type 0 where
+  pub begins : HasGiven sizes run cursor given file
+  pub passed : above at given ≡ above at (from_head cursor.head [])
+
+-- and it has gone on from these, behind which no list can come any more that couldn't before
+pub record HasReadOn (sizes : Sizes) (run : Component) (at : Option Key) (cursor : CursorState) (before : Entries) (file : List ℕ) : Type 0 where
+  pub now : Entries
+  pub read : HasRead sizes run at cursor now file
+  pub onward : (all : Entries) → IsFront run now all → IsFront run before all
 
 -- how many entries a cursor has left above a key, by its component's number
 abbrev pub count_left : Option Key → CursorState → ℕ

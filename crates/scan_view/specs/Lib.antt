@@ -3,3 +3,4 @@ pub mod Holds
 pub mod Left
 pub mod Pins
 pub mod Scan
+pub mod Told

@@ -5,7 +5,8 @@ use Rattle.blsm_model.specs.declared.key.Key.{Key}
 use Rattle.blsm_model.specs.Sizes.{Sizes}
 use Rattle.record_delta.specs.Entries.{Entries, AreSorted, above, first_of}
 use Rattle.scan_view.specs.declared.scan.Scan.{Scan}
-use Rattle.scan_view.specs.Left.{IsAheadOf, HasLeft, HasBegun, count_left}
+use Rattle.scan_view.specs.Left.{IsAheadOf, HasLeft, HasRead, count_left}
+use Rattle.scan_view.specs.Told.{Contents, AreFronts}
 
 -- In this file each cursor has left what its list has above the key that was passed last.
 pub record IsScan (sizes : Sizes) (scan : Scan) (xs ys zs : Entries) (file : List ℕ) : Type 0 where
@@ -28,11 +29,17 @@ pub record AreAhead (scan : Scan) : Type 0 where
   pub c1x : IsAheadOf scan.at scan.c1x.head
   pub c2 : IsAheadOf scan.at scan.c2.head
 
--- in this file each cursor has given what its component begins with
-pub record HaveBegun (sizes : Sizes) (run run_x run_2 : Component) (scan : Scan) (file : List ℕ) : Type 0 where
-  pub c1 : HasBegun sizes run scan.c1 file
-  pub c1x : HasBegun sizes run_x scan.c1x file
-  pub c2 : HasBegun sizes run_2 scan.c2 file
+-- in this file each cursor has given so much of its component, its head alone above the key
+pub record HaveRead (sizes : Sizes) (run run_x run_2 : Component) (scan : Scan) (read : Contents) (file : List ℕ) : Type 0 where
+  pub c1 : HasRead sizes run scan.at scan.c1 read.c1 file
+  pub c1x : HasRead sizes run_x scan.at scan.c1x read.c1x file
+  pub c2 : HasRead sizes run_2 scan.at scan.c2 read.c2 file
+
+-- and has gone on from so much
+pub record HaveReadOn (sizes : Sizes) (run run_x run_2 : Component) (scan : Scan) (before : Contents) (file : List ℕ) : Type 0 where
+  pub now : Contents
+  pub read : HaveRead sizes run run_x run_2 scan now file
+  pub onward : (all : Contents) → AreFronts run run_x run_2 now all → AreFronts run run_x run_2 before all
 
 -- how many pages aren't read yet
 abbrev pub pages_left : Scan → ℕ

@@ -6,9 +6,10 @@ ghost use Rattle.blsm_model.specs.Geometry.{file_length};
 ghost use Rattle.blsm_model.specs.Keys.{in_range as in_range_of};
 ghost use Rattle.record_delta.specs.Entries.{Entries, AreSorted, above};
 ghost use Rattle.page_file.specs.File.{Reads};
-ghost use Rattle.scan_view.specs.Hold.{AreGiven, IsDamageOf, rows_of, view_of};
+ghost use Rattle.scan_view.specs.Hold.{AreGiven, rows_of, view_of};
 ghost use Rattle.scan_view.specs.Left.{IsFile};
-ghost use Rattle.scan_view.specs.Scan.{IsScan, HaveBegun, pages_left};
+ghost use Rattle.scan_view.specs.Scan.{IsScan, HaveRead, pages_left};
+ghost use Rattle.scan_view.specs.Told.{Contents, AreTold, IsNeeded, is_before as is_before_end};
 
 use crate::RowRoom;
 use crate::scan::Scan;
@@ -22,6 +23,16 @@ pub fn is_in_range(low: &Key, high: &Key, key: &Key) -> bool
     ensures { result ≡ in_range_of low.now high.now key.now }
 {
     !(key < low) && key < high
+}
+
+// Whether a key that comes after this one can be below the range's end.
+fn is_before(at: &Option<Key>, high: &Key) -> bool
+    ensures { result ≡ is_before_end high.now at.now }
+{
+    match at {
+        None => true,
+        Some(key) => key < high,
+    }
 }
 
 // Puts an entry's row behind the others, where its key is in the range and has a value.
@@ -58,18 +69,19 @@ pub fn gather<D: Disk>(
         → (result ≡ Ok tt) × (rows.new ≡ take n (rows_of low.now high.now (above scan.old.at (view_of memory.now xs ys zs))))
         × (rows_of low.now high.now (above scan.new.at (view_of memory.now xs ys zs)) ≡ drop n (rows_of low.now high.now (above scan.old.at (view_of memory.now xs ys zs)))) }
     ensures given { OnOk result (AreGiven n low.now high.now scan.old.at scan.new.at rows.new) }
-    ensures damaged { (k : ℕ) (file : List ℕ) (c1 c1x c2 : Component) → result ≡ Err (Broken.Damaged k) → IsFile file (D.state disk.old)
-        → HaveBegun geo.now c1 c1x c2 scan.old file → IsDamageOf geo.now c1 c1x c2 k file }
+    // Whatever the components read as, so it is by what was read of them; and a page is named as damaged only where the next row can't be told without it.
+    ensures told { (file : List ℕ) (c1 c1x c2 : Component) (read : Contents) → IsFile file (D.state disk.old) → HaveRead geo.now c1 c1x c2 scan.old read file
+        → OnOk result (AreTold geo.now n (record { low = low.now; high = high.now; memory = memory.now; c1 = c1; c1x = c1x; c2 = c2; place = scan.old.at }) scan.new.at rows.new file) }
+    ensures damaged { (k : ℕ) (file : List ℕ) (c1 c1x c2 : Component) (read : Contents) → result ≡ Err (Broken.Damaged k) → IsFile file (D.state disk.old)
+        → HaveRead geo.now c1 c1x c2 scan.old read file
+        → IsNeeded geo.now n (record { low = low.now; high = high.now; memory = memory.now; c1 = c1; c1x = c1x; c2 = c2; place = scan.old.at }) k file }
     ensures reads { Reads (file_length geo.now) (pages_left scan.old) result (D.state disk.old) (D.state disk.new) }
 {
     rows.clear();
-    while rows.len() < n {
+    while rows.len() < n && is_before(&scan.at, high) {
         let Some((key, rec)) = scan.next(memory, disk, geo)? else {
             return Ok(());
         };
-        if !(key < *high) {
-            return Ok(());
-        }
         put_row(rows, low, high, key, rec);
     }
     Ok(())

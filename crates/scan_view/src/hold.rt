@@ -8,8 +8,9 @@ ghost use Rattle.record_delta.specs.Entries.{Entries};
 ghost use Rattle.page_file.specs.Component.{HasList, numbers_of};
 ghost use Rattle.page_file.specs.File.{Reads};
 ghost use Rattle.tree_machine.specs.Lists.{rows_in};
-ghost use Rattle.scan_view.specs.Hold.{held_from, IsEmptyOrPaged, HasRows, AreGiven, IsDamageOf, pages_held};
+ghost use Rattle.scan_view.specs.Hold.{held_from, IsEmptyOrPaged, HasRows, AreGiven, pages_held};
 ghost use Rattle.scan_view.specs.Pins.{Pins};
+ghost use Rattle.scan_view.specs.Told.{AreTold, IsNeeded};
 
 use crate::RowRoom;
 use crate::copy::{copy_of, copy_range};
@@ -97,8 +98,8 @@ impl Hold {
     /// their first pages on, with one call of the disk for each page at most, which reads, and takes no memory. After an `Err` the place stays,
     /// and the room may have any rows.
     ///
-    /// `Damaged` names a page of a component that isn't valid or doesn't go on; it never comes where the components read as lists.
-    /// `Fault` comes only where the disk's count of faults rose.
+    /// `Damaged` names a page of a component that isn't valid or doesn't go on, and without which the next row can't be told; it never comes
+    /// where the components read as lists. `Fault` comes only where the disk's count of faults rose.
     pub fn next_rows<D: Disk>(
         &mut self,
         disk: &mut D,
@@ -113,8 +114,11 @@ impl Hold {
             → result ≢ Err Broken.Fault
             → (result ≡ Ok tt) × (room.new ≡ take n rows) × (now : HasRows geo.now self.new (drop n rows) (D.state disk.new).bytes) × (pages_held now ≡ pages_held before) }
         ensures given { OnOk result (AreGiven n self.old.low self.old.high self.old.place self.new.place room.new) }
+        // Whatever the components read as, so it is by what was read of them; and a page is named as damaged only where the next row can't be told
+        // without it.
+        ensures told { IsTrue (D.state disk.old).is_honest → OnOk result (AreTold geo.now n self.old self.new.place room.new (D.state disk.old).bytes) }
         ensures damaged { (k : ℕ) → result ≡ Err (Broken.Damaged k) → IsTrue (D.state disk.old).is_honest
-            → IsDamageOf geo.now self.old.c1 self.old.c1x self.old.c2 k (D.state disk.old).bytes }
+            → IsNeeded geo.now n self.old k (D.state disk.old).bytes }
         ensures moves { self.new ≡ record self.old { place = self.new.place } }
         ensures kept { IsErr result → self.new ≡ self.old }
         ensures reads { Reads (file_length geo.now) (self.old.c1.pages + self.old.c1x.pages + self.old.c2.pages) result (D.state disk.old) (D.state disk.new) }

@@ -5,7 +5,7 @@ ghost use Rattle.blsm_model.specs.Format.{callers, most_rows};
 ghost use Rattle.blsm_model.specs.Geometry.{file_length};
 ghost use Rattle.page_space.specs.PageSet.{Members};
 ghost use Rattle.page_file.specs.File.{Reads};
-ghost use Rattle.scan_view.specs.Holds.{hold_of, pages_behind, AreGivenBy, IsDamageBehind};
+ghost use Rattle.scan_view.specs.Holds.{hold_of, pages_behind, AreGivenBy, AreToldBehind, IsDamageBehind};
 ghost use Rattle.scan_view.specs.Pins.{HasHeld};
 
 use crate::{Hold, RowRoom};
@@ -88,7 +88,8 @@ impl Holds {
         ensures rows { (pins : List Members) (rows : List Row) → IsTrue (D.state disk.old).is_honest → HasHeld geo.now pins seat (hold_of seat self.old) (Some rows) (D.state disk.old).bytes
             → result ≢ Err Broken.Fault → (result ≡ Ok tt) × (room.new ≡ take n rows) × HasHeld geo.now pins seat (hold_of seat self.new) (Some (drop n rows)) (D.state disk.new).bytes }
         ensures given { OnOk result (AreGivenBy n (hold_of seat self.old) (hold_of seat self.new) room.new) }
-        ensures damaged { (k : ℕ) → result ≡ Err (Broken.Damaged k) → IsTrue (D.state disk.old).is_honest → IsDamageBehind geo.now (hold_of seat self.old) k (D.state disk.old).bytes }
+        ensures told { IsTrue (D.state disk.old).is_honest → OnOk result (AreToldBehind geo.now n (hold_of seat self.old) (hold_of seat self.new) room.new (D.state disk.old).bytes) }
+        ensures damaged { (k : ℕ) → result ≡ Err (Broken.Damaged k) → IsTrue (D.state disk.old).is_honest → IsDamageBehind geo.now n (hold_of seat self.old) k (D.state disk.old).bytes }
         ensures others { (other : ℕ) → other ≢ seat → hold_of other self.new ≡ hold_of other self.old }
         ensures still { IsTrue (is_some (hold_of seat self.new)) }
         ensures pages { pages_behind (hold_of seat self.new) ≡ pages_behind (hold_of seat self.old) }

@@ -16,5 +16,5 @@ mod seek;
 
 pub use hold::Hold;
 pub use holds::Holds;
-pub use laws::{pins_stay, rows_stay};
+pub use laws::{pins_stay, rows_stay, what_is_read};
 pub use row_room::RowRoom;

@@ -1,14 +1,15 @@
 //! A walk over the records in memory and over three components, folded, in key order.
-ghost use Rattle.std.specs.Prelude.{◌≡◌, ◌≢◌, ◌+◌, ◌<◌, ◌≤◌, ℕ, List, Ok, Err, length, IsTrue, OnOk, IfOk, IfSome};
+ghost use Rattle.std.specs.Prelude.{◌≡◌, ◌≢◌, ◌+◌, ◌<◌, ◌≤◌, [], ℕ, List, Ok, Err, length, IsTrue, OnOk, IfOk, IfSome};
 ghost use Rattle.blsm_model.specs.declared.component.Component.{Component};
 ghost use Rattle.blsm_model.specs.Geometry.{file_length};
 ghost use Rattle.blsm_model.specs.Sizes.{Sizes};
 ghost use Rattle.record_delta.specs.Entries.{Entries, AreSorted, above, first_of};
 ghost use Rattle.page_file.specs.Component.{HasList};
 ghost use Rattle.page_file.specs.File.{Reads};
-ghost use Rattle.scan_view.specs.Hold.{IsDamageOf, IsEmptyOrPaged, view_of};
+ghost use Rattle.scan_view.specs.Hold.{IsEmptyOrPaged, view_of};
 ghost use Rattle.scan_view.specs.Left.{IsFile, IsAheadOf, key_or};
-ghost use Rattle.scan_view.specs.Scan.{IsScan, IsAtHeads, AreAhead, HaveBegun, pages_left, components_left, all_left};
+ghost use Rattle.scan_view.specs.Scan.{IsScan, IsAtHeads, AreAhead, HaveRead, HaveReadOn, pages_left, components_left, all_left};
+ghost use Rattle.scan_view.specs.Told.{Contents, AreFronts, IsDamageOf};
 
 use crate::least::least;
 use crate::records::first_above;
@@ -37,7 +38,7 @@ impl Scan {
         ensures at { result.at ≡ at }
         ensures list { (sizes : Sizes) (xs ys zs : Entries) (file : List ℕ) → HasList sizes c1.now xs file → HasList sizes c1x.now ys file → HasList sizes c2.now zs file
             → IsScan sizes result xs ys zs file }
-        ensures begun { (sizes : Sizes) (file : List ℕ) → HaveBegun sizes c1.now c1x.now c2.now result file }
+        ensures read { (sizes : Sizes) (file : List ℕ) → HaveRead sizes c1.now c1x.now c2.now result (record { c1 = []; c1x = []; c2 = [] }) file }
         ensures pages { pages_left result ≡ c1.now.pages + c1x.now.pages + c2.now.pages }
     {
         Scan {
@@ -54,10 +55,11 @@ impl Scan {
         ensures list { (file : List ℕ) (xs ys zs : Entries) → IsFile file (D.state disk.old) → IsScan geo.now self.old xs ys zs file
             → result ≢ Err Broken.Fault
             → (result ≡ Ok tt) × IsScan geo.now self.new xs ys zs file × IsAtHeads self.new xs ys zs }
-        ensures begun { (file : List ℕ) (c1 c1x c2 : Component) → IsFile file (D.state disk.old) → HaveBegun geo.now c1 c1x c2 self.old file
-            → OnOk result (HaveBegun geo.now c1 c1x c2 self.new file) }
-        ensures damaged { (n : ℕ) (file : List ℕ) (c1 c1x c2 : Component) → result ≡ Err (Broken.Damaged n) → IsFile file (D.state disk.old)
-            → HaveBegun geo.now c1 c1x c2 self.old file → IsDamageOf geo.now c1 c1x c2 n file }
+        ensures read { (file : List ℕ) (c1 c1x c2 : Component) (read : Contents) → IsFile file (D.state disk.old) → HaveRead geo.now c1 c1x c2 self.old read file
+            → OnOk result ((on : HaveReadOn geo.now c1 c1x c2 self.new read file)
+            × ((all : Contents) → AreFronts c1 c1x c2 on.now all → IsAtHeads self.new all.c1 all.c1x all.c2)) }
+        ensures damaged { (k : ℕ) (file : List ℕ) (c1 c1x c2 : Component) (read : Contents) → result ≡ Err (Broken.Damaged k) → IsFile file (D.state disk.old)
+            → HaveRead geo.now c1 c1x c2 self.old read file → IsDamageOf geo.now c1 c1x c2 self.old.at k file }
         ensures at { self.new.at ≡ self.old.at }
         ensures ahead { OnOk result (AreAhead self.new) }
         ensures falls { OnOk result (components_left self.new.at self.new ≤ components_left self.old.at self.old) }
@@ -95,10 +97,11 @@ impl Scan {
         ensures list { (file : List ℕ) (xs ys zs : Entries) → IsFile file (D.state disk.old) → IsScan geo.now self.old xs ys zs file
             → result ≢ Err Broken.Fault
             → (result ≡ Ok (first_of (above self.old.at (view_of memory.now xs ys zs)))) × IsScan geo.now self.new xs ys zs file }
-        ensures begun { (file : List ℕ) (c1 c1x c2 : Component) → IsFile file (D.state disk.old) → HaveBegun geo.now c1 c1x c2 self.old file
-            → OnOk result (HaveBegun geo.now c1 c1x c2 self.new file) }
-        ensures damaged { (n : ℕ) (file : List ℕ) (c1 c1x c2 : Component) → result ≡ Err (Broken.Damaged n) → IsFile file (D.state disk.old)
-            → HaveBegun geo.now c1 c1x c2 self.old file → IsDamageOf geo.now c1 c1x c2 n file }
+        ensures read { (file : List ℕ) (c1 c1x c2 : Component) (read : Contents) → IsFile file (D.state disk.old) → HaveRead geo.now c1 c1x c2 self.old read file
+            → IfOk result (λ found. (on : HaveReadOn geo.now c1 c1x c2 self.new read file)
+            × ((all : Contents) → AreFronts c1 c1x c2 on.now all → found ≡ first_of (above self.old.at (view_of memory.now all.c1 all.c1x all.c2)))) }
+        ensures damaged { (k : ℕ) (file : List ℕ) (c1 c1x c2 : Component) (read : Contents) → result ≡ Err (Broken.Damaged k) → IsFile file (D.state disk.old)
+            → HaveRead geo.now c1 c1x c2 self.old read file → IsDamageOf geo.now c1 c1x c2 self.old.at k file }
         ensures passed { IfOk result (λ found. self.new.at ≡ key_or found self.old.at) }
         ensures ahead { IfOk result (IsAheadOf self.old.at) }
         ensures falls { IfOk result (λ found. IfSome found (λ _. all_left memory.now self.new < all_left memory.now self.old)) }

@@ -4,9 +4,9 @@ ghost use Rattle.blsm_model.specs.declared.component.Component.{Component};
 ghost use Rattle.blsm_model.specs.Geometry.{file_length};
 ghost use Rattle.record_delta.specs.Entries.{Entries, above, first_of};
 ghost use Rattle.page_file.specs.File.{Reads};
-ghost use Rattle.scan_view.specs.Hold.{IsDamageIn};
 ghost use Rattle.merge_ends.specs.Input.{head_above};
-ghost use Rattle.scan_view.specs.Left.{IsFile, IsAheadOf, HasLeft, HasBegun, count_left};
+ghost use Rattle.scan_view.specs.Left.{IsFile, IsAheadOf, HasLeft, HasRead, HasReadOn, count_left};
+ghost use Rattle.scan_view.specs.Told.{IsFront, IsDamageIn};
 
 use blsm_model::{Geometry, Key};
 use disk_trait::Disk;
@@ -37,10 +37,12 @@ pub fn seek<D: Disk>(
     ensures list { (file : List ℕ) (entries : Entries) → IsFile file (D.state disk.old) → HasLeft geo.now at.now cursor.old entries file
         → result ≢ Err Broken.Fault
         → (result ≡ Ok tt) × HasLeft geo.now at.now cursor.new entries file × (cursor.new.head ≡ first_of (above at.now entries)) }
-    ensures begun { (file : List ℕ) (run : Component) → IsFile file (D.state disk.old) → HasBegun geo.now run cursor.old file
-        → OnOk result (HasBegun geo.now run cursor.new file) }
-    ensures damaged { (n : ℕ) (file : List ℕ) (run : Component) → result ≡ Err (Broken.Damaged n) → IsFile file (D.state disk.old)
-        → HasBegun geo.now run cursor.old file → IsDamageIn geo.now run n file }
+    // Whatever its component reads as, it comes to the first entry above the key of each list that may come of what was read.
+    ensures read { (file : List ℕ) (run : Component) (given : Entries) → IsFile file (D.state disk.old) → HasRead geo.now run at.now cursor.old given file
+        → OnOk result ((on : HasReadOn geo.now run at.now cursor.new given file)
+        × ((all : Entries) → IsFront run on.now all → cursor.new.head ≡ first_of (above at.now all))) }
+    ensures damaged { (k : ℕ) (file : List ℕ) (run : Component) (given : Entries) → result ≡ Err (Broken.Damaged k) → IsFile file (D.state disk.old)
+        → HasRead geo.now run at.now cursor.old given file → IsDamageIn geo.now run at.now k file }
     ensures ahead { OnOk result (IsAheadOf at.now cursor.new.head) }
     ensures falls { OnOk result (count_left at.now cursor.new ≤ count_left at.now cursor.old) }
     ensures one_a_page { OnOk result ((D.state disk.new).clock + cursor.new.pages ≤ (D.state disk.old).clock + cursor.old.pages) }

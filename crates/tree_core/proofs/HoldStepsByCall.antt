@@ -68,7 +68,7 @@ none_by_drop release.NoHold = omega arith
 none_by_drop (release.Stopped why) = omega arith
 
 few_given : (n : ℕ) (old new : Option HoldState) (rows : List Row) → AreGivenBy n old new rows → length rows ≤ n
-few_given n (Some old) (Some new) rows given = given.few
+few_given n (Some old) (Some new) rows given = given.0.few
 few_given n None new rows given = absurd given
 few_given n (Some old) None rows given = absurd given
 
@@ -198,9 +198,9 @@ was_held : (n : ℕ) (old new : Option HoldState) (rows : List Row) → AreGiven
 was_held n (Some old) new rows given = refl
 was_held n None new rows given = absurd given
 
-was_damaged : (sizes : Sizes) (old : Option HoldState) (page : ℕ) (file : List ℕ) → IsDamageBehind sizes old page file → IsTrue (is_some old)
-was_damaged sizes (Some old) page file damage = refl
-was_damaged sizes None page file damage = absurd damage
+was_damaged : (sizes : Sizes) (n : ℕ) (old : Option HoldState) (page : ℕ) (file : List ℕ) → IsDamageBehind sizes n old page file → IsTrue (is_some old)
+was_damaged sizes n (Some old) page file damage = refl
+was_damaged sizes n None page file damage = absurd damage
 
 given_is_none_other : (rows : RowList) → scanned.Rows rows ≢ scanned.Fault
 given_is_none_other rows same = cc same
@@ -272,6 +272,6 @@ next_steps state opening seat n answer old after disk m pace reads honest below 
           refl,
         ) refl
     by (scanned.Damaged page) because counted gives =
-        let come = to_come (was_damaged old.held.runs.sizes (hold_of seat old.holds) page d.bytes (because.3 honest)) because.0 in
+        let come = to_come (was_damaged old.held.runs.sizes n (hold_of seat old.holds) page d.bytes (because.3 honest)) because.0 in
         absurd (damage_gives_none page (take n come.0) (gives come.0 honest because.0 (has come.0 come.1 because.0) (damage_is_none_other page)).0)
     by (scanned.Stopped why) because counted gives = kept (reply.Stopped why) Well because.1 (by_stop Well (Some why) because.0) tt refl

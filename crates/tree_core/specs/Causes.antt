@@ -15,7 +15,7 @@ use Rattle.record_delta.specs.Records.{settled}
 use Rattle.page_space.specs.PageSet.{none_of}
 use Rattle.page_space.specs.Space.{pins_of}
 use Rattle.scan_view.specs.Hold.{held_from}
-use Rattle.scan_view.specs.Holds.{hold_of, AreGivenBy, IsDamageBehind}
+use Rattle.scan_view.specs.Holds.{hold_of, AreGivenBy, AreToldBehind, IsDamageBehind}
 use Rattle.gear_sched.specs.declared.Plan.{Plan}
 use Rattle.gear_sched.specs.declared.Plan.TheVariants.{Snow, Deep, Nothing}
 use Rattle.pacing.specs.Steps.{Move, TakeDeep, TakeSnow, Idle}
@@ -191,15 +191,18 @@ ScansNone scanned.NoHold = ⊤
 ScansNone (scanned.Stopped why) = ⊤
 ScansNone _ = ⊥
 
--- What reading on in a hold is due to, on every disk. Where no rows are given the hold stays as it is.
+-- What reading on in a hold is due to, on every disk. Where no rows are given the hold stays as it is. On an honest disk, whatever the components read
+-- as, the rows are what the pages say that were read, and a page is named as damaged only where the next row can't be told without it.
 abbrev pub ScansBecause : {D : Type 0} → Scanned → ℕ → ℕ → CoreState D → CoreState D → DiskState → DiskState → Type 0
-ScansBecause (scanned.Rows rows) seat n old new before after = (old.held.book.stopped ≡ None) × (after.faults ≡ before.faults) × AreGivenBy n (hold_of seat old.holds) (hold_of seat new.holds) rows
+ScansBecause (scanned.Rows rows) seat n old new before after =
+    (old.held.book.stopped ≡ None) × (after.faults ≡ before.faults) × AreGivenBy n (hold_of seat old.holds) (hold_of seat new.holds) rows
+    × (IsTrue before.is_honest → AreToldBehind old.held.runs.sizes n (hold_of seat old.holds) (hold_of seat new.holds) rows before.bytes)
 ScansBecause scanned.NoHold seat n old new before after = (old.held.book.stopped ≡ None) × (hold_of seat old.holds ≡ None) × (new.holds ≡ old.holds)
 ScansBecause scanned.Fault seat n old new before after =
     (old.held.book.stopped ≡ None) × IsTrue (is_some (hold_of seat old.holds)) × (new.holds ≡ old.holds) × HasRisen before.faults after.faults
 ScansBecause (scanned.Damaged page) seat n old new before after =
     (old.held.book.stopped ≡ None) × (new.holds ≡ old.holds) × (after.faults ≡ before.faults)
-    × (IsTrue before.is_honest → IsDamageBehind old.held.runs.sizes (hold_of seat old.holds) page before.bytes)
+    × (IsTrue before.is_honest → IsDamageBehind old.held.runs.sizes n (hold_of seat old.holds) page before.bytes)
     × IsTrue (is_some (hold_of seat old.holds))
 ScansBecause (scanned.Stopped why) seat n old new before after = (old.held.book.stopped ≡ Some why) × (new.holds ≡ old.holds) × (after.faults ≡ before.faults)
 

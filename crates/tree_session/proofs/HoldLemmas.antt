@@ -115,7 +115,7 @@ scan_names (scanned.Damaged page) seat n old new before after because same = tt
 scan_names (scanned.Stopped why) seat n old new before after because same = same ∙ because.0
 
 given_few : (n : ℕ) (old new : Option HoldState) (rows : List Row) → AreGivenBy n old new rows → length rows ≤ n
-given_few n (Some old) (Some new) rows given = given.few
+given_few n (Some old) (Some new) rows given = given.0.few
 given_few n (Some old) None rows given = absurd given
 given_few n None new rows given = absurd given
 

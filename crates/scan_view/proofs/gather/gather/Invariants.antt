@@ -5,7 +5,8 @@ use Rattle.disk_trait.specs.Reads.{OnlyReads}
 use Rattle.record_delta.specs.Entries.{Entries, above}
 use Rattle.scan_view.specs.Hold.{AreGiven, rows_of, view_of}
 use Rattle.scan_view.specs.Left.{IsFile}
-use Rattle.scan_view.specs.Scan.{IsScan, HaveBegun, pages_left, all_left}
+use Rattle.scan_view.specs.Scan.{IsScan, HaveRead, HaveReadOn, pages_left, all_left}
+use Rattle.scan_view.specs.Told.{Contents, AreFronts}
 use Rattle.scan_view.proofs.gather.gather.Given as goal
 
 -- the rows so far, and those of what is left
@@ -18,7 +19,10 @@ invariant-loop-scan g l = record {
   list : (file : List ℕ) (xs ys zs : Entries) → IsFile file (g.D.Disk.state l.fn.disk) → IsScan l.geo l.fn.scan xs ys zs file
       → IsScan l.geo l.scan xs ys zs file
       × (rows_of l.low l.high (above l.fn.scan.at (view_of l.memory xs ys zs)) ≡ l.rows ++ rows_of l.low l.high (above l.scan.at (view_of l.memory xs ys zs)));
-  begun : (file : List ℕ) (c1 c1x c2 : Component) → IsFile file (g.D.Disk.state l.fn.disk) → HaveBegun l.geo c1 c1x c2 l.fn.scan file → HaveBegun l.geo c1 c1x c2 l.scan file;
+  read : (file : List ℕ) (c1 c1x c2 : Component) (read : Contents) → IsFile file (g.D.Disk.state l.fn.disk) → HaveRead l.geo c1 c1x c2 l.fn.scan read file
+      → (on : HaveReadOn l.geo c1 c1x c2 l.scan read file)
+      × ((all : Contents) → AreFronts c1 c1x c2 on.now all
+      → rows_of l.low l.high (above l.fn.scan.at (view_of l.memory all.c1 all.c1x all.c2)) ≡ l.rows ++ rows_of l.low l.high (above l.scan.at (view_of l.memory all.c1 all.c1x all.c2)));
 }
 
 abbrev pub decreases-loop-scan : goal.decreases-loop-scan

@@ -3,7 +3,7 @@ use Rattle.blsm_model.specs.declared.component.Component.{Component}
 use Rattle.blsm_model.specs.Geometry.{file_length}
 use Rattle.record_delta.specs.Entries.{Entries}
 use Rattle.disk_trait.specs.Reads.{OnlyReads}
-use Rattle.scan_view.specs.Left.{IsFile, HasLeft, HasBegun, count_left}
+use Rattle.scan_view.specs.Left.{IsFile, HasLeft, HasRead, HasReadOn, count_left}
 use Rattle.scan_view.proofs.seek.seek.Given as goal
 
 abbrev pub invariant-loop-cursor : goal.invariant-loop-cursor
@@ -13,7 +13,7 @@ invariant-loop-cursor g l = record {
   stands : (g.D.Disk.state l.disk).faults ≡ (g.D.Disk.state l.fn.disk).faults;
   falls : count_left l.at l.cursor ≤ count_left l.at l.fn.cursor;
   list : (file : List ℕ) (entries : Entries) → IsFile file (g.D.Disk.state l.fn.disk) → HasLeft l.geo l.at l.fn.cursor entries file → HasLeft l.geo l.at l.cursor entries file;
-  begun : (file : List ℕ) (run : Component) → IsFile file (g.D.Disk.state l.fn.disk) → HasBegun l.geo run l.fn.cursor file → HasBegun l.geo run l.cursor file;
+  read : (file : List ℕ) (run : Component) (given : Entries) → IsFile file (g.D.Disk.state l.fn.disk) → HasRead l.geo run l.at l.fn.cursor given file → HasReadOn l.geo run l.at l.cursor given file;
 }
 
 abbrev pub decreases-loop-cursor : goal.decreases-loop-cursor

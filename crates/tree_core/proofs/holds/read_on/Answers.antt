@@ -5,7 +5,7 @@ use Rattle.blsm_model.specs.Sizes.{Sizes}
 use Rattle.blsm_model.specs.declared.row.Row.{Row}
 use Rattle.page_file.specs.declared.file.Broken.{Broken}
 use Rattle.page_file.specs.declared.file.Broken.TheVariants.{Fault, Damaged}
-use Rattle.scan_view.specs.Holds.{hold_of, IsDamageBehind}
+use Rattle.scan_view.specs.Holds.{hold_of, AreToldBehind, IsDamageBehind}
 use Rattle.scan_view.specs.Pins.{HasHeld}
 use Rattle.tree_core.specs.Scanned as scanned
 use Rattle.tree_core.proofs.KeepLemmas.{few_by}
@@ -58,7 +58,18 @@ returns-in-Err-Damaged-clause-cause g c =
       search rules,
       search rules,
       c.in-Err-Damaged.ensures.reads.stands (damage_no_fault e page c.in-Err-Damaged.field-0-is),
-      λ honest. subst (λ (z : Sizes). IsDamageBehind z (hold_of c.args.seat c.args.holds.now) page file) c.geometry.ensures
+      λ honest. subst (λ (z : Sizes). IsDamageBehind z c.args.n (hold_of c.args.seat c.args.holds.now) page file) c.geometry.ensures
           (c.in-Err-Damaged.ensures.damaged page (ap Err c.in-Err-Damaged.field-0-is) honest),
       search rules,
+    )
+
+pub returns-in-Ok-clause-cause : goal.returns-in-Ok-clause-cause
+returns-in-Ok-clause-cause g c =
+    let seat = c.args.seat in
+    let file = (g.D.Disk.state c.args.disk.now).bytes in (
+      search rules,
+      c.in-Ok.ensures.reads.stands given_no_fault,
+      search rules,
+      λ honest. subst (λ (z : Sizes). AreToldBehind z c.args.n (hold_of seat c.args.holds.now) (hold_of seat c.next_rows.new.self) c.next_rows.new.room file) c.geometry.ensures
+          (c.in-Ok.ensures.told honest),
     )

@@ -22,7 +22,7 @@ use Rattle.tree_core.specs.Scanned as scanned
 use Rattle.tree_shared.proofs.holds.read_on.Goals as goal
 
 given_few : (n : ℕ) (rows : List Row) (old new : Option HoldState) → AreGivenBy n old new rows → length rows ≤ n
-given_few n rows (Some old) (Some new) given = given.few
+given_few n rows (Some old) (Some new) given = given.0.few
 given_few n rows (Some old) None given = absurd given
 given_few n rows None new given = absurd given
 

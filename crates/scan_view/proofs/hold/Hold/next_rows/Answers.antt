@@ -8,7 +8,8 @@ use Rattle.record_delta.specs.Entries.{Entries, above}
 use Rattle.page_file.specs.declared.file.Broken.{Broken}
 use Rattle.page_file.specs.declared.file.Broken.TheVariants.{Damaged, Fault}
 use Rattle.page_file.specs.File.{page_at}
-use Rattle.scan_view.specs.Hold.{HoldState, HasRows, IsDamageOf, pages_held, rows_of, view_of}
+use Rattle.scan_view.specs.Hold.{HoldState, HasRows, pages_held, rows_of, view_of}
+use Rattle.scan_view.specs.Told.{AreTold, IsNeeded}
 use Rattle.scan_view.proofs.StayLemmas.{rows_kept}
 use Rattle.scan_view.proofs.LeftLemmas.{fault_is, not_both, calm_of, same_error}
 use Rattle.scan_view.proofs.hold.Hold.next_rows.Goals as goal
@@ -28,11 +29,30 @@ pub returns-in_err-gather-clause-damaged : goal.returns-in_err-gather-clause-dam
 returns-in_err-gather-clause-damaged g c = λ k damaged honest.
     let sizes = c.args.geo.now in
     let file = (g.D.Disk.state c.args.disk.now).bytes in
+    let inside = c.self.inside in
+    let n = c.args.n in
     let p = err_from_is_err_and c.from_residual.result c.from_residual.ensures.1 in
     let broken = same_error p.0 (Damaged k) (sym p.1 ∙ damaged) in
-    let told = c.gather.ensures.damaged k file c.self.inside.c1 c.self.inside.c1x c.self.inside.c2 (c.in_err-gather.was ∙ ap Err (sym p.2 ∙ broken))
-    (record { honest = honest; bytes_are = refl }) (c.start-scan.ensures.begun sizes file) in
-    subst (λ (h : HoldState). IsDamageOf sizes h.c1 h.c1x h.c2 k file) c.self.view_is told
+    let told = c.gather.ensures.damaged k file inside.c1 inside.c1x inside.c2 _ (c.in_err-gather.was ∙ ap Err (sym p.2 ∙ broken))
+    (record { honest = honest; bytes_are = refl }) (c.start-scan.ensures.read sizes file) in
+    subst (λ (h : HoldState). IsNeeded sizes n h k file) c.self.view_is
+    (subst (λ (m : Entries). IsNeeded sizes n (record { low = inside.low; high = inside.high; memory = m; c1 = inside.c1; c1x = inside.c1x; c2 = inside.c2; place = inside.place }) k file) c.deref.ensures.value
+    (subst (λ (at : Option Key). IsNeeded sizes n (record { low = inside.low; high = inside.high; memory = c.deref.result.now; c1 = inside.c1; c1x = inside.c1x; c2 = inside.c2; place = at }) k file) (c.start-scan.ensures.at ∙ c.copy_of.ensures)
+    told))
+
+pub returns-clause-told : goal.returns-clause-told
+returns-clause-told g c = λ honest.
+    let sizes = c.args.geo.now in
+    let file = (g.D.Disk.state c.args.disk.now).bytes in
+    let inside = c.self.inside in
+    let n = c.args.n in
+    let new = c.gather.new.scan.at in
+    let rows = c.gather.new.rows in
+    let told = c.in_ok-gather.ensures.told file inside.c1 inside.c1x inside.c2 _ (record { honest = honest; bytes_are = refl }) (c.start-scan.ensures.read sizes file) in
+    subst (λ (h : HoldState). AreTold sizes n h new rows file) c.self.view_is
+    (subst (λ (m : Entries). AreTold sizes n (record { low = inside.low; high = inside.high; memory = m; c1 = inside.c1; c1x = inside.c1x; c2 = inside.c2; place = inside.place }) new rows file) c.deref.ensures.value
+    (subst (λ (at : Option Key). AreTold sizes n (record { low = inside.low; high = inside.high; memory = c.deref.result.now; c1 = inside.c1; c1x = inside.c1x; c2 = inside.c2; place = at }) new rows file) (c.start-scan.ensures.at ∙ c.copy_of.ensures)
+    told))
 
 pub returns-clause-rows : goal.returns-clause-rows
 returns-clause-rows g c =

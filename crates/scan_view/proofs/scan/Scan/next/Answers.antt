@@ -2,9 +2,11 @@ use Rattle.std.proofs.Common.{◌∙◌, Option, Some, Ok, Err, ap, sym, subst}
 use Rattle.std.proofs.lemmas.Result.{err_from_is_err_and}
 use Rattle.blsm_model.specs.declared.key.Key.{Key}
 use Rattle.record_delta.specs.Entries.{above, first_of}
+use Rattle.page_file.specs.declared.file.Broken.TheVariants.{Damaged}
 use Rattle.scan_view.specs.Hold.{view_of}
-use Rattle.scan_view.specs.Scan.{IsScan}
-use Rattle.scan_view.proofs.LeftLemmas.{fault_is, not_both, calm_of}
+use Rattle.scan_view.specs.Scan.{IsScan, HaveRead}
+use Rattle.scan_view.proofs.LeftLemmas.{fault_is, not_both, calm_of, same_error}
+use Rattle.scan_view.proofs.ReadLemmas.{scan_read_further}
 use Rattle.scan_view.proofs.ScanLemmas.{scan_further}
 use Rattle.scan_view.proofs.scan.Scan.next.Goals as goal
 
@@ -32,7 +34,30 @@ returns-clause-list g c = λ file xs ys zs is scan other.
           (scan_further c.args.geo.now mid c.in-Some.key xs ys zs file c.in-Some.ensures.ahead now),
     )
 
-pub returns-clause-begun : goal.returns-clause-begun
-returns-clause-begun g c = λ file run run_x run_2 is begun.
-    let came = c.in_ok-seek_all.ensures.begun file run run_x run_2 is begun in
-    record { c1 = came.c1; c1x = came.c1x; c2 = came.c2 }
+pub returns-in_default-clause-read : goal.returns-in_default-clause-read
+returns-in_default-clause-read g c = λ file run run_x run_2 read is have.
+    let came = c.in_ok-seek_all.ensures.read file run run_x run_2 read is have in (
+      came.0,
+      λ all fronts. c.in_default.ensures.first all.c1 all.c1x all.c2 fronts.c1.sorted fronts.c1x.sorted fronts.c2.sorted (came.1 all fronts)
+          ∙ ap (λ (at : Option Key). first_of (above at (view_of c.args.memory.now all.c1 all.c1x all.c2))) c.seek_all.ensures.at,
+    )
+
+pub returns-clause-read : goal.returns-clause-read
+returns-clause-read g c = λ file run run_x run_2 read is have.
+    let came = c.in_ok-seek_all.ensures.read file run run_x run_2 read is have in
+    let mid = c.seek_all.new.self in (
+      record {
+        now = came.0.now;
+        read = subst (λ (key : Key). HaveRead c.args.geo.now run run_x run_2 (record { c1 = mid.c1; c1x = mid.c1x; c2 = mid.c2; at = Some key }) came.0.now file) (sym c.copy.ensures)
+            (scan_read_further c.args.geo.now file run run_x run_2 mid c.in-Some.key came.0.now c.in-Some.ensures.ahead came.0.read);
+        onward = came.0.onward;
+      },
+      λ all fronts. c.in-Some.ensures.first all.c1 all.c1x all.c2 fronts.c1.sorted fronts.c1x.sorted fronts.c2.sorted (came.1 all fronts)
+          ∙ ap (λ (at : Option Key). first_of (above at (view_of c.args.memory.now all.c1 all.c1x all.c2))) c.seek_all.ensures.at,
+    )
+
+pub returns-in_err-seek_all-clause-damaged : goal.returns-in_err-seek_all-clause-damaged
+returns-in_err-seek_all-clause-damaged g c = λ k file run run_x run_2 read damaged is have.
+    let p = err_from_is_err_and c.from_residual.result c.from_residual.ensures.1 in
+    let broken = same_error p.0 (Damaged k) (sym p.1 ∙ damaged) in
+    c.seek_all.ensures.damaged k file run run_x run_2 read (c.in_err-seek_all.was ∙ ap Err (sym p.2 ∙ broken)) is have

@@ -1,6 +1,7 @@
-use Rattle.std.proofs.Common.{◌∙◌, ◌+◌, Err, ap, arith}
+use Rattle.std.proofs.Common.{◌∙◌, ◌+◌, Err, inl, inr, ap, sym, arith}
 use Rattle.std.proofs.lemmas.Result.{err_from_is_err_and}
-use Rattle.scan_view.proofs.LeftLemmas.{fault_is, not_both, calm_of, file_on, reads_after, reads_err, map_ok}
+use Rattle.page_file.specs.declared.file.Broken.TheVariants.{Damaged}
+use Rattle.scan_view.proofs.LeftLemmas.{fault_is, not_both, calm_of, same_error, file_on, reads_after, reads_err, map_ok}
 use Rattle.scan_view.proofs.scan.Scan.seek_all.Goals as goal
 
 pub returns-in_err-seek-clause-list : goal.returns-in_err-seek-clause-list
@@ -35,12 +36,35 @@ returns-clause-list g c = λ file xs ys zs is scan other.
       record { c1 = first.2; c1x = second.2; c2 = third.2 },
     )
 
-pub returns-clause-begun : goal.returns-clause-begun
-returns-clause-begun g c = λ file run run_x run_2 is begun.
+pub returns-clause-read : goal.returns-clause-read
+returns-clause-read g c = λ file run run_x run_2 read is have.
     let is_mid = file_on c.seek.ensures.reads.effect is in
-    let first = c.in_ok-seek.ensures.begun file run is begun.c1 in
-    let second = c.in_ok-seek-2.ensures.begun file run_x is_mid begun.c1x in
-    map_ok c.seek-3.result (λ third. record { c1 = first; c1x = second; c2 = third }) (c.seek-3.ensures.begun file run_2 (file_on c.seek-2.ensures.reads.effect is_mid) begun.c2)
+    let first = c.in_ok-seek.ensures.read file run read.c1 is have.c1 in
+    let second = c.in_ok-seek-2.ensures.read file run_x read.c1x is_mid have.c1x in
+    map_ok c.seek-3.result (λ third. (
+      record {
+        now = record { c1 = first.0.now; c1x = second.0.now; c2 = third.0.now };
+        read = record { c1 = first.0.read; c1x = second.0.read; c2 = third.0.read };
+        onward = λ all fronts. record { c1 = first.0.onward all.c1 fronts.c1; c1x = second.0.onward all.c1x fronts.c1x; c2 = third.0.onward all.c2 fronts.c2 };
+      },
+      λ all fronts. record { c1 = first.1 all.c1 fronts.c1; c1x = second.1 all.c1x fronts.c1x; c2 = third.1 all.c2 fronts.c2 },
+    )) (c.seek-3.ensures.read file run_2 read.c2 (file_on c.seek-2.ensures.reads.effect is_mid) have.c2)
+
+pub returns-in_err-seek-clause-damaged : goal.returns-in_err-seek-clause-damaged
+returns-in_err-seek-clause-damaged g c = λ k file run run_x run_2 read damaged is have.
+    let p = err_from_is_err_and c.from_residual.result c.from_residual.ensures.1 in
+    let broken = same_error p.0 (Damaged k) (sym p.1 ∙ damaged) in
+    inl (c.seek.ensures.damaged k file run read.c1 (c.in_err-seek.was ∙ ap Err (sym p.2 ∙ broken)) is have.c1)
+
+pub returns-in_err-seek-2-clause-damaged : goal.returns-in_err-seek-2-clause-damaged
+returns-in_err-seek-2-clause-damaged g c = λ k file run run_x run_2 read damaged is have.
+    let p = err_from_is_err_and c.from_residual-in_err-seek-2.result c.from_residual-in_err-seek-2.ensures.1 in
+    let broken = same_error p.0 (Damaged k) (sym p.1 ∙ damaged) in
+    inr (inl (c.seek-2.ensures.damaged k file run_x read.c1x (c.in_err-seek-2.was ∙ ap Err (sym p.2 ∙ broken)) (file_on c.seek.ensures.reads.effect is) have.c1x))
+
+pub returns-clause-damaged : goal.returns-clause-damaged
+returns-clause-damaged g c = λ k file run run_x run_2 read damaged is have.
+    inr (inr (c.seek-3.ensures.damaged k file run_2 read.c2 damaged (file_on c.seek-2.ensures.reads.effect (file_on c.seek.ensures.reads.effect is)) have.c2))
 
 pub returns-clause-reads : goal.returns-clause-reads
 returns-clause-reads g c =

@@ -1,4 +1,4 @@
-use Rattle.std.proofs.Common.{[]}
+use Rattle.scan_view.proofs.ReadLemmas.{read_started}
 use Rattle.scan_view.proofs.ScanLemmas.{started_left, list_sorted}
 use Rattle.scan_view.proofs.scan.Scan.start.Goals as goal
 
@@ -12,9 +12,9 @@ returns-clause-list c = λ sizes xs ys zs file c1 c1x c2. record {
   sorted_c2 = list_sorted sizes c.args.c2.now zs file c2;
 }
 
-pub returns-clause-begun : goal.returns-clause-begun
-returns-clause-begun c = λ sizes file. record {
-  c1 = ([], c.start.ensures.given sizes file);
-  c1x = ([], c.start-2.ensures.given sizes file);
-  c2 = ([], c.start-3.ensures.given sizes file);
+pub returns-clause-read : goal.returns-clause-read
+returns-clause-read c = λ sizes file. record {
+  c1 = read_started sizes file c.args.c1.now c.args.at c.start.result c.start.ensures.start (c.start.ensures.given sizes file);
+  c1x = read_started sizes file c.args.c1x.now c.args.at c.start-2.result c.start-2.ensures.start (c.start-2.ensures.given sizes file);
+  c2 = read_started sizes file c.args.c2.now c.args.at c.start-3.result c.start-3.ensures.start (c.start-3.ensures.given sizes file);
 }

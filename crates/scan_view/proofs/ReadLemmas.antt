@@ -1,0 +1,135 @@
+-- What was read of components, whatever they read as.
+use Rattle.std.proofs.Common.{◌≡◌, ◌∙◌, ◌⊎◌, inl, inr, ℕ, true, false, cond, List, [], ◌∷◌, ◌++◌, length, Option, Some, None, refl, ap, sym, subst, arith}
+use Rattle.std.specs.List.{AllByRecursion}
+use Rattle.std.specs.List.Sorted.{IsStrictlySortedBy}
+use Rattle.std.specs.declared.cmp.Ordering.TheVariants.{Less}
+use Rattle.std.proofs.lemmas.Bool.{false≢true}
+use Rattle.std.proofs.lemmas.List.{append_assoc, append-nil, length-append}
+use Rattle.std.proofs.lemmas.List.Elements.{filter-append}
+use Rattle.blsm_model.specs.declared.component.Component.{Component}
+use Rattle.blsm_model.specs.declared.key.Key.{Key}
+use Rattle.blsm_model.specs.Keys.{key_cmp}
+use Rattle.blsm_model.specs.Sizes.{Sizes}
+use Rattle.record_delta.specs.declared.record.Rec.{Rec}
+use Rattle.record_delta.specs.Entries.{Entries, above, is_above, first_of}
+use Rattle.page_file.specs.Entry.{AreRising, keys_of}
+use Rattle.page_file.proofs.OrderLemmas.{orders}
+use Rattle.run_cursor.specs.Cursor.{CursorState, started, from_head}
+use Rattle.run_cursor.specs.Given.{HasGiven, HasGivenMore}
+use Rattle.merge_ends.specs.Input.{head_above}
+use Rattle.merge_ends.proofs.GroupLemmas.{above_further}
+use Rattle.scan_view.specs.declared.scan.Scan.{Scan}
+use Rattle.scan_view.specs.Left.{HasRead, HasReadOn}
+use Rattle.scan_view.specs.Scan.{HaveRead}
+use Rattle.scan_view.specs.Told.{Begins, BeginWith, Contents, IsFront}
+use Rattle.scan_view.proofs.LeftLemmas.{none_of}
+
+-- ---- a cursor that goes on
+
+above_append : (at : Option Key) (xs ys : Entries) → above at (xs ++ ys) ≡ above at xs ++ above at ys
+above_append at xs ys = filter-append (λ e. is_above at e.0) xs ys
+
+pub stale_none : (at : Option Key) (head : Option (Key × Rec)) → head_above at head ≡ false → above at (from_head head []) ≡ []
+stale_none at None stale = refl
+stale_none at (Some e) stale = ap (λ b. cond b (e ∷ []) []) stale
+
+front_onward : (run : Component) (read more all : Entries) → IsFront run (read ++ more) all → IsFront run read all
+front_onward run read more all front =
+    record { behind = more ++ front.behind; parts = front.parts ∙ append_assoc read more front.behind; sorted = front.sorted; few = front.few }
+
+read_step : (sizes : Sizes) (file : List ℕ) (run : Component) (at : Option Key) (old new : CursorState) (given : Entries) → head_above at old.head ≡ false → HasRead sizes run at old given file
+    → HasGivenMore sizes run new new.head given file → HasReadOn sizes run at new given file
+read_step sizes file run at old new given stale has more = by_head new.head refl more
+  where
+    passed : above at given ≡ []
+    passed = has.passed ∙ stale_none at old.head stale
+
+    by_head : (head : Option (Key × Rec)) → new.head ≡ head → HasGivenMore sizes run new head given file → HasReadOn sizes run at new given file
+    by_head None is further = record {
+      now = given;
+      read = record { begins = further.1; passed = passed ∙ sym (ap (λ h. above at (from_head h [])) is) };
+      onward = λ all front. front;
+    }
+    by_head (Some e) is further = record {
+      now = given ++ e ∷ [];
+      read = record {
+        begins = further;
+        passed = above_append at given (e ∷ []) ∙ ap (λ (l : Entries). l ++ above at (e ∷ [])) passed ∙ sym (ap (λ h. above at (from_head h [])) is);
+      };
+      onward = λ all front. front_onward run given (e ∷ []) all front;
+    }
+
+-- by what a call of `advance` says of what was given
+pub advance_read : (sizes : Sizes) (file bytes : List ℕ) (run : Component) (at : Option Key) (old new : CursorState) (given : Entries) → bytes ≡ file → head_above at old.head ≡ false
+    → HasRead sizes run at old given file → (HasGiven sizes run old given bytes → HasGivenMore sizes run new new.head given bytes) → HasReadOn sizes run at new given file
+advance_read sizes file bytes run at old new given same stale has more =
+    let here = subst (λ (b : List ℕ). HasRead sizes run at old given b) (sym same) has in
+    subst (λ (b : List ℕ). HasReadOn sizes run at new given b) same (read_step sizes bytes run at old new given stale here (more here.begins))
+
+pub read_after : (sizes : Sizes) (file : List ℕ) (run : Component) (at : Option Key) (mid new : CursorState) (before : Entries) → (first : HasReadOn sizes run at mid before file)
+    → HasReadOn sizes run at new first.now file → HasReadOn sizes run at new before file
+read_after sizes file run at mid new before first second = record { now = second.now; read = second.read; onward = λ all front. first.onward all (second.onward all front) }
+
+-- a cursor that is at an entry above the key, or at the end, is at the first of each list that may come of what was read
+pub read_first : (sizes : Sizes) (file : List ℕ) (run : Component) (at : Option Key) (cursor : CursorState) (given : Entries) → HasRead sizes run at cursor given file
+    → (head_above at cursor.head ≡ true) ⊎ ((cursor.head ≡ None) × (cursor.entries ≡ 0)) → (all : Entries) → IsFront run given all → cursor.head ≡ first_of (above at all)
+read_first sizes file run at cursor given has there all front = by there
+  where
+    split : above at all ≡ above at (from_head cursor.head []) ++ above at front.behind
+    split = ap (above at) front.parts ∙ above_append at given front.behind ∙ ap (λ (l : Entries). l ++ above at front.behind) has.passed
+
+    by_head : (head : Option (Key × Rec)) → head_above at head ≡ true → head ≡ first_of (above at (from_head head []) ++ above at front.behind)
+    by_head None is = absurd (false≢true is)
+    by_head (Some e) is = sym (ap (λ b. first_of (cond b (e ∷ []) [] ++ above at front.behind)) is)
+
+    by : (head_above at cursor.head ≡ true) ⊎ ((cursor.head ≡ None) × (cursor.entries ≡ 0)) → cursor.head ≡ first_of (above at all)
+    by (inl is) = by_head cursor.head is ∙ sym (ap first_of split)
+    by (inr end) =
+        let none : front.behind ≡ [] = none_of front.behind (omega (arith, front.few, ap (λ (l : Entries). length l) front.parts, length-append given front.behind, has.begins.entries_is, end.1)) in
+        end.0 ∙ sym (ap first_of (split ∙ ap (λ h. above at (from_head h []) ++ above at front.behind) end.0 ∙ ap (above at) none))
+
+read_further : (sizes : Sizes) (file : List ℕ) (run : Component) (at : Option Key) (key : Key) (cursor : CursorState) (given : Entries) → is_above at key ≡ true
+    → HasRead sizes run at cursor given file → HasRead sizes run (Some key) cursor given file
+read_further sizes file run at key cursor given key_above has = record {
+  begins = has.begins;
+  passed = above_further at key given key_above ∙ ap (above (Some key)) has.passed ∙ sym (above_further at key (from_head cursor.head []) key_above);
+}
+
+pub read_started : (sizes : Sizes) (file : List ℕ) (run : Component) (at : Option Key) (cursor : CursorState) → cursor ≡ started run → HasGiven sizes run cursor [] file → HasRead sizes run at cursor [] file
+read_started sizes file run at cursor is given = record { begins = given; passed = sym (ap (λ (c : CursorState). above at (from_head c.head [])) is) }
+
+-- ---- a scan
+
+pub scan_read_further : (sizes : Sizes) (file : List ℕ) (c1 c1x c2 : Component) (scan : Scan) (key : Key) (read : Contents) → is_above scan.at key ≡ true → HaveRead sizes c1 c1x c2 scan read file
+    → HaveRead sizes c1 c1x c2 (record scan { at = Some key }) read file
+scan_read_further sizes file c1 c1x c2 scan key read key_above have = record {
+  c1 = read_further sizes file c1 scan.at key scan.c1 read.c1 key_above have.c1;
+  c1x = read_further sizes file c1x scan.at key scan.c1x read.c1x key_above have.c1x;
+  c2 = read_further sizes file c2 scan.at key scan.c2 read.c2 key_above have.c2;
+}
+
+pub scan_begins : (sizes : Sizes) (file : List ℕ) (c1 c1x c2 : Component) (scan : Scan) (read : Contents) → HaveRead sizes c1 c1x c2 scan read file → BeginWith sizes c1 c1x c2 read file
+scan_begins sizes file c1 c1x c2 scan read have = record {
+  c1 = record { cursor = scan.c1; given = have.c1.begins };
+  c1x = record { cursor = scan.c1x; given = have.c1x.begins };
+  c2 = record { cursor = scan.c2; given = have.c2.begins };
+}
+
+-- ---- what was read is such a list
+
+all_front : (P : Key → Type 0) (es fs : Entries) → AllByRecursion P (keys_of (es ++ fs)) → AllByRecursion P (keys_of es)
+all_front P [] fs all = tt
+all_front P (e ∷ es) fs all = (all.0, all_front P es fs all.1)
+
+rise_front : (es fs : Entries) → AreRising (es ++ fs) → AreRising es
+unfolding IsStrictlySortedBy
+rise_front [] fs rise = tt
+rise_front (e ∷ es) fs rise = (all_front (λ (k : Key). key_cmp e.0 k ≡ Less) es fs rise.0, rise_front es fs rise.1)
+
+pub front_itself : (sizes : Sizes) (run : Component) (read : Entries) (file : List ℕ) → Begins sizes run read file → IsFront run read read
+front_itself sizes run read file begins = record {
+  behind = [];
+  parts = sym (append-nil read);
+  sorted = (orders read).0 (rise_front read begins.given.here begins.given.rise);
+  few = omega (arith, begins.given.entries_is);
+}
