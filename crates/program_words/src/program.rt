@@ -1,6 +1,6 @@
 //! What the program takes: four commands.
 ghost use Rattle.std.specs.Prelude.{◌≡◌, IfOk, false};
-ghost use Rattle.clap.specs.Words.{app_of, rule_of};
+ghost use Rattle.clap.specs.Words.{App, Rule, app_of, rule_of, with_rule, with_subcommand};
 ghost use Rattle.program_words.specs.Words.{number_rule, file as file_rule, on_file as on_file_app, make_command as make_app, run_command as run_app, trial_command as trial_app, program as program_app, IsCommand, IsRule};
 
 use crate::numbers::{MAX_COUNT, MAX_TURNS, MAX_WORKERS, MIN_COUNT};
@@ -27,14 +27,41 @@ fn number<'a>(alloc: Global, name: &'a str, least: u64, most: u64) -> Arg<'a>
         .value_parser(ValueParser::Unsigned(least, most))
 }
 
-// `make`, with the four numbers of a geometry. Each command is made in a call that stays one, since its parts take kilobytes on the stack.
+// A command on a file, with no option. Each command is made in a call that stays one, since its parts take kilobytes on the stack.
+#[inline(never)]
+fn on_file<'a>(alloc: Global, name: &'a str) -> Result<Command<'a>, AllocError>
+    ensures { IfOk result (IsCommand (on_file_app name.entry.now)) }
+{
+    Command::new(alloc, name).arg(file(alloc))
+}
+
+// A command with one argument more, where there is one. What isn't taken is dropped by a call: a drop at an arm's end is a step for each field.
+fn with_arg<'a>(
+    command: Result<Command<'a>, AllocError>,
+    arg: Arg<'a>,
+) -> Result<Command<'a>, AllocError>
+    ensures { (app : App) (rule : Rule) → IfOk command.entry (IsCommand app) → IsRule rule arg.entry → IfOk result (IsCommand (with_rule app rule)) }
+{
+    match command {
+        Ok(command) => command.arg(arg),
+        Err(refused) => {
+            drop(arg);
+            Err(refused)
+        }
+    }
+}
+
+// `make`, with the four numbers of a geometry.
 #[inline(never)]
 fn make<'a>(alloc: Global) -> Result<Command<'a>, AllocError>
     ensures { IfOk result (IsCommand make_app) }
 {
     let half = number(alloc, "half", Geometry::MIN_HALF, Geometry::MAX_HALF).default_value("32768");
+    let with_half = with_arg(on_file(alloc, "make"), half);
     let ratio = number(alloc, "ratio", Geometry::MIN_RATIO, Geometry::MAX_RATIO).default_value("4");
+    let with_ratio = with_arg(with_half, ratio);
     let low = number(alloc, "low", 0, Geometry::MAX_HALF).default_value("16384");
+    let with_low = with_arg(with_ratio, low);
     let quantum = number(
         alloc,
         "quantum",
@@ -42,12 +69,7 @@ fn make<'a>(alloc: Global) -> Result<Command<'a>, AllocError>
         Geometry::MAX_QUANTUM,
     )
     .default_value("4096");
-    Command::new(alloc, "make")
-        .arg(file(alloc))?
-        .arg(half)?
-        .arg(ratio)?
-        .arg(low)?
-        .arg(quantum)
+    with_arg(with_low, quantum)
 }
 
 // `run`, with its merge workers and their turns.
@@ -56,19 +78,9 @@ fn run<'a>(alloc: Global) -> Result<Command<'a>, AllocError>
     ensures { IfOk result (IsCommand run_app) }
 {
     let workers = number(alloc, "workers", 0, MAX_WORKERS).default_value("2");
+    let with_workers = with_arg(on_file(alloc, "run"), workers);
     let turns = number(alloc, "turns", 0, MAX_TURNS).default_value("1000");
-    Command::new(alloc, "run")
-        .arg(file(alloc))?
-        .arg(workers)?
-        .arg(turns)
-}
-
-// A command on a file, with no option.
-#[inline(never)]
-fn on_file<'a>(alloc: Global, name: &'a str) -> Result<Command<'a>, AllocError>
-    ensures { IfOk result (IsCommand (on_file_app name.entry.now)) }
-{
-    Command::new(alloc, name).arg(file(alloc))
+    with_arg(with_workers, turns)
 }
 
 // `trial`, with its seed and its count.
@@ -77,22 +89,40 @@ fn trial<'a>(alloc: Global) -> Result<Command<'a>, AllocError>
     ensures { IfOk result (IsCommand trial_app) }
 {
     let seed = number(alloc, "seed", 0, u64::MAX).required(true);
+    let with_seed = Command::new(alloc, "trial").arg(seed);
     let count = number(alloc, "count", MIN_COUNT, MAX_COUNT).required(true);
-    Command::new(alloc, "trial").arg(seed)?.arg(count)
+    with_arg(with_seed, count)
+}
+
+// The program with one command more, where there are both.
+fn with_command<'a>(
+    program: Result<Command<'a>, AllocError>,
+    command: Result<Command<'a>, AllocError>,
+) -> Result<Command<'a>, AllocError>
+    ensures { (app sub : App) → IfOk program.entry (λ old. app_of old ≡ app) → IfOk command.entry (IsCommand sub) → IfOk result (λ new. app_of new ≡ with_subcommand app sub.top) }
+{
+    match program {
+        Ok(program) => match command {
+            Ok(command) => program.subcommand(command),
+            Err(refused) => {
+                drop(program);
+                Err(refused)
+            }
+        },
+        Err(refused) => {
+            drop(command);
+            Err(refused)
+        }
+    }
 }
 
 /// The program, which wants a command.
 pub(crate) fn program<'a>(alloc: Global) -> Result<Command<'a>, AllocError>
     ensures { IfOk result (λ command. app_of command ≡ program_app) }
 {
-    let make = make(alloc)?;
-    let run = run(alloc)?;
-    let check = on_file(alloc, "check")?;
-    let trial = trial(alloc)?;
-    Command::new(alloc, "blsm")
-        .subcommand_required(true)
-        .subcommand(make)?
-        .subcommand(run)?
-        .subcommand(check)?
-        .subcommand(trial)
+    let bare = Command::new(alloc, "blsm").subcommand_required(true);
+    let with_make = with_command(Ok(bare), make(alloc));
+    let with_run = with_command(with_make, run(alloc));
+    let with_check = with_command(with_run, on_file(alloc, "check"));
+    with_command(with_check, trial(alloc))
 }
