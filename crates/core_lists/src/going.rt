@@ -2,7 +2,7 @@
 ghost use Rattle.core_lists.specs.Going.{StandingIsSteady, AdmissionFits, FailuresAreTheMachines, AdmissionGoesOn, RefusalGoesOn, PaymentGoesOn, TurnGoesOn, ClosedTurnGoesOn, QuietGoesOn};
 
 /// After each step that ends well the machine is paced, and the fronts of the tree's lanes are within bounds. So they are after a payment
-/// whatever its outcome, and after a step that changes no list.
+/// whatever its outcome, and after a step that changes no list. A clause each: who makes a step cites that step's law alone.
 pub fn steps_go_on()
     ensures steady { StandingIsSteady }
     ensures fits { AdmissionFits }

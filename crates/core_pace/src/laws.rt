@@ -85,7 +85,7 @@ pub fn payments_are_paced()
     ensures { PaymentIsPaced }
 {}
 
-/// At each moment of an admission and of a payment the calls that come next may be made.
+/// At each moment of an admission and of a payment the calls that come next may be made. A clause for each of these moments.
 pub fn calls_may_be_made()
     ensures between { PacedIsBetween }
     ensures fits { BetweenFits }

@@ -20,7 +20,7 @@ use record_delta::{Rec, settle};
 use refusal::Failed;
 use run_writer::Writer;
 
-/// Pushes what is left of a record where nothing is older: a base, or nothing.
+/// Pushes what is left of a record where nothing is older: a base, or nothing. It promises what `put` of `merge_ends` does, clause by clause.
 pub fn put_settled<D: Disk>(
     writer: &mut Writer,
     disk: &mut D,

@@ -19,7 +19,8 @@ use refusal::Failed;
 use run_writer::{Writer, a_run_has_fences, a_run_has_room, where_a_run_writes};
 
 /// Pushes an entry into a run that has room for it, and whose fences have; its filter and fences have it then. It makes one call of the disk at most, and takes a page where it does. After an
-/// `Err` the writer is as it was; the page that was taken keeps its tag.
+/// `Err` the writer is as it was; the page that was taken keeps its tag. A clause for each thing that it is lent: the run, its room, its fences, the
+/// map of pages, the disk.
 pub fn put<D: Disk>(
     writer: &mut Writer,
     disk: &mut D,

@@ -13,7 +13,7 @@ ghost use Rattle.pacing.specs.Spent.{OpeningSpends, StepSpends, MovesSpend, Quan
 ghost use Rattle.pacing.specs.Laws.{StepKeeps, MovesKeep, ForgivingKeeps, RunKeeps, QuantaWithinBound, PaysWithinBound, DebtsFall, NoneRefused, AdmissionsAreShort, PassInTime, DeepInTime, RoomAfterSwaps, Bounded, AllFits};
 
 /// Each move keeps the weights within their bounds, whoever does the merges' work, where there is room for each write and no
-/// full run is swapped in while a deep merge runs.
+/// full run is swapped in while a deep merge runs. A clause for each move, since a caller makes them one at a time.
 pub fn weights_stay_within()
     ensures opening { OpeningWithin }
     ensures deep_swap { DeepSwapWithin }

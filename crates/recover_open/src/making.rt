@@ -39,7 +39,8 @@ impl From<Failed> for NotMade {
 /// Makes a store of this geometry, which has no keys, of a disk that has no bytes. The file gets its whole length, in bytes.
 ///
 /// `NotEmpty` tells the length in bytes and comes exactly where that is above 0; then the disk is only looked at, also where that fails. `Fault` comes just where the
-/// disk's count of faults rose. A crash leaves no store, or the store that was to be made, whatever is answered.
+/// disk's count of faults rose. A crash leaves no store, or the store that was to be made, whatever is answered. A clause for each answer, and for
+/// what the disk has then: as it reads, in its images, and in those before the first sync.
 pub fn make_store<D: Disk>(disk: &mut D, geometry: &Geometry) -> Result<(), NotMade>
     ensures not_empty { (n : ℕ) → result ≡ Err (NotMade.NotEmpty n) → WasNotEmpty n (D.state disk.old) (D.state disk.new) }
     ensures empty { IsTrue (D.state disk.old).tells_bytes → 0 < length (D.state disk.old).bytes → result ≢ Err NotMade.Fault

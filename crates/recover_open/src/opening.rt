@@ -104,6 +104,7 @@ pub struct NotOpened<D: Drop> {
 ///
 /// `NotAStore`, `Damaged` and `Worn` come as `read_tree` tells them, `Fault` just where the disk's count of faults rose, and `NoMemory` where memory
 /// was refused, also that for filters and fences, whose size is known once the geometry is read. The disk is given back, with what it had.
+/// Half of the clauses are of the core that it gives, half of what a refusal or a crash leaves, of calls and of faults.
 ///
 /// It stays a call, so that the parts of a core aren't added to the frame of who runs it.
 #[inline(never)]

@@ -215,6 +215,8 @@ impl Cursor {
     /// page though it is the last one by the component's number or none though it isn't, has a first key that isn't above the
     /// head's, or has more entries or weight than are left by the component's numbers, or, as the last page, fewer. A page that
     /// is met again is such a one, since its keys don't rise. `Fault` comes only where the disk's count of faults rose.
+    ///
+    /// A clause says what it tells of a list, one what of any pages, and the others are numbers by which callers count: entries, weight, pages and calls.
     pub fn advance<D: Disk>(&mut self, disk: &mut D, geo: &Geometry) -> Result<(), Broken>
         requires { IsTrue (D.state disk.old).tells_bytes → length (D.state disk.old).bytes ≡ file_length geo.now }
 

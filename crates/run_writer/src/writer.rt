@@ -175,7 +175,7 @@ impl Writer {
     /// (`a_run_has_room`), and has a fence for each of them (`a_run_has_fences`).
     ///
     /// After an `Err`, whose cause is a fault of the disk, the writer, the filter and the fences are as they were; the page that was taken keeps its tag, and
-    /// nobody knows what the open page's place on the disk has.
+    /// nobody knows what the open page's place on the disk has. A clause for each thing that it is lent, with and without an `Err`.
     pub fn push<D: Disk>(
         &mut self,
         disk: &mut D,

@@ -154,6 +154,9 @@ impl Snow {
     /// `Damaged` names a page of C1 that isn't valid or doesn't go on; it never comes where the pass stands over lists. `Fault` comes
     /// just where the disk's count of faults rose. After an `Err` the quantum isn't counted: the cursor is told as before, and the
     /// pass is not to be gone on with.
+    ///
+    /// Of its clauses one is on the lists of an honest disk; the others hold on every disk, each of one thing: what was taken and is left, the
+    /// room, the pages, the calls.
     pub fn quantum<D: Disk>(
         &mut self,
         disk: &mut D,

@@ -25,6 +25,9 @@ impl Runs {
     ///
     /// `Damaged` names a page of C1 that isn't valid or doesn't go on; it never comes where the disk stands on a tree. `Fault` comes just
     /// where the disk's count of faults rose. After an `Err` the quantum isn't counted, and no merge is to be gone on with.
+    ///
+    /// Two clauses are on an honest disk (what the disk stands on, and the lists); the others hold on every disk: numbers, the page that is named as
+    /// damaged, what stays, and what the disk's calls did.
     pub fn pass_quantum<D: Disk>(&mut self, disk: &mut D, a: &Table) -> Result<u64, Broken>
         requires runs { IsSome self.old.pass }
         requires length { IsTrue (D.state disk.old).tells_bytes → length (D.state disk.old).bytes ≡ file_length self.old.sizes }
