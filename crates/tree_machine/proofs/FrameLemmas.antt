@@ -76,25 +76,38 @@ raised_once [] i = omega arith
 raised_once (x ∷ xs) zero = omega arith
 raised_once (x ∷ xs) (suc i) = raised_once xs i
 
-pub apart_itself : (seat : ℕ) (m : Machine) → Apart seat 0 m m
-apart_itself seat m = record {
-  fixed = (refl, refl, refl);
-  peak = omega arith;
-  stopped = λ why is. is;
-  closed = λ is. is;
-  kept = omega arith;
-  quanta = omega arith;
-  its = omega arith;
-  counts = λ other apart. refl;
-  held = λ other apart. refl;
-  work = λ other apart. refl;
-  turns = λ other worker apart. refl;
-  left = λ other apart. refl;
-  entries_room = λ other apart. refl;
-  rows_room = λ other apart. refl;
-  first = λ other apart. omega arith;
-  second = λ other apart. omega arith;
+-- A move that changes nothing of the seats, of what they hold and of their room, stops nothing, and raises no debt of the others.
+record IsAlike (old new : Machine) : Type 0 where
+  pub fixed : (new.gears.sizes ≡ old.gears.sizes) × (new.counts.charge ≡ old.counts.charge) × (new.counts.faults ≡ old.counts.faults)
+  pub peak : old.counts.peak ≤ new.counts.peak
+  pub stopped : new.stopped ≡ old.stopped
+  pub seats : new.seats ≡ old.seats
+  pub holds : new.holds ≡ old.holds
+  pub room : new.book.room ≡ old.book.room
+
+same_apart : (seat : ℕ) (m n : Machine) → IsAlike m n → ((other : ℕ) → other ≢ seat → slice_index n.gears.first_debts other ≤ slice_index m.gears.first_debts other)
+    → ((other : ℕ) → other ≢ seat → slice_index n.gears.second_debts other ≤ slice_index m.gears.second_debts other) → Apart seat 0 m n
+same_apart seat m n same first second = record {
+  fixed = same.fixed;
+  peak = same.peak;
+  stopped = λ why is. same.stopped ∙ is;
+  closed = λ is. ap (λ s. all_true s.left) same.seats ∙ is;
+  kept = omega (arith, ap (λ s. sum s.quanta) same.seats);
+  quanta = omega (arith, ap (λ s. sum s.quanta) same.seats);
+  its = omega (arith, ap (λ s. slice_index s.quanta seat) same.seats);
+  counts = λ other apart. ap (λ s. slice_index s.quanta other) same.seats;
+  held = λ other apart. ap (λ held. slice_index_or held other None) same.holds;
+  work = λ other apart. ap (λ s. slice_index_or s.work other no_work) same.seats;
+  turns = λ other worker apart. ap (λ s. slice_index s.turns (other - callers)) same.seats;
+  left = λ other apart. ap (λ s. slice_index_or s.left other false) same.seats;
+  entries_room = λ other apart. ap (λ r. slice_index r.entries other) same.room;
+  rows_room = λ other apart. ap (λ r. slice_index r.rows other) same.room;
+  first = first;
+  second = second;
 }
+
+pub apart_itself : (seat : ℕ) (m : Machine) → Apart seat 0 m m
+apart_itself seat m = same_apart seat m m (record { fixed = (refl, refl, refl); peak = omega arith; stopped = refl; seats = refl; holds = refl; room = refl }) (λ other apart. omega arith) (λ other apart. omega arith)
 
 pub apart_on : {a b c : Machine} (seat j k : ℕ) → Apart seat j a b → Apart seat k b c → Apart seat (j + k) a c
 apart_on {a} {b} {c} seat j k p q = record {
@@ -140,104 +153,24 @@ apart_more {a} {b} seat j k le p = record {
 -- ---- the merges
 
 begin_apart : (seat : ℕ) (m : Machine) → Apart seat 0 m (begin_pass m)
-begin_apart seat m = record {
-  fixed = (refl, refl, refl);
-  peak = omega arith;
-  stopped = λ why is. is;
-  closed = λ is. is;
-  kept = omega arith;
-  quanta = omega arith;
-  its = omega arith;
-  counts = λ other apart. refl;
-  held = λ other apart. refl;
-  work = λ other apart. refl;
-  turns = λ other worker apart. refl;
-  left = λ other apart. refl;
-  entries_room = λ other apart. refl;
-  rows_room = λ other apart. refl;
-  first = λ other apart. omega (arith, none_owed other);
-  second = λ other apart. omega arith;
-}
+begin_apart seat m =
+    same_apart seat m (begin_pass m) (record { fixed = (refl, refl, refl); peak = omega arith; stopped = refl; seats = refl; holds = refl; room = refl }) (λ other apart. omega (arith, none_owed other)) (λ other apart. omega arith)
 
 rotate_apart : (seat : ℕ) (m : Machine) → Apart seat 0 m (rotate m)
-rotate_apart seat m = record {
-  fixed = (refl, refl, refl);
-  peak = omega arith;
-  stopped = λ why is. is;
-  closed = λ is. is;
-  kept = omega arith;
-  quanta = omega arith;
-  its = omega arith;
-  counts = λ other apart. refl;
-  held = λ other apart. refl;
-  work = λ other apart. refl;
-  turns = λ other worker apart. refl;
-  left = λ other apart. refl;
-  entries_room = λ other apart. refl;
-  rows_room = λ other apart. refl;
-  first = λ other apart. omega arith;
-  second = λ other apart. omega (arith, none_owed other);
-}
+rotate_apart seat m =
+    same_apart seat m (rotate m) (record { fixed = (refl, refl, refl); peak = omega arith; stopped = refl; seats = refl; holds = refl; room = refl }) (λ other apart. omega arith) (λ other apart. omega (arith, none_owed other))
 
 rotate_alone_apart : (seat : ℕ) (m : Machine) → Apart seat 0 m (rotate_alone m)
-rotate_alone_apart seat m = record {
-  fixed = (refl, refl, refl);
-  peak = omega arith;
-  stopped = λ why is. is;
-  closed = λ is. is;
-  kept = omega arith;
-  quanta = omega arith;
-  its = omega arith;
-  counts = λ other apart. refl;
-  held = λ other apart. refl;
-  work = λ other apart. refl;
-  turns = λ other worker apart. refl;
-  left = λ other apart. refl;
-  entries_room = λ other apart. refl;
-  rows_room = λ other apart. refl;
-  first = λ other apart. omega arith;
-  second = λ other apart. omega (arith, none_owed other);
-}
+rotate_alone_apart seat m =
+    same_apart seat m (rotate_alone m) (record { fixed = (refl, refl, refl); peak = omega arith; stopped = refl; seats = refl; holds = refl; room = refl }) (λ other apart. omega arith) (λ other apart. omega (arith, none_owed other))
 
 swap_deep_apart : (seat : ℕ) (m : Machine) → Apart seat 0 m (swap_deep m)
-swap_deep_apart seat m = record {
-  fixed = (refl, refl, refl);
-  peak = omega arith;
-  stopped = λ why is. is;
-  closed = λ is. is;
-  kept = omega arith;
-  quanta = omega arith;
-  its = omega arith;
-  counts = λ other apart. refl;
-  held = λ other apart. refl;
-  work = λ other apart. refl;
-  turns = λ other worker apart. refl;
-  left = λ other apart. refl;
-  entries_room = λ other apart. refl;
-  rows_room = λ other apart. refl;
-  first = λ other apart. omega arith;
-  second = λ other apart. omega (arith, none_owed other);
-}
+swap_deep_apart seat m =
+    same_apart seat m (swap_deep m) (record { fixed = (refl, refl, refl); peak = omega arith; stopped = refl; seats = refl; holds = refl; room = refl }) (λ other apart. omega arith) (λ other apart. omega (arith, none_owed other))
 
 end_pass_apart : (seat : ℕ) (m : Machine) → Apart seat 0 m (end_pass m)
-end_pass_apart seat m = record {
-  fixed = (refl, refl, refl);
-  peak = omega arith;
-  stopped = λ why is. is;
-  closed = λ is. is;
-  kept = omega arith;
-  quanta = omega arith;
-  its = omega arith;
-  counts = λ other apart. refl;
-  held = λ other apart. refl;
-  work = λ other apart. refl;
-  turns = λ other worker apart. refl;
-  left = λ other apart. refl;
-  entries_room = λ other apart. refl;
-  rows_room = λ other apart. refl;
-  first = λ other apart. omega (arith, none_owed other);
-  second = λ other apart. omega arith;
-}
+end_pass_apart seat m =
+    same_apart seat m (end_pass m) (record { fixed = (refl, refl, refl); peak = omega arith; stopped = refl; seats = refl; holds = refl; room = refl }) (λ other apart. omega (arith, none_owed other)) (λ other apart. omega arith)
 
 swap_pass_apart : (seat : ℕ) (m : Machine) → Apart seat 0 m (swap_pass m)
 swap_pass_apart seat m = by (nat_le (c1_mark m.gears.sizes) (entries_weight (output_of m.merges.pass)))
@@ -379,67 +312,18 @@ same_or_set true xs seat other n apart = omega (arith, get_or-set_other xs seat 
 same_or_set false xs seat other n apart = omega arith
 
 pub take_apart : (seat : ℕ) (w : Write) (m : Machine) → Apart seat 0 m (with_peak (take_write seat w m))
-take_apart seat w m = record {
-  fixed = (refl, refl, refl);
-  peak = omega arith;
-  stopped = λ why is. is;
-  closed = λ is. is;
-  kept = omega arith;
-  quanta = omega arith;
-  its = omega arith;
-  counts = λ other apart. refl;
-  held = λ other apart. refl;
-  work = λ other apart. refl;
-  turns = λ other worker apart. refl;
-  left = λ other apart. refl;
-  entries_room = λ other apart. refl;
-  rows_room = λ other apart. refl;
-  first = λ other apart. same_or_set (in_pass m) m.gears.first_debts seat other (slice_index m.gears.first_debts seat + first_gear m.gears.sizes * weight_of w) apart;
-  second = λ other apart. same_or_set (in_deep m) m.gears.second_debts seat other (slice_index m.gears.second_debts seat + second_gear m.gears.sizes * weight_of w) apart;
-}
+take_apart seat w m =
+    same_apart seat m (with_peak (take_write seat w m)) (record { fixed = (refl, refl, refl); peak = omega arith; stopped = refl; seats = refl; holds = refl; room = refl }) (λ other apart. same_or_set (in_pass m) m.gears.first_debts seat other (slice_index m.gears.first_debts seat + first_gear m.gears.sizes * weight_of w) apart) (λ other apart. same_or_set (in_deep m) m.gears.second_debts seat other (slice_index m.gears.second_debts seat + second_gear m.gears.sizes * weight_of w) apart)
 
 pub forgive_apart : (seat : ℕ) (m : Machine) → Apart seat 0 m (forgive seat m)
-forgive_apart seat m = record {
-  fixed = (refl, refl, refl);
-  peak = omega arith;
-  stopped = λ why is. is;
-  closed = λ is. is;
-  kept = omega arith;
-  quanta = omega arith;
-  its = omega arith;
-  counts = λ other apart. refl;
-  held = λ other apart. refl;
-  work = λ other apart. refl;
-  turns = λ other worker apart. refl;
-  left = λ other apart. refl;
-  entries_room = λ other apart. refl;
-  rows_room = λ other apart. refl;
-  first = λ other apart. of_equal (get_or-set_other m.gears.first_debts seat other _ 0 apart);
-  second = λ other apart. of_equal (get_or-set_other m.gears.second_debts seat other _ 0 apart);
-}
+forgive_apart seat m =
+    same_apart seat m (forgive seat m) (record { fixed = (refl, refl, refl); peak = omega arith; stopped = refl; seats = refl; holds = refl; room = refl }) (λ other apart. of_equal (get_or-set_other m.gears.first_debts seat other _ 0 apart)) (λ other apart. of_equal (get_or-set_other m.gears.second_debts seat other _ 0 apart))
   where
     of_equal : {x y : ℕ} → x ≡ y → x ≤ y
     of_equal e = omega (arith, e)
 
 pub count_apart : (seat : ℕ) (m : Machine) → Apart seat 0 m (count_for_write seat m)
-count_apart seat m = record {
-  fixed = (refl, refl, refl);
-  peak = omega arith;
-  stopped = λ why is. is;
-  closed = λ is. is;
-  kept = omega arith;
-  quanta = omega arith;
-  its = omega arith;
-  counts = λ other apart. refl;
-  held = λ other apart. refl;
-  work = λ other apart. refl;
-  turns = λ other worker apart. refl;
-  left = λ other apart. refl;
-  entries_room = λ other apart. refl;
-  rows_room = λ other apart. refl;
-  first = λ other apart. omega arith;
-  second = λ other apart. omega arith;
-}
+count_apart seat m = same_apart seat m (count_for_write seat m) (record { fixed = (refl, refl, refl); peak = omega arith; stopped = refl; seats = refl; holds = refl; room = refl }) (λ other apart. omega arith) (λ other apart. omega arith)
 
 pub holding_apart : (seat : ℕ) (rows : Option (List Row)) (m : Machine) → Apart seat 0 m (holding seat rows m)
 holding_apart seat rows m = record {
@@ -483,24 +367,7 @@ work_apart seat work m = record {
 
 -- a record whose other parts only are changed
 recounted_apart : (seat place quanta : ℕ) (m : Machine) → Apart seat 0 m (record m { book = counted_up m.book place quanta })
-recounted_apart seat place quanta m = record {
-  fixed = (refl, refl, refl);
-  peak = omega arith;
-  stopped = λ why is. is;
-  closed = λ is. is;
-  kept = omega arith;
-  quanta = omega arith;
-  its = omega arith;
-  counts = λ other apart. refl;
-  held = λ other apart. refl;
-  work = λ other apart. refl;
-  turns = λ other worker apart. refl;
-  left = λ other apart. refl;
-  entries_room = λ other apart. refl;
-  rows_room = λ other apart. refl;
-  first = λ other apart. omega arith;
-  second = λ other apart. omega arith;
-}
+recounted_apart seat place quanta m = same_apart seat m (record m { book = counted_up m.book place quanta }) (record { fixed = (refl, refl, refl); peak = omega arith; stopped = refl; seats = refl; holds = refl; room = refl }) (λ other apart. omega arith) (λ other apart. omega arith)
 
 -- the swaps and the begin stop nothing
 deep_swapped_runs : (m : Machine) → m.stopped ≡ None → (deep_swapped m).stopped ≡ None
@@ -551,24 +418,7 @@ taken_apart seat (Del key) m = take_apart seat (write.Del key) m
 taken_apart seat _ m = peak_apart seat m
   where
     peak_apart : (seat : ℕ) (m : Machine) → Apart seat 0 m (with_peak m)
-    peak_apart seat m = record {
-      fixed = (refl, refl, refl);
-      peak = omega arith;
-      stopped = λ why is. is;
-      closed = λ is. is;
-      kept = omega arith;
-      quanta = omega arith;
-      its = omega arith;
-      counts = λ other apart. refl;
-      held = λ other apart. refl;
-      work = λ other apart. refl;
-      turns = λ other worker apart. refl;
-      left = λ other apart. refl;
-      entries_room = λ other apart. refl;
-      rows_room = λ other apart. refl;
-      first = λ other apart. omega arith;
-      second = λ other apart. omega arith;
-    }
+    peak_apart seat m = same_apart seat m (with_peak m) (record { fixed = (refl, refl, refl); peak = omega arith; stopped = refl; seats = refl; holds = refl; room = refl }) (λ other apart. omega arith) (λ other apart. omega arith)
 
 admit_apart : (m : Machine) (seat : ℕ) (op : Op) (outcome : Outcome) → Apart seat 0 m (admit m seat op outcome).state
 admit_apart m seat op outcome =
