@@ -10,6 +10,7 @@ use Rattle.blsm_model.specs.Images.{Shows, counted_with, is_unsure}
 use Rattle.blsm_model.specs.Legal.{total_weight}
 use Rattle.blsm_model.specs.Rows.{map_of}
 use Rattle.blsm_model.specs.Values.{value_at}
+use Rattle.disk_trait.specs.Disk.{DiskState}
 use Rattle.record_delta.specs.declared.record.Rec.{Rec}
 use Rattle.record_delta.specs.Entries.{entries_weight, replayed, with_record}
 use Rattle.pacing.specs.Pace.{Pace}
@@ -103,6 +104,23 @@ pub record CountsAs (m later : Machine) : Type 0 where
   pub charge : later.counts.charge ≡ m.counts.charge
   pub peak : later.counts.peak ≡ m.counts.peak
   pub quanta : later.seats.quanta ≡ m.seats.quanta
+
+-- ---- how many commits a file tells
+
+-- The file holds a tree of this version of the catalogue, or of the next one: a commit that failed may have opened its slot's gate.
+pub record HasVersion (sizes : Sizes) (version : ℕ) (file : List ℕ) : Type 0 where
+  pub tree : Tree
+  pub holds : HoldsTree sizes tree file
+  pub one : (tree.catalogue.version ≡ version) ⊎ (tree.catalogue.version ≡ version + 1)
+
+-- as the disk reads, and in each image
+pub record HasCommitted (sizes : Sizes) (version : ℕ) (d : DiskState) : Type 0 where
+  pub reads : HasVersion sizes version d.bytes
+  pub each : (c : List ℕ) → d.images c → HasVersion sizes version c
+
+-- as many commits as the machine counted, or one more
+abbrev pub CommitsAs : Machine → DiskState → Type 0
+CommitsAs m d = HasCommitted m.gears.sizes m.catalogue.version d
 
 -- ---- in the words of what an image may show
 

@@ -1,10 +1,9 @@
 -- What a crash leaves while a script is run: a front of its history, which has the entries of the steps that had ended.
-use Rattle.std.proofs.Common.{◌≡◌, ◌∙◌, ℕ, List, [], ◌++◌, Option, None, Some, IsSome, inl, inr, ⊎_elim, take, length, refl, ap, sym, subst, arith}
+use Rattle.std.proofs.Common.{◌≡◌, ◌∙◌, ℕ, List, [], ◌++◌, inl, inr, ⊎_elim, take, length, refl, ap, sym, subst, arith}
 use mathlib.Core.List.{IsPrefix}
 use Rattle.blsm_model.specs.Images.{Shows}
 use Rattle.blsm_model.specs.Sizes.{Sizes}
 use Rattle.blsm_model.specs.declared.history.Entry.{Entry}
-use Rattle.blsm_model.specs.declared.history.Why.{Why}
 use Rattle.blsm_model.specs.declared.key.Key.{Key}
 use Rattle.blsm_model.specs.declared.row.Value.{Value}
 use Rattle.disk_trait.specs.Disk.{DiskState}
@@ -15,15 +14,16 @@ use Rattle.seat_book.specs.State.{BookState}
 use Rattle.tree_machine.specs.Machine.{Machine}
 use Rattle.tree_machine.specs.Plays.{played}
 use Rattle.tree_machine.specs.declared.step.Step.{Step}
-use Rattle.tree_file.specs.Tree.{HoldsTree, ReadsAsMap}
+use Rattle.tree_file.specs.Tree.{ReadsAsMap}
 use Rattle.tree_file.proofs.OneTree.{one_map}
 use Rattle.core_chain.specs.Steps.{ChainIsSteps, outcomes_in}
 use Rattle.core_moves.specs.declared.held.Held.{Held}
 use Rattle.core_lists.specs.Shown.{ShowsHistory, ShowsWhole}
-use Rattle.core_lists.proofs.ShowingLemmas.{showing_is_kept, standing_shows}
+use Rattle.core_lists.proofs.ShowingLemmas.{showing_is_kept}
 use Rattle.tree_core.specs.Core.{CoreState}
 use Rattle.tree_core.specs.Holds.{StandsWhole}
-use Rattle.tree_core.specs.Standing.{HasStopped, StandsFor}
+use Rattle.tree_core.specs.Standing.{StandsFor}
+use Rattle.tree_core.proofs.QuietLemmas.{shows_now}
 use Rattle.recover_open.specs.Opening.{KeepsMapOf}
 use Rattle.store_run.specs.Run.{Run}
 use Rattle.store_run.specs.Headline.{HaveMoments, LeavesHistory}
@@ -35,24 +35,11 @@ record ShowsAll (sizes : Sizes) (opening : List (Key × Value)) (history : List 
   reads : ShowsHistory sizes opening history (length history) d.bytes
   each : (c : List ℕ) → d.images c → ShowsHistory sizes opening history (length history) c
 
--- while it runs and once it is stopped
-pub shown_now : (opening : List (Key × Value)) (held : Held) (m : Machine) (pace : Pace) (d : DiskState) → StandsFor opening held m pace d → HasStopped opening m d
-shown_now opening held m pace d s = by held.book.stopped refl
-  where
-    by : (stopped : Option Why) → held.book.stopped ≡ stopped → HasStopped opening m d
-    by None is =
-        let over = s.runs is in
-        record {
-          reads = standing_shows opening m pace over.fronts over.tree d.bytes s.paced over.within over.holds.lists over.lanes (subst (λ (z : Sizes). HoldsTree z over.tree d.bytes) (sym s.sizes) over.over.stands.reads);
-          each = λ c left. standing_shows opening m pace over.fronts over.tree c s.paced over.within over.holds.lists over.lanes (subst (λ (z : Sizes). HoldsTree z over.tree c) (sym s.sizes) (over.over.stands.each c left));
-        }
-    by (Some why) is = s.stopped (subst IsSome (sym is) refl)
-
 -- a core that stands for a state of the machine shows the whole of what it noted
 shows_all : (sizes : Sizes) (opening : List (Key × Value)) (held : Held) (m : Machine) (pace : Pace) (d : DiskState) → held.runs.sizes ≡ sizes → StandsFor opening held m pace d
     → ShowsAll sizes opening held.book.book.entries d
 shows_all sizes opening held m pace d same s =
-    let shown = shown_now opening held m pace d s in
+    let shown = shows_now opening held m pace d s in
     record { reads = noted d.bytes shown.reads; each = λ c left. noted c (shown.each c left) }
   where
     noted : (file : List ℕ) → ShowsWhole opening m file → ShowsHistory sizes opening held.book.book.entries (length held.book.book.entries) file

@@ -19,7 +19,7 @@ use Rattle.blsm_model.specs.declared.row.Value.{Value}
 use Rattle.core_moves.specs.declared.held.Held.{Held}
 use Rattle.core_moves.specs.Held.{charge_in}
 use Rattle.core_lists.specs.Standing.{catalogue_of}
-use Rattle.core_lists.specs.Shown.{WeighsWithin, doubted, lanes_weight, most_worked}
+use Rattle.core_lists.specs.Shown.{HasCommitted, WeighsWithin, doubted, lanes_weight, most_worked}
 use Rattle.core_lists.proofs.FileWeights.{running_is_sure}
 use Rattle.disk_trait.specs.Disk.{DiskState, GoesOn}
 use Rattle.disk_trait.specs.Moments.{IsTimed}
@@ -35,6 +35,7 @@ use Rattle.tree_core.specs.Core.{CoreState}
 use Rattle.tree_core.specs.Holds.{StandsWhole}
 use Rattle.tree_core.specs.Standing.{RunsOver, StandsFor}
 use Rattle.tree_core.specs.Steps.{IsPlayed, StandsSince}
+use Rattle.tree_core.proofs.QuietLemmas.{shows_now}
 use Rattle.tree_file.specs.Tree.{HoldsTree, components_weight}
 use Rattle.tree_machine.specs.declared.step.Step.{Step}
 use Rattle.tree_machine.specs.Laws.{StepKeepsOpening}
@@ -50,7 +51,7 @@ use Rattle.core_chain.specs.Steps.{ChainIsSteps, outcomes_in}
 use Rattle.gear_sched.specs.Gears.{GearState}
 use Rattle.store_run.specs.Headline.{EndsWithin, Headline, HoldsState, IsReached, IsServed}
 use Rattle.store_run.specs.Run.{HaveEnded, IsRunInOrder, IsRunOf, Run, finds_damage, run_at}
-use Rattle.store_run.proofs.CrashLemmas.{leaves_history, shown_now}
+use Rattle.store_run.proofs.CrashLemmas.{leaves_history}
 use Rattle.alone_run.specs.Alone.{RunsAlone}
 use Rattle.store_run.proofs.SoloLemmas.{solo_of}
 use Rattle.store_run.proofs.RunLemmas.{HasRun, came_to_end, is_run_of, workers_took}
@@ -115,7 +116,7 @@ totals_of held m sizes is book =
 ended_of : (opening : List (Key × Value)) (held : Held) (first m : Machine) (pace : Pace) (d : DiskState) (sizes : Sizes) (charge : ℕ) → held.runs.sizes ≡ sizes → first.counts.charge ≡ charge
     → Ends opening held first m pace d → EndsWithin sizes (run_at charge held) d.bytes
 ended_of opening held first m pace d sizes charge same is ends =
-    let weighs : WeighsWithin m m.book.entries d.bytes = (shown_now opening held m pace d ends.stands).reads.1 in
+    let weighs : WeighsWithin m m.book.entries d.bytes = (shows_now opening held m pace d ends.stands).reads.1 in
     let one : m.gears.sizes ≡ sizes = ends.stands.sizes ∙ same in
     let all : sum m.seats.quanta ≡ sum (take callers m.seats.quanta) + sum (drop callers m.seats.quanta) = sym (sum_by-take-drop (λ n. n) m.seats.quanta callers) in
     let work : most_worked m ≡ charge + most_taken sizes * (sum (take callers m.seats.quanta) + sum (drop callers m.seats.quanta)) =
@@ -131,6 +132,11 @@ ended_of opening held first m pace d sizes charge same is ends =
       sure = λ runs. subst (λ (b : BookState). doubted b.book.entries ≡ 0) ends.stands.book
           (running_is_sure m.book.entries (ends.stands.paced.stands.told.running (ap (λ (b : BookState). b.stopped) ends.stands.book ∙ runs)));
     }
+
+-- how many commits it tells
+committed_of : (opening : List (Key × Value)) (held : Held) (first m : Machine) (pace : Pace) (d : DiskState) (sizes : Sizes) → held.runs.sizes ≡ sizes → Ends opening held first m pace d → HasCommitted sizes m.catalogue.version d
+committed_of opening held first m pace d sizes same ends =
+    subst (λ (z : Sizes). HasCommitted z m.catalogue.version d) (ends.stands.sizes ∙ same) (shows_now opening held m pace d ends.stands).commits
 
 -- ---- from an opening on
 
@@ -226,6 +232,7 @@ served_from keeps damaged {D} state room lines first old new c1 c2 catalogue pac
       calm = session.calm;
       reached = reached_of state sizes opens.pairs c1 c2 catalogue before.faults room pace steps old new refl session.ran whole.stands refl play;
       within = ended_of opens.pairs new.held machine _ _ after sizes (charge_in old.held) since.sizes weigh ends;
+      commits = committed_of opens.pairs new.held machine _ _ after sizes since.sizes ends;
       stands = λ runs. stands_of opens.pairs new.held machine _ _ after sizes since.sizes ends runs;
     }
 

@@ -4,7 +4,7 @@
 --   each caller's commands once, in order                        `IsRunOf.of_script`
 --   the sequential map's replies                                 `IsServed.replies`; a write is refused for size or for a fault alone
 --   the memory table never passes its bytes                      `IsRunOf.peak`, `EndsWithin.lanes`
---   each write does few merge quanta itself                      `IsRunOf.few`; and the quanta are real: `EndsWithin.components`, `IsServed.stands`
+--   each write does few merge quanta itself                      `IsRunOf.few`; and the quanta are real: `EndsWithin.components`, `IsServed.commits`, `IsServed.stands`
 --   every crash image opens to a prefix of the history           `LeavesHistory.each`, `LeavesHistory.once_synced`
 --   which holds every write that was acknowledged by then        `HaveMoments.shows`, and in the end the whole, `LeavesHistory.whole`
 --   each caller and each worker comes to its end                 `Headline.ended`
@@ -35,7 +35,7 @@ use Rattle.tree_machine.specs.Outcomes.{AreTold}
 use Rattle.tree_machine.specs.Plays.{played}
 use Rattle.tree_machine.specs.Steps.{Outcome}
 use Rattle.tree_file.specs.Tree.{Tree, HoldsTree, ReadsAsMap, components_weight, lists_of}
-use Rattle.core_lists.specs.Shown.{ShowsHistory, doubted, lanes_weight}
+use Rattle.core_lists.specs.Shown.{HasCommitted, ShowsHistory, doubted, lanes_weight}
 use Rattle.core_lists.specs.Standing.{catalogue_of}
 use Rattle.tree_reading.specs.Damage.{most_version}
 use Rattle.recover_open.specs.Opening.{KeepsMapOf, most_opening_calls, weight_of_tree}
@@ -109,6 +109,8 @@ pub record IsServed {D : Type 0} (state : D → DiskState) (sizes : Sizes) (run 
   pub calm : (state opened).faults ≡ first.faults
   pub reached : IsReached sizes opening run room (state opened).bytes (state opened).faults last.faults
   pub within : EndsWithin sizes run last.bytes
+  -- as the disk reads and in each image its catalogue has the version to which the steps led, or the next one where a commit failed and stopped the store
+  pub commits : HasCommitted sizes reached.end.catalogue.version last
   -- unless a fault stopped the store, the disk has just the components, the tables and the catalogue to which the steps led
   pub stands : run.totals.stopped ≡ None → HoldsState sizes reached.end last.bytes
 

@@ -46,7 +46,7 @@ use Rattle.core_moves.specs.Moves.{with_book}
 use Rattle.core_pace.specs.Pacing.{HasPace}
 use Rattle.core_lists.specs.Standing.{IsAt}
 use Rattle.core_lists.specs.Going.{GoesOn}
-use Rattle.core_lists.specs.Shown.{CountsAs, HasFronts, ShowsHistory, ShowsWhole, doubted}
+use Rattle.core_lists.specs.Shown.{CommitsAs, CountsAs, HasFronts, ShowsHistory, ShowsWhole, doubted}
 use Rattle.core_lists.specs.Images.{ShowsNoted, history_with}
 use Rattle.core_lists.proofs.AppendLemmas.{not_past}
 use Rattle.core_lists.proofs.FileWeights.{counts_itself, deep_swapped_counts, doubt_grows, ready_counts, weighs_as}
@@ -218,7 +218,7 @@ module _ (opening : List (Key × Value)) (seat : ℕ) (op : Op) (held : Held) (m
       (ap (λ (o : Option Why). unless_stopped o seat op m (cond (nat_lt limit (charge m + w)) (replied seat op (Full (charge m)) m) (admit_fitting m seat op w Well))) (stop_is ∙ stop))
       tt refl (noted_tells seat op (Stopped why) held m tells)
       (λ runs. absurd (none-some why (sym runs ∙ stop)))
-      (λ some. record { reads = noted d.bytes shown.reads; each = λ c left. noted c (shown.each c left) })
+      (λ some. record { reads = noted d.bytes shown.reads; each = λ c left. noted c (shown.each c left); commits = shown.commits })
       (leaves_only_start d _ is.timed (λ c left. kept_whole opening seat op m (Stopped why) c (shown.each c left)))
     where
       shown : HasStopped opening m d
@@ -296,47 +296,51 @@ module _ (opening : List (Key × Value)) (seat : ℕ) (op : Op) (held : Held) (m
         fails_by : (reply : Reply) (commits : ℕ) (later : Machine) → admit_fitting m seat op w (FailedAfter commits after.faults) ≡ replied seat op reply (stop why later) → commits ≤ swaps_due m
             → TellsOf left later → later.gears.sizes ≡ m.gears.sizes → later.book ≡ m.book → CountsAs m later
             → ((c : List ℕ) → after.images c → ShowsNoted opening seat op reply m c)
-            → ShowsNoted opening seat op reply m after.bytes
+            → ShowsNoted opening seat op reply m after.bytes → CommitsAs later after
             → LeavesOnly d after (ShowsHistory m.gears.sizes opening (history_with seat op reply m) (length m.book.entries))
             → IsStep opening seat asked (Replied reply) (stopped reply) d after m pace
-        fails_by reply commits later same few left_tells sizes book counts each reads images =
+        fails_by reply commits later same few left_tells sizes book counts each reads committed images =
             step_by (FailedAfter commits after.faults) reply (note seat op reply (stop why later)) (stopped reply) after
             (admission_fits m seat op (FailedAfter commits after.faults) runs room_here ∙ same)
             (calls_here, few, rose d.faults after.faults order small risen, refl) refl (stopped_tells seat op reply why left later left_tells)
             (λ (still : Some why ≡ None). absurd (none-some why (sym still)))
-            (λ some. record { reads = shows_after opening seat op m reply why later after.bytes sizes book counts reads; each = λ c here. shows_after opening seat op m reply why later c sizes book counts (each c here) })
+            (λ some. record {
+              reads = shows_after opening seat op m reply why later after.bytes sizes book counts reads;
+              each = λ c here. shows_after opening seat op m reply why later c sizes book counts (each c here);
+              commits = committed;
+            })
             (images_after opening seat op m reply later d after book images)
 
         -- a swap failed
-        lost_steps : IsTimed after → HasLost m left → LeavesOnly d after (ShowsWhole opening m) → ShowsWhole opening m after.bytes → IsStep opening seat asked (Replied FaultLost) (stopped FaultLost) d after m pace
+        lost_steps : IsTimed after → HasLost m left after → LeavesOnly d after (ShowsWhole opening m) → ShowsWhole opening m after.bytes → IsStep opening seat asked (Replied FaultLost) (stopped FaultLost) d after m pace
         lost_steps timed lost images reads = ⊎_elim
-            (λ deep. by 0 m (deep_lost seat op w after.faults m deep.1) (omega arith) deep.0 refl refl (counts_itself m))
+            (λ deep. by 0 m (deep_lost seat op w after.faults m deep.1) (omega arith) deep.0 refl refl (counts_itself m) deep.2)
             (λ pass.
             let carries = deep_swapped_carries m is.stands.paced.stands.sound in
-            by (one_if (deep_done m)) (deep_swapped m) (pass_lost seat op w after.faults m pass.1) (omega arith) pass.0 carries.sizes carries.book (deep_swapped_counts m))
+            by (one_if (deep_done m)) (deep_swapped m) (pass_lost seat op w after.faults m pass.1) (omega arith) pass.0 carries.sizes carries.book (deep_swapped_counts m) pass.2)
             lost
           where
             by : (commits : ℕ) (later : Machine) → admit_fitting m seat op w (FailedAfter commits after.faults) ≡ replied seat op FaultLost (stop why later) → commits ≤ swaps_due m
-                → TellsOf left later → later.gears.sizes ≡ m.gears.sizes → later.book ≡ m.book → CountsAs m later → IsStep opening seat asked (Replied FaultLost) (stopped FaultLost) d after m pace
-            by commits later same few left_tells sizes book counts =
+                → TellsOf left later → later.gears.sizes ≡ m.gears.sizes → later.book ≡ m.book → CountsAs m later → CommitsAs later after → IsStep opening seat asked (Replied FaultLost) (stopped FaultLost) d after m pace
+            by commits later same few left_tells sizes book counts committed =
                 fails_by FaultLost commits later same few left_tells sizes book counts
                 (λ c here. noted_whole opening seat op m FaultLost c refl refl (leaves_only_now timed images c here))
-                (noted_whole opening seat op m FaultLost after.bytes refl refl reads)
+                (noted_whole opening seat op m FaultLost after.bytes refl refl reads) committed
                 (leaves_only_weaken (λ c shows. kept_whole opening seat op m FaultLost c shows) images)
 
         -- the append failed
         unsure_steps : TellsOf left (ready_for w m) → LeavesOnly d after (ShowsHistory m.gears.sizes opening (history_with seat op FaultUnsure m) (length m.book.entries))
             → ((c : List ℕ) → after.images c → ShowsNoted opening seat op FaultUnsure m c)
-            → ShowsNoted opening seat op FaultUnsure m after.bytes
+            → ShowsNoted opening seat op FaultUnsure m after.bytes → CommitsAs (ready_for w m) after
             → IsStep opening seat asked (Replied FaultUnsure) (stopped FaultUnsure) d after m pace
-        unsure_steps left_tells images each reads =
+        unsure_steps left_tells images each reads committed =
             let carries = ready_carries w m is.stands.paced.stands.sound (has_way opening m pace is.stands.paced) in
-            fails_by FaultUnsure (swaps_due m) (ready_for w m) (append_lost seat op w after.faults m) (omega arith) left_tells carries.sizes carries.book (ready_counts w m) each reads images
+            fails_by FaultUnsure (swaps_due m) (ready_for w m) (append_lost seat op w after.faults m) (omega arith) left_tells carries.sizes carries.book (ready_counts w m) each reads committed images
 
         -- a call failed
         pub failed_steps : (begun : Bool) → IsTimed after → TakesOver (Failed begun) opening seat op m pace left d after
             → IsStep opening seat asked (Replied (cond begun FaultUnsure FaultLost)) (stopped (cond begun FaultUnsure FaultLost)) d after m pace
-        failed_steps true timed taken = unsure_steps taken.0 taken.1 taken.2 taken.3
+        failed_steps true timed taken = unsure_steps taken.0 taken.1 taken.2 taken.3 taken.4
         failed_steps false timed taken = lost_steps timed taken.0 taken.1 taken.2
 
       -- the write was taken

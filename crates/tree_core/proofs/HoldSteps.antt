@@ -212,7 +212,7 @@ mapped_stands {end} {most} {d} {d2} opening held space rows seat command r m pac
       };
   stopped = λ stopped.
       let entry : Entry = record { seat = seat; op = command; reply = r } in
-      shows_entry opening m (noted_with rows seat command r m) d d2 entry (shows_now opening held m pace d s) refl (record { charge = refl; peak = refl; quanta = refl }) refl (quiet_entry_counts_none entry (inl none)) (reads.same.same.bytes honest)
+      shows_entry opening m (noted_with rows seat command r m) d d2 entry (shows_now opening held m pace d s) refl refl (record { charge = refl; peak = refl; quanta = refl }) refl (quiet_entry_counts_none entry (inl none)) (reads.same.same.bytes honest)
       (reads.same.same.images honest);
 }
   where

@@ -1,6 +1,7 @@
 mod BoundLemmas
 mod ToldLemmas
-mod QuietLemmas
+mod VersionLemmas
+pub mod QuietLemmas
 mod BookSteps
 mod LookupSteps
 mod OpeningSteps

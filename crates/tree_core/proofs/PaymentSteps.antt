@@ -45,6 +45,7 @@ use Rattle.tree_core.specs.Standing.{StandsFor}
 use Rattle.tree_core.specs.Steps.{IsStep}
 use Rattle.tree_core.proofs.QuantumLemmas.{charge_kept}
 use Rattle.tree_core.proofs.QuantumSteps.{RunsAt, stands_running, running_at, steady_at, shows_at, leaves_same, step_by}
+use Rattle.tree_core.proofs.VersionLemmas.{one_commits, version_of}
 use Rattle.tree_core.proofs.PaymentLemmas.{Took, FailedToTake, book_taken, book_stopped, kept_of, takes_in, payment_runs}
 
 -- ---- a store that is stopped
@@ -209,7 +210,12 @@ failed_payment_step opening seat f plan old forgiven failed b m pace before afte
           charge_is = (tests_agree_with_lists (with_debts_forgiven seat old) tree (forgive seat m) before.bytes (with_forgiven r.numbers seat) at (sound_forgiven m seat r.goes.paced.stands.sound) (forgiving_has_pace seat old r.numbers r.has)).charge_is
               ∙ sym (charge_kept (with_debts_forgiven seat old) failed kept);
           runs = λ runs. absurd (let e = ap (λ (x : BookState). x.stopped) stops in cc (e, runs));
-          stopped = λ some. record { reads = shows after.bytes leaves.stands.reads; each = λ c here. shows c (leaves.stands.each c here) };
+          stopped = λ some. record {
+            reads = shows after.bytes leaves.stands.reads;
+            each = λ c here. shows c (leaves.stands.each c here);
+            commits = one_commits m.gears.sizes forgiven.runs.sizes m.catalogue.version tree after (ap (λ (g : GearState). g.sizes) r.holds.gears ∙ r.one ∙ sym (ap (λ (h : Held). h.runs.sizes) fails.plans.is))
+                (version_of old tree m old.log.a.entries before.bytes r.over.are_of r.holds) leaves.stands;
+          };
         }
 
 -- On an honest disk no page is found damaged.

@@ -42,6 +42,7 @@ use Rattle.paced_tree.proofs.Promises.{step_is_paced}
 use Rattle.tree_core.specs.Core.{IsTold, HoldsPace}
 use Rattle.tree_core.specs.Standing.{StandsFor, HasStopped}
 use Rattle.tree_core.specs.Steps.{IsStep}
+use Rattle.tree_core.proofs.VersionLemmas.{commits_still, one_commits, version_of}
 
 -- ---- by numbers
 
@@ -89,6 +90,7 @@ shows_now opening held m pace d s = ⊎_elim running s.stopped (runs_or_not held
         record {
           reads = standing_shows opening m pace over.fronts over.tree d.bytes s.paced over.within over.holds.lists over.lanes (subst (λ (z : Sizes). HoldsTree z over.tree d.bytes) (sym s.sizes) over.over.stands.reads);
           each = λ c left. standing_shows opening m pace over.fronts over.tree c s.paced over.within over.holds.lists over.lanes (subst (λ (z : Sizes). HoldsTree z over.tree c) (sym s.sizes) (over.over.stands.each c left));
+          commits = one_commits m.gears.sizes held.runs.sizes m.catalogue.version over.tree d s.sizes (version_of held over.tree m held.log.a.entries d.bytes over.over.are_of over.holds) over.over.stands;
         }
 
 -- It stays with the lists, the merges, the gears, the spring and the catalogue.
@@ -144,11 +146,12 @@ quiet_stands opening held b m after pace d d2 s same book stopped paced stays sh
 -- ---- what is shown
 
 -- The whole history, with one entry more that counts no write, of a disk whose bytes and images are those from before.
-pub shows_entry : (opening : List (Key × Value)) (m after : Machine) (d d2 : DiskState) (entry : Entry) → HasStopped opening m d → after.gears ≡ m.gears → CountsAs m after → after.book.entries ≡ m.book.entries ++ entry ∷ []
+pub shows_entry : (opening : List (Key × Value)) (m after : Machine) (d d2 : DiskState) (entry : Entry) → HasStopped opening m d → after.gears ≡ m.gears → after.catalogue ≡ m.catalogue → CountsAs m after → after.book.entries ≡ m.book.entries ++ entry ∷ []
     → ((unsure : Bool) → counted_with unsure entry ≡ []) → (d2.bytes ≡ d.bytes) → ((c : List ℕ) → d2.images c → d.images c) → HasStopped opening after d2
-shows_entry opening m after d d2 entry shown gears counts noted none bytes images = record {
+shows_entry opening m after d d2 entry shown gears catalogue counts noted none bytes images = record {
   reads = subst (λ (file : List ℕ). ShowsWhole opening after file) (sym bytes) (more d.bytes shown.reads);
   each = λ c left. more c (shown.each c (images c left));
+  commits = commits_still m after d d2 gears catalogue bytes images shown.commits;
 }
   where
     more : (file : List ℕ) → ShowsWhole opening m file → ShowsWhole opening after file
@@ -163,8 +166,13 @@ shows_entry opening m after d d2 entry shown gears counts noted none bytes image
         )
 
 -- the same history
-pub shows_same : (opening : List (Key × Value)) (m after : Machine) (d : DiskState) → HasStopped opening m d → after.gears ≡ m.gears → CountsAs m after → after.book.entries ≡ m.book.entries → HasStopped opening after d
-shows_same opening m after d shown gears counts noted = record { reads = same d.bytes shown.reads; each = λ c left. same c (shown.each c left) }
+pub shows_same : (opening : List (Key × Value)) (m after : Machine) (d : DiskState) → HasStopped opening m d → after.gears ≡ m.gears → after.catalogue ≡ m.catalogue → CountsAs m after → after.book.entries ≡ m.book.entries
+    → HasStopped opening after d
+shows_same opening m after d shown gears catalogue counts noted = record {
+  reads = same d.bytes shown.reads;
+  each = λ c left. same c (shown.each c left);
+  commits = commits_still m after d d gears catalogue refl (λ c left. left) shown.commits;
+}
   where
     same : (file : List ℕ) → ShowsWhole opening m file → ShowsWhole opening after file
     same file shows = (
@@ -226,8 +234,8 @@ quiet_step {end} {most} {d} {d2} opening seat k outcome answer held b m after pa
 
     -- the disk reads as before
     still : HasStopped opening m d2
-    still = record { reads = subst (λ (file : List ℕ). ShowsWhole opening m file) (sym (reads.same.same.bytes honest)) shown.reads; each = λ c left. shown.each c (reads.same.same.images honest c left) }
+    still = record { reads = subst (λ (file : List ℕ). ShowsWhole opening m file) (sym (reads.same.same.bytes honest)) shown.reads; each = λ c left. shown.each c (reads.same.same.images honest c left); commits = commits_still m m d d2 refl refl (reads.same.same.bytes honest) (reads.same.same.images honest) shown.commits }
 
     shows : HasStopped opening after d2
-    shows = ⊎_elim (λ (none : after.book.entries ≡ m.book.entries). shows_same opening m after d2 still changes.same.gears changes.counts none)
-        (λ one. shows_entry opening m after d d2 one.0 shown changes.same.gears changes.counts one.1 one.2 (reads.same.same.bytes honest) (reads.same.same.images honest)) changes.noted
+    shows = ⊎_elim (λ (none : after.book.entries ≡ m.book.entries). shows_same opening m after d2 still changes.same.gears changes.same.catalogue changes.counts none)
+        (λ one. shows_entry opening m after d d2 one.0 shown changes.same.gears changes.same.catalogue changes.counts one.1 one.2 (reads.same.same.bytes honest) (reads.same.same.images honest)) changes.noted

@@ -43,7 +43,7 @@ use Rattle.core_pace.specs.Pacing.{HasPace, IsPacedHeld}
 use Rattle.core_pace.specs.Events.{IsBetween}
 use Rattle.core_pace.proofs.EventLemmas.{settled_between, moves_are_told}
 use Rattle.core_lists.specs.Standing.{HoldsMachine, IsAt}
-use Rattle.core_lists.specs.Shown.{ShowsHistory, ShowsWhole}
+use Rattle.core_lists.specs.Shown.{CommitsAs, ShowsHistory, ShowsWhole}
 use Rattle.core_lists.specs.Admissions.{DeepSettlesTree, PassSettlesTree, IsReadied}
 use Rattle.core_lists.specs.Images.{StandsIn, SettledIn, MayAppend, ShowsNoted, with_appended, history_with}
 use Rattle.core_lists.proofs.AdmissionLands.{deep_settling_lands, readying_lands}
@@ -55,6 +55,7 @@ use Rattle.core_lists.proofs.GoingLemmas.{admission_goes_on}
 use Rattle.core_lists.proofs.TestLemmas.{tests_agree_with_lists}
 use Rattle.tree_core.specs.Standing.{StandsFor}
 use Rattle.tree_core.specs.Taking.{PassMakesTree, TellsOf, TakenOver, HasLost}
+use Rattle.tree_core.proofs.VersionLemmas.{either_commits, version_of}
 use Rattle.tree_core.proofs.TakingLemmas.{is_ok_of, ok_of, begun_keeps}
 use Rattle.tree_core.proofs.KeepLemmas.{deep_keeps_pins, pass_keeps_pins}
 
@@ -138,10 +139,14 @@ module _ (opening : List (Key × Value)) (old : Held) (m : Machine) (pace : Pace
       (λ never. standing_shows opening m pace fronts tree image stood.paced stood.within stood.at.holds.lists stood.lanes (one_tree m.gears.sizes tree next image (moves.rests never) either_here))
       cases
 
-  pub lost_deep : (new : Held) → new ≡ old → IsDeepDone old → HasLost m new
-  lost_deep new same done = inl (
+  version_is : tree.catalogue.version ≡ m.catalogue.version
+  version_is = version_of old tree m old.log.a.entries d.bytes over.are_of stood.at.holds
+
+  pub lost_deep : (new : Held) → new ≡ old → IsDeepDone old → (ok : Bool) (after : DiskState) → DeepLeaves old new ok d after → HasLost m new after
+  lost_deep new same done ok after leaves = inl (
     subst (λ (h : Held). TellsOf h m) (sym same) (tells_of old tree m d.bytes is.numbers stood.at is.stands.paced.stands.sound is.paced.numbers is.paced.one.gears),
     (tests_agree_with_lists old tree m d.bytes is.numbers stood.at is.stands.paced.stands.sound is.paced.numbers).deep_is_done.0 done,
+    either_commits m.gears.sizes old.runs.sizes m.catalogue.version tree (leaves tree is.honest over).0 after is.stands.sizes version_is (inr ((leaves tree is.honest over).1.done done).version) (leaves tree is.honest over).2.either,
   )
 
   pub deep_whole : (new : Held) (ok : Bool) (after : DiskState) → IsDeepDone old ⊎ (IsDeepDone old → ⊥) → DeepLeaves old new ok d after → LeavesWhole opening m d after
@@ -207,12 +212,16 @@ module _ (opening : List (Key × Value)) (old : Held) (m : Machine) (pace : Pace
       (settled_fronts opening old m pace bounds first middle d.bytes (stood opening old m pace d is) moves) (one_tree m.gears.sizes middle next image (makes.rests never) either_here))
       cases
 
-  pub lost_pass : (new : Held) → new ≡ settled → IsPassDone settled → HasLost m new
-  lost_pass new same done =
-      let sound = (deep_swapped_carries m is.stands.paced.stands.sound).sound in
+  pub lost_pass : (new : Held) → new ≡ settled → IsPassDone settled → (ok : Bool) (after : DiskState) → PassLeaves settled new ok mid after → HasLost m new after
+  lost_pass new same done ok after leaves =
+      let carries = deep_swapped_carries m is.stands.paced.stands.sound in
+      let sound = carries.sound in
+      let made = leaves middle (has.honest is.honest) over_middle in
       inr (
         subst (λ (h : Held). TellsOf h (deep_swapped m)) (sym same) (tells_of settled middle (deep_swapped m) mid.bytes (deep_settled is.numbers) settled_in.at sound between.numbers between.one.gears),
         (tests_agree_with_lists settled middle (deep_swapped m) mid.bytes (deep_settled is.numbers) settled_in.at sound between.numbers).pass_is_done.0 done,
+        either_commits (deep_swapped m).gears.sizes settled.runs.sizes (deep_swapped m).catalogue.version middle made.0 after (carries.sizes ∙ sizes_here)
+            (version_of settled middle (deep_swapped m) settled.log.a.entries mid.bytes over_middle.are_of settled_in.at.holds) (inr (made.1.done done).version) made.2.either,
       )
 
   pub pass_whole : (new : Held) (ok : Bool) (after : DiskState) → IsPassDone settled ⊎ (IsPassDone settled → ⊥) → PassLeaves settled new ok mid after → LeavesWhole opening m d after
@@ -353,6 +362,14 @@ module _ (opening : List (Key × Value)) (old : Held) (m : Machine) (pace : Pace
   doubt_shows : (image : List ℕ) → HoldsEither begun.runs.sizes next appended_tree image → ShowsNoted opening seat op FaultUnsure m image
   doubt_shows image either = unsure_shows opening m pace limits seat op write begun next image may_append (subst (λ (s : Sizes). HoldsEither s next appended_tree image) sizes_begun either)
 
+  -- an append commits nothing
+  same_catalogue : (b : Bool) → (appended b (key_of write, record_of write) next).catalogue.version ≡ next.catalogue.version
+  same_catalogue true = refl
+  same_catalogue false = refl
+
+  version_begun : next.catalogue.version ≡ (ready_for w m).catalogue.version
+  version_begun = version_of begun next (ready_for w m) begun.log.a.entries last.bytes at_begun.are_of at_begun.holds
+
   becomes : (ok : Bool) (after : DiskState) → Appends (key_of write) (record_of write) begun ok last after → Becomes begun.runs.sizes next appended_tree ok last after
   becomes ok after appends = appends next (then.honest (has.honest is.honest)) at_begun.holds.of_log over_begun
 
@@ -365,6 +382,7 @@ module _ (opening : List (Key × Value)) (old : Held) (m : Machine) (pace : Pace
 
   pub doubt_leaves : (new : Held) → new ≡ begun → (ok : Bool) (after : DiskState) → Appends (key_of write) (record_of write) begun ok last after
       → TellsOf new (ready_for w m) × LeavesOnly d after (Shows_with FaultUnsure (length m.book.entries)) × ((c : List ℕ) → after.images c → ShowsNoted opening seat op FaultUnsure m c) × ShowsNoted opening seat op FaultUnsure m after.bytes
+      × CommitsAs (ready_for w m) after
   doubt_leaves new same ok after appends =
       let left = becomes ok after appends in (
         subst (λ (h : Held). TellsOf h (ready_for w m)) (sym (same ∙ then.is_begun))
@@ -373,6 +391,8 @@ module _ (opening : List (Key × Value)) (old : Held) (m : Machine) (pace : Pace
         leaves_only_run (leaves_only_weaken (without FaultUnsure) before.0) (leaves_only_weaken (λ c either. fewer FaultUnsure c (doubt_shows c either).0) left.each),
         (λ c here. doubt_shows c (left.either.each c here)),
         doubt_shows after.bytes left.either.reads,
+        either_commits (ready_for w m).gears.sizes begun.runs.sizes (ready_for w m).catalogue.version next appended_tree after
+            ((ready_carries w m is.stands.paced.stands.sound (has_way opening m pace is.stands.paced)).sizes ∙ sym sizes_begun) version_begun (inl (same_catalogue (goes_ahead (key_of write) begun))) left.either,
       )
 
   -- the write is the machine's

@@ -61,6 +61,7 @@ use Rattle.tree_core.specs.Steps.{IsStep}
 use Rattle.tree_core.proofs.QuantumLemmas.{charge_kept, kept_once}
 use Rattle.tree_core.proofs.QuantumSteps.{RunsAt, stands_running, standing_at, steady_at, shows_at, leaves_same, step_by}
 use Rattle.tree_core.specs.Turning.{counted_by}
+use Rattle.tree_core.proofs.VersionLemmas.{either_commits, moved_version, version_of}
 use Rattle.tree_core.proofs.TurnLemmas.{Turns, Ends, KeepsOpen, counted_book, counted_stops, moved_open, ended_moves}
 
 -- ---- a store that is stopped
@@ -136,7 +137,7 @@ halted_turn w opening seat why old b m pace d timed is counts stands ok =
       book = book_is;
       charge_is = stands.charge_is;
       runs = λ runs. absurd (let e = ap (λ (x : BookState). x.stopped) book_is in cc (e, runs, stop_is));
-      stopped = λ some. record { reads = counted_shows w opening seat (machine.Halted why) m d.bytes stopped.reads; each = λ c here. counted_shows w opening seat (machine.Halted why) m c (stopped.each c here) };
+      stopped = λ some. record { reads = counted_shows w opening seat (machine.Halted why) m d.bytes stopped.reads; each = λ c here. counted_shows w opening seat (machine.Halted why) m c (stopped.each c here); commits = stopped.commits };
     }
 
 -- ---- what the images show of a move
@@ -332,7 +333,12 @@ failed_turn w opening seat f old moved m pace tree before after made kept counte
       book = book_is;
       charge_is = (tests_agree_with_lists old tree m before.bytes o.runs.numbers (record { are_of = o.runs.over.are_of; holds = o.runs.holds }) o.runs.goes.paced.stands.sound o.runs.has).charge_is ∙ sym (charge_kept old moved kept);
       runs = λ none. absurd (let e = ap (λ (x : BookState). x.stopped) book_is in cc (e, none));
-      stopped = λ some. record { reads = stop_shows after.bytes (shows after.bytes o.leaves.either.reads); each = λ c here. stop_shows c (shows c (o.leaves.either.each c here)) };
+      stopped = λ some. record {
+        reads = stop_shows after.bytes (shows after.bytes o.leaves.either.reads);
+        each = λ c here. stop_shows c (shows c (o.leaves.either.each c here));
+        commits = either_commits m.gears.sizes old.runs.sizes m.catalogue.version tree o.next after (same_sizes opening old m pace before tree o.runs)
+            (version_of old tree m old.log.a.entries before.bytes o.runs.over.are_of o.runs.holds) (moved_version (move_in w old) old tree o.next o.leaves.makes) o.leaves.either;
+      };
     }
 
 -- ---- any turn

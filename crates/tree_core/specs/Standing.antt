@@ -13,7 +13,7 @@ use Rattle.tree_runs.specs.Holding.{StandOver}
 use Rattle.core_moves.specs.declared.held.Held.{Held}
 use Rattle.core_moves.specs.Held.{charge_in}
 use Rattle.core_lists.specs.Standing.{HoldsMachine}
-use Rattle.core_lists.specs.Shown.{HasFronts, ShowsWhole}
+use Rattle.core_lists.specs.Shown.{CommitsAs, HasFronts, ShowsWhole}
 
 -- While it runs the disk stands on a tree, with whose lists the core is the machine's state; no front of a lane weighs more than these.
 pub record RunsOver (held : Held) (m : Machine) (pace : Pace) (d : DiskState) : Type 0 where
@@ -24,10 +24,11 @@ pub record RunsOver (held : Held) (m : Machine) (pace : Pace) (d : DiskState) : 
   pub within : AreFronts pace fronts
   pub lanes : HasFronts tree m.lists fronts
 
--- Once it is stopped, each image and what the disk reads as show the whole history, and no work that wasn't counted.
+-- Once it is stopped, each image and what the disk reads as show the whole history, and no work that wasn't counted, nor a commit but one that failed.
 pub record HasStopped (opening : List (Key × Value)) (m : Machine) (d : DiskState) : Type 0 where
   pub reads : ShowsWhole opening m d.bytes
   pub each : (c : List ℕ) → d.images c → ShowsWhole opening m c
+  pub commits : CommitsAs m d
 
 -- The core stands for this state of the machine, which is paced from the opening on.
 pub record StandsFor (opening : List (Key × Value)) (held : Held) (m : Machine) (pace : Pace) (d : DiskState) : Type 0 where

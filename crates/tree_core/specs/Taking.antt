@@ -26,7 +26,7 @@ use Rattle.core_moves.specs.Held.{IsPassDone, IsDeepDone, is_run_full, charge_in
 use Rattle.core_moves.specs.Needs.{IsOn}
 use Rattle.core_moves.specs.Moves.{SettlesDeep, SettlesPass, begun_in, WritesIn}
 use Rattle.core_lists.specs.Standing.{HoldsMachine}
-use Rattle.core_lists.specs.Shown.{ShowsHistory, ShowsWhole}
+use Rattle.core_lists.specs.Shown.{CommitsAs, ShowsHistory, ShowsWhole}
 use Rattle.core_lists.specs.Images.{ShowsNoted, history_with}
 use Rattle.core_lists.specs.Going.{GoesOn}
 use Rattle.tree_core.specs.declared.admission.Taking.{Taking}
@@ -72,9 +72,10 @@ pub record TakenOver (opening : List (Key × Value)) (seat : ℕ) (op : Op) (m :
   pub holds : HoldsMachine new tree (with_peak (taken_once seat (writes_of op) (ready_for (total_weight (writes_of op)) m)))
   pub goes : GoesOn opening (admit m seat op Well).state (pace_after m pace seat (kind.Admit op) Well) fronts tree
 
--- Where a swap failed, it was due: that of the deep merge, or that of the pass after it.
-abbrev pub HasLost : Machine → Held → Type 0
-HasLost m new = (TellsOf new m × (deep_done m ≡ true)) ⊎ (TellsOf new (deep_swapped m) × (pass_done (deep_swapped m) ≡ true))
+-- Where a swap failed, it was due: that of the deep merge, or that of the pass after it. No other commit was made.
+abbrev pub HasLost : Machine → Held → DiskState → Type 0
+HasLost m new after =
+    (TellsOf new m × (deep_done m ≡ true) × CommitsAs m after) ⊎ (TellsOf new (deep_swapped m) × (pass_done (deep_swapped m) ≡ true) × CommitsAs (deep_swapped m) after)
 
 -- what the images show of it, and which state of the machine is in memory
 abbrev pub TakesOver : Taking → List (Key × Value) → ℕ → Op → Machine → Pace → Held → DiskState → DiskState → Type 0
@@ -85,7 +86,8 @@ TakesOver (Failed true) opening seat op m pace new before after =
     × LeavesOnly before after (ShowsHistory m.gears.sizes opening (history_with seat op FaultUnsure m) (length m.book.entries))
     × ((c : List ℕ) → after.images c → ShowsNoted opening seat op FaultUnsure m c)
     × ShowsNoted opening seat op FaultUnsure m after.bytes
-TakesOver (Failed false) opening seat op m pace new before after = HasLost m new × LeavesOnly before after (ShowsWhole opening m) × ShowsWhole opening m after.bytes
+    × CommitsAs (ready_for (total_weight (writes_of op)) m) after
+TakesOver (Failed false) opening seat op m pace new before after = HasLost m new after × LeavesOnly before after (ShowsWhole opening m) × ShowsWhole opening m after.bytes
 
 -- how it tells the disk's faults
 abbrev pub TellsTaking : Taking → DiskState → DiskState → Type 0

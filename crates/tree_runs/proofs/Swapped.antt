@@ -74,6 +74,14 @@ pass_suits {now} honest file runs made run are running is reads = by runs.pass r
 few_of_tree : {a : Entries} {file : List ℕ} (runs : RunsState) (tree : Tree) → AreOf runs tree a file → runs.catalogue.version + 1 < 2 ^ 64 → tree.catalogue.version + 1 < 2 ^ 64
 few_of_tree runs tree of few = subst (λ (k : Catalog). k.version + 1 < 2 ^ 64) (sym of.catalogue) few
 
+-- the next version, as the tree has it
+pub version_of_next : {a : Entries} {file : List ℕ} (runs : RunsState) (tree : Tree) (next : Catalog) → AreOf runs tree a file → next.version ≡ runs.catalogue.version + 1 → next.version ≡ tree.catalogue.version + 1
+version_of_next runs tree next of is = is ∙ ap (λ (k : Catalog). k.version + 1) (sym of.catalogue)
+
+-- a catalogue that was never written
+abbrev pub next_version : Catalog → Catalog
+next_version now = record now { version = now.version + 1 }
+
 pub deep_becomes : {T E : Type 0} {result : Result T E} {a : Entries} {old mid new : DiskState} (runs : RunsState) (tree : Tree) (made : Component) (next : Catalog)
     → IsFinished runs tree a runs.tags.deep old mid → made ≡ made_by_deep runs.deep → (list : HasList runs.sizes made (settled_entries (folded_over (entries_of tree.c1x) (entries_of tree.c2))) mid.bytes)
     → AreTagged runs.space runs.tags.deep list.pages → next ≡ with_deep_run made runs.catalogue → Switches runs.sizes runs.catalogue next result mid new
@@ -88,12 +96,12 @@ deep_becomes {T} {E} {result} {a} {old} {mid} {new} runs tree made next is made_
     (stands.1, switches.becomes tree (with_components next tree.c1 [] list.pages tree) (subst IsTrue (sym is.effect.goes_on.is_honest) is.honest) of.catalogue refl ready.may stands.0 ready.reads)
 
 pub deep_swapped : {sizes : Sizes} {made : Component} {file : List ℕ} (tree : Tree) (next : Catalog) (list : HasList sizes made (settled_entries (folded_over (entries_of tree.c1x) (entries_of tree.c2))) file)
-    → IsDeepSwapped tree (with_components next tree.c1 [] list.pages tree)
-deep_swapped tree next list = record { c1 = refl; c1x = refl; c2 = list.entries_are; lane_a = refl; lane_b = refl }
+    → next.version ≡ tree.catalogue.version + 1 → IsDeepSwapped tree (with_components next tree.c1 [] list.pages tree)
+deep_swapped tree next list version = record { version = version; c1 = refl; c1x = refl; c2 = list.entries_are; lane_a = refl; lane_b = refl }
 
 -- where the run's end wasn't written
-pub deep_unswapped : (tree : Tree) → IsDeepSwapped tree (with_components tree.catalogue tree.c1 [] (one_page (settled_entries (folded_over (entries_of tree.c1x) (entries_of tree.c2)))) tree)
-deep_unswapped tree = record { c1 = refl; c1x = refl; c2 = one_page_entries (settled_entries (folded_over (entries_of tree.c1x) (entries_of tree.c2))); lane_a = refl; lane_b = refl }
+pub deep_unswapped : (tree : Tree) → IsDeepSwapped tree (with_components (next_version tree.catalogue) tree.c1 [] (one_page (settled_entries (folded_over (entries_of tree.c1x) (entries_of tree.c2)))) tree)
+deep_unswapped tree = record { version = refl; c1 = refl; c1x = refl; c2 = one_page_entries (settled_entries (folded_over (entries_of tree.c1x) (entries_of tree.c2))); lane_a = refl; lane_b = refl }
 
 -- the tree that a pass leaves
 abbrev pub pass_tree : Bool → Catalog → List RunPage → Tree → Tree
@@ -123,9 +131,10 @@ pass_becomes {T} {E} {result} {a} {old} {mid} {new} runs tree made next b full i
     catalogue_of true = refl
     catalogue_of false = refl
 
-pub pass_swapped : (b : Bool) (a : Entries) (tree : Tree) (next : Catalog) (run : List RunPage) → entries_of run ≡ folded_over a (entries_of tree.c1) → IsPassSwapped b a tree (pass_tree b next run tree)
-pass_swapped true a tree next run is = record { c1 = refl; c1x = is; c2 = refl; lane_a = refl; lane_b = refl }
-pass_swapped false a tree next run is = record { c1 = is; c1x = refl; c2 = refl; lane_a = refl; lane_b = refl }
+pub pass_swapped : (b : Bool) (a : Entries) (tree : Tree) (next : Catalog) (run : List RunPage) → entries_of run ≡ folded_over a (entries_of tree.c1) → next.version ≡ tree.catalogue.version + 1
+    → IsPassSwapped b a tree (pass_tree b next run tree)
+pass_swapped true a tree next run is version = record { version = version; c1 = refl; c1x = is; c2 = refl; lane_a = refl; lane_b = refl }
+pass_swapped false a tree next run is version = record { version = version; c1 = is; c1x = refl; c2 = refl; lane_a = refl; lane_b = refl }
 
 pub rotation_becomes : {T E : Type 0} {result : Result T E} {a : Entries} {old new : DiskState} (runs : RunsState) (tree : Tree) (next : Catalog) → StandOver runs tree a old → IsTrue old.is_honest
     → runs.catalogue.version + 1 < 2 ^ 64 → next ≡ with_rotation runs.catalogue → Switches runs.sizes runs.catalogue next result old new

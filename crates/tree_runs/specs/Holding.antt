@@ -99,8 +99,9 @@ with_pass_run sizes made now = record {
 
 -- ---- the swaps, as the lists have them
 
--- The deep merge's output is C2, and C1' is empty. All else stays.
+-- The deep merge's output is C2, and C1' is empty. The catalogue's version is the next one, and all else stays.
 pub record IsDeepSwapped (old new : Tree) : Type 0 where
+  pub version : new.catalogue.version ≡ old.catalogue.version + 1
   pub c1 : new.c1 ≡ old.c1
   pub c1x : new.c1x ≡ []
   pub c2 : entries_of new.c2 ≡ settled_entries (folded_over (entries_of old.c1x) (entries_of old.c2))
@@ -109,6 +110,7 @@ pub record IsDeepSwapped (old new : Tree) : Type 0 where
 
 -- C1 is C1', and C1 is empty
 pub record IsRotated (old new : Tree) : Type 0 where
+  pub version : new.catalogue.version ≡ old.catalogue.version + 1
   pub c1 : new.c1 ≡ []
   pub c1x : new.c1x ≡ old.c1
   pub c2 : new.c2 ≡ old.c2
@@ -117,6 +119,7 @@ pub record IsRotated (old new : Tree) : Type 0 where
 
 -- The pass's output, table A folded over C1, is C1; or it is C1', and C1 is empty. Lane B is lane A, and lane B is empty.
 pub record IsPassSwapped (rotates : Bool) (a : Entries) (old new : Tree) : Type 0 where
+  pub version : new.catalogue.version ≡ old.catalogue.version + 1
   pub c1 : entries_of new.c1 ≡ (if rotates then [] else folded_over a (entries_of old.c1))
   pub c1x : entries_of new.c1x ≡ (if rotates then folded_over a (entries_of old.c1) else entries_of old.c1x)
   pub c2 : new.c2 ≡ old.c2

@@ -46,7 +46,7 @@ returns-then-is_err-clause-lists g c = λ opening m pace honest stands runs may 
     let failed = sym c.is_err.ensures.value ∙ c.if-is_err.true in
     let begins : Begins opening old m pace before = record { honest = honest; stands = stands; runs = runs; numbers = c.requires.runs.pace; paced = c.requires.runs.live.paced } in
     let whole = deep_whole opening old m pace before begins left (is_ok c.settle_deep.result) after (inl (c.settle_deep.ensures.due failed)) c.settle_deep.ensures.lists in
-    (lost_deep opening old m pace before begins left (err_of c.settle_deep.result failed c.settle_deep.ensures.kept) (c.settle_deep.ensures.due failed), whole.0, whole.1)
+    (lost_deep opening old m pace before begins left (err_of c.settle_deep.result failed c.settle_deep.ensures.kept) (c.settle_deep.ensures.due failed) (is_ok c.settle_deep.result) after c.settle_deep.ensures.lists, whole.0, whole.1)
 
 pub returns-then-is_err-clause-effect : goal.returns-then-is_err-clause-effect
 returns-then-is_err-clause-effect g c = affects_wider (λ i here. here) (omega arith) (omega arith) c.settle_deep.ensures.effect
@@ -88,7 +88,7 @@ returns-then-is_err-2-clause-lists g c = λ opening m pace honest stands runs ma
     let begins : Begins opening old m pace before = record { honest = honest; stands = stands; runs = runs; numbers = c.requires.runs.pace; paced = c.requires.runs.live.paced } in
     let has = settled_by c.settle_deep.result old settled before mid ok c.settle_deep.ensures.settles c.settle_deep.ensures.lists c.settle_deep.ensures.effect.goes_on.is_honest in
     let whole = pass_whole opening old m pace before begins settled mid has left (is_ok c.settle_pass.result) after (inl (c.settle_pass.ensures.due failed)) c.settle_pass.ensures.lists in
-    (lost_pass opening old m pace before begins settled mid has left (err_of c.settle_pass.result failed c.settle_pass.ensures.kept) (c.settle_pass.ensures.due failed), whole.0, whole.1)
+    (lost_pass opening old m pace before begins settled mid has left (err_of c.settle_pass.result failed c.settle_pass.ensures.kept) (c.settle_pass.ensures.due failed) (is_ok c.settle_pass.result) after c.settle_pass.ensures.lists, whole.0, whole.1)
 
 pub returns-then-is_err-2-clause-effect : goal.returns-then-is_err-2-clause-effect
 returns-then-is_err-2-clause-effect g c =

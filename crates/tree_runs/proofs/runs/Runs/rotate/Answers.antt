@@ -6,6 +6,7 @@ use Rattle.disk_trait.specs.Effects.{Affects, affects_wider}
 use Rattle.disk_trait.specs.Moments.{leaves_only_start}
 use Rattle.blsm_model.specs.Sizes.{Sizes}
 use Rattle.blsm_model.specs.Geometry.{file_length}
+use Rattle.catalog_swap.specs.declared.catalog.Catalog.{Catalog}
 use Rattle.snow_merge.specs.Pass.{SnowState}
 use Rattle.tree_file.specs.Tree.{HoldsTree}
 use Rattle.tree_file.specs.Places.{with_components, StandsOn}
@@ -13,7 +14,7 @@ use Rattle.tree_runs.specs.Runs.{RunsState, PassRuns, DeepRuns, guide_at}
 use Rattle.tree_runs.specs.Holding.{commit_region}
 use Rattle.tree_runs.proofs.PinLemmas.{commit_beside}
 use Rattle.tree_runs.proofs.SwapLemmas.{leaves_swapped}
-use Rattle.tree_runs.proofs.Swapped.{Switches, rotation_becomes}
+use Rattle.tree_runs.proofs.Swapped.{Switches, rotation_becomes, version_of_next}
 use Rattle.tree_runs.proofs.runs.Runs.rotate.Goals as goal
 
 pub returns-in_err-commit_next-clause-lists : goal.returns-in_err-commit_next-clause-lists
@@ -27,7 +28,7 @@ returns-in_err-commit_next-clause-lists g c = λ tree a honest over.
     let p = err_from_is_err_and c.from_residual.result c.from_residual.ensures.1 in
     let first = leaves_only_start old (λ f. HoldsTree now.sizes tree f) (g.met.D.Disk.timed c.args.disk.now) over.stands.each in (
       with_components next [] tree.c1 tree.c2 tree,
-      record { c1 = refl; c1x = refl; c2 = refl; lane_a = refl; lane_b = refl },
+      record { version = version_of_next now tree next over.are_of (ap (λ (k : Catalog). k.version) c.after_rotation-next.ensures.next); c1 = refl; c1x = refl; c2 = refl; lane_a = refl; lane_b = refl },
       leaves_swapped now now tree (with_components next [] tree.c1 tree.c2 tree) first becomes (λ well. absurd (false≢true (sym (ap is_ok p.1) ∙ well))),
     )
 
@@ -71,7 +72,7 @@ returns-clause-lists g c = λ tree a honest over.
     let stands = becomes.stands (ap is_ok c.in_ok-commit_next.was) in
     let first = leaves_only_start old (λ f. HoldsTree now.sizes tree f) (g.met.D.Disk.timed c.args.disk.now) over.stands.each in (
       next_tree,
-      record { c1 = refl; c1x = refl; c2 = refl; lane_a = refl; lane_b = refl },
+      record { version = version_of_next now tree next over.are_of (ap (λ (k : Catalog). k.version) c.after_rotation-next.ensures.next); c1 = refl; c1x = refl; c2 = refl; lane_a = refl; lane_b = refl },
       leaves_swapped now after tree next_tree first becomes (λ well. record {
         stands = subst (λ (s : Sizes). StandsOn s next_tree new) (sym c.install_rotation.ensures.rotates.sizes) stands;
         are_of = c.install_rotation.ensures.lists tree a new.bytes stands.reads over.are_of.c1 over.are_of.c2 over.are_of.guided.c1 over.are_of.guided.c2;

@@ -5,6 +5,7 @@ use Rattle.std.proofs.lemmas.Bool.{false≢true}
 use Rattle.disk_trait.specs.Effects.{Affects, affects_wider}
 use Rattle.blsm_model.specs.Sizes.{Sizes}
 use Rattle.blsm_model.specs.Geometry.{file_length}
+use Rattle.catalog_swap.specs.declared.catalog.Catalog.{Catalog}
 use Rattle.deep_merge.specs.Merge.{DeepState}
 use Rattle.tree_file.specs.Tree.{HoldsTree}
 use Rattle.tree_file.specs.Places.{with_components, StandsOn}
@@ -14,7 +15,7 @@ use Rattle.tree_runs.specs.Holding.{commit_region}
 use Rattle.tree_runs.proofs.PinLemmas.{run_beside, swap_beside}
 use Rattle.tree_runs.proofs.KeptMerges.{pass_runs_still, pass_over_still}
 use Rattle.tree_runs.proofs.SwapLemmas.{deep_tag, stands_finished, leaves_swapped, leaves_unswapped, swap_effect, swap_keeps, swap_pages}
-use Rattle.tree_runs.proofs.Swapped.{Switches, IsFinished, deep_becomes, deep_swapped, deep_unswapped}
+use Rattle.tree_runs.proofs.Swapped.{Switches, IsFinished, deep_becomes, deep_swapped, deep_unswapped, version_of_next}
 use Rattle.tree_runs.proofs.runs.Runs.swap_deep.Goals as goal
 
 -- ---- the run's end wasn't written
@@ -48,7 +49,7 @@ returns-in_err-commit_next-clause-lists g c = λ tree a honest over.
     let list = c.in_ok-made.ensures.list tree.c1x tree.c2 honest over.are_of.deep in
     let both = deep_becomes now tree c.in_ok-made.made next finished c.in_ok-made.ensures.component list.0 list.1 next_is switches in
     let p = err_from_is_err_and c.from_residual-in_err-commit_next.result c.from_residual-in_err-commit_next.ensures.1 in
-    (_, deep_swapped tree next list.0, leaves_swapped now c.finish_deep.new.self tree _ both.0 both.1 (λ well. absurd (false≢true (sym (ap is_ok p.1) ∙ well))))
+    (_, deep_swapped tree next list.0 (version_of_next now tree next over.are_of (ap (λ (k : Catalog). k.version) next_is)), leaves_swapped now c.finish_deep.new.self tree _ both.0 both.1 (λ well. absurd (false≢true (sym (ap is_ok p.1) ∙ well))))
 
 pub returns-in_err-commit_next-clause-effect : goal.returns-in_err-commit_next-clause-effect
 returns-in_err-commit_next-clause-effect g c =
@@ -120,7 +121,7 @@ returns-clause-lists g c = λ tree a honest over.
     × IsGuidedBy (guide_at s.guides s.tags.c1) tree.c1 × IsGuidedBy (guide_at s.guides s.tags.deep) list.0.pages × IsPassOver s.sizes new.bytes s.space (guide_at s.guides s.tags.pass) s.pass a tree.c1)
     (sym c.finish_deep.ensures.same) (stands.reads, over.are_of.c1, list.1, over.are_of.guided.c1, λ some. list.2, pass) in (
       next_tree,
-      deep_swapped tree next list.0,
+      deep_swapped tree next list.0 (version_of_next now tree next over.are_of (ap (λ (k : Catalog). k.version) next_is)),
       leaves_swapped now after tree next_tree both.0 both.1 (λ well. record {
         stands = subst (λ (s : Sizes). StandsOn s next_tree new) (sym (c.install_deep.ensures.swaps.sizes ∙ ap (λ (s : RunsState). s.sizes) c.finish_deep.ensures.same)) stands;
         are_of = c.install_deep.ensures.lists tree list.0.pages a new.bytes found.0 found.1 found.2 found.3 found.4 found.5;

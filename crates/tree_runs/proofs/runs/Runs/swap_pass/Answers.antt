@@ -7,6 +7,7 @@ use Rattle.disk_trait.specs.Effects.{Affects, affects_wider}
 use Rattle.blsm_model.specs.declared.component.Component.{Component}
 use Rattle.blsm_model.specs.Sizes.{Sizes}
 use Rattle.blsm_model.specs.Geometry.{file_length}
+use Rattle.catalog_swap.specs.declared.catalog.Catalog.{Catalog}
 use Rattle.record_delta.specs.Entries.{folded_over}
 use Rattle.page_file.specs.Component.{entries_of}
 use Rattle.snow_merge.specs.Pass.{SnowState}
@@ -18,7 +19,7 @@ use Rattle.tree_runs.specs.Holding.{commit_region}
 use Rattle.tree_runs.proofs.PinLemmas.{run_beside, swap_beside}
 use Rattle.tree_runs.proofs.KeptMerges.{deep_runs_still, deep_over_still}
 use Rattle.tree_runs.proofs.SwapLemmas.{pass_tag, stands_finished, leaves_swapped, leaves_unswapped, swap_effect, swap_keeps, swap_pages, one_page, one_page_entries}
-use Rattle.tree_runs.proofs.Swapped.{Switches, IsFinished, pass_becomes, pass_swapped, pass_tree}
+use Rattle.tree_runs.proofs.Swapped.{Switches, IsFinished, next_version, pass_becomes, pass_swapped, pass_tree, version_of_next}
 use Rattle.tree_runs.proofs.runs.Runs.swap_pass.Goals as goal
 
 -- ---- the run's end wasn't written
@@ -32,9 +33,9 @@ returns-in_err-made-clause-lists g c = λ tree honest over.
     let p = err_from_is_err_and c.from_residual.result c.from_residual.ensures.1 in
     let out = folded_over a (entries_of tree.c1) in
     let full = is_full now.sizes (made_by_pass now.pass) in (
-      pass_tree full tree.catalogue (one_page out) tree,
-      pass_swapped full a tree tree.catalogue (one_page out) (one_page_entries out),
-      λ table. leaves_unswapped now c.finish_pass.new.self tree (pass_tree full tree.catalogue (one_page out) tree) stands.0 stands.1 (λ well. false≢true (sym (ap is_ok p.1) ∙ well)),
+      pass_tree full (next_version tree.catalogue) (one_page out) tree,
+      pass_swapped full a tree (next_version tree.catalogue) (one_page out) (one_page_entries out) refl,
+      λ table. leaves_unswapped now c.finish_pass.new.self tree (pass_tree full (next_version tree.catalogue) (one_page out) tree) stands.0 stands.1 (λ well. false≢true (sym (ap is_ok p.1) ∙ well)),
     )
 
 pub returns-in_err-made-clause-effect : goal.returns-in_err-made-clause-effect
@@ -67,7 +68,7 @@ returns-in_err-commit_next-clause-lists g c = λ tree honest over.
     let both = pass_becomes now tree made next full (ap (λ (k : Component). is_full now.sizes k) c.in_ok-made.ensures.component) finished c.in_ok-made.ensures.component list.0 list.1 next_is switches in
     let p = err_from_is_err_and c.from_residual-in_err-commit_next.result c.from_residual-in_err-commit_next.ensures.1 in (
       pass_tree full next list.0.pages tree,
-      pass_swapped full a tree next list.0.pages list.0.entries_are,
+      pass_swapped full a tree next list.0.pages list.0.entries_are (version_of_next now tree next over.are_of (ap (λ (k : Catalog). k.version) next_is)),
       λ table. leaves_swapped now c.finish_pass.new.self tree (pass_tree full next list.0.pages tree) both.0 both.1 (λ well. absurd (false≢true (sym (ap is_ok p.1) ∙ well))),
     )
 
@@ -127,7 +128,7 @@ returns-then-rotates-clause-lists g c = λ tree honest over.
     × IsGuidedBy (guide_at s.guides s.tags.c2) tree.c2 × IsGuidedBy (guide_at s.guides s.tags.pass) list.0.pages)
     (sym c.finish_pass.ensures.same) (stands.reads, over.are_of.c2, list.1, over.are_of.guided.c2, λ some. list.2) in (
       next_tree,
-      subst (λ (b : Bool). IsPassSwapped b a tree next_tree) (sym full_now) (pass_swapped true a tree next list.0.pages list.0.entries_are),
+      subst (λ (b : Bool). IsPassSwapped b a tree next_tree) (sym full_now) (pass_swapped true a tree next list.0.pages list.0.entries_are (version_of_next now tree next over.are_of (ap (λ (k : Catalog). k.version) next_is))),
       λ table. leaves_swapped now after tree next_tree both.0 both.1 (λ well. record {
         stands = subst (λ (s : Sizes). StandsOn s next_tree new) (sym (c.install_rotated_pass.ensures.swaps.sizes ∙ ap (λ (s : RunsState). s.sizes) c.finish_pass.ensures.same)) stands;
         are_of = c.install_rotated_pass.ensures.lists tree list.0.pages table new.bytes found.0 found.1 found.2 found.3 found.4;
@@ -200,7 +201,7 @@ returns-else-rotates-clause-lists g c = λ tree honest over.
     × IsDeepOver s.sizes new.bytes s.space (guide_at s.guides s.tags.deep) s.deep tree.c1x tree.c2)
     (sym c.finish_pass.ensures.same) (stands.reads, over.are_of.c1x, over.are_of.c2, list.1, λ some. list.2, over.are_of.guided.c1x, over.are_of.guided.c2, deep) in (
       next_tree,
-      subst (λ (b : Bool). IsPassSwapped b a tree next_tree) (sym light_now) (pass_swapped false a tree next list.0.pages list.0.entries_are),
+      subst (λ (b : Bool). IsPassSwapped b a tree next_tree) (sym light_now) (pass_swapped false a tree next list.0.pages list.0.entries_are (version_of_next now tree next over.are_of (ap (λ (k : Catalog). k.version) next_is))),
       λ table. leaves_swapped now after tree next_tree both.0 both.1 (λ well. record {
         stands = subst (λ (s : Sizes). StandsOn s next_tree new) (sym (c.install_pass.ensures.swaps.sizes ∙ ap (λ (s : RunsState). s.sizes) c.finish_pass.ensures.same)) stands;
         are_of = c.install_pass.ensures.lists tree list.0.pages table new.bytes found.0 found.1 found.2 found.3 found.4 found.5 found.6 found.7;
