@@ -48,7 +48,8 @@ pub fn calls_meet_damage<D: Disk + Drop>(core: &Core<D>)
         → core.now.held.book.stopped ≡ Some (BadPage page) → StopsAtPage D.state calls start core.now page }
 {}
 
-/// From a core of which nothing was asked, and where nobody holds rows: no reply denies a hold, or makes one up.
+/// From a core of which nothing was asked, and where nobody holds rows: no reply denies a hold or makes one up, and the rows of a next are of the range
+/// that its seat holds, and rise on from those that were given before.
 pub fn calls_tell_holds<D: Disk + Drop>(core: &Core<D>)
     ensures { (calls : List (Step × CoreState D)) (start : CoreState D) → start.held.book.book.entries ≡ [] → HoldsNone start → AreCalls D.state calls start core.now
         → ChainTellsHolds core.now }

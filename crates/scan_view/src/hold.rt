@@ -95,8 +95,8 @@ impl Hold {
     }
 
     /// Fills the room with the next n rows, or with as many as are left, from where the last call ended. It goes through the components from
-    /// their first pages on, with one call of the disk for each page at most, which reads, and takes no memory. After an `Err` the place stays,
-    /// and the room may have any rows.
+    /// their first pages on, with one call of the disk for each page at most, which reads, and takes no memory; once a key was passed that
+    /// isn't below the range's end it reads none. After an `Err` the place stays, and the room may have any rows.
     ///
     /// `Damaged` names a page of a component that isn't valid or doesn't go on, and without which the next row can't be told; it never comes
     /// where the components read as lists. `Fault` comes only where the disk's count of faults rose.

@@ -118,7 +118,7 @@ pub record HasCauses {D : Type 0} (state : D → DiskState) (run : Run) (last : 
   pub charge : run.charge ≡ charge_in opened.held
   -- an entry's reply is due to what the call found that noted it
   pub replies : (front behind : List Entry) (e : Entry) → run.entries ≡ front ++ e ∷ behind → IsNoted state calls opened end front e
-  -- no reply denies a hold, or makes one up
+  -- no reply denies a hold or makes one up, and a next's rows are of the range that its caller holds, and rise on from those that were given before
   pub holds : TellHolds run.entries
   -- a page that stopped the store was damaged by its bytes when a merge came to it
   pub stops : (page : ℕ) → run.totals.stopped ≡ Some (BadPage page) → StopsAtPage state calls opened end page
