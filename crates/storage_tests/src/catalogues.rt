@@ -238,7 +238,7 @@ fn reads_as(
 
 #[test]
 fn the_open_slot_of_the_higher_version_counts(rt: HostRuntime) {
-    for (odd, even, outcome) in SLOTS {
+    for &(odd, even, outcome) in &SLOTS {
         reads_as(&rt, rt.alloc(), odd, even, outcome);
     }
 }
@@ -333,7 +333,7 @@ impl Pair {
 // older slot is open.
 #[test]
 fn a_commit_is_whole_or_not_there(rt: HostRuntime) {
-    for (pair, all) in [(first_and_second(), 7), (second_and_third(), 8)] {
+    for &(pair, all) in &[(first_and_second(), 7), (second_and_third(), 8)] {
         for calls in 0..9 {
             pair.stops_after(&rt, rt.alloc(), calls, all);
         }
@@ -360,7 +360,7 @@ fn with_third(rt: &impl Abort, alloc: Global, geo: &Geometry) -> MemDisk {
 fn the_third_stands_where_the_first_stood(rt: HostRuntime) {
     let geo = smallest(&rt);
     let mut disk = with_third(&rt, rt.alloc(), &geo);
-    for (lane, expected) in [(0, 0), (1, 1), (2, 1)] {
+    for &(lane, expected) in &[(0, 0), (1, 1), (2, 1)] {
         has_bytes(
             &rt,
             &mut disk,

@@ -110,7 +110,7 @@ fn by_record(rt: &impl Abort, alloc: Global, attempt: Attempt, faults: u64) {
 
 #[test]
 fn calls_fail_by_list_stop_record_limit_and_range(rt: HostRuntime) {
-    for (attempt, fails_alone, faults_alone, faults_else) in ATTEMPTS {
+    for &(attempt, fails_alone, faults_alone, faults_else) in &ATTEMPTS {
         by_itself(&rt, rt.alloc(), attempt, (fails_alone, faults_alone));
         by_list(&rt, rt.alloc(), attempt, faults_else);
         by_stop(&rt, rt.alloc(), attempt, faults_else);
@@ -126,7 +126,7 @@ fn faultless(rt: &impl Abort, alloc: Global) -> FaultlessDisk {
 
 #[test]
 fn a_faultless_disk_fails_past_its_bytes_and_its_limit(rt: HostRuntime) {
-    for (attempt, fails_alone, faults_alone, _) in ATTEMPTS {
+    for &(attempt, fails_alone, faults_alone, _) in &ATTEMPTS {
         let mut disk = faultless(&rt, rt.alloc());
         let alone = outcome_of(&mut disk, attempt);
         assert_same_at(&rt, alone, (fails_alone, faults_alone), attempt);
@@ -167,7 +167,7 @@ fn reads_torn(rt: &impl Abort, disk: &MemDisk, pick: u64) {
 fn settles(rt: &impl Abort, mut disk: MemDisk) {
     assert_that(rt, disk.sync().is_ok());
     let reads = read_four(rt, &mut disk);
-    for pick in [0, 2, 35] {
+    for &pick in &[0, 2, 35] {
         let mut image = image(rt, &disk, pick);
         assert_same_at(rt, read_four(rt, &mut image), reads, pick);
     }
@@ -177,7 +177,7 @@ fn settles(rt: &impl Abort, mut disk: MemDisk) {
 // whatever the other does; and so for writes that failed.
 #[test]
 fn images_have_every_part_of_each_torn_write(rt: HostRuntime) {
-    for failing in [0, 3, 4] {
+    for &failing in &[0, 3, 4] {
         let disk = torn(&rt, rt.alloc(), failing);
         for pick in 0..36u64 {
             reads_torn(&rt, &disk, pick);
@@ -191,7 +191,7 @@ fn images_have_every_part_of_each_torn_write(rt: HostRuntime) {
 fn images_end_anywhere_in_a_torn_write_past_the_end(rt: HostRuntime) {
     let mut disk = make_disk(&rt, rt.alloc(), RECORD);
     write(&rt, &mut disk, 2, b"cd");
-    for (pick, length) in [(0, 2), (1, 3), (2, 4), (3, 3), (4, 4), (5, 4)] {
+    for &(pick, length) in &[(0, 2), (1, 3), (2, 4), (3, 3), (4, 4), (5, 4)] {
         let mut image = image(&rt, &disk, pick);
         assert_same_at(&rt, image.len(), Ok(length), pick);
         assert_same_at(&rt, read_two(&rt, &mut image), *b"ab", pick);
@@ -262,7 +262,7 @@ fn kind_stands(rt: &impl Abort, disk: &MemDisk, kind: u64, pick: u64)
             (WRITES, *b".."),
         );
     }
-    for (digits, pair) in [
+    for &(digits, pair) in &[
         (0, *b".."),
         (1, *b"x."),
         (2, *b"xy"),
@@ -303,7 +303,7 @@ fn a_poke_changes_bytes_and_images_from_its_call_on(rt: HostRuntime) {
     both_read(&rt, &mut disk, *b"ab");
     both_read(&rt, &mut disk, *b"ax");
     write(&rt, &mut disk, 0, b"cd");
-    for (pick, reads) in [(0, *b"ax"), (1, *b"cx"), (2, *b"cd")] {
+    for &(pick, reads) in &[(0, *b"ax"), (1, *b"cx"), (2, *b"cd")] {
         let mut image = image(&rt, &disk, pick);
         assert_same_at(&rt, read_two(&rt, &mut image), reads, pick);
     }

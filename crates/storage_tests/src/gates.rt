@@ -130,7 +130,7 @@ fn the_gate_opens_once_the_text_stands(rt: HostRuntime) {
         (3, false, [0, 0, 0, 5, 6, 0, 0, 0], 3),
         (4, false, [0, 0, OPEN, 5, 6, 0, 0, 0], 4),
     ];
-    for (failing, ends_well, bytes, calls) in rows {
+    for &(failing, ends_well, bytes, calls) in &rows {
         written(&rt, failing, ends_well, bytes, calls);
     }
 }

@@ -329,7 +329,7 @@ fn append_failing(rt: &impl Abort, alloc: Global, call: u64, outcome: bool, end:
 // The disk fails at one of the four calls of an append, or at none of them.
 #[test]
 fn an_append_fails_with_any_of_its_calls(rt: HostRuntime) {
-    for (call, outcome, end, faults) in [
+    for &(call, outcome, end, faults) in &[
         (3, false, 0, 1),
         (4, false, 0, 1),
         (5, false, 0, 1),

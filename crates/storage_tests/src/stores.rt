@@ -118,7 +118,7 @@ const CHANGES: [(u64, u8, Reads); 25] = [
 fn each_changed_byte_is_found(rt: HostRuntime) {
     let geometry = smallest(&rt);
     let mut disk = make(&rt, rt.alloc(), SMALLEST_LENGTH, &geometry);
-    for change in CHANGES {
+    for &change in &CHANGES {
         changed(&rt, &mut disk, geometry, change);
     }
     reads_as(&rt, &mut disk, geometry, Whole);
@@ -146,10 +146,10 @@ fn a_file_of_another_length_is_no_store(rt: HostRuntime) {
     let rows = [1, 26, 27, 100, SMALLEST_LENGTH - 1, SMALLEST_LENGTH + 1];
     let mut made = make(&rt, rt.alloc(), SMALLEST_LENGTH, &smallest(&rt));
     let head = read::<27>(&rt, &mut made, 0);
-    for length in rows {
+    for &length in &rows {
         is_no_store(&rt, rt.alloc(), length, &head);
     }
-    for length in [0, 100] {
+    for &length in &[0, 100] {
         is_no_store(&rt, rt.alloc(), length, b"");
     }
 }
@@ -199,7 +199,7 @@ fn a_stop_leaves_no_store_or_a_whole_one(rt: HostRuntime) {
         (855, 3, (true, true)),
         (857, 1, (true, false)),
     ];
-    for (calls, picks, finds) in rows {
+    for &(calls, picks, finds) in &rows {
         stops_after(&rt, rt.alloc(), calls, picks, finds);
     }
 }
