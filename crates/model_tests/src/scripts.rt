@@ -83,7 +83,7 @@ fn count_lines(alloc: Global, text: &[u8]) -> Result<usize, ScriptFault> {
 
 #[test]
 fn the_first_bad_line_is_named(rt: HostRuntime) {
-    let cases: [(&[u8], Result<usize, ScriptFault>); 44] = [
+    const CASES: [(&[u8], Result<usize, ScriptFault>); 44] = [
         (b"", Ok(0)),
         (b"1 get a", Ok(1)),
         (b"1 get a\n", Ok(1)),
@@ -129,14 +129,14 @@ fn the_first_bad_line_is_named(rt: HostRuntime) {
         (b"1 work", Err(ScriptFault::Bad(1))),
         (b"1 work 1 1", Err(ScriptFault::Bad(1))),
     ];
-    for (text, wanted) in cases {
+    for &(text, wanted) in &CASES {
         assert_same(&rt, count_lines(rt.alloc(), text), wanted);
     }
 }
 
 #[test]
 fn a_line_of_a_hold_has_its_words(rt: HostRuntime) {
-    let cases: [(&[u8], Result<usize, ScriptFault>); 27] = [
+    const CASES: [(&[u8], Result<usize, ScriptFault>); 27] = [
         (b"1 hold a b", Ok(1)),
         (b"16 hold b a\n", Ok(1)),
         (b"1 hold - -\n1 hold a a", Ok(2)),
@@ -165,7 +165,7 @@ fn a_line_of_a_hold_has_its_words(rt: HostRuntime) {
         (b"drop", Err(ScriptFault::Bad(1))),
         (b"1 drop\n1 drop a\n1 next 0", Err(ScriptFault::Bad(2))),
     ];
-    for (text, wanted) in cases {
+    for &(text, wanted) in &CASES {
         assert_same(&rt, count_lines(rt.alloc(), text), wanted);
     }
 }
@@ -186,14 +186,14 @@ fn repeated(rt: &impl Abort, alloc: Global, line: &[u8], times: u32) -> Vec<u8> 
 // Lines that ask for as many rows as a script may, and behind them the lines of each case.
 #[test]
 fn a_script_asks_for_so_many_rows(rt: HostRuntime) {
-    let cases: [(&[u8], Result<usize, ScriptFault>); 5] = [
+    const CASES: [(&[u8], Result<usize, ScriptFault>); 5] = [
         (b"", Ok(4096)),
         (b"2 hold a b\n2 drop", Ok(4098)),
         (b"1 next 1", Err(ScriptFault::Bad(4097))),
         (b"2 next 1\n", Err(ScriptFault::Bad(4097))),
         (b"1 get a\n1 next 32\n1 frob", Err(ScriptFault::Bad(4098))),
     ];
-    for (more, wanted) in cases {
+    for &(more, wanted) in &CASES {
         let mut text = repeated(&rt, rt.alloc(), b"1 next 32\n", MOST_ROWS_ASKED / 32);
         add_text(&rt, &mut text, more);
         assert_same(&rt, count_lines(rt.alloc(), &text), wanted);
@@ -211,7 +211,7 @@ fn put_line(rt: &impl Abort, alloc: Global, key: u32, text: u32) -> Vec<u8> {
 
 #[test]
 fn keys_and_texts_have_their_limits(rt: HostRuntime) {
-    for (key_len, text_len, wanted) in [
+    for &(key_len, text_len, wanted) in &[
         (64, 435, Ok(1)),
         (65, 435, Err(ScriptFault::Bad(1))),
         (64, 436, Err(ScriptFault::Bad(1))),
