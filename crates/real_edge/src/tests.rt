@@ -220,7 +220,7 @@ fn five_calls(disk: &mut FileDisk<Faulty>) -> [bool; 5] {
 // A call that the system refuses is a fault, and isn't tried again. A sync after one that failed isn't even tried.
 #[test]
 fn a_refused_call_of_a_file_is_one_fault(rt: HostRuntime) {
-    let rows = [
+    const ROWS: [(u32, [bool; 5], u32, u64); 9] = [
         (0, [true, true, true, true, true], 8, 0),
         (1, [false, true, true, true, true], 8, 1),
         (2, [true, false, true, true, true], 7, 1),
@@ -231,7 +231,7 @@ fn a_refused_call_of_a_file_is_one_fault(rt: HostRuntime) {
         (7, [true, true, true, false, false], 7, 2),
         (8, [true, true, true, true, false], 8, 1),
     ];
-    for (failing, outcomes, calls, faults) in rows {
+    for &(failing, outcomes, calls, faults) in &ROWS {
         let mut disk = FileDisk::new(Faulty {
             calls: Cell::new(0),
             failing,
@@ -450,7 +450,7 @@ fn a_fetch_that_fails_is_one_fault(rt: HostRuntime) {
         &rt,
         symlink(&rt, "real_edge_missing", "real_edge_link").is_ok(),
     );
-    let rows = [
+    const ROWS: [(&str, bool); 5] = [
         ("real_edge_missing", false),
         ("real_edge_link", true),
         ("real_edge_no_folder/one", true),
@@ -458,7 +458,7 @@ fn a_fetch_that_fails_is_one_fault(rt: HostRuntime) {
         ("", true),
     ];
     let mut shelf = shelf(&rt);
-    for (name, fresh) in rows {
+    for &(name, fresh) in &ROWS {
         assert_that_at(&rt, shelf.fetch(name, fresh).is_err(), name);
     }
     assert_same(&rt, shelf.faults, 5);
