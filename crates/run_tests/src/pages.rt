@@ -183,7 +183,7 @@ fn page_of(rt: &impl Abort, kind: u8, key_len: usize, text_len: usize) -> [u8; P
 fn an_entry_has_its_lengths(rt: HostRuntime) {
     let geo = smallest(&rt);
     let mut disk = faultless(&rt, rt.alloc(), &geo);
-    let rows = [
+    const ROWS: [(u8, usize, usize, bool); 10] = [
         (1, 0, 0, false),
         (1, 1, 0, true),
         (1, 64, 0, true),
@@ -195,7 +195,7 @@ fn an_entry_has_its_lengths(rt: HostRuntime) {
         (2, 64, 1, false),
         (3, 64, 1, false),
     ];
-    for (kind, key_len, text_len, is_valid) in rows {
+    for &(kind, key_len, text_len, is_valid) in &ROWS {
         let page = page_of(&rt, kind, key_len, text_len);
         assert_same_at(
             &rt,
@@ -237,7 +237,7 @@ fn has_head(rt: &impl Abort, page: &[u8; PAGE_LEN], count: u16, used: u16, next:
 fn a_page_with_a_next_one_is_full(rt: HostRuntime) {
     let geo = smallest(&rt);
     let mut disk = faultless(&rt, rt.alloc(), &geo);
-    let rows = [
+    const ROWS: [(u16, u16, u32, bool); 9] = [
         (3_576, 7, NO_PAGE, true),
         (3_576, 7, 0, false),
         (3_577, 7, 0, true),
@@ -248,7 +248,7 @@ fn a_page_with_a_next_one_is_full(rt: HostRuntime) {
         (4_088, 8, 5, true),
         (4_088, 8, NO_PAGE, true),
     ];
-    for (used, count, next, is_valid) in rows {
+    for &(used, count, next, is_valid) in &ROWS {
         let page = filled(&rt, used, next);
         assert_same_at(
             &rt,

@@ -279,7 +279,7 @@ fn a_run_of_2000_entries(rt: HostRuntime) {
 // A page is closed where the next entry doesn't fit into 4,088 bytes: 8 entries of 511 bytes fill it.
 #[test]
 fn a_page_is_closed_where_the_next_entry_does_not_fit(rt: HostRuntime) {
-    let rows = [
+    const ROWS: [(u8, u16, u32, u32, u32); 6] = [
         (64, 434, 8, 8, 1),
         (64, 434, 9, 8, 2),
         (64, 435, 7, 7, 1),
@@ -287,7 +287,7 @@ fn a_page_is_closed_where_the_next_entry_does_not_fit(rt: HostRuntime) {
         (4, 0, 240, 240, 1),
         (4, 0, 241, 240, 2),
     ];
-    for (key, text, count, per_page, pages) in rows {
+    for &(key, text, count, per_page, pages) in &ROWS {
         let component = check_run(&rt, rt.alloc(), Lengths { key, text }, count, per_page);
         assert_same_at(&rt, component.pages, pages, (count, text));
     }
