@@ -8,7 +8,7 @@ use Rattle.blsm_model.specs.Format.{callers}
 use Rattle.blsm_model.specs.Legal.{is_write}
 use Rattle.blsm_model.specs.declared.history.Entry.{Entry}
 use Rattle.blsm_model.specs.declared.op.Op.{Op}
-use Rattle.blsm_model.specs.declared.op.Op.TheVariants.{Put, Add, Del, Get, Hold, Next, Release, Work}
+use Rattle.blsm_model.specs.declared.op.Op.TheVariants.{Get, Hold, Next, Release, Work}
 use Rattle.gear_sched.specs.Gears.{first_debt, second_debt}
 use Rattle.tree_machine.proofs.FoldLemmas.{both_hold}
 use Rattle.tree_machine.proofs.FrameLemmas.{step_follows}
@@ -144,14 +144,12 @@ module _ (s : ℕ) (end : Machine) where
   -- ---- a write
 
   write_done : (op : Op) (m : Machine) → is_write op ≡ true → done_resumed s op m ≡ all_paid s (admit m s op Well).state
-  write_done (Put key value) m is = refl
-  write_done (Add key count) m is = refl
-  write_done (Del key) m is = refl
   write_done (Get key) m is = absurd (false≢true is)
   write_done (Hold low high) m is = absurd (false≢true is)
   write_done (Next n) m is = absurd (false≢true is)
   write_done Release m is = absurd (false≢true is)
   write_done (Work n) m is = absurd (false≢true is)
+  write_done _ m is = refl
 
   abbrev Steps : Machine → Kind → Outcome → ℕ → Type 0
   Steps m k outcome seat =

@@ -6,7 +6,7 @@ use Rattle.blsm_model.specs.Sizes.{Sizes}
 use Rattle.blsm_model.specs.declared.room.Room.{Room}
 use Rattle.record_delta.specs.Entries.{Entries}
 use Rattle.blsm_model.specs.declared.op.Op.{Op}
-use Rattle.blsm_model.specs.declared.op.Op.TheVariants.{Put, Add, Del, Get, Hold, Next, Release, Work}
+use Rattle.blsm_model.specs.declared.op.Op.TheVariants.{Get, Hold, Next, Release, Work}
 use Rattle.gear_sched.specs.Gears.{first_debt, second_debt}
 use Rattle.tree_machine.specs.Lists.{value_in}
 use Rattle.tree_machine.specs.Machine.{Catalogue, Machine, WorkSoFar, no_work, opened, work_of}
@@ -60,9 +60,6 @@ module _ (s : ℕ) (caller : s < callers) where
       }
 
   done_goes : (op : Op) (m : Machine) → IsGoing m → IsGoing (done_alone s op m)
-  done_goes (Put key value) m is = write_goes (Put key value) m is
-  done_goes (Add key count) m is = write_goes (Add key count) m is
-  done_goes (Del key) m is = write_goes (Del key) m is
   done_goes (Get key) m is =
       reads_go (getting key) (Get key) m (done_alone s (Get key) m) (running_is m s (Get key) (replied s (Get key) (answer_to_get (value_in m.lists key)) m) is.runs) refl is
   done_goes (Hold low high) m is =
@@ -70,6 +67,7 @@ module _ (s : ℕ) (caller : s < callers) where
   done_goes (Next n) m is = reads_go (reading_on s n) (Next n) m (done_alone s (Next n) m) (next_well m s n is.runs) refl is
   done_goes Release m is = reads_go (releasing s) Release m (done_alone s Release m) (drop_reads m s is.runs) refl is
   done_goes (Work n) m is = ends_going n (turned n s m) (turned_goes n m is)
+  done_goes op m is = write_goes op m is
 
   pub alone_goes : (ops : List Op) (m : Machine) → IsGoing m → ((alone s m ops).stopped ≡ None) × IsEven s (alone s m ops)
   alone_goes [] m is = (is.runs, is.even)
@@ -90,9 +88,6 @@ module _ (s : ℕ) (caller : s < callers) where
       ∙ ap (λ (ws : List WorkSoFar). (work_at s ws).turns) (admit_notes m s op is.runs).work ∙ closed
 
   done_closes : (op : Op) (m : Machine) → IsGoing m → IsClosed m → IsClosed (done_alone s op m)
-  done_closes (Put key value) m is closed = write_closes (Put key value) m is closed
-  done_closes (Add key count) m is closed = write_closes (Add key count) m is closed
-  done_closes (Del key) m is closed = write_closes (Del key) m is closed
   done_closes (Get key) m is closed =
       reads_close (getting key) (Get key) m (done_alone s (Get key) m) (running_is m s (Get key) (replied s (Get key) (answer_to_get (value_in m.lists key)) m) is.runs) refl closed
   done_closes (Hold low high) m is closed =
@@ -102,16 +97,11 @@ module _ (s : ℕ) (caller : s < callers) where
   done_closes (Work n) m is closed =
       let works = (turned_goes n m is).works in
       ap (λ (w : WorkSoFar). w.turns) (get_or-set_same (turned n s m).seats.work s no_work no_work (omega (arith, caller, works)))
+  done_closes op m is closed = write_closes op m is closed
 
   done_same : (op : Op) (m : Machine) → IsClosed m → done_resumed s op m ≡ done_alone s op m
-  done_same (Put key value) m closed = refl
-  done_same (Add key count) m closed = refl
-  done_same (Del key) m closed = refl
-  done_same (Get key) m closed = refl
-  done_same (Hold low high) m closed = refl
-  done_same (Next n) m closed = refl
-  done_same Release m closed = refl
   done_same (Work n) m closed = ap (λ k. (work_end (turned k s m) s n).state) (let all : n - (work_of s m).turns ≡ n = omega (arith, closed) in all)
+  done_same _ m closed = refl
 
   pub alone_same : (ops : List Op) (m : Machine) → IsGoing m → IsClosed m → alone_resumed s m ops ≡ alone s m ops
   alone_same [] m is closed = refl

@@ -3,11 +3,11 @@ use Rattle.std.proofs.Common.{◌≡◌, ◌∙◌, refl, ap, ℕ, zero, suc, �
 use Rattle.std.specs.Prelude.{nat_le, nat_lt}
 use Rattle.blsm_model.specs.Geometry.{c1_mark, charge_limit}
 use Rattle.blsm_model.specs.Histories.{answer_to_get, answer_to_release, writes_of}
-use Rattle.blsm_model.specs.Legal.{total_weight}
+use Rattle.blsm_model.specs.Legal.{total_weight, is_del}
 use Rattle.blsm_model.specs.declared.history.Reply.TheVariants.{Done, Full}
 use Rattle.blsm_model.specs.declared.history.Why.{Why}
 use Rattle.blsm_model.specs.declared.op.Op.{Op}
-use Rattle.blsm_model.specs.declared.op.Op.TheVariants.{Put, Add, Del, Get, Hold, Next, Release, Work}
+use Rattle.blsm_model.specs.declared.op.Op.TheVariants.{Get, Hold, Next, Release, Work}
 use Rattle.blsm_model.specs.declared.op.Write.{Write}
 use Rattle.blsm_model.specs.declared.row.Row.{Row}
 use Rattle.gear_sched.specs.Gears.{first_debt, plan_for, second_debt}
@@ -19,7 +19,7 @@ use Rattle.tree_machine.specs.Merges.{Merge}
 use Rattle.tree_machine.specs.Machine.{Machine, deep_done, charge, held_by, in_pass, owes, pass_done, work_of}
 use Rattle.tree_machine.specs.Moves.{begin_pass, deep_quantum, deep_quantum_of, end_pass, output_of, pass_quantum, pass_quantum_of, rotate, swap_deep, swap_pass, with_peak}
 use Rattle.tree_machine.specs.Outcomes.{work_choice}
-use Rattle.tree_machine.specs.Steps.{Choice, SwapDeep, SwapPass, DeepQuantum, PassQuantum, Begin, Rotate, Rest, Well, admit, admit_fitting, chosen, count_for_write, deep_swapped, do_hold, do_next, do_turn, holding, forgive, is_del, pass_begun_for, pass_swapped, pay, pay_planned, pay_running, ready_for, replied, swapped, taken_once, unless_stopped, work_end, with_turn, work_noted, work_turn, work_turning}
+use Rattle.tree_machine.specs.Steps.{Choice, SwapDeep, SwapPass, DeepQuantum, PassQuantum, Begin, Rotate, Rest, Well, admit, admit_fitting, chosen, count_for_write, deep_swapped, do_hold, do_next, do_turn, holding, forgive, pass_begun_for, pass_swapped, pay, pay_planned, pay_running, ready_for, replied, swapped, taken_once, unless_stopped, work_end, with_turn, work_noted, work_turn, work_turning}
 use Rattle.alone_run.specs.Alone.{all_paid, is_over, paid, turned}
 use Rattle.alone_run.proofs.Resumed.{alone_resumed, done_resumed}
 
@@ -127,9 +127,6 @@ turned_left zero seat l m = refl
 turned_left (suc n) seat l m = ap (λ x. cond (is_over (work_of seat m)) (with_left l m) x) (ap (turned n seat) (turn_left seat l m) ∙ turned_left n seat l (work_turn m seat Well).state) ∙ if_left l (is_over (work_of seat m)) m (turned n seat (work_turn m seat Well).state)
 
 pub done_left : (seat : ℕ) (op : Op) (l : List Bool) (m : Machine) → done_resumed seat op (with_left l m) ≡ with_left l (done_resumed seat op m)
-done_left seat (Put key value) l m = ap (all_paid seat) (admit_left seat (Put key value) l m) ∙ all_paid_left seat l (admit m seat (Put key value) Well).state
-done_left seat (Add key count) l m = ap (all_paid seat) (admit_left seat (Add key count) l m) ∙ all_paid_left seat l (admit m seat (Add key count) Well).state
-done_left seat (Del key) l m = ap (all_paid seat) (admit_left seat (Del key) l m) ∙ all_paid_left seat l (admit m seat (Del key) Well).state
 done_left seat (Get key) l m = by m.stopped
   where
     by : (o : Option Why) → (unless_stopped o seat (Get key) (with_left l m) (replied seat (Get key) (answer_to_get (value_in m.lists key)) (with_left l m))).state
@@ -154,6 +151,7 @@ done_left seat Release l m = by m.stopped
     by (Some why) = refl
     by None = refl
 done_left seat (Work n) l m = ap (λ x. (work_end x seat n).state) (turned_left (n - (work_of seat m).turns) seat l m)
+done_left seat op l m = ap (all_paid seat) (admit_left seat op l m) ∙ all_paid_left seat l (admit m seat op Well).state
 
 pub alone_left : (seat : ℕ) (ops : List Op) (l : List Bool) (m : Machine) → alone_resumed seat (with_left l m) ops ≡ with_left l (alone_resumed seat m ops)
 alone_left seat [] l m = refl

@@ -7,7 +7,7 @@ use Rattle.blsm_model.specs.Book.{Book, counted_up, noted}
 use Rattle.blsm_model.specs.Format.{callers}
 use Rattle.blsm_model.specs.Geometry.{c1_mark, charge_limit}
 use Rattle.blsm_model.specs.Histories.{writes_of}
-use Rattle.blsm_model.specs.Legal.{total_weight}
+use Rattle.blsm_model.specs.Legal.{total_weight, is_del}
 use Rattle.blsm_model.specs.declared.history.Entry.{Entry}
 use Rattle.blsm_model.specs.declared.history.Reply.{Reply}
 use Rattle.blsm_model.specs.declared.history.Reply.TheVariants.{Done, Did, Full, FaultLost, FaultUnsure, Stopped}
@@ -24,7 +24,7 @@ use Rattle.tree_machine.specs.Merges.{Merge, quantum_of}
 use Rattle.tree_machine.specs.Moves.{end_pass, note, output_of, pass_quantum_of, deep_quantum_of, rotate, stop, with_peak}
 use Rattle.tree_machine.specs.Outcomes.{work_choice}
 use Rattle.tree_machine.specs.Plays.{is_finished}
-use Rattle.tree_machine.specs.Steps.{Choice, SwapDeep, SwapPass, DeepQuantum, PassQuantum, Begin, Rotate, Rest, Outcome, Well, FailedAfter, Broken, NoRoom, admit, admit_fitting, chosen, deep_swapped, do_turn, ended_as, is_del, is_idle, quanta_of, ready_for, replied, reply_by, swaps_due, taken_once, with_turn, work_end, work_noted, work_reply, work_turn, work_turning}
+use Rattle.tree_machine.specs.Steps.{Choice, SwapDeep, SwapPass, DeepQuantum, PassQuantum, Begin, Rotate, Rest, Outcome, Well, FailedAfter, Broken, NoRoom, admit, admit_fitting, chosen, deep_swapped, do_turn, ended_as, is_idle, quanta_of, ready_for, replied, reply_by, swaps_due, taken_once, with_turn, work_end, work_noted, work_reply, work_turn, work_turning}
 use Rattle.alone_run.specs.Alone.{is_over, turned}
 use Rattle.alone_run.proofs.Moves.{Moves, Synced, chosen_moves, moves_none, moves_on, ready_moves, taken_moves}
 use Rattle.alone_run.proofs.Payments.{IsEven}

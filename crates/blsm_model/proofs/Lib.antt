@@ -7,6 +7,7 @@ mod SizeExamples
 mod ImageExamples
 mod ScriptExamples
 pub mod ValueLemmas
+pub mod OpLemmas
 pub mod HistoryLemmas
 pub mod HoldLemmas
 pub mod LegalLemmas

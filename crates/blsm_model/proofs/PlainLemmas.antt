@@ -1,33 +1,32 @@
 -- The plain store keeps a legal history.
-use Rattle.std.proofs.Common.{◌≡◌, ℕ, ◌+◌, ◌<◌, ◌≤◌, ◌++◌, ◌&&◌, List, [], ◌∷◌, Option, Some, None, true, false, refl, ap, sym, subst, ◌∙◌, append-nil, arith, ◌⊎◌, inl, inr}
+use Rattle.std.proofs.Common.{◌≡◌, ℕ, ◌+◌, ◌<◌, ◌≤◌, ◌++◌, ◌&&◌, Bool, cond, List, [], ◌∷◌, Option, Some, None, true, false, refl, ap, sym, subst, ◌∙◌, append-nil, arith, ◌⊎◌, inl, inr}
 use Rattle.std.specs.List.{list_all}
+use Rattle.std.proofs.lemmas.Bool.{false≢true}
 use Rattle.std.proofs.lemmas.List.Sums.{sum_by-append}
 use Rattle.std.proofs.lemmas.List.Folds.{list_all-append}
 use Rattle.blsm_model.specs.declared.row.Value.{Value}
 use Rattle.blsm_model.specs.declared.op.Op.{Op}
-use Rattle.blsm_model.specs.declared.op.Op.TheVariants.{Put, Add, Del, Get}
+use Rattle.blsm_model.specs.declared.op.Op.TheVariants.{Get}
 use Rattle.blsm_model.specs.declared.history.Reply.{Reply}
 use Rattle.blsm_model.specs.declared.history.Reply.TheVariants.{Done, Is, Absent, Full}
 use Rattle.blsm_model.specs.declared.history.Entry.{Entry}
 use Rattle.blsm_model.specs.Kept.{Kept}
 use Rattle.blsm_model.specs.Values.{weight_of, value_at}
-use Rattle.blsm_model.specs.Histories.{Object, writes_of, counted_writes, counted, written, object_after, answer_to_get, IsAnswer}
-use Rattle.blsm_model.specs.Legal.{MayReply, is_running, is_write, limit_for, total_weight}
+use Rattle.blsm_model.specs.Histories.{writes_of, counted_writes, counted, written, object_after, answer_to_get}
+use Rattle.blsm_model.specs.Legal.{MayReply, is_del, is_running, is_write, limit_for, total_weight}
 use Rattle.blsm_model.specs.Plain.{IsPlainStep, StandsAfter, plain_limits, is_plain_reply}
+use Rattle.blsm_model.proofs.OpLemmas.{write_is_done}
 use Rattle.blsm_model.proofs.HistoryLemmas.{written_push, counted_writes_push, legal_push, running_push, writes-object_after}
 
 abbrev by : ℕ → Op → Reply → Entry
 by seat op reply = record { seat = seat; op = op; reply = reply }
 
 same_limit : (kept : Kept) (charge : ℕ) (op : Op) → limit_for (plain_limits kept charge) op ≡ kept.limit
-same_limit kept charge (Del key) = refl
-same_limit kept charge _ = refl
-
-done_is : (object : Object) (seat : ℕ) (op : Op) → is_write op ≡ true → IsAnswer object seat op Done
-done_is object seat (Put key value) w = refl
-done_is object seat (Add key count) w = refl
-done_is object seat (Del key) w = refl
-done_is object seat _ w = cc
+same_limit kept charge op = by (is_del op)
+  where
+    by : (b : Bool) → cond b kept.limit kept.limit ≡ kept.limit
+    by true = refl
+    by false = refl
 
 charge_push : (at c : ℕ) (history : List Entry) (entry : Entry) → c ≡ at + total_weight (counted_writes history) → c + total_weight (counted entry) ≡ at + total_weight (counted_writes (history ++ entry ∷ []))
 charge_push at c history entry is =
@@ -41,7 +40,7 @@ stands_done : (old : Kept) (opening : List (List ℕ × Value)) (at : ℕ) (hist
 stands_done old opening at history seat op w s = record {
   writes = ap (λ ws. ws ++ writes_of op) s.writes ∙ sym (written_push opening history (by seat op Done));
   charge = charge_push at old.charge history (by seat op Done) s.charge;
-  legal = legal_push (plain_limits old at) opening history (by seat op Done) s.legal (s.running, done_is (object_after opening history) seat op w);
+  legal = legal_push (plain_limits old at) opening history (by seat op Done) s.legal (s.running, write_is_done (object_after opening history) seat op w);
   running = running_push history (by seat op Done) s.running refl refl;
 }
 
@@ -77,13 +76,9 @@ stands_get old opening at history seat key found is s =
 write_answers : (old new : Kept) (op : Op) (reply : Reply) → is_write op ≡ true → IsPlainStep old op new reply →
     ((reply ≡ Done) × (old.charge + total_weight (writes_of op) ≤ old.limit) × (new ≡ record { writes = old.writes ++ writes_of op; charge = old.charge + total_weight (writes_of op); limit = old.limit }))
     ⊎ ((reply ≡ Full old.charge) × (old.limit < old.charge + total_weight (writes_of op)) × (new ≡ old))
-write_answers old new (Put key value) (Full charge) w a = inr (ap Full a.1, a.2, a.3)
-write_answers old new (Put key value) _ w a = inl (a.1, a.2, a.3)
-write_answers old new (Add key count) (Full charge) w a = inr (ap Full a.1, a.2, a.3)
-write_answers old new (Add key count) _ w a = inl (a.1, a.2, a.3)
-write_answers old new (Del key) (Full charge) w a = inr (ap Full a.1, a.2, a.3)
-write_answers old new (Del key) _ w a = inl (a.1, a.2, a.3)
-write_answers old new _ reply w a = cc
+write_answers old new (Get key) reply w a = absurd (false≢true w)
+write_answers old new op (Full charge) w a = inr (ap Full a.1, a.2, a.3)
+write_answers old new op _ w a = inl (a.1, a.2, a.3)
 
 stands_write : (old new : Kept) (opening : List (List ℕ × Value)) (at : ℕ) (history : List Entry) (seat : ℕ) (op : Op) (reply : Reply) → is_write op ≡ true → IsPlainStep old op new reply → StandsAfter old opening at history → StandsAfter new opening at (history ++ by seat op reply ∷ [])
 stands_write old new opening at history seat op reply w a s =
@@ -96,11 +91,8 @@ stands_write old new opening at history seat op reply w a s =
 pub stands_push : (old new : Kept) (opening : List (List ℕ × Value)) (at : ℕ) (history : List Entry) (seat : ℕ) (op : Op) (reply : Reply) → IsPlainStep old op new reply → StandsAfter old opening at history → StandsAfter new opening at (history ++ by seat op reply ∷ [])
 stands_push old new opening at history seat (Get key) reply a s =
     subst (λ r. StandsAfter new opening at (history ++ by seat (Get key) r ∷ [])) (sym a.0) (subst (λ k. StandsAfter k opening at (history ++ by seat (Get key) (answer_to_get (value_at old.writes key)) ∷ [])) (sym a.1) (stands_get old opening at history seat key _ refl s))
-stands_push old new opening at history seat (Put key value) reply a s = stands_write old new opening at history seat (Put key value) reply refl a s
-stands_push old new opening at history seat (Add key count) reply a s = stands_write old new opening at history seat (Add key count) reply refl a s
-stands_push old new opening at history seat (Del key) reply a s = stands_write old new opening at history seat (Del key) reply refl a s
-stands_push old new opening at history seat _ (Full charge) a s = let wrong : false ≡ true = a.0 in cc
-stands_push old new opening at history seat _ _ a s = let wrong : false ≡ true = a.0 in cc
+stands_push old new opening at history seat op (Full charge) a s = stands_write old new opening at history seat op (Full charge) a.0 a s
+stands_push old new opening at history seat op reply a s = stands_write old new opening at history seat op reply a.0 a s
 
 limit_by : (old new : Kept) (op : Op) (reply : Reply) →
     ((reply ≡ Done) × (old.charge + total_weight (writes_of op) ≤ old.limit) × (new ≡ record { writes = old.writes ++ writes_of op; charge = old.charge + total_weight (writes_of op); limit = old.limit }))
@@ -111,11 +103,8 @@ limit_by old new op reply (inr f) = ap (λ k. k.limit) f.2
 -- no answer changes the limit
 pub limit_kept : (old new : Kept) (op : Op) (reply : Reply) → IsPlainStep old op new reply → new.limit ≡ old.limit
 limit_kept old new (Get key) reply a = ap (λ k. k.limit) a.1
-limit_kept old new (Put key value) reply a = limit_by old new (Put key value) reply (write_answers old new (Put key value) reply refl a)
-limit_kept old new (Add key count) reply a = limit_by old new (Add key count) reply (write_answers old new (Add key count) reply refl a)
-limit_kept old new (Del key) reply a = limit_by old new (Del key) reply (write_answers old new (Del key) reply refl a)
-limit_kept old new _ (Full charge) a = let wrong : false ≡ true = a.0 in cc
-limit_kept old new _ _ a = let wrong : false ≡ true = a.0 in cc
+limit_kept old new op (Full charge) a = limit_by old new op (Full charge) (write_answers old new op (Full charge) a.0 a)
+limit_kept old new op reply a = limit_by old new op reply (write_answers old new op reply a.0 a)
 
 charge_by : (old new : Kept) (op : Op) (reply : Reply) →
     ((reply ≡ Done) × (old.charge + total_weight (writes_of op) ≤ old.limit) × (new ≡ record { writes = old.writes ++ writes_of op; charge = old.charge + total_weight (writes_of op); limit = old.limit }))
@@ -126,11 +115,8 @@ charge_by old new op reply (inr f) fits = let charge = ap (λ (k : Kept). k.char
 -- the charge stays within the limit
 pub charge_kept : (old new : Kept) (op : Op) (reply : Reply) → IsPlainStep old op new reply → old.charge ≤ old.limit → new.charge ≤ new.limit
 charge_kept old new (Get key) reply a fits = let charge = ap (λ (k : Kept). k.charge) a.1 in let limit = ap (λ (k : Kept). k.limit) a.1 in omega arith
-charge_kept old new (Put key value) reply a fits = charge_by old new (Put key value) reply (write_answers old new (Put key value) reply refl a) fits
-charge_kept old new (Add key count) reply a fits = charge_by old new (Add key count) reply (write_answers old new (Add key count) reply refl a) fits
-charge_kept old new (Del key) reply a fits = charge_by old new (Del key) reply (write_answers old new (Del key) reply refl a) fits
-charge_kept old new _ (Full charge) a fits = let wrong : false ≡ true = a.0 in cc
-charge_kept old new _ _ a fits = let wrong : false ≡ true = a.0 in cc
+charge_kept old new op (Full charge) a fits = charge_by old new op (Full charge) (write_answers old new op (Full charge) a.0 a) fits
+charge_kept old new op reply a fits = charge_by old new op reply (write_answers old new op reply a.0 a) fits
 
 got_plain : (found : Option Value) → is_plain_reply (answer_to_get found) ≡ true
 got_plain None = refl
@@ -140,10 +126,7 @@ got_plain (Some value) = refl
 pub answered : (old new : Kept) (op : Op) (reply : Reply) → IsPlainStep old op new reply → is_plain_reply reply ≡ true
 answered old new (Get key) reply a = ap is_plain_reply a.0 ∙ got_plain (value_at old.writes key)
 answered old new op (Full charge) a = refl
-answered old new (Put key value) reply a = ap is_plain_reply (a.1)
-answered old new (Add key count) reply a = ap is_plain_reply (a.1)
-answered old new (Del key) reply a = ap is_plain_reply (a.1)
-answered old new _ _ a = let wrong : false ≡ true = a.0 in cc
+answered old new op reply a = ap is_plain_reply a.1
 
 pub answered_push : (history : List Entry) (entry : Entry) → list_all (λ e. is_plain_reply e.reply) history ≡ true → is_plain_reply entry.reply ≡ true → list_all (λ e. is_plain_reply e.reply) (history ++ entry ∷ []) ≡ true
 answered_push history entry before now =

@@ -6,7 +6,7 @@
 --     any command of a stopped store: Stopped, with one why for all
 -- At most one entry stops the store. After it, and after the first Stopped, each entry is Stopped, but for a work that
 -- stops the store: its entry is noted at its end, when others may have been told already.
-use Rattle.std.specs.Prelude.{◌≡◌, ℕ, ◌+◌, ◌<◌, ◌≤◌, ⊤, ◌⊎◌, Bool, true, false, not, ◌||◌, List, [], ◌∷◌, ◌++◌, IsTrue, sum_by}
+use Rattle.std.specs.Prelude.{◌≡◌, ℕ, ◌+◌, ◌<◌, ◌≤◌, ⊤, ◌⊎◌, Bool, true, false, not, ◌&&◌, ◌||◌, if◌then◌else◌, List, [], ◌∷◌, ◌++◌, IsTrue, sum_by}
 use Rattle.std.specs.List.{list_all, AllByRecursion}
 use Rattle.blsm_model.specs.declared.key.Key.{Key}
 use Rattle.blsm_model.specs.declared.row.Value.{Value}
@@ -17,7 +17,7 @@ use Rattle.blsm_model.specs.declared.history.Why.{Why}
 use Rattle.blsm_model.specs.declared.history.Reply.{Reply}
 use Rattle.blsm_model.specs.declared.history.Reply.TheVariants.{Full, NoMemory, FaultLost, FaultUnsure, Fault, Damaged, Stopped}
 use Rattle.blsm_model.specs.declared.history.Entry.{Entry}
-use Rattle.blsm_model.specs.Values.{weight_of}
+use Rattle.blsm_model.specs.Values.{is_removal, weight_of}
 use Rattle.blsm_model.specs.Histories.{writes_of, counted_writes, IsAnswer, object_after}
 
 -- The charge at the opening, and the charges up to which a del, and any other write, is taken. All are weights in bytes.
@@ -26,20 +26,30 @@ pub record Limits : Type 0 where
   pub dels : ℕ
   pub others : ℕ
 
--- the charge up to which a write is taken
-abbrev pub limit_for : Limits → Op → ℕ
-limit_for limits (Del key) = limits.dels
-limit_for limits _ = limits.others
-
--- the weights of the writes together
-abbrev pub total_weight : List Write → ℕ
-total_weight writes = sum_by weight_of writes
-
+-- a put, an add or a del, which makes one write
 abbrev pub is_write : Op → Bool
 is_write (Put key value) = true
 is_write (Add key count) = true
 is_write (Del key) = true
 is_write _ = false
+
+-- all that it writes are dels
+abbrev pub is_del : Op → Bool
+is_del op = is_write op && list_all is_removal (writes_of op)
+
+-- a get and a next only look, so they may fail while the store runs on
+abbrev pub may_look : Op → Bool
+may_look (Get key) = true
+may_look (Next n) = true
+may_look _ = false
+
+-- the charge up to which a write is taken
+abbrev pub limit_for : Limits → Op → ℕ
+limit_for limits op = if is_del op then limits.dels else limits.others
+
+-- the weights of the writes together
+abbrev pub total_weight : List Write → ℕ
+total_weight writes = sum_by weight_of writes
 
 -- A write is too big at this charge: it would pass its limit, and the charge is no more than what stood at the opening
 -- and what the counted writes before brought in.

@@ -32,6 +32,10 @@ is_reset (Put key value) = true
 is_reset (Add key count) = false
 is_reset (Del key) = true
 
+abbrev pub is_removal : Write → Bool
+is_removal (Del key) = true
+is_removal _ = false
+
 -- what a write adds to the count
 abbrev pub added_count : Write → ℕ
 added_count (Put key value) = 0

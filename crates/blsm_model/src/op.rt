@@ -1,8 +1,9 @@
 //! Writes and commands.
-ghost use Rattle.std.specs.Prelude.{◌≡◌, ◌∷◌, ◌≤◌, [], IsTrue};
-ghost use Rattle.blsm_model.specs.Format.{least_weight, most_weight};
+ghost use Rattle.std.specs.Prelude.{◌≡◌, ◌∷◌, ◌<◌, ◌≤◌, ◌^◌, [], IsTrue, length};
+ghost use Rattle.blsm_model.specs.Format.{least_weight, most_key, most_text, most_weight};
 ghost use Rattle.blsm_model.specs.Histories.{writes_of};
 ghost use Rattle.blsm_model.specs.Legal.{is_write, total_weight};
+ghost use Rattle.blsm_model.specs.Values.{added_count, key_of, text_written};
 
 use crate::{Key, Value};
 
@@ -26,6 +27,15 @@ impl Write {
             Write::Put(key, value) => Write::Put(key.copy(), value.copy()),
             Write::Add(key, count) => Write::Add(key.copy(), *count),
             Write::Del(key) => Write::Del(key.copy()),
+        }
+    }
+
+    /// The key that is written.
+    pub fn key(&self) -> &Key
+        ensures { result.now ≡ key_of self.now }
+    {
+        match self {
+            Write::Put(key, _) | Write::Add(key, _) | Write::Del(key) => key,
         }
     }
 }
@@ -98,10 +108,13 @@ impl Op {
         }
     }
 
-    /// The write that the command asks for.
+    /// The write that the command asks for. Its count is a number of 64 bits, and its lengths are within the format's.
     pub fn write(&self) -> Write
         requires { IsTrue (is_write self.now) }
-        ensures { writes_of self.now ≡ result ∷ [] }
+        ensures write { writes_of self.now ≡ result ∷ [] }
+        ensures count { added_count result < 2 ^ 64 }
+        ensures key { (1 ≤ length (key_of result)) × (length (key_of result) ≤ most_key) }
+        ensures text { length (text_written result) ≤ most_text }
     {
         match self {
             Op::Put(key, value) => Write::Put(key.copy(), value.copy()),

@@ -5,14 +5,15 @@ use Rattle.std.specs.List.{AllByRecursion}
 use Rattle.std.proofs.lemmas.Bool.{false≢true}
 use Rattle.std.proofs.lemmas.List.Sums.{sum_by-append, sum_by-cons}
 use Rattle.refusal.specs.Count.{HasRisen, HasRisenBy}
-use Rattle.blsm_model.specs.Legal.{is_write}
+use Rattle.blsm_model.specs.Legal.{is_write, may_look}
 use Rattle.blsm_model.specs.declared.history.Entry.{Entry}
 use Rattle.blsm_model.specs.declared.history.Reply.{Reply}
 use Rattle.blsm_model.specs.declared.history.Reply.TheVariants.{Fault, Stopped}
 use Rattle.blsm_model.specs.declared.history.Why.{Why}
 use Rattle.blsm_model.specs.declared.history.Why.TheVariants.{Faulted, BadPage}
 use Rattle.blsm_model.specs.declared.op.Op.{Op}
-use Rattle.blsm_model.specs.declared.op.Op.TheVariants.{Put, Add, Del, Get, Hold, Next, Release, Work}
+use Rattle.blsm_model.proofs.OpLemmas.{write_is_no_look}
+use Rattle.tree_machine.proofs.TellLemmas.{no_look}
 use Rattle.disk_trait.specs.Disk.{DiskState}
 use Rattle.tree_machine.specs.Machine.{WorkSoFar, no_work}
 use Rattle.tree_machine.specs.Outcomes.{is_failed_lookup}
@@ -27,16 +28,12 @@ use Rattle.core_chain.specs.Tells.{lookups_failed}
 -- ---- entries
 
 lookup_tells : (op : Op) (reply : Reply) → one_if (is_failed_lookup op reply) ≤ faults_of reply
-lookup_tells (Put key value) reply = omega arith
-lookup_tells (Add key count) reply = omega arith
-lookup_tells (Del key) reply = omega arith
-lookup_tells (Get key) Fault = omega arith
-lookup_tells (Get key) _ = omega arith
-lookup_tells (Hold low high) reply = omega arith
-lookup_tells (Next n) Fault = omega arith
-lookup_tells (Next n) _ = omega arith
-lookup_tells Release reply = omega arith
-lookup_tells (Work n) reply = omega arith
+lookup_tells op Fault = by (may_look op)
+  where
+    by : (b : Bool) → one_if b ≤ 1
+    by true = omega arith
+    by false = omega arith
+lookup_tells op _ = omega arith
 
 pub lookups_tell : (es : List Entry) → lookups_failed es ≤ faults_told es
 lookups_tell [] = omega arith
@@ -48,14 +45,7 @@ lookups_tell (e ∷ es) =
     omega (arith, one, rest, lookups, told)
 
 calm_one : (op : Op) (reply : Reply) → faults_of reply ≤ one_if (is_failed_lookup op reply) → TellsNone op reply
-calm_one (Put key value) reply few = omega (arith, few)
-calm_one (Add key count) reply few = omega (arith, few)
-calm_one (Del key) reply few = omega (arith, few)
-calm_one (Get key) reply few = tt
-calm_one (Hold low high) reply few = omega (arith, few)
-calm_one (Next n) reply few = tt
-calm_one Release reply few = omega (arith, few)
-calm_one (Work n) reply few = omega (arith, few)
+calm_one op reply few = λ is. omega (arith, few, ap one_if (no_look op reply is))
 
 -- where lookups alone failed
 pub all_calm : (es : List Entry) → faults_told es ≤ lookups_failed es → AllByRecursion (λ (e : Entry). TellsNone e.op e.reply) es
@@ -69,10 +59,7 @@ all_calm (e ∷ es) few =
 
 -- a write is no lookup
 pub no_lookup : (op : Op) (reply : Reply) → is_write op ≡ true → is_failed_lookup op reply ≡ false
-no_lookup (Put key value) reply is = refl
-no_lookup (Add key count) reply is = refl
-no_lookup (Del key) reply is = refl
-no_lookup _ reply is = absurd (false≢true is)
+no_lookup op reply is = no_look op reply (write_is_no_look op is)
 
 -- ---- works
 

@@ -67,10 +67,12 @@ pub record IsQuiet (op : Op) (reply : Reply) : Type 0 where
   pub tells : (had : Option ToldHold) → TellsHold had op reply
 
 quiet_write : (op : Op) (reply : Reply) → is_write op ≡ true → IsQuiet op reply
-quiet_write (op.Put key value) reply write = record { same = λ had. refl; tells = λ had. tt }
-quiet_write (op.Add key count) reply write = record { same = λ had. refl; tells = λ had. tt }
-quiet_write (op.Del key) reply write = record { same = λ had. refl; tells = λ had. tt }
-quiet_write _ reply write = absurd (false≢true write)
+quiet_write (op.Get key) reply write = absurd (false≢true write)
+quiet_write (op.Hold low high) reply write = absurd (false≢true write)
+quiet_write (op.Next n) reply write = absurd (false≢true write)
+quiet_write op.Release reply write = absurd (false≢true write)
+quiet_write (op.Work n) reply write = absurd (false≢true write)
+quiet_write _ reply write = record { same = λ had. refl; tells = λ had. tt }
 
 -- ---- one hold
 

@@ -20,7 +20,7 @@ use Rattle.seat_book.specs.State.{BookState, work_in}
 use Rattle.seat_book.proofs.PlaceLemmas.{write_stands}
 use Rattle.tree_machine.specs.Machine.{Turned, WorkSoFar, is_caller, is_worked, no_work}
 use Rattle.tree_machine.specs.Plays.{has_room, is_finished}
-use Rattle.tree_machine.specs.Steps.{is_write_by, last_write, work_reply}
+use Rattle.tree_machine.specs.Steps.{last_write, work_reply}
 use Rattle.tree_machine.specs.declared.step.Kind.{Kind}
 use Rattle.tree_machine.specs.declared.step.Kind.TheVariants as kind
 use Rattle.tree_machine.specs.declared.step.Step.{Step}
@@ -35,7 +35,7 @@ use Rattle.tree_core.specs.Core.{CoreState, IsCore}
 use Rattle.tree_core.specs.declared.answers.Payment.{Payment}
 use Rattle.tree_core.specs.declared.answers.Payment.TheVariants as payment
 use Rattle.tree_session.specs.Session.{TookFew, most_quanta}
-use Rattle.tree_session.proofs.BookLemmas.{core_bound, core_places, end_counted, ended_empty, most_of_write}
+use Rattle.tree_session.proofs.BookLemmas.{core_bound, core_places, end_counted, ended_empty, most_of_write, written_by}
 use Rattle.tree_session.proofs.RunLemmas.{took_more}
 use Rattle.tree_session.proofs.WorkLemmas.{one_at_most}
 use Rattle.core_chain.specs.Quanta.{ChainTakesFew}
@@ -76,11 +76,6 @@ notes_one sizes e old new entries quanta works so_far =
     works_stay sizes old new works
     (subst (λ (es : List Entry). TookFew sizes es new.book.quanta) (sym entries) (subst (λ (ns : List ℕ). TookFew sizes (old.book.entries ++ e ∷ []) ns) (sym quanta) (took_more sizes old.book.entries old.book.quanta e 0 so_far.few (omega arith))))
     so_far
-
-written_by : (seat : ℕ) (e : Entry) → is_write_by seat e ≡ true → (is_done e.reply ≡ true) × (is_write e.op ≡ true)
-written_by seat e is =
-    let parts = both_hold ((e.seat == seat) && is_done e.reply) (is_write e.op) is in
-    ((both_hold (e.seat == seat) (is_done e.reply) parts.0).1, parts.1)
 
 module _ {D : Type 0} (state : D → DiskState) where
   -- a payment counts for a write, within its bound

@@ -50,10 +50,12 @@ Notes state seat old new = (new.held.book.book.entries ≡ old.held.book.book.en
 
 write_because : {D : Type 0} (state : D → DiskState) (seat : ℕ) (op : Op) (answer : Admission) (old new : CoreState D) → is_write op ≡ true → AdmitsBecause answer seat op old.held new.held (state old.disk) (state new.disk)
     → RepliesBecause state seat op (reply_to_write answer) old new
-write_because state seat (op.Put key value) answer old new write because = (answer, refl, because)
-write_because state seat (op.Add key count) answer old new write because = (answer, refl, because)
-write_because state seat (op.Del key) answer old new write because = (answer, refl, because)
-write_because state seat _ answer old new write because = absurd (false≢true write)
+write_because state seat (op.Get key) answer old new write because = absurd (false≢true write)
+write_because state seat (op.Hold low high) answer old new write because = absurd (false≢true write)
+write_because state seat (op.Next n) answer old new write because = absurd (false≢true write)
+write_because state seat op.Release answer old new write because = absurd (false≢true write)
+write_because state seat (op.Work n) answer old new write because = absurd (false≢true write)
+write_because state seat _ answer old new write because = (answer, refl, because)
 
 module _ {D : Type 0} (state : D → DiskState) where
   link_notes : (seat : ℕ) (k : Kind) (old new : CoreState D) → IsCall state seat k old new → Notes state seat old new

@@ -15,6 +15,7 @@ use Rattle.blsm_model.specs.declared.history.Why.{Why}
 use Rattle.blsm_model.specs.declared.key.Key.{Key}
 use Rattle.blsm_model.specs.declared.op.Op.{Op}
 use Rattle.blsm_model.specs.declared.op.Op.TheVariants as op
+use Rattle.tree_machine.proofs.TellLemmas.{no_look}
 use Rattle.disk_trait.specs.Disk.{DiskState}
 use Rattle.seat_book.specs.State.{BookState, noted_in, work_in}
 use Rattle.tree_machine.specs.Machine as machine
@@ -177,7 +178,7 @@ module _ {D : Type 0} (state : D → DiskState) where
   end_link : (seat n : ℕ) (reply : Reply) (old new : CoreState D) → EndsWork state seat n reply old new → LinkTells old.held.book new.held.book (state old.disk) (state new.disk)
   end_link seat n reply old new call =
       entry_tells 0 told entry old.held.book new.held.book (state old.disk) (state new.disk) (ap (λ (h : Held). h.book.book.entries) call.held ∙ ap (λ (r : Reply). old.held.book.book.entries ++ record { seat = seat; op = op.Work n; reply = r } ∷ []) (sym call.reply_is))
-      refl (ap faults_of call.reply_is ∙ sym (reply_tells (work_in seat old.held.book) old.held.book.stopped))
+      (ap one_if (no_look (op.Work n) reply refl)) (ap faults_of call.reply_is ∙ sym (reply_tells (work_in seat old.held.book) old.held.book.stopped))
       (subst (λ (r : Reply). NamesStop r new.held.book.stopped) (sym call.reply_is) (subst (λ (o : Option Why). NamesStop (work_reply (work_in seat old.held.book) old.held.book.stopped) o) (sym stopped) (reply_names (work_in seat old.held.book) old.held.book.stopped)))
       (inl (stays_same told (pending old.held.book) (pending new.held.book) old.held.book.stopped new.held.book.stopped (state old.disk) (state new.disk) stopped (faults_same old new call.untouched) few))
     where
@@ -228,11 +229,11 @@ module _ {D : Type 0} (state : D → DiskState) where
   link_tells seat kind.Pay old new call = pay_link seat call.0 old new call.1
   link_tells seat (kind.Get key) old new call = get_link seat key call.0 old new call.1
   link_tells seat (kind.Hold low high) old new call =
-      memory_link (record { seat = seat; op = op.Hold low high; reply = reply_to_hold call.0 }) old new refl (hold_quiet call.0).0 call.1.book call.1.untouched
+      memory_link (record { seat = seat; op = op.Hold low high; reply = reply_to_hold call.0 }) old new (no_look (op.Hold low high) (reply_to_hold call.0) refl) (hold_quiet call.0).0 call.1.book call.1.untouched
       (hold_names call.0 seat low high old new call.1.cause (ap (λ (b : BookState). b.stopped) call.1.book))
   link_tells seat (kind.Next n) old new call = scan_link seat n call.0 old new call.1
   link_tells seat kind.Release old new call =
-      memory_link (record { seat = seat; op = op.Release; reply = reply_to_drop call.0 }) old new refl (drop_quiet call.0).0 call.1.book call.1.untouched (drop_names call.0 seat old new call.1.cause (ap (λ (b : BookState). b.stopped) call.1.book))
+      memory_link (record { seat = seat; op = op.Release; reply = reply_to_drop call.0 }) old new (no_look op.Release (reply_to_drop call.0) refl) (drop_quiet call.0).0 call.1.book call.1.untouched (drop_names call.0 seat old new call.1.cause (ap (λ (b : BookState). b.stopped) call.1.book))
   link_tells seat kind.WorkTurn old new call = turn_link seat call.0 old new call.1
   link_tells seat (kind.WorkEnd n) old new call = end_link seat n call.0 old new call.1
   link_tells seat kind.WorkerTurn old new call = help_link seat call.0 old new call.1

@@ -1,6 +1,6 @@
 -- What the images show of a write that is appended.
-use Rattle.std.proofs.Common.{◌≡◌, ◌∙◌, ℕ, ◌+◌, ◌<◌, ◌≤◌, Bool, true, false, cond, ◌&&◌, List, [], ◌∷◌, ◌++◌, flat_map, length, Option, ⊎_elim, refl, ap, sym, subst, append-nil, length-append, arith}
-use Rattle.std.specs.Prelude.{nat_lt, ◌^◌}
+use Rattle.std.proofs.Common.{◌≡◌, ◌∙◌, ℕ, ◌+◌, ◌≤◌, Bool, true, false, cond, ◌&&◌, List, [], ◌∷◌, ◌++◌, flat_map, length, Option, ⊎_elim, refl, ap, sym, subst, append-nil, length-append, arith}
+use Rattle.std.specs.Prelude.{nat_lt}
 use Rattle.std.specs.List.{AllByRecursion}
 use Rattle.std.proofs.lemmas.Bool.{ltb-true}
 use Rattle.std.proofs.lemmas.List.{flat_map_more}
@@ -18,7 +18,7 @@ use Rattle.blsm_model.specs.declared.history.Reply.TheVariants.{Done, FaultUnsur
 use Rattle.blsm_model.specs.declared.history.Why.{Why}
 use Rattle.blsm_model.specs.Histories.{writes_of, counted, counted_writes, written}
 use Rattle.blsm_model.specs.Images.{counted_with}
-use Rattle.blsm_model.specs.Legal.{is_write, total_weight}
+use Rattle.blsm_model.specs.Legal.{is_write, total_weight, is_del}
 use Rattle.blsm_model.specs.Rows.{map_of, puts_of}
 use Rattle.blsm_model.specs.Values.{key_of}
 use Rattle.record_delta.specs.Records.{record_of}
@@ -34,7 +34,7 @@ use Rattle.tree_machine.specs.Lists.{Lists, memory_weight}
 use Rattle.tree_machine.specs.Layers.{Carries}
 use Rattle.tree_machine.specs.Machine.{Machine, charge, is_caller}
 use Rattle.tree_machine.specs.Moves.{goes_to_a, with_write, take_write, with_peak, note}
-use Rattle.tree_machine.specs.Steps.{Well, is_del, replied, admit_fitting, unless_stopped as machine_unless, taken_once, ready_for}
+use Rattle.tree_machine.specs.Steps.{Well, replied, admit_fitting, unless_stopped as machine_unless, taken_once, ready_for}
 use Rattle.tree_machine.specs.Plays.{has_room, is_between, may_note, is_even, stepped}
 use Rattle.tree_machine.specs.declared.step.Kind.TheVariants as kind
 use Rattle.tree_machine.specs.declared.step.Step.{Step}

@@ -15,7 +15,7 @@ use Rattle.blsm_model.specs.declared.history.Reply.TheVariants.{Full, FaultLost,
 use Rattle.blsm_model.specs.declared.history.Why.TheVariants.{Faulted}
 use Rattle.blsm_model.specs.declared.history.Why.{Why}
 use Rattle.blsm_model.specs.Histories.{writes_of}
-use Rattle.blsm_model.specs.Legal.{total_weight}
+use Rattle.blsm_model.specs.Legal.{total_weight, is_del}
 use Rattle.disk_trait.specs.Disk.{DiskState}
 use Rattle.gear_sched.specs.Gears.{GearState}
 use Rattle.gear_sched.specs.declared.Plan.{Plan}
@@ -31,7 +31,7 @@ use Rattle.tree_machine.specs.Merges.{Merge}
 use Rattle.tree_machine.specs.Machine.{Machine, Failed, BadPage, seats, charge, deep_done, pass_done, pass_is_done, is_caller, is_closed, held_by, work_of}
 use Rattle.tree_machine.specs.Moves.{note, stop, swap_deep, swap_pass, pass_quantum, deep_quantum, pass_quantum_of, deep_quantum_of}
 use Rattle.tree_machine.specs.Steps as machine
-use Rattle.tree_machine.specs.Steps.{Outcome, Well, FailedAfter, deep_swapped, one_if, ready_for, swaps_due, Broken, NoRoom, Answer, Paid, Settled, Choice, Stepped, is_del, replied, unless_stopped as machine_unless, admit_fitting, forgive, pay_running, pay_planned, do_pay, do_hold, do_next, chosen, ended_as, work_turning, worker_turning}
+use Rattle.tree_machine.specs.Steps.{Outcome, Well, FailedAfter, deep_swapped, one_if, ready_for, swaps_due, Broken, NoRoom, Answer, Paid, Settled, Choice, Stepped, replied, unless_stopped as machine_unless, admit_fitting, forgive, pay_running, pay_planned, do_pay, do_hold, do_next, chosen, ended_as, work_turning, worker_turning}
 use Rattle.tree_machine.specs.Plays.{may, most_turns, is_even, stepped_as}
 use Rattle.tree_machine.specs.Stands.{WritesFit}
 use Rattle.tree_machine.specs.declared.step.Kind.{Kind}

@@ -8,13 +8,13 @@ use Rattle.blsm_model.specs.declared.history.Reply.TheVariants.{FaultLost, Fault
 use Rattle.blsm_model.specs.declared.history.Why.TheVariants.{Faulted}
 use Rattle.blsm_model.specs.Geometry.{charge_limit}
 use Rattle.blsm_model.specs.Histories.{writes_of}
-use Rattle.blsm_model.specs.Legal.{total_weight}
+use Rattle.blsm_model.specs.Legal.{total_weight, is_del}
 use Rattle.pacing.specs.Pace.{Pace}
 use Rattle.pacing.specs.Fronts.{Fronts, AreFronts}
 use Rattle.tree_machine.specs.Machine.{Machine, charge, deep_done, is_closed, pass_done}
 use Rattle.tree_machine.specs.Moves.{note, stop}
 use Rattle.tree_machine.specs.Plays.{may, stepped_as}
-use Rattle.tree_machine.specs.Steps.{Outcome, Well, FailedAfter, is_del, admit, admit_fitting, deep_swapped, one_if, ready_for, swaps_due, worker_turn}
+use Rattle.tree_machine.specs.Steps.{Outcome, Well, FailedAfter, admit, admit_fitting, deep_swapped, one_if, ready_for, swaps_due, worker_turn}
 use Rattle.tree_machine.specs.Stands.{WritesFit}
 use Rattle.tree_machine.specs.declared.step.Kind.{Kind}
 use Rattle.tree_machine.specs.declared.step.Kind.TheVariants as kind

@@ -9,7 +9,7 @@ use Rattle.blsm_model.specs.declared.history.Reply.{Reply}
 use Rattle.blsm_model.specs.declared.history.Reply.TheVariants.{Done, FaultUnsure}
 use Rattle.blsm_model.specs.Geometry.{charge_limit}
 use Rattle.blsm_model.specs.Histories.{writes_of}
-use Rattle.blsm_model.specs.Legal.{total_weight}
+use Rattle.blsm_model.specs.Legal.{total_weight, is_del}
 use Rattle.blsm_model.specs.Values.{key_of}
 use Rattle.record_delta.specs.Records.{record_of}
 use Rattle.pacing.specs.Pace.{Pace}
@@ -19,7 +19,7 @@ use Rattle.tree_machine.specs.Machine.{Machine, charge, deep_done, pass_done}
 use Rattle.tree_machine.specs.Moves.{swap_deep, swap_pass, rotate_alone}
 use Rattle.tree_machine.specs.Plays.{may}
 use Rattle.tree_machine.specs.Stands.{WritesFit}
-use Rattle.tree_machine.specs.Steps.{is_del, deep_swapped, swapped, ready_for}
+use Rattle.tree_machine.specs.Steps.{deep_swapped, swapped, ready_for}
 use Rattle.tree_machine.specs.declared.step.Kind.TheVariants as kind
 use Rattle.paced_tree.specs.Kept.{IsPacedTree}
 use Rattle.tree_file.specs.Tree.{Tree, HoldsTree, lists_of}

@@ -2,6 +2,7 @@
 use Rattle.std.proofs.Common.{◌≡◌, ◌∙◌, ⊎_elim, ◌+◌, ◌≤◌, Option, refl, ap, sym, subst, arith}
 use Rattle.std.specs.Prelude.{is_some}
 use Rattle.std.proofs.lemmas.Bool.{false≢true}
+use Rattle.blsm_model.specs.Legal.{is_del}
 use Rattle.disk_trait.specs.Disk.{DiskState}
 use Rattle.record_delta.specs.Records.{weight}
 use Rattle.record_delta.specs.Entries.{entries_weight, with_record}
@@ -17,7 +18,6 @@ use Rattle.pacing.proofs.Counts.{pay}
 use Rattle.pacing.proofs.Forgiven.{falls_at}
 use Rattle.pacing.proofs.Payments.{snow_owed, deep_owed}
 use Rattle.paced_tree.specs.After.{no_quantum}
-use Rattle.tree_machine.specs.Steps.{is_del}
 use Rattle.deep_merge.specs.Merge.{DeepState}
 use Rattle.tree_log.specs.Log.{table_for}
 use Rattle.core_moves.specs.declared.held.Held.{Held}

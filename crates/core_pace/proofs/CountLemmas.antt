@@ -1,14 +1,11 @@
 -- The counts of a paced core are small.
-use Rattle.std.proofs.Common.{◌≡◌, ◌∙◌, ℕ, ◌+◌, ◌*◌, ◌^◌, ◌≤◌, Bool, true, false, cond, List, [], ◌∷◌, length, ap, arith, length-append}
+use Rattle.std.proofs.Common.{◌≡◌, ◌∙◌, ℕ, ◌+◌, ◌*◌, ◌^◌, ◌≤◌, ap, arith}
 use Rattle.std.proofs.lemmas.List.Sums.{sum_by-take-le}
 use Rattle.std.proofs.Math.Nat.{mul-le-mul_left}
 use Rattle.blsm_model.specs.Format.{callers, most_entries}
 use Rattle.blsm_model.specs.Geometry.{capacity}
 use Rattle.blsm_model.specs.Sizes.{Sizes, IsGeometry}
-use Rattle.blsm_model.specs.declared.op.Op.{Op}
-use Rattle.blsm_model.specs.declared.op.Op.TheVariants.{Put, Add, Del}
-use Rattle.blsm_model.specs.declared.history.Entry.{Entry}
-use Rattle.blsm_model.specs.Histories.{is_done, writes_of, counted, counted_writes}
+use Rattle.blsm_model.proofs.OpLemmas.{few_counted}
 use Rattle.gear_sched.specs.Gears.{GearState}
 use Rattle.pacing.proofs.Counts.{merged, passed}
 use Rattle.pacing.proofs.Numbers.{small}
@@ -23,21 +20,6 @@ use Rattle.core_pace.specs.Needs.{CountsAreSmall}
 -- the capacity is a small number
 pub capacity_small : (sizes : Sizes) → IsGeometry sizes → capacity sizes ≤ 2 ^ 33
 capacity_small sizes fits = let few = small sizes.ratio (omega (arith, fits.ratio)) (omega (arith, fits.ratio)) sizes.half (omega (arith, fits.half)) in omega (arith, few)
-
--- an entry writes once at most
-few_counted : (es : List Entry) → length (counted_writes es) ≤ length es
-few_counted [] = omega arith
-few_counted (e ∷ es) =
-    let rest = few_counted es in
-    let one = at_most (is_done e.reply) e.op in
-    omega (arith, rest, length-append (counted e) (counted_writes es), one)
-  where
-    at_most : (b : Bool) (op : Op) → length (cond b (writes_of op) []) ≤ 1
-    at_most false op = omega arith
-    at_most true (Put key value) = omega arith
-    at_most true (Add key count) = omega arith
-    at_most true (Del key) = omega arith
-    at_most true _ = omega arith
 
 few_more : (n : ℕ) → n ≤ most_entries → 2 * n + 3 ≤ 131077
 few_more n le = omega (arith, le)

@@ -8,7 +8,7 @@ use Rattle.blsm_model.specs.Format.{most_entries}
 use Rattle.blsm_model.specs.Geometry.{c1_mark, charge_limit}
 use Rattle.blsm_model.specs.Book.{Book, noted, HasRoom}
 use Rattle.blsm_model.specs.Histories.{writes_of}
-use Rattle.blsm_model.specs.Legal.{is_write, total_weight}
+use Rattle.blsm_model.specs.Legal.{is_write, total_weight, is_del}
 use Rattle.blsm_model.specs.Sizes.{Sizes}
 use Rattle.blsm_model.specs.declared.key.Key.{Key}
 use Rattle.blsm_model.specs.declared.op.Op.{Op}
@@ -31,7 +31,6 @@ use Rattle.paced_tree.specs.Booking.{IsBookOf}
 use Rattle.paced_tree.specs.Made.{IsAdmission}
 use Rattle.paced_tree.proofs.BookLaws.{moves_book, write_books, note_books}
 use Rattle.tree_machine.specs.Machine.{Seats}
-use Rattle.tree_machine.specs.Steps.{is_del}
 use Rattle.seat_book.specs.State.{BookState, noted_in}
 use Rattle.tree_runs.specs.Runs.{RunsState}
 use Rattle.core_moves.specs.declared.held.Held.{Held}

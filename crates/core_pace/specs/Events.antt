@@ -4,7 +4,7 @@ use Rattle.blsm_model.specs.Format.{callers, least_weight, most_weight}
 use Rattle.blsm_model.specs.Geometry.{charge_limit}
 use Rattle.blsm_model.specs.Book.{HasRoom}
 use Rattle.blsm_model.specs.Histories.{is_done, writes_of}
-use Rattle.blsm_model.specs.Legal.{is_write, total_weight}
+use Rattle.blsm_model.specs.Legal.{is_write, total_weight, is_del}
 use Rattle.blsm_model.specs.declared.key.Key.{Key}
 use Rattle.blsm_model.specs.declared.op.Op.{Op}
 use Rattle.blsm_model.specs.declared.history.Entry.{Entry}
@@ -20,7 +20,7 @@ use Rattle.pacing.specs.Pace.{Pace, with_forgiven}
 use Rattle.pacing.specs.Steps.{deep_settled, ready_for}
 use Rattle.pacing.specs.Kept.{IsPaced}
 use Rattle.paced_tree.specs.Made.{IsAdmission, IsPaidBy}
-use Rattle.tree_machine.specs.Steps.{is_del, Paid}
+use Rattle.tree_machine.specs.Steps.{Paid}
 use Rattle.seat_book.specs.State.{BookState, noted_in, paid_in, stopped_in}
 use Rattle.core_moves.specs.declared.held.Held.{Held}
 use Rattle.core_moves.specs.Held.{IsOne, charge_in}

@@ -27,12 +27,6 @@ pub struct Judge {
     may_have_paid: bool,
 }
 
-fn key_of(write: &Write) -> &Key {
-    match write {
-        Write::Put(key, _) | Write::Add(key, _) | Write::Del(key) => key,
-    }
-}
-
 // Puts a key in its place, where it isn't there yet.
 fn place_key(keys: &mut Vec<Key>, key: &Key) -> Result<(), AllocError> {
     let mut at = 0usize;
@@ -54,7 +48,7 @@ fn place_key(keys: &mut Vec<Key>, key: &Key) -> Result<(), AllocError> {
 pub fn keys_of(alloc: Global, writes: &[Write]) -> Result<Vec<Key>, AllocError> {
     let mut keys = Vec::new(alloc);
     for write in writes {
-        place_key(&mut keys, key_of(write))?;
+        place_key(&mut keys, write.key())?;
     }
     Ok(keys)
 }

@@ -14,11 +14,10 @@ use Rattle.std.proofs.lemmas.List.Sums.{sum_by-cons, sum_by-set, sum_by-insert, 
 use Rattle.blsm_model.specs.declared.key.Key.{Key}
 use Rattle.blsm_model.specs.declared.op.Write.{Write}
 use Rattle.blsm_model.specs.Keys.{key_cmp, same_key}
-use Rattle.blsm_model.specs.Values.{key_of}
 use Rattle.record_delta.specs.declared.record.Rec.{Rec}
-use Rattle.record_delta.specs.Records.{weight, settled, write_of, IsRecord}
-use Rattle.record_delta.specs.Folding.{fold, over, kept_after}
-use Rattle.record_delta.proofs.FoldingLemmas.{fold_lighter, key_of-write_of, stands_rec}
+use Rattle.record_delta.specs.Records.{weight, settled, writes_of_record, IsRecord}
+use Rattle.record_delta.specs.Folding.{fold, over}
+use Rattle.record_delta.proofs.FoldingLemmas.{fold_lighter, stands_rec}
 use Rattle.record_delta.specs.Entries.{Entries, AreSorted, record_of_key, entries_weight, with_record}
 use Rattle.mem_table.specs.Entries.{StandFor}
 use Rattle.mem_table.specs.Places.{IsAt, IsGapFor}
@@ -103,9 +102,8 @@ test_of_tie Greater e = absurd (false≢true e)
 ties : (q key : Key) → same_key key q ≡ eq_by_cmp key_cmp q key
 ties q key = sym (sym (texts_ties q key) ∙ (lists_equiv nat_eq_equiv).symm q key)
 
-record_after : (es : Entries) (key : Key) (rec : Rec) (write : Write) (q : Key) → key_of write ≡ key
-    → record_of_key q (with_record key rec es) ≡ kept_after write rec q (record_of_key q es)
-record_after es key rec write q key_is =
+record_after : (es : Entries) (key : Key) (rec : Rec) (q : Key) → record_of_key q (with_record key rec es) ≡ cond (same_key key q) (Some (over rec (record_of_key q es))) (record_of_key q es)
+record_after es key rec q =
     let kept = record_of_key q es in
     find-put key_cmp nat_list_cmp_total q key (over rec (record_of_key key es)) es
     ∙ elim (by_test (eq_by_cmp key_cmp q key)) [
@@ -113,10 +111,10 @@ record_after es key rec write q key_is =
           let q_is : q ≡ key = tied q key (test_of_tie (key_cmp q key) same) in
           ap (λ b. cond b (Some (over rec (record_of_key key es))) kept) same
           ∙ ap (λ k. Some (over rec (record_of_key k es))) (sym q_is)
-          ∙ ap (λ b. cond b (Some (over rec kept)) kept) (sym (ap (λ k. same_key k q) key_is ∙ ties q key ∙ same))
+          ∙ ap (λ b. cond b (Some (over rec kept)) kept) (sym (ties q key ∙ same))
       | inr apart ↦
           ap (λ b. cond b (Some (over rec (record_of_key key es))) kept) apart
-          ∙ ap (λ b. cond b (Some (over rec kept)) kept) (sym (ap (λ k. same_key k q) key_is ∙ ties q key ∙ apart))
+          ∙ ap (λ b. cond b (Some (over rec kept)) kept) (sym (ties q key ∙ apart))
     ]
 
 pub record_of_this : (es : Entries) (key : Key) (rec : Rec) → record_of_key key (with_record key rec es) ≡ Some (over rec (record_of_key key es))
@@ -133,9 +131,9 @@ record_of_other es key rec other differs =
     ]
 
 pub stand_more : (es : Entries) (key : Key) (rec : Rec) (writes : List Write) → IsRecord rec → StandFor es writes
-    → StandFor (with_record key rec es) (writes ++ write_of key rec ∷ [])
+    → StandFor (with_record key rec es) (writes ++ writes_of_record key rec)
 stand_more es key rec writes in_range stood = λ q.
-    ap settled (record_after es key rec (write_of key rec) q (key_of-write_of key rec)) ∙ stands_rec key rec in_range.count_fits q (record_of_key q es) writes (stood q)
+    ap settled (record_after es key rec q) ∙ stands_rec key rec in_range.count_fits q (record_of_key q es) writes (stood q)
 
 -- ---- a table stays a table
 

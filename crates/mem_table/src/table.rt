@@ -1,10 +1,10 @@
 //! A balanced tree of keys and records.
-ghost use Rattle.std.specs.Prelude.{◌≡◌, ◌≢◌, ◌+◌, ◌-◌, ◌*◌, ◌^◌, ◌≤◌, ◌<◌, ◌↔◌, [], ◌∷◌, ◌++◌, List, Some, None, IfOk, IfSome, IsNone, IsSome, length};
+ghost use Rattle.std.specs.Prelude.{◌≡◌, ◌≢◌, ◌+◌, ◌-◌, ◌*◌, ◌^◌, ◌≤◌, ◌<◌, ◌↔◌, [], ◌++◌, List, Some, None, IfOk, IfSome, IsNone, IsSome, length};
 ghost use Rattle.std.specs.List.{HoldsAt};
 ghost use Rattle.blsm_model.specs.declared.key.Key.{Key};
 ghost use Rattle.blsm_model.specs.declared.op.Write.{Write};
 ghost use Rattle.record_delta.specs.declared.record.Rec.{Rec};
-ghost use Rattle.record_delta.specs.Records.{write_of, IsRecord, weight as weight_with};
+ghost use Rattle.record_delta.specs.Records.{writes_of_record, IsRecord, weight as weight_with};
 ghost use Rattle.record_delta.specs.Folding.{over};
 ghost use Rattle.record_delta.specs.Entries.{AreSorted, entries_weight, record_of_key, with_record, above, first_of};
 ghost use Rattle.mem_table.specs.Entries.{StandFor};
@@ -132,7 +132,7 @@ impl Table {
         ensures reserved { self.new.reserved ≡ self.old.reserved }
         ensures weight { entries_weight self.new.entries ≤ entries_weight self.old.entries + weight_with key.now rec.now }
         // Where the entries stood for writes, they stand for those and this record's.
-        ensures stands { (writes : List Write) → StandFor self.old.entries writes → StandFor self.new.entries (writes ++ write_of key.now rec.now ∷ []) }
+        ensures stands { (writes : List Write) → StandFor self.old.entries writes → StandFor self.new.entries (writes ++ writes_of_record key.now rec.now) }
         // A key that was there keeps its place, and a new one comes last.
         ensures arrived { self.new.arrived ≡ arrived_with key.now self.old.arrived }
         ensures places { (other : Key) → IsSome (place_in other self.old.arrived) → place_in other self.new.arrived ≡ place_in other self.old.arrived }

@@ -1,5 +1,5 @@
 -- An admission of the lists is one of the numbers.
-use Rattle.std.proofs.Common.{◌≡◌, ◌∙◌, refl, sym, ap, subst, ℕ, ◌+◌, ◌^◌, ◌<◌, ◌≤◌, Bool, cond, true, false, ◌&&◌, [], ◌∷◌, Option, Some, None, set, arith}
+use Rattle.std.proofs.Common.{◌≡◌, ◌∙◌, refl, sym, ap, subst, ℕ, ◌+◌, ◌<◌, ◌≤◌, Bool, cond, true, false, ◌&&◌, [], ◌∷◌, Option, Some, None, set, arith}
 use Rattle.std.specs.Prelude.{◌==◌, nat_lt, is_some}
 use Rattle.std.specs.List.{AllByRecursion}
 use Rattle.std.proofs.lemmas.Bool.{false≢true, ltb-false}
@@ -7,16 +7,15 @@ use Rattle.blsm_model.specs.Format.{callers}
 use Rattle.blsm_model.specs.Geometry.{charge_limit}
 use Rattle.blsm_model.specs.Values.{key_of, weight_of}
 use Rattle.blsm_model.specs.Histories.{is_done, writes_of}
-use Rattle.blsm_model.specs.Legal.{is_write, total_weight}
+use Rattle.blsm_model.specs.Legal.{is_write, total_weight, is_del}
 use Rattle.blsm_model.specs.declared.key.Key.{Key}
 use Rattle.blsm_model.specs.declared.op.Op.{Op}
-use Rattle.blsm_model.specs.declared.op.Op.TheVariants.{Put, Add, Del}
 use Rattle.blsm_model.specs.declared.op.Write.{Write}
-use Rattle.blsm_model.specs.declared.op.Write.TheVariants as write
 use Rattle.blsm_model.specs.declared.history.Why.{Why}
 use Rattle.blsm_model.specs.declared.history.Why.TheVariants.{Faulted}
 use Rattle.blsm_model.specs.declared.history.Reply.{Reply}
 use Rattle.blsm_model.specs.declared.history.Reply.TheVariants.{Done, Full, FaultLost, FaultUnsure, Stopped}
+use Rattle.blsm_model.proofs.OpLemmas.{writes_one}
 use Rattle.record_delta.specs.declared.record.Rec.{Rec}
 use Rattle.record_delta.specs.Records.{record_of}
 use Rattle.gear_sched.specs.Gears.{first_debt, second_debt}
@@ -31,7 +30,7 @@ use Rattle.tree_machine.specs.Merges.{Merge}
 use Rattle.tree_machine.specs.Layers.{IsSound, IsPassCounted, HasWay}
 use Rattle.tree_machine.specs.Machine.{Machine, charge}
 use Rattle.tree_machine.specs.Moves.{goes_to_a, with_write, take_write, with_peak, note, stop}
-use Rattle.tree_machine.specs.Steps.{Outcome, Well, FailedAfter, Broken, NoRoom, replied, is_del, deep_swapped, swaps_due, ready_for, taken_once, admit, admit_fitting}
+use Rattle.tree_machine.specs.Steps.{Outcome, Well, FailedAfter, Broken, NoRoom, replied, deep_swapped, swaps_due, ready_for, taken_once, admit, admit_fitting}
 use Rattle.tree_machine.specs.Stands.{FitsFormat}
 use Rattle.tree_machine.proofs.CarryLemmas.{ready_carries}
 use Rattle.tree_machine.proofs.LightLemmas.{write_is_light}
@@ -200,17 +199,14 @@ module _ (m : Machine) (l : Pace) (seat : ℕ) (op : Op) (sound : IsSound m) (wa
         paced = written_paced m l seat o w sound way paced of_tree caller settled fits light writes writing;
       })
 
-  done_goes : (o : Op) → is_write o ≡ true → first_debt m.gears seat + second_debt m.gears seat ≡ 0
-      → AllByRecursion FitsFormat (writes_of o) → charge m + total_weight (writes_of o) ≤ charge_limit m.gears.sizes (is_del o)
-      → Goes (note seat o Done (with_peak (taken_once seat (writes_of o) (ready_for (total_weight (writes_of o)) m)))) (admitted seat o (writes_of o) (ready_for (total_weight (writes_of o)) m) (with_numbers_of m l))
-  done_goes (Put key value) writing settled fits room = one_goes (Put key value) (write.Put key value) refl refl settled fits.0 room
-  done_goes (Add key count) writing settled fits room = one_goes (Add key count) (write.Add key count) refl refl settled fits.0 room
-  done_goes (Del key) writing settled fits room = one_goes (Del key) (write.Del key) refl refl settled fits.0 room
-  done_goes (Rattle.blsm_model.specs.declared.op.Op.TheVariants.Get key) writing settled fits room = absurd (false≢true writing)
-  done_goes (Rattle.blsm_model.specs.declared.op.Op.TheVariants.Hold low high) writing settled fits room = absurd (false≢true writing)
-  done_goes (Rattle.blsm_model.specs.declared.op.Op.TheVariants.Next n) writing settled fits room = absurd (false≢true writing)
-  done_goes Rattle.blsm_model.specs.declared.op.Op.TheVariants.Release writing settled fits room = absurd (false≢true writing)
-  done_goes (Rattle.blsm_model.specs.declared.op.Op.TheVariants.Work n) writing settled fits room = absurd (false≢true writing)
+  done_goes : is_write op ≡ true → first_debt m.gears seat + second_debt m.gears seat ≡ 0
+      → AllByRecursion FitsFormat (writes_of op) → charge m + total_weight (writes_of op) ≤ charge_limit m.gears.sizes (is_del op)
+      → Goes (note seat op Done (with_peak (taken_once seat (writes_of op) (ready_for (total_weight (writes_of op)) m)))) (admitted seat op (writes_of op) (ready_for (total_weight (writes_of op)) m) (with_numbers_of m l))
+  done_goes writing settled fits room =
+      let one = writes_one op writing in
+      subst (λ ws. Goes (note seat op Done (with_peak (taken_once seat ws (ready_for (total_weight ws) m)))) (admitted seat op ws (ready_for (total_weight ws) m) (with_numbers_of m l))) (sym one.1)
+      (one_goes op one.0 one.1 writing settled (subst (λ ws. AllByRecursion FitsFormat ws) one.1 fits).0
+      (subst (λ ws. charge m + total_weight ws ≤ charge_limit m.gears.sizes (is_del op)) one.1 room))
 
   pub admit_goes : (outcome : Outcome) → m.stopped ≡ None → is_write op ≡ true → first_debt m.gears seat + second_debt m.gears seat ≡ 0
       → AllByRecursion FitsFormat (writes_of op)
@@ -221,9 +217,9 @@ module _ (m : Machine) (l : Pace) (seat : ℕ) (op : Op) (sound : IsSound m) (wa
       fitting : (o : Outcome) → charge m + total_weight (writes_of op) ≤ charge_limit m.gears.sizes (is_del op)
           → Goes (admit_fitting m seat op (total_weight (writes_of op)) o).state (after_admission m (with_numbers_of m l) seat op (total_weight (writes_of op)) o)
       fitting (FailedAfter commits faults) room = failed_goes commits faults
-      fitting Well room = done_goes op writing settled fits room
-      fitting (Broken page) room = done_goes op writing settled fits room
-      fitting NoRoom room = done_goes op writing settled fits room
+      fitting Well room = done_goes writing settled fits room
+      fitting (Broken page) room = done_goes writing settled fits room
+      fitting NoRoom room = done_goes writing settled fits room
 
       by : (b : Bool) → nat_lt (charge_limit m.gears.sizes (is_del op)) (charge m + total_weight (writes_of op)) ≡ b
           → Goes (cond b (replied seat op (Full (charge m)) m) (admit_fitting m seat op (total_weight (writes_of op)) outcome)).state

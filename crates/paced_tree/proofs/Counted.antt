@@ -1,18 +1,16 @@
 -- The merges stay few, while the tree runs.
-use Rattle.std.proofs.Common.{◌≡◌, ◌∙◌, refl, sym, ap, subst, ℕ, ◌+◌, Bool, cond, true, false, List, [], ◌∷◌, Option, Some, None}
+use Rattle.std.proofs.Common.{◌≡◌, ◌∙◌, refl, sym, ap, subst, ℕ, ◌+◌, Bool, cond, true, false, List, [], ◌∷◌, Option, Some, None, length, arith, ◌≤◌}
 use Rattle.std.specs.Prelude.{◌==◌, nat_lt}
-use Rattle.std.proofs.lemmas.Bool.{false≢true}
 use Rattle.blsm_model.specs.Geometry.{charge_limit}
 use Rattle.blsm_model.specs.Values.{key_of, weight_of}
 use Rattle.blsm_model.specs.Histories.{writes_of}
-use Rattle.blsm_model.specs.Legal.{total_weight}
+use Rattle.blsm_model.specs.Legal.{total_weight, is_del}
 use Rattle.blsm_model.specs.declared.op.Op.{Op}
-use Rattle.blsm_model.specs.declared.op.Op.TheVariants.{Put, Add, Del, Get, Hold, Next, Release, Work}
-use Rattle.blsm_model.specs.declared.op.Write.TheVariants as write
 use Rattle.blsm_model.specs.declared.op.Write.{Write}
 use Rattle.blsm_model.specs.declared.history.Why.{Why}
 use Rattle.blsm_model.specs.declared.history.Why.TheVariants.{Faulted}
 use Rattle.blsm_model.specs.declared.history.Reply.TheVariants.{Full, FaultLost, FaultUnsure}
+use Rattle.blsm_model.proofs.OpLemmas.{writes_few}
 use Rattle.record_delta.specs.Records.{record_of}
 use Rattle.pacing.specs.Pace.{Pace, with_forgiven}
 use Rattle.pacing.specs.Kept.{IsPaced}
@@ -25,7 +23,7 @@ use Rattle.tree_machine.specs.declared.step.Kind.TheVariants as kind
 use Rattle.tree_machine.specs.Layers.{IsSound, HasWay}
 use Rattle.tree_machine.specs.Machine.{Machine, charge, is_closed}
 use Rattle.tree_machine.specs.Moves.{goes_to_a, with_write, stop}
-use Rattle.tree_machine.specs.Steps.{Outcome, Well, FailedAfter, Broken, NoRoom, replied, is_del, deep_swapped, swaps_due, ready_for, forgive, admit_fitting}
+use Rattle.tree_machine.specs.Steps.{Outcome, Well, FailedAfter, Broken, NoRoom, replied, deep_swapped, swaps_due, ready_for, forgive, admit_fitting}
 use Rattle.tree_machine.specs.Plays.{stepped_as}
 use Rattle.tree_machine.proofs.FrameLemmas.{step_stays}
 use Rattle.tree_machine.proofs.CarryLemmas.{ready_carries}
@@ -58,20 +56,14 @@ abbrev first_weight : List Write → ℕ
 first_weight [] = 0
 first_weight (w ∷ ws) = weight_of w
 
-abbrev any_write : List Write → Bool
-any_write [] = false
-any_write (w ∷ ws) = true
-
 -- a command writes once at most
 pub writes_once : (op : Op) (w : Write) (rest : List Write) → writes_of op ≡ w ∷ rest → total_weight (writes_of op) ≡ weight_of w
-writes_once (Put key value) w rest is = one_weight (write.Put key value) ∙ ap (λ (ws : List Write). first_weight ws) is
-writes_once (Add key count) w rest is = one_weight (write.Add key count) ∙ ap (λ (ws : List Write). first_weight ws) is
-writes_once (Del key) w rest is = one_weight (write.Del key) ∙ ap (λ (ws : List Write). first_weight ws) is
-writes_once (Get key) w rest is = absurd (false≢true (ap any_write is))
-writes_once (Hold low high) w rest is = absurd (false≢true (ap any_write is))
-writes_once (Next n) w rest is = absurd (false≢true (ap any_write is))
-writes_once Release w rest is = absurd (false≢true (ap any_write is))
-writes_once (Work n) w rest is = absurd (false≢true (ap any_write is))
+writes_once op w rest is = by (writes_of op) (writes_few op) is
+  where
+    by : (ws : List Write) → length ws ≤ 1 → ws ≡ w ∷ rest → total_weight ws ≡ weight_of w
+    by [] few is = absurd (omega (arith, ap (λ (ws : List Write). length ws) is))
+    by (x ∷ []) few is = one_weight x ∙ ap first_weight is
+    by (x ∷ y ∷ ws) few is = absurd (omega (arith, few))
 
 admission_counts : (m : Machine) (p : Pace) (seat : ℕ) (op : Op) (outcome : Outcome) → IsSound m → HasWay m → Goes m p → IsCounted p
     → (Rattle.tree_machine.specs.Steps.admit m seat op outcome).state.stopped ≡ None

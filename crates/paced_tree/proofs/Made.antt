@@ -1,22 +1,22 @@
 -- What a step of the tree makes of its numbers, by its answer.
-use Rattle.std.proofs.Common.{◌≡◌, ◌∙◌, ap, refl, sym, subst, ℕ, ◌+◌, ◌^◌, ◌<◌, ◌≤◌, inl, inr, Bool, cond, true, false, ◌&&◌, List, [], ◌∷◌, Option, Some, None, arith}
+use Rattle.std.proofs.Common.{◌≡◌, ◌∙◌, ap, refl, sym, subst, ℕ, ◌+◌, ◌<◌, ◌≤◌, inl, inr, Bool, cond, true, false, ◌&&◌, List, [], ◌∷◌, Option, Some, None, arith, length}
 use Rattle.std.specs.Prelude.{◌==◌, nat_lt, nat_le}
 use Rattle.std.specs.List.{AllByRecursion}
-use Rattle.std.proofs.lemmas.Bool.{false≢true, ltb-false, leb-true}
+use Rattle.std.proofs.lemmas.Bool.{ltb-false, leb-true}
 use Rattle.std.proofs.lemmas.List.{get_or_past}
 use Rattle.blsm_model.specs.Format.{callers, least_weight, most_weight}
 use Rattle.blsm_model.specs.Geometry.{charge_limit}
 use Rattle.blsm_model.specs.Values.{key_of, weight_of}
 use Rattle.blsm_model.specs.Histories.{writes_of}
-use Rattle.blsm_model.specs.Legal.{is_write, total_weight}
+use Rattle.blsm_model.specs.Legal.{is_write, total_weight, is_del}
 use Rattle.blsm_model.specs.declared.key.Key.{Key}
 use Rattle.blsm_model.specs.declared.row.Value.{Value}
 use Rattle.blsm_model.specs.declared.op.Op.{Op}
-use Rattle.blsm_model.specs.declared.op.Op.TheVariants.{Put, Add, Del, Get, Hold, Next, Release, Work}
 use Rattle.blsm_model.specs.declared.history.Reply.TheVariants.{Full, FaultLost, FaultUnsure}
 use Rattle.blsm_model.specs.declared.history.Why.TheVariants.{Faulted}
 use Rattle.blsm_model.specs.declared.op.Write.{Write}
 use Rattle.blsm_model.specs.declared.history.Why.{Why}
+use Rattle.blsm_model.proofs.OpLemmas.{writes_one}
 use Rattle.record_delta.specs.Records.{record_of}
 use Rattle.gear_sched.specs.Gears.{GearState, plan_for, first_debt, second_debt, forgives_first, forgives_second}
 use Rattle.gear_sched.specs.declared.Plan.{Plan}
@@ -32,7 +32,7 @@ use Rattle.tree_machine.specs.Layers.{IsSound, HasWay}
 use Rattle.tree_machine.specs.Machine.{Machine, Worked, seats, charge, is_caller, is_closed, work_of}
 use Rattle.tree_machine.specs.Moves.{goes_to_a, with_write, stop, pass_quantum, deep_quantum}
 use Rattle.tree_machine.specs.Steps as machine
-use Rattle.tree_machine.specs.Steps.{Outcome, Well, FailedAfter, Broken, NoRoom, Paid, Choice, SwapDeep, SwapPass, DeepQuantum, PassQuantum, Begin, Rotate, Rest, ended_as, is_del, swaps_due, forgive, ready_for, deep_swapped, replied, unless_stopped as machine_unless, admit, admit_fitting, pay, pay_running, pay_forgiven, pay_planned, do_pay, do_turn, work_turning, worker_turning}
+use Rattle.tree_machine.specs.Steps.{Outcome, Well, FailedAfter, Broken, NoRoom, Paid, Choice, SwapDeep, SwapPass, DeepQuantum, PassQuantum, Begin, Rotate, Rest, ended_as, swaps_due, forgive, ready_for, deep_swapped, replied, unless_stopped as machine_unless, admit, admit_fitting, pay, pay_running, pay_forgiven, pay_planned, do_pay, do_turn, work_turning, worker_turning}
 use Rattle.tree_machine.specs.Plays.{has_room, is_between, may_note, is_even, most_turns, may, stepped_as}
 use Rattle.tree_machine.specs.Stands.{FitsFormat, Stands, WritesFit}
 use Rattle.tree_machine.proofs.LightLemmas.{write_is_light}
@@ -53,21 +53,7 @@ module _ (m : Machine) (l : Pace) (seat : ℕ) (op : Op) (sound : IsSound m) (wa
   written_made : (ws : List Write) → ws ≡ writes_of op → ((w : Write) (rest : List Write) → ws ≡ w ∷ rest → total_weight ws ≡ weight_of w)
       → AllByRecursion FitsFormat ws → charge m + total_weight (writes_of op) ≤ charge_limit m.gears.sizes (is_del op)
       → IsAdmission seat op (with_numbers_of m l) (admitted seat op ws (ready_for (total_weight (writes_of op)) m) (with_numbers_of m l))
-  written_made [] is one fits room = absurd (false≢true (ap some_write is ∙ writes op write))
-    where
-      some_write : List Write → Bool
-      some_write [] = false
-      some_write (w ∷ ws) = true
-
-      writes : (o : Op) → is_write o ≡ true → some_write (writes_of o) ≡ true
-      writes (Put key value) is_one = refl
-      writes (Add key count) is_one = refl
-      writes (Del key) is_one = refl
-      writes (Get key) is_one = absurd (false≢true is_one)
-      writes (Hold low high) is_one = absurd (false≢true is_one)
-      writes (Next n) is_one = absurd (false≢true is_one)
-      writes Release is_one = absurd (false≢true is_one)
-      writes (Work n) is_one = absurd (false≢true is_one)
+  written_made [] is one fits room = absurd (omega (arith, ap (λ (l : List Write). length l) (is ∙ (writes_one op write).1)))
   written_made (w ∷ ws) is one fits room =
       let weighs = one w ws refl in
       let weight_is = ap total_weight is in

@@ -32,7 +32,7 @@ use Rattle.paced_tree.specs.Numbers.{with_numbers_of, IsPaceOf, IsBooked, taken_
 use Rattle.paced_tree.specs.After.{pace_after}
 use Rattle.blsm_model.specs.Book.{Book, no_entry, entry_at}
 use Rattle.blsm_model.specs.Histories.{writes_of}
-use Rattle.blsm_model.specs.Legal.{total_weight}
+use Rattle.blsm_model.specs.Legal.{total_weight, is_del}
 use Rattle.std.proofs.lemmas.List.{get_or_past}
 use Rattle.tree_machine.specs.Steps.{is_write_by, last_write}
 use Rattle.paced_tree.specs.Calls.{IsCall, IsRight}
@@ -45,7 +45,7 @@ use Rattle.pacing.specs.Steps.{Admit, Pay, Turn}
 use Rattle.pacing.proofs.Spent.{opening_spends, step_spends, moves_spend, quanta_are_few, forgave}
 use Rattle.tree_machine.specs.Machine.{Worked, Failed, BadPage}
 use Rattle.tree_machine.specs.Steps as steps
-use Rattle.tree_machine.specs.Steps.{Replied, Paid, Settled, is_del}
+use Rattle.tree_machine.specs.Steps.{Replied, Paid, Settled}
 use Rattle.tree_machine.specs.declared.step.Kind.TheVariants as kind
 use Rattle.blsm_model.specs.declared.history.Reply.TheVariants.{Done, FaultLost, FaultUnsure}
 use Rattle.blsm_model.specs.Histories.{counted_writes}

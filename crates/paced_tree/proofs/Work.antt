@@ -3,18 +3,15 @@ use Rattle.std.proofs.Common.{◌≡◌, ◌∙◌, refl, sym, ap, subst, ℕ, �
 use Rattle.std.specs.Prelude.{nat_lt, nat_le, slice_index}
 use Rattle.std.proofs.lemmas.Bool.{ltb-true}
 use Rattle.std.proofs.Math.Nat.{mul-add, mul-le-mul_left}
-use Rattle.std.proofs.lemmas.List.{length-append}
 use Rattle.blsm_model.specs.Format.{callers, most_weight, most_entries}
 use Rattle.blsm_model.specs.Sizes.{Sizes, IsGeometry}
 use Rattle.blsm_model.specs.Legal.{is_write}
 use Rattle.blsm_model.specs.Geometry.{capacity}
-use Rattle.blsm_model.specs.Histories.{is_done, writes_of, counted, counted_writes}
-use Rattle.blsm_model.specs.declared.op.Op.{Op}
-use Rattle.blsm_model.specs.declared.op.Op.TheVariants.{Put, Add, Del}
-use Rattle.blsm_model.specs.declared.history.Entry.{Entry}
+use Rattle.blsm_model.specs.Histories.{counted_writes}
 use Rattle.blsm_model.specs.declared.key.Key.{Key}
 use Rattle.blsm_model.specs.declared.row.Value.{Value}
 use Rattle.blsm_model.specs.declared.room.Room.{Room}
+use Rattle.blsm_model.proofs.OpLemmas.{few_counted}
 use Rattle.record_delta.specs.Entries.{Entries, entries_weight}
 use Rattle.pacing.specs.Pace.{Pace, opened as pace_opened}
 use Rattle.pacing.specs.Kept.{IsPaced, most_taken}
@@ -227,21 +224,6 @@ all_room m (made ∷ steps) = all_room (played_one m made) steps ∙ one_room m 
 -- the capacity is a small number
 capacity_small : (sizes : Sizes) → IsGeometry sizes → capacity sizes ≤ 2 ^ 33
 capacity_small sizes fits = let few = small sizes.ratio (omega (arith, fits.ratio)) (omega (arith, fits.ratio)) sizes.half (omega (arith, fits.half)) in omega (arith, few)
-
--- an entry writes once at most
-few_counted : (es : List Entry) → length (counted_writes es) ≤ length es
-few_counted [] = omega arith
-few_counted (e ∷ es) =
-    let rest = few_counted es in
-    let one = at_most (is_done e.reply) e.op in
-    omega (arith, rest, length-append (counted e) (counted_writes es), one)
-  where
-    at_most : (b : Bool) (op : Op) → length (cond b (writes_of op) []) ≤ 1
-    at_most false op = omega arith
-    at_most true (Put key value) = omega arith
-    at_most true (Add key count) = omega arith
-    at_most true (Del key) = omega arith
-    at_most true _ = omega arith
 
 pub run_small : RunIsSmall
 run_small sizes c1 c2 catalogue faults room steps are fits few low =

@@ -6,7 +6,7 @@ use Rattle.blsm_model.specs.declared.history.Why.{Why}
 use Rattle.blsm_model.specs.Geometry.{charge_limit}
 use Rattle.blsm_model.specs.Values.{key_of}
 use Rattle.blsm_model.specs.Histories.{writes_of}
-use Rattle.blsm_model.specs.Legal.{total_weight}
+use Rattle.blsm_model.specs.Legal.{total_weight, is_del}
 use Rattle.record_delta.specs.Records.{record_of}
 use Rattle.gear_sched.specs.declared.Plan.{Plan}
 use Rattle.gear_sched.specs.declared.Plan.TheVariants.{Snow, Deep, Nothing}
@@ -17,7 +17,7 @@ use Rattle.tree_machine.specs.Lists.{Lists}
 use Rattle.tree_machine.specs.Merges.{Merge, cursor_after, quantum_of}
 use Rattle.tree_machine.specs.Machine.{Machine, charge, is_closed}
 use Rattle.tree_machine.specs.Moves.{goes_to_a, with_write}
-use Rattle.tree_machine.specs.Steps.{Outcome, FailedAfter, Broken, is_del, swaps_due, forgive, ready_for as machine_ready_for}
+use Rattle.tree_machine.specs.Steps.{Outcome, FailedAfter, Broken, swaps_due, forgive, ready_for as machine_ready_for}
 use Rattle.tree_machine.specs.declared.step.Kind.{Kind}
 use Rattle.tree_machine.specs.declared.step.Kind.TheVariants as kind
 

@@ -4,14 +4,14 @@ use Rattle.blsm_model.specs.declared.op.Op.{Op}
 use Rattle.blsm_model.specs.declared.history.Reply.{Reply}
 use Rattle.blsm_model.specs.declared.history.Reply.TheVariants.{Done, FaultLost, FaultUnsure}
 use Rattle.blsm_model.specs.Histories.{writes_of}
-use Rattle.blsm_model.specs.Legal.{total_weight}
+use Rattle.blsm_model.specs.Legal.{total_weight, is_del}
 use Rattle.pacing.specs.Pace.{Pace, Quantum, with_forgiven}
 use Rattle.pacing.specs.Steps.{Admit, Pay, Turn, May, after, deep_settled, ready_for}
 use Rattle.tree_machine.specs.declared.step.Kind.{Kind}
 use Rattle.tree_machine.specs.declared.step.Kind.TheVariants as kind
 use Rattle.tree_machine.specs.Machine.{Worked, Failed, BadPage}
 use Rattle.tree_machine.specs.Steps as steps
-use Rattle.tree_machine.specs.Steps.{Answer, Replied, Paid, Settled, is_del}
+use Rattle.tree_machine.specs.Steps.{Answer, Replied, Paid, Settled}
 
 -- one admission of the pacing, of the command's weight, by the seat
 abbrev pub IsAdmission : ℕ → Op → Pace → Pace → Type 0

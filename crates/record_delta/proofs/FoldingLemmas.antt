@@ -15,7 +15,7 @@ use Rattle.blsm_model.specs.Values.{key_of, base_of, writes_of_key, value_at}
 use Rattle.blsm_model.proofs.ValueLemmas.{value_at-put, value_at-add, value_at-del, value_at-other}
 use Rattle.record_delta.specs.declared.record.Rec.{Rec}
 use Rattle.record_delta.specs.declared.record.Rec.TheVariants.{Base, Delta, Tomb}
-use Rattle.record_delta.specs.Records.{write_of, count_of, record_of, weight, bare, settled, IsWithin}
+use Rattle.record_delta.specs.Records.{writes_of_record, count_of, record_of, weight, bare, settled, IsWithin}
 use Rattle.record_delta.specs.Folding.{fold, sum_of, over, folded, record_at, StandsFor, kept_after, StandsForMore}
 
 by_test : (b : Bool) → (b ≡ true) ⊎ (b ≡ false)
@@ -78,13 +78,9 @@ stands_add at count fits key kept writes stood =
       | inr apart ↦ stands_apart (Add at count) (Delta count) key kept writes apart stood
     ]
 
-pub key_of-write_of : (key : Key) (rec : Rec) → key_of (write_of key rec) ≡ key
-key_of-write_of key (Base value) = refl
-key_of-write_of key (Delta count) = refl
-key_of-write_of key Tomb = refl
-
--- whatever the record
-pub stands_rec : (at : Key) (rec : Rec) → count_of rec < 2 ^ 64 → StandsForMore (write_of at rec) rec
+-- whatever the record: with it folded in, what was kept stands for its writes too
+pub stands_rec : (at : Key) (rec : Rec) → count_of rec < 2 ^ 64 → (key : Key) (kept : Option Rec) (writes : List Write) → StandsFor kept writes key
+    → StandsFor (cond (same_key at key) (Some (over rec kept)) kept) (writes ++ writes_of_record at rec) key
 stands_rec at (Base value) fits = stands_put at value
 stands_rec at (Delta count) fits = stands_add at count fits
 stands_rec at Tomb fits = stands_del at
@@ -117,9 +113,9 @@ same_as_itself : (key : Key) → same_key key key ≡ true
 same_as_itself key = (bytes_decides key key).1 refl
 
 pub stands_folded : (newer older : Rec) → count_of newer < 2 ^ 64 → (key : Key) (writes : List Write) → StandsFor (Some older) writes key
-    → StandsFor (Some (fold newer older)) (writes ++ write_of key newer ∷ []) key
+    → StandsFor (Some (fold newer older)) (writes ++ writes_of_record key newer) key
 stands_folded newer older fits key writes stood =
-    stands_over (write_of key newer) newer key (Some older) (stands_rec key newer fits) (ap (λ k. same_key k key) (key_of-write_of key newer) ∙ same_as_itself key) writes stood
+    ap (λ b. settled (cond b (Some (fold newer older)) (Some older))) (sym (same_as_itself key)) ∙ stands_rec key newer fits key (Some older) writes stood
 
 -- ---- the laws of folding
 

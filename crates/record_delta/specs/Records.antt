@@ -1,5 +1,5 @@
 -- Records: what a table keeps of the writes of a key, and what a record weighs.
-use Rattle.std.specs.Prelude.{ℕ, ◌+◌, ◌<◌, ◌≤◌, ◌^◌, List, [], length, Option, Some, None}
+use Rattle.std.specs.Prelude.{ℕ, ◌+◌, ◌<◌, ◌≤◌, ◌^◌, List, [], ◌∷◌, length, Option, Some, None}
 use Rattle.blsm_model.specs.declared.key.Key.{Key}
 use Rattle.blsm_model.specs.declared.row.Value.{Value}
 use Rattle.blsm_model.specs.declared.op.Write.{Write}
@@ -14,11 +14,11 @@ record_of (Put key value) = Base value
 record_of (Add key count) = Delta count
 record_of (Del key) = Tomb
 
--- the write that has this key and this record
-abbrev pub write_of : Key → Rec → Write
-write_of key (Base value) = Put key value
-write_of key (Delta count) = Add key count
-write_of key Tomb = Del key
+-- the writes that a record of this key stands for, the oldest first
+abbrev pub writes_of_record : Key → Rec → List Write
+writes_of_record key (Base value) = Put key value ∷ []
+writes_of_record key (Delta count) = Add key count ∷ []
+writes_of_record key Tomb = Del key ∷ []
 
 -- a tombstone's is 0
 abbrev pub count_of : Rec → ℕ

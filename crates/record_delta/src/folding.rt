@@ -3,9 +3,9 @@ ghost use Rattle.std.specs.Prelude.{◌≡◌, ◌+◌, ◌<◌, ◌≤◌, ◌^
 ghost use Rattle.blsm_model.specs.declared.key.Key.{Key};
 ghost use Rattle.blsm_model.specs.declared.op.Write.{Write};
 ghost use Rattle.blsm_model.specs.Format.{overhead};
-ghost use Rattle.blsm_model.specs.Values.{value_at, key_of};
+ghost use Rattle.blsm_model.specs.Values.{value_at};
 ghost use Rattle.record_delta.specs.declared.record.Rec.{Rec};
-ghost use Rattle.record_delta.specs.Records.{count_of, record_of, write_of, weight as weight_with, settle as settle_of, settled, IsWithin};
+ghost use Rattle.record_delta.specs.Records.{count_of, record_of, writes_of_record, weight as weight_with, settle as settle_of, settled, IsWithin};
 ghost use Rattle.record_delta.specs.Folding.{fold as fold_of, record_at, kept_after, StandsFor};
 
 use crate::Rec;
@@ -21,7 +21,7 @@ pub fn fold(newer: Rec, older: Rec) -> Rec
     ensures grows { (key : Key) → weight_with key newer ≤ weight_with key result }
     ensures within { (key : Key) → IsWithin key newer → IsWithin key older → IsWithin key result }
     // Where the older one stood for writes, the folded one stands for those and the newer one's.
-    ensures stands { (key : Key) (writes : List Write) → StandsFor (Some older) writes key → StandsFor (Some result) (writes ++ write_of key newer ∷ []) key }
+    ensures stands { (key : Key) (writes : List Write) → StandsFor (Some older) writes key → StandsFor (Some result) (writes ++ writes_of_record key newer) key }
 {
     combined(newer, older)
 }
@@ -69,21 +69,13 @@ fn after_write(kept: Option<Rec>, write: &Write, key: &Key) -> Option<Rec>
     ensures record { result ≡ kept_after write.now (record_of write.now) key.now kept }
     ensures stands { (writes : List Write) → StandsFor kept writes key.now → StandsFor result (writes ++ write.now ∷ []) key.now }
 {
-    if key_written(write) != key {
+    if write.key() != key {
         return kept;
     }
     let newer = Rec::of_write(write);
     match kept {
         Some(older) => Some(fold(newer, older)),
         None => Some(newer),
-    }
-}
-
-fn key_written(write: &Write) -> &Key
-    ensures { result.now ≡ key_of write.now }
-{
-    match write {
-        Write::Put(key, _) | Write::Add(key, _) | Write::Del(key) => key,
     }
 }
 

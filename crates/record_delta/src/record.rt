@@ -1,8 +1,8 @@
 //! Records and their weight.
-ghost use Rattle.std.specs.Prelude.{◌≡◌, ◌≤◌, ⊤, length};
+ghost use Rattle.std.specs.Prelude.{◌≡◌, ◌≤◌, ⊤, [], ◌∷◌, length};
 ghost use Rattle.blsm_model.specs.Format.{least_weight, most_weight};
 ghost use Rattle.blsm_model.specs.Values.{key_of, weight_of};
-ghost use Rattle.record_delta.specs.Records.{record_of, write_of, IsRecord, IsWithin, weight as weight_with};
+ghost use Rattle.record_delta.specs.Records.{record_of, writes_of_record, IsRecord, IsWithin, weight as weight_with};
 ghost use Rattle.record_delta.specs.Folding.{StandsForMore};
 
 use blsm_model::{Key, Op, Value, Write};
@@ -47,7 +47,7 @@ impl Rec {
     #[tactic(auto, using(crate::proofs::FoldingLemmas::stands_more))]
     pub fn of_write(write: &Write) -> Rec
         ensures record { result ≡ record_of write.now }
-        ensures write { write_of (key_of write.now) result ≡ write.now }
+        ensures write { writes_of_record (key_of write.now) result ≡ write.now ∷ [] }
         ensures weight { weight_with (key_of write.now) result ≡ weight_of write.now }
         ensures stands { StandsForMore write.now result }
     {

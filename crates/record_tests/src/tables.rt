@@ -82,12 +82,6 @@ fn reserved(rt: &impl Abort, alloc: Global) -> Table
     }
 }
 
-fn key_of(write: &Write) -> Key {
-    match write {
-        Write::Put(key, _) | Write::Add(key, _) | Write::Del(key) => key.copy(),
-    }
-}
-
 // The writes, and their keys in the order in which they came.
 #[derive(Drop)]
 struct Written {
@@ -113,7 +107,7 @@ fn as_written(rt: &impl Abort, table: &Table, written: &Written, key: &Key) {
 }
 
 fn note(rt: &impl Abort, written: &mut Written, write: Write) {
-    let key = key_of(&write);
+    let key = write.key().copy();
     assert_that(rt, written.writes.push(write).is_ok());
     if place_among(&written.keys, &key).is_none() {
         assert_that(rt, written.keys.push(key).is_ok());
@@ -126,7 +120,7 @@ fn one_more(rt: &impl Abort, table: &mut Table, written: &mut Written, draws: &m
     ensures { table.new.reserved ≡ RESERVED }
 {
     let write = any_write(rt, draws);
-    let key = key_of(&write);
+    let key = write.key().copy();
     fold_in(rt, table, &key, &Rec::of_write(&write));
     note(rt, written, write);
     as_written(rt, table, written, &key);

@@ -2,7 +2,7 @@
 use Rattle.std.specs.Prelude.{◌≡◌, ℕ, ◌+◌, ◌<◌, max, Bool, true, false, if◌then◌else◌, List, [], ◌∷◌, ◌++◌, length, codes, slice_index_or, is_some, count_by}
 use Rattle.blsm_model.specs.declared.op.Write.{Write}
 use Rattle.blsm_model.specs.declared.op.Op.{Op}
-use Rattle.blsm_model.specs.declared.op.Op.TheVariants.{Put, Add, Del, Get}
+use Rattle.blsm_model.specs.declared.op.Op.TheVariants.{Put, Add, Get}
 use Rattle.blsm_model.specs.declared.history.Reply.{Reply}
 use Rattle.blsm_model.specs.declared.history.Reply.TheVariants.{Full}
 use Rattle.blsm_model.specs.declared.history.Entry.{Entry}
@@ -10,7 +10,7 @@ use Rattle.blsm_model.specs.declared.history.Totals.{Totals}
 use Rattle.blsm_model.specs.Values.{value_at}
 use Rattle.blsm_model.specs.Rows.{map_of}
 use Rattle.blsm_model.specs.Histories.{map_after}
-use Rattle.blsm_model.specs.Legal.{is_write}
+use Rattle.blsm_model.specs.Legal.{is_del, is_write}
 use Rattle.blsm_model.specs.Printed.{and_number}
 use Rattle.script_text.specs.Generated.{key_at, key_count}
 use Rattle.script_text.specs.declared.summary.Kind.{Kind}
@@ -23,10 +23,6 @@ is_put _ = false
 abbrev pub is_add : Op → Bool
 is_add (Add key count) = true
 is_add _ = false
-
-abbrev pub is_del : Op → Bool
-is_del (Del key) = true
-is_del _ = false
 
 abbrev pub is_get : Op → Bool
 is_get (Get key) = true

@@ -18,12 +18,6 @@ pub struct Judge {
     held: Vec<Option<Held>>,
 }
 
-fn key_of(write: &Write) -> &Key {
-    match write {
-        Write::Put(key, _) | Write::Add(key, _) | Write::Del(key) => key,
-    }
-}
-
 // Puts a row in its place by its key, where no row has the key.
 fn place(rt: &impl Abort, rows: &mut Vec<Row>, row: Row) {
     let mut at: usize = 0;
@@ -43,7 +37,7 @@ fn place(rt: &impl Abort, rows: &mut Vec<Row>, row: Row) {
 fn rows_of(rt: &impl Abort, alloc: Global, writes: &[Write], low: &Key, high: &Key) -> Vec<Row> {
     let mut rows = Vec::new(alloc);
     for write in writes {
-        let key = key_of(write);
+        let key = write.key();
         if key < low || key >= high {
             continue;
         }

@@ -6,7 +6,7 @@ use Rattle.blsm_model.specs.Book.{HasRoom}
 use Rattle.blsm_model.specs.Format.{least_weight, most_weight}
 use Rattle.blsm_model.specs.Geometry.{charge_limit, file_length}
 use Rattle.blsm_model.specs.Histories.{is_done, writes_of}
-use Rattle.blsm_model.specs.Legal.{is_write, total_weight}
+use Rattle.blsm_model.specs.Legal.{is_write, total_weight, is_del}
 use Rattle.blsm_model.specs.Sizes.{Sizes}
 use Rattle.blsm_model.specs.Values.{key_of}
 use Rattle.blsm_model.specs.declared.history.Reply.TheVariants.{Done, FaultLost, FaultUnsure, Full, Stopped}
@@ -29,7 +29,7 @@ use Rattle.seat_book.proofs.WordLemmas.{note_has_room}
 use Rattle.tree_machine.specs.Machine.{Machine}
 use Rattle.tree_machine.specs.Plays.{may}
 use Rattle.tree_machine.specs.Stands.{WritesFit}
-use Rattle.tree_machine.specs.Steps.{Replied, is_del}
+use Rattle.tree_machine.specs.Steps.{Replied}
 use Rattle.tree_machine.specs.declared.step.Kind.TheVariants as kind
 use Rattle.core_moves.specs.Held.{charge_in}
 use Rattle.core_moves.specs.Moves.{with_book}

@@ -19,7 +19,9 @@ use Rattle.blsm_model.specs.declared.history.Reply.{Reply}
 use Rattle.blsm_model.specs.declared.history.Reply.TheVariants.{Done, Full, FaultLost, FaultUnsure, Stopped}
 use Rattle.blsm_model.specs.Histories.{is_done, writes_of}
 use Rattle.blsm_model.specs.Images.{is_unsure}
-use Rattle.blsm_model.specs.Legal.{total_weight}
+use Rattle.blsm_model.specs.Legal.{total_weight, is_del}
+use Rattle.blsm_model.specs.Values.{added_count, key_of, text_written}
+use Rattle.blsm_model.specs.Format.{most_key, most_text}
 use Rattle.disk_trait.specs.Disk.{DiskState}
 use Rattle.disk_trait.specs.Moments.{IsTimed, LeavesOnly, leaves_only_start, leaves_only_weaken, leaves_only_now}
 use Rattle.pacing.specs.Pace.{Pace}
@@ -35,7 +37,9 @@ use Rattle.tree_machine.specs.Moves.{note, stop, swap_deep, with_peak}
 use Rattle.tree_machine.specs.Outcomes.{IsPossible, calls, is_broken}
 use Rattle.tree_machine.specs.Plays.{may}
 use Rattle.tree_machine.specs.Stands.{FitsFormat, WritesFit}
-use Rattle.tree_machine.specs.Steps.{Outcome, Well, FailedAfter, Stepped, Replied, admit, admit_fitting, deep_swapped, is_del, one_if, ready_for, replied, swaps_due, taken_once, unless_stopped}
+use Rattle.tree_machine.proofs.GrowLemmas.{taken_book}
+use Rattle.tree_machine.proofs.LightLemmas.{fits_format}
+use Rattle.tree_machine.specs.Steps.{Outcome, Well, FailedAfter, Stepped, Replied, admit, admit_fitting, deep_swapped, one_if, ready_for, replied, swaps_due, taken_once, unless_stopped}
 use Rattle.tree_machine.specs.Layers.{IsSound}
 use Rattle.tree_machine.proofs.ToldLemmas.{none_is_some}
 use Rattle.tree_machine.proofs.CarryLemmas.{deep_swapped_carries, ready_carries}
@@ -61,8 +65,8 @@ use Rattle.tree_core.proofs.BoundLemmas.{rose}
 use Rattle.tree_core.proofs.TakingLists.{tells_of}
 
 -- a command's write fits the format
-pub write_fits : (op : Op) (write : Write) → writes_of op ≡ write ∷ [] → FitsFormat write → WritesFit (kind.Admit op)
-write_fits op write writes fits = subst (λ (ws : List Write). AllByRecursion FitsFormat ws) (sym writes) (fits, tt)
+pub write_fits : (op : Op) (write : Write) → writes_of op ≡ write ∷ [] → added_count write < 2 ^ 64 → (1 ≤ length (key_of write)) × (length (key_of write) ≤ most_key) → length (text_written write) ≤ most_text → WritesFit (kind.Admit op)
+write_fits op write writes count key text = subst (λ (ws : List Write). AllByRecursion FitsFormat ws) (sym writes) (fits_format write count key text, tt)
 
 -- ---- what the next state shows
 
@@ -157,11 +161,6 @@ pass_lost seat op w faults m done =
 append_lost : (seat : ℕ) (op : Op) (w faults : ℕ) (m : Machine) → admit_fitting m seat op w (FailedAfter (swaps_due m) faults) ≡ replied seat op FaultUnsure (stop (Faulted faults) (ready_for w m))
 append_lost seat op w faults m =
     ap (λ (b : Bool). cond b (replied seat op FaultLost (stop (Faulted faults) (cond (swaps_due m == 0) m (deep_swapped m)))) (replied seat op FaultUnsure (stop (Faulted faults) (ready_for w m)))) (not_past (swaps_due m) (swaps_due m) (omega arith))
-
--- a write that is taken notes nothing yet
-taken_book : (seat : ℕ) (ws : List Write) (m : Machine) → (with_peak (taken_once seat ws m)).book ≡ m.book
-taken_book seat [] m = refl
-taken_book seat (w ∷ ws) m = refl
 
 -- ---- the step
 

@@ -7,7 +7,7 @@ use Rattle.std.proofs.lemmas.Option.{none-some}
 use Rattle.blsm_model.specs.Format.{callers}
 use Rattle.blsm_model.specs.Geometry.{c1_mark, charge_limit}
 use Rattle.blsm_model.specs.Histories.{writes_of}
-use Rattle.blsm_model.specs.Legal.{total_weight}
+use Rattle.blsm_model.specs.Legal.{total_weight, is_del}
 use Rattle.blsm_model.specs.Sizes.{Sizes}
 use Rattle.blsm_model.specs.declared.key.Key.{Key}
 use Rattle.blsm_model.specs.declared.row.Row.{Row}
@@ -41,7 +41,7 @@ use Rattle.tree_machine.specs.Machine.{Machine, charge, deep_done, held_by, in_p
 use Rattle.tree_machine.specs.Merges.{Merge}
 use Rattle.tree_machine.specs.Moves.{begin_pass, deep_quantum, deep_quantum_of, end_pass, output_of, pass_quantum, pass_quantum_of, rotate, swap_deep, swap_pass}
 use Rattle.tree_machine.specs.Plays.{stepped_as}
-use Rattle.tree_machine.specs.Steps.{Answer, Broken as AtPage, Choice, SwapDeep, SwapPass, DeepQuantum, PassQuantum, Begin, Rotate, Rest, FailedAfter, NoRoom, Outcome, Well, Stepped, admit, admit_fitting, choice, chosen, deep_swapped, do_pay, do_turn, forgive, is_del, pass_swapped, pay, pay_planned, pay_running, ready_for, swaps_due, taken_once, unless_stopped, work_turning, worker_turning}
+use Rattle.tree_machine.specs.Steps.{Answer, Broken as AtPage, Choice, SwapDeep, SwapPass, DeepQuantum, PassQuantum, Begin, Rotate, Rest, FailedAfter, NoRoom, Outcome, Well, Stepped, admit, admit_fitting, choice, chosen, deep_swapped, do_pay, do_turn, forgive, pass_swapped, pay, pay_planned, pay_running, ready_for, swaps_due, taken_once, unless_stopped, work_turning, worker_turning}
 use Rattle.tree_machine.proofs.FrameLemmas.{step_stays}
 use Rattle.tree_machine.proofs.PlayLemmas.{of_replicate}
 use Rattle.tree_runs.specs.Runs.{page_share}

@@ -3,7 +3,7 @@ use Rattle.std.specs.Prelude.{◌≡◌, ℕ, ◌+◌, Bool, true, false, nat_le
 use Rattle.std.proofs.Common.{◌∙◌, ⊎_elim, cond, refl, ap}
 use Rattle.blsm_model.specs.Geometry.{c1_mark}
 use Rattle.blsm_model.specs.Histories.{writes_of}
-use Rattle.blsm_model.specs.Legal.{total_weight}
+use Rattle.blsm_model.specs.Legal.{total_weight, is_del}
 use Rattle.blsm_model.specs.declared.history.Reply.{Reply}
 use Rattle.blsm_model.specs.declared.history.Reply.TheVariants as reply
 use Rattle.blsm_model.specs.declared.op.Op.{Op}
@@ -17,7 +17,7 @@ use Rattle.tree_machine.specs.declared.step.Kind.TheVariants as kind
 use Rattle.tree_machine.specs.Machine as machine
 use Rattle.tree_machine.specs.Machine.{Turned}
 use Rattle.tree_machine.specs.Steps as steps
-use Rattle.tree_machine.specs.Steps.{Answer, Replied, Paid, Settled, Left, is_del}
+use Rattle.tree_machine.specs.Steps.{Answer, Replied, Paid, Settled, Left}
 
 by_test : (b : Bool) (then otherwise old : Pace) → then.gears.sizes ≡ old.gears.sizes → otherwise.gears.sizes ≡ old.gears.sizes → (cond b then otherwise).gears.sizes ≡ old.gears.sizes
 by_test true then otherwise old one other = one

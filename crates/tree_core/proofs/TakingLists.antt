@@ -11,7 +11,7 @@ use Rattle.blsm_model.specs.declared.history.Reply.{Reply}
 use Rattle.blsm_model.specs.declared.history.Reply.TheVariants.{Done, FaultUnsure}
 use Rattle.blsm_model.specs.Geometry.{charge_limit}
 use Rattle.blsm_model.specs.Histories.{writes_of}
-use Rattle.blsm_model.specs.Legal.{total_weight}
+use Rattle.blsm_model.specs.Legal.{total_weight, is_del}
 use Rattle.blsm_model.specs.Values.{key_of}
 use Rattle.disk_trait.specs.Disk.{DiskState}
 use Rattle.disk_trait.specs.Moments.{LeavesOnly, leaves_only_run, leaves_only_weaken}
@@ -29,7 +29,7 @@ use Rattle.tree_machine.specs.Machine.{Machine}
 use Rattle.tree_machine.specs.Moves.{take_write, with_peak}
 use Rattle.tree_machine.specs.Plays.{may}
 use Rattle.tree_machine.specs.Stands.{WritesFit}
-use Rattle.tree_machine.specs.Steps.{deep_swapped, is_del, ready_for, taken_once}
+use Rattle.tree_machine.specs.Steps.{deep_swapped, ready_for, taken_once}
 use Rattle.tree_machine.proofs.CarryLemmas.{deep_swapped_carries, ready_carries}
 use Rattle.paced_tree.proofs.Promises.{has_way}
 use Rattle.tree_file.specs.Tree.{Tree, HoldsTree}

@@ -6,7 +6,7 @@ use Rattle.blsm_model.specs.declared.history.Why.TheVariants as why
 use Rattle.blsm_model.specs.declared.history.Reply.TheVariants as reply
 use Rattle.blsm_model.specs.Geometry.{charge_limit}
 use Rattle.blsm_model.specs.Histories.{writes_of}
-use Rattle.blsm_model.specs.Legal.{total_weight}
+use Rattle.blsm_model.specs.Legal.{total_weight, is_del}
 use Rattle.blsm_model.specs.declared.key.Key.{Key}
 use Rattle.blsm_model.specs.declared.row.Value.{Value}
 use Rattle.disk_trait.specs.Disk.{DiskState}
@@ -19,7 +19,6 @@ use Rattle.scan_view.specs.Holds.{hold_of, AreGivenBy, AreToldBehind, IsDamageBe
 use Rattle.gear_sched.specs.declared.Plan.{Plan}
 use Rattle.gear_sched.specs.declared.Plan.TheVariants.{Snow, Deep, Nothing}
 use Rattle.pacing.specs.Steps.{Move, TakeDeep, TakeSnow, Idle}
-use Rattle.tree_machine.specs.Steps.{is_del}
 use Rattle.tree_machine.specs.Machine.{Turned}
 use Rattle.tree_machine.specs.Machine as machine
 use Rattle.seat_book.specs.State.{is_closed_in, noted_in}

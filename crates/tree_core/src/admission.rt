@@ -1,13 +1,13 @@
 //! Writes are admitted.
-ghost use Rattle.std.specs.Prelude.{◌≡◌, ◌+◌, ◌<◌, ◌^◌, List, if◌then◌else◌, None, [], ◌∷◌, IsTrue};
+ghost use Rattle.std.specs.Prelude.{◌≡◌, ◌+◌, List, if◌then◌else◌, None, [], ◌∷◌, IsTrue};
 ghost use Rattle.blsm_model.specs.declared.key.Key.{Key};
 ghost use Rattle.blsm_model.specs.declared.row.Value.{Value};
 ghost use Rattle.blsm_model.specs.Stored.{as_reply};
 ghost use Rattle.blsm_model.specs.declared.history.Reply.TheVariants.{FaultLost, FaultUnsure};
 ghost use Rattle.blsm_model.specs.Geometry.{file_length};
 ghost use Rattle.blsm_model.specs.Histories.{writes_of};
-ghost use Rattle.blsm_model.specs.Legal.{is_write, total_weight};
-ghost use Rattle.blsm_model.specs.Values.{key_of as key_of_write};
+ghost use Rattle.blsm_model.specs.Legal.{is_write, total_weight, is_del};
+ghost use Rattle.blsm_model.specs.Values.{key_of};
 ghost use Rattle.disk_trait.specs.Effects.{Affects};
 ghost use Rattle.gear_sched.specs.Gears.{first_debt, second_debt};
 ghost use Rattle.pacing.specs.Pace.{Pace};
@@ -17,8 +17,7 @@ ghost use Rattle.scan_view.specs.Pins.{beside_pins};
 ghost use Rattle.tree_machine.specs.declared.step.Kind.TheVariants as kind;
 ghost use Rattle.tree_machine.specs.Machine.{Machine};
 ghost use Rattle.tree_machine.specs.Plays.{may};
-ghost use Rattle.tree_machine.specs.Stands.{FitsFormat, WritesFit};
-ghost use Rattle.tree_machine.specs.Steps.{is_del};
+ghost use Rattle.tree_machine.specs.Stands.{WritesFit};
 ghost use Rattle.core_pace.specs.Events.{MayWrite};
 ghost use Rattle.tree_core.specs.Calls.{Admits};
 ghost use Rattle.tree_core.specs.Causes.{calls_to_admit};
@@ -27,7 +26,7 @@ ghost use Rattle.tree_core.specs.Taking.{Runs, Takes, TakesOver, TellsTaking};
 
 use crate::settling::{settle_deep, settle_pass};
 use crate::{Admission, Core};
-use blsm_model::{Key, Op, ShortReply, Why, Write};
+use blsm_model::{Op, ShortReply, Why, Write};
 use core_moves::Held;
 use disk_trait::Disk;
 use record_delta::Rec;
@@ -44,7 +43,7 @@ fn take<D: Disk>(held: &mut Held, disk: &mut D, seat: u32, op: &Op, write: &Writ
     requires is_write { IsTrue (is_write op.now) }
     requires write { writes_of op.now ≡ write.now ∷ [] }
     requires may { MayWrite seat (total_weight (writes_of op.now)) op.now held.old }
-    ensures takes { Takes result seat (key_of_write write.now) (record_of write.now) held.old held.new (D.state disk.new) }
+    ensures takes { Takes result seat (key_of write.now) (record_of write.now) held.old held.new (D.state disk.new) }
     ensures lists { (opening : List (Key × Value)) (m : Machine) (pace : Pace) → IsTrue (D.state disk.old).is_honest → StandsFor opening held.old m pace (D.state disk.old)
         → held.old.book.stopped ≡ None → IsTrue (may m seat (kind.Admit op.now)) → WritesFit (kind.Admit op.now)
         → TakesOver result opening seat op.now m pace held.new (D.state disk.old) (D.state disk.new) }
@@ -59,32 +58,9 @@ fn take<D: Disk>(held: &mut Held, disk: &mut D, seat: u32, op: &Op, write: &Writ
         return Taking::Failed { begun: false };
     }
     held.begin_for(op.weight());
-    match held.write(disk, seat, key_of(write), &rec) {
+    match held.write(disk, seat, write.key(), &rec) {
         Ok(()) => Taking::Taken,
         Err(_) => Taking::Failed { begun: true },
-    }
-}
-
-// The key of a write.
-fn key_of(write: &Write) -> &Key
-    ensures { result.now ≡ key_of_write write.now }
-{
-    match write {
-        Write::Put(key, _) | Write::Add(key, _) | Write::Del(key) => key,
-    }
-}
-
-// The write that a command asks for, as `Op::write` has it. It fits the format.
-fn write_of(op: &Op) -> Write
-    requires { IsTrue (is_write op.now) }
-    ensures write { writes_of op.now ≡ result ∷ [] }
-    ensures fits { FitsFormat result }
-{
-    match op {
-        Op::Put(key, value) => Write::Put(key.copy(), value.copy()),
-        Op::Add(key, count) => Write::Add(key.copy(), *count),
-        Op::Del(key) => Write::Del(key.copy()),
-        _ => unreachable!(),
     }
 }
 
@@ -118,7 +94,7 @@ impl<D: Disk + Drop> Core<D> {
         requires even { self.old.held.book.stopped ≡ None → first_debt self.old.held.gears seat + second_debt self.old.held.gears seat ≡ 0 }
         ensures { Admits D.state seat op.now result self.old self.new }
     {
-        let write = write_of(op);
+        let write = op.write();
         let weight = op.weight();
         if let Some(why) = self.held.book.stopped() {
             self.held

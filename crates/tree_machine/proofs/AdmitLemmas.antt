@@ -1,16 +1,14 @@
 -- Admission: what the machine stands for before it stands for afterwards, with the write counted, lost or unsure, or refused.
-use Rattle.std.proofs.Common.{◌≡◌, ℕ, ◌+◌, ◌^◌, ◌<◌, ◌≤◌, Bool, cond, true, false, List, [], ◌∷◌, ◌++◌, length, Some, None, Option, refl, ap, sym, subst, ◌∙◌, arith}
+use Rattle.std.proofs.Common.{◌≡◌, ℕ, ◌+◌, ◌<◌, ◌≤◌, Bool, cond, true, false, List, [], ◌∷◌, ◌++◌, length, Some, None, Option, refl, ap, sym, subst, ◌∙◌, arith}
 use Rattle.std.specs.Prelude.{◌==◌, nat_lt, slice_index_or}
 use Rattle.std.specs.List.{AllByRecursion}
-use Rattle.std.proofs.lemmas.Bool.{false≢true, ltb-true}
+use Rattle.std.proofs.lemmas.Bool.{ltb-true}
 use Rattle.std.proofs.lemmas.List.Sums.{sum_by-append}
 use Rattle.blsm_model.specs.declared.key.Key.{Key}
 use Rattle.blsm_model.specs.declared.row.Value.{Value}
 use Rattle.blsm_model.specs.declared.row.Row.{Row}
 use Rattle.blsm_model.specs.declared.op.Write.{Write}
-use Rattle.blsm_model.specs.declared.op.Write.TheVariants as write
 use Rattle.blsm_model.specs.declared.op.Op.{Op}
-use Rattle.blsm_model.specs.declared.op.Op.TheVariants.{Put, Add, Del}
 use Rattle.blsm_model.specs.declared.history.Why.{Why}
 use Rattle.blsm_model.specs.declared.history.Why.TheVariants.{Faulted}
 use Rattle.blsm_model.specs.declared.history.Reply.{Reply}
@@ -21,8 +19,9 @@ use Rattle.blsm_model.specs.Sizes.{Sizes}
 use Rattle.blsm_model.specs.Geometry.{limits_of, charge_limit}
 use Rattle.blsm_model.specs.Values.{key_of, value_at, weight_of}
 use Rattle.blsm_model.specs.Histories.{after, object_after, counted, counted_writes, written, writes_of, is_refusal}
-use Rattle.blsm_model.specs.Legal.{IsLegal, MayReply, NamesNoOther, limit_for, is_running, is_write, total_weight}
+use Rattle.blsm_model.specs.Legal.{IsLegal, MayReply, NamesNoOther, limit_for, is_running, is_write, total_weight, is_del}
 use Rattle.blsm_model.proofs.HoldLemmas.{held-refusal, held-still}
+use Rattle.blsm_model.proofs.OpLemmas.{writes_one, write_is_done, write_leaves_rows}
 use Rattle.record_delta.specs.declared.record.Rec.{Rec}
 use Rattle.record_delta.specs.Records.{weight, record_of}
 use Rattle.record_delta.specs.Entries.{AreSorted, entries_weight, is_above, up_to, with_record}
@@ -31,7 +30,7 @@ use Rattle.tree_machine.specs.Layers.{IsPassCounted, IsDeepCounted, Carries, Has
 use Rattle.tree_machine.specs.Merges.{Merge}
 use Rattle.tree_machine.specs.Machine.{Machine, in_pass, charge, memory_charge}
 use Rattle.tree_machine.specs.Moves.{goes_to_a, with_write, take_write, with_peak, note, stop}
-use Rattle.tree_machine.specs.Steps.{Outcome, Well, FailedAfter, Broken, NoRoom, replied, is_del, deep_swapped, swaps_due, ready_for, taken_once, admit, admit_fitting}
+use Rattle.tree_machine.specs.Steps.{Outcome, Well, FailedAfter, Broken, NoRoom, replied, deep_swapped, swaps_due, ready_for, taken_once, admit, admit_fitting}
 use Rattle.tree_machine.specs.Stands.{FitsFormat, IsTold, AreWorks, Stands}
 use Rattle.tree_machine.proofs.CarryLemmas.{carries_itself, deep_swapped_carries, ready_carries}
 use Rattle.tree_machine.proofs.LightLemmas.{light_write}
@@ -221,33 +220,29 @@ fitting_stands opening m seat op weight outcome stands way none is_one fit = by 
     after_failure commits faults true = lost faults (commits == 0)
     after_failure commits faults false = failed (ready_for weight m) FaultUnsure faults (ready_carries weight m stands.sound way) refl refl tt (λ before running. (running, is_one))
 
-    done : (o : Op) → is_write o ≡ true → AllByRecursion FitsFormat (writes_of o) → Stands opening (note seat o Done (with_peak (taken_once seat (writes_of o) (ready_for weight m))))
-    done o is fits = one o is fits
-      where
-        ready : Stands opening (ready_for weight m)
-        ready = carries_stands opening m (ready_for weight m) stands (ready_carries weight m stands.sound way)
-
-        still_none : (ready_for weight m).stopped ≡ None
-        still_none = (ready_carries weight m stands.sound way).stopped ∙ none
-
-        one : (o : Op) → is_write o ≡ true → AllByRecursion FitsFormat (writes_of o) → Stands opening (note seat o Done (with_peak (taken_once seat (writes_of o) (ready_for weight m))))
-        one (Put key value) is fits = written_stands opening (ready_for weight m) seat (Put key value) (write.Put key value) ready still_none fits.0 refl
-            (λ s. held-still (object_after opening (ready_for weight m).book.entries) (entry_of seat (Put key value) Done) s refl) (ready.told.running still_none, refl)
-        one (Add key count) is fits = written_stands opening (ready_for weight m) seat (Add key count) (write.Add key count) ready still_none fits.0 refl
-            (λ s. held-still (object_after opening (ready_for weight m).book.entries) (entry_of seat (Add key count) Done) s refl) (ready.told.running still_none, refl)
-        one (Del key) is fits = written_stands opening (ready_for weight m) seat (Del key) (write.Del key) ready still_none fits.0 refl
-            (λ s. held-still (object_after opening (ready_for weight m).book.entries) (entry_of seat (Del key) Done) s refl) (ready.told.running still_none, refl)
-        one _ is fits = absurd (false≢true is)
+    done : Stands opening (note seat op Done (with_peak (taken_once seat (writes_of op) (ready_for weight m))))
+    done =
+        let carries = ready_carries weight m stands.sound way in
+        let ready = carries_stands opening m (ready_for weight m) stands carries in
+        let still_none : (ready_for weight m).stopped ≡ None = carries.stopped ∙ none in
+        let object = object_after opening (ready_for weight m).book.entries in
+        let one = writes_one op is_one in
+        subst (λ ws. Stands opening (note seat op Done (with_peak (taken_once seat ws (ready_for weight m))))) (sym one.1)
+        (written_stands opening (ready_for weight m) seat op one.0 ready still_none (subst (λ ws. AllByRecursion FitsFormat ws) one.1 fit).0 one.1
+        (λ s. held-still object (entry_of seat op Done) s (write_leaves_rows op is_one)) (ready.told.running still_none, write_is_done object seat op is_one))
 
     by : (o : Outcome) → Stands opening (admit_fitting m seat op weight o).state
     by (FailedAfter commits faults) = after_failure commits faults (nat_lt commits (swaps_due m))
-    by Well = done op is_one fit
-    by (Broken page) = done op is_one fit
-    by NoRoom = done op is_one fit
+    by Well = done
+    by (Broken page) = done
+    by NoRoom = done
 
 limit_is : (sizes : Sizes) (at_opening : ℕ) (op : Op) → limit_for (limits_of sizes at_opening) op ≡ charge_limit sizes (is_del op)
-limit_is sizes at_opening (Del key) = refl
-limit_is sizes at_opening _ = refl
+limit_is sizes at_opening op = by (is_del op)
+  where
+    by : (b : Bool) → cond b (charge_limit sizes true) (charge_limit sizes false) ≡ charge_limit sizes b
+    by true = refl
+    by false = refl
 
 pub admit_stands : (opening : List (Key × Value)) (m : Machine) (seat : ℕ) (op : Op) (outcome : Outcome) → Stands opening m → HasWay m → is_write op ≡ true
     → AllByRecursion FitsFormat (writes_of op) → Stands opening (admit m seat op outcome).state

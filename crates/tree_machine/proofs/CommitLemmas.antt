@@ -11,7 +11,7 @@ use Rattle.blsm_model.specs.declared.history.Why.TheVariants.{Faulted}
 use Rattle.blsm_model.specs.declared.history.Reply.TheVariants.{Full, FaultLost, FaultUnsure}
 use Rattle.blsm_model.specs.Geometry.{c1_mark, charge_limit}
 use Rattle.blsm_model.specs.Histories.{writes_of, answer_to_get, answer_to_release}
-use Rattle.blsm_model.specs.Legal.{total_weight}
+use Rattle.blsm_model.specs.Legal.{total_weight, is_del}
 use Rattle.record_delta.specs.Entries.{entries_weight}
 use Rattle.gear_sched.specs.Gears.{plan_for, first_debt, second_debt, deep_is_behind}
 use Rattle.gear_sched.specs.declared.Plan.{Plan}
@@ -22,7 +22,7 @@ use Rattle.tree_machine.specs.Lists.{memory_weight, value_in}
 use Rattle.tree_machine.specs.Merges.{Merge}
 use Rattle.tree_machine.specs.Machine.{Machine, in_pass, in_deep, pass_done, deep_done, is_closed, charge, held_by}
 use Rattle.tree_machine.specs.Moves.{begin_pass, rotate, swap_pass, swap_deep, end_pass, output_of, pass_quantum, deep_quantum, pass_quantum_of, deep_quantum_of, with_peak, stop}
-use Rattle.tree_machine.specs.Steps.{one_if, Outcome, Well, FailedAfter, Broken, NoRoom, Stepped, SwapDeep, SwapPass, DeepQuantum, PassQuantum, Begin, Rotate, Rest, choice, chosen, replied, unless_stopped, is_del, swaps_due, admit, admit_fitting, deep_swapped, swapped, ready_for, taken_once, reply_unless, do_hold, do_next, holding, forgive, pay, pay_running, pay_planned, do_pay, do_turn, work_turning, worker_turning, work_turn, worker_turn}
+use Rattle.tree_machine.specs.Steps.{one_if, Outcome, Well, FailedAfter, Broken, NoRoom, Stepped, SwapDeep, SwapPass, DeepQuantum, PassQuantum, Begin, Rotate, Rest, choice, chosen, replied, unless_stopped, swaps_due, admit, admit_fitting, deep_swapped, swapped, ready_for, taken_once, reply_unless, do_hold, do_next, holding, forgive, pay, pay_running, pay_planned, do_pay, do_turn, work_turning, worker_turning, work_turn, worker_turn}
 use Rattle.tree_machine.specs.Plays.{stepped_as}
 use Rattle.tree_machine.specs.Layers.{IsSound}
 use Rattle.tree_machine.specs.Laws.{IsVersion}

@@ -5,14 +5,15 @@ use Rattle.std.proofs.lemmas.Bool.{false≢true, leb-true}
 use Rattle.blsm_model.specs.declared.key.Key.{Key}
 use Rattle.blsm_model.specs.declared.row.Row.{Row}
 use Rattle.blsm_model.specs.declared.op.Op.{Op}
-use Rattle.blsm_model.specs.declared.op.Op.TheVariants.{Put, Add, Del, Get, Hold, Next, Release}
+use Rattle.blsm_model.specs.declared.op.Op.TheVariants.{Get, Hold, Next, Release}
 use Rattle.blsm_model.specs.declared.history.Why.{Why}
 use Rattle.blsm_model.specs.declared.history.Why.TheVariants as why
 use Rattle.blsm_model.specs.declared.history.Why.TheVariants.{Faulted}
 use Rattle.blsm_model.specs.declared.history.Reply.TheVariants.{Done, NoHold, Full, FaultLost, FaultUnsure, Stopped}
 use Rattle.blsm_model.specs.Geometry.{c1_mark, charge_limit}
 use Rattle.blsm_model.specs.Histories.{writes_of, answer_to_get, answer_to_release}
-use Rattle.blsm_model.specs.Legal.{total_weight}
+use Rattle.blsm_model.specs.Legal.{total_weight, is_del}
+use Rattle.blsm_model.specs.declared.op.Write.{Write}
 use Rattle.record_delta.specs.Entries.{entries_weight}
 use Rattle.gear_sched.specs.Gears.{plan_for, first_debt, second_debt, deep_is_behind}
 use Rattle.gear_sched.specs.declared.Plan.{Plan}
@@ -23,7 +24,7 @@ use Rattle.tree_machine.specs.Lists.{memory_weight, value_in}
 use Rattle.tree_machine.specs.Merges.{Merge, begun}
 use Rattle.tree_machine.specs.Machine.{Machine, Merges, in_pass, in_deep, pass_is_done, pass_done, deep_done, is_closed, charge, held_by}
 use Rattle.tree_machine.specs.Moves.{begin_pass, rotate, swap_pass, swap_deep, end_pass, output_of, pass_quantum, deep_quantum, pass_quantum_of, deep_quantum_of, with_peak, note, stop}
-use Rattle.tree_machine.specs.Steps.{Outcome, Well, FailedAfter, Broken, NoRoom, Stepped, SwapDeep, SwapPass, DeepQuantum, PassQuantum, Begin, Rotate, Rest, choice, chosen, replied, unless_stopped, is_del, swaps_due, admit, admit_fitting, deep_swapped, pass_swapped, swapped, pass_begun_for, ready_for, taken_once, reply_unless, hold, do_hold, next_rows, do_next, drop_hold, holding, forgive, pay, pay_running, pay_planned, do_pay, do_turn, work_turning, worker_turning, work_turn, worker_turn, count_for_write, work_end, leave}
+use Rattle.tree_machine.specs.Steps.{Outcome, Well, FailedAfter, Broken, NoRoom, Stepped, SwapDeep, SwapPass, DeepQuantum, PassQuantum, Begin, Rotate, Rest, choice, chosen, replied, unless_stopped, swaps_due, admit, admit_fitting, deep_swapped, pass_swapped, swapped, pass_begun_for, ready_for, taken_once, reply_unless, hold, do_hold, next_rows, do_next, drop_hold, holding, forgive, pay, pay_running, pay_planned, do_pay, do_turn, work_turning, worker_turning, work_turn, worker_turn, count_for_write, work_end, leave}
 use Rattle.tree_machine.specs.Plays.{stepped_as}
 use Rattle.tree_machine.specs.Layers.{IsSound, HasWay}
 use Rattle.tree_machine.specs.Effects.{LeavesAll, LeaveAll, MergeStands, Rests, TakesQuantum}
@@ -226,11 +227,9 @@ works_on seat m n k quanta merges lists (inr t) = inr (record { quanta = quanta 
 
 -- ---- an admission
 
-taken_keeps : (seat : ℕ) (op : Op) (n : Machine) → ((taken_once seat (writes_of op) n).seats.quanta ≡ n.seats.quanta) × ((taken_once seat (writes_of op) n).merges ≡ n.merges)
-taken_keeps seat (Put key value) n = (refl, refl)
-taken_keeps seat (Add key count) n = (refl, refl)
-taken_keeps seat (Del key) n = (refl, refl)
-taken_keeps seat _ n = (refl, refl)
+taken_keeps : (seat : ℕ) (ws : List Write) (n : Machine) → ((taken_once seat ws n).seats.quanta ≡ n.seats.quanta) × ((taken_once seat ws n).merges ≡ n.merges)
+taken_keeps seat [] n = (refl, refl)
+taken_keeps seat (w ∷ ws) n = (refl, refl)
 
 admit_works : (m : Machine) (seat : ℕ) (op : Op) (outcome : Outcome) → IsSound m → HasWay m → Works seat m (admit m seat op outcome).state
 admit_works m seat op outcome sound way = unless m.stopped
@@ -240,7 +239,7 @@ admit_works m seat op outcome sound way = unless m.stopped
 
     done : Rests m (note seat op Done (with_peak (taken_once seat (writes_of op) (ready_for (total_weight (writes_of op)) m))))
     done =
-        let kept = taken_keeps seat op (ready_for (total_weight (writes_of op)) m) in
+        let kept = taken_keeps seat (writes_of op) (ready_for (total_weight (writes_of op)) m) in
         rests_on m (ready_for (total_weight (writes_of op)) m) (note seat op Done (with_peak (taken_once seat (writes_of op) (ready_for (total_weight (writes_of op)) m)))) kept.0 kept.1 ready
 
     lost : (faults : ℕ) (c : Bool) → Rests m (note seat op FaultLost (stop (Faulted faults) (cond c m (deep_swapped m))))

@@ -11,13 +11,12 @@ use Rattle.blsm_model.specs.declared.op.Write.{Write}
 use Rattle.blsm_model.specs.declared.history.Why.{Why}
 use Rattle.blsm_model.specs.declared.history.Why.TheVariants as why
 use Rattle.blsm_model.specs.declared.history.Why.TheVariants.{Faulted}
-use Rattle.blsm_model.specs.declared.op.Write.TheVariants as write
-use Rattle.blsm_model.specs.declared.op.Op.TheVariants.{Put, Add, Del, Get, Hold, Next, Release, Work}
+use Rattle.blsm_model.specs.declared.op.Op.TheVariants.{Get, Hold, Next, Release, Work}
 use Rattle.blsm_model.specs.declared.history.Reply.TheVariants.{Done, Held, Rows, NoHold, Full, NoMemory, FaultLost, FaultUnsure, Fault, Damaged, Stopped}
 use Rattle.blsm_model.specs.Format.{callers}
 use Rattle.blsm_model.specs.Book.{counted_up}
 use Rattle.blsm_model.specs.Histories.{writes_of, answer_to_get, answer_to_release}
-use Rattle.blsm_model.specs.Legal.{total_weight}
+use Rattle.blsm_model.specs.Legal.{total_weight, is_del}
 use Rattle.tree_machine.specs.declared.step.Kind.{Kind}
 use Rattle.tree_machine.specs.declared.step.Kind.TheVariants as kind
 use Rattle.blsm_model.specs.declared.history.Reply.{Reply}
@@ -31,7 +30,7 @@ use Rattle.gear_sched.specs.declared.Plan.{Plan}
 use Rattle.gear_sched.specs.declared.Plan.TheVariants.{Snow, Deep, Nothing}
 use Rattle.tree_machine.specs.Machine.{Machine, WorkSoFar, is_worked, seats, no_work, in_pass, in_deep, pass_done, deep_done, is_closed, all_true, charge, held_by, work_of, turn_more}
 use Rattle.tree_machine.specs.Moves.{begin_pass, rotate, rotate_alone, swap_pass, swap_deep, end_pass, output_of, pass_quantum, deep_quantum, pass_quantum_of, deep_quantum_of, take_write, with_peak, note, stop}
-use Rattle.tree_machine.specs.Steps.{Choice, SwapDeep, SwapPass, DeepQuantum, PassQuantum, Begin, Rotate, Rest, chosen, deep_swapped, pass_swapped, swapped, pass_begun_for, ready_for, taken_once, forgive, count_for_write, holding, work_noted, Outcome, Well, FailedAfter, Broken, NoRoom, Stepped, replied, unless_stopped, is_del, swaps_due, admit, admit_fitting, do_pay, pay_planned, pay, pay_running, reply_unless, hold, do_hold, next_rows, do_next, choice, do_turn, work_turning, worker_turning, with_turn, work_turn, worker_turn, work_reply, work_end, leave}
+use Rattle.tree_machine.specs.Steps.{Choice, SwapDeep, SwapPass, DeepQuantum, PassQuantum, Begin, Rotate, Rest, chosen, deep_swapped, pass_swapped, swapped, pass_begun_for, ready_for, taken_once, forgive, count_for_write, holding, work_noted, Outcome, Well, FailedAfter, Broken, NoRoom, Stepped, replied, unless_stopped, swaps_due, admit, admit_fitting, do_pay, pay_planned, pay, pay_running, reply_unless, hold, do_hold, next_rows, do_next, choice, do_turn, work_turning, worker_turning, with_turn, work_turn, worker_turn, work_reply, work_end, leave}
 use Rattle.tree_machine.specs.Plays.{stepped_as, may, is_help}
 use Rattle.tree_machine.proofs.FoldLemmas.{both_hold, both}
 use Rattle.blsm_model.specs.Facts.{Follows}
@@ -411,14 +410,12 @@ unless_apart seat op m otherwise runs = by m.stopped refl
     by (Some why) is = note_apart seat op (Stopped why) m
     by None is = runs is
 
-taken_apart : (seat : ℕ) (op : Op) (m : Machine) → Apart seat 0 m (with_peak (taken_once seat (writes_of op) m))
-taken_apart seat (Put key value) m = take_apart seat (write.Put key value) m
-taken_apart seat (Add key count) m = take_apart seat (write.Add key count) m
-taken_apart seat (Del key) m = take_apart seat (write.Del key) m
-taken_apart seat _ m = peak_apart seat m
-  where
-    peak_apart : (seat : ℕ) (m : Machine) → Apart seat 0 m (with_peak m)
-    peak_apart seat m = same_apart seat m (with_peak m) (record { fixed = (refl, refl, refl); peak = omega arith; stopped = refl; seats = refl; holds = refl; room = refl }) (λ other apart. omega arith) (λ other apart. omega arith)
+peak_apart : (seat : ℕ) (m : Machine) → Apart seat 0 m (with_peak m)
+peak_apart seat m = same_apart seat m (with_peak m) (record { fixed = (refl, refl, refl); peak = omega arith; stopped = refl; seats = refl; holds = refl; room = refl }) (λ other apart. omega arith) (λ other apart. omega arith)
+
+taken_apart : (seat : ℕ) (ws : List Write) (m : Machine) → Apart seat 0 m (with_peak (taken_once seat ws m))
+taken_apart seat [] m = peak_apart seat m
+taken_apart seat (w ∷ ws) m = take_apart seat w m
 
 admit_apart : (m : Machine) (seat : ℕ) (op : Op) (outcome : Outcome) → Apart seat 0 m (admit m seat op outcome).state
 admit_apart m seat op outcome =
@@ -438,7 +435,7 @@ admit_apart m seat op outcome =
 
     done : Apart seat 0 m (note seat op Done (with_peak (taken_once seat (writes_of op) (ready_for (total_weight (writes_of op)) m))))
     done = noted_apart seat op Done m (with_peak (taken_once seat (writes_of op) (ready_for (total_weight (writes_of op)) m)))
-        (apart_on seat 0 0 (ready_apart seat (total_weight (writes_of op)) m) (taken_apart seat op (ready_for (total_weight (writes_of op)) m)))
+        (apart_on seat 0 0 (ready_apart seat (total_weight (writes_of op)) m) (taken_apart seat (writes_of op) (ready_for (total_weight (writes_of op)) m)))
 
     fitting : m.stopped ≡ None → (o : Outcome) → Apart seat 0 m (admit_fitting m seat op (total_weight (writes_of op)) o).state
     fitting none (FailedAfter commits faults) = failed none commits faults (nat_lt commits (swaps_due m))

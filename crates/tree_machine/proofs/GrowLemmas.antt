@@ -5,7 +5,7 @@ use Rattle.std.proofs.lemmas.Bool.{ltb-true, ltb-false}
 use Rattle.std.proofs.lemmas.List.{length-append, get_or_past}
 use Rattle.std.proofs.lemmas.List.Sums.{sum_by-set}
 use Rattle.blsm_model.specs.Format.{most_rows}
-use Rattle.blsm_model.specs.Legal.{is_write}
+use Rattle.blsm_model.specs.Legal.{is_write, is_del}
 use Rattle.blsm_model.specs.declared.room.Room.{Room}
 use Rattle.blsm_model.specs.declared.history.Entry.{Entry}
 use Rattle.tree_machine.specs.Plays.{has_room, is_between, may_note, is_even, is_finished, may}
@@ -13,7 +13,7 @@ use Rattle.tree_machine.proofs.FoldLemmas.{both_hold}
 use Rattle.blsm_model.specs.declared.key.Key.{Key}
 use Rattle.blsm_model.specs.declared.row.Row.{Row}
 use Rattle.blsm_model.specs.declared.op.Op.{Op}
-use Rattle.blsm_model.specs.declared.op.Op.TheVariants.{Put, Add, Del, Get, Hold, Next, Release, Work}
+use Rattle.blsm_model.specs.declared.op.Op.TheVariants.{Get, Hold, Next, Release, Work}
 use Rattle.blsm_model.specs.declared.history.Why.{Why}
 use Rattle.blsm_model.specs.declared.history.Why.TheVariants.{Faulted}
 use Rattle.blsm_model.specs.declared.history.Reply.{Reply}
@@ -32,9 +32,10 @@ use Rattle.tree_machine.specs.Lists.{memory_weight, value_in, rows_in}
 use Rattle.tree_machine.specs.Merges.{Merge}
 use Rattle.tree_machine.specs.Machine.{Machine, is_caller, in_pass, pass_done, deep_done, is_closed, charge, held_by, work_of}
 use Rattle.tree_machine.specs.Moves.{begin_pass, rotate, end_pass, swap_pass, swap_deep, output_of, pass_quantum, deep_quantum, pass_quantum_of, deep_quantum_of, with_peak, note, stop}
-use Rattle.tree_machine.specs.Steps.{Choice, SwapDeep, SwapPass, DeepQuantum, PassQuantum, Begin, Rotate, Rest, choice, chosen, deep_swapped, swapped, ready_for, taken_once, forgive, holding, Outcome, Well, FailedAfter, Broken, NoRoom, Stepped, replied, unless_stopped, is_del, swaps_due, admit, admit_fitting, do_pay, pay_planned, pay, pay_running, reply_unless, do_hold, do_next, do_turn, work_turning, worker_turning, work_reply}
+use Rattle.tree_machine.specs.Steps.{Choice, SwapDeep, SwapPass, DeepQuantum, PassQuantum, Begin, Rotate, Rest, choice, chosen, deep_swapped, swapped, ready_for, taken_once, forgive, holding, Outcome, Well, FailedAfter, Broken, NoRoom, Stepped, replied, unless_stopped, swaps_due, admit, admit_fitting, do_pay, pay_planned, pay, pay_running, reply_unless, do_hold, do_next, do_turn, work_turning, worker_turning, work_reply}
 use Rattle.tree_machine.specs.Plays.{stepped_as}
 use Rattle.blsm_model.specs.Facts.{Notes}
+use Rattle.blsm_model.specs.declared.op.Write.{Write}
 
 -- ---- the merges note nothing
 
@@ -113,11 +114,9 @@ unless_grows seat op m otherwise grows = by m.stopped
     by (Some why) = noted_grows seat op (Stopped why) m m refl
     by None = grows
 
-pub taken_book : (seat : ℕ) (op : Op) (m : Machine) → (taken_once seat (writes_of op) m).book ≡ m.book
-taken_book seat (Put key value) m = refl
-taken_book seat (Add key count) m = refl
-taken_book seat (Del key) m = refl
-taken_book seat _ m = refl
+pub taken_book : (seat : ℕ) (ws : List Write) (m : Machine) → (taken_once seat ws m).book ≡ m.book
+taken_book seat [] m = refl
+taken_book seat (w ∷ ws) m = refl
 
 admit_grows : (m : Machine) (seat : ℕ) (op : Op) (outcome : Outcome) → Grows seat m (admit m seat op outcome).state
 admit_grows m seat op outcome =
@@ -136,7 +135,7 @@ admit_grows m seat op outcome =
 
     done : Grows seat m (note seat op Done (with_peak (taken_once seat (writes_of op) (ready_for (total_weight (writes_of op)) m))))
     done = noted_grows seat op Done m (with_peak (taken_once seat (writes_of op) (ready_for (total_weight (writes_of op)) m)))
-        (taken_book seat op (ready_for (total_weight (writes_of op)) m) ∙ ready_book (total_weight (writes_of op)) m)
+        (taken_book seat (writes_of op) (ready_for (total_weight (writes_of op)) m) ∙ ready_book (total_weight (writes_of op)) m)
 
     fitting : (o : Outcome) → Grows seat m (admit_fitting m seat op (total_weight (writes_of op)) o).state
     fitting (FailedAfter commits faults) = failed commits faults (nat_lt commits (swaps_due m))

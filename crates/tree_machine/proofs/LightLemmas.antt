@@ -1,5 +1,5 @@
 -- The records of the lists are within the format's lengths, so none weighs more than the heaviest entry.
-use Rattle.std.proofs.Common.{◌≡◌, ℕ, ◌-◌, ◌≤◌, Bool, cond, true, false, [], ◌∷◌, ◌++◌, Some, refl, sym, subst, arith}
+use Rattle.std.proofs.Common.{◌≡◌, ℕ, List, length, ◌^◌, ◌<◌, ◌-◌, ◌≤◌, Bool, cond, true, false, [], ◌∷◌, ◌++◌, Some, refl, sym, subst, arith}
 use Rattle.std.specs.Prelude.{nat_lt}
 use Rattle.std.specs.List.{AllByRecursion}
 use Rattle.std.specs.Ordering.{eq_by_cmp}
@@ -7,11 +7,11 @@ use Rattle.std.specs.declared.cmp.Ordering.{Ordering}
 use Rattle.std.specs.declared.cmp.Ordering.TheVariants.{Less, Equal, Greater}
 use Rattle.std.specs.FinMap.{put}
 use Rattle.std.specs.FinMap.Entries.{by_order}
-use Rattle.blsm_model.specs.Format.{most_weight}
+use Rattle.blsm_model.specs.Format.{most_key, most_text, most_weight}
 use Rattle.blsm_model.specs.declared.key.Key.{Key}
 use Rattle.blsm_model.specs.declared.op.Write.{Write}
 use Rattle.blsm_model.specs.Keys.{key_cmp}
-use Rattle.blsm_model.specs.Values.{key_of, weight_of}
+use Rattle.blsm_model.specs.Values.{added_count, key_of, text_written, weight_of}
 use Rattle.record_delta.specs.declared.record.Rec.{Rec}
 use Rattle.record_delta.specs.declared.record.Rec.TheVariants.{Base, Delta, Tomb}
 use Rattle.record_delta.specs.Records.{record_of, weight, settle, IsWithin}
@@ -26,7 +26,7 @@ use Rattle.tree_machine.specs.Layers.{AreLight, AllLight}
 use Rattle.tree_machine.specs.Stands.{FitsFormat}
 use Rattle.tree_machine.proofs.FoldLemmas.{tied, equal_of}
 use Rattle.tree_machine.proofs.QuantumLemmas.{all_ahead}
-use Rattle.tree_machine.proofs.WeightLemmas.{weight_of_record}
+use Rattle.tree_machine.proofs.WeightLemmas.{text_of_record, weight_of_record}
 
 -- ---- what weights follow
 
@@ -36,6 +36,14 @@ light_weighs (e ∷ es) light = (within_is_light e.0 e.1 light.0, light_weighs e
 
 pub write_is_light : (write : Write) → FitsFormat write → weight_of write ≤ most_weight
 write_is_light write fits = omega (arith, within_is_light (key_of write) (record_of write) fits.within, weight_of_record write)
+
+-- a write of these lengths fits the format
+pub fits_format : (write : Write) → added_count write < 2 ^ 64 → (1 ≤ length (key_of write)) × (length (key_of write) ≤ most_key) → length (text_written write) ≤ most_text → FitsFormat write
+fits_format write count key text = record {
+  counts = count;
+  within = record { key_most = key.1; text_most = subst (λ (t : List ℕ). length t ≤ most_text) (sym (text_of_record write)) text };
+  least = omega (arith, key.0);
+}
 
 -- ---- lists that are made of others
 

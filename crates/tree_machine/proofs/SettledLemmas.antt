@@ -16,7 +16,7 @@ use Rattle.blsm_model.specs.declared.history.Why.TheVariants.{Faulted}
 use Rattle.blsm_model.specs.declared.history.Reply.TheVariants.{Done, Full, FaultLost, FaultUnsure, Stopped}
 use Rattle.blsm_model.specs.Geometry.{c1_mark, charge_limit}
 use Rattle.blsm_model.specs.Histories.{writes_of, answer_to_get, answer_to_release}
-use Rattle.blsm_model.specs.Legal.{total_weight}
+use Rattle.blsm_model.specs.Legal.{total_weight, is_del}
 use Rattle.record_delta.specs.declared.record.Rec.{Rec}
 use Rattle.record_delta.specs.Records.{settle, record_of}
 use Rattle.record_delta.specs.Entries.{Entries, entries_weight, settled_base, settled_entries, folded_over, with_record}
@@ -29,7 +29,7 @@ use Rattle.tree_machine.specs.Lists.{Lists, memory_weight, value_in}
 use Rattle.tree_machine.specs.Merges.{Merge, is_empty, is_done}
 use Rattle.tree_machine.specs.Machine.{Machine, in_pass, in_deep, pass_done, deep_is_done, deep_done, is_closed, charge, held_by}
 use Rattle.tree_machine.specs.Moves.{begin_pass, rotate, swap_pass, swap_deep, end_pass, output_of, pass_quantum, deep_quantum, pass_quantum_of, deep_quantum_of, goes_to_a, with_write, take_write, with_peak, note, stop}
-use Rattle.tree_machine.specs.Steps.{Outcome, Well, FailedAfter, Broken, NoRoom, Stepped, SwapDeep, SwapPass, DeepQuantum, PassQuantum, Begin, Rotate, Rest, choice, chosen, replied, unless_stopped, is_del, swaps_due, admit, admit_fitting, deep_swapped, swapped, ready_for, taken_once, reply_unless, do_hold, do_next, holding, forgive, pay, pay_running, pay_planned, do_pay, do_turn, work_turning, worker_turning, work_turn, worker_turn}
+use Rattle.tree_machine.specs.Steps.{Outcome, Well, FailedAfter, Broken, NoRoom, Stepped, SwapDeep, SwapPass, DeepQuantum, PassQuantum, Begin, Rotate, Rest, choice, chosen, replied, unless_stopped, swaps_due, admit, admit_fitting, deep_swapped, swapped, ready_for, taken_once, reply_unless, do_hold, do_next, holding, forgive, pay, pay_running, pay_planned, do_pay, do_turn, work_turning, worker_turning, work_turn, worker_turn}
 use Rattle.tree_machine.specs.Plays.{stepped_as}
 use Rattle.tree_machine.specs.Layers.{IsSound, AreBases, AreSettled, IsDeepOver}
 use Rattle.tree_machine.proofs.WeightLemmas.{deep_output}

@@ -18,7 +18,7 @@ use Rattle.blsm_model.specs.Book.{Book}
 use Rattle.blsm_model.specs.declared.op.Write.{Write}
 use Rattle.blsm_model.specs.Geometry.{c1_mark, charge_limit}
 use Rattle.blsm_model.specs.Histories.{writes_of, answer_to_get, answer_to_release}
-use Rattle.blsm_model.specs.Legal.{total_weight}
+use Rattle.blsm_model.specs.Legal.{total_weight, is_del, may_look}
 use Rattle.blsm_model.specs.declared.row.Value.{Value}
 use Rattle.record_delta.specs.Entries.{entries_weight}
 use Rattle.gear_sched.specs.Gears.{plan_for, first_debt, second_debt}
@@ -31,7 +31,7 @@ use Rattle.tree_machine.specs.Lists.{memory_weight, value_in, rows_in}
 use Rattle.tree_machine.specs.Merges.{Merge}
 use Rattle.tree_machine.specs.Machine.{Machine, WorkSoFar, Turned, Worked, Idle, Closed, Failed, BadPage, Halted, no_work, in_pass, pass_done, deep_done, is_closed, charge, held_by, work_of}
 use Rattle.tree_machine.specs.Moves.{begin_pass, rotate, swap_deep, end_pass, output_of, pass_quantum, deep_quantum, pass_quantum_of, deep_quantum_of, with_peak, note, stop}
-use Rattle.tree_machine.specs.Steps.{Outcome, Well, FailedAfter, Broken, NoRoom, Stepped, Choice, SwapDeep, SwapPass, DeepQuantum, PassQuantum, Begin, Rotate, Rest, choice, chosen, ended_as, replied, unless_stopped, is_del, swaps_due, one_if, admit, admit_fitting, deep_swapped, swapped, ready_for, taken_once, reply_unless, do_hold, do_next, holding, forgive, count_for_write, pay, pay_running, pay_planned, do_pay, do_turn, work_turning, worker_turning, with_turn, work_turn, worker_turn, work_reply, work_end, leave}
+use Rattle.tree_machine.specs.Steps.{Outcome, Well, FailedAfter, Broken, NoRoom, Stepped, Choice, SwapDeep, SwapPass, DeepQuantum, PassQuantum, Begin, Rotate, Rest, choice, chosen, ended_as, replied, unless_stopped, swaps_due, one_if, admit, admit_fitting, deep_swapped, swapped, ready_for, taken_once, reply_unless, do_hold, do_next, holding, forgive, count_for_write, pay, pay_running, pay_planned, do_pay, do_turn, work_turning, worker_turning, with_turn, work_turn, worker_turn, work_reply, work_end, leave}
 use Rattle.tree_machine.specs.Plays.{may_step, stepped, stepped_as, played, played_one}
 use Rattle.tree_machine.specs.Outcomes.{Rose, last_count, IsPossible, AreTold, is_failed_lookup, is_faulted, faults_told, is_damaged, is_bad_page, is_by_page, is_broken, FindsNone, FaultsAreCounted, StopsNameMore, NoneDamaged, ReachesOnBy}
 use Rattle.tree_machine.proofs.FrameLemmas.{step_stays}
@@ -141,34 +141,9 @@ unless_tells m seat outcome op otherwise no_lookup runs = by m.stopped refl
 admit_tells : (m : Machine) (seat : ℕ) (op : Op) (outcome : Outcome) → Tells m seat outcome (admit m seat op outcome).state
 admit_tells m seat op outcome =
     unless_tells m seat outcome op (cond (nat_lt (charge_limit m.gears.sizes (is_del op)) (charge m + total_weight (writes_of op))) (replied seat op (Full (charge m)) m) (admit_fitting m seat op (total_weight (writes_of op)) outcome))
-    (λ cause. no_stopped op cause)
+    (λ cause. refl)
     (λ none. by none (nat_lt (charge_limit m.gears.sizes (is_del op)) (charge m + total_weight (writes_of op))))
   where
-    no_stopped : (op : Op) (cause : Why) → is_failed_lookup op (Stopped cause) ≡ false
-    no_stopped (Get key) cause = refl
-    no_stopped (Next n) cause = refl
-    no_stopped _ cause = refl
-
-    no_full : (op : Op) (n : ℕ) → is_failed_lookup op (Full n) ≡ false
-    no_full (Get key) n = refl
-    no_full (Next k) n = refl
-    no_full _ n = refl
-
-    no_done : (op : Op) → is_failed_lookup op Done ≡ false
-    no_done (Get key) = refl
-    no_done (Next k) = refl
-    no_done _ = refl
-
-    no_lost : (op : Op) → is_failed_lookup op FaultLost ≡ false
-    no_lost (Get key) = refl
-    no_lost (Next k) = refl
-    no_lost _ = refl
-
-    no_unsure : (op : Op) → is_failed_lookup op FaultUnsure ≡ false
-    no_unsure (Get key) = refl
-    no_unsure (Next k) = refl
-    no_unsure _ = refl
-
     lost : (faults : ℕ) (c : Bool) → (stop (why.Faulted faults) (cond c m (deep_swapped m))).book.entries ≡ m.book.entries
     lost faults true = refl
     lost faults false = ap (λ (b : Book). b.entries) (deep_swapped_book m)
@@ -180,20 +155,20 @@ admit_tells m seat op outcome =
       is_cause = refl;
       was = none;
       stopped = refl;
-      entries = inr (record { seat = seat; op = op; reply = FaultLost }, no_lost op, refl, ap (λ es. es ++ record { seat = seat; op = op; reply = FaultLost } ∷ []) (lost faults (commits == 0)));
+      entries = inr (record { seat = seat; op = op; reply = FaultLost }, refl, refl, ap (λ es. es ++ record { seat = seat; op = op; reply = FaultLost } ∷ []) (lost faults (commits == 0)));
     }
     failed none commits faults false = record {
       cause = why.Faulted faults;
       is_cause = refl;
       was = none;
       stopped = refl;
-      entries = inr (record { seat = seat; op = op; reply = FaultUnsure }, no_unsure op, refl, ap (λ (b : Book). b.entries ++ record { seat = seat; op = op; reply = FaultUnsure } ∷ []) (ready_book (total_weight (writes_of op)) m));
+      entries = inr (record { seat = seat; op = op; reply = FaultUnsure }, refl, refl, ap (λ (b : Book). b.entries ++ record { seat = seat; op = op; reply = FaultUnsure } ∷ []) (ready_book (total_weight (writes_of op)) m));
     }
 
     done : (e : Outcome) → Tells m seat e (note seat op Done (with_peak (taken_once seat (writes_of op) (ready_for (total_weight (writes_of op)) m))))
-    done e = plain m seat e op Done (with_peak (taken_once seat (writes_of op) (ready_for (total_weight (writes_of op)) m))) (no_done op) refl
+    done e = plain m seat e op Done (with_peak (taken_once seat (writes_of op) (ready_for (total_weight (writes_of op)) m))) refl refl
         (taken_stop seat op (ready_for (total_weight (writes_of op)) m) ∙ ready_stop (total_weight (writes_of op)) m)
-        (ap (λ (b : Book). b.entries) (taken_book seat op (ready_for (total_weight (writes_of op)) m) ∙ ready_book (total_weight (writes_of op)) m))
+        (ap (λ (b : Book). b.entries) (taken_book seat (writes_of op) (ready_for (total_weight (writes_of op)) m) ∙ ready_book (total_weight (writes_of op)) m))
 
     fitting : m.stopped ≡ None → (e : Outcome) → Tells m seat e (admit_fitting m seat op (total_weight (writes_of op)) e).state
     fitting none (FailedAfter commits faults) = inr (failed none commits faults (nat_lt commits (swaps_due m)))
@@ -202,7 +177,7 @@ admit_tells m seat op outcome =
     fitting none NoRoom = done NoRoom
 
     by : m.stopped ≡ None → (b : Bool) → Tells m seat outcome (cond b (replied seat op (Full (charge m)) m) (admit_fitting m seat op (total_weight (writes_of op)) outcome)).state
-    by none true = plain m seat outcome op (Full (charge m)) m (no_full op (charge m)) refl refl refl
+    by none true = plain m seat outcome op (Full (charge m)) m refl refl refl refl
     by none false = fitting none outcome
 
 pay_tells : (m : Machine) (seat : ℕ) (outcome : Outcome) → Tells m seat outcome (pay m seat outcome).state
@@ -299,10 +274,15 @@ worker_turn_tells m seat outcome = tells_on m seat outcome (worker_turning m.sto
     by None is true = still m seat outcome m refl refl
     by None is false = turn_tells (choice (nat_lt m.gears.sizes.low m.spring) false m) m seat outcome is
 
+-- a command that doesn't only look is no lookup that failed
+pub no_look : (op : Op) (reply : Reply) → may_look op ≡ false → is_failed_lookup op reply ≡ false
+no_look op Fault is = is
+no_look op _ is = refl
+
 work_end_tells : (m : Machine) (seat n : ℕ) (outcome : Outcome) → Tells m seat outcome (work_end m seat n).state
 work_end_tells m seat n outcome = inl (record {
   stopped = refl;
-  entries = inr (record { seat = seat; op = Work n; reply = work_reply (work_of seat m) m.stopped }, λ is. absurd (false≢true is), damage (work_of seat m).last m.stopped, refl);
+  entries = inr (record { seat = seat; op = Work n; reply = work_reply (work_of seat m) m.stopped }, λ is. absurd (false≢true (sym (no_look (Work n) (work_reply (work_of seat m) m.stopped) refl) ∙ is)), damage (work_of seat m).last m.stopped, refl);
 })
   where
     damage : (last : Turned) (o : Option Why) → is_damaged (work_reply (record (work_of seat m) { last = last }) o) ≡ true → (is_broken outcome ≡ true) ⊎ (is_bad_page last ≡ true)

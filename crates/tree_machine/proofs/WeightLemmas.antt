@@ -1,5 +1,5 @@
 -- What folding does to the weight of lists, and so to the charge.
-use Rattle.std.proofs.Common.{◌≡◌, ◌+◌, ◌≤◌, cond, true, T, [], ◌∷◌, Some, None, refl, ap, sym, subst, ◌∙◌, arith}
+use Rattle.std.proofs.Common.{◌≡◌, ℕ, List, length, ◌+◌, ◌≤◌, cond, true, T, [], ◌∷◌, Some, None, refl, ap, sym, subst, ◌∙◌, arith}
 use Rattle.std.specs.Ordering.{is_eq, is_lt}
 use Rattle.std.specs.declared.cmp.Ordering.{Ordering}
 use Rattle.std.specs.declared.cmp.Ordering.TheVariants.{Less, Equal, Greater}
@@ -11,10 +11,11 @@ use Rattle.blsm_model.specs.declared.key.Key.{Key}
 use Rattle.blsm_model.specs.declared.op.Write.{Write}
 use Rattle.blsm_model.specs.declared.op.Write.TheVariants.{Put, Add, Del}
 use Rattle.blsm_model.specs.Keys.{key_cmp}
-use Rattle.blsm_model.specs.Values.{key_of, weight_of}
+use Rattle.blsm_model.specs.Format.{overhead}
+use Rattle.blsm_model.specs.Values.{key_of, text_written, weight_of}
 use Rattle.record_delta.specs.declared.record.Rec.{Rec}
 use Rattle.record_delta.specs.declared.record.Rec.TheVariants.{Base, Delta, Tomb}
-use Rattle.record_delta.specs.Records.{weight, settle, record_of}
+use Rattle.record_delta.specs.Records.{weight, settle, record_of, text_of}
 use Rattle.record_delta.specs.Folding.{over}
 use Rattle.record_delta.proofs.FoldingLemmas.{fold_lighter}
 use Rattle.record_delta.specs.Entries.{AreSorted, Entries, entries_weight, folded_over, record_of_key, settled_base, settled_entries, with_record}
@@ -94,7 +95,10 @@ pub deep_output_light : (newer older : Entries) (merge : Merge) → AreSorted ne
 deep_output_light newer older merge sorted_newer sorted_older is done =
     omega (arith, ap entries_weight (deep_output newer older merge sorted_newer sorted_older is done), weight_settled (folded_over newer older), weight_folded newer older sorted_older)
 
+pub text_of_record : (write : Write) → text_of (record_of write) ≡ text_written write
+text_of_record (Put key value) = refl
+text_of_record (Add key count) = refl
+text_of_record (Del key) = refl
+
 pub weight_of_record : (write : Write) → weight (key_of write) (record_of write) ≡ weight_of write
-weight_of_record (Put key value) = refl
-weight_of_record (Add key count) = refl
-weight_of_record (Del key) = refl
+weight_of_record write = ap (λ (text : List ℕ). overhead + length (key_of write) + length text) (text_of_record write)

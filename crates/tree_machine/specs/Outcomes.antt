@@ -2,21 +2,20 @@
 use Rattle.std.specs.Prelude.{◌≡◌, ◌⊎◌, ⊤, ℕ, ◌+◌, ◌-◌, ◌<◌, ◌≤◌, ◌^◌, ◌==◌, Bool, true, false, not, ◌&&◌, List, [], ◌∷◌, Option, Some, None, is_some, sum_by, IsTrue, nat_lt}
 use Rattle.std.specs.List.{AllByRecursion}
 use Rattle.blsm_model.specs.declared.op.Op.{Op}
-use Rattle.blsm_model.specs.declared.op.Op.TheVariants.{Get, Next}
 use Rattle.blsm_model.specs.declared.history.Reply.{Reply}
 use Rattle.blsm_model.specs.declared.history.Reply.TheVariants.{Fault, Damaged}
 use Rattle.blsm_model.specs.declared.history.Why.{Why}
 use Rattle.blsm_model.specs.declared.history.Why.TheVariants as why
 use Rattle.blsm_model.specs.Geometry.{charge_limit}
 use Rattle.blsm_model.specs.Histories.{writes_of}
-use Rattle.blsm_model.specs.Legal.{total_weight}
+use Rattle.blsm_model.specs.Legal.{total_weight, is_del, may_look}
 use Rattle.record_delta.specs.Entries.{entries_weight}
 use Rattle.tree_machine.specs.declared.step.Kind.{Kind}
 use Rattle.tree_machine.specs.declared.step.Kind.TheVariants as kind
 use Rattle.tree_machine.specs.declared.step.Step.{Step}
 use Rattle.tree_machine.specs.Lists.{memory_weight}
 use Rattle.tree_machine.specs.Machine.{Machine, Turned, BadPage, owes, charge, held_by, is_closed, work_of}
-use Rattle.tree_machine.specs.Steps.{Outcome, Well, FailedAfter, Broken, NoRoom, Choice, DeepQuantum, PassQuantum, Begin, Rest, choice, forgive, is_del, swaps_due, one_if}
+use Rattle.tree_machine.specs.Steps.{Outcome, Well, FailedAfter, Broken, NoRoom, Choice, DeepQuantum, PassQuantum, Begin, Rest, choice, forgive, swaps_due, one_if}
 use Rattle.tree_machine.specs.Plays.{may_step, played_one, played}
 
 -- ---- which outcomes may be
@@ -97,8 +96,7 @@ IsReachedBy start old m new = (steps : List (Step × Outcome)) × AreTold start 
 
 -- a lookup that failed
 abbrev pub is_failed_lookup : Op → Reply → Bool
-is_failed_lookup (Get key) Fault = true
-is_failed_lookup (Next n) Fault = true
+is_failed_lookup op Fault = may_look op
 is_failed_lookup op reply = false
 
 abbrev pub is_faulted : Option Why → Bool

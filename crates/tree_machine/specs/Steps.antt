@@ -7,7 +7,7 @@ use Rattle.blsm_model.specs.declared.key.Key.{Key}
 use Rattle.blsm_model.specs.declared.row.Row.{Row}
 use Rattle.blsm_model.specs.declared.op.Write.{Write}
 use Rattle.blsm_model.specs.declared.op.Op.{Op}
-use Rattle.blsm_model.specs.declared.op.Op.TheVariants.{Del, Get, Hold, Next, Release, Work}
+use Rattle.blsm_model.specs.declared.op.Op.TheVariants.{Get, Hold, Next, Release, Work}
 use Rattle.blsm_model.specs.declared.history.Why.{Why}
 use Rattle.blsm_model.specs.declared.history.Why.TheVariants as why
 use Rattle.blsm_model.specs.declared.history.Reply.{Reply}
@@ -16,7 +16,7 @@ use Rattle.blsm_model.specs.declared.history.Entry.{Entry}
 use Rattle.blsm_model.specs.Book.{counted_up}
 use Rattle.blsm_model.specs.Geometry.{charge_limit}
 use Rattle.blsm_model.specs.Histories.{is_done, writes_of, answer_to_get, answer_to_release}
-use Rattle.blsm_model.specs.Legal.{is_write, total_weight}
+use Rattle.blsm_model.specs.Legal.{is_write, total_weight, is_del}
 use Rattle.record_delta.specs.Entries.{entries_weight}
 use Rattle.tree_machine.specs.Lists.{memory_weight, value_in, rows_in}
 use Rattle.gear_sched.specs.Gears.{forgiven, deep_is_behind, plan_for, first_debt, second_debt}
@@ -58,10 +58,6 @@ unless_stopped (Some why) seat op m otherwise = replied seat op (Stopped why) m
 unless_stopped None seat op m otherwise = otherwise
 
 -- ---- admission
-
-abbrev pub is_del : Op → Bool
-is_del (Del key) = true
-is_del _ = false
 
 -- what the merges have swapped in that are done: first the deep merge, then the pass
 abbrev pub deep_swapped : Machine → Machine

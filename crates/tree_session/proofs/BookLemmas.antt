@@ -12,7 +12,7 @@ use Rattle.blsm_model.specs.declared.history.Entry.{Entry}
 use Rattle.blsm_model.specs.declared.history.Why.{Why}
 use Rattle.blsm_model.specs.declared.history.Reply.TheVariants.{Done}
 use Rattle.blsm_model.specs.declared.op.Op.{Op}
-use Rattle.blsm_model.specs.declared.op.Op.TheVariants.{Put, Add, Del}
+use Rattle.blsm_model.specs.declared.op.Op.TheVariants.{Get, Hold, Next, Release, Work}
 use Rattle.disk_trait.specs.Disk.{DiskState}
 use Rattle.gear_sched.specs.Gears.{first_debt, second_debt}
 use Rattle.paced_tree.specs.Numbers.{IsWritten}
@@ -78,7 +78,8 @@ pub core_bound : (held : Held) (d : DiskState) (place : ℕ) → IsCore held d �
 core_bound held d place k written =
     subst (λ (s : Sizes). slice_index held.book.book.quanta place ≤ work_bound s (total_weight (writes_of (entry_at held.book.book place).op))) k.holds.told.sizes (k.holds.told.told.booked.bound place written)
 
-written_by : (seat : ℕ) (e : Entry) → is_write_by seat e ≡ true → (is_done e.reply ≡ true) × (is_write e.op ≡ true)
+-- a seat's write that was done
+pub written_by : (seat : ℕ) (e : Entry) → is_write_by seat e ≡ true → (is_done e.reply ≡ true) × (is_write e.op ≡ true)
 written_by seat e is =
     let parts = both_hold ((e.seat == seat) && is_done e.reply) (is_write e.op) is in
     ((both_hold (e.seat == seat) (is_done e.reply) parts.0).1, parts.1)
@@ -120,17 +121,21 @@ pays_less seat old new d has k is sizes = subst (λ (s : Sizes). left_in seat s 
 
 -- the calls of one
 pub calls_of_write : (sizes : Sizes) (op : Op) (quanta due : ℕ) → is_write op ≡ true → most_calls sizes op quanta due ≡ (4 + 9 * due) + (quanta + 1) * (sizes.quantum / 4 + 3)
-calls_of_write sizes (Put key value) quanta due is = refl
-calls_of_write sizes (Add key count) quanta due is = refl
-calls_of_write sizes (Del key) quanta due is = refl
-calls_of_write sizes _ quanta due is = absurd (false≢true is)
+calls_of_write sizes (Get key) quanta due is = absurd (false≢true is)
+calls_of_write sizes (Hold low high) quanta due is = absurd (false≢true is)
+calls_of_write sizes (Next n) quanta due is = absurd (false≢true is)
+calls_of_write sizes Release quanta due is = absurd (false≢true is)
+calls_of_write sizes (Work n) quanta due is = absurd (false≢true is)
+calls_of_write sizes _ quanta due is = refl
 
 -- the bound of a write
 pub most_of_write : (sizes : Sizes) (op : Op) → is_write op ≡ true → most_quanta sizes op ≡ work_bound sizes (total_weight (writes_of op))
-most_of_write sizes (Put key value) is = refl
-most_of_write sizes (Add key count) is = refl
-most_of_write sizes (Del key) is = refl
-most_of_write sizes _ is = absurd (false≢true is)
+most_of_write sizes (Get key) is = absurd (false≢true is)
+most_of_write sizes (Hold low high) is = absurd (false≢true is)
+most_of_write sizes (Next n) is = absurd (false≢true is)
+most_of_write sizes Release is = absurd (false≢true is)
+most_of_write sizes (Work n) is = absurd (false≢true is)
+most_of_write sizes _ is = refl
 
 pub paid_few : (seat n : ℕ) (op : Op) (old new : Held) (d d2 : DiskState) → is_write op ≡ true → IsCore old d → IsCore new d2 → new.runs.sizes ≡ old.runs.sizes
     → new.book.book ≡ counted_up (noted old.book.book (record { seat = seat; op = op; reply = Done })) (length old.book.book.entries) n → n ≤ most_quanta old.runs.sizes op

@@ -8,7 +8,6 @@ use Rattle.blsm_model.specs.Facts.{Follows}
 use Rattle.blsm_model.specs.Format.{callers}
 use Rattle.blsm_model.specs.Geometry.{file_length}
 use Rattle.blsm_model.specs.declared.op.Op.{Op}
-use Rattle.blsm_model.specs.declared.op.Op.TheVariants.{Put, Add, Del, Get, Hold, Next, Release, Work}
 use Rattle.blsm_model.specs.declared.history.Reply.{Reply}
 use Rattle.blsm_model.specs.declared.history.Reply.TheVariants.{Stopped}
 use Rattle.blsm_model.specs.declared.history.Why.{Why}
@@ -113,14 +112,7 @@ get_tells (lookup.Stopped why) key old new before after because same = tells_qui
 -- ---- whose faults stop the store
 
 pub none_told : (op : Op) (reply : Reply) → faults_of reply ≡ 0 → TellsNone op reply
-none_told (Put key value) reply none = none
-none_told (Add key count) reply none = none
-none_told (Del key) reply none = none
-none_told (Get key) reply none = tt
-none_told (Hold low high) reply none = none
-none_told (Next n) reply none = tt
-none_told Release reply none = none
-none_told (Work n) reply none = none
+none_told op reply none = λ looks. none
 
 stopped_not_calm : (old new : Held) (before after : DiskState) → HasFailed old new before after → is_by_fault new.book.stopped ≡ false → ⊥
 stopped_not_calm old new before after failed calm = false≢true (sym calm ∙ ap is_by_fault failed.stopped)

@@ -172,7 +172,7 @@ work_ended {D} state seat n old mid new since begins rests even turns disk held 
   annals = ap (λ (h : Held). h.book.book) held ∙ ap (λ (b : Book). counted_up (noted b entry) (length b.entries) (work_in seat mid.held.book).quanta) turns.annals;
   few = turns.few;
   rows = reply_gives_none (work_in seat mid.held.book) mid.held.book.stopped;
-  calm = λ calm. sym (reply_tells (work_in seat mid.held.book) mid.held.book.stopped) ∙ turns.calm (ap is_by_fault (sym (ap (λ (h : Held). h.book.stopped) held)) ∙ calm);
+  calm = λ calm looks. sym (reply_tells (work_in seat mid.held.book) mid.held.book.stopped) ∙ turns.calm (ap is_by_fault (sym (ap (λ (h : Held). h.book.stopped) held)) ∙ calm);
   names = subst (λ (o : Option Why). NamesStop reply o) (sym (ap (λ (h : Held). h.book.stopped) held)) (reply_names (work_in seat mid.held.book) mid.held.book.stopped);
   rests = record {
     idle = λ any. ap (λ (h : Held). work_in any h.book) held ∙ idle any;

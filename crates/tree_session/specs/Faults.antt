@@ -8,8 +8,8 @@ use Rattle.blsm_model.specs.declared.history.Reply.{Reply}
 use Rattle.blsm_model.specs.declared.history.Reply.TheVariants.{Fault, FaultLost, FaultUnsure, Stopped}
 use Rattle.blsm_model.specs.declared.history.Why.{Why}
 use Rattle.blsm_model.specs.declared.op.Op.{Op}
-use Rattle.blsm_model.specs.declared.op.Op.TheVariants.{Get, Next}
 use Rattle.blsm_model.specs.declared.history.Why.TheVariants.{Faulted}
+use Rattle.blsm_model.specs.Legal.{may_look}
 use Rattle.disk_trait.specs.Disk.{DiskState, GoesOn, IsSure}
 use Rattle.disk_trait.specs.Moments.{SyncsLater}
 use Rattle.tree_machine.specs.Machine.{Turned, Failed}
@@ -56,11 +56,9 @@ pub record TellsFaults (told : ℕ) (old new : Held) (before after : DiskState) 
   pub stops : old.book.stopped ≡ None → NamesCount new.book.stopped before after
   pub halted : (why : Why) → old.book.stopped ≡ Some why → (new.book.stopped ≡ Some why) × (after.faults ≡ before.faults)
 
--- Of the commands a get and a next alone may tell a fault without a stop.
+-- Of the commands those that only look, a get and a next, may tell a fault without a stop.
 abbrev pub TellsNone : Op → Reply → Type 0
-TellsNone (Get key) reply = ⊤
-TellsNone (Next n) reply = ⊤
-TellsNone op reply = faults_of reply ≡ 0
+TellsNone op reply = may_look op ≡ false → faults_of reply ≡ 0
 
 -- ---- calls of the core, one after another
 

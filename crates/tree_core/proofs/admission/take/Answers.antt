@@ -130,7 +130,7 @@ write-requires-clause-fits g c =
     let rec = record_of c.args.write.now in
     let is_w : total_weight (writes_of c.args.op.now) ≡ weight key rec = weighs c.args.op.now c.args.write.now c.requires.write in
     let is_begun : c.begin_for.new.self ≡ begun_in (weight key rec) c.settle_pass.new.held = c.begin_for.ensures.begun ∙ ap (λ (n : ℕ). begun_in n c.settle_pass.new.held) (c.weight.ensures.weight ∙ is_w) in
-    fits_as key c.key_of.result.now rec c.of_write-rec.result (begun_in (weight key rec) c.settle_pass.new.held) c.begin_for.new.self c.key_of.ensures c.of_write-rec.ensures.«record» is_begun
+    fits_as key c.key.result.now rec c.of_write-rec.result (begun_in (weight key rec) c.settle_pass.new.held) c.begin_for.new.self c.key.ensures c.of_write-rec.ensures.«record» is_begun
     (admission_fits c.args.seat c.args.op.now key rec c.args.held.now c.settle_deep.new.held c.settle_pass.new.held c.requires.runs.pace c.requires.runs.live.paced
     (subst (λ (n : ℕ). MayWrite c.args.seat n c.args.op.now c.args.held.now) is_w c.requires.may)
     (ok_of c.settle_deep.result (sym c.is_err.ensures.value ∙ c.if-is_err.false) c.settle_deep.ensures.settles) (ok_of c.settle_pass.result (sym c.is_err-2.ensures.value ∙ c.if-is_err-2.false) c.settle_pass.ensures.settles)).fits
@@ -162,7 +162,7 @@ returns-in-Ok-clause-takes g c =
         pass = ok_of c.settle_pass.result (sym c.is_err-2.ensures.value ∙ c.if-is_err-2.false) c.settle_pass.ensures.settles;
         begun = c.begin_for.ensures.begun ∙ ap (λ (n : ℕ). begun_in n c.settle_pass.new.held) (c.weight.ensures.weight ∙ is_w);
       },
-      at_write (λ (k : Key) (r : Rec). WritesIn c.args.seat k r c.begin_for.new.self c.write.new.self) key c.key_of.result.now rec c.of_write-rec.result c.key_of.ensures c.of_write-rec.ensures.«record» c.in-Ok.ensures.writes,
+      at_write (λ (k : Key) (r : Rec). WritesIn c.args.seat k r c.begin_for.new.self c.write.new.self) key c.key.result.now rec c.of_write-rec.result c.key.ensures c.of_write-rec.ensures.«record» c.in-Ok.ensures.writes,
       c.in-Ok.ensures.on,
     )
 
@@ -185,14 +185,14 @@ returns-in-Ok-clause-lists g c = λ opening m pace honest stands runs may fits.
     let takes : MayTake c.args.seat c.args.op.now c.args.write.now old m = record { may = may; fits = fits; writes = c.requires.write; room = c.requires.may.room } in
     let then = begun_by c.settle_pass.result (total_weight (writes_of c.args.op.now)) c.weight.result settled ready begun mid last ok_then c.settle_pass.ensures.settles c.settle_pass.ensures.turns c.settle_pass.ensures.lists
     c.settle_pass.ensures.effect.goes_on.is_honest c.begin_for.ensures.begun c.weight.ensures.weight c.begin_for.ensures.lists in
-    let appends : Appends key rec begun true last after = at_write (λ (k : Key) (r : Rec). Appends k r begun true last after) key c.key_of.result.now rec c.of_write-rec.result c.key_of.ensures c.of_write-rec.ensures.«record»
+    let appends : Appends key rec begun true last after = at_write (λ (k : Key) (r : Rec). Appends k r begun true last after) key c.key.result.now rec c.of_write-rec.result c.key.ensures c.of_write-rec.ensures.«record»
     (λ tree here of_log over. (c.in-Ok.ensures.becomes tree here of_log over).0) in (
       writes_over opening old m pace before begins settled mid has c.args.seat c.args.op.now c.args.write.now takes ready begun last then c.write.new.self after
-          (at_write (λ (k : Key) (r : Rec). WritesIn c.args.seat k r begun c.write.new.self) key c.key_of.result.now rec c.of_write-rec.result c.key_of.ensures c.of_write-rec.ensures.«record» c.in-Ok.ensures.writes)
-          (at_write (λ (k : Key) (r : Rec). (tree : Tree) → IsLogOf tree begun.log → IsLogOf (appended (goes_ahead k begun) (k, r) tree) c.write.new.self.log) key c.key_of.result.now rec c.of_write-rec.result c.key_of.ensures c.of_write-rec.ensures.«record»
+          (at_write (λ (k : Key) (r : Rec). WritesIn c.args.seat k r begun c.write.new.self) key c.key.result.now rec c.of_write-rec.result c.key.ensures c.of_write-rec.ensures.«record» c.in-Ok.ensures.writes)
+          (at_write (λ (k : Key) (r : Rec). (tree : Tree) → IsLogOf tree begun.log → IsLogOf (appended (goes_ahead k begun) (k, r) tree) c.write.new.self.log) key c.key.result.now rec c.of_write-rec.result c.key.ensures c.of_write-rec.ensures.«record»
           c.in-Ok.ensures.is_of)
           (at_write (λ (k : Key) (r : Rec). (tree : Tree) → IsTrue last.is_honest → IsLogOf tree begun.log → StandOver begun.runs tree begun.log.a.entries last
-          → StandOver c.write.new.self.runs (appended (goes_ahead k begun) (k, r) tree) c.write.new.self.log.a.entries after) key c.key_of.result.now rec c.of_write-rec.result c.key_of.ensures c.of_write-rec.ensures.«record»
+          → StandOver c.write.new.self.runs (appended (goes_ahead k begun) (k, r) tree) c.write.new.self.log.a.entries after) key c.key.result.now rec c.of_write-rec.result c.key.ensures c.of_write-rec.ensures.«record»
           (λ tree here of_log over. (c.in-Ok.ensures.becomes tree here of_log over).1)),
       done_leaves opening old m pace before begins settled mid has c.args.seat c.args.op.now c.args.write.now takes ready begun last then after appends,
     )
@@ -259,7 +259,7 @@ returns-in-Err-clause-lists g c = λ opening m pace honest stands runs may fits.
     let then = begun_by c.settle_pass.result (total_weight (writes_of c.args.op.now)) c.weight.result settled ready begun mid last ok_then c.settle_pass.ensures.settles c.settle_pass.ensures.turns c.settle_pass.ensures.lists
     c.settle_pass.ensures.effect.goes_on.is_honest c.begin_for.ensures.begun c.weight.ensures.weight c.begin_for.ensures.lists in
     doubt_leaves opening old m pace before begins settled mid has c.args.seat c.args.op.now c.args.write.now takes ready begun last then c.write.new.self c.in-Err.ensures.kept false after
-    (at_write (λ (k : Key) (r : Rec). Appends k r begun false last after) key c.key_of.result.now rec c.of_write-rec.result c.key_of.ensures c.of_write-rec.ensures.«record»
+    (at_write (λ (k : Key) (r : Rec). Appends k r begun false last after) key c.key.result.now rec c.of_write-rec.result c.key.ensures c.of_write-rec.ensures.«record»
     (λ tree here of_log over. (c.in-Err.ensures.becomes tree here of_log over).0))
 
 pub returns-in-Err-clause-effect : goal.returns-in-Err-clause-effect

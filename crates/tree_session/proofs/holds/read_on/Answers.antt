@@ -1,7 +1,8 @@
 use Rattle.std.specs.Prelude.{drop, sum}
-use Rattle.std.proofs.Common.{ap}
+use Rattle.std.proofs.Common.{ap, sym}
 use Rattle.blsm_model.specs.Format.{callers}
 use Rattle.blsm_model.specs.declared.op.Op.TheVariants as op
+use Rattle.std.proofs.lemmas.Bool.{false≢true}
 use Rattle.seat_book.specs.State.{BookState}
 use Rattle.tree_runs.specs.Runs.{page_share}
 use Rattle.tree_machine.specs.declared.step.Kind.TheVariants as kind
@@ -24,7 +25,7 @@ returns g c =
     let e = c.next_rows-scan.ensures.reads in
     let same = ap (λ (b : BookState). b.stopped) e.book in
     notes_alone state seat (op.Next c.args.n) reply old new e.others e.book c.requires.rests
-    (scan_rows answer seat c.args.n old new (state old.disk) (state new.disk) e.cause) tt (scan_names answer seat c.args.n old new (state old.disk) (state new.disk) e.cause same) e.goes.begins
+    (scan_rows answer seat c.args.n old new (state old.disk) (state new.disk) e.cause) (λ looks. absurd (false≢true (sym looks))) (scan_names answer seat c.args.n old new (state old.disk) (state new.disk) e.cause same) e.goes.begins
     (proceeds_by state (faults_of reply) (page_share old.held.runs.sizes) old old new c.kept.ensures.begins (λ from since. e.goes.lasts from since) (reaches_wider e.few (reaches_by e.reads.effect))
     (scan_tells answer seat c.args.n old new (state old.disk) (state new.disk) e.cause same (λ none. ap (λ (d : g.row.D.Denot). (state d).faults) (e.untouched none)))
     (ap (λ (b : BookState). sum (drop callers b.seats.quanta)) e.book))

@@ -4,6 +4,7 @@ use Rattle.blsm_model.specs.Book.{noted}
 use Rattle.blsm_model.specs.Format.{callers}
 use Rattle.blsm_model.specs.declared.history.Entry.{Entry}
 use Rattle.blsm_model.specs.declared.op.Op.TheVariants.{Get}
+use Rattle.std.proofs.lemmas.Bool.{false≢true}
 use Rattle.core_moves.specs.declared.held.Held.{Held}
 use Rattle.tree_machine.specs.declared.step.Kind.TheVariants as kind
 use Rattle.tree_core.specs.Answers.{reply_to_get}
@@ -29,7 +30,7 @@ returns g c =
       annals = ap (λ (h : Held). h.book.book) held ∙ sym (count_none (noted old.held.book.book entry) (length old.held.book.book.entries));
       few = omega arith;
       rows = get_rows c.get-found.result;
-      calm = λ calm. tt;
+      calm = λ calm looks. absurd (false≢true (sym looks));
       names = get_names c.get-found.result c.args.key.now old.held new.held (state old.disk) (state new.disk) c.get-found.ensures.cause (ap (λ (h : Held). h.book.stopped) held);
       begins = c.get-found.ensures.goes.begins;
       rests = subst (λ (h : Held). Rests h) (sym held) (record { idle = λ seat. c.requires.rests.idle seat; even = λ runs seat. c.requires.rests.even runs seat });
