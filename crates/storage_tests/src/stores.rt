@@ -8,7 +8,7 @@ use disk_mem::{FaultlessDisk, MemDisk};
 use disk_trait::Disk;
 use std::alloc::Global;
 use std::process::Abort;
-use store_file::{StoreBroken, make_store, one_geometry, read_geometry, read_store};
+use store_file::{StoreBroken, make_store, one_geometry, read_geometry};
 
 // The superblock and the first catalogue of the default geometry, byte by byte.
 const DEFAULT_SUPERBLOCK: [u8; 27] = [
@@ -43,29 +43,24 @@ fn the_default_store_is_made_and_read(rt: HostRuntime) {
     assert_same(&rt, read::<27>(&rt, &mut disk, 0), DEFAULT_SUPERBLOCK);
     assert_same(&rt, read::<20>(&rt, &mut disk, 512), CATALOGUE_BEGINS);
     assert_same(&rt, read_geometry(&mut disk), Ok(geometry));
-    assert_same(&rt, read_store(&mut disk), Ok(geometry));
     one_geometry();
 }
 
-// What the whole store reads as.
+// What a file reads as: by its superblock and its length, whatever its slots and lanes are.
 #[derive(Clone, Copy)]
 enum Reads {
-    Whole,
+    Store,
     NotAStore,
-    DamagedSlots,
 }
 
-use Reads::{DamagedSlots, NotAStore, Whole};
+use Reads::{NotAStore, Store};
 
-// The store, and its geometry alone, which doesn't look at the slots.
 fn reads_as(rt: &impl Abort, disk: &mut FaultlessDisk, geometry: Geometry, reads: Reads) {
-    let (whole, alone) = match reads {
-        Whole => (Ok(geometry), Ok(geometry)),
-        NotAStore => (Err(StoreBroken::NotAStore), Err(StoreBroken::NotAStore)),
-        DamagedSlots => (Err(StoreBroken::DamagedSlots), Ok(geometry)),
+    let answer = match reads {
+        Store => Ok(geometry),
+        NotAStore => Err(StoreBroken::NotAStore),
     };
-    assert_same(rt, read_store(disk), whole);
-    assert_same(rt, read_geometry(disk), alone);
+    assert_same(rt, read_geometry(disk), answer);
 }
 
 fn write_byte(rt: &impl Abort, disk: &mut FaultlessDisk, at: u64, byte: [u8; 1]) {
@@ -100,20 +95,20 @@ const CHANGES: [(u64, u8, Reads); 25] = [
     (18, 9, NotAStore),
     (21, 0x45, NotAStore),
     (25, 3, NotAStore),
-    (27, 1, Whole),
-    (511, 1, Whole),
-    (512, 0, DamagedSlots),
-    (520, 3, DamagedSlots),
-    (595, 1, DamagedSlots),
-    (596, 1, Whole),
-    (1_023, 1, Whole),
-    (1_024, 1, DamagedSlots),
-    (1_107, 1, DamagedSlots),
-    (1_108, 1, Whole),
-    (4_096, 1, Whole),
+    (27, 1, Store),
+    (511, 1, Store),
+    (512, 0, Store),
+    (520, 3, Store),
+    (595, 1, Store),
+    (596, 1, Store),
+    (1_023, 1, Store),
+    (1_024, 1, Store),
+    (1_107, 1, Store),
+    (1_108, 1, Store),
+    (4_096, 1, Store),
 ];
 
-// A store is read again with one byte changed: each byte that the superblock and the slots are made of counts, and no other.
+// A store is read again with one byte changed: each byte that the superblock is made of counts, and no other.
 #[test]
 fn each_changed_byte_is_found(rt: HostRuntime) {
     let geometry = smallest(&rt);
@@ -121,7 +116,7 @@ fn each_changed_byte_is_found(rt: HostRuntime) {
     for &change in &CHANGES {
         changed(&rt, &mut disk, geometry, change);
     }
-    reads_as(&rt, &mut disk, geometry, Whole);
+    reads_as(&rt, &mut disk, geometry, Store);
 }
 
 // A file of so many bytes, which are zeros behind these ones, as far as there is room.
@@ -134,7 +129,7 @@ fn is_no_store(rt: &impl Abort, alloc: Global, length: u64, head: &[u8])
     assert_that(rt, disk.write(0, file.as_slice()).is_ok());
     assert_same_at(
         rt,
-        read_store(&mut disk),
+        read_geometry(&mut disk),
         Err(StoreBroken::NotAStore),
         length,
     );
@@ -157,7 +152,7 @@ fn a_file_of_another_length_is_no_store(rt: HostRuntime) {
 // Whether an image reads as the smallest store; else it is none.
 fn is_made(rt: &impl Abort, disk: &MemDisk, geometry: &Geometry, pick: u64) -> bool {
     let mut image = disk.image(pick).expect(rt, "memory");
-    let found = read_store(&mut image);
+    let found = read_geometry(&mut image);
     if found == Ok(*geometry) {
         return true;
     }

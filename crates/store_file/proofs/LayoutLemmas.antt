@@ -1,5 +1,5 @@
 -- What stands where in the file that making writes, and which files are no store.
-use Rattle.std.proofs.Common.{◌≡◌, ◌⊎◌, inl, inr, ⊎_elim, ℕ, zero, suc, ◌+◌, ◌-◌, ◌*◌, ◌<◌, ◌≤◌, Bool, not, true, false, List, [], ◌∷◌, ◌++◌, length, take, drop, bytes_eq, refl, sym, ◌∙◌, ap, subst, arith, append_assoc, length-append}
+use Rattle.std.proofs.Common.{◌≡◌, ◌⊎◌, inl, inr, ⊎_elim, ℕ, zero, suc, ◌+◌, ◌-◌, ◌*◌, ◌<◌, ◌≤◌, true, false, List, [], ◌∷◌, ◌++◌, length, take, drop, bytes_eq, refl, sym, ◌∙◌, ap, subst, arith, append_assoc, length-append}
 use Rattle.std.specs.Int.{w32, from_be_bytes}
 use Rattle.std.proofs.lemmas.Slice.Eq.{bytes_eq-Decides}
 use Rattle.std.proofs.lemmas.List.{append-nil, drop_at, drop-drop, take-take, length-replicate, take-replicate, drop-replicate, replicate-append-replicate}
@@ -255,14 +255,3 @@ no_fault sizes Half geometry wrong = wrong geometry.half
 no_fault sizes Ratio geometry wrong = wrong.1 geometry.ratio
 no_fault sizes Low geometry wrong = wrong.2 geometry.low
 no_fault sizes Quantum geometry wrong = wrong.3 geometry.quantum
-
-not_twice : (b : Bool) → false ≡ not b → b ≡ true
-not_twice true h = refl
-not_twice false h = absurd cc
-
--- what a comparison of bytes says
-pub bytes_same : (a b : List ℕ) → false ≡ not (bytes_eq a b) → a ≡ b
-bytes_same a b h = (bytes_eq-Decides a b).0 (not_twice (bytes_eq a b) h)
-
-pub bytes_differ : (a b : List ℕ) → true ≡ not (bytes_eq a b) → a ≡ b → ⊥
-bytes_differ a b h same = let is = (bytes_eq-Decides a b).1 same in cc

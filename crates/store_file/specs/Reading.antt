@@ -2,18 +2,11 @@
 use Rattle.std.specs.Prelude.{ℕ, List, Result, Ok, Err, ⊤}
 use Rattle.blsm_model.specs.Sizes.{Sizes}
 use Rattle.store_file.specs.declared.reading.StoreBroken.{StoreBroken}
-use Rattle.store_file.specs.declared.reading.StoreBroken.TheVariants.{Fault, NotAStore, DamagedSlots}
-use Rattle.store_file.specs.Layout.{IsStoreOf, IsStore, HasFirstSlots}
+use Rattle.store_file.specs.declared.reading.StoreBroken.TheVariants.{Fault, NotAStore}
+use Rattle.store_file.specs.Layout.{IsStoreOf, IsStore}
 
 -- What an answer says of the superblock and of the length: the file is a store of these sizes, or it is no store. After a fault nobody knows.
 abbrev pub TellsGeometry : List ℕ → Result Sizes StoreBroken → Type 0
 TellsGeometry file (Ok sizes) = IsStoreOf sizes file
 TellsGeometry file (Err NotAStore) = ¬ (IsStore file)
-TellsGeometry file (Err DamagedSlots) = ⊥
 TellsGeometry file (Err Fault) = ⊤
-
--- and of the slots: they are as at making, or the file is a store, and they aren't
-abbrev pub TellsStore : List ℕ → Result Sizes StoreBroken → Type 0
-TellsStore file (Ok sizes) = IsStoreOf sizes file × HasFirstSlots file
-TellsStore file (Err DamagedSlots) = IsStore file × ¬ (HasFirstSlots file)
-TellsStore file answer = TellsGeometry file answer

@@ -44,9 +44,6 @@ pub const FIRST_CATALOGUE: [u8; SLOT_LEN] = [
     0, 0, 0, 0, 0xff, 0xff, 0xff, 0xff, 0, 0, 0, 0, 0, 0, 0, 0, 0, 0, 0, 0, 0, 0, 0, 0, 0, 0, 0, 0,
 ];
 
-/// A slot that no catalogue was written to.
-pub const NO_CATALOGUE: [u8; SLOT_LEN] = [0; SLOT_LEN];
-
 /// What the superblock of a store of this geometry says behind its gate.
 #[tactic(auto, unfolding(crate::specs::Layout::superblock_text))]
 pub fn superblock_text(geometry: &Geometry) -> [u8; TEXT_LEN]

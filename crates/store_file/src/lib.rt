@@ -7,4 +7,4 @@ mod making;
 mod reading;
 
 pub use making::make_store;
-pub use reading::{StoreBroken, one_geometry, read_geometry, read_store};
+pub use reading::{StoreBroken, one_geometry, read_geometry};

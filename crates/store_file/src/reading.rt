@@ -1,5 +1,5 @@
-//! Reading: which store a disk is, and whether its catalogue slots are as at making.
-ghost use Rattle.std.specs.Prelude.{◌≡◌, ◌≢◌, ◌≤◌, ◌+◌, List, ℕ, length, Err, IsTrue, IfSome, IfNone, IfOk};
+//! Reading: which store a disk is.
+ghost use Rattle.std.specs.Prelude.{◌≡◌, ◌≤◌, ◌+◌, List, ℕ, length, Err, IsTrue, IfSome, IfNone, IfOk};
 ghost use Rattle.std.specs.Int.{w32, from_be_bytes};
 ghost use Rattle.disk_trait.specs.Disk.{part, TellsFaultsBy};
 ghost use Rattle.disk_trait.specs.Reads.{OnlyReads};
@@ -8,14 +8,10 @@ ghost use Rattle.blsm_model.specs.Sizes.{Sizes, IsGeometry};
 ghost use Rattle.blsm_model.specs.Geometry.{file_length};
 ghost use Rattle.catalog_swap.specs.Slots.{odd_slot, even_slot, slot_length};
 ghost use Rattle.store_file.specs.Layout.{superblock, superblock_length, IsStoreOf, HasFirstSlots};
-ghost use Rattle.store_file.specs.Reading.{TellsStore, TellsGeometry};
+ghost use Rattle.store_file.specs.Reading.{TellsGeometry};
 
-use crate::layout::{
-    FIRST_CATALOGUE, HALF_AT, LOW_AT, NO_CATALOGUE, QUANTUM_AT, RATIO_AT, SUPERBLOCK_LEN,
-    superblock,
-};
+use crate::layout::{HALF_AT, LOW_AT, QUANTUM_AT, RATIO_AT, SUPERBLOCK_LEN, superblock};
 use blsm_model::Geometry;
-use catalog_swap::{EVEN_SLOT, ODD_SLOT, SLOT_LEN};
 use disk_trait::Disk;
 use gated_write::OPEN;
 use refusal::Failed;
@@ -30,9 +26,6 @@ pub enum StoreBroken {
     /// The superblock isn't one, or the length isn't that of its geometry.
     #[error("the disk is not a store")]
     NotAStore,
-    /// The catalogue slots aren't as at making.
-    #[error("the catalogue slots are damaged")]
-    DamagedSlots,
 }
 
 impl From<Failed> for StoreBroken {
@@ -82,7 +75,6 @@ pub fn read_geometry<D: Disk>(disk: &mut D) -> Result<Geometry, StoreBroken>
     ensures tells { IsTrue (D.state disk.old).is_honest → TellsGeometry (D.state disk.old).bytes result }
     ensures length { IfOk result (λ sizes. IsTrue (D.state disk.old).tells_bytes → length (D.state disk.old).bytes ≡ file_length sizes) }
     ensures fits { IfOk result IsGeometry }
-    ensures no_slots { result ≢ Err StoreBroken.DamagedSlots }
     ensures faults { TellsFaultsBy (Err StoreBroken.Fault) result (D.state disk.old) (D.state disk.new) }
     ensures effect { OnlyReads SUPERBLOCK_LEN 2 (D.state disk.old) (D.state disk.new) }
 {
@@ -100,31 +92,6 @@ pub fn read_geometry<D: Disk>(disk: &mut D) -> Result<Geometry, StoreBroken>
     } else {
         Err(StoreBroken::NotAStore)
     }
-}
-
-/// Reads which geometry the store on a disk has. Its superblock and its length are looked at first, then its catalogue slots,
-/// of which each of the 84 bytes must be as at making.
-///
-/// It takes at most four calls of the disk: its length, and three reads. No answer changes what the disk holds.
-pub fn read_store<D: Disk>(disk: &mut D) -> Result<Geometry, StoreBroken>
-    ensures tells { IsTrue (D.state disk.old).is_honest → TellsStore (D.state disk.old).bytes result }
-    ensures length { IfOk result (λ sizes. IsTrue (D.state disk.old).tells_bytes → length (D.state disk.old).bytes ≡ file_length sizes) }
-    ensures fits { IfOk result IsGeometry }
-    ensures faults { TellsFaultsBy (Err StoreBroken.Fault) result (D.state disk.old) (D.state disk.new) }
-    ensures effect { OnlyReads (EVEN_SLOT + SLOT_LEN) 4 (D.state disk.old) (D.state disk.new) }
-{
-    let geometry = read_geometry(disk)?;
-    let mut odd = [0; SLOT_LEN];
-    disk.read(ODD_SLOT, &mut odd)?;
-    let mut even = [0; SLOT_LEN];
-    disk.read(EVEN_SLOT, &mut even)?;
-    if odd != FIRST_CATALOGUE {
-        return Err(StoreBroken::DamagedSlots);
-    }
-    if even != NO_CATALOGUE {
-        return Err(StoreBroken::DamagedSlots);
-    }
-    Ok(geometry)
 }
 
 /// A file is a store of one geometry at most. It stays it after any change outside its superblock that keeps its length, and its

@@ -49,7 +49,7 @@ fn read_sizes<D: Disk>(disk: &mut D) -> Result<Geometry, Unreadable>
     match read_geometry(disk) {
         Ok(geometry) => Ok(geometry),
         Err(StoreBroken::NotAStore) => Err(Unreadable::NotAStore),
-        Err(_) => Err(Unreadable::Fault),
+        Err(StoreBroken::Fault) => Err(Unreadable::Fault),
     }
 }
 
