@@ -1,5 +1,5 @@
 -- Which bits are set once keys are added, and what they tell of a key.
-use Rattle.std.proofs.Common.{◌≡◌, ◌↔◌, ◌⊎◌, ℕ, ◌+◌, ◌<◌, ◌≤◌, Bool, true, false, List, [], ◌∷◌, ◌++◌, length, take, get_or, replicate, refl, ap, sym, subst, ◌∙◌, inl, inr, arith}
+use Rattle.std.proofs.Common.{◌≡◌, ◌↔◌, ◌⊎◌, ℕ, ◌+◌, ◌<◌, ◌≤◌, Bool, true, false, List, [], ◌∷◌, ◌++◌, length, take, get_or, replicate, ap, sym, subst, ◌∙◌, inl, inr, arith}
 use Rattle.std.specs.List.{Contains}
 use Rattle.std.proofs.lemmas.Bool.{cases_eq, cases_lt, false≢true}
 use Rattle.std.proofs.lemmas.List.{length-replicate, get_or-replicate, get_or_past, get_or-set_same, get_or-set_other, take_more, take_all, length-set}
@@ -32,9 +32,6 @@ bit_more bits p place within = (to, from)
 pub record AreWith (old new : List Bool) (places : List ℕ) : Type 0 where
   pub long : length new ≡ length old
   pub set_are : (place : ℕ) → IsSet new place ↔ (IsSet old place ⊎ Contains places place)
-
-pub with_none : (bits : List Bool) → AreWith bits bits []
-with_none bits = record { long = refl; set_are = λ place. (λ is_set. inl is_set, λ either. elim either [ inl was ↦ was | inr its ↦ absurd (omega (arith, its.1)) ]) }
 
 pub with_more : (old new after : List Bool) (places : List ℕ) (n d : ℕ) → AreWith old new (take n places) → n < length places → get_or places n d < length new
     → after ≡ with_bit new (get_or places n d) → AreWith old after (take (n + 1) places)
@@ -112,6 +109,3 @@ keys_more old new keys key more has = record { just = λ place. (to place, from 
 
 pub covered : (filter : BitState) (keys : List Key) (key : Key) → HasKeys filter keys → MayHave filter key ↔ AreCovered (length filter.bits) keys key
 covered filter keys key has = (λ are_set place its. (has.just place).0 (are_set place its), λ are place its. (has.just place).1 (are place its))
-
-pub added_are : (filter : BitState) (keys : List Key) (key : Key) → HasKeys filter keys → Contains keys key → MayHave filter key
-added_are filter keys key has added = λ place its. (has.just place).1 (key, added, its)

@@ -4,7 +4,7 @@ use Rattle.std.proofs.Common.{sym, subst, ◌∙◌, ap, inl, inr, arith}
 use Rattle.std.proofs.lemmas.List.{take-take}
 use Rattle.disk_trait.specs.Disk.{DiskState, Only, part}
 use Rattle.disk_trait.specs.Effects.{Affects}
-use Rattle.disk_trait.specs.Moments.{IsTimed, LeavesOnly, leaves_only_weaken, leaves_only_now}
+use Rattle.disk_trait.specs.Moments.{IsTimed, leaves_only_now}
 use Rattle.disk_trait.specs.Region.{Region, span, AreApart, IsSameOutside, part_apart}
 use Rattle.gated_write.specs.Gated.{IsClosed}
 use Rattle.blsm_model.specs.Sizes.{Sizes}
@@ -62,12 +62,6 @@ ready_prepared d newest prepared = record { settled = settled_only d newest prep
 -- each image of a settled disk has its newest catalogue
 pub settled_each : {sizes : Sizes} {now : Catalog} (d : DiskState) → IsSettled sizes now d → (c : List ℕ) → d.images c → IsNewest sizes now c
 settled_each d settled c left = newest_same (settled.each c left) settled.newest
-
--- What is written apart from the slots leaves the newest catalogue the newest, in each image of each moment, and the disk settled.
-pub each_apart : (region : Region) (end most : ℕ) (sizes : Sizes) (now : Catalog) (old new : DiskState) → Affects region end most old new
-    → ((version : ℕ) → AreApart region (span (slot_of version) slot_length)) → IsTrue old.is_honest → IsSettled sizes now old → LeavesOnly old new (IsNewest sizes now)
-each_apart region end most sizes now old new run apart honest settled =
-    leaves_only_weaken (λ c was. newest_same (slots_apart apart was.2) (settled_each old settled was.0 was.1)) (run.images honest)
 
 pub settled_apart : (region : Region) (end most : ℕ) (sizes : Sizes) (now : Catalog) (old new : DiskState) → Affects region end most old new
     → ((version : ℕ) → AreApart region (span (slot_of version) slot_length)) → IsTrue old.is_honest → IsTimed new → IsSettled sizes now old → IsSettled sizes now new

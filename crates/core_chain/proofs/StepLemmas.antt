@@ -32,7 +32,6 @@ use Rattle.tree_core.specs.Holds.{StandsWhole}
 use Rattle.tree_core.specs.Steps.{IsPlayed}
 use Rattle.tree_core.proofs.BegunLemmas.{due_agree}
 use Rattle.tree_core.proofs.PlayLemmas.{history_grows, may_agrees, none_is_played, prefix_length}
-use Rattle.core_chain.specs.Start.{steps_of}
 use Rattle.core_chain.specs.Steps.{AllMay, AreTimed, ChainIsSteps, IsOver, RestOnceOver, clock_after, outcomes_in}
 use Rattle.core_chain.specs.Tells.{calls_of}
 use Rattle.core_chain.proofs.LinkLemmas.{goes_of, link_keeps, link_rests}
@@ -246,20 +245,3 @@ chain_is_steps {D} state opening (one ∷ calls) start end m pace timed keeps ar
     (λ over. ap (λ (d : D). (state d).clock) (over_rests state opening step.seat step.kind start mid m pace are.0 honest whole over)) link
     (chain_is_steps state opening calls mid end (stepped_as m step.seat step.kind link.outcome).state (pace_after m pace step.seat step.kind link.outcome) timed (link_keeps state step.seat step.kind start mid are.0 keeps) are.1
     (subst IsTrue (sym goes.is_honest) honest) link.stands)
-
--- so it is played
-pub steps_are_played : {D : Type 0} (state : D → DiskState) (opening : List (Key × Value)) (calls : List (Step × CoreState D)) (start end : CoreState D) (m : Machine) (pace : Pace) → ChainIsSteps state opening calls start end m pace
-    → IsPlayed state opening (steps_of calls) start end m pace
-steps_are_played state opening calls start end m pace is = record {
-  made = outcomes_in is.made;
-  steps_are = first_of is.made ∙ is.steps_are;
-  told = is.told;
-  whole = is.whole;
-  stands = is.stands;
-  grows = is.grows;
-  images = is.images;
-}
-  where
-    first_of : (made : List (Step × Outcome × ℕ)) → map (λ (x : Step × Outcome). x.0) (outcomes_in made) ≡ map (λ (x : Step × Outcome × ℕ). x.0) made
-    first_of [] = refl
-    first_of (one ∷ made) = ap (λ (xs : List Step). one.0 ∷ xs) (first_of made)

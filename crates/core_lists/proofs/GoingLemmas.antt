@@ -16,7 +16,6 @@ use Rattle.blsm_model.specs.declared.history.Why.TheVariants.{Faulted}
 use Rattle.blsm_model.specs.declared.history.Why.{Why}
 use Rattle.blsm_model.specs.Histories.{writes_of}
 use Rattle.blsm_model.specs.Legal.{total_weight, is_del}
-use Rattle.disk_trait.specs.Disk.{DiskState}
 use Rattle.gear_sched.specs.Gears.{GearState}
 use Rattle.gear_sched.specs.declared.Plan.{Plan}
 use Rattle.gear_sched.specs.declared.Plan.TheVariants.{Snow, Deep, Nothing}
@@ -50,12 +49,10 @@ use Rattle.paced_tree.proofs.Turns.{move_of, turn_is, no_worker, a_worker}
 use Rattle.tree_file.specs.Tree.{Tree}
 use Rattle.core_moves.specs.declared.held.Held.{Held}
 use Rattle.core_pace.specs.Turns.{move_in}
-use Rattle.tree_runs.specs.Holding.{StandOver}
-use Rattle.core_lists.specs.Standing.{HoldsMachine, StandsAt}
 use Rattle.core_lists.specs.Shown.{HasFronts}
 use Rattle.core_lists.specs.Lists.{helped}
 use Rattle.core_lists.specs.Steps.{TurnsTree, choice_of, chosen_by}
-use Rattle.core_lists.specs.Going.{GoesOn, StandingIsSteady, FailuresAreTheMachines, AdmissionFits, AdmissionGoesOn, RefusalGoesOn, ClosedTurnGoesOn, PaymentGoesOn, TurnGoesOn, IsQuiet, QuietGoesOn, kind_of_turn, IsOpenTo}
+use Rattle.core_lists.specs.Going.{StandingIsSteady, FailuresAreTheMachines, AdmissionFits, AdmissionGoesOn, RefusalGoesOn, ClosedTurnGoesOn, PaymentGoesOn, TurnGoesOn, IsQuiet, QuietGoesOn, kind_of_turn, IsOpenTo}
 use Rattle.core_lists.proofs.ShownLemmas.{fronts_stay, fronts_turn}
 use Rattle.core_lists.proofs.ImageLemmas.{swapped_tables}
 use Rattle.core_lists.proofs.StepLands.{choices_agree}
@@ -75,18 +72,6 @@ standing_is_steady opening held m pace fronts tree file is runs =
       },
       record { paced = is.paced; within = is.within; lanes = is.lanes },
     )
-
--- No clause can range over all states of a disk, so what stands on one is a lemma.
-pub stands_going_on : (opening : List (Key × Value)) (held : Held) (m : Machine) (pace : Pace) (fronts : Fronts) (tree : Tree) (d : DiskState) → StandOver held.runs tree held.log.a.entries d
-    → HoldsMachine held tree m → GoesOn opening m pace fronts tree → StandsAt opening held m pace fronts tree d
-stands_going_on opening held m pace fronts tree d over holds goes = record {
-  over = over;
-  holds = holds;
-  paced = goes.paced;
-  within = goes.within;
-  lane_a = goes.lanes.lane_a;
-  lane_b = goes.lanes.lane_b;
-}
 
 -- ---- an admission
 

@@ -2,7 +2,6 @@
 use Rattle.std.proofs.Common.{◌≡◌, ◌∙◌, ℕ, ◌+◌, ◌≤◌, Bool, true, false, cond, ◌&&◌, List, [], Option, Some, None, ⊎_elim, refl, ap, sym, subst, arith}
 use Rattle.std.specs.Prelude.{nat_le}
 use Rattle.std.proofs.lemmas.Bool.{false≢true}
-use Rattle.disk_trait.specs.Disk.{DiskState}
 use Rattle.blsm_model.specs.Geometry.{c1_mark}
 use Rattle.blsm_model.specs.Histories.{written}
 use Rattle.blsm_model.specs.Rows.{map_of}
@@ -28,45 +27,19 @@ use Rattle.paced_tree.specs.Numbers.{with_numbers_of}
 use Rattle.paced_tree.proofs.Moves.{pass_test, settled_of}
 use Rattle.tree_file.specs.Tree.{Tree, FitsSizes, HoldsTree, lists_of, components_weight}
 use Rattle.tree_file.specs.Places.{HoldsEither}
-use Rattle.tree_runs.specs.Holding.{StandOver, IsPassSwapped}
+use Rattle.tree_runs.specs.Holding.{IsPassSwapped}
 use Rattle.core_moves.specs.declared.held.Held.{Held}
 use Rattle.core_moves.specs.Held.{IsPassDone, is_run_full}
-use Rattle.core_pace.specs.Pacing.{HasPace}
-use Rattle.core_lists.specs.Standing.{IsPassAt, IsDeepAt, StandsAt}
+use Rattle.core_lists.specs.Standing.{IsPassAt, IsDeepAt}
 use Rattle.core_lists.specs.Lists.{Agrees}
 use Rattle.core_lists.specs.Shown.{HasFronts, ShowsWhole, WeighsWithin, lanes_weight, most_worked}
 use Rattle.core_lists.specs.Admissions.{DeepSettlesTree}
-use Rattle.core_lists.specs.Images.{StandsIn, SettledIn, DeepSwapImages, PassSwapImages, RotationImages, SettledFronts, ReadyFronts}
+use Rattle.core_lists.specs.Images.{SettledIn, DeepSwapImages, PassSwapImages, RotationImages, SettledFronts, ReadyFronts}
 use Rattle.core_lists.proofs.SwapLands.{deep_swap_has_lists, pass_swap_has_lists, rotation_has_lists}
 use Rattle.core_lists.proofs.TestLemmas.{tests_agree_with_lists}
 use Rattle.core_lists.proofs.ShownLemmas.{steps_show, shown_fits, fronts_stay, fronts_turn}
 use Rattle.core_lists.proofs.ShowingLemmas.{whole_of, standing_shows, settled_shows, swapped_shows}
 use Rattle.core_lists.proofs.FileWeights.{paced_components, paced_lanes}
-
--- What stands on a disk stands in the file that it reads as. No clause can range over all states of a disk, so this is a lemma.
-pub standing_is_in : (opening : List (Key × Value)) (held : Held) (m : Machine) (pace : Pace) (fronts : Fronts) (tree : Tree) (d : DiskState) (numbers : Pace) → StandsAt opening held m pace fronts tree d → HasPace held numbers
-    → held.gears.sizes ≡ held.runs.sizes → StandsIn opening held m pace fronts tree d.bytes
-standing_is_in opening held m pace fronts tree d numbers stands has one = record {
-  numbers = numbers;
-  at = record { are_of = stands.over.are_of; holds = stands.holds };
-  paced = stands.paced;
-  has = has;
-  one = one;
-  within = stands.within;
-  lanes = record { lane_a = stands.lane_a; lane_b = stands.lane_b };
-}
-
--- and back, where the disk stands on the tree
-pub standing_on : (opening : List (Key × Value)) (held : Held) (m : Machine) (pace : Pace) (fronts : Fronts) (tree : Tree) (d : DiskState) → StandOver held.runs tree held.log.a.entries d
-    → StandsIn opening held m pace fronts tree d.bytes → StandsAt opening held m pace fronts tree d
-standing_on opening held m pace fronts tree d over is = record {
-  over = over;
-  holds = is.at.holds;
-  paced = is.paced;
-  within = is.within;
-  lane_a = is.lanes.lane_a;
-  lane_b = is.lanes.lane_b;
-}
 
 -- ---- the deep merge
 

@@ -1,7 +1,7 @@
 -- Bytes that are put at an offset, where what lies past the end is left out.
-use Rattle.std.proofs.Common.{◌≡◌, ◌≤◌, ◌<◌, inl, inr, ℕ, ◌+◌, ◌-◌, min, List, [], ◌++◌, length, take, drop, refl, sym, ◌∙◌, ap, arith, append_assoc, length-append}
+use Rattle.std.proofs.Common.{◌≡◌, ◌<◌, inl, inr, ℕ, ◌+◌, ◌-◌, min, List, [], ◌++◌, length, take, drop, sym, ◌∙◌, ap, arith, length-append}
 use Rattle.std.proofs.lemmas.Bool.{cases_lt}
-use Rattle.std.proofs.lemmas.List.{append-nil, take-append-le, length-take-le, take_all, drop_all, take_at}
+use Rattle.std.proofs.lemmas.List.{append-nil, take-append-le, length-take-le, take_all, drop_all}
 use Rattle.std.proofs.Math.Seq.{take-append-add}
 use Rattle.disk_trait.specs.Parts.{length-overwritten}
 use Rattle.disk_trait.specs.Disk.{overwritten}
@@ -30,10 +30,3 @@ changed_inside bytes new at inside lt is =
           ∙ (λ i. take (sym end i) (take at bytes ++ new))
           ∙ sym (take-append-le (length bytes) (take at bytes ++ new) (drop (at + length new) bytes) (omega (arith, front, past, length-append (take at bytes) new)))
     ]
-
--- nothing of it lies inside
-pub changed_past : (bytes new : List ℕ) (at : ℕ) → length bytes ≤ at → bytes ≡ changed bytes at new
-changed_past bytes new at le =
-    let all : take at bytes ≡ bytes = take_all at bytes le in
-    sym (ap (λ (l : List ℕ). take (length bytes) l) (append_assoc (take at bytes) new (drop (at + length new) bytes) ∙ ap (λ (l : List ℕ). l ++ (new ++ drop (at + length new) bytes)) all)
-    ∙ take_at bytes (new ++ drop (at + length new) bytes) (length bytes) refl)

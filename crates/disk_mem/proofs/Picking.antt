@@ -9,7 +9,7 @@ use Rattle.disk_mem.specs.Calls.{event, events, taken, written_len}
 use Rattle.disk_mem.specs.Recorded.{Change, changed_by, is_untouched}
 use Rattle.disk_mem.specs.Images.{IsPiece, front, neither, zeros, IsTornBy, beyond, inside, IsTornAs, others, share, Pending, write, writes_in, Track, start, poked, called, follow, Picks, IsPickedOf}
 use Rattle.disk_mem.specs.declared.call.Call.{Call}
-use Rattle.disk_mem.specs.declared.call.Call.TheVariants.{Wrote, Tore, Synced, Passed}
+use Rattle.disk_mem.specs.declared.call.Call.TheVariants.{Wrote, Tore}
 use Rattle.disk_mem.proofs.Pieces.{torn_by_piece}
 
 -- a piece is no longer than its write
@@ -80,10 +80,6 @@ pub record IsReady (changes : List Change) (call : Call) (calls : List Call) (wr
   pub same_end : follow changes (number + 1) (called (event call written) track) (events calls (drop (taken call) written)) ≡ end
   pub counted : taken call + written_len calls ≡ length written
 
-pub picking_start : (changes : List Change) (calls : List Call) (written first : List ℕ) (pick : ℕ) → written_len calls ≡ length written
-    → IsPicking changes calls written (follow changes 1 (start first) (events calls written)) 1 pick pick 0 first first
-picking_start changes calls written first pick counted = record { track = start first; reads = refl; picks = (refl, refl); place = refl; same_end = refl; counted = counted }
-
 pub picking_end : (changes : List Change) (written : List ℕ) (end : Track) (number pick choice index : ℕ) (bytes image : List ℕ) → IsPicking changes [] written end number pick choice index bytes image → IsPickedOf pick end image
 picking_end changes written end number pick choice index bytes image p = subst (λ (t : Track). IsPickedOf pick t image) p.same_end (choice, p.picks)
 
@@ -122,14 +118,6 @@ first_of (x ∷ xs) first d le is = let rest : take (length (x ∷ xs) - 1) xs �
 pub none_of : (left : List Call) → length left < 1 → left ≡ []
 none_of [] lt = refl
 none_of (x ∷ xs) lt = absurd (omega arith)
-
-pub picking_passed : (changes : List Change) (calls : List Call) (written : List ℕ) (end : Track) (number pick choice index : ℕ) (bytes image : List ℕ)
-    → IsReady changes Passed calls written end number pick choice index bytes image → IsPicking changes calls written end (number + 1) pick choice index bytes image
-picking_passed changes calls written end number pick choice index bytes image r = record { track = r.track; reads = r.reads; picks = r.picks; place = r.place; same_end = r.same_end; counted = omega (arith, r.counted) }
-
-pub picking_synced : (changes : List Change) (calls : List Call) (written : List ℕ) (end : Track) (number pick choice index : ℕ) (bytes image : List ℕ)
-    → IsReady changes Synced calls written end number pick choice index bytes image → IsPicking changes calls written end (number + 1) pick pick 0 bytes bytes
-picking_synced changes calls written end number pick choice index bytes image r = record { track = start r.track.bytes; reads = r.reads; picks = (sym r.reads, refl); place = refl; same_end = r.same_end; counted = omega (arith, r.counted) }
 
 -- the number of a write's digits, and what is left behind it
 pub record IsShare (pick choice index : ℕ) (text : List ℕ) (number left place : ℕ) : Type 0 where

@@ -3,7 +3,7 @@ use Rattle.std.proofs.Common.{◌≡◌, ◌⊎◌, inl, inr, ℕ, ◌+◌, ◌^
 use Rattle.std.proofs.lemmas.Slice.Eq.{bytes_eq-Decides}
 use Rattle.std.proofs.lemmas.Bool.Decides.{nat_tests}
 use Rattle.std.proofs.lemmas.List.{length-take}
-use Rattle.refusal.specs.Count.{next_count, HasRisen}
+use Rattle.refusal.specs.Count.{next_count}
 use Rattle.disk_trait.specs.Disk.{DiskState, Passes, MarksSync, WritesNothing, WritesWithin, KeepsImages, ChangesNothing, LeavesAnyBytes, Only, overwritten}
 use Rattle.disk_trait.specs.Parts.{length-overwritten, within_nothing}
 use Rattle.disk_trait.specs.Shelf.{IsFreshCount}
@@ -216,28 +216,6 @@ module _ (d e : Recorded) (before : IsConsistent d) (after : IsConsistent e) (fa
         (λ has fits bad. absurd (cc (well, bad)))
         (λ has fits good. omega (arith, length-overwritten found at text (omega (arith, found_long, fits)), found_long))
 
--- The count, whatever the call was.
-pub outcome_stands : (k : Kind) (d e : Recorded) (ok : Bool) → Outcome k d e ok → ok ≡ true → e.faults ≡ d.faults
-outcome_stands k d e ok (unrecorded full fits is bad) well = absurd (cc (well, bad))
-outcome_stands k d e ok (unrecorded_past_end full lt is bad) well = absurd (cc (well, bad))
-outcome_stands k d e ok (past_end has lt is bad) well = absurd (cc (well, bad))
-outcome_stands k d e ok (refused has fits cause is bad) well = absurd (cc (well, bad))
-outcome_stands k d e ok (done has fits free limit is good) well = ap (λ (x : Recorded). x.faults) is
-
-pub outcome_failed : (k : Kind) (d e : Recorded) (ok : Bool) → Outcome k d e ok → ok ≡ false → HasRisen d.faults e.faults ⊎ (length d.bytes < k.needs)
-outcome_failed k d e ok (unrecorded full fits is bad) failed = inl (omega (arith, ap (λ (x : Recorded). x.faults) is))
-outcome_failed k d e ok (unrecorded_past_end full lt is bad) failed = inr lt
-outcome_failed k d e ok (past_end has lt is bad) failed = inr lt
-outcome_failed k d e ok (refused has fits cause is bad) failed = inl (omega (arith, ap (λ (x : Recorded). x.faults) is))
-outcome_failed k d e ok (done has fits free limit is good) failed = absurd (cc (good, failed))
-
-pub outcome_past_end : (k : Kind) (d e : Recorded) (ok : Bool) → Outcome k d e ok → length d.bytes < k.needs → (ok ≡ false) × (e.faults ≡ d.faults)
-outcome_past_end k d e ok (unrecorded full fits is bad) lt = absurd (omega (arith, fits, lt))
-outcome_past_end k d e ok (unrecorded_past_end full past is bad) lt = (bad, ap (λ (x : Recorded). x.faults) is)
-outcome_past_end k d e ok (past_end has past is bad) lt = (bad, ap (λ (x : Recorded). x.faults) is)
-outcome_past_end k d e ok (refused has fits cause is bad) lt = absurd (omega (arith, fits, lt))
-outcome_past_end k d e ok (done has fits free limit is good) lt = absurd (omega (arith, fits, lt))
-
 -- A call fails exactly where it has a cause.
 pub outcome_cause : (k : Kind) (d e : Recorded) (ok : Bool) → Outcome k d e ok → ok ≡ false → Fails k d
 outcome_cause k d e ok (unrecorded full fits is bad) failed = inl full
@@ -246,17 +224,6 @@ outcome_cause k d e ok (past_end has lt is bad) failed = inr (inr (inl lt))
 outcome_cause k d e ok (refused has fits (inl listed) is bad) failed = inr (inl listed)
 outcome_cause k d e ok (refused has fits (inr past) is bad) failed = inr (inr (inr past))
 outcome_cause k d e ok (done has fits free limit is good) failed = absurd (cc (good, failed))
-
-pub outcome_fails : (k : Kind) (d e : Recorded) (ok : Bool) → Outcome k d e ok → Fails k d → ok ≡ false
-outcome_fails k d e ok (unrecorded full fits is bad) cause = bad
-outcome_fails k d e ok (unrecorded_past_end full lt is bad) cause = bad
-outcome_fails k d e ok (past_end has lt is bad) cause = bad
-outcome_fails k d e ok (refused has fits why is bad) cause = bad
-outcome_fails k d e ok (done has fits free limit is good) (inl (inl past)) = absurd (omega (arith, past, has.0))
-outcome_fails k d e ok (done has fits free limit is good) (inl (inr full)) = absurd (omega (arith, full, has.1))
-outcome_fails k d e ok (done has fits free limit is good) (inr (inl listed)) = absurd (free listed)
-outcome_fails k d e ok (done has fits free limit is good) (inr (inr (inl lt))) = absurd (omega (arith, lt, fits))
-outcome_fails k d e ok (done has fits free limit is good) (inr (inr (inr past))) = absurd (omega (arith, past, limit))
 
 -- the same disk with its count at 0
 pub fresh_count : (d : Recorded) → IsFreshCount (told d) (told (record d { faults = 0 }))

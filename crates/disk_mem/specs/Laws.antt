@@ -4,8 +4,7 @@ use Rattle.std.proofs.Common.{sym, subst, arith}
 use Rattle.std.proofs.lemmas.Slice.Eq.{bytes_eq-Decides}
 use Rattle.disk_trait.specs.Moments.{IsTimed}
 use Rattle.disk_mem.specs.Events.{fresh, replay, IsImage, left_now, left_only_now, left_earlier, sync_bound, as_read}
-use Rattle.disk_mem.specs.Recorded.{Recorded, new_disk, is_untouched, told}
-use Rattle.disk_mem.specs.Start.{StartsAs}
+use Rattle.disk_mem.specs.Recorded.{Recorded, is_untouched, told}
 
 pub told_timed : (d : Recorded) → IsTimed (told d)
 told_timed d = record {
@@ -23,15 +22,3 @@ pub told_as_read : (d : Recorded) → IsTrue (told d).is_honest → IsImage (rep
 told_as_read d honest =
     let reads = honest_reads (is_untouched d.changes) d.bytes (replay (fresh d.first) d.events).bytes honest in
     subst (IsImage (replay (fresh d.first) d.events)) (sym reads) (as_read (fresh d.first) d.events refl)
-
-pub new_starts : (bytes : List ℕ) (limit kept : ℕ) → StartsAs bytes (told (new_disk bytes limit kept))
-new_starts bytes limit kept = record {
-  bytes_are = refl;
-  image = refl;
-  only = λ c left. left;
-  tells_bytes = refl;
-  tells_images = refl;
-  honest = (bytes_eq-Decides bytes bytes).1 refl;
-  clock = refl;
-  faults = refl;
-}

@@ -119,10 +119,6 @@ replicate_push n = rw add-one (by_suc n)
     by_suc zero = refl
     by_suc (suc k) = ap (λ (l : List Fetch). unnoted ∷ l) (by_suc k)
 
-pub noted_past : (names : List (List ℕ)) (fetched : List (Option (ℕ × Bool))) (past : ℕ) → all_noted names fetched (past + 1) ≡ all_noted names fetched past ++ None ∷ []
-noted_past names [] past = replicate_push past
-noted_past names (x ∷ fetched) past = ap (λ (l : List Fetch). noted names x ∷ l) (noted_past names fetched past)
-
 -- one name more, at the end
 pub under_push : (name : List ℕ) (names : List (List ℕ)) (disks : List (Option Recorded)) (d : Option Recorded) → HasNoPlace name names → length names ≡ length disks → disk_under (names ++ name ∷ []) (disks ++ d ∷ []) name ≡ d
 under_push name [] [] d none same = rw ((bytes_eq-Decides name name).1 refl)

@@ -178,16 +178,6 @@ once_synced_behind {old} {mid} {new} timed order marks run = record {
   before = λ t at. ⊎_elim (λ synced. ⊎_elim (λ before. inl before) (λ ended. absurd ended.0) (marks.none_else t synced)) (λ later. inr (omega (arith, order, later))) (run.before t at);
 }
 
--- The first sync, behind a run that made none: where it ended well, each image after it has P.
-pub once_synced_first : {old mid new : DiskState} {P : List ℕ → Type 0} (ended_well : Type 0) → IsTimed old → IsTimed mid → IsTimed new
-    → old.clock ≤ mid.clock → MarksSync ⊥ old mid → Passes mid new → MarksSync ended_well mid new
-    → (ended_well → (c : List ℕ) → new.images c → P c) → LeavesOnlyOnceSynced old new P
-once_synced_first {old} {mid} {new} {P} ended_well timed timed' timed'' order none passes marks here =
-    once_synced_behind timed order none (once_synced_call ended_well (once_synced_start mid P timed') passes marks timed' timed'' now)
-  where
-    now : (t : ℕ) (c : List ℕ) → mid.clock < t → new.synced_at t → new.images c → P c
-    now t c after at left = ⊎_elim (λ before. absurd (omega (arith, timed'.synced_by_now t before, after))) (λ ended. here ended.0 c left) (marks.none_else t at)
-
 -- a run, with syncs or without, at each moment of which a crash leaves a file that has P
 pub once_synced_more : {start old new : DiskState} {P : List ℕ → Type 0} → IsTimed old → IsTimed new → LeavesOnlyOnceSynced start old P → LeavesOnly old new P → SyncsLater old new
     → LeavesOnlyOnceSynced start new P

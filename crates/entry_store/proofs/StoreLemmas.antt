@@ -1,9 +1,8 @@
 -- A store's heads and chunks.
-use Rattle.std.proofs.Common.{◌≡◌, ℕ, zero, suc, ◌+◌, ◌-◌, ◌*◌, ◌<◌, ◌≤◌, inl, inr, List, [], ◌∷◌, ◌++◌, length, get_or, set, take, drop, sum_by, refl, ap, sym, subst, ◌∙◌, arith}
+use Rattle.std.proofs.Common.{◌≡◌, ℕ, zero, suc, ◌+◌, ◌-◌, ◌*◌, ◌<◌, ◌≤◌, List, [], ◌∷◌, ◌++◌, length, get_or, take, drop, sum_by, refl, ap, sym, subst, ◌∙◌, arith}
 use Rattle.std.specs.List.{AllByRecursion}
-use Rattle.std.proofs.lemmas.List.{length-set, get_or-set_same, get_or-set_other, length-append, length-take, length-drop, map-append, get_or-map, get_or_append_left, drop_all, take_all, append-nil}
-use Rattle.std.proofs.lemmas.Bool.{cases_eq, cases_lt}
-use Rattle.std.proofs.Math.Seq.{take-append_seam, drop-append_seam, get_or-append_seam}
+use Rattle.std.proofs.lemmas.List.{length-append, length-take, length-drop, map-append, get_or-map, drop_all, take_all, append-nil}
+use Rattle.std.proofs.Math.Seq.{take-append_seam, drop-append_seam}
 use Rattle.std.proofs.lemmas.List.Sums.{sum_by-append, sum_by-cons}
 use Rattle.blsm_model.specs.declared.key.Key.{Key}
 use Rattle.record_delta.specs.declared.record.Rec.{Rec}
@@ -215,40 +214,6 @@ module _ (cs : List Chunk) (heads : List Head) (free reserved head_places : ℕ)
 -- linked up to this one
 abbrev pub AreLinkedTo : ℕ → List Chunk → Type 0
 AreLinkedTo n cs = (i : ℕ) → i < length cs → (i < n → next_of cs i ≡ i + 1) × (length (chunk_at cs i).bytes ≡ 16)
-
-pub linked_next : (cs : List Chunk) (n : ℕ) → n < length cs → AreLinkedTo n cs → AreLinkedTo (n + 1) (set cs n (record { bytes = (chunk_at cs n).bytes; next = n + 1 }))
-linked_next cs n within linked = λ i lt.
-    let c : Chunk = record { bytes = (chunk_at cs n).bytes; next = n + 1 } in
-    elim (cases_eq i n) [
-      | inl is ↦
-          let here : chunk_at (set cs n c) i ≡ c = ap (chunk_at (set cs n c)) is ∙ get_or-set_same cs n c _ within in
-          (λ less. ap (λ (x : Chunk). x.next) here ∙ omega (arith, is), ap (λ (x : Chunk). length x.bytes) here ∙ (linked n within).1)
-      | inr differs ↦
-          let same : chunk_at (set cs n c) i ≡ chunk_at cs i = get_or-set_other cs n i c _ differs in
-          let before = linked i (omega (arith, lt, length-set cs n c)) in
-          (λ less. ap (λ (x : Chunk). x.next) same ∙ before.0 (omega (arith, less, differs)), ap (λ (x : Chunk). length x.bytes) same ∙ before.1)
-    ]
-
-pub all_linked : (cs : List Chunk) (n : ℕ) → length cs ≤ n → AreLinkedTo n cs → AreLinked cs
-all_linked cs n all linked = record { rise = λ i lt. (linked i lt).0 (omega (arith, lt, all)); full = λ i lt. (linked i lt).1 }
-
-pub linked_more : (cs : List Chunk) (c : Chunk) → AreLinked cs → c.next ≡ length cs + 1 → length c.bytes ≡ 16 → AreLinked (cs ++ c ∷ [])
-linked_more cs c l next full = record {
-  rise = λ i lt. at_end i (λ x. x.next ≡ i + 1) lt (λ before. ap (λ (x : Chunk). x.next) (get_or_append_left cs (c ∷ []) _ i before) ∙ l.rise i before)
-      (λ is. ap (λ (x : Chunk). x.next) (last i is) ∙ omega (arith, next));
-  full = λ i lt. at_end i (λ x. length x.bytes ≡ 16) lt (λ before. ap (λ (x : Chunk). length x.bytes) (get_or_append_left cs (c ∷ []) _ i before) ∙ l.full i before)
-      (λ is. ap (λ (x : Chunk). length x.bytes) (last i is) ∙ full);
-}
-  where
-    last : (i : ℕ) → i ≡ length cs → chunk_at (cs ++ c ∷ []) i ≡ c
-    last i is = ap (chunk_at (cs ++ c ∷ [])) is ∙ get_or-append_seam cs c [] _
-
-    at_end : (i : ℕ) (P : Chunk → Type 0) → i < length (cs ++ c ∷ []) → (i < length cs → P (chunk_at (cs ++ c ∷ []) i)) → (i ≡ length cs → P (chunk_at (cs ++ c ∷ []) i)) → P (chunk_at (cs ++ c ∷ []) i)
-    at_end i P lt before after =
-        elim (cases_lt i (length cs)) [
-          | inl less ↦ before less
-          | inr le ↦ after (omega (arith, lt, length-append cs (c ∷ [])))
-        ]
 
 pub store_empty : (cs : List Chunk) (reserved head_places : ℕ) → AreLinked cs → reserved < 14 * (head_places + 1) → reserved < 14 * (length cs + 1) → length cs < 4294967296 → IsStore cs [] 0 reserved head_places
 store_empty cs reserved head_places l heads_fit chunks_fit numbered = record {

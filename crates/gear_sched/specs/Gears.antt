@@ -114,7 +114,3 @@ pub record FewDebts (gears : GearState) : Type 0 where
   pub second_seats : length gears.second_debts ≡ callers
   pub first : (seat : ℕ) → first_debt gears seat ≤ first_gear gears.sizes * most_weight
   pub second : (seat : ℕ) → second_debt gears seat ≤ second_gear gears.sizes * most_weight
-
--- the numbers fit their type
-pub record IsGears (gears : GearState) : Type 0 where
-  pub debts : FewDebts gears

@@ -137,12 +137,6 @@ stand_more es key rec writes in_range stood = λ q.
 
 -- ---- a table stays a table
 
-pub set_at : (es : Entries) (key : Key) (rec : Rec) (i : ℕ) (d e : Key × Rec) (folded : Rec) → AreSorted es → IsAt es key i → e ≡ get_or es i e → folded ≡ fold rec (get_or es i d).1
-    → set es i (e.0, folded) ≡ with_record key rec es
-set_at es key rec i d e folded sorted at e_is folded_is =
-    let key_is : e.0 ≡ key = ap (λ (x : Key × Rec). x.0) e_is ∙ at.has_key e in
-    ap (λ (k : Key). set es i (k, folded)) key_is ∙ ap (λ (r : Rec). set es i (key, r)) folded_is ∙ sym (with_record_at es key rec i d sorted at)
-
 pub table_at : (es : Entries) (kept reserved places : ℕ) (key : Key) (rec : Rec) (i : ℕ) (d : Key × Rec) (before after : ℕ)
     → IsTable es kept reserved places → IsAt es key i → 1 ≤ length key → entries_weight (with_record key rec es) ≤ reserved
     → before ≡ weight key (get_or es i d).1 → after ≡ weight key (fold rec (get_or es i d).1)

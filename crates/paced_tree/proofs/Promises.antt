@@ -287,15 +287,3 @@ calls_keep StoodAt StandsAt seat kind IsTold answer opening start was now later 
       reached = (reached.0, reached.1, reached.2 ∙ ap (λ b. cond b (stepped m (record { seat = seat; kind = kind }) made.0).state m) ok);
       tree = step_is_paced opening m right.pace (record { seat = seat; kind = kind }) made.0 right.tree ok fits;
     }
-
--- and one that has opened a store is right
-pub opened_right : (StandsAt : Machine → Pace → Type 0) (sizes : Sizes) (c1 c2 : Entries) (catalogue : Catalogue) (faults : ℕ) (room : Room) → AreComponents sizes c1 c2
-    → StandsAt (opened sizes c1 c2 catalogue faults room) (pace_opened sizes (entries_weight c1) (entries_weight c2))
-    → IsRight StandsAt (map_in (record { b = []; a = []; c1 = c1; c1x = []; c2 = c2 })) (opened sizes c1 c2 catalogue faults room) faults faults
-opened_right StandsAt sizes c1 c2 catalogue faults room are stands_at = record {
-  machine = opened sizes c1 c2 catalogue faults room;
-  pace = pace_opened sizes (entries_weight c1) (entries_weight c2);
-  stands_at = stands_at;
-  reached = ([], omega arith, refl);
-  tree = opened_is_paced sizes c1 c2 catalogue faults room are;
-}

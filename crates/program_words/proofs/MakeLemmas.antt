@@ -1,27 +1,9 @@
 -- The geometry that four numbers make, if any, and what a file and numbers ask for.
-use Rattle.std.proofs.Common.{◌≡◌, ℕ, Bool, true, false, Option, Some, None, cond, nat_le, ◌≤◌, ap, sym, refl, subst, ◌∙◌}
-use Rattle.std.proofs.lemmas.Bool.{leb-true, le-leb}
+use Rattle.std.proofs.Common.{◌≡◌, ℕ, Bool, Option, Some, None, cond, nat_le, ◌≤◌, ap, sym, refl, subst, ◌∙◌}
+use Rattle.std.proofs.lemmas.Bool.{le-leb}
 use Rattle.clap.specs.Words.{Text}
-use Rattle.blsm_model.specs.Sizes.{Sizes, IsGeometry, HalfFits, RatioFits, LowFits, QuantumFits}
-use Rattle.blsm_model.specs.Geometry.{IsFirstFault}
-use Rattle.blsm_model.specs.declared.geometry.GeometryFault.{GeometryFault}
-use Rattle.blsm_model.specs.declared.geometry.GeometryFault.TheVariants.{Half, Ratio, Low, Quantum}
+use Rattle.blsm_model.specs.Sizes.{Sizes, IsGeometry, LowFits}
 use Rattle.program_words.specs.Words.{geometry_by, make_by, run_by, make, run}
-
-pub no_half : (half ratio low quantum : Option ℕ) → half ≡ None → None ≡ geometry_by half ratio low quantum
-no_half None ratio low quantum none = refl
-no_half (Some h) ratio low quantum none = cc
-
-pub no_ratio : (half ratio low quantum : Option ℕ) → ratio ≡ None → None ≡ geometry_by half ratio low quantum
-no_ratio None ratio low quantum none = refl
-no_ratio (Some h) None low quantum none = refl
-no_ratio (Some h) (Some r) low quantum none = cc
-
-pub no_low : (half ratio low quantum : Option ℕ) → low ≡ None → None ≡ geometry_by half ratio low quantum
-no_low None ratio low quantum none = refl
-no_low (Some h) None low quantum none = refl
-no_low (Some h) (Some r) None quantum none = refl
-no_low (Some h) (Some r) (Some l) quantum none = cc
 
 pub no_quantum : (half ratio low quantum : Option ℕ) → quantum ≡ None → None ≡ geometry_by half ratio low quantum
 no_quantum None ratio low quantum none = refl
@@ -51,23 +33,6 @@ pub made : (sizes made_sizes : Sizes) (half ratio low quantum : Option ℕ) → 
 made sizes made_sizes half ratio low quantum found is fits =
     let low_fits : sizes.low ≤ sizes.half = subst LowFits is fits.low in
     ap (λ (s : Sizes). Some s) is ∙ sym (ap (λ (b : Bool). when_low b sizes) (le-leb sizes.low sizes.half low_fits)) ∙ all_found sizes half ratio low quantum found
-
-low_too_high : (sizes : Sizes) → (LowFits sizes → ⊥) → None ≡ when_low (nat_le sizes.low sizes.half) sizes
-low_too_high sizes never = go (nat_le sizes.low sizes.half) (λ test. never (leb-true sizes.low sizes.half test))
-  where
-    go : (b : Bool) → (b ≡ true → ⊥) → None ≡ when_low b sizes
-    go true isnt = absurd (isnt refl)
-    go false isnt = refl
-
-pub no_geometry : (sizes : Sizes) (half ratio low quantum : Option ℕ) (fault : GeometryFault) → AreFound sizes half ratio low quantum
-    → HalfFits sizes → RatioFits sizes → QuantumFits sizes → IsFirstFault sizes fault → None ≡ geometry_by half ratio low quantum
-no_geometry sizes half ratio low quantum fault found of_half of_ratio of_quantum first = low_too_high sizes (never fault first) ∙ all_found sizes half ratio low quantum found
-  where
-    never : (f : GeometryFault) → IsFirstFault sizes f → LowFits sizes → ⊥
-    never Half isnt fits = isnt of_half
-    never Ratio isnt fits = isnt.1 of_ratio
-    never Low isnt fits = isnt.2 fits
-    never Quantum isnt fits = isnt.3 of_quantum
 
 pub no_name : (name : Option Text) (sizes : Option Sizes) → None ≡ name → None ≡ make_by name sizes
 no_name None sizes none = refl

@@ -129,13 +129,6 @@ pub data Asked : Type 0 where
   check : List ℕ → Asked
   trial : ℕ → ℕ → Asked
 
--- the name of the file
-abbrev pub name_in : Asked → List ℕ
-name_in (make name sizes) = name
-name_in (run name workers turns) = name
-name_in (check name) = name
-name_in (trial seed count) = []
-
 -- what is asked for is a store of a geometry, a run with few workers and few turns, or a trial of a seed of 64 bits and of a
 -- step to as many as a script has lines
 abbrev pub IsInRange : Asked → Type 0

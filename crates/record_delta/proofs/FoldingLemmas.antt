@@ -1,8 +1,5 @@
 -- What a record stands for after one more write.
-use Rattle.std.proofs.Common.{◌≡◌, ℕ, ◌+◌, ◌%◌, ◌^◌, ◌<◌, ◌≤◌, ◌++◌, List, [], ◌∷◌, Bool, cond, true, false, Some, None, Option, refl, ap, sym, ◌∙◌, ◌⊎◌, inl, inr, length, map, append-nil, zero-add, add_assoc, arith}
-use Rattle.std.proofs.lemmas.List.{map-append}
-use Rattle.std.proofs.lemmas.List.Sums.{fold-append}
-use Rattle.std.proofs.lemmas.List.Elements.{filter-append}
+use Rattle.std.proofs.Common.{◌≡◌, ℕ, ◌+◌, ◌%◌, ◌^◌, ◌<◌, ◌≤◌, ◌++◌, List, [], ◌∷◌, Bool, cond, true, false, Some, None, Option, refl, ap, sym, ◌∙◌, ◌⊎◌, inl, inr, length, zero-add, add_assoc, arith}
 use Rattle.std.specs.Cmp.Lexicographic.{bytes_decides}
 use Rattle.blsm_model.specs.declared.key.Key.{Key}
 use Rattle.blsm_model.specs.declared.row.Value.{Value}
@@ -11,12 +8,12 @@ use Rattle.blsm_model.specs.declared.op.Write.TheVariants.{Put, Add, Del}
 use Rattle.blsm_model.specs.Format.{most_weight, overhead}
 use Rattle.blsm_model.specs.Keys.{same_key}
 use Rattle.std.proofs.Math.Nat.{mod-eq_of_lt, mod-add-mod, add-mod-mod}
-use Rattle.blsm_model.specs.Values.{key_of, base_of, writes_of_key, value_at}
+use Rattle.blsm_model.specs.Values.{key_of, base_of, value_at}
 use Rattle.blsm_model.proofs.ValueLemmas.{value_at-put, value_at-add, value_at-del, value_at-other}
 use Rattle.record_delta.specs.declared.record.Rec.{Rec}
 use Rattle.record_delta.specs.declared.record.Rec.TheVariants.{Base, Delta, Tomb}
-use Rattle.record_delta.specs.Records.{writes_of_record, count_of, record_of, weight, bare, settled, IsWithin}
-use Rattle.record_delta.specs.Folding.{fold, sum_of, over, folded, record_at, StandsFor, kept_after, StandsForMore}
+use Rattle.record_delta.specs.Records.{writes_of_record, count_of, weight, bare, settled, IsWithin}
+use Rattle.record_delta.specs.Folding.{fold, sum_of, over, StandsFor, kept_after, StandsForMore}
 
 by_test : (b : Bool) → (b ≡ true) ⊎ (b ≡ false)
 by_test true = inl refl
@@ -86,22 +83,6 @@ stands_rec at (Delta count) fits = stands_add at count fits
 stands_rec at Tomb fits = stands_del at
 
 pub ruleset stands_more = (stands_put, stands_add, stands_del)
-
--- one write more, of this key or of another
-pub record_at-push : (writes : List Write) (write : Write) (key : Key) → record_at (writes ++ write ∷ []) key ≡ kept_after write (record_of write) key (record_at writes key)
-record_at-push writes write key =
-    ap (λ own. folded (map record_of own)) (filter-append (λ w. same_key (key_of w) key) writes (write ∷ []))
-    ∙ elim (by_test (same_key (key_of write) key)) [
-      | inl same ↦
-          ap (λ b. folded (map record_of (writes_of_key writes key ++ cond b (write ∷ []) []))) same
-          ∙ ap folded (map-append record_of (writes_of_key writes key) (write ∷ []))
-          ∙ fold-append (λ kept newer. Some (over newer kept)) None (map record_of (writes_of_key writes key)) (record_of write ∷ [])
-          ∙ ap (λ b. cond b (Some (over (record_of write) (record_at writes key))) (record_at writes key)) (sym same)
-      | inr apart ↦
-          ap (λ b. folded (map record_of (writes_of_key writes key ++ cond b (write ∷ []) []))) apart
-          ∙ ap (λ own. folded (map record_of own)) (append-nil (writes_of_key writes key))
-          ∙ ap (λ b. cond b (Some (over (record_of write) (record_at writes key))) (record_at writes key)) (sym apart)
-    ]
 
 -- with a record folded over what was kept at its key
 pub stands_over : (write : Write) (rec : Rec) (key : Key) (kept : Option Rec) → StandsForMore write rec → same_key (key_of write) key ≡ true

@@ -31,9 +31,6 @@ open_is_one : (writer : WriterState) (run : Run) → Holds writer run → 0 < wr
 open_is_one writer run held some =
     subst (Contains (numbers_of (pages_of run))) (sym held.number) (open_in run.closed run.number run.entries (has_open writer run held some))
 
-pub open_within : (sizes : Sizes) (writer : WriterState) (run : Run) → Holds writer run → IsWithin (open_region sizes writer) (pages_region sizes (numbers_of (pages_of run)))
-open_within sizes writer run held i inside = (writer.number, open_is_one writer run held inside.0, inside.1)
-
 pub open_tagged : (sizes : Sizes) (honest : Bool) (file : List ℕ) (space : SpaceState) (writer : WriterState) (filter : BitState) (fences : FencesState) (entries : List (Key × Rec)) → HasPushed sizes honest file space writer filter fences entries
     → IsWithin (open_region sizes writer) (role_region sizes space writer.role)
 open_tagged sizes honest file space writer filter fences entries has i inside = (writer.number, has.tagged writer.number (open_is_one writer has.run has.held inside.0), inside.1)

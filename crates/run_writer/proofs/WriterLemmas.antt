@@ -19,7 +19,7 @@ use Rattle.page_file.specs.Component.{RunPage, entries_of, AreChained, ReadsAs}
 use Rattle.page_file.proofs.ComponentLemmas.{chain_join, entries_join, rise_back}
 use Rattle.run_writer.specs.Buffer.{BufferState, with_entry, sealed}
 use Rattle.run_writer.specs.Run.{Run, page_of, pages_of, IsRun}
-use Rattle.run_writer.specs.Writer.{WriterState, has_place, open_region, IsInside, IsCounted, Holds, Stands, turned}
+use Rattle.run_writer.specs.Writer.{WriterState, has_place, open_region, IsInside, IsCounted, Holds, Stands}
 use Rattle.run_writer.proofs.BufferLemmas.{sealed-bytes}
 use Rattle.run_writer.proofs.RunLemmas.{of_page}
 use Rattle.run_writer.proofs.RegionLemmas.{still_stands}
@@ -34,9 +34,6 @@ pub place_parts : (writer : WriterState) (n : ℕ) → IsTrue (has_place writer 
 place_parts writer n place =
     let parts = both (nat_lt 0 writer.component.pages) (nat_le (length writer.buffer.text + n) most_used) place in
     (ltb-true 0 writer.component.pages parts.0, leb-true (length writer.buffer.text + n) most_used parts.1)
-
-pub place_on : (page : ℕ) (writer : WriterState) (n : ℕ) → n ≤ most_used → IsTrue (has_place (turned page writer) n)
-place_on page writer n light = λ i. lt-ltb 0 (writer.component.pages + 1) (omega arith) i && le-leb (0 + n) most_used (omega (arith, light)) i
 
 -- where there is an open page, and no place in it, it is nearly full
 pub no_place : (writer : WriterState) (n : ℕ) → has_place writer n ≡ false → 0 < writer.component.pages → most_used < length writer.buffer.text + n

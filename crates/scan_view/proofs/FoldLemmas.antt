@@ -14,7 +14,7 @@ use Rattle.record_delta.specs.Folding.{fold}
 use Rattle.record_delta.specs.Entries.{Entries, AreSorted, folded_over, over_any, is_above, above, first_of}
 use Rattle.merge_step.specs.Group.{least_of, group_of}
 use Rattle.merge_step.proofs.MergedLemmas.{left, right, less, test, is_true, turned, same, find_folded, sorted_folded}
-use Rattle.scan_view.specs.Left.{entry_of, IsAheadOf, IsFromOne}
+use Rattle.scan_view.specs.Left.{entry_of, IsFromOne}
 
 -- ---- what stands first
 
@@ -139,14 +139,3 @@ from_one (Some e) (Some f) = by_order (key_cmp e.0 f.0)
     by_order Less = inl refl
     by_order Equal = inl refl
     by_order Greater = inr refl
-
-pub stays_ahead : (at : Option Key) (newer older : Option (Key × Rec)) → IsAheadOf at newer → IsAheadOf at older → IsAheadOf at (entry_of (group_of newer older))
-stays_ahead at None None ahead_newer ahead_older = tt
-stays_ahead at None (Some f) ahead_newer ahead_older = ahead_older
-stays_ahead at (Some e) None ahead_newer ahead_older = ahead_newer
-stays_ahead at (Some e) (Some f) ahead_newer ahead_older = by_order (key_cmp e.0 f.0)
-  where
-    by_order : (r : Ordering) → IsAheadOf at (entry_of (Some (least_of r e f)))
-    by_order Less = ahead_newer
-    by_order Equal = ahead_newer
-    by_order Greater = ahead_older

@@ -45,11 +45,6 @@ both : (a b : Bool) → T a → T b → T (a && b)
 both true b first second = second
 both false b first second = absurd first
 
-below_further : (low key : Key) (es : Entries) → key_cmp low key ≡ Less → T (below_all key_cmp key es) → T (below_all key_cmp low es)
-below_further low key [] is below = tt
-below_further low key (e ∷ es) is below =
-    both _ _ (subst (λ (r : Ordering). T (is_lt r)) (sym (nat_list_cmp_total.trans low key e.0 is (less _ (left _ _ below)))) tt) (below_further low key es is (right _ _ below))
-
 below_pairs : (es : Entries) → T (is_sorted key_cmp es) → (key : Key) → T (below_all key_cmp key es) → T (below_all key_cmp key (settled_pairs es))
 below_pairs [] sorted key below = tt
 below_pairs (e ∷ es) sorted key below =

@@ -8,7 +8,7 @@ use Rattle.std.proofs.lemmas.List.Sums.{position_or_len_is}
 use Rattle.std.proofs.lemmas.Bool.Decides.{eqb_tells}
 use Rattle.std.proofs.Math.Seq.{take-append_seam, take-length}
 use Rattle.blsm_model.specs.declared.history.Line.{Line}
-use Rattle.script_text.specs.Grammar.{AsksTooMuch, IsAllowed, IsBadLine, IsLine, IsScript, all_rows_asked, first_line, line_text, lines_text}
+use Rattle.script_text.specs.Grammar.{AsksTooMuch, IsAllowed, IsBadLine, IsLine, all_rows_asked, first_line, line_text, lines_text}
 use Rattle.script_text.specs.Reading.{IsJoined, Lacks}
 
 -- the lines are what was read, and the rest is still to be read; a last line without an end leaves nothing
@@ -34,11 +34,6 @@ so_far_more text lines rest front (Some more) line is joined spelled =
     ∙ sym (append_assoc (lines_text lines) (line_text line ++ 10 ∷ []) more) ∙ ap (λ (l : List ℕ). l ++ more) (sym (lines_text-push lines line)))
 so_far_more text lines rest front None line is joined spelled =
     unended refl (ap (λ (l : List ℕ). l ++ 10 ∷ []) (is ∙ ap (λ (l : List ℕ). lines_text lines ++ l) (joined ∙ spelled)) ∙ append_assoc (lines_text lines) (line_text line) (10 ∷ []) ∙ sym (lines_text-push lines line))
-
--- where nothing is left, the text is a script
-pub so_far_all : (text : List ℕ) (lines : List Line) (rest : List ℕ) → SoFar text lines rest → rest ≡ [] → All IsAllowed lines → length lines ≤ 65536 → all_rows_asked lines ≤ 131072 → IsScript text lines
-so_far_all text lines rest (ended is) nothing allowed few asked = record { allowed = allowed; few = few; asked = asked; spelled = inl (is ∙ ap (λ (l : List ℕ). lines_text lines ++ l) nothing ∙ append-nil (lines_text lines)) }
-so_far_all text lines rest (unended _ is) nothing allowed few asked = record { allowed = allowed; few = few; asked = asked; spelled = inr is }
 
 eqb_is_false : (a b : ℕ) → a ≢ b → eqb a b ≡ false
 eqb_is_false a b other = elim (eqb_tells a b) [ inl both ↦ absurd (other both.1) | inr both ↦ both.0 ]

@@ -60,10 +60,6 @@ takes_group writer new_writer old cursor at a key rec taken same group some few 
   some = inl some;
 }
 
--- what is left is less by what was taken
-pub left_less : (old new : SnowState) (a : Entries) (taken : ℕ) → Takes old new a taken → taken + left_weight new a ≡ left_weight old a
-left_less old new a taken takes = omega (arith, takes.taken_is, takes.table, takes.c1)
-
 -- ---- several groups
 
 pub takes_run : (old mid new : SnowState) (a : Entries) (m n : ℕ) → Takes old mid a m → Takes mid new a n → Takes old new a (m + n)

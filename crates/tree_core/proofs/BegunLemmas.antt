@@ -22,7 +22,7 @@ use Rattle.core_moves.specs.Moves.{SettlesDeep, SettlesPass, SwapsDeepIn, SwapsP
 use Rattle.core_lists.specs.Lists.{Agrees}
 use Rattle.core_lists.proofs.TestLemmas.{tests_agree_with_lists}
 use Rattle.tree_core.specs.declared.answers.Admission.TheVariants as admission
-use Rattle.tree_core.specs.Causes.{HasBegun, calls_to_admit, is_deep_due, is_pass_due, one_where, swaps_due_in}
+use Rattle.tree_core.specs.Causes.{HasBegun, is_deep_due, is_pass_due, one_where, swaps_due_in}
 use Rattle.tree_core.specs.declared.admission.Taking.TheVariants as taking
 use Rattle.tree_core.specs.Core.{IsCore}
 use Rattle.tree_core.specs.Standing.{StandsFor}
@@ -111,13 +111,6 @@ begun_by false seat key rec old new b after lost = lost_before old new lost
 at_most_one : (b : Bool) → one_where b ≤ 1
 at_most_one true = omega arith
 at_most_one false = omega arith
-
--- two at most, with the append's calls
-pub few_to_admit : (held : Held) → calls_to_admit held ≤ 22
-few_to_admit held =
-    let deep = at_most_one (is_deep_due held) in
-    let pass = at_most_one (is_pass_due held) in
-    omega (arith, deep, pass)
 
 -- ---- by the machine
 

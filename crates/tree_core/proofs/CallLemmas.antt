@@ -8,10 +8,6 @@ use Rattle.tree_core.specs.Calls.{AreCalls, CameSince, IsCall}
 use Rattle.tree_core.specs.Core.{CoreState}
 use Rattle.tree_core.specs.Steps.{StandsSince}
 
--- at the start
-pub came_none : {D : Type 0} (state : D → DiskState) (start : CoreState D) → StandsSince state start start → CameSince state start start
-came_none state start begins = record { calls = []; are = refl; since = begins }
-
 one_more : {D : Type 0} (state : D → DiskState) (calls : List (Step × CoreState D)) (seat : ℕ) (k : Kind) (start old new : CoreState D) → AreCalls state calls start old → IsCall state seat k old new
     → AreCalls state (calls ++ (record { seat = seat; kind = k }, new) ∷ []) start new
 one_more state [] seat k start old new are call = (subst (λ (core : CoreState _). IsCall state seat k core new) are call, refl)

@@ -6,7 +6,6 @@ use Rattle.pacing.specs.Pace.{Pace, charge}
 use Rattle.core_moves.specs.declared.held.Held.{Held}
 use Rattle.core_moves.specs.Held.{IsOne, charge_in}
 use Rattle.core_pace.specs.Pacing.{HasPace, IsRunBook, IsPacedHeld}
-use Rattle.core_pace.specs.Events.{IsBetween}
 use Rattle.tree_core.specs.Core.{IsTold}
 
 charge_of : (held : Held) (pace : Pace) → HasPace held pace → charge pace ≡ charge_in held
@@ -23,6 +22,3 @@ told_of held pace p one told = record {
 
 pub told_of_paced : (held : Held) (pace : Pace) → IsPacedHeld held pace → IsTold held pace
 told_of_paced held pace k = told_of held pace k.numbers k.one k.told
-
-pub told_of_between : (held : Held) (pace : Pace) → IsBetween held pace → IsTold held pace
-told_of_between held pace k = told_of held pace k.numbers k.one k.told

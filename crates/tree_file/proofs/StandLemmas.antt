@@ -85,16 +85,6 @@ stands_read {end} {most} {old} {new} sizes tree run honest stands = (
   leaves_only_weaken stands.each (only_reads_each run honest),
 )
 
-pub either_read : {end most : ℕ} {old new : DiskState} (sizes : Sizes) (one other : Tree) → OnlyReads end most old new → IsTrue old.is_honest → StandsOnEither sizes one other old
-    → StandsOnEither sizes one other new × LeavesOnly old new (HoldsEither sizes one other)
-either_read {end} {most} {old} {new} sizes one other run honest stands = (
-  record {
-    reads = subst (HoldsEither sizes one other) (sym (only_reads_same run honest)) stands.reads;
-    each = λ c left. stands.each c (run.same.same.images honest c left);
-  },
-  leaves_only_weaken stands.each (only_reads_each run honest),
-)
-
 -- ---- an append
 
 -- a lane that has its entries, or one more, in a file of which only its own bytes changed

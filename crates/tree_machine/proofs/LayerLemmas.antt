@@ -21,10 +21,6 @@ five b a c1 c1x c2 = over_any b (over_any a (over_any c1 (over_any c1x c2)))
 five_pass : (b a c1 c1x c2 : Option Rec) → five None b (over_any a c1) c1x c2 ≡ five b a c1 c1x c2
 five_pass b a c1 c1x c2 = ap (over_any b) (over_any_assoc a c1 (over_any c1x c2))
 
--- a rotation: C1 stands where nothing stood
-five_rotated : (b a c1 c2 : Option Rec) → five b a None c1 c2 ≡ five b a c1 None c2
-five_rotated b a c1 c2 = refl
-
 -- a deep merge: C1' and C2 give place to the bases of their values
 five_deep : (b a c1 c1x c2 : Option Rec) → settled (five b a c1 None (as_base (over_any c1x c2))) ≡ settled (five b a c1 c1x c2)
 five_deep b a c1 c1x c2 =

@@ -4,7 +4,6 @@ use Rattle.std.proofs.Common.{◌∙◌, inl, inr, sym, subst, ap, arith}
 use Rattle.std.proofs.lemmas.Bool.{cases_eq}
 use Rattle.std.proofs.lemmas.List.{get_or-set_same, get_or-set_other, length-set}
 use Rattle.blsm_model.specs.Sizes.{Sizes}
-use Rattle.bloom_bits.specs.Filter.{rounded}
 use Rattle.page_space.specs.Space.{role_count}
 use Rattle.page_file.specs.Component.{RunPage}
 use Rattle.merge_ends.specs.Output.{most_pages}
@@ -13,9 +12,6 @@ use Rattle.tree_runs.specs.Runs.{GuideState, AreGuides, IsReserved, Tags, no_gui
 use Rattle.tree_runs.specs.Holding.{AreGuided, IsGuidedBy, KeepsOtherGuides}
 
 -- ---- room
-
-pub rounded_within : (bits most : ℕ) → bits ≤ most → rounded bits ≤ rounded most
-rounded_within bits most below = omega (arith, below)
 
 pub pages_within : (weight most : ℕ) → weight ≤ most → most_pages weight ≤ most_pages most
 pages_within weight most below = omega (arith, below)

@@ -65,10 +65,6 @@ module _ {D : Type 0} (state : D → DiskState) where
       → ((entries rows : ℕ) → KnowsOf (IsFree (entries + 1) (rows + rows_of line.op)) c → KnowsOf (IsFree entries rows) d) → DoesLine state line c d
   own_line line answer c d own answers free = record { other = λ not. absurd (not own); its = λ _. (answers.0, answers.2); free = λ _. free }
 
--- a free caller is in a work of no turns
-pub works_none : {D : Type 0} (entries rows : ℕ) (c : Caller (CoreState D)) → KnowsOf (IsFree entries rows) c → KnowsOf (IsWorking 0 entries rows) c
-works_none entries rows c k = record { value = k.value; more = k.more; own = k.own; part = k.part }
-
 -- all its turns were made
 pub works_all : {D : Type 0} (n entries rows : ℕ) (c : Caller (CoreState D)) → KnowsOf (IsWorking n entries rows) c → KnowsOf (Rattle.tree_shared.specs.Seats.IsFinished n entries rows) c
 works_all n entries rows c k = record { value = k.value; more = k.more; own = k.own; part = (k.part.0, inl k.part.1, k.part.2) }
