@@ -1,5 +1,6 @@
 //! The program's call, run over a source, a sink and a shelf of disks in memory.
 
+mod asserts;
 mod drawn;
 mod holds;
 mod order;
@@ -9,6 +10,7 @@ mod threads;
 mod turns;
 
 use crate::call;
+use asserts::assert_same;
 use disk_mem::{MemDisk, MemShelf};
 use std::alloc::Global;
 use std::process::{Abort, ExitCode};
@@ -111,8 +113,8 @@ fn check<R: Abort + Threads + Wait + Sync>(
     wanted: (u8, &str),
 ) {
     let (code, text) = outcome(rt, alloc, shelf, words, script);
-    assert_eq!(rt; text.as_str(), wanted.1);
-    assert_eq!(rt; code, ExitCode::from(wanted.0));
+    assert_same(rt, text.as_str(), wanted.1);
+    assert_same(rt, code, ExitCode::from(wanted.0));
 }
 
 // Makes the call, which ends well, and answers its text.
@@ -124,7 +126,7 @@ fn run_text<R: Abort + Threads + Wait + Sync>(
     script: &[u8],
 ) -> String {
     let (code, text) = outcome(rt, alloc, shelf, words, script);
-    assert_eq!(rt; code, ExitCode::from(0));
+    assert_same(rt, code, ExitCode::from(0));
     text
 }
 

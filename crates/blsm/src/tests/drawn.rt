@@ -1,6 +1,7 @@
 // Scripts of sixteen callers, drawn at random and done in the order of their lines, beside a plain map and plain copies of it.
 ghost use Rattle.std.specs.Prelude.{◌<◌};
 
+use super::asserts::assert_that;
 use super::turns::run_in_turn;
 use super::{add, shelf_with_default};
 use std::alloc::Global;
@@ -272,18 +273,18 @@ fn draw_script(rt: &impl Abort, alloc: Global, seed: u64) -> (String, String) {
 // Each line of the history begins as is wanted.
 fn check_lines(rt: &impl Abort, text: &str, wanted: &str) {
     let mut lines = text.lines();
-    assert!(rt; lines.next() == Some("open charge 0"));
+    assert_that(rt, lines.next() == Some("open charge 0"));
     for _ in 0..CALLERS {
         let Some(line) = lines.next() else { rt.abort() };
-        assert!(rt; line.ends_with(" get none => none q0"));
+        assert_that(rt, line.ends_with(" get none => none q0"));
     }
     for want in wanted.lines() {
         let Some(line) = lines.next() else { rt.abort() };
-        assert!(rt; line.starts_with(want));
+        assert_that(rt, line.starts_with(want));
     }
     let Some(end) = lines.next() else { rt.abort() };
-    assert!(rt; end.starts_with("end c0 "));
-    assert!(rt; lines.next().is_none());
+    assert_that(rt, end.starts_with("end c0 "));
+    assert_that(rt, lines.next().is_none());
 }
 
 #[test]

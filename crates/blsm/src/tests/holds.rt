@@ -1,4 +1,5 @@
 // Holds of ranges, which give the rows of their moment.
+use super::asserts::assert_same;
 use super::turns::run_in_turn;
 use super::{add, letters, shelf_with_smallest};
 use std::alloc::Global;
@@ -76,11 +77,11 @@ fn sixteen_holds_while_c2_is_written_twice(rt: HostRuntime) {
     let mut shelf = shelf_with_smallest(&rt, alloc);
     let text = run_in_turn(&rt, alloc, &mut shelf, &script, 16);
     let rows = first_rows(&rt, alloc, &letters);
-    assert_eq!(&rt; count_ends(&text, &rows), 16);
-    assert_eq!(&rt; count_ends(&text, "next 32 => rows 0 q0"), 16);
-    assert_eq!(&rt; count_ends(&text, "drop => ok q0"), 16);
+    assert_same(&rt, count_ends(&text, &rows), 16);
+    assert_same(&rt, count_ends(&text, "next 32 => rows 0 q0"), 16);
+    assert_same(&rt, count_ends(&text, "drop => ok q0"), 16);
     match format!(in alloc; "get k10 => is 3 {letters} q0") {
-        Ok(now) => assert_eq!(&rt; count_ends(&text, &now), 16),
+        Ok(now) => assert_same(&rt, count_ends(&text, &now), 16),
         Err(_) => rt.abort(),
     }
 }

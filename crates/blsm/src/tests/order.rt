@@ -1,4 +1,5 @@
 // Which of two causes is told: the words come first, then the source, the script, and the disk; a sink that fails replaces any.
+use super::asserts::{assert_same, assert_that};
 use super::{NAME, letters, owned, shelf_with_smallest};
 use crate::call;
 use std::alloc::Global;
@@ -28,8 +29,8 @@ fn check_over<R: Abort + Threads + Wait + Sync>(
         rt.abort()
     };
     let code = call(rt, alloc, &words, &mut source, &mut sink, &mut shelf);
-    assert!(rt; sink.bytes() == wanted.1);
-    assert_eq!(rt; code, ExitCode::from(wanted.0));
+    assert_that(rt, sink.bytes() == wanted.1);
+    assert_same(rt, code, ExitCode::from(wanted.0));
 }
 
 #[test]
@@ -80,17 +81,17 @@ fn told_over<R: Abort + Threads + Wait + Sync>(
 // The first call of the sink fails.
 fn check_sink<R: Abort + Threads + Wait + Sync>(rt: &R, alloc: Global, words: &[&str]) {
     let (sink, code) = told_over(rt, alloc, words, &[1]);
-    assert!(rt; sink.bytes().is_empty());
-    assert_eq!(rt; sink.faults(), 1);
-    assert_eq!(rt; code, ExitCode::from(9));
+    assert_that(rt, sink.bytes().is_empty());
+    assert_same(rt, sink.faults(), 1);
+    assert_same(rt, code, ExitCode::from(9));
 }
 
 // The second call would fail, and there is none.
 fn check_line<R: Abort + Threads + Wait + Sync>(rt: &R, alloc: Global, words: &[&str], wanted: u8) {
     let (sink, code) = told_over(rt, alloc, words, &[2]);
-    assert!(rt; sink.bytes().ends_with(b"\n"));
-    assert_eq!(rt; sink.faults(), 0);
-    assert_eq!(rt; code, ExitCode::from(wanted));
+    assert_that(rt, sink.bytes().ends_with(b"\n"));
+    assert_same(rt, sink.faults(), 0);
+    assert_same(rt, code, ExitCode::from(wanted));
 }
 
 #[test]

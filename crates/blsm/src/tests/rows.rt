@@ -1,4 +1,5 @@
 // Scripts with their printed texts, over a store that was just made, and what a check tells of it then.
+use super::asserts::{assert_same, assert_that};
 use super::turns::{check_behind, run_in_turn};
 use super::{CHECK, RUN, add, check, letters, shelf_with_default, shelf_with_smallest};
 use std::alloc::Global;
@@ -96,13 +97,13 @@ fn check_lines(rt: &impl Abort, text: &str, rest: &[&str]) {
     let mut place: usize = 0;
     for line in text.lines().skip(1) {
         if place < 238 {
-            assert!(rt; is_paid(line));
+            assert_that(rt, is_paid(line));
         } else if place - 238 < rest.len() {
-            assert_eq!(rt; line, rest[place - 238]);
+            assert_same(rt, line, rest[place - 238]);
         }
         place = place.saturating_add(1);
     }
-    assert_eq!(rt; place, 239 + rest.len());
+    assert_same(rt, place, 239 + rest.len());
 }
 
 #[test]

@@ -1,4 +1,5 @@
 // A script that is too big, and streams that fail: the line and the exit code.
+use super::asserts::{assert_same, assert_that};
 use super::{RUN, check, letters, owned, shelf_with_smallest};
 use crate::call;
 use std::process::{Abort, ExitCode};
@@ -28,8 +29,8 @@ fn a_source_that_fails(rt: HostRuntime) {
         rt.abort()
     };
     let code = call(&rt, alloc, &words, &mut source, &mut sink, &mut shelf);
-    assert!(&rt; sink.bytes() == b"source fault\n".as_slice());
-    assert_eq!(&rt; code, ExitCode::from(8));
+    assert_that(&rt, sink.bytes() == b"source fault\n".as_slice());
+    assert_same(&rt, code, ExitCode::from(8));
 }
 
 #[test]
@@ -44,6 +45,9 @@ fn a_sink_that_fails(rt: HostRuntime) {
         rt.abort()
     };
     let code = call(&rt, alloc, &words, &mut source, &mut sink, &mut shelf);
-    assert!(&rt; b"open charge 0\n1 1 get a => none q0\n".starts_with(sink.bytes()));
-    assert_eq!(&rt; code, ExitCode::from(9));
+    assert_that(
+        &rt,
+        b"open charge 0\n1 1 get a => none q0\n".starts_with(sink.bytes()),
+    );
+    assert_same(&rt, code, ExitCode::from(9));
 }

@@ -1,4 +1,5 @@
 // Callers and workers on threads, whose lines come in any order that the rules allow.
+use super::asserts::{assert_same, assert_that};
 use super::turns::run_gated;
 use super::{NAME, add, heavy_text, shelf_with_default, shelf_with_store};
 use blsm_model::{Gate, NoGate, Point};
@@ -13,10 +14,13 @@ fn two_callers_of_one_key(rt: HostRuntime) {
     let mut shelf = shelf_with_default(&rt, alloc);
     let script = "1 put a 1 -\n2 put a 2 -\n2 get a\n";
     let text = run_gated(&rt, alloc, &mut shelf, "2", script, &NoGate);
-    assert!(&rt; text.contains(" 1 put a 1 - => ok q"));
-    assert!(&rt; text.contains(" 2 put a 2 - => ok q"));
-    assert!(&rt; text.contains(" 2 get a => is 1 - q0") || text.contains(" 2 get a => is 2 - q0"));
-    assert_eq!(&rt; text.lines().count(), 5);
+    assert_that(&rt, text.contains(" 1 put a 1 - => ok q"));
+    assert_that(&rt, text.contains(" 2 put a 2 - => ok q"));
+    assert_that(
+        &rt,
+        text.contains(" 2 get a => is 1 - q0") || text.contains(" 2 get a => is 2 - q0"),
+    );
+    assert_same(&rt, text.lines().count(), 5);
 }
 
 // How often a caller looks whether the others came.
@@ -98,9 +102,9 @@ fn a_caller_with_many_writes_beside_fifteen_in_debt(rt: HostRuntime) {
         gave_up: AtomicBool::new(false),
     };
     let text = run_gated(&rt, alloc, &mut shelf, "2", &script, &gate);
-    assert!(&rt; !gate.gave_up.load(Ordering::SeqCst));
-    assert_eq!(&rt; text.lines().count(), 217);
+    assert_that(&rt, !gate.gave_up.load(Ordering::SeqCst));
+    assert_same(&rt, text.lines().count(), 217);
     for line in text.lines().skip(1).take(215) {
-        assert!(&rt; is_cheap(line));
+        assert_that(&rt, is_cheap(line));
     }
 }

@@ -1,4 +1,5 @@
 // Scripts of several callers, whose lines are done in the order in which they stand.
+use super::asserts::{assert_same, assert_that};
 use super::{NAME, owned, text_in};
 use blsm_model::{Gate, Point};
 use blsm_run::blsm_run;
@@ -114,7 +115,7 @@ pub fn run_gated<R: Abort + Threads + Wait + Sync, G: Gate + Sync>(
         rt.abort()
     };
     let status = blsm_run(rt, alloc, &words, &mut source, &mut sink, shelf, gate);
-    assert_eq!(rt; status.code(), 0);
+    assert_same(rt, status.code(), 0);
     text_in(rt, alloc, sink.bytes())
 }
 
@@ -128,7 +129,7 @@ pub fn run_in_turn<R: Abort + Threads + Wait + Sync>(
 ) -> String {
     let gate = in_turn(rt, alloc, script, free);
     let text = run_gated(rt, alloc, shelf, "0", script, &gate);
-    assert!(rt; gate.kept());
+    assert_that(rt, gate.kept());
     text
 }
 
@@ -137,7 +138,7 @@ pub fn check_behind(rt: &impl Abort, text: &str, first: usize, wanted: &[&str]) 
     let mut lines = text.lines().skip(first);
     for want in wanted {
         let Some(line) = lines.next() else { rt.abort() };
-        assert_eq!(rt; line, *want);
+        assert_same(rt, line, *want);
     }
-    assert!(rt; lines.next().is_none());
+    assert_that(rt, lines.next().is_none());
 }
