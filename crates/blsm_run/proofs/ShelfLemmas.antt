@@ -1,5 +1,5 @@
 -- What was done to a disk between its fetch and its return was done to the disk of that name of the shelf.
-use Rattle.std.proofs.Common.{◌≡◌, ◌≢◌, ℕ, ◌+◌, ◌-◌, ◌^◌, ◌<◌, ◌≤◌, min, List, Some, Option, IfSome, IsSome, IsTrue, Result, Ok, Err, IsErr, OnErr, OnOk, length, zero, suc, refl, sym, subst, ◌∙◌, inl, inr, arith}
+use Rattle.std.proofs.Common.{◌≡◌, ◌≢◌, ℕ, ◌+◌, ◌-◌, ◌^◌, ◌<◌, ◌≤◌, min, Bool, List, [], ◌∷◌, ◌++◌, Some, Option, IfSome, IsSome, IsTrue, Result, Ok, Err, IsErr, OnErr, OnOk, length, zero, suc, refl, sym, subst, ◌∙◌, inl, inr, arith}
 use Rattle.std.proofs.lemmas.Result.{IfOk-at_ok}
 use Rattle.refusal.specs.Count.{HasRisen, HasRisenBy}
 use Rattle.disk_trait.specs.Disk.{DiskState, TellsFaultsBy}
@@ -25,7 +25,7 @@ use Rattle.store_run.specs.Headline.{Headline}
 use Rattle.store_trial.specs.Trial.{IsRoomOf}
 use Rattle.store_run.specs.Run.{AreCounted, CameToEnd, HasCauses, IsEnding, IsRunOf, run_of}
 use Rattle.blsm_run.specs.Outcome.{refusal_of_making, refusal_of_store}
-use Rattle.blsm_run.specs.Outside.{HasRisenOnce, IsQuietCount, OfTheDisk}
+use Rattle.blsm_run.specs.Outside.{HasFetched, HasRisenOnce, IsQuietCount, OfTheDisk}
 use Rattle.blsm_run.specs.Stores.{WasCalm, HasFailedOnce, LeavesMade, WasMade, MakesOnShelf, LeavesClosed, WasRefused, HasRunOn, RunsOnShelf, StaysWithin, WasUnreadable, WasChecked, ChecksOnShelf}
 
 -- the fetch failed
@@ -63,6 +63,18 @@ was_empty result (suc n) is full =
 module _ {D : Type 0} (state : D → DiskState) (name : List ℕ) (old mid new : ShelfState D) (disk last : D) (w : CameBack state name old mid new disk last) where
   given_back : IsTrue old.tells_disks → new.disk_at name ≡ Some last
   given_back tells = (w.put (w.told ∙ tells) (w.taken tells).out).stands
+
+  -- the fetch, as it is noted
+  pub was_fetched : (fresh : Bool) → (IsTrue old.tells_fetches → length old.fetches < 2 ^ 64 - 1 → new.fetches ≡ old.fetches ++ Some (name, fresh) ∷ []) → HasFetched name fresh old new
+  was_fetched fresh noted = record {
+    fetches = λ tells room. inl (noted tells room);
+    named = λ tells room quiet. noted tells room;
+    back = λ tells some. subst (λ (o : Option D). IsSome o) (sym (given_back tells)) refl;
+    others = λ tells.
+        let took = w.taken tells in
+        let put = w.put (w.told ∙ tells) took.out in
+        record { disks = λ other apart. put.others.disks other apart ∙ took.others.disks other apart; out = λ other apart. put.others.out other apart ∙ took.others.out other apart };
+  }
 
   -- what is said of the disk as it was fetched and as it was given back
   of_the_disk : (P : DiskState → DiskState → Type 0) → P (state disk) (state last) → OfTheDisk state name old new P

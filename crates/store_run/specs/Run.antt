@@ -27,6 +27,7 @@ use Rattle.tree_session.specs.Session.{TookFew}
 use Rattle.core_chain.specs.Damage.{StopsAtPage}
 use Rattle.core_chain.specs.Holds.{TellHolds}
 use Rattle.core_chain.specs.Replies.{IsNoted}
+use Rattle.core_chain.specs.Start.{IsUnasked}
 use Rattle.store_run.specs.declared.run.Ending.{Ending}
 use Rattle.store_run.specs.declared.run.Ending.TheVariants.{Well, Faulted, Damaged}
 use Rattle.store_run.specs.declared.run.Finished.{Finished}
@@ -114,7 +115,8 @@ pub record HasCauses {D : Type 0} (state : D → DiskState) (run : Run) (last : 
   pub end : CoreState D
   pub are : AreCalls state calls opened end
   pub last_is : end.disk ≡ last
-  -- what is printed first is the core's charge when it was opened
+  -- nothing had been asked of the core that was opened, and what is printed first is its charge
+  pub unasked : IsUnasked state opened
   pub charge : run.charge ≡ charge_in opened.held
   -- an entry's reply is due to what the call found that noted it
   pub replies : (front behind : List Entry) (e : Entry) → run.entries ≡ front ++ e ∷ behind → IsNoted state calls opened end front e

@@ -1,9 +1,9 @@
-use Rattle.std.proofs.Common.{Err, IsErr, refl, rules, subst, sym, ◌∙◌}
+use Rattle.std.proofs.Common.{Err, IsErr, false, refl, rules, subst, sym, ◌∙◌}
 use Rattle.std.proofs.lemmas.Result.{IfErr-at_err, IfOk-at_ok}
 use Rattle.store_trial.proofs.RunnableLemmas.{room_of_lines}
 use Rattle.blsm_run.specs.declared.outcome.Refusal.{Refusal}
 use Rattle.blsm_run.specs.Stores.{LeavesClosed, RunsOnShelf}
-use Rattle.blsm_run.proofs.ShelfLemmas.{CameBack, never_quiet, not_fetched, not_run, ran}
+use Rattle.blsm_run.proofs.ShelfLemmas.{CameBack, never_quiet, not_fetched, not_run, ran, was_fetched}
 use Rattle.blsm_run.proofs.stores.run_on_shelf.Goals as goal
 
 pub run_over-disk-requires-clause-room : goal.run_over-disk-requires-clause-room
@@ -60,17 +60,15 @@ returns-in_default-clause-fetched g c = record {
 }
 
 pub returns-in-Ok-outcome-clause-fetched : goal.returns-in-Ok-outcome-clause-fetched
-returns-in-Ok-outcome-clause-fetched g c = record {
-  fetches = search rules;
-  named = λ told room quiet. c.give_back.ensures.noted ∙ c.in-Ok.ensures.noted told room;
-  back = search rules;
-  others = search rules;
-}
+returns-in-Ok-outcome-clause-fetched g c =
+    let fetched = c.in-Ok.ensures in
+    let back = c.give_back.ensures in
+    was_fetched g.H.D.Disk.state c.args.name.now (g.H.Shelf.state c.args.shelf.now) (g.H.Shelf.state c.fetch.new.self) (g.H.Shelf.state c.give_back.new.self) c.in-Ok.disk c.run_over-disk.result.0
+    (record { count = fetched.count; taken = fetched.taken; stands = fetched.stands; told = fetched.told.disks; put = back.put; faults = back.faults }) false (λ told room. back.noted ∙ fetched.noted told room)
 
 pub returns-in-Err-clause-fetched : goal.returns-in-Err-clause-fetched
-returns-in-Err-clause-fetched g c = record {
-  fetches = search rules;
-  named = λ told room quiet. c.give_back.ensures.noted ∙ c.in-Ok.ensures.noted told room;
-  back = search rules;
-  others = search rules;
-}
+returns-in-Err-clause-fetched g c =
+    let fetched = c.in-Ok.ensures in
+    let back = c.give_back.ensures in
+    was_fetched g.H.D.Disk.state c.args.name.now (g.H.Shelf.state c.args.shelf.now) (g.H.Shelf.state c.fetch.new.self) (g.H.Shelf.state c.give_back.new.self) c.in-Ok.disk c.run_over-disk.result.0
+    (record { count = fetched.count; taken = fetched.taken; stands = fetched.stands; told = fetched.told.disks; put = back.put; faults = back.faults }) false (λ told room. back.noted ∙ fetched.noted told room)

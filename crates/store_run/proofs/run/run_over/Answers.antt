@@ -85,6 +85,7 @@ returns-in-Ok-run_all-clause-causes g c =
     let new = c.in-Ok-run_all.core in
     let came = c.in-Ok-run_all.ensures.came in
     let opened = c.in-Ok.ensures.opened in
+    let rests = c.an_opened_core_rests.ensures (no_entries c.args.room) (state old.disk).faults old.held opened in
     let none = no_entries_yet (no_entries c.args.room) (state old.disk).faults old.held opened in
     let is : run_of c.finish-disk.result.1 ≡ run_at c.charge-charge.result new.held = c.finish-disk.ensures.finished in
     record {
@@ -93,6 +94,7 @@ returns-in-Ok-run_all-clause-causes g c =
       end = new;
       are = came.are;
       last_is = sym c.finish-disk.ensures.disk;
+      unasked = is_unasked state (no_entries c.args.room) (state old.disk).faults old opened rests c.kept.ensures.core c.kept.ensures.begins;
       charge = ap (λ (run : Run). run.charge) is ∙ c.charge-charge.ensures;
       replies = λ front behind e within. c.calls_note.ensures came.calls old front behind e none came.are (sym (ap (λ (run : Run). run.entries) is) ∙ within);
       holds = subst (λ (run : Run). TellHolds run.entries) (sym is) (c.calls_tell_holds.ensures came.calls old none (holds_none old c.in-Ok.ensures.none) came.are).replies;
