@@ -6,9 +6,11 @@
 
 It looks at the checker's processes every fifth of a second and adds up what each took. Parts: `proof` (the crate), `tests` (the
 crate with its tests) and `edits` (its must-fail edits, with the check that they begin with). What a process takes after the last
-look at it is lost, so short ones count for a little less than they took. It ends with the gate's own status.
+look at it is lost, so short ones count for a little less than they took. The last line has what the gate took in all, by the
+system's own count: its scripts, builds and runs of tests and programs too. It ends with the gate's own status.
 """
 import os
+import resource
 import subprocess
 import sys
 import time
@@ -50,11 +52,11 @@ def place_of(pid):
     return crate, "tests" if "--test" in words else "proof"
 
 
-def seconds_of(pid):
-    """The processor time that a process took, with that of its threads."""
+def began_and_took(pid):
+    """When a process began, and the processor time in seconds that it took with its threads."""
     with open(f"/proc/{pid}/stat", encoding="utf-8", errors="replace") as stat:
         fields = stat.read().rpartition(")")[2].split()
-    return (int(fields[11]) + int(fields[12])) / os.sysconf("SC_CLK_TCK")
+    return int(fields[19]), (int(fields[11]) + int(fields[12])) / os.sysconf("SC_CLK_TCK")
 
 
 def watch(gate):
@@ -63,16 +65,19 @@ def watch(gate):
     while gate.poll() is None:
         for pid in children_of(gate.pid):
             try:
-                if pid not in places:
-                    places[pid] = place_of(pid)
-                if places[pid]:
-                    took[pid] = seconds_of(pid)
+                began, seconds = began_and_took(pid)
+                # A number comes again, and a process may be seen before it is the checker.
+                process = pid, began
+                place = places.get(process) or place_of(pid)
+                if place:
+                    places[process] = place
+                    took[process] = seconds
             except (OSError, ValueError, IndexError):
                 continue
         time.sleep(LOOK_SECONDS)
     sums = {}
-    for pid, seconds in took.items():
-        sums[places[pid]] = sums.get(places[pid], 0) + seconds
+    for process, seconds in took.items():
+        sums[places[process]] = sums.get(places[process], 0) + seconds
     return sums
 
 
@@ -94,7 +99,8 @@ def main():
     gate = subprocess.Popen(["rt", "ci", *sys.argv[1:]])
     sums = watch(gate)
     print("\n".join(table(sums)))
-    print(f"{(time.monotonic() - began) / 60:.1f} minutes on {os.cpu_count()} processors")
+    used = resource.getrusage(resource.RUSAGE_CHILDREN)
+    print(f"{(time.monotonic() - began) / 60:.1f} minutes on {os.cpu_count()} processors, {(used.ru_utime + used.ru_stime) / 60:.1f} of one in all")
     return gate.returncode
 
 
