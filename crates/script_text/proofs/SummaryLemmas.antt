@@ -1,12 +1,18 @@
 -- The greatest quanta of a write, and the writes that count, one entry further on.
-use Rattle.std.proofs.Common.{◌≡◌, ℕ, ◌+◌, ◌<◌, max, List, [], ◌∷◌, ◌++◌, length, take, get_or, ap, ◌∙◌, arith}
+use Rattle.std.proofs.Common.{◌≡◌, ℕ, ◌+◌, ◌<◌, max, List, [], ◌∷◌, ◌++◌, length, take, get_or, refl, ap, ◌∙◌, arith}
 use Rattle.std.proofs.lemmas.List.{take_more}
 use Rattle.blsm_model.specs.declared.history.Entry.{Entry}
 use Rattle.blsm_model.specs.Book.{no_entry}
 use Rattle.blsm_model.specs.Histories.{counted, counted_writes}
+use Rattle.blsm_model.specs.Sizes.{default_sizes}
+use Rattle.blsm_model.specs.Geometry.{work_bound}
 use Rattle.blsm_model.proofs.HistoryLemmas.{counted_writes_push}
 use Rattle.script_text.proofs.PrintLemmas.{as_long}
-use Rattle.script_text.specs.Summary.{most_quanta, quanta_of_write}
+use Rattle.script_text.specs.Summary.{made_bound, most_quanta, quanta_of_write}
+
+-- the heaviest write that is made is a put of 218 bytes: 13, a key of 6 and a text of 199
+bound_of_made : work_bound default_sizes (13 + 6 + 199) ≡ made_bound
+bound_of_made = refl
 
 max_none : (a : ℕ) → max a 0 ≡ max 0 a
 max_none a = omega arith
