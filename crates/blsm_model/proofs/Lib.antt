@@ -1,11 +1,13 @@
 pub mod ExampleWords
 mod ValueExamples
+mod TailExamples
 mod HoldExamples
 mod RefusalExamples
 mod PrintedExamples
 mod SizeExamples
 mod ImageExamples
 mod ScriptExamples
+pub mod TailLemmas
 pub mod ValueLemmas
 pub mod OpLemmas
 pub mod HistoryLemmas

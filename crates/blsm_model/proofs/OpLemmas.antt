@@ -2,7 +2,7 @@
 use Rattle.std.proofs.Common.{◌≡◌, ℕ, ◌≤◌, Bool, cond, true, false, List, [], ◌∷◌, length, refl, ap, sym, length-append, arith}
 use Rattle.std.proofs.lemmas.Bool.{false≢true}
 use Rattle.blsm_model.specs.declared.op.Op.{Op}
-use Rattle.blsm_model.specs.declared.op.Op.TheVariants.{Put, Add, Del, Get, Hold, Next, Release, Work}
+use Rattle.blsm_model.specs.declared.op.Op.TheVariants.{Put, Add, Tail, Del, Get, Hold, Next, Release, Work}
 use Rattle.blsm_model.specs.declared.op.Write.{Write}
 use Rattle.blsm_model.specs.declared.op.Write.TheVariants as write
 use Rattle.blsm_model.specs.declared.history.Entry.{Entry}
@@ -14,6 +14,7 @@ use Rattle.blsm_model.specs.Legal.{is_write, may_look}
 pub writes_one : (op : Op) → is_write op ≡ true → (w : Write) × (writes_of op ≡ w ∷ [])
 writes_one (Put key value) is = (write.Put key value, refl)
 writes_one (Add key count) is = (write.Add key count, refl)
+writes_one (Tail key tail) is = (write.Tail key tail, refl)
 writes_one (Del key) is = (write.Del key, refl)
 writes_one _ is = absurd (false≢true is)
 

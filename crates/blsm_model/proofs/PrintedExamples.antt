@@ -1,15 +1,15 @@
 -- The printed text of each command and each reply, and of a whole run.
 use Rattle.std.proofs.Common.{◌≡◌, ◌++◌, List, [], ◌∷◌, None, map, refl, ap, codes, slice_index, arith}
 use Rattle.std.specs.Fmt.{digits}
-use Rattle.blsm_model.specs.declared.op.Op.TheVariants.{Put, Add, Del, Get, Hold, Next, Release, Work}
+use Rattle.blsm_model.specs.declared.op.Op.TheVariants.{Put, Add, Tail, Del, Get, Hold, Next, Release, Work}
 use Rattle.blsm_model.specs.declared.history.Why.TheVariants.{Faulted, BadPage}
 use Rattle.blsm_model.specs.declared.history.Reply.TheVariants.{Done, Is, Absent, Held, Rows, NoHold, Did, Full, NoMemory, FaultLost, FaultUnsure, Fault, Damaged, Stopped}
 use Rattle.blsm_model.specs.declared.history.Entry.{Entry}
 use Rattle.blsm_model.specs.Printed.{command_text, reply_text, entry_text, history_text}
 use Rattle.blsm_model.proofs.ExampleWords.{a, b, by, of, row}
 
-each_command : map command_text (Put a (of 5 (codes "hi")) ∷ Put a (of 5 []) ∷ Add a 7 ∷ Del a ∷ Get a ∷ Hold a b ∷ Next 32 ∷ Release ∷ Work 100000 ∷ [])
-    ≡ codes "put a 5 hi" ∷ codes "put a 5 -" ∷ codes "add a 7" ∷ codes "del a" ∷ codes "get a" ∷ codes "hold a b" ∷ codes "next 32" ∷ codes "drop" ∷ codes "work 100000" ∷ []
+each_command : map command_text (Put a (of 5 (codes "hi")) ∷ Put a (of 5 []) ∷ Add a 7 ∷ Tail a (codes "end") ∷ Del a ∷ Get a ∷ Hold a b ∷ Next 32 ∷ Release ∷ Work 100000 ∷ [])
+    ≡ codes "put a 5 hi" ∷ codes "put a 5 -" ∷ codes "add a 7" ∷ codes "tail a end" ∷ codes "del a" ∷ codes "get a" ∷ codes "hold a b" ∷ codes "next 32" ∷ codes "drop" ∷ codes "work 100000" ∷ []
 unfolding digits
 each_command = refl
 

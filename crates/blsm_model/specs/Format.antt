@@ -13,6 +13,10 @@ most_key = 64
 abbrev pub most_text : ℕ
 most_text = 435
 
+-- a tail has one byte at least, too
+abbrev pub most_tail : ℕ
+most_tail = 64
+
 -- what an entry has besides its key and its text: kind, two lengths and count
 abbrev pub overhead : ℕ
 overhead = 13

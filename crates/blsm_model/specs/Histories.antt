@@ -6,7 +6,7 @@ use Rattle.blsm_model.specs.declared.row.Row.{Row}
 use Rattle.blsm_model.specs.declared.op.Write.{Write}
 use Rattle.blsm_model.specs.declared.op.Write.TheVariants as write
 use Rattle.blsm_model.specs.declared.op.Op.{Op}
-use Rattle.blsm_model.specs.declared.op.Op.TheVariants.{Put, Add, Del, Get, Hold, Next, Release, Work}
+use Rattle.blsm_model.specs.declared.op.Op.TheVariants.{Put, Add, Tail, Del, Get, Hold, Next, Release, Work}
 use Rattle.blsm_model.specs.declared.history.Reply.{Reply}
 use Rattle.blsm_model.specs.declared.history.Reply.TheVariants.{Done, Is, Absent, Held, Rows, NoHold, Did, Full, NoMemory, FaultLost, FaultUnsure, Fault, Damaged, Stopped}
 use Rattle.blsm_model.specs.declared.history.Entry.{Entry}
@@ -17,6 +17,7 @@ use Rattle.blsm_model.specs.Rows.{map_of, rows, puts_of}
 abbrev pub writes_of : Op → List Write
 writes_of (Put key value) = write.Put key value ∷ []
 writes_of (Add key count) = write.Add key count ∷ []
+writes_of (Tail key tail) = write.Tail key tail ∷ []
 writes_of (Del key) = write.Del key ∷ []
 writes_of _ = []
 
@@ -65,6 +66,7 @@ answer_to_release (Some held) = Done
 abbrev pub IsAnswer : Object → ℕ → Op → Reply → Type 0
 IsAnswer object seat (Put key value) reply = reply ≡ Done
 IsAnswer object seat (Add key count) reply = reply ≡ Done
+IsAnswer object seat (Tail key tail) reply = reply ≡ Done
 IsAnswer object seat (Del key) reply = reply ≡ Done
 IsAnswer object seat (Get key) reply = reply ≡ answer_to_get (value_at object.writes key)
 IsAnswer object seat (Hold low high) reply = reply ≡ Held

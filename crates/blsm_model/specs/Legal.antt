@@ -12,11 +12,12 @@ use Rattle.blsm_model.specs.declared.key.Key.{Key}
 use Rattle.blsm_model.specs.declared.row.Value.{Value}
 use Rattle.blsm_model.specs.declared.op.Write.{Write}
 use Rattle.blsm_model.specs.declared.op.Op.{Op}
-use Rattle.blsm_model.specs.declared.op.Op.TheVariants.{Put, Add, Del, Get, Hold, Next, Work}
+use Rattle.blsm_model.specs.declared.op.Op.TheVariants.{Put, Add, Tail, Del, Get, Hold, Next, Work}
 use Rattle.blsm_model.specs.declared.history.Why.{Why}
 use Rattle.blsm_model.specs.declared.history.Reply.{Reply}
 use Rattle.blsm_model.specs.declared.history.Reply.TheVariants.{Full, NoMemory, FaultLost, FaultUnsure, Fault, Damaged, Stopped}
 use Rattle.blsm_model.specs.declared.history.Entry.{Entry}
+use Rattle.blsm_model.specs.Tails.{TailFits}
 use Rattle.blsm_model.specs.Values.{is_removal, weight_of}
 use Rattle.blsm_model.specs.Histories.{writes_of, counted_writes, IsAnswer, object_after}
 
@@ -26,12 +27,17 @@ pub record Limits : Type 0 where
   pub dels : ℕ
   pub others : ℕ
 
--- a put, an add or a del, which makes one write
+-- a put, an add, a tail or a del, which makes one write
 abbrev pub is_write : Op → Bool
 is_write (Put key value) = true
 is_write (Add key count) = true
+is_write (Tail key tail) = true
 is_write (Del key) = true
 is_write _ = false
+
+-- the tails that it writes are tails
+abbrev pub TailsFit : Op → Type 0
+TailsFit op = AllByRecursion TailFits (writes_of op)
 
 -- all that it writes are dels
 abbrev pub is_del : Op → Bool

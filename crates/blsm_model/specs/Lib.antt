@@ -1,5 +1,6 @@
 pub mod Format
 pub mod Keys
+pub mod Tails
 pub mod Values
 pub mod Rows
 pub mod Histories

@@ -3,7 +3,7 @@ use Rattle.std.specs.Prelude.{ℕ, ◌+◌, List, [], ◌∷◌, ◌++◌, lengt
 use Rattle.blsm_model.specs.declared.row.Value.{Value}
 use Rattle.blsm_model.specs.declared.row.Row.{Row}
 use Rattle.blsm_model.specs.declared.op.Op.{Op}
-use Rattle.blsm_model.specs.declared.op.Op.TheVariants.{Put, Add, Del, Get, Hold, Next, Release, Work}
+use Rattle.blsm_model.specs.declared.op.Op.TheVariants.{Put, Add, Tail, Del, Get, Hold, Next, Release, Work}
 use Rattle.blsm_model.specs.declared.history.Why.{Why}
 use Rattle.blsm_model.specs.declared.history.Why.TheVariants.{Faulted, BadPage}
 use Rattle.blsm_model.specs.declared.history.Reply.{Reply}
@@ -33,6 +33,7 @@ and_row row = and_word row.key ++ and_value row.value
 abbrev pub command_text : Op → List ℕ
 command_text (Put key value) = codes "put" ++ and_word key ++ and_value value
 command_text (Add key count) = codes "add" ++ and_word key ++ and_number count
+command_text (Tail key tail) = codes "tail" ++ and_word key ++ and_word tail
 command_text (Del key) = codes "del" ++ and_word key
 command_text (Get key) = codes "get" ++ and_word key
 command_text (Hold low high) = codes "hold" ++ and_word low ++ and_word high

@@ -1,11 +1,12 @@
 //! Writes and commands.
-ghost use Rattle.std.specs.Prelude.{◌≡◌, ◌∷◌, ◌<◌, ◌≤◌, ◌^◌, [], IsTrue, length};
+ghost use Rattle.std.specs.Prelude.{◌≡◌, ◌↔◌, ◌∷◌, ◌<◌, ◌≤◌, ◌^◌, [], IsTrue, length};
 ghost use Rattle.blsm_model.specs.Format.{least_weight, most_key, most_text, most_weight};
 ghost use Rattle.blsm_model.specs.Histories.{writes_of};
-ghost use Rattle.blsm_model.specs.Legal.{is_write, total_weight};
+ghost use Rattle.blsm_model.specs.Tails.{TailFits};
+ghost use Rattle.blsm_model.specs.Legal.{is_write, total_weight, TailsFit};
 ghost use Rattle.blsm_model.specs.Values.{added_count, key_of, text_written};
 
-use crate::{Key, Value};
+use crate::{Key, Text, Value};
 
 /// A write of one key.
 #[derive(PartialEq, Eq, Debug, Drop)]
@@ -14,6 +15,8 @@ pub enum Write {
     Put(Key, Value),
     /// Adds to the count, modulo 2^64. An absent key gets this count and the empty text.
     Add(Key, u64),
+    /// Puts a tail behind the text, of which the last 64 bytes stay. An absent key gets the count 0 and this text.
+    Tail(Key, Text),
     /// Removes the key.
     Del(Key),
 }
@@ -26,6 +29,7 @@ impl Write {
         match self {
             Write::Put(key, value) => Write::Put(key.copy(), value.copy()),
             Write::Add(key, count) => Write::Add(key.copy(), *count),
+            Write::Tail(key, tail) => Write::Tail(key.copy(), tail.copy()),
             Write::Del(key) => Write::Del(key.copy()),
         }
     }
@@ -35,7 +39,7 @@ impl Write {
         ensures { result.now ≡ key_of self.now }
     {
         match self {
-            Write::Put(key, _) | Write::Add(key, _) | Write::Del(key) => key,
+            Write::Put(key, _) | Write::Add(key, _) | Write::Tail(key, _) | Write::Del(key) => key,
         }
     }
 }
@@ -47,6 +51,8 @@ pub enum Op {
     Put(Key, Value),
     /// Adds to the key's count, modulo 2^64.
     Add(Key, u64),
+    /// Puts a tail of 1 to 64 bytes behind the key's text, of which the last 64 bytes stay.
+    Tail(Key, Text),
     /// Removes the key.
     Del(Key),
     /// Looks a key up.
@@ -75,6 +81,7 @@ impl Op {
         match self {
             Op::Put(key, value) => Op::Put(key.copy(), value.copy()),
             Op::Add(key, count) => Op::Add(key.copy(), *count),
+            Op::Tail(key, tail) => Op::Tail(key.copy(), tail.copy()),
             Op::Del(key) => Op::Del(key.copy()),
             Op::Get(key) => Op::Get(key.copy()),
             Op::Hold(low, high) => Op::Hold(low.copy(), high.copy()),
@@ -84,11 +91,21 @@ impl Op {
         }
     }
 
-    /// Whether it is a put, an add or a del.
+    /// Whether a tail that it writes has 1 to 64 bytes.
+    pub fn fits(&self) -> bool
+        ensures { IsTrue result ↔ TailsFit self.now }
+    {
+        match self {
+            Op::Tail(_, tail) => (1..=Text::MAX_TAIL).contains(&tail.as_bytes().len()),
+            _ => true,
+        }
+    }
+
+    /// Whether it is a put, an add, a tail or a del.
     pub fn is_write(&self) -> bool
         ensures { result ≡ is_write self.now }
     {
-        matches!(self, Op::Put(..) | Op::Add(..) | Op::Del(_))
+        matches!(self, Op::Put(..) | Op::Add(..) | Op::Tail(..) | Op::Del(_))
     }
 
     /// The weight of a write, in bytes: 14 to 512.
@@ -103,6 +120,9 @@ impl Op {
                 Op::OVERHEAD + key.as_bytes().len() as u64 + value.text.as_bytes().len() as u64
             }
             Op::Add(key, _) => Op::OVERHEAD + key.as_bytes().len() as u64,
+            Op::Tail(key, tail) => {
+                Op::OVERHEAD + key.as_bytes().len() as u64 + tail.as_bytes().len() as u64
+            }
             Op::Del(key) => Op::OVERHEAD + key.as_bytes().len() as u64,
             _ => unreachable!(),
         }
@@ -111,6 +131,7 @@ impl Op {
     /// The write that the command asks for. Its count is a number of 64 bits, and its lengths are within the format's.
     pub fn write(&self) -> Write
         requires { IsTrue (is_write self.now) }
+        ensures tail { TailsFit self.now → TailFits result }
         ensures write { writes_of self.now ≡ result ∷ [] }
         ensures count { added_count result < 2 ^ 64 }
         ensures key { (1 ≤ length (key_of result)) × (length (key_of result) ≤ most_key) }
@@ -119,6 +140,7 @@ impl Op {
         match self {
             Op::Put(key, value) => Write::Put(key.copy(), value.copy()),
             Op::Add(key, count) => Write::Add(key.copy(), *count),
+            Op::Tail(key, tail) => Write::Tail(key.copy(), tail.copy()),
             Op::Del(key) => Write::Del(key.copy()),
             _ => unreachable!(),
         }

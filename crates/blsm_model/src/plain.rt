@@ -29,6 +29,17 @@ fn after_write(value: Option<Value>, write: &Write, key: &Key) -> Option<Value>
                 text: base.text,
             })
         }
+        Write::Tail(at, tail) if at == key => {
+            let base = value.unwrap_or(Value {
+                count: 0,
+                text: Text::empty(),
+            });
+            Some(Value {
+                // the sum of no amount, modulo 2^64 as the definition has it
+                count: base.count.wrapping_add(0),
+                text: base.text.with_tail(tail),
+            })
+        }
         Write::Del(at) if at == key => None,
         _ => value,
     }
@@ -50,7 +61,7 @@ pub fn value_of(writes: &[Write], key: &Key) -> Option<Value>
 /// The plain store: the list of all writes, the oldest first, and their weights together.
 ///
 /// It is what the definitions say, as slowly and as obviously as can be: a get reads every write. Tests compare the
-/// store's replies with its replies, command by command. It answers puts, adds, dels and gets of one caller after
+/// store's replies with its replies, command by command. It answers puts, adds, tails, dels and gets of one caller after
 /// another, and knows no hold, no work, no disk and no fault.
 #[derive(Drop)]
 pub struct Plain {
@@ -82,7 +93,7 @@ impl Plain {
         }
     }
 
-    /// Whether the plain store answers such a command: a put, an add, a del or a get.
+    /// Whether the plain store answers such a command: a put, an add, a tail, a del or a get.
     pub fn can_answer(op: &Op) -> bool
         ensures { result ≡ is_plain op.now }
     {

@@ -1,6 +1,7 @@
 //! Texts.
-ghost use Rattle.std.specs.Prelude.{◌≡◌, ◌<◌, ◌≤◌, ◌↔◌, length, IsNone, IfSome, []};
+ghost use Rattle.std.specs.Prelude.{◌≡◌, ◌+◌, ◌<◌, ◌≤◌, ◌↔◌, ◌++◌, length, IsNone, IfSome, []};
 ghost use Rattle.blsm_model.specs.Format.{most_text};
+ghost use Rattle.blsm_model.specs.Tails.{with_tail};
 
 use arrayvec::ArrayVec;
 use std::marker::Model;
@@ -35,6 +36,9 @@ impl Default for Text {
 impl Text {
     /// How many bytes a text has at most.
     pub const MAX_LEN: usize = 435;
+
+    /// How many bytes a tail has at most, and what a tail leaves of a text.
+    pub const MAX_TAIL: usize = 64;
 
     /// The text of these bytes; `None` for more than 435.
     pub fn from_bytes(bytes: &[u8]) -> Option<Text>
@@ -72,5 +76,35 @@ impl Text {
             Ok(bytes) => Text { bytes },
             Err(_) => unreachable!(),
         }
+    }
+
+    /// This text with a tail behind it: the last 64 bytes of both, and where the tail is empty the text as it is. It takes no memory.
+    pub fn with_tail(&self, tail: &Text) -> Text
+        ensures { result ≡ with_tail self.now tail.now }
+    {
+        let tail = tail.as_bytes();
+        if tail.is_empty() {
+            return self.copy();
+        }
+        let text = self.as_bytes();
+        let left_out = (text.len() + tail.len()).saturating_sub(Text::MAX_TAIL);
+        let mut bytes = ArrayVec::new();
+        if left_out <= text.len() {
+            push_all(&mut bytes, &text[left_out..]);
+            push_all(&mut bytes, tail);
+            return Text { bytes };
+        }
+        push_all(&mut bytes, &tail[left_out - text.len()..]);
+        Text { bytes }
+    }
+}
+
+// Puts bytes at the end, where there is room for them.
+fn push_all(bytes: &mut ArrayVec<u8, { Text::MAX_LEN }>, more: &[u8])
+    requires { length bytes.old.items + length more.now ≤ most_text }
+    ensures { bytes.new.items ≡ bytes.old.items ++ more.now }
+{
+    for byte in more {
+        bytes.push(*byte);
     }
 }
