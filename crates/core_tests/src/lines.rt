@@ -64,7 +64,7 @@ fn digest_of_history(annals: &Annals) -> u64 {
 fn add_record(digest: &mut Digest, key: &Key, rec: &Rec) {
     let [kind, count] = match rec {
         Rec::Base(value) => [1, value.count],
-        Rec::Delta(count) => [2, *count],
+        Rec::Delta(change) => [2, change.count.amount()],
         Rec::Tomb => [3, 0],
     };
     digest.add(number_of(key) as u64);

@@ -194,7 +194,7 @@ fn a_tombstone_and_a_delta_wait(rt: HostRuntime) {
     assert_same(&rt, catalogue.version, 6);
     assert_same(&rt, catalogue.c1, no_component());
     let x = (key(&rt, b"x"), Rec::Tomb);
-    let y = (key(&rt, b"y"), Rec::Delta(4));
+    let y = (key(&rt, b"y"), Rec::added(4));
     check_two(&rt, alloc, &mut file, &catalogue.c1x, [x, y]);
     let x = base(&rt, b"x", 100, b"old");
     let z = base(&rt, b"z", 1, b"");

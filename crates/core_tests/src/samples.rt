@@ -40,6 +40,10 @@ pub fn add(rt: &impl Abort, name: &[u8], count: u64) -> Op {
     Op::Add(key(rt, name), count)
 }
 
+pub fn tail(rt: &impl Abort, name: &[u8], text: &[u8]) -> Op {
+    Op::Tail(key(rt, name), Text::from_bytes(text).expect(rt, "a text"))
+}
+
 pub fn del(rt: &impl Abort, name: &[u8]) -> Op {
     Op::Del(key(rt, name))
 }
@@ -94,6 +98,25 @@ pub fn draw_write(rt: &impl Abort, draws: &mut Draws, keys: u64) -> Op
         5..=7 => Op::Add(name, count),
         _ => Op::Del(name),
     }
+}
+
+// A tail of 1 to 64 times one letter.
+fn draw_tail(rt: &impl Abort, draws: &mut Draws, name: &[u8]) -> Op {
+    let letter = b'a'.wrapping_add(draws.below(26) as u8);
+    let length = 1 + draws.below(Text::MAX_TAIL as u64) as usize;
+    let text = [letter; Text::MAX_TAIL];
+    tail(rt, name, text.get(..length).expect(rt, "a text"))
+}
+
+/// One write of four is a tail, the others are as `draw_write` draws them.
+pub fn draw_write_or_tail(rt: &impl Abort, draws: &mut Draws, keys: u64) -> Op
+    requires { 0 < keys }
+{
+    if draws.below(4) > 0 {
+        return draw_write(rt, draws, keys);
+    }
+    let name = key_of(rt, draws.below(keys) as usize);
+    draw_tail(rt, draws, name.as_bytes())
 }
 
 /// The most quanta that a write may cost; a command that is none costs none.

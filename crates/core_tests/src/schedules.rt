@@ -6,11 +6,11 @@ use crate::asserts::{assert_that, assert_that_at};
 use crate::lines::line_of;
 use crate::maps::follow;
 use crate::plays::check_plays;
-use crate::samples::{Draws, draw_write, key_of};
+use crate::samples::{Draws, draw_write, draw_write_or_tail, key_of};
 use crate::stores::{File, fresh, make, smallest, steepest};
 use crate::told::{DEFAULT, SMALLEST, STEEPEST};
 use crate::weights::check_weights;
-use blsm_model::{Annals, CALLERS, Geometry, Key, Totals};
+use blsm_model::{Annals, CALLERS, Geometry, Key, Op, Totals};
 use disk_mem::MemDisk;
 use std::alloc::Global;
 use std::process::Abort;
@@ -21,9 +21,15 @@ use tree_machine::{Kind, Step};
 const KEYS: u64 = 120;
 
 // A drawn step of a drawn seat.
-fn play_drawn(rt: &impl Abort, alloc: Global, core: &mut Core<MemDisk>, draws: &mut Draws) {
+fn play_drawn(
+    rt: &impl Abort,
+    alloc: Global,
+    core: &mut Core<MemDisk>,
+    draws: &mut Draws,
+    tails: bool,
+) {
     let seat = draws.below(24) as u32;
-    let kind = draw_kind(rt, draws, seat);
+    let kind = draw_kind(rt, draws, seat, tails);
     make(alloc, core, seat, kind);
 }
 
@@ -39,13 +45,22 @@ fn draw_key(rt: &impl Abort, draws: &mut Draws) -> Key {
     key_of(rt, draws.below(KEYS) as usize)
 }
 
+// A write, which is a tail only where these are wanted.
+fn draw_any_write(rt: &impl Abort, draws: &mut Draws, tails: bool) -> Op {
+    if tails {
+        draw_write_or_tail(rt, draws, KEYS)
+    } else {
+        draw_write(rt, draws, KEYS)
+    }
+}
+
 // A step of a caller, or of a worker.
-fn draw_kind(rt: &impl Abort, draws: &mut Draws, seat: u32) -> Kind {
+fn draw_kind(rt: &impl Abort, draws: &mut Draws, seat: u32, tails: bool) -> Kind {
     if seat >= CALLERS {
         return Kind::WorkerTurn;
     }
     match draws.below(24) {
-        0..=6 => Kind::Admit(draw_write(rt, draws, KEYS)),
+        0..=6 => Kind::Admit(draw_any_write(rt, draws, tails)),
         7..=13 => Kind::Pay,
         14..=15 => Kind::Get(draw_key(rt, draws)),
         16..=17 => Kind::WorkTurn,
@@ -72,27 +87,48 @@ fn check_map(rt: &impl Abort, alloc: Global, file: File, annals: &Annals) {
 }
 
 // So many drawn steps, and then the end.
-fn schedule(rt: &impl Abort, alloc: Global, geo: Geometry, seed: u64, steps: u32) -> Core<MemDisk> {
+fn schedule(
+    rt: &impl Abort,
+    alloc: Global,
+    geo: Geometry,
+    seed: u64,
+    steps: u32,
+    tails: bool,
+) -> Core<MemDisk> {
     let mut draws = Draws(seed);
     let mut core = fresh(rt, alloc, geo);
     for _ in 0..steps {
-        play_drawn(rt, alloc, &mut core, &mut draws);
+        play_drawn(rt, alloc, &mut core, &mut draws, tails);
     }
     close(alloc, &mut core);
     core
 }
 
-// A schedule leaves what its line tells, and what the plain map, the plain store and the sums of weights ask for.
+// A schedule left what the plain map, the plain store and the sums of weights ask for.
+fn check_left(rt: &impl Abort, alloc: Global, file: File, annals: &Annals, totals: &Totals) {
+    let mut file = file;
+    check_totals(rt, totals);
+    check_plays(rt, alloc, annals);
+    check_weights(rt, alloc, &mut file, annals, totals);
+    check_map(rt, alloc, file, annals);
+}
+
+// A schedule leaves what its line tells, too.
 fn check(rt: &impl Abort, alloc: Global, geo: Geometry, seed: u64, steps: u32, told: &str) {
-    let core = schedule(rt, alloc, geo, seed, steps);
+    let core = schedule(rt, alloc, geo, seed, steps, false);
     let (disk, annals, totals) = core.end();
     let mut file = File::over(rt, geo, disk);
     let line = line_of(rt, alloc, &mut file, &annals, &totals);
     assert_that_at(rt, line.as_str() == told, (seed, line));
-    check_totals(rt, &totals);
-    check_plays(rt, alloc, &annals);
-    check_weights(rt, alloc, &mut file, &annals, &totals);
-    check_map(rt, alloc, file, &annals);
+    check_left(rt, alloc, file, &annals, &totals);
+}
+
+// A schedule with tails.
+fn check_tails(rt: &impl Abort, alloc: Global, geo: Geometry, seed: u64) {
+    let core = schedule(rt, alloc, geo, seed, 2_400, true);
+    let (disk, annals, totals) = core.end();
+    let file = File::over(rt, geo, disk);
+    check_left(rt, alloc, file, &annals, &totals);
 }
 
 // A schedule of so many steps for each line.
@@ -101,6 +137,16 @@ fn check_all(rt: &impl Abort, alloc: Global, geo: Geometry, steps: u32, lines: &
     for told in lines {
         check(rt, alloc, geo, seed, steps, told);
         seed = u64::wrapping_add(seed, 1);
+    }
+}
+
+#[test]
+fn schedules_with_tails(rt: HostRuntime) {
+    let alloc = rt.alloc();
+    for seed in 0..16 {
+        check_tails(&rt, alloc, Geometry::default(), seed);
+        check_tails(&rt, alloc, smallest(&rt), seed);
+        check_tails(&rt, alloc, steepest(&rt), seed);
     }
 }
 

@@ -3,7 +3,7 @@ ghost use Rattle.std.specs.Prelude.{◌≡◌};
 
 use crate::asserts::{assert_same, assert_same_at, assert_that, assert_that_at};
 use crate::maps::{Map, apply, follow};
-use crate::samples::{Draws, add, del, key_of, put};
+use crate::samples::{Draws, add, del, key_of, put, tail};
 use crate::stores::{File, check_reply, geometry, make, work, write};
 use blsm_model::{Annals, CALLERS, Geometry, Op, ShortReply, Totals, Why};
 use disk_mem::MemDisk;
@@ -55,6 +55,7 @@ fn run_first(rt: &impl Abort, alloc: Global, core: &mut Core<MemDisk>) {
 fn run_second(rt: &impl Abort, alloc: Global, core: &mut Core<MemDisk>) {
     write(alloc, core, 0, del(rt, key_of(rt, 1).as_bytes()));
     write(alloc, core, 1, add(rt, key_of(rt, 3).as_bytes(), 4));
+    write(alloc, core, 3, tail(rt, key_of(rt, 2).as_bytes(), b"more"));
     make(alloc, core, CALLERS, Kind::WorkerTurn);
     get_at(rt, alloc, core, 2, 2);
     work(alloc, core, 4);

@@ -2,7 +2,7 @@
 ghost use Rattle.std.specs.Prelude.{◌≡◌};
 
 use crate::asserts::{assert_same, assert_same_at};
-use crate::samples::{add, del, most_quanta, put, put_of};
+use crate::samples::{add, del, most_quanta, put, put_of, tail};
 use crate::stores::{check_reply, fresh, geometry, has_reply, smallest, steepest, write};
 use blsm_model::{Annals, CALLERS, Geometry, ShortReply, Totals};
 use disk_mem::MemDisk;
@@ -95,22 +95,26 @@ fn writes_cost_no_more_than_their_bound(rt: HostRuntime) {
     check_hundred(&rt, alloc, fresh(&rt, alloc, geo), &geo);
 }
 
-// Two writes that find no room, a del that does, and one that finds none behind it.
+// Three writes that find no room, a del that does, and two that find none behind it.
 fn write_at_the_edge(rt: &impl Abort, alloc: Global, core: &mut Core<MemDisk>) {
     write(alloc, core, 0, put(rt, b"a", 1, b""));
     write(alloc, core, 0, add(rt, b"a", 1));
+    write(alloc, core, 0, tail(rt, b"a", b"t"));
     write(alloc, core, 0, del(rt, b"a"));
     write(alloc, core, 0, put(rt, b"a", 1, b""));
+    write(alloc, core, 0, tail(rt, b"a", b"t"));
 }
 
 fn check_edge(rt: &impl Abort, annals: &Annals) {
     check_reply(rt, annals, 238, &ShortReply::Full(121_856));
     check_reply(rt, annals, 239, &ShortReply::Full(121_856));
-    check_reply(rt, annals, 240, &ShortReply::Done);
-    check_reply(rt, annals, 241, &ShortReply::Full(121_870));
+    check_reply(rt, annals, 240, &ShortReply::Full(121_856));
+    check_reply(rt, annals, 241, &ShortReply::Done);
+    check_reply(rt, annals, 242, &ShortReply::Full(121_870));
+    check_reply(rt, annals, 243, &ShortReply::Full(121_870));
 }
 
-// A put or an add leaves half a spring of the capacity free, and a del may fill it.
+// A put, an add or a tail leaves half a spring of the capacity free, and a del may fill it.
 #[test]
 fn a_small_store_is_full_at_its_edge(rt: HostRuntime) {
     let geo = geometry(&rt, 17_408, 2, 16_384, 4_096);
@@ -118,7 +122,7 @@ fn a_small_store_is_full_at_its_edge(rt: HostRuntime) {
     write_many(&rt, rt.alloc(), &mut core, 238, 1);
     write_at_the_edge(&rt, rt.alloc(), &mut core);
     let (_, annals, totals) = core.end();
-    check_bounds(&rt, &geo, &annals, 242, 238);
+    check_bounds(&rt, &geo, &annals, 244, 238);
     check_edge(&rt, &annals);
     assert_same(&rt, geo.bound(512), 3);
     assert_same(&rt, quanta_of(&annals), totals.callers);

@@ -8,9 +8,11 @@ use Rattle.std.proofs.lemmas.Nat.{be_bytes_2, be_bytes_8, from_be_bytes-to_be_by
 use Rattle.blsm_model.specs.declared.key.Key.{Key}
 use Rattle.record_delta.specs.declared.record.Rec.{Rec}
 use Rattle.record_delta.specs.declared.record.Rec.TheVariants.{Base, Delta, Tomb}
-use Rattle.record_delta.specs.Records.{count_of, text_of, weight}
+use Rattle.blsm_model.specs.Format.{most_text}
+use Rattle.record_delta.specs.Records.{count_of, text_limit, text_of, weight}
+use Rattle.record_delta.proofs.FoldingLemmas.{text_is_short}
 use Rattle.entry_codec.specs.declared.decoding.Head.{Head}
-use Rattle.entry_codec.specs.Spelling.{kind_of, head, head_of, spelling, IsEntry, BeginsWith}
+use Rattle.entry_codec.specs.Spelling.{kind_of, kind_of_delta, head, head_of, spelling, IsEntry, BeginsWith}
 use Rattle.entry_codec.specs.Reading.{InRange, AreAt, IsOf, HasParts}
 
 -- ---- lengths
@@ -119,10 +121,26 @@ head_same kind key_len text_len count kind' key_len' text_len' count' x y k k' t
 
 -- ---- entries
 
+-- a delta's kind is no other record's
+no_delta : (text : List ℕ) (k : ℕ) → (k ≡ 1) ⊎ (k ≡ 3) → kind_of_delta text ≡ k → ⊥
+no_delta [] k (inl one) is = omega (arith, one, is)
+no_delta [] k (inr three) is = omega (arith, three, is)
+no_delta (byte ∷ text) k (inl one) is = omega (arith, one, is)
+no_delta (byte ∷ text) k (inr three) is = omega (arith, three, is)
+
+-- a tail has a record, where it isn't empty and no longer than tails are
+pub tail_record : (kind count : ℕ) (text : List ℕ) → kind ≡ 4 → (length text ≡ 0 → ⊥) → length text ≤ 64 → (rec : Rec) × IsOf kind count text rec
+tail_record kind count [] is some fits = absurd (some refl)
+tail_record kind count (byte ∷ text) is some fits = (Delta (record { count = count; text = byte ∷ text }), record { kind_is = sym is; count_is = refl; text_is = refl; fits = fits })
+
 -- a record is its kind, its count and its text
 pub rec_same : (r s : Rec) → kind_of r ≡ kind_of s → count_of r ≡ count_of s → text_of r ≡ text_of s → r ≡ s
 rec_same (Base v) (Base w) kind count text = ap (λ n. Base (record { count = n; text = v.text })) count ∙ ap (λ t. Base (record { count = w.count; text = t })) text
-rec_same (Delta m) (Delta n) kind count text = ap (λ n. Delta n) count
+rec_same (Delta c) (Delta d) kind count text = ap (λ n. Delta (record { count = n; text = c.text })) count ∙ ap (λ t. Delta (record { count = d.count; text = t })) text
+rec_same (Delta c) (Base w) kind count text = absurd (no_delta c.text 1 (inl refl) kind)
+rec_same (Delta c) Tomb kind count text = absurd (no_delta c.text 3 (inr refl) kind)
+rec_same (Base v) (Delta d) kind count text = absurd (no_delta d.text 1 (inl refl) (sym kind))
+rec_same Tomb (Delta d) kind count text = absurd (no_delta d.text 3 (inr refl) (sym kind))
 rec_same Tomb Tomb kind count text = refl
 rec_same _ _ kind count text = absurd (omega arith)
 
@@ -141,7 +159,7 @@ to_parts bytes rest h key rec range read b =
     let whole : head_of key rec ++ (key ++ text_of rec ++ b.rest) ≡ head h.kind h.key_len h.text_len h.count ++ rest = sym (spelled key rec b.rest) ∙ sym b.parts ∙ read in
     let e = b.entry in
     let key_most = e.key_most in
-    let text_most = e.in_range.text_fits in
+    let text_most = text_is_short rec e.in_range.text_fits in
     let same = head_same (kind_of rec) (length key) (length (text_of rec)) (count_of rec) h.kind h.key_len h.text_len h.count (key ++ text_of rec ++ b.rest) rest
     (omega arith) range.key_len (omega arith) range.text_len e.in_range.count_fits range.count whole in
     record {
@@ -169,8 +187,8 @@ pub entry_same : (a b : Key) (r s : Rec) (x y : List ℕ) → IsEntry a r → Is
 entry_same a b r s x y ea eb same =
     let ka = ea.key_most in
     let kb = eb.key_most in
-    let ta = ea.in_range.text_fits in
-    let tb = eb.in_range.text_fits in
+    let ta = text_is_short r ea.in_range.text_fits in
+    let tb = text_is_short s eb.in_range.text_fits in
     let heads = head_same (kind_of r) (length a) (length (text_of r)) (count_of r) (kind_of s) (length b) (length (text_of s)) (count_of s) (a ++ text_of r ++ x) (b ++ text_of s ++ y)
     (omega arith) (omega arith) (omega arith) (omega arith) ea.in_range.count_fits eb.in_range.count_fits (sym (spelled a r x) ∙ same ∙ spelled b s y) in
     let keys = front_same a b (text_of r ++ x) (text_of s ++ y) heads.key_len_is (sym (append_assoc a (text_of r) x) ∙ heads.rest_is ∙ append_assoc b (text_of s) y) in
@@ -232,13 +250,13 @@ key_and_text_at h bytes key rec p =
       text_len_is = p.text_len_is;
       key_least = p.entry.key_least;
       key_most = p.entry.key_most;
-      text_most = p.entry.in_range.text_fits;
+      text_most = text_is_short rec p.entry.in_range.text_fits;
       rest = p.rest;
       parts = p.parts;
     }
 
 pub of_kind : (h : Head) (bytes : List ℕ) (key : Key) (rec : Rec) (text : List ℕ) → HasParts h bytes key rec → text_of rec ≡ text → IsOf h.kind h.count text rec
-of_kind h bytes key rec text p text_is = record { kind_is = p.kind_is; count_is = p.count_is; text_is = text_is }
+of_kind h bytes key rec text p text_is = record { kind_is = p.kind_is; count_is = p.count_is; text_is = text_is; fits = p.entry.in_range.text_fits }
 
 abbrev pub both : List ℕ → List ℕ → Option (List ℕ × List ℕ)
 both a b = Some (a, b)
@@ -276,21 +294,21 @@ to_kind h bytes key rec p = of_kind h bytes key rec (text_of rec) p refl
 
 -- where the numbers of a head are right, the bytes behind it are a key and a text, if they are as many
 pub from_head : (h : Head) (bytes : List ℕ) → h.count < 2 ^ 64 → 1 ≤ h.key_len → h.key_len ≤ 64 → h.text_len ≤ 435 → h.key_len + h.text_len ≤ length bytes
-    → ((text : List ℕ) → length text ≡ h.text_len → (rec : Rec) × IsOf h.kind h.count text rec) → (rec : Rec) × HasParts h bytes (take h.key_len bytes) rec
+    → ((text : List ℕ) → length text ≡ h.text_len → length text ≤ most_text → (rec : Rec) × IsOf h.kind h.count text rec) → (rec : Rec) × HasParts h bytes (take h.key_len bytes) rec
 from_head h bytes count_fits key_least key_most text_most long records =
     let key : List ℕ = take h.key_len bytes in
     let text : List ℕ = take h.text_len (drop h.key_len bytes) in
     let key_len : length key ≡ h.key_len = omega (arith, length-take h.key_len bytes, long) in
     let text_len : length text ≡ h.text_len = omega (arith, length-take h.text_len (drop h.key_len bytes), length-drop h.key_len bytes, long) in
     let at = are_read bytes h.key_len h.text_len key text long refl refl (omega (arith, key_len, key_least), omega (arith, key_len, key_most)) (omega (arith, text_len, text_most)) in
-    let of = records text text_len in
+    let of = records text text_len at.text_most in
     let is = of.1 in (
       of.0,
       record {
         entry = record {
           key_least = at.key_least;
           key_most = at.key_most;
-          in_range = record { count_fits = omega (arith, is.count_is, count_fits); text_fits = omega (arith, at.text_most, ap (length {A = ℕ}) is.text_is) };
+          in_range = record { count_fits = omega (arith, is.count_is, count_fits); text_fits = is.fits };
         };
         kind_is = is.kind_is;
         key_len_is = key_len;

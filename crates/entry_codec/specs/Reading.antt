@@ -3,7 +3,7 @@ use Rattle.std.specs.Prelude.{◌≡◌, ℕ, ◌<◌, ◌≤◌, ◌^◌, List,
 use Rattle.blsm_model.specs.declared.key.Key.{Key}
 use Rattle.blsm_model.specs.Format.{most_key, most_text}
 use Rattle.record_delta.specs.declared.record.Rec.{Rec}
-use Rattle.record_delta.specs.Records.{count_of, text_of}
+use Rattle.record_delta.specs.Records.{count_of, text_limit, text_of}
 use Rattle.entry_codec.specs.declared.decoding.Head.{Head}
 use Rattle.entry_codec.specs.Spelling.{kind_of, IsEntry}
 
@@ -28,6 +28,7 @@ pub record IsOf (kind count : ℕ) (text : List ℕ) (rec : Rec) : Type 0 where
   pub kind_is : kind_of rec ≡ kind
   pub count_is : count_of rec ≡ count
   pub text_is : text_of rec ≡ text
+  pub fits : length (text_of rec) ≤ text_limit rec
 
 -- an entry with this head, whose key and text stand at the front of the bytes
 pub record HasParts (head : Head) (bytes : List ℕ) (key : Key) (rec : Rec) : Type 0 where

@@ -1,5 +1,5 @@
 -- The spelling of an entry: a key and its record as bytes.
-use Rattle.std.specs.Prelude.{◌≡◌, ℕ, ◌≤◌, List, ◌∷◌, ◌++◌, length, drop}
+use Rattle.std.specs.Prelude.{◌≡◌, ℕ, ◌≤◌, List, ◌∷◌, ◌++◌, length, drop, []}
 use Rattle.std.specs.Int.{w16, w64, to_be_bytes}
 use Rattle.blsm_model.specs.declared.key.Key.{Key}
 use Rattle.blsm_model.specs.Format.{most_key}
@@ -16,9 +16,17 @@ delta_kind = 2
 abbrev pub tomb_kind : ℕ
 tomb_kind = 3
 
+-- a delta with a tail
+abbrev pub tail_kind : ℕ
+tail_kind = 4
+
+abbrev pub kind_of_delta : List ℕ → ℕ
+kind_of_delta [] = delta_kind
+kind_of_delta (byte ∷ tail) = tail_kind
+
 abbrev pub kind_of : Rec → ℕ
 kind_of (Base value) = base_kind
-kind_of (Delta count) = delta_kind
+kind_of (Delta change) = kind_of_delta change.text
 kind_of Tomb = tomb_kind
 
 -- what stands before the key: the kind, the lengths of the key and of the text, the count

@@ -1,14 +1,15 @@
 //! Reading an entry, from any bytes.
 ghost use Rattle.std.specs.Prelude.{◌≡◌, ◌+◌, ◌≤◌, ◌<◌, ◌++◌, ◌^◌, List, ℕ, Some, IfSome, IfNone, IsTrue, length, take, drop};
 ghost use Rattle.blsm_model.specs.declared.key.Key.{Key};
+ghost use Rattle.blsm_model.specs.Format.{most_text};
 ghost use Rattle.record_delta.specs.declared.record.Rec.{Rec};
 ghost use Rattle.record_delta.specs.Records.{weight};
-ghost use Rattle.entry_codec.specs.Spelling.{head, BeginsWith};
+ghost use Rattle.entry_codec.specs.Spelling.{head, tail_kind, BeginsWith};
 ghost use Rattle.entry_codec.specs.Reading.{InRange, AreAt, IsOf, HasParts};
 
-use crate::format::{BASE, DELTA, HEAD_LEN, TOMB};
+use crate::format::{BASE, DELTA, HEAD_LEN, TAIL, TOMB};
 use blsm_model::{Key, Text, Value};
-use record_delta::Rec;
+use record_delta::{AddPart, Both, Rec, TailPart};
 
 // What stands before the key.
 #[derive(Clone, Copy)]
@@ -22,13 +23,14 @@ struct Head {
 impl Head {
     // Whether there is a record of this kind that has this count and a text of this length.
     fn has_record(self) -> bool
-        ensures some { IsTrue result → (text : List ℕ) → length text ≡ self.text_len → (rec : Rec) × IsOf self.kind self.count text rec }
+        ensures some { IsTrue result → (text : List ℕ) → length text ≡ self.text_len → length text ≤ most_text → (rec : Rec) × IsOf self.kind self.count text rec }
         ensures only { (text : List ℕ) (rec : Rec) → length text ≡ self.text_len → IsOf self.kind self.count text rec → IsTrue result }
     {
         let is_bare = self.text_len == 0;
         match self.kind {
             BASE => true,
             DELTA => is_bare,
+            TAIL => !is_bare && self.text_len as usize <= Text::MAX_TAIL,
             TOMB => is_bare && self.count == 0,
             _ => false,
         }
@@ -85,9 +87,25 @@ fn record(kind: u8, count: u64, text: Text) -> Option<Rec>
     let is_bare = text.as_bytes().is_empty();
     match kind {
         BASE => Some(Rec::Base(Value { count, text })),
-        DELTA if is_bare => Some(Rec::Delta(count)),
+        DELTA if is_bare => Some(Rec::added(count)),
+        TAIL if !is_bare => with_tail(count, text),
         TOMB if is_bare && count == 0 => Some(Rec::Tomb),
         _ => None,
+    }
+}
+
+// The delta of this amount and tail, if that isn't too long for one.
+fn with_tail(count: u64, text: Text) -> Option<Rec>
+    requires { 0 < length text }
+    ensures found { IfSome result (λ rec. IsOf tail_kind count text rec) }
+    ensures only { (rec : Rec) → IsOf tail_kind count text rec → result ≡ Some rec }
+{
+    match TailPart::new(text) {
+        Some(tail) => Some(Rec::Delta(Both {
+            count: AddPart::new(count),
+            text: tail,
+        })),
+        None => None,
     }
 }
 

@@ -1,10 +1,10 @@
 //! Writing an entry.
 ghost use Rattle.std.specs.Prelude.{◌≡◌, ◌+◌, ◌≤◌, ◌++◌, List, ℕ, length, drop};
 ghost use Rattle.blsm_model.specs.Format.{most_text, most_weight};
-ghost use Rattle.record_delta.specs.Records.{weight, count_of, text_of};
+ghost use Rattle.record_delta.specs.Records.{weight, count_of, text_limit, text_of};
 ghost use Rattle.entry_codec.specs.Spelling.{kind_of, head, spelling, over_front, IsEntry};
 
-use crate::format::{BASE, DELTA, HEAD_LEN, TOMB};
+use crate::format::{BASE, DELTA, HEAD_LEN, TAIL, TOMB};
 use blsm_model::Key;
 use record_delta::Rec;
 
@@ -13,7 +13,8 @@ fn kind(rec: &Rec) -> u8
 {
     match rec {
         Rec::Base(_) => BASE,
-        Rec::Delta(_) => DELTA,
+        Rec::Delta(change) if change.text.text().as_bytes().is_empty() => DELTA,
+        Rec::Delta(_) => TAIL,
         Rec::Tomb => TOMB,
     }
 }
@@ -23,18 +24,20 @@ fn count(rec: &Rec) -> u64
 {
     match rec {
         Rec::Base(value) => value.count,
-        Rec::Delta(count) => *count,
+        Rec::Delta(change) => change.count.amount(),
         Rec::Tomb => 0,
     }
 }
 
 fn text(rec: &Rec) -> &[u8]
     ensures text { result.now ≡ text_of rec.now }
+    ensures limit { length result.now ≤ text_limit rec.now }
     ensures fits { length result.now ≤ most_text }
 {
     match rec {
         Rec::Base(value) => value.text.as_bytes(),
-        Rec::Delta(_) | Rec::Tomb => &[],
+        Rec::Delta(change) => change.text.text().as_bytes(),
+        Rec::Tomb => &[],
     }
 }
 

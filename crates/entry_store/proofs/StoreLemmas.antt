@@ -70,7 +70,7 @@ fourteen n least = omega arith
 
 text_with : (k : Kind) (count : ℕ) (t : List ℕ) (n : ℕ) → HasText k n → length t ≡ n → length (text_in (rec_with k count t)) ≡ n
 text_with kind.Base count t n has is = is
-text_with kind.Delta count t n has is = sym has
+text_with kind.Delta count t n has is = is
 text_with kind.Tomb count t n has is = sym has
 
 pub weight_entry : (cs : List Chunk) (h : Head) → IsHead h → length (string_in cs h) ≡ len_of h → weight (entry_in cs h).0 (entry_in cs h).1 ≡ 13 + len_of h

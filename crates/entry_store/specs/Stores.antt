@@ -2,6 +2,7 @@
 use Rattle.std.specs.Prelude.{◌≡◌, ℕ, ◌+◌, ◌-◌, ◌*◌, ◌<◌, ◌≤◌, List, length, take, drop, map, sum_by}
 use Rattle.std.specs.List.{AllByRecursion}
 use Rattle.blsm_model.specs.declared.key.Key.{Key}
+use Rattle.blsm_model.specs.Format.{most_tail}
 use Rattle.record_delta.specs.declared.record.Rec.{Rec}
 use Rattle.record_delta.specs.declared.record.Rec.TheVariants as rec
 use Rattle.record_delta.specs.Records.{text_of as text_in}
@@ -15,13 +16,13 @@ use Rattle.entry_store.specs.Chains.{chunks_for, chunk_at, chain, text_of, times
 -- the record of this kind with this count and this text, where it has them
 abbrev pub rec_with : Kind → ℕ → List ℕ → Rec
 rec_with kind.Base count text = rec.Base (record { count = count; text = text })
-rec_with kind.Delta count text = rec.Delta count
+rec_with kind.Delta count text = rec.Delta (record { count = count; text = text })
 rec_with kind.Tomb count text = rec.Tomb
 
--- only a base has a text
+-- a base's text is as long as texts are, a delta's no longer than a tail, and a tombstone has none
 abbrev pub HasText : Kind → ℕ → Type 0
 HasText kind.Base len = Unit {0}
-HasText kind.Delta len = len ≡ 0
+HasText kind.Delta len = len ≤ most_tail
 HasText kind.Tomb len = len ≡ 0
 
 abbrev pub len_of : Head → ℕ

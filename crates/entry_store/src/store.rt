@@ -1,7 +1,7 @@
 //! Keys and records at numbered places.
 ghost use Rattle.std.specs.Prelude.{◌≡◌, ◌+◌, ◌-◌, ◌/◌, ◌<◌, ◌≤◌, ◌++◌, ◌∷◌, [], length, take, drop, set, slice_index_or, IfOk};
 ghost use Rattle.blsm_model.specs.declared.key.Key.{Key};
-ghost use Rattle.blsm_model.specs.Format.{least_weight};
+ghost use Rattle.blsm_model.specs.Format.{least_weight, most_text};
 ghost use Rattle.blsm_model.specs.Keys.{key_cmp};
 ghost use Rattle.record_delta.specs.declared.record.Rec.{Rec};
 ghost use Rattle.record_delta.specs.Records.{text_of as text_in, IsRecord};
@@ -12,7 +12,7 @@ ghost use Rattle.entry_store.specs.Stores.{IsHead, IsHeadOf, HasText, rec_with};
 use crate::chunks::{CHUNK, Chunk, MOST, compare, fill, give_back, link_all, read};
 use arrayvec::ArrayVec;
 use blsm_model::{Key, Op, Text, Value};
-use record_delta::Rec;
+use record_delta::{AddPart, Both, Rec, TailPart};
 use refusal::NoMemory;
 use std::alloc::Global;
 use std::cmp::Ordering;
@@ -90,8 +90,24 @@ fn sort_of(rec: &Rec) -> (Kind, u64, usize)
 {
     match rec {
         Rec::Base(Value { count, text }) => (Kind::Base, *count, text.as_bytes().len()),
-        Rec::Delta(count) => (Kind::Delta, *count, 0),
+        Rec::Delta(change) => (
+            Kind::Delta,
+            change.count.amount(),
+            change.text.text().as_bytes().len(),
+        ),
         Rec::Tomb => (Kind::Tomb, 0, 0),
+    }
+}
+
+// The bytes of a base's text, or of a delta's tail.
+fn bytes_of_text(rec: &Rec) -> &[u8]
+    ensures text { result.now ≡ text_in rec.now }
+    ensures fits { length result.now ≤ most_text }
+{
+    match rec {
+        Rec::Base(value) => value.text.as_bytes(),
+        Rec::Delta(change) => change.text.text().as_bytes(),
+        Rec::Tomb => &[],
     }
 }
 
@@ -105,9 +121,7 @@ fn packed(key: &Key, rec: &Rec, first: u32) -> (Head, ArrayVec<u8, MOST>)
     let (kind, count, text_len) = sort_of(rec);
     let key_bytes = key.as_bytes();
     let _ = bytes.try_extend_from_slice(key_bytes);
-    if let Rec::Base(value) = rec {
-        let _ = bytes.try_extend_from_slice(value.text.as_bytes());
-    }
+    let _ = bytes.try_extend_from_slice(bytes_of_text(rec));
     (
         Head {
             count,
@@ -137,7 +151,18 @@ fn record_of(head: Head, bytes: &[u8]) -> Rec
                 text,
             })
         }
-        Kind::Delta => Rec::Delta(head.count),
+        Kind::Delta => {
+            let Some(text) = Text::from_bytes(text_bytes) else {
+                unreachable!()
+            };
+            let Some(tail) = TailPart::new(text) else {
+                unreachable!()
+            };
+            Rec::Delta(Both {
+                count: AddPart::new(head.count),
+                text: tail,
+            })
+        }
         Kind::Tomb => Rec::Tomb,
     }
 }

@@ -10,6 +10,7 @@ use Rattle.gated_write.specs.Gated.{open_byte, IsClosed}
 use Rattle.blsm_model.specs.declared.key.Key.{Key}
 use Rattle.blsm_model.specs.Sizes.{Sizes}
 use Rattle.blsm_model.specs.Format.{most_weight}
+use Rattle.record_delta.proofs.FoldingLemmas.{text_is_short}
 use Rattle.record_delta.specs.declared.record.Rec.{Rec}
 use Rattle.record_delta.specs.Records.{weight}
 use Rattle.entry_codec.specs.Spelling.{spelling, IsEntry, BeginsWith}
@@ -139,7 +140,7 @@ last_entry [] e each = All-head (λ x. IsEntry x.0 x.1) e [] each
 last_entry (x ∷ es) e each = last_entry es e (All-tail (λ y. IsEntry y.0 y.1) x (es ++ e ∷ []) each)
 
 heaviest : (e : Key × Rec) → IsEntry e.0 e.1 → weight e.0 e.1 ≤ 512
-heaviest e entry = omega (arith, entry.key_most, entry.in_range.text_fits)
+heaviest e entry = omega (arith, entry.key_most, text_is_short e.1 entry.in_range.text_fits)
 
 -- an open gate there and no entry: the lane is damaged
 pub damaged_here : (sizes : Sizes) (lane : ℕ) (es : List (Key × Rec)) (file : List ℕ) → HasFront sizes lane es file

@@ -6,7 +6,7 @@ use Rattle.blsm_model.specs.declared.key.Key.{Key}
 use Rattle.blsm_model.specs.Sizes.{default_sizes}
 use Rattle.record_delta.specs.declared.record.Rec.{Rec}
 use Rattle.record_delta.specs.declared.record.Rec.TheVariants.{Base, Delta, Tomb}
-use Rattle.entry_codec.specs.Spelling.{head, kind_of, spelling, IsEntry}
+use Rattle.entry_codec.specs.Spelling.{head, kind_of, kind_of_delta, spelling, IsEntry}
 use Rattle.blsm_model.specs.Lanes.{region_start, region_length}
 use Rattle.gated_log.specs.Lane.{blocks, HasEntries, IsDamaged}
 
@@ -53,9 +53,13 @@ open_gate_is_no_end front behind long has =
     let first : 1 ∷ [] ≡ has.gate ∷ [] = sym (ap (λ (l : List ℕ). take 1 l) (drop_at front (1 ∷ behind) 4096 long)) ∙ has.begins in
     has.closed (sym (ap (λ (l : List ℕ). get_or l 0 0) first))
 
+no_delta_is_zero : (tail : List ℕ) → kind_of_delta tail ≡ 0 → ⊥
+no_delta_is_zero [] same = absurd (omega (arith, same))
+no_delta_is_zero (byte ∷ tail) same = absurd (omega (arith, same))
+
 no_kind_is_zero : (rec : Rec) → kind_of rec ≡ 0 → ⊥
 no_kind_is_zero (Base value) same = absurd (omega (arith, same))
-no_kind_is_zero (Delta count) same = absurd (omega (arith, same))
+no_kind_is_zero (Delta change) same = no_delta_is_zero change.text same
 no_kind_is_zero Tomb same = absurd (omega (arith, same))
 
 -- an open gate and kind 0

@@ -110,8 +110,8 @@ impl Tree {
 fn table_a(rt: &impl Abort, alloc: Global) -> Table {
     let entries = [
         (key(rt, b"d"), base(rt, 10, b"x")),
-        (key(rt, b"e"), Rec::Delta(1)),
-        (key(rt, b"b"), Rec::Delta(3)),
+        (key(rt, b"e"), Rec::added(1)),
+        (key(rt, b"b"), Rec::added(3)),
     ];
     table_of(rt, alloc, &entries)
 }
@@ -119,7 +119,7 @@ fn table_a(rt: &impl Abort, alloc: Global) -> Table {
 fn table_b(rt: &impl Abort, alloc: Global) -> Table
     ensures { result.reserved ≡ 65536 }
 {
-    let entries = [(key(rt, b"b"), Rec::Tomb), (key(rt, b"d"), Rec::Delta(5))];
+    let entries = [(key(rt, b"b"), Rec::Tomb), (key(rt, b"d"), Rec::added(5))];
     table_of(rt, alloc, &entries)
 }
 
@@ -262,7 +262,7 @@ fn front(rt: &impl Abort, alloc: Global) -> Vec<Entry> {
 fn make_long(rt: &impl Abort, alloc: Global, store: &mut Store) -> Component {
     let front = front(rt, alloc);
     let back = [
-        (key(rt, b"b"), Rec::Delta(11)),
+        (key(rt, b"b"), Rec::added(11)),
         (key(rt, b"c"), Rec::Tomb),
         (key(rt, b"d"), base(rt, 12, b"")),
     ];

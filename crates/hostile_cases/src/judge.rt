@@ -120,7 +120,9 @@ impl Judge {
     // The reply to a command of a store that runs and whose calls don't fail. For work there is none that is known.
     fn reply_to(&self, op: &Op) -> Result<String, AllocError> {
         match op {
-            Op::Put(..) | Op::Add(..) | Op::Del(_) => String::from_str(self.alloc, "ok"),
+            Op::Put(..) | Op::Add(..) | Op::Tail(..) | Op::Del(_) => String::from_str(
+                self.alloc, "ok",
+            ),
             Op::Get(key) => reply_of(self.alloc, &value_of(&self.writes, key)),
             Op::Hold(..) => String::from_str(self.alloc, "held"),
             Op::Next(n) => match &self.held {
@@ -138,7 +140,7 @@ impl Judge {
     // Goes on by a command that was answered well.
     fn go_on(&mut self, op: &Op) -> Result<(), AllocError> {
         match op {
-            Op::Put(..) | Op::Add(..) | Op::Del(_) => self.writes.push(op.write())?,
+            Op::Put(..) | Op::Add(..) | Op::Tail(..) | Op::Del(_) => self.writes.push(op.write())?,
             Op::Hold(low, high) => {
                 let rows = rows_of(self.alloc, &self.writes, low, high)?;
                 self.held = Some(Held { rows, given: 0 });
@@ -167,8 +169,8 @@ impl Judge {
         match (op, reply) {
             (Op::Get(_) | Op::Next(_), "fault") => self.faults = self.faults.saturating_add(1),
             (Op::Work(_), "fault") => self.stop(),
-            (Op::Put(..) | Op::Add(..) | Op::Del(_), "fault lost") => self.stop(),
-            (Op::Put(..) | Op::Add(..) | Op::Del(_), "fault unsure") => {
+            (Op::Put(..) | Op::Add(..) | Op::Tail(..) | Op::Del(_), "fault lost") => self.stop(),
+            (Op::Put(..) | Op::Add(..) | Op::Tail(..) | Op::Del(_), "fault unsure") => {
                 self.unsure = Some(op.write());
                 self.stop();
             }

@@ -133,7 +133,7 @@ record_of_other es key rec other differs =
 pub stand_more : (es : Entries) (key : Key) (rec : Rec) (writes : List Write) → IsRecord rec → StandFor es writes
     → StandFor (with_record key rec es) (writes ++ writes_of_record key rec)
 stand_more es key rec writes in_range stood = λ q.
-    ap settled (record_after es key rec q) ∙ stands_rec key rec in_range.count_fits q (record_of_key q es) writes (stood q)
+    ap settled (record_after es key rec q) ∙ stands_rec key rec in_range q (record_of_key q es) writes (stood q)
 
 -- ---- a table stays a table
 

@@ -1,11 +1,16 @@
 -- Examples of merges.
 use Rattle.std.proofs.Common.{◌≡◌, [], ◌∷◌, Some, refl, codes}
+use Rattle.record_delta.specs.declared.record.Rec.{Rec}
 use Rattle.record_delta.specs.declared.record.Rec.TheVariants.{Base, Delta, Tomb}
 use Rattle.record_delta.specs.Entries.{Entries, folded_over, settled_entries, above, up_to}
 
 -- x removed and 4 added to y, over x with 100 and z with 1
+-- four is added
+abbrev four : Rec
+four = Delta (record { count = 4; text = [] })
+
 newer : Entries
-newer = (codes "x", Tomb) ∷ (codes "y", Delta 4) ∷ []
+newer = (codes "x", Tomb) ∷ (codes "y", four) ∷ []
 
 older : Entries
 older = (codes "x", Base (record { count = 100; text = codes "old" })) ∷ (codes "z", Base (record { count = 1; text = [] })) ∷ []
@@ -20,11 +25,11 @@ front : folded_over (up_to (Some (codes "x")) newer) (up_to (Some (codes "x")) o
 unfolding newer older
 front = refl
 
-behind : folded_over (above (Some (codes "x")) newer) (above (Some (codes "x")) older) ≡ (codes "y", Delta 4) ∷ (codes "z", Base (record { count = 1; text = [] })) ∷ []
+behind : folded_over (above (Some (codes "x")) newer) (above (Some (codes "x")) older) ≡ (codes "y", four) ∷ (codes "z", Base (record { count = 1; text = [] })) ∷ []
 unfolding newer older
 behind = refl
 
 -- the other way round it would be another list
-turned : folded_over older newer ≡ (codes "x", Base (record { count = 100; text = codes "old" })) ∷ (codes "y", Delta 4) ∷ (codes "z", Base (record { count = 1; text = [] })) ∷ []
+turned : folded_over older newer ≡ (codes "x", Base (record { count = 100; text = codes "old" })) ∷ (codes "y", four) ∷ (codes "z", Base (record { count = 1; text = [] })) ∷ []
 unfolding newer older
 turned = refl

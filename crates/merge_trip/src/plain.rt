@@ -3,7 +3,7 @@ ghost use Rattle.std.specs.Prelude.{◌<◌};
 
 use crate::asserts::assert_that;
 use blsm_model::{Key, Text, Value};
-use record_delta::{Rec, weight};
+use record_delta::{AddPart, Both, Fold, Rec, TailPart, weight};
 use std::alloc::Global;
 use std::process::Abort;
 
@@ -63,7 +63,7 @@ pub fn draw_record(rt: &impl Abort, draws: &mut Draws, longer: u64) -> Rec
         .wrapping_add(draws.below(100));
     match draws.below(6) {
         0..=2 => base(rt, count, draws.below(longer) as usize),
-        3..=4 => Rec::Delta(count),
+        3..=4 => Rec::added(count),
         _ => Rec::Tomb,
     }
 }
@@ -118,20 +118,23 @@ fn weight_at(rt: &impl Abort, list: &[Option<Rec>], number: usize) -> u64 {
     }
 }
 
+// The value that a change alone leaves.
+fn alone(change: &Both<AddPart, TailPart>) -> Value {
+    Value {
+        count: change.count.amount(),
+        text: change.text.text().copy(),
+    }
+}
+
 // The newer record of a key over the older one.
 fn folded(newer: Option<&Rec>, older: Option<&Rec>) -> Option<Rec> {
     match (newer, older) {
         (Some(Rec::Delta(more)), Some(Rec::Base(value))) => Some(Rec::Base(Value {
-            count: value.count.wrapping_add(*more),
-            text: value.text.copy(),
+            count: value.count.wrapping_add(more.count.amount()),
+            text: value.text.with_tail(more.text.text()),
         })),
-        (Some(Rec::Delta(more)), Some(Rec::Delta(count))) => {
-            Some(Rec::Delta(count.wrapping_add(*more)))
-        }
-        (Some(Rec::Delta(more)), Some(Rec::Tomb)) => Some(Rec::Base(Value {
-            count: *more,
-            text: Text::empty(),
-        })),
+        (Some(Rec::Delta(more)), Some(Rec::Delta(older))) => Some(Rec::Delta(more.over(older))),
+        (Some(Rec::Delta(more)), Some(Rec::Tomb)) => Some(Rec::Base(alone(more))),
         (Some(rec), _) | (None, Some(rec)) => Some(rec.copy()),
         (None, None) => None,
     }
@@ -142,10 +145,7 @@ fn folded(newer: Option<&Rec>, older: Option<&Rec>) -> Option<Rec> {
 fn settled_one(rec: &Option<Rec>) -> Option<Rec> {
     match rec {
         Some(Rec::Base(value)) => Some(Rec::Base(value.copy())),
-        Some(Rec::Delta(count)) => Some(Rec::Base(Value {
-            count: *count,
-            text: Text::empty(),
-        })),
+        Some(Rec::Delta(change)) => Some(Rec::Base(alone(change))),
         Some(Rec::Tomb) | None => None,
     }
 }

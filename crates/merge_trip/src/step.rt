@@ -40,10 +40,10 @@ fn least_is(rt: &impl Abort, newer: Standing, older: Standing, rec: Rec, weight:
 
 #[test]
 fn the_lesser_key_and_both_of_one(rt: HostRuntime) {
-    let x = run_at(&rt, b"x", Rec::Delta(4));
+    let x = run_at(&rt, b"x", Rec::added(4));
     let y = run_at(&rt, b"y", Rec::Tomb);
-    least_is(&rt, x, y, Rec::Delta(4), 14);
-    let newer = run_at(&rt, b"x", Rec::Delta(4));
-    let older = run_at(&rt, b"x", Rec::Delta(3));
-    least_is(&rt, newer, older, Rec::Delta(7), 28);
+    least_is(&rt, x, y, Rec::added(4), 14);
+    let newer = run_at(&rt, b"x", Rec::added(4));
+    let older = run_at(&rt, b"x", Rec::added(3));
+    least_is(&rt, newer, older, Rec::added(7), 28);
 }

@@ -32,7 +32,7 @@ fn merge_two(rt: &impl Abort, alloc: Global) -> (Store, Merged) {
     let old_x = base(rt, 100, b"old");
     let old_z = base(rt, 1, b"");
     let mut older = table_of(rt, alloc, (b"x", old_x), (b"z", old_z));
-    let mut newer = table_of(rt, alloc, (b"x", Rec::Tomb), (b"y", Rec::Delta(4)));
+    let mut newer = table_of(rt, alloc, (b"x", Rec::Tomb), (b"y", Rec::added(4)));
     let store = Store::blank(rt, alloc, 1_024);
     let (store, c2) = store.pass_alone(rt, alloc, Role::new(2), &mut older);
     let (store, c1x) = store.pass_alone(rt, alloc, Role::new(1), &mut newer);

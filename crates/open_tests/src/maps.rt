@@ -21,9 +21,23 @@ pub fn empty(rt: &impl Abort, alloc: Global, keys: usize) -> Map {
     map
 }
 
+// A value, or none, with a tail behind its text.
+fn with_tail(value: Option<&Value>, tail: &Text) -> Value {
+    match value {
+        Some(value) => Value {
+            count: value.count,
+            text: value.text.with_tail(tail),
+        },
+        None => Value {
+            count: 0,
+            text: tail.copy(),
+        },
+    }
+}
+
 // What a write makes of the map.
 fn apply(map: &mut [Option<Value>], op: &Op) {
-    let (Op::Put(key, _) | Op::Add(key, _) | Op::Del(key)) = op else {
+    let (Op::Put(key, _) | Op::Add(key, _) | Op::Tail(key, _) | Op::Del(key)) = op else {
         return;
     };
     let Some(place) = map.get_mut(number_of(key)) else {
@@ -39,6 +53,7 @@ fn apply(map: &mut [Option<Value>], op: &Op) {
             count: *more,
             text: Text::empty(),
         }),
+        (Op::Tail(_, tail), older) => Some(with_tail(older, tail)),
         _ => None,
     };
 }

@@ -58,11 +58,24 @@ pub fn add(rt: &impl Abort, number: usize, count: u64) -> Op {
     Op::Add(key_of(rt, number), count)
 }
 
+pub fn tail(rt: &impl Abort, number: usize, text: &[u8]) -> Op {
+    let text = Text::from_bytes(text).expect(rt, "a text");
+    Op::Tail(key_of(rt, number), text)
+}
+
+// A tail of so many times one letter.
+fn draw_tail(rt: &impl Abort, draws: &mut Draws, number: usize) -> Op {
+    let letter = b'a'.wrapping_add(draws.below(26) as u8);
+    let length = 1 + draws.below(Text::MAX_TAIL as u64) as usize;
+    let text = [letter; Text::MAX_TAIL];
+    tail(rt, number, text.get(..length).expect(rt, "a text"))
+}
+
 pub fn del(rt: &impl Abort, number: usize) -> Op {
     Op::Del(key_of(rt, number))
 }
 
-/// Of ten writes five put, three add and two delete; the key's number is below this. Sums of counts often wrap.
+/// Of twelve writes five put, three add, two put a tail and two delete; the key's number is below this. Sums of counts often wrap.
 pub fn draw_write(rt: &impl Abort, draws: &mut Draws, keys: u64) -> Op
     requires { 0 < keys }
 {
@@ -72,9 +85,10 @@ pub fn draw_write(rt: &impl Abort, draws: &mut Draws, keys: u64) -> Op
         .wrapping_mul(u64::MAX / 3)
         .wrapping_add(draws.below(100));
     let length = draws.below(Text::MAX_LEN as u64 + 1) as usize;
-    match draws.below(10) {
+    match draws.below(12) {
         0..=4 => put(rt, number, count, length),
         5..=7 => add(rt, number, count),
+        8..=9 => draw_tail(rt, draws, number),
         _ => del(rt, number),
     }
 }

@@ -57,7 +57,7 @@ not_full_x next content = let full : 3577 ≤ 17 = content.head.full refl in ome
 
 -- keys that fall, and keys that are the same, don't rise
 named : List ℕ → Key × Rec
-named key = (key, Delta 1)
+named key = (key, Delta (record { count = 1; text = [] }))
 
 rising : AreRising (named (codes "a") ∷ named (codes "aa") ∷ named (codes "b") ∷ [])
 unfolding named IsStrictlySortedBy

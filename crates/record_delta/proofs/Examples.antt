@@ -35,7 +35,7 @@ not_over_the_tombstone : record_at removed_then_added x ≡ Some (Base (of 107 (
 not_over_the_tombstone wrong = lengths_differ (ap text_len wrong)
 
 -- adds with no put are a delta, whose sum wraps
-adds_alone : record_at (Add x 18446744073709551615 ∷ Add x 2 ∷ []) x ≡ Some (Delta 1)
+adds_alone : record_at (Add x 18446744073709551615 ∷ Add x 2 ∷ []) x ≡ Some (Delta (record { count = 1; text = [] }))
 adds_alone = refl
 
 adds_settled : settled (record_at (Add x 18446744073709551615 ∷ Add x 2 ∷ []) x) ≡ Some (of 1 [])

@@ -1,24 +1,29 @@
 -- Folding: one record that stands for a newer and an older one.
-use Rattle.std.specs.Prelude.{◌≡◌, ℕ, ◌+◌, ◌%◌, ◌^◌, List, [], ◌∷◌, ◌++◌, Option, Some, None, map, fold as fold_list, if◌then◌else◌}
+use Rattle.std.specs.Prelude.{◌≡◌, List, [], ◌∷◌, ◌++◌, Option, Some, None, map, fold as fold_list, if◌then◌else◌}
 use Rattle.blsm_model.specs.declared.key.Key.{Key}
+use Rattle.blsm_model.specs.declared.row.Value.{Value}
 use Rattle.blsm_model.specs.declared.op.Write.{Write}
 use Rattle.blsm_model.specs.Keys.{same_key}
 use Rattle.blsm_model.specs.Values.{key_of, writes_of_key, value_at}
 use Rattle.record_delta.specs.declared.record.Rec.{Rec}
 use Rattle.record_delta.specs.declared.record.Rec.TheVariants.{Base, Delta, Tomb}
-use Rattle.record_delta.specs.Records.{record_of, bare, settled}
+use Rattle.record_delta.specs.Kinds.{added, tailed}
+use Rattle.record_delta.specs.Records.{record_of, alone, settled, Change}
 
--- counts are added modulo 2 ^ 64
-abbrev pub sum_of : ℕ → ℕ → ℕ
-sum_of newer older = (older + newer) % 2 ^ 64
+-- a newer change over an older one, and over a value
+abbrev pub change_over : Change → Change → Change
+change_over newer older = record { count = added newer.count older.count; text = tailed newer.text older.text }
+
+abbrev pub changed : Change → Value → Value
+changed change value = record { count = added change.count value.count; text = tailed change.text value.text }
 
 -- the newer record over the older one
 abbrev pub fold : Rec → Rec → Rec
 fold (Base value) older = Base value
 fold Tomb older = Tomb
-fold (Delta count) (Base value) = Base (record { count = sum_of count value.count; text = value.text })
-fold (Delta count) (Delta below) = Delta (sum_of count below)
-fold (Delta count) Tomb = Base (bare count)
+fold (Delta change) (Base value) = Base (changed change value)
+fold (Delta newer) (Delta older) = Delta (change_over newer older)
+fold (Delta change) Tomb = Base (alone change)
 
 -- the newer record over what is kept, if anything is
 abbrev pub over : Rec → Option Rec → Rec

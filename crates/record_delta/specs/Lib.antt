@@ -1,3 +1,5 @@
+pub mod Kinds
+pub mod KindLemmas
 pub mod Records
 pub mod Folding
 pub mod Entries

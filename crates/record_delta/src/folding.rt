@@ -5,11 +5,14 @@ ghost use Rattle.blsm_model.specs.declared.op.Write.{Write};
 ghost use Rattle.blsm_model.specs.Format.{overhead};
 ghost use Rattle.blsm_model.specs.Values.{value_at};
 ghost use Rattle.record_delta.specs.declared.record.Rec.{Rec};
-ghost use Rattle.record_delta.specs.Records.{count_of, record_of, writes_of_record, weight as weight_with, settle as settle_of, settled, IsWithin};
+ghost use Rattle.record_delta.specs.Records.{alone as alone_of, record_of, writes_of_record, weight as weight_with, settle as settle_of, settled, IsRecord, IsWithin};
+ghost use Rattle.blsm_model.specs.Tails.{TailFits};
+ghost use Rattle.std.specs.List.{All};
 ghost use Rattle.record_delta.specs.Folding.{fold as fold_of, record_at, kept_after, StandsFor};
 
 use crate::Rec;
-use blsm_model::{Key, Text, Value, Write};
+use crate::kinds::{AddPart, Both, Fold, TailPart};
+use blsm_model::{Key, Value, Write};
 
 /// One record that stands for both: what the newer one makes of the older one.
 pub fn fold(newer: Rec, older: Rec) -> Rec
@@ -29,27 +32,24 @@ pub fn fold(newer: Rec, older: Rec) -> Rec
 // What the newer record makes of the older one, pair by pair.
 fn combined(newer: Rec, older: Rec) -> Rec
     ensures record { result ≡ fold_of newer older }
-    ensures in_range { count_of newer < 2 ^ 64 }
+    ensures in_range { IsRecord newer }
 {
     match (newer, older) {
         (Rec::Base(value), _) => Rec::Base(value),
-        (Rec::Delta(count), Rec::Base(value)) => Rec::Base(Value {
-            count: value.count.wrapping_add(count),
-            text: value.text,
-        }),
-        (Rec::Delta(count), Rec::Delta(below)) => Rec::Delta(below.wrapping_add(count)),
-        (Rec::Delta(count), Rec::Tomb) => Rec::Base(bare(count)),
+        (Rec::Delta(change), Rec::Base(value)) => Rec::Base(change.onto(&value)),
+        (Rec::Delta(newer), Rec::Delta(older)) => Rec::Delta(newer.over(&older)),
+        (Rec::Delta(change), Rec::Tomb) => Rec::Base(alone(&change)),
         (Rec::Tomb, _) => Rec::Tomb,
     }
 }
 
-// The value of a key that had nothing before this count was added.
-fn bare(count: u64) -> Value
-    ensures { result ≡ record { count = count; text = [] } }
+// The value of a key that had nothing before it was changed so.
+fn alone(change: &Both<AddPart, TailPart>) -> Value
+    ensures { result ≡ alone_of change.now }
 {
     Value {
-        count,
-        text: Text::empty(),
+        count: change.count.amount(),
+        text: change.text.text().copy(),
     }
 }
 
@@ -59,13 +59,14 @@ pub fn settle(rec: Rec) -> Option<Value>
 {
     match rec {
         Rec::Base(value) => Some(value),
-        Rec::Delta(count) => Some(bare(count)),
+        Rec::Delta(change) => Some(alone(&change)),
         Rec::Tomb => None,
     }
 }
 
 // What is kept at a key after one more write.
 fn after_write(kept: Option<Rec>, write: &Write, key: &Key) -> Option<Rec>
+    requires { TailFits write.now }
     ensures record { result ≡ kept_after write.now (record_of write.now) key.now kept }
     ensures stands { (writes : List Write) → StandsFor kept writes key.now → StandsFor result (writes ++ write.now ∷ []) key.now }
 {
@@ -81,6 +82,7 @@ fn after_write(kept: Option<Rec>, write: &Write, key: &Key) -> Option<Rec>
 
 /// The record that a list of writes, the oldest first, leaves at a key. Settled, it is the value that they leave.
 pub fn fold_writes(writes: &[Write], key: &Key) -> Option<Rec>
+    requires { All TailFits writes.now }
     ensures record { result ≡ record_at writes.now key.now }
     ensures value { settled result ≡ value_at writes.now key.now }
 {

@@ -4,9 +4,11 @@
 #![tactic(auto)]
 
 mod folding;
+mod kinds;
 mod record;
 mod stream;
 
 pub use folding::{fold, fold_writes, settle};
+pub use kinds::{AddPart, Both, Fold, OfCount, OfText, TailPart};
 pub use record::{Rec, weight};
 pub use stream::Stream;

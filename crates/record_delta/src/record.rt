@@ -1,10 +1,13 @@
 //! Records and their weight.
 ghost use Rattle.std.specs.Prelude.{◌≡◌, ◌≤◌, ⊤, [], ◌∷◌, length};
-ghost use Rattle.blsm_model.specs.Format.{least_weight, most_weight};
+ghost use Rattle.blsm_model.specs.Format.{least_weight, most_text, most_weight};
 ghost use Rattle.blsm_model.specs.Values.{key_of, weight_of};
-ghost use Rattle.record_delta.specs.Records.{record_of, writes_of_record, IsRecord, IsWithin, weight as weight_with};
+ghost use Rattle.blsm_model.specs.Tails.{TailFits};
+ghost use Rattle.record_delta.specs.declared.record.Rec.TheVariants as rec;
+ghost use Rattle.record_delta.specs.Records.{record_of, writes_of_record, text_limit, text_of, IsRecord, IsWithin, weight as weight_with};
 ghost use Rattle.record_delta.specs.Folding.{StandsForMore};
 
+use crate::kinds::{AddPart, Both, TailPart};
 use blsm_model::{Key, Op, Value, Write};
 use std::alloc::AllocError;
 
@@ -13,8 +16,8 @@ use std::alloc::AllocError;
 pub enum Rec {
     /// The key has this value, whatever is older.
     Base(Value),
-    /// This much is added to the count of what is older, modulo 2^64.
-    Delta(u64),
+    /// What is older is changed so: an amount is added to its count, and a tail is put behind its text.
+    Delta(Both<AddPart, TailPart>),
     /// The key is absent, whatever is older.
     Tomb,
 }
@@ -37,15 +40,39 @@ impl Rec {
     {
         match self {
             Rec::Base(value) => Rec::Base(value.copy()),
-            Rec::Delta(count) => Rec::Delta(*count),
+            Rec::Delta(change) => Rec::Delta(Both {
+                count: change.count.copy(),
+                text: change.text.copy(),
+            }),
             Rec::Tomb => Rec::Tomb,
         }
     }
 
-    /// The record of a write: a put's is a base, an add's a delta, a del's a tombstone. With the write's key it weighs
+    /// The delta that adds this amount.
+    pub fn added(amount: u64) -> Rec
+        ensures { result ≡ rec.Delta (record { count = amount; text = [] }) }
+    {
+        Rec::Delta(Both {
+            count: AddPart::new(amount),
+            text: TailPart::empty(),
+        })
+    }
+
+    /// The delta that puts this tail behind.
+    pub fn tailed(tail: TailPart) -> Rec
+        ensures { result ≡ rec.Delta (record { count = 0; text = tail }) }
+    {
+        Rec::Delta(Both {
+            count: AddPart::new(0),
+            text: tail,
+        })
+    }
+
+    /// The record of a write: a put's is a base, an add's and a tail's a delta, a del's a tombstone. With the write's key it weighs
     /// what the write does.
     #[tactic(auto, using(crate::proofs::FoldingLemmas::stands_more))]
     pub fn of_write(write: &Write) -> Rec
+        requires { TailFits write.now }
         ensures record { result ≡ record_of write.now }
         ensures write { writes_of_record (key_of write.now) result ≡ write.now ∷ [] }
         ensures weight { weight_with (key_of write.now) result ≡ weight_of write.now }
@@ -53,14 +80,17 @@ impl Rec {
     {
         match write {
             Write::Put(_, value) => Rec::Base(value.copy()),
-            Write::Add(_, count) => Rec::Delta(*count),
+            Write::Add(_, count) => Rec::added(*count),
+            Write::Tail(_, tail) => match TailPart::new(tail.copy()) {
+                Some(tail) => Rec::tailed(tail),
+                None => unreachable!(),
+            },
             Write::Del(_) => Rec::Tomb,
         }
     }
 }
 
-/// The weight of a record with its key, in bytes: 13, the key, which has one byte at least, and the text, which only a base
-/// has.
+/// The weight of a record with its key, in bytes: 13, the key, which has one byte at least, and the text of a base or the tail of a delta.
 pub fn weight(key: &Key, rec: &Rec) -> u64
     ensures weight { result ≡ weight_with key.now rec.now }
     ensures not_empty { 1 ≤ length key.now }
@@ -68,9 +98,18 @@ pub fn weight(key: &Key, rec: &Rec) -> u64
     ensures within { IsWithin key.now rec.now }
     ensures most { result ≤ most_weight }
 {
-    let text = match rec {
+    Op::OVERHEAD + key.as_bytes().len() as u64 + text_length(rec)
+}
+
+// How many bytes the text of a base or the tail of a delta has.
+fn text_length(rec: &Rec) -> u64
+    ensures length { result ≡ length (text_of rec.now) }
+    ensures fits { result ≤ text_limit rec.now }
+    ensures most { result ≤ most_text }
+{
+    match rec {
         Rec::Base(value) => value.text.as_bytes().len() as u64,
-        Rec::Delta(_) | Rec::Tomb => 0,
-    };
-    Op::OVERHEAD + key.as_bytes().len() as u64 + text
+        Rec::Delta(change) => change.text.text().as_bytes().len() as u64,
+        Rec::Tomb => 0,
+    }
 }

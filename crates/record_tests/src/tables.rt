@@ -2,8 +2,8 @@
 ghost use Rattle.std.specs.Prelude.{◌≡◌, ◌<◌};
 
 use crate::asserts::{assert_same, assert_that};
-use crate::samples::{base, key, value};
-use blsm_model::{Key, Value, Write, value_of};
+use crate::samples::{all_fit, base, fits, key, value};
+use blsm_model::{Key, Text, Value, Write, value_of};
 use mem_table::{Above, Steps, Table};
 use record_delta::{Rec, Stream, fold_writes, settle, weight};
 use std::alloc::Global;
@@ -40,11 +40,20 @@ fn any_key(rt: &impl Abort, draws: &mut Draws) -> Key {
     key(rt, letters.get(..len).expect(rt, "so many"))
 }
 
-// Three puts in five, three adds in ten, one del in ten. Sums of counts wrap often.
+// A tail of 1 to 64 times one letter.
+fn any_tail(rt: &impl Abort, draws: &mut Draws, key: Key) -> Write {
+    let letter = b'a'.wrapping_add(draws.below(26) as u8);
+    let len = 1 + draws.below(Text::MAX_TAIL as u64) as usize;
+    let bytes = [letter; Text::MAX_TAIL];
+    let tail = bytes.get(..len).expect(rt, "so many");
+    Write::Tail(key, Text::from_bytes(tail).expect(rt, "a text"))
+}
+
+// Of twelve six are puts, three adds, two tails and one a del. Sums of counts wrap often.
 fn any_write(rt: &impl Abort, draws: &mut Draws) -> Write {
     let key = any_key(rt, draws);
     let count = draws.below(3) * (u64::MAX / 3) + draws.below(100);
-    match draws.below(10) {
+    match draws.below(12) {
         0..=5 => {
             let len = draws.below(300) as usize;
             Write::Put(
@@ -53,6 +62,7 @@ fn any_write(rt: &impl Abort, draws: &mut Draws) -> Write {
             )
         }
         6..=8 => Write::Add(key, count),
+        9..=10 => any_tail(rt, draws, key),
         _ => Write::Del(key),
     }
 }
@@ -98,6 +108,7 @@ fn place_among(keys: &[Key], key: &Key) -> Option<u32> {
 
 // The table has a key's place and record as the lists do, whichever way they are looked up.
 fn as_written(rt: &impl Abort, table: &Table, written: &Written, key: &Key) {
+    assert!(rt; all_fit(&written.writes));
     let record = fold_writes(&written.writes, key);
     assert_same(rt, table.place_of(key), place_among(&written.keys, key));
     let found = searched::<Brand>(table, key, Blank::new(1));
@@ -120,6 +131,7 @@ fn one_more(rt: &impl Abort, table: &mut Table, written: &mut Written, draws: &m
     ensures { table.new.reserved ≡ RESERVED }
 {
     let write = any_write(rt, draws);
+    assert!(rt; fits(&write));
     let key = write.key().copy();
     fold_in(rt, table, &key, &Rec::of_write(&write));
     note(rt, written, write);
@@ -223,27 +235,27 @@ fn three_keys_in_order(rt: HostRuntime) {
     is_empty(&rt, &table);
     fold_of(&rt, &mut table, b"b", base(&rt, 5, b"hi"));
     fold_of(&rt, &mut table, b"aa", Rec::Tomb);
-    fold_of(&rt, &mut table, b"a", Rec::Delta(7));
-    fold_of(&rt, &mut table, b"b", Rec::Delta(u64::MAX));
+    fold_of(&rt, &mut table, b"a", Rec::added(7));
+    fold_of(&rt, &mut table, b"b", Rec::added(u64::MAX));
     assert_same(&rt, table.weight(), 14 + 15 + 16);
     has(&rt, &table, b"b", Some(base(&rt, 4, b"hi")));
-    goes_on(&rt, &table, None, b"a", Rec::Delta(7));
+    goes_on(&rt, &table, None, b"a", Rec::added(7));
     goes_on(&rt, &table, Some(b"a"), b"aa", Rec::Tomb);
     goes_on(&rt, &table, Some(b"ab"), b"b", base(&rt, 4, b"hi"));
     assert_that(&rt, table.least_above(Some(key(&rt, b"b"))).is_none());
     table.clear();
     is_empty(&rt, &table);
-    fold_of(&rt, &mut table, b"b", Rec::Delta(1));
-    has(&rt, &table, b"b", Some(Rec::Delta(1)));
+    fold_of(&rt, &mut table, b"b", Rec::added(1));
+    has(&rt, &table, b"b", Some(Rec::added(1)));
 }
 
 // A key keeps the place in which it came, until the table is cleared.
 #[test]
 fn keys_keep_their_places(rt: HostRuntime) {
     let mut table = reserved(&rt, rt.alloc());
-    fold_of(&rt, &mut table, b"b", Rec::Delta(1));
+    fold_of(&rt, &mut table, b"b", Rec::added(1));
     fold_of(&rt, &mut table, b"aa", Rec::Tomb);
-    fold_of(&rt, &mut table, b"a", Rec::Delta(7));
+    fold_of(&rt, &mut table, b"a", Rec::added(7));
     fold_of(&rt, &mut table, b"b", Rec::Tomb);
     stands_at(&rt, &table, b"b", Some(0));
     stands_at(&rt, &table, b"aa", Some(1));
@@ -265,12 +277,12 @@ fn head_of<S: Stream>(run: &S) -> Option<(Key, Rec)>
 fn a_table_from_a_key_on(rt: HostRuntime) {
     let mut table = reserved(&rt, rt.alloc());
     fold_of(&rt, &mut table, b"b", Rec::Tomb);
-    fold_of(&rt, &mut table, b"a", Rec::Delta(7));
+    fold_of(&rt, &mut table, b"a", Rec::added(7));
     let all = Above {
         table: &table,
         key: None,
     };
-    assert_same(&rt, head_of(&all), Some((key(&rt, b"a"), Rec::Delta(7))));
+    assert_same(&rt, head_of(&all), Some((key(&rt, b"a"), Rec::added(7))));
     let behind = Above {
         table: &table,
         key: Some(key(&rt, b"a")),

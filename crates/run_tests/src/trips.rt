@@ -17,7 +17,7 @@ use std::process::Abort;
 pub fn entry(rt: &impl Abort, n: u32) -> (Key, Rec) {
     let key = Key::from_bytes(&n.to_be_bytes()).expect(rt, "a key");
     let rec = match n % 8 {
-        6 => Rec::Delta(u64::from(n)),
+        6 => Rec::added(u64::from(n)),
         7 => Rec::Tomb,
         _ => Rec::Base(Value {
             count: u64::from(n),

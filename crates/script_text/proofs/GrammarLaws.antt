@@ -9,7 +9,7 @@ use Rattle.std.proofs.lemmas.Fmt.{decimal_injective, decimal_nonempty}
 use Rattle.std.proofs.Math.Seq.{drop-append_seam}
 use Rattle.blsm_model.specs.declared.row.Value.{Value}
 use Rattle.blsm_model.specs.declared.op.Op.{Op}
-use Rattle.blsm_model.specs.declared.op.Op.TheVariants.{Put, Add, Del, Get, Hold, Next, Release, Work}
+use Rattle.blsm_model.specs.declared.op.Op.TheVariants.{Put, Add, Tail, Del, Get, Hold, Next, Release, Work}
 use Rattle.blsm_model.specs.declared.history.Line.{Line}
 use Rattle.blsm_model.specs.Printed.{and_number, and_value, and_word, command_text, spelled}
 use Rattle.script_text.specs.Grammar.{IsAllowed, IsBadLine, IsCommand, IsKey, IsLine, IsOnlyBadLine, IsOnlyReading, IsScript, IsText, all_rows_asked, first_line, line_text, lines_text, rows_of}
@@ -50,6 +50,14 @@ one_add key count (Add k n) (is_key, small) (is_k, small_n) is =
     λ i. Add (same_key i) (same_count i)
 one_add key count _ x y is = absurd (omega (arith, heads is))
 
+one_tail : (key tail : List ℕ) (y : Op) → IsCommand (Tail key tail) → IsCommand y → command_text (Tail key tail) ≡ command_text y → Tail key tail ≡ y
+one_tail key tail (Tail k t) (is_key, is_tail) (is_k, is_t) is =
+    let both = one_cut 32 key k tail t (visible_lacks 32 key (omega arith) is_key.visible) (visible_lacks 32 k (omega arith) is_k.visible) (ap (λ (l : List ℕ). drop 5 l) is) in
+    let same_key : key ≡ k = both.0 in
+    let same_tail : tail ≡ t = both.1 in
+    λ i. Tail (same_key i) (same_tail i)
+one_tail key tail _ x y is = absurd (omega (arith, heads is))
+
 one_del : (key : List ℕ) (y : Op) → command_text (Del key) ≡ command_text y → Del key ≡ y
 one_del key (Del k) is = ap (λ (l : List ℕ). Del l) (ap (λ (l : List ℕ). drop 4 l) is)
 one_del key Release is = absurd (omega (arith, heads (ap (λ (l : List ℕ). drop 1 l) is)))
@@ -83,6 +91,7 @@ one_work n _ x y is = absurd (omega (arith, heads is))
 one_command : (x y : Op) → IsCommand x → IsCommand y → command_text x ≡ command_text y → x ≡ y
 one_command (Put key value) y allowed_x allowed_y is = one_put key value y allowed_x allowed_y is
 one_command (Add key count) y allowed_x allowed_y is = one_add key count y allowed_x allowed_y is
+one_command (Tail key tail) y allowed_x allowed_y is = one_tail key tail y allowed_x allowed_y is
 one_command (Del key) y allowed_x allowed_y is = one_del key y is
 one_command (Get key) y allowed_x allowed_y is = one_get key y is
 one_command (Hold low high) y allowed_x allowed_y is = one_hold low high y allowed_x allowed_y is
@@ -128,6 +137,10 @@ command_lacks (Add key count) (is_key, small) =
     All-append (λ byte. byte ≢ 10) (codes "add" ++ and_word key) (and_number count)
     (All-append (λ byte. byte ≢ 10) (codes "add") (and_word key) (three_lack 97 100 100 (λ same. absurd (omega arith)) (λ same. absurd (omega arith)) (λ same. absurd (omega arith))) (key_lacks key is_key))
     (number_lacks count small)
+command_lacks (Tail key tail) (is_key, is_tail) =
+    All-append (λ byte. byte ≢ 10) (codes "tail" ++ and_word key) (and_word tail)
+    (All-append (λ byte. byte ≢ 10) (codes "tail") (and_word key) (four_lack 116 97 105 108 (λ same. absurd (omega arith)) (λ same. absurd (omega arith)) (λ same. absurd (omega arith)) (λ same. absurd (omega arith))) (key_lacks key is_key))
+    (All-cons (λ byte. byte ≢ 10) 32 tail (λ same. absurd (omega arith)) (visible_lacks 10 tail (omega arith) is_tail.visible))
 command_lacks (Del key) is_key =
     All-append (λ byte. byte ≢ 10) (codes "del") (and_word key) (three_lack 100 101 108 (λ same. absurd (omega arith)) (λ same. absurd (omega arith)) (λ same. absurd (omega arith))) (key_lacks key is_key)
 command_lacks (Get key) is_key =

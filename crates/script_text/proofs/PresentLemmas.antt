@@ -14,12 +14,12 @@ use Rattle.std.proofs.Math.ListN.{length-replicate}
 use Rattle.blsm_model.specs.declared.key.Key.{Key}
 use Rattle.blsm_model.specs.declared.row.Value.{Value}
 use Rattle.blsm_model.specs.declared.op.Write.{Write}
-use Rattle.blsm_model.specs.declared.op.Write.TheVariants.{Put, Add, Del}
+use Rattle.blsm_model.specs.declared.op.Write.TheVariants.{Put, Add, Tail, Del}
 use Rattle.blsm_model.specs.Keys.{key_cmp, same_key}
 use Rattle.blsm_model.specs.Values.{key_of, value_at}
 use Rattle.blsm_model.specs.Rows.{map_of}
 use Rattle.blsm_model.proofs.RowLemmas.{find-map_of, is_sorted-map_of}
-use Rattle.blsm_model.proofs.ValueLemmas.{value_at-add, value_at-del, value_at-other, value_at-put}
+use Rattle.blsm_model.proofs.ValueLemmas.{value_at-add, value_at-del, value_at-other, value_at-put, value_at-tail}
 use Rattle.script_text.specs.Generated.{digit_at, key_at}
 use Rattle.script_text.specs.Summary.{Tells}
 
@@ -136,6 +136,7 @@ length_unset writes w is =
 abbrev leaves : Write → Bool
 leaves (Put key value) = true
 leaves (Add key count) = true
+leaves (Tail key tail) = true
 leaves (Del key) = false
 
 itself : (k : Key) → same_key k k ≡ true
@@ -144,6 +145,7 @@ itself k = (bytes_decides k k).1 refl
 left_value : (writes : List Write) (w : Write) → is_some (value_at (writes ++ w ∷ []) (key_of w)) ≡ leaves w
 left_value writes (Put key value) = ap (λ (o : Option Value). is_some o) (value_at-put writes key key value (itself key))
 left_value writes (Add key count) = ap (λ (o : Option Value). is_some o) (value_at-add writes key key count (itself key))
+left_value writes (Tail key tail) = ap (λ (o : Option Value). is_some o) (value_at-tail writes key key tail (itself key))
 left_value writes (Del key) = ap (λ (o : Option Value). is_some o) (value_at-del writes key key (itself key))
 
 -- the flags that are up are as many as the keys, after one more write too
@@ -196,6 +198,9 @@ tells_put flags writes key value place below is tells = tells_more flags writes 
 
 pub tells_add : (flags : List Bool) (writes : List Write) (key : Key) (count place : ℕ) → place < 1500 → key ≡ key_at place → Tells flags writes → Tells (set flags place true) (writes ++ Add key count ∷ [])
 tells_add flags writes key count place below is tells = tells_more flags writes (Add key count) place below is tells
+
+pub tells_tail : (flags : List Bool) (writes : List Write) (key : Key) (tail : List ℕ) (place : ℕ) → place < 1500 → key ≡ key_at place → Tells flags writes → Tells (set flags place true) (writes ++ Tail key tail ∷ [])
+tells_tail flags writes key tail place below is tells = tells_more flags writes (Tail key tail) place below is tells
 
 pub tells_del : (flags : List Bool) (writes : List Write) (key : Key) (place : ℕ) → place < 1500 → key ≡ key_at place → Tells flags writes → Tells (set flags place false) (writes ++ Del key ∷ [])
 tells_del flags writes key place below is tells = tells_more flags writes (Del key) place below is tells

@@ -13,12 +13,12 @@ use Rattle.std.proofs.lemmas.Fmt.{IsAscii-decimal, decimal_nonempty, decimal_dig
 use Rattle.std.specs.Borrow.{Bor}
 use Rattle.blsm_model.specs.declared.row.Value.{Value}
 use Rattle.blsm_model.specs.declared.op.Op.{Op}
-use Rattle.blsm_model.specs.declared.op.Op.TheVariants.{Put, Add, Del, Get, Hold, Next, Release, Work}
+use Rattle.blsm_model.specs.declared.op.Op.TheVariants.{Put, Add, Tail, Del, Get, Hold, Next, Release, Work}
 use Rattle.blsm_model.specs.Printed.{command_text, and_value, and_number, and_word}
 use Rattle.script_text.specs.declared.read_line.Verb.{Verb}
 use Rattle.script_text.specs.declared.read_line.Verb.TheVariants as verb
 use Rattle.script_text.specs.Grammar.{IsVisible, IsCommand}
-use Rattle.script_text.specs.Reading.{Reads, Lacks, IsJoined, BeginsAsNumber, SpellsNumber, SpellsSeat, SpellsKeyAndValue, SpellsKeyAndNumber, SpellsArguments, SpellsBare, SpellsCommand, SpellsCount, SpellsTwoKeys, verb_text}
+use Rattle.script_text.specs.Reading.{Reads, Lacks, IsJoined, BeginsAsNumber, SpellsNumber, SpellsSeat, SpellsKeyAndValue, SpellsKeyAndNumber, SpellsKeyAndTail, SpellsArguments, SpellsBare, SpellsCommand, SpellsCount, SpellsTwoKeys, verb_text}
 
 -- an answer of none
 pub reads_nothing : {X : Type 0} (Spells : List ℕ → X → Type 0) (bytes : List ℕ) (result : Option X) → result ≡ None → ((x : X) → Spells bytes x → ⊥) → Reads Spells bytes result
@@ -115,6 +115,11 @@ pub no_add : (bytes : List ℕ) → ((x : List ℕ × ℕ) → SpellsKeyAndNumbe
 no_add bytes none (Add key count) (is, (is_key, small)) = none (key, count) (sym (ap (λ (l : List ℕ). drop 4 l) is), is_key, small)
 no_add bytes none _ (is, allowed) = absurd (omega (arith, heads is))
 
+-- what isn't a key and a tail is no tail's arguments
+pub no_tail : (bytes : List ℕ) → ((x : List ℕ × List ℕ) → SpellsKeyAndTail bytes x → ⊥) → (op : Op) → SpellsArguments verb.Tail bytes op → ⊥
+no_tail bytes none (Tail key tail) (is, (is_key, is_tail)) = none (key, tail) (sym (ap (λ (l : List ℕ). drop 5 l) is), is_key, is_tail)
+no_tail bytes none _ (is, allowed) = absurd (omega (arith, heads is))
+
 -- what isn't two keys is no hold's arguments
 pub no_hold : (bytes : List ℕ) → ((x : List ℕ × List ℕ) → SpellsTwoKeys bytes x → ⊥) → (op : Op) → SpellsArguments verb.Hold bytes op → ⊥
 no_hold bytes none (Hold low high) (is, (is_low, is_high)) = none (low, high) (sym (ap (λ (l : List ℕ). drop 5 l) is), is_low, is_high)
@@ -138,6 +143,7 @@ pub data Form (op : Op) : Type 0 where
 pub form_of : (op : Op) → Form op
 form_of (Put key value) = worded verb.Put (key ++ and_value value) refl
 form_of (Add key count) = worded verb.Add (key ++ and_number count) refl
+form_of (Tail key tail) = worded verb.Tail (key ++ and_word tail) refl
 form_of (Del key) = worded verb.Del key refl
 form_of (Get key) = worded verb.Get key refl
 form_of (Hold low high) = worded verb.Hold (low ++ and_word high) refl
@@ -149,6 +155,7 @@ form_of (Work n) = worded verb.Work (decimal n) refl
 pub verb_lacks : (v : Verb) → Lacks 32 (verb_text v)
 verb_lacks verb.Put = All-from_recursion (λ byte. byte ≢ 32) (verb_text verb.Put) (λ same. absurd (omega arith), (λ same. absurd (omega arith), (λ same. absurd (omega arith), tt)))
 verb_lacks verb.Add = All-from_recursion (λ byte. byte ≢ 32) (verb_text verb.Add) (λ same. absurd (omega arith), (λ same. absurd (omega arith), (λ same. absurd (omega arith), tt)))
+verb_lacks verb.Tail = All-from_recursion (λ byte. byte ≢ 32) (verb_text verb.Tail) (λ same. absurd (omega arith), (λ same. absurd (omega arith), (λ same. absurd (omega arith), (λ same. absurd (omega arith), tt))))
 verb_lacks verb.Del = All-from_recursion (λ byte. byte ≢ 32) (verb_text verb.Del) (λ same. absurd (omega arith), (λ same. absurd (omega arith), (λ same. absurd (omega arith), tt)))
 verb_lacks verb.Get = All-from_recursion (λ byte. byte ≢ 32) (verb_text verb.Get) (λ same. absurd (omega arith), (λ same. absurd (omega arith), (λ same. absurd (omega arith), tt)))
 verb_lacks verb.Hold = All-from_recursion (λ byte. byte ≢ 32) (verb_text verb.Hold) (λ same. absurd (omega arith), (λ same. absurd (omega arith), (λ same. absurd (omega arith), (λ same. absurd (omega arith), tt))))

@@ -1,9 +1,9 @@
 -- The grammar of scripts: which lines there are, how each is spelled, and which line of a text is the first that is wrong.
 use Rattle.std.specs.Prelude.{◌≡◌, ◌≢◌, ⊤, ℕ, ◌+◌, ◌^◌, ◌<◌, ◌≤◌, ◌⊎◌, ◌==◌, List, [], ◌∷◌, ◌++◌, length, decimal, flat_map, sum_by}
 use Rattle.std.specs.List.{All, before_first}
-use Rattle.blsm_model.specs.Format.{callers, most_key, most_lines, most_rows, most_rows_asked, most_text}
+use Rattle.blsm_model.specs.Format.{callers, most_key, most_lines, most_rows, most_rows_asked, most_tail, most_text}
 use Rattle.blsm_model.specs.declared.op.Op.{Op}
-use Rattle.blsm_model.specs.declared.op.Op.TheVariants.{Put, Add, Del, Get, Hold, Next, Release, Work}
+use Rattle.blsm_model.specs.declared.op.Op.TheVariants.{Put, Add, Tail, Del, Get, Hold, Next, Release, Work}
 use Rattle.blsm_model.specs.declared.history.Line.{Line}
 use Rattle.blsm_model.specs.Printed.{and_word, command_text}
 
@@ -22,6 +22,12 @@ pub record IsText (text : List ℕ) : Type 0 where
   pub visible : All IsVisible text
   pub no_dash : text ≢ 45 ∷ []
 
+pub record IsTail (tail : List ℕ) : Type 0 where
+  pub some : 1 ≤ length tail
+  pub fits : length tail ≤ most_tail
+  pub visible : All IsVisible tail
+  pub no_dash : tail ≢ 45 ∷ []
+
 -- how many turns of merging a command may ask for
 abbrev pub most_turns : ℕ
 most_turns = 100000
@@ -30,6 +36,7 @@ most_turns = 100000
 abbrev pub IsCommand : Op → Type 0
 IsCommand (Put key value) = IsKey key × (value.count < 2 ^ 64) × IsText value.text
 IsCommand (Add key count) = IsKey key × (count < 2 ^ 64)
+IsCommand (Tail key tail) = IsKey key × IsTail tail
 IsCommand (Del key) = IsKey key
 IsCommand (Get key) = IsKey key
 IsCommand (Hold low high) = IsKey low × IsKey high

@@ -8,7 +8,7 @@ use Rattle.blsm_model.specs.declared.op.Op.TheVariants.{Release}
 use Rattle.script_text.specs.declared.read_line.Verb.{Verb}
 use Rattle.script_text.specs.declared.read_line.Verb.TheVariants as verb
 use Rattle.blsm_model.specs.Printed.{and_number, and_value, and_word, command_text, spelled}
-use Rattle.script_text.specs.Grammar.{IsCommand, IsKey, IsText}
+use Rattle.script_text.specs.Grammar.{IsCommand, IsKey, IsTail, IsText}
 
 -- the answer is what the bytes spell, and there is none only where they spell nothing
 abbrev pub Reads : {X : Type 0} → (List ℕ → X → Type 0) → List ℕ → Option X → Type 0
@@ -53,12 +53,19 @@ SpellsKeyAndValue bytes both = (bytes ≡ both.0 ++ and_value both.1) × IsKey b
 abbrev pub SpellsKeyAndNumber : List ℕ → (List ℕ × ℕ) → Type 0
 SpellsKeyAndNumber bytes both = (bytes ≡ both.0 ++ and_number both.1) × IsKey both.0 × (both.1 < 2 ^ 64)
 
+abbrev pub SpellsTail : List ℕ → List ℕ → Type 0
+SpellsTail bytes tail = (bytes ≡ tail) × IsTail tail
+
+abbrev pub SpellsKeyAndTail : List ℕ → (List ℕ × List ℕ) → Type 0
+SpellsKeyAndTail bytes both = (bytes ≡ both.0 ++ and_word both.1) × IsKey both.0 × IsTail both.1
+
 abbrev pub SpellsTwoKeys : List ℕ → (List ℕ × List ℕ) → Type 0
 SpellsTwoKeys bytes both = (bytes ≡ both.0 ++ and_word both.1) × IsKey both.0 × IsKey both.1
 
 abbrev pub verb_text : Verb → List ℕ
 verb_text verb.Put = codes "put"
 verb_text verb.Add = codes "add"
+verb_text verb.Tail = codes "tail"
 verb_text verb.Del = codes "del"
 verb_text verb.Get = codes "get"
 verb_text verb.Hold = codes "hold"

@@ -3,7 +3,7 @@ ghost use Rattle.std.specs.Prelude.{◌≡◌, ◌+◌, ◌≤◌, ◌++◌, cod
 ghost use Rattle.blsm_model.specs.Printed.{and_number, and_value, and_word, command_text};
 
 use crate::piece::{AND_KEY, COMMAND, LONGEST, Piece};
-use blsm_model::{Key, Op, Value};
+use blsm_model::{Key, Op, Text, Value};
 
 fn add_named_key(piece: &mut Piece, name: &[u8], key: &Key)
     requires { length piece.old + length name.now + AND_KEY ≤ LONGEST }
@@ -32,6 +32,15 @@ fn add_add(piece: &mut Piece, key: &Key, count: u64)
     piece.add_and_number(count);
 }
 
+fn add_tail(piece: &mut Piece, key: &Key, tail: &Text)
+    requires { length piece.old + COMMAND ≤ LONGEST }
+    ensures text { piece.new ≡ piece.old ++ (codes "tail" ++ and_word key.now ++ and_word tail.now) }
+    ensures fits { length piece.new ≤ length piece.old + COMMAND }
+{
+    add_named_key(piece, b"tail", key);
+    piece.add_and_tail(tail);
+}
+
 fn add_hold(piece: &mut Piece, low: &Key, high: &Key)
     requires { length piece.old + COMMAND ≤ LONGEST }
     ensures text { piece.new ≡ piece.old ++ (codes "hold" ++ and_word low.now ++ and_word high.now) }
@@ -50,6 +59,7 @@ pub fn add_command(piece: &mut Piece, op: &Op)
     match op {
         Op::Put(key, value) => add_put(piece, key, value),
         Op::Add(key, count) => add_add(piece, key, *count),
+        Op::Tail(key, tail) => add_tail(piece, key, tail),
         Op::Del(key) => add_named_key(piece, b"del", key),
         Op::Get(key) => add_named_key(piece, b"get", key),
         Op::Hold(low, high) => add_hold(piece, low, high),

@@ -159,6 +159,15 @@ impl Piece {
         self.add_and_word(spelling(text));
     }
 
+    /// Adds a tail with a space before it.
+    pub fn add_and_tail(&mut self, tail: &Text)
+        requires { length self.old + AND_TEXT ≤ LONGEST }
+        ensures text { self.new ≡ self.old ++ and_word tail.now }
+        ensures fits { length self.new ≤ length self.old + AND_TEXT }
+    {
+        self.add_and_word(tail.as_bytes());
+    }
+
     /// Adds a value's count and text, with a space before each.
     pub fn add_and_value(&mut self, value: &Value)
         requires { length self.old + AND_VALUE ≤ LONGEST }

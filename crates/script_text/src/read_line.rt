@@ -1,10 +1,10 @@
 // One line of a script.
 ghost use Rattle.std.specs.Option.{option_copied};
 ghost use Rattle.script_text.specs.Grammar.{IsLine};
-ghost use Rattle.script_text.specs.Reading.{IsJoined, Lacks, Reads, SpellsArguments, SpellsBare, SpellsCommand, SpellsKeyAndNumber, SpellsKeyAndValue, SpellsTwoKeys, SpellsValue, SpellsVerb};
+ghost use Rattle.script_text.specs.Reading.{IsJoined, Lacks, Reads, SpellsArguments, SpellsBare, SpellsCommand, SpellsKeyAndNumber, SpellsKeyAndTail, SpellsKeyAndValue, SpellsTwoKeys, SpellsValue, SpellsVerb};
 
-use crate::read_word::{read_count, read_key, read_number, read_seat, read_text};
-use blsm_model::{Key, Line, Op, RowList, Value};
+use crate::read_word::{read_count, read_key, read_number, read_seat, read_tail, read_text};
+use blsm_model::{Key, Line, Op, RowList, Text, Value};
 
 // How many turns of merging a line may ask for.
 const MOST_TURNS: u32 = 100_000;
@@ -53,6 +53,16 @@ fn read_key_and_number(bytes: &[u8]) -> Option<(Key, u64)>
     Some((key, count))
 }
 
+fn read_key_and_tail(bytes: &[u8]) -> Option<(Key, Text)>
+    ensures { Reads SpellsKeyAndTail bytes.now result }
+{
+    let (word, rest) = cut(bytes, b' ');
+    let rest = rest?;
+    let key = read_key(word)?;
+    let tail = read_tail(rest)?;
+    Some((key, tail))
+}
+
 fn read_two_keys(bytes: &[u8]) -> Option<(Key, Key)>
     ensures { Reads SpellsTwoKeys bytes.now result }
 {
@@ -67,6 +77,7 @@ fn read_two_keys(bytes: &[u8]) -> Option<(Key, Key)>
 enum Verb {
     Put,
     Add,
+    Tail,
     Del,
     Get,
     Hold,
@@ -80,6 +91,7 @@ fn read_verb(word: &[u8]) -> Option<Verb>
     match word {
         b"put" => Some(Verb::Put),
         b"add" => Some(Verb::Add),
+        b"tail" => Some(Verb::Tail),
         b"del" => Some(Verb::Del),
         b"get" => Some(Verb::Get),
         b"hold" => Some(Verb::Hold),
@@ -111,6 +123,10 @@ fn read_arguments(verb: Verb, bytes: &[u8]) -> Option<Op>
         Verb::Add => {
             let (key, count) = read_key_and_number(bytes)?;
             Some(Op::Add(key, count))
+        }
+        Verb::Tail => {
+            let (key, tail) = read_key_and_tail(bytes)?;
+            Some(Op::Tail(key, tail))
         }
         Verb::Del => Some(Op::Del(read_key(bytes)?)),
         Verb::Get => Some(Op::Get(read_key(bytes)?)),

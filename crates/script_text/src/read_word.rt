@@ -2,7 +2,7 @@
 ghost use Rattle.std.specs.Prelude.{◌↔◌, IsTrue};
 ghost use Rattle.std.specs.List.{All};
 ghost use Rattle.script_text.specs.Grammar.{IsVisible};
-ghost use Rattle.script_text.specs.Reading.{BeginsAsNumber, Reads, SpellsCount, SpellsKey, SpellsNumber, SpellsSeat, SpellsText};
+ghost use Rattle.script_text.specs.Reading.{BeginsAsNumber, Reads, SpellsCount, SpellsKey, SpellsNumber, SpellsSeat, SpellsTail, SpellsText};
 
 use blsm_model::{CALLERS, Key, Text};
 use std::str;
@@ -66,6 +66,17 @@ pub fn read_key(word: &[u8]) -> Option<Key>
         Key::from_bytes(word)
     } else {
         None
+    }
+}
+
+// A dash alone is no tail.
+pub fn read_tail(word: &[u8]) -> Option<Text>
+    ensures { Reads SpellsTail word.now result }
+{
+    match word {
+        b"-" | [] => None,
+        _ if word.len() <= Text::MAX_TAIL && is_visible(word) => Text::from_bytes(word),
+        _ => None,
     }
 }
 

@@ -111,6 +111,7 @@ fn note_write(flags: &mut [bool; PLACES], op: &Op)
     match op {
         Op::Put(key, _) => flags[place_of(key)] = true,
         Op::Add(key, _) => flags[place_of(key)] = true,
+        Op::Tail(key, _) => flags[place_of(key)] = true,
         Op::Del(key) => flags[place_of(key)] = false,
         _ => (),
     }

@@ -126,7 +126,7 @@ impl Judge {
                 Reply::Did(turns) => assert!(rt; turns <= n),
                 _ => rt.abort(),
             },
-            Op::Put(..) | Op::Add(..) | Op::Del(_) => {
+            Op::Put(..) | Op::Add(..) | Op::Tail(..) | Op::Del(_) => {
                 assert_that(rt, *reply == Reply::Done);
                 assert_that(rt, self.writes.push(op.write()).is_ok());
             }

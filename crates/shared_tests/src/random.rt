@@ -33,7 +33,7 @@ fn any_command(alloc: Global, draws: &mut Draws) -> Result<String, AllocError> {
     let key = draws.below(10);
     let other = draws.below(10);
     let count = draws.below(1_000);
-    match draws.below(16) {
+    match draws.below(18) {
         0..=5 => format!(in alloc; "put k{key} {count} {LETTERS}"),
         6..=7 => format!(in alloc; "add k{key} {count}"),
         8 => format!(in alloc; "del k{key}"),
@@ -41,6 +41,7 @@ fn any_command(alloc: Global, draws: &mut Draws) -> Result<String, AllocError> {
         11..=12 => format!(in alloc; "hold k{key} k{other}"),
         13 => format!(in alloc; "next {}", 1 + key),
         14 => String::from_str(alloc, "drop"),
+        15..=16 => format!(in alloc; "tail k{key} {count}/{other}"),
         _ => format!(in alloc; "work {}", 1 + other),
     }
 }

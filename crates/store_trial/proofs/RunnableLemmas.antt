@@ -8,7 +8,7 @@ use Rattle.blsm_model.specs.Format.{callers}
 use Rattle.blsm_model.specs.Scripts.{lines_of}
 use Rattle.blsm_model.specs.declared.history.Line.{Line}
 use Rattle.blsm_model.specs.declared.op.Op.{Op}
-use Rattle.blsm_model.specs.declared.op.Op.TheVariants.{Put, Add, Del, Get, Hold, Next, Release, Work}
+use Rattle.blsm_model.specs.declared.op.Op.TheVariants.{Put, Add, Tail, Del, Get, Hold, Next, Release, Work}
 use Rattle.blsm_model.specs.declared.room.Room.{Room}
 use Rattle.script_text.specs.Grammar as grammar
 use Rattle.script_text.specs.Grammar.{IsAllowed}
@@ -17,9 +17,10 @@ use Rattle.store_trial.specs.Trial.{IsRoomOf}
 use Rattle.tree_session.specs.Lines.{AreRunnable, HasRoomFor, IsCommand, IsRunnable, rows_of}
 
 command : (op : Op) → grammar.IsCommand op → IsCommand op
-command (Put key value) is = tt
-command (Add key count) is = tt
-command (Del key) is = tt
+command (Put key value) is = (tt, tt)
+command (Add key count) is = (tt, tt)
+command (Tail key tail) is = ((is.1.some, is.1.fits), tt)
+command (Del key) is = (tt, tt)
 command (Get key) is = tt
 command (Hold low high) is = tt
 command (Next n) is = (omega (arith, is.0), omega (arith, is.1))
@@ -39,6 +40,7 @@ all_runnable (l ∷ ls) all = All-cons IsRunnable l ls (runnable l (All-head IsA
 gives : (op : Op) → rows_of op ≡ grammar.rows_of op
 gives (Put key value) = refl
 gives (Add key count) = refl
+gives (Tail key tail) = refl
 gives (Del key) = refl
 gives (Get key) = refl
 gives (Hold low high) = refl

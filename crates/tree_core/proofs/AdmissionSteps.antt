@@ -62,11 +62,12 @@ use Rattle.tree_core.specs.Steps.{IsStep}
 use Rattle.tree_core.specs.Taking.{TellsOf, TakenOver, HasLost, TakesOver}
 use Rattle.tree_core.specs.declared.admission.Taking.TheVariants.{Failed}
 use Rattle.tree_core.proofs.BoundLemmas.{rose}
+use Rattle.blsm_model.specs.Tails.{TailFits}
 use Rattle.tree_core.proofs.TakingLists.{tells_of}
 
 -- a command's write fits the format
-pub write_fits : (op : Op) (write : Write) → writes_of op ≡ write ∷ [] → added_count write < 2 ^ 64 → (1 ≤ length (key_of write)) × (length (key_of write) ≤ most_key) → length (text_written write) ≤ most_text → WritesFit (kind.Admit op)
-write_fits op write writes count key text = subst (λ (ws : List Write). AllByRecursion FitsFormat ws) (sym writes) (fits_format write count key text, tt)
+pub write_fits : (op : Op) (write : Write) → writes_of op ≡ write ∷ [] → added_count write < 2 ^ 64 → (1 ≤ length (key_of write)) × (length (key_of write) ≤ most_key) → length (text_written write) ≤ most_text → TailFits write → WritesFit (kind.Admit op)
+write_fits op write writes count key text tail = subst (λ (ws : List Write). AllByRecursion FitsFormat ws) (sym writes) (fits_format write count key text tail, tt)
 
 -- ---- what the next state shows
 

@@ -1,12 +1,16 @@
 -- Lists of steps: each step is the machine's, or is passed over.
-use Rattle.std.specs.Prelude.{◌≡◌, ℕ, ◌+◌, ◌<◌, ◌≤◌, Bool, true, false, not, ◌&&◌, ◌||◌, nat_le, nat_lt, List, [], ◌∷◌, ◌++◌, Option, None, Some, is_some, length, map}
+use Rattle.std.specs.Prelude.{◌≡◌, ◌↔◌, IsTrue, ℕ, ◌+◌, ◌<◌, ◌≤◌, Bool, true, false, not, ◌&&◌, ◌||◌, nat_le, nat_lt, List, [], ◌∷◌, ◌++◌, Option, None, Some, is_some, length, map}
 use Rattle.std.proofs.Common.{◌∙◌, ⊎_elim, cond, inl, inr, length-append, refl, ap, sym, subst, arith}
 use Rattle.std.proofs.lemmas.List.{map-append}
 use Rattle.std.proofs.lemmas.List.Sums.{fold-append}
-use Rattle.std.proofs.lemmas.Bool.{cases_lt, false≢true, lt-ltb}
+use Rattle.std.proofs.lemmas.Bool.{cases_lt, false≢true, le-leb, leb-true, lt-ltb}
 use mathlib.Core.List.{IsPrefix}
-use Rattle.blsm_model.specs.Format.{most_rows}
-use Rattle.blsm_model.specs.Legal.{is_write}
+use Rattle.std.specs.Cmp.Derive.{both_true}
+use Rattle.blsm_model.specs.Format.{most_rows, most_tail}
+use Rattle.blsm_model.specs.Legal.{TailsFit, is_write}
+use Rattle.blsm_model.specs.declared.op.Op.{Op}
+use Rattle.blsm_model.specs.declared.op.Op.TheVariants as ops
+use Rattle.blsm_model.specs.declared.op.Op.TheVariants.{Tail}
 use Rattle.blsm_model.specs.declared.key.Key.{Key}
 use Rattle.blsm_model.specs.declared.row.Value.{Value}
 use Rattle.blsm_model.specs.declared.history.Entry.{Entry}
@@ -34,7 +38,7 @@ use Rattle.paced_tree.specs.Kept.{paced_all, paced_one}
 use Rattle.tree_core.specs.Core.{CoreState}
 use Rattle.tree_core.specs.Holds.{StandsWhole}
 use Rattle.tree_core.proofs.QuietLemmas.{leaves_now}
-use Rattle.tree_core.specs.Steps.{IsWholeStep, IsPlayed, is_even_in, may_in}
+use Rattle.tree_core.specs.Steps.{IsWholeStep, IsPlayed, is_even_in, is_fit, may_in}
 
 -- ---- when a step may be made
 
@@ -69,6 +73,45 @@ even_owes seat held even runs = by (first_debt held.gears seat + second_debt hel
     by : (n : ℕ) (o : Option Why) → (not (nat_lt 0 n) || is_some o) ≡ true → o ≡ None → n ≡ 0
     by n (Some why) even runs = absurd (false≢true (sym (ap is_some runs)))
     by n None even runs = ⊎_elim (λ (some : 0 < n). absurd (false≢true (sym (ap (λ (b : Bool). not b || false) (lt-ltb 0 n some)) ∙ even))) (λ (none : n ≤ 0). omega (arith, none)) (cases_lt 0 n)
+
+-- ---- which tails fit
+
+both_are : (a b : Bool) → (a && b) ≡ true → (a ≡ true) × (b ≡ true)
+both_are true b is = (refl, is)
+both_are false b is = absurd (false≢true is)
+
+same_truth : (a b : Bool) → (a ≡ true → b ≡ true) → (b ≡ true → a ≡ true) → a ≡ b
+same_truth true b there back = sym (there refl)
+same_truth false true there back = absurd (false≢true (back refl))
+same_truth false false there back = refl
+
+-- what is tested is what is asked for
+pub tails_fit : (op : Op) → is_fit op ≡ true → TailsFit op
+tails_fit (Tail key tail) is =
+    let two = both_are (nat_le 1 (length tail)) (nat_le (length tail) most_tail) is in
+    ((leb-true 1 (length tail) two.0, leb-true (length tail) most_tail two.1), tt)
+tails_fit (ops.Put key value) is = (tt, tt)
+tails_fit (ops.Add key count) is = (tt, tt)
+tails_fit (ops.Del key) is = (tt, tt)
+tails_fit (ops.Get key) is = tt
+tails_fit (ops.Hold low high) is = tt
+tails_fit (ops.Next n) is = tt
+tails_fit ops.Release is = tt
+tails_fit (ops.Work n) is = tt
+
+are_fit : (op : Op) → TailsFit op → is_fit op ≡ true
+are_fit (Tail key tail) fits = both_true (le-leb 1 (length tail) fits.0.0) (le-leb (length tail) most_tail fits.0.1)
+are_fit (ops.Put key value) fits = refl
+are_fit (ops.Add key count) fits = refl
+are_fit (ops.Del key) fits = refl
+are_fit (ops.Get key) fits = refl
+are_fit (ops.Hold low high) fits = refl
+are_fit (ops.Next n) fits = refl
+are_fit ops.Release fits = refl
+are_fit (ops.Work n) fits = refl
+
+pub fit_as : (op : Op) (fits : Bool) → (IsTrue fits ↔ TailsFit op) → fits ≡ is_fit op
+fit_as op fits is = same_truth fits (is_fit op) (λ yes. are_fit op (is.0 yes)) (λ yes. is.1 (tails_fit op yes))
 
 -- ---- lists of steps
 

@@ -1,12 +1,14 @@
 -- What a call of the core is: one step of the pacing on every disk, and one step of the machine on an honest one.
-use Rattle.std.specs.Prelude.{◌≡◌, ℕ, ◌+◌, ◌≤◌, IsTrue, Bool, false, not, ◌&&◌, ◌||◌, nat_le, nat_lt, is_some, List, None, length, map}
+use Rattle.std.specs.Prelude.{◌≡◌, ℕ, ◌+◌, ◌≤◌, IsTrue, Bool, false, not, ◌&&◌, ◌||◌, nat_le, nat_lt, is_some, List, None, length, map, true, filter}
 use mathlib.Core.List.{IsPrefix}
 use Rattle.blsm_model.specs.Legal.{is_write}
 use Rattle.gear_sched.specs.Gears.{first_debt, second_debt}
 use Rattle.seat_book.specs.State.{may_note_in, may_turn_in, may_end_in}
 use Rattle.blsm_model.specs.declared.key.Key.{Key}
 use Rattle.blsm_model.specs.declared.row.Value.{Value}
-use Rattle.blsm_model.specs.Format.{most_rows}
+use Rattle.blsm_model.specs.declared.op.Op.{Op}
+use Rattle.blsm_model.specs.declared.op.Op.TheVariants.{Tail}
+use Rattle.blsm_model.specs.Format.{most_rows, most_tail}
 use Rattle.blsm_model.specs.Geometry.{high_mark}
 use Rattle.disk_trait.specs.Disk.{DiskState, GoesOn}
 use Rattle.disk_trait.specs.Moments.{LeavesOnly}
@@ -68,7 +70,20 @@ may_in held seat (kind.WorkEnd n) = may_end_in seat n held.book
 may_in held seat kind.WorkerTurn = is_worker seat
 may_in held seat kind.Leave = is_caller seat
 
+-- a tail that it writes has 1 to 64 bytes
+abbrev pub is_fit : Op → Bool
+is_fit (Tail key tail) = nat_le 1 (length tail) && nat_le (length tail) most_tail
+is_fit _ = true
+
+abbrev pub admits_fit : Kind → Bool
+admits_fit (kind.Admit op) = is_fit op
+admits_fit _ = true
+
 -- ---- lists of steps
+
+-- these steps but those that admit a tail of another length
+abbrev pub those_that_fit : List Step → List Step
+those_that_fit steps = filter (λ step. admits_fit step.kind) steps
 
 -- These steps, each by an outcome that the disk's count of faults tells, lead to the state for which the core stands then. A step whose condition
 -- doesn't hold is passed over. Each image of each moment since the first shows the history then, with all entries of the one before.

@@ -6,7 +6,8 @@ ghost use Rattle.blsm_model.specs.Stored.{as_reply};
 ghost use Rattle.blsm_model.specs.declared.history.Reply.TheVariants.{FaultLost, FaultUnsure};
 ghost use Rattle.blsm_model.specs.Geometry.{file_length};
 ghost use Rattle.blsm_model.specs.Histories.{writes_of};
-ghost use Rattle.blsm_model.specs.Legal.{is_write, total_weight, is_del};
+ghost use Rattle.blsm_model.specs.Legal.{TailsFit, is_write, total_weight, is_del};
+ghost use Rattle.blsm_model.specs.Tails.{TailFits};
 ghost use Rattle.blsm_model.specs.Values.{key_of};
 ghost use Rattle.disk_trait.specs.Effects.{Affects};
 ghost use Rattle.gear_sched.specs.Gears.{first_debt, second_debt};
@@ -42,6 +43,7 @@ fn take<D: Disk>(held: &mut Held, disk: &mut D, seat: u32, op: &Op, write: &Writ
     requires runs { Runs held.old (D.state disk.old) }
     requires is_write { IsTrue (is_write op.now) }
     requires write { writes_of op.now ≡ write.now ∷ [] }
+    requires tail { TailFits write.now }
     requires may { MayWrite seat (total_weight (writes_of op.now)) op.now held.old }
     ensures takes { Takes result seat (key_of write.now) (record_of write.now) held.old held.new (D.state disk.new) }
     ensures lists { (opening : List (Key × Value)) (m : Machine) (pace : Pace) → IsTrue (D.state disk.old).is_honest → StandsFor opening held.old m pace (D.state disk.old)
@@ -91,6 +93,7 @@ impl<D: Disk + Drop> Core<D> {
     pub fn admit(&mut self, seat: u32, op: &Op) -> Admission
         requires write { IsTrue (is_write op.now) }
         requires note { IsTrue (may_note_in seat 0 self.old.held.book) }
+        requires tails { TailsFit op.now }
         requires even { self.old.held.book.stopped ≡ None → first_debt self.old.held.gears seat + second_debt self.old.held.gears seat ≡ 0 }
         ensures { Admits D.state seat op.now result self.old self.new }
     {

@@ -8,7 +8,7 @@ ghost use Rattle.pacing.specs.Pace.{Pace};
 ghost use Rattle.tree_machine.specs.Machine.{Machine};
 ghost use Rattle.tree_core.specs.Core.{CoreState};
 ghost use Rattle.tree_core.specs.Holds.{StandsWhole};
-ghost use Rattle.tree_core.specs.Steps.{IsPlayed, StandsSince, is_even_in, may_in};
+ghost use Rattle.tree_core.specs.Steps.{IsPlayed, StandsSince, admits_fit, is_even_in, may_in, those_that_fit};
 
 use crate::Core;
 use blsm_model::{CALLERS, RowList};
@@ -18,6 +18,16 @@ use tree_machine::{Kind, Step};
 
 // Callers, and eight workers.
 const SEATS: u32 = CALLERS + 8;
+
+// Whether a tail that the step admits has 1 to 64 bytes.
+fn fits(step: &Step) -> bool
+    ensures { result ≡ admits_fit step.now.kind }
+{
+    match &step.kind {
+        Kind::Admit(op) => op.fits(),
+        _ => true,
+    }
+}
 
 impl<D: Disk + Drop> Core<D> {
     // Whether the seat owes nothing, or the store is stopped.
@@ -50,7 +60,8 @@ impl<D: Disk + Drop> Core<D> {
 
     // Makes a step whose condition holds.
     fn step(&mut self, alloc: Global, step: &Step)
-        requires { IsTrue (may_in self.old.held step.now.seat step.now.kind) }
+        requires may { IsTrue (may_in self.old.held step.now.seat step.now.kind) }
+        requires fits { IsTrue (admits_fit step.now.kind) }
         ensures played { (opening : List (Key × Value)) (m : Machine) (pace : Pace) → IsTrue (D.state self.old.disk).is_honest
             → StandsWhole D.state opening self.old m pace → IsPlayed D.state opening (step.now ∷ []) self.old self.new m pace }
         ensures goes_on { GoesOn (D.state self.old.disk) (D.state self.new.disk) }
@@ -92,19 +103,23 @@ impl<D: Disk + Drop> Core<D> {
     // Makes a step where its condition holds.
     fn try_step(&mut self, alloc: Global, step: &Step)
         ensures played { (opening : List (Key × Value)) (m : Machine) (pace : Pace) → IsTrue (D.state self.old.disk).is_honest
-            → StandsWhole D.state opening self.old m pace → IsPlayed D.state opening (step.now ∷ []) self.old self.new m pace }
+            → StandsWhole D.state opening self.old m pace → IsPlayed D.state opening (those_that_fit (step.now ∷ [])) self.old self.new m pace }
         ensures goes_on { GoesOn (D.state self.old.disk) (D.state self.new.disk) }
         ensures lasts { (start : CoreState D) → StandsSince D.state start self.old → StandsSince D.state start self.new }
     {
+        if !fits(step) {
+            return;
+        }
         if self.may(step) {
             self.step(alloc, step);
         }
     }
 
-    /// Makes each of these steps whose condition holds, one after another, and passes over the others. A hold takes its memory of `alloc`.
+    /// Makes each of these steps whose condition holds, one after another, and passes over the others, and over tails that don't have 1 to 64 bytes. A hold
+    /// takes its memory of `alloc`.
     pub fn play(&mut self, alloc: Global, steps: &[Step])
         ensures played { (opening : List (Key × Value)) (m : Machine) (pace : Pace) → IsTrue (D.state self.old.disk).is_honest
-            → StandsWhole D.state opening self.old m pace → IsPlayed D.state opening steps.now self.old self.new m pace }
+            → StandsWhole D.state opening self.old m pace → IsPlayed D.state opening (those_that_fit steps.now) self.old self.new m pace }
         ensures goes_on { GoesOn (D.state self.old.disk) (D.state self.new.disk) }
         ensures lasts { (start : CoreState D) → StandsSince D.state start self.old → StandsSince D.state start self.new }
     {

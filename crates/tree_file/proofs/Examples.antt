@@ -42,7 +42,7 @@ abbrev k : Key
 k = codes "k"
 
 abbrev added : ℕ → Entries
-added count = (k, Delta count) ∷ []
+added count = (k, Delta (record { count = count; text = [] })) ∷ []
 
 abbrev page : ℕ → Entries → RunPage
 page number entries = record { number = number; entries = entries }
@@ -54,7 +54,7 @@ five = record {
   c1 = page 0 (added 100) ∷ [];
   c1x = page 1 (added 10) ∷ [];
   c2 = page 2 ((k, Base (record { count = 1; text = codes "old" })) ∷ []) ∷ [];
-  lane_a = (k, Delta 1000) ∷ (k, Delta 1000) ∷ [];
+  lane_a = (k, Delta (record { count = 1000; text = [] })) ∷ (k, Delta (record { count = 1000; text = [] })) ∷ [];
   lane_b = added 30000;
 }
 
@@ -69,7 +69,7 @@ del_behind_add : map_of_tree (record five { lane_a = added 7; lane_b = (k, Tomb)
 del_behind_add = refl
 
 -- within a lane the later record is the newer
-add_behind_del_in_lane : map_of_tree (record five { lane_a = (k, Tomb) ∷ (k, Delta 7) ∷ []; lane_b = [] }) ≡ (k, record { count = 7; text = [] }) ∷ []
+add_behind_del_in_lane : map_of_tree (record five { lane_a = (k, Tomb) ∷ (k, Delta (record { count = 7; text = [] })) ∷ []; lane_b = [] }) ≡ (k, record { count = 7; text = [] }) ∷ []
 add_behind_del_in_lane = refl
 
 -- The swap of the deep merge puts C1' and C2 together: the map stays.

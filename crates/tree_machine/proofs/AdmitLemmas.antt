@@ -146,7 +146,7 @@ write_ready opening m seat op w stands fits counts still = record {
     pass = pass_counted (key_of w) (record_of w) m.lists m.gears.pass m.gears.pass_c1 m.gears.pass_memory m.gears.pass_admitted m.gears.pass_taken (weight_of w) m.merges.pass stands.sound.layered.sorted_a stands.sound.pass;
     deep = deep_counted (key_of w) (record_of w) m.lists m.gears.deep m.gears.deep_input m.gears.deep_admitted m.gears.deep_taken (weight_of w) (goes_to_a m.merges.pass (key_of w)) m.merges.deep stands.sound.deep;
   };
-  values = λ q. value_in-write w m.lists m.merges.pass (written opening m.book.entries) fits.counts stands.sound.layered.pass stands.values q
+  values = λ q. value_in-write w m.lists m.merges.pass (written opening m.book.entries) fits.counts fits.tail stands.sound.layered.pass stands.values q
       ∙ ap (λ ws. value_at (written opening m.book.entries ++ ws) q) (sym counts);
   places = stands.places;
   held = λ s within. stands.held s within ∙ sym (still s);

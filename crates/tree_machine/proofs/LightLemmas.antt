@@ -10,11 +10,13 @@ use Rattle.std.specs.FinMap.Entries.{by_order}
 use Rattle.blsm_model.specs.Format.{most_key, most_text, most_weight}
 use Rattle.blsm_model.specs.declared.key.Key.{Key}
 use Rattle.blsm_model.specs.declared.op.Write.{Write}
+use Rattle.blsm_model.specs.declared.op.Write.TheVariants.{Put, Add, Tail, Del}
+use Rattle.blsm_model.specs.Tails.{TailFits}
 use Rattle.blsm_model.specs.Keys.{key_cmp}
 use Rattle.blsm_model.specs.Values.{added_count, key_of, text_written, weight_of}
 use Rattle.record_delta.specs.declared.record.Rec.{Rec}
 use Rattle.record_delta.specs.declared.record.Rec.TheVariants.{Base, Delta, Tomb}
-use Rattle.record_delta.specs.Records.{record_of, weight, settle, IsWithin}
+use Rattle.record_delta.specs.Records.{record_of, text_limit, text_of, weight, settle, IsWithin}
 use Rattle.record_delta.specs.Folding.{over}
 use Rattle.record_delta.proofs.FoldingLemmas.{fold_within, within_is_light}
 use Rattle.record_delta.specs.Entries.{Entries, above, folded_over, record_of_key, settled_base, settled_entries, with_record}
@@ -38,10 +40,17 @@ pub write_is_light : (write : Write) → FitsFormat write → weight_of write �
 write_is_light write fits = omega (arith, within_is_light (key_of write) (record_of write) fits.within, weight_of_record write)
 
 -- a write of these lengths fits the format
-pub fits_format : (write : Write) → added_count write < 2 ^ 64 → (1 ≤ length (key_of write)) × (length (key_of write) ≤ most_key) → length (text_written write) ≤ most_text → FitsFormat write
-fits_format write count key text = record {
+text_within : (write : Write) → length (text_written write) ≤ most_text → TailFits write → length (text_of (record_of write)) ≤ text_limit (record_of write)
+text_within (Put key value) text tail = text
+text_within (Add key count) text tail = omega arith
+text_within (Tail key tail) text is = is.1
+text_within (Del key) text tail = omega arith
+
+pub fits_format : (write : Write) → added_count write < 2 ^ 64 → (1 ≤ length (key_of write)) × (length (key_of write) ≤ most_key) → length (text_written write) ≤ most_text → TailFits write → FitsFormat write
+fits_format write count key text tail = record {
   counts = count;
-  within = record { key_most = key.1; text_most = subst (λ (t : List ℕ). length t ≤ most_text) (sym (text_of_record write)) text };
+  within = record { key_most = key.1; text_most = text_within write text tail };
+  tail = tail;
   least = omega (arith, key.0);
 }
 
@@ -86,7 +95,7 @@ light_append (x ∷ xs) ys p q = (p.0, light_append xs ys p.1 q)
 
 light_base : (key : Key) (rec : Rec) (es : Entries) → IsWithin key rec → AreLight es → AreLight (settled_base key (settle rec) es)
 light_base key (Base v) es here light = (here, light)
-light_base key (Delta d) es here light = (record { key_most = here.key_most; text_most = here.text_most }, light)
+light_base key (Delta d) es here light = (record { key_most = here.key_most; text_most = omega (arith, here.text_most) }, light)
 light_base key Tomb es here light = light
 
 pub light_settled : (es : Entries) → AreLight es → AreLight (settled_entries es)

@@ -9,13 +9,13 @@ use Rattle.std.proofs.lemmas.Cmp.{nat_list_cmp_total}
 use Rattle.std.proofs.lemmas.List.Sums.{sum_by-cons}
 use Rattle.blsm_model.specs.declared.key.Key.{Key}
 use Rattle.blsm_model.specs.declared.op.Write.{Write}
-use Rattle.blsm_model.specs.declared.op.Write.TheVariants.{Put, Add, Del}
+use Rattle.blsm_model.specs.declared.op.Write.TheVariants.{Put, Add, Tail, Del}
 use Rattle.blsm_model.specs.Keys.{key_cmp}
 use Rattle.blsm_model.specs.Format.{overhead}
 use Rattle.blsm_model.specs.Values.{key_of, text_written, weight_of}
 use Rattle.record_delta.specs.declared.record.Rec.{Rec}
 use Rattle.record_delta.specs.declared.record.Rec.TheVariants.{Base, Delta, Tomb}
-use Rattle.record_delta.specs.Records.{weight, settle, record_of, text_of}
+use Rattle.record_delta.specs.Records.{alone, weight, settle, record_of, text_of}
 use Rattle.record_delta.specs.Folding.{over}
 use Rattle.record_delta.proofs.FoldingLemmas.{fold_lighter}
 use Rattle.record_delta.specs.Entries.{AreSorted, Entries, entries_weight, folded_over, record_of_key, settled_base, settled_entries, with_record}
@@ -60,7 +60,7 @@ weight_folded (e ∷ newer) older sorted =
 
 settle_weight : (key : Key) (rec : Rec) (es : Entries) → entries_weight (settled_base key (settle rec) es) ≤ weight key rec + entries_weight es
 settle_weight key (Base v) es = omega (arith, weigh_first (key, Base v) es)
-settle_weight key (Delta d) es = omega (arith, weigh_first (key, Base (record { count = d; text = [] })) es)
+settle_weight key (Delta d) es = omega (arith, weigh_first (key, Base (alone d)) es)
 settle_weight key Tomb es = omega arith
 
 pub weight_settled : (es : Entries) → entries_weight (settled_entries es) ≤ entries_weight es
@@ -98,6 +98,7 @@ deep_output_light newer older merge sorted_newer sorted_older is done =
 pub text_of_record : (write : Write) → text_of (record_of write) ≡ text_written write
 text_of_record (Put key value) = refl
 text_of_record (Add key count) = refl
+text_of_record (Tail key tail) = refl
 text_of_record (Del key) = refl
 
 pub weight_of_record : (write : Write) → weight (key_of write) (record_of write) ≡ weight_of write

@@ -11,13 +11,14 @@ use Rattle.std.proofs.lemmas.Cmp.{nat_list_cmp_total}
 use Rattle.std.proofs.lemmas.Bool.{false≢true}
 use Rattle.blsm_model.specs.declared.key.Key.{Key}
 use Rattle.blsm_model.specs.declared.op.Write.{Write}
-use Rattle.blsm_model.specs.declared.op.Write.TheVariants.{Put, Add, Del}
+use Rattle.blsm_model.specs.declared.op.Write.TheVariants.{Put, Add, Tail, Del}
 use Rattle.blsm_model.specs.Keys.{key_cmp, same_key}
+use Rattle.blsm_model.specs.Tails.{TailFits}
 use Rattle.blsm_model.specs.Values.{key_of, added_count, value_at}
 use Rattle.record_delta.specs.declared.record.Rec.{Rec}
 use Rattle.record_delta.specs.Records.{settled, record_of}
 use Rattle.record_delta.specs.Folding.{over as rec_over, StandsForMore}
-use Rattle.record_delta.proofs.FoldingLemmas.{stands_put, stands_add, stands_del}
+use Rattle.record_delta.proofs.FoldingLemmas.{stands_put, stands_add, stands_tail, stands_del}
 use Rattle.record_delta.specs.Entries.{AreSorted, Entries, is_above, over_any, record_of_key, up_to, with_record}
 use Rattle.tree_machine.specs.Lists.{Lists, record_at, value_in}
 use Rattle.tree_machine.specs.Merges.{Merge}
@@ -163,22 +164,23 @@ record_at-write key rec lists pass over q = by (goes_to_a pass key) refl
 same_as_tie : (q key : Key) → same_key key q ≡ eq_by_cmp key_cmp q key
 same_as_tie q key = sym (sym (texts_ties q key) ∙ (lists_equiv nat_eq_equiv).symm q key)
 
-pub stands_write : (write : Write) → added_count write < 2 ^ 64 → StandsForMore write (record_of write)
-stands_write (Put key value) fits = stands_put key value
-stands_write (Add key count) fits = stands_add key count fits
-stands_write (Del key) fits = stands_del key
+pub stands_write : (write : Write) → added_count write < 2 ^ 64 → TailFits write → StandsForMore write (record_of write)
+stands_write (Put key value) fits tail = stands_put key value
+stands_write (Add key count) fits tail = stands_add key count fits
+stands_write (Tail key tail) fits is = stands_tail key tail is
+stands_write (Del key) fits tail = stands_del key
 
 over_as_kept : (b : Bool) (rec : Rec) (kept : Option Rec) → over_any (cond b (Some rec) None) kept ≡ cond b (Some (rec_over rec kept)) kept
 over_as_kept true rec kept = refl
 over_as_kept false rec kept = refl
 
-pub value_in-write : (write : Write) (lists : Lists) (pass : Option Merge) (writes : List Write) → added_count write < 2 ^ 64 → IsPassOver lists pass
+pub value_in-write : (write : Write) (lists : Lists) (pass : Option Merge) (writes : List Write) → added_count write < 2 ^ 64 → TailFits write → IsPassOver lists pass
     → ((q : Key) → value_in lists q ≡ value_at writes q) → (q : Key) → value_in (with_write pass (key_of write) (record_of write) lists) q ≡ value_at (writes ++ write ∷ []) q
-value_in-write write lists pass writes fits over stood q =
+value_in-write write lists pass writes fits tail over stood q =
     ap settled (record_at-write (key_of write) (record_of write) lists pass over q)
     ∙ ap settled (over_as_kept (eq_by_cmp key_cmp q (key_of write)) (record_of write) (record_at lists q))
     ∙ ap (λ b. settled (cond b (Some (rec_over (record_of write) (record_at lists q))) (record_at lists q))) (sym (same_as_tie q (key_of write)))
-    ∙ stands_write write fits q (record_at lists q) writes (stood q)
+    ∙ stands_write write fits tail q (record_at lists q) writes (stood q)
 
 -- ---- where a write goes
 

@@ -9,6 +9,7 @@ use Rattle.blsm_model.specs.Facts.{Follows}
 use Rattle.blsm_model.specs.Sizes.{Sizes}
 use Rattle.blsm_model.specs.Geometry.{c1_mark}
 use Rattle.blsm_model.specs.Rows.{map_of, rows}
+use Rattle.blsm_model.specs.Tails.{TailFits}
 use Rattle.blsm_model.specs.Values.{key_of, added_count, value_at}
 use Rattle.record_delta.specs.declared.record.Rec.{Rec}
 use Rattle.std.specs.List.{AllByRecursion}
@@ -63,7 +64,7 @@ SwapsCarry = (weight : ℕ) (m : Machine) → IsSound m → HasWay m → Carries
 
 -- after a write each key has the value with the write
 abbrev pub WritesCount : Type 0
-WritesCount = (write : Write) (lists : Lists) (pass : Option Merge) (writes : List Write) → added_count write < 2 ^ 64 → IsPassOver lists pass
+WritesCount = (write : Write) (lists : Lists) (pass : Option Merge) (writes : List Write) → added_count write < 2 ^ 64 → TailFits write → IsPassOver lists pass
     → ((key : Key) → value_in lists key ≡ value_at writes key)
     → (key : Key) → value_in (with_write pass (key_of write) (record_of write) lists) key ≡ value_at (writes ++ write ∷ []) key
 

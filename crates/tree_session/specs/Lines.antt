@@ -1,6 +1,7 @@
 -- Which lines a session does, the room that they need, and when it may do one.
-use Rattle.std.specs.Prelude.{◌≡◌, ⊤, ℕ, ◌<◌, ◌≤◌, None, List, All, length, slice_index, sum_by}
+use Rattle.std.specs.Prelude.{◌≡◌, ℕ, ◌<◌, ◌≤◌, None, List, All, length, slice_index, sum_by}
 use Rattle.blsm_model.specs.Format.{callers, most_rows}
+use Rattle.blsm_model.specs.Legal.{TailsFit}
 use Rattle.blsm_model.specs.Scripts.{lines_of}
 use Rattle.blsm_model.specs.declared.history.Line.{Line}
 use Rattle.blsm_model.specs.declared.op.Op.{Op}
@@ -12,11 +13,11 @@ use Rattle.tree_machine.specs.Plays.{most_turns}
 use Rattle.core_moves.specs.declared.held.Held.{Held}
 use Rattle.tree_core.specs.Notes.{OwesNothing}
 
--- a write, a get, a hold of any range, a next of 1 to 32 rows, a drop of a hold, or a work of one turn to a hundred thousand
+-- a write, whose tail has 1 to 64 bytes if it is one, a get, a hold of any range, a next of 1 to 32 rows, a drop of a hold, or a work of one turn to a hundred thousand
 abbrev pub IsCommand : Op → Type 0
 IsCommand (Next n) = (0 < n) × (n ≤ most_rows)
 IsCommand (Work n) = (0 < n) × (n ≤ most_turns)
-IsCommand op = ⊤
+IsCommand op = TailsFit op
 
 -- a caller's line with such a command
 pub record IsRunnable (line : Line) : Type 0 where

@@ -1,7 +1,7 @@
 //! Commands of a caller, in as many holds of the lock as they have steps.
 ghost use Rattle.std.specs.Prelude.{◌≡◌, ◌+◌, ◌<◌, ◌≤◌, ℕ, [], ◌∷◌, IsTrue, false};
 ghost use Rattle.blsm_model.specs.Format.{callers, most_rows};
-ghost use Rattle.blsm_model.specs.Legal.{is_write};
+ghost use Rattle.blsm_model.specs.Legal.{is_write, TailsFit};
 ghost use Rattle.blsm_model.specs.Stored.{as_reply};
 ghost use Rattle.blsm_model.specs.declared.op.Op.TheVariants as op;
 ghost use Rattle.turn_lock.specs.Tallies.{IsOf};
@@ -74,6 +74,7 @@ fn write<R: Wait, D: Disk + Drop, G: Gate>(
     requires lock { IsOf lock.now caller.old }
     requires number { caller.old.number < callers }
     requires write { IsTrue (is_write op.now) }
+    requires tails { TailsFit op.now }
     requires free { KnowsOf (IsFree 1 0) caller.old }
     ensures did { DidOn D.state caller.old (record { seat = caller.old.number; op = op.now; reply = as_reply result } ∷ []) caller.new }
     ensures free { (entries rows : ℕ) → KnowsOf (IsFree (entries + 1) rows) caller.old → KnowsOf (IsFree entries rows) caller.new }
@@ -231,7 +232,9 @@ fn perform<R: Wait, D: Disk + Drop, G: Gate>(
     ensures free { (entries rows : ℕ) → KnowsOf (IsFree (entries + 1) (rows + rows_of op.now)) caller.old → KnowsOf (IsFree entries rows) caller.new }
 {
     match op {
-        Op::Put(..) | Op::Add(..) | Op::Del(_) => Told::Short(write(rt, lock, caller, op, gate)),
+        Op::Put(..) | Op::Add(..) | Op::Tail(..) | Op::Del(_) => Told::Short(write(
+            rt, lock, caller, op, gate,
+        )),
         Op::Get(key) => Told::Short(look_up(rt, lock, caller, key)),
         Op::Hold(low, high) => Told::Short(hold_range(rt, alloc, lock, caller, low, high)),
         Op::Next(n) => next(rt, lock, caller, *n),

@@ -7,7 +7,7 @@ ghost use Rattle.blsm_model.specs.declared.row.Row.{Row};
 ghost use Rattle.seat_book.specs.declared.turned.Turned.TheVariants.{Worked, Idle};
 ghost use Rattle.tree_machine.specs.Machine.{seats, turn_more};
 ghost use Rattle.tree_machine.specs.Plays.{most_turns};
-ghost use Rattle.blsm_model.specs.Legal.{is_write};
+ghost use Rattle.blsm_model.specs.Legal.{is_write, TailsFit};
 ghost use Rattle.turn_lock.specs.Tallies.{IsOf};
 ghost use Rattle.tree_core.specs.Answers.{reply_to_drop, reply_to_get, reply_to_hold, reply_to_next, reply_to_write};
 ghost use Rattle.tree_core.specs.Scanned.{Counts, scanned_by};
@@ -33,6 +33,7 @@ pub(crate) fn admit<R: Wait, D: Disk + Drop>(
     requires lock { IsOf lock.now caller.old }
     requires number { caller.old.number < callers }
     requires write { IsTrue (is_write op.now) }
+    requires tails { TailsFit op.now }
     requires free { KnowsOf (IsFree 1 0) caller.old }
     ensures did { DidOn D.state caller.old (record { seat = caller.old.number; op = op.now; reply = reply_to_write result } ∷ []) caller.new }
     ensures owing { (entries rows : ℕ) → KnowsOf (IsFree (entries + 1) rows) caller.old → KnowsOf (IsOwing entries rows) caller.new }

@@ -8,7 +8,7 @@ pub returns-clause-lighter : goal.returns-clause-lighter
 returns-clause-lighter c = λ key. rw c.combined.ensures.«record» (fold_lighter key c.args.newer c.args.older)
 
 pub returns-clause-grows : goal.returns-clause-grows
-returns-clause-grows c = λ key. rw c.combined.ensures.«record» (fold_grows key c.args.newer c.args.older)
+returns-clause-grows c = λ key. rw c.combined.ensures.«record» (fold_grows key c.args.newer c.args.older c.combined.ensures.in_range.text_fits)
 
 pub returns-clause-within : goal.returns-clause-within
 returns-clause-within c = λ key newer older. rw c.combined.ensures.«record» (fold_within key c.args.newer c.args.older newer older)

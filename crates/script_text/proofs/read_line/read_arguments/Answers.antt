@@ -1,5 +1,5 @@
 use Rattle.script_text.specs.declared.read_line.Verb.TheVariants as verb
-use Rattle.script_text.proofs.ReadLemmas.{reads_nothing, no_put, no_add, no_hold, no_next, no_work}
+use Rattle.script_text.proofs.ReadLemmas.{reads_nothing, no_put, no_add, no_hold, no_next, no_tail, no_work}
 use Rattle.script_text.specs.Reading.{SpellsArguments}
 use Rattle.script_text.proofs.read_line.read_arguments.Goals as goal
 
@@ -10,6 +10,10 @@ returns-in_err-key-in-Put c =
 pub returns-in_err-key-in-Add : goal.returns-in_err-key-in-Add
 returns-in_err-key-in-Add c =
     rw c.in-Add.is (reads_nothing (SpellsArguments verb.Add) _ _ c.from_residual-in_err-key-in-Add.ensures (no_add c.args.bytes.now c.in_err-key-in-Add.ensures))
+
+pub returns-in_err-key-in-Tail : goal.returns-in_err-key-in-Tail
+returns-in_err-key-in-Tail c =
+    rw c.in-Tail.is (reads_nothing (SpellsArguments verb.Tail) _ _ c.from_residual-in_err-key-in-Tail.ensures (no_tail c.args.bytes.now c.in_err-key-in-Tail.ensures))
 
 pub returns-in_err-low-in-Hold : goal.returns-in_err-low-in-Hold
 returns-in_err-low-in-Hold c =

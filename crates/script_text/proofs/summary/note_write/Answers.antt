@@ -1,4 +1,4 @@
-use Rattle.script_text.proofs.PresentLemmas.{tells_put, tells_add, tells_del}
+use Rattle.script_text.proofs.PresentLemmas.{tells_put, tells_add, tells_del, tells_tail}
 use Rattle.script_text.proofs.summary.note_write.Goals as goal
 
 pub returns-in-Put : goal.returns-in-Put
@@ -6,6 +6,9 @@ returns-in-Put c = λ writes tells. rw c.in-Put.is (tells_put c.args.flags.now w
 
 pub returns-in-Add : goal.returns-in-Add
 returns-in-Add c = λ writes tells. rw c.in-Add.is (tells_add c.args.flags.now writes c.in-Add.key c.in-Add.field-1 c.place_of-in-Add.result c.place_of-in-Add.ensures.within c.place_of-in-Add.ensures.is tells)
+
+pub returns-in-Tail : goal.returns-in-Tail
+returns-in-Tail c = λ writes tells. rw c.in-Tail.is (tells_tail c.args.flags.now writes c.in-Tail.key c.in-Tail.field-1 c.place_of-in-Tail.result c.place_of-in-Tail.ensures.within c.place_of-in-Tail.ensures.is tells)
 
 pub returns-in-Del : goal.returns-in-Del
 returns-in-Del c = λ writes tells. rw c.in-Del.is (tells_del c.args.flags.now writes c.in-Del.key c.place_of-in-Del.result c.place_of-in-Del.ensures.within c.place_of-in-Del.ensures.is tells)

@@ -64,7 +64,7 @@ returns-in-Some g c =
     let old : CoreState g.row.D.Denot = record { disk = c.self.inside.disk; held = c.self.inside.held; holds = c.self.inside.holds } in
     let can = subst (λ (s : CoreState g.row.D.Denot). may_in s.held c.args.seat (kind.Admit c.args.op.now) ≡ true) (sym c.self.view_is) (may_admit c.args.seat c.args.op.now c.args.self.now.held c.requires.write c.requires.note c.requires.even) in
     let room = subst (λ (s : CoreState g.row.D.Denot). may_note_in c.args.seat 0 s.held.book ≡ true) (sym c.self.view_is) c.requires.note in
-    let fits = write_fits c.args.op.now c.write-write.result c.write-write.ensures.write c.write-write.ensures.count c.write-write.ensures.key c.write-write.ensures.text in
+    let fits = write_fits c.args.op.now c.write-write.result c.write-write.ensures.write c.write-write.ensures.count c.write-write.ensures.key c.write-write.ensures.text (c.write-write.ensures.tail c.requires.tails) in
     let same = noted_same c.args.seat c.args.op.now c.copy.result (Stopped c.in-Some.why) old.held.book c.note.new.self c.note.ensures c.copy.ensures in
     subst (λ (s : CoreState g.row.D.Denot). Admits g.D.Disk.state c.args.seat c.args.op.now (admission.Stopped c.in-Some.why) s (record old { held = with_book c.note.new.self old.held })) c.self.view_is
     (admit_stopped g.D.Disk.state c.args.seat c.args.op.now old c.self.invariant.0 (g.met.D.Disk.timed old.disk) can room fits c.in-Some.why c.note.new.self (sym c.stopped.ensures ∙ c.in-Some.is) same)
@@ -75,7 +75,7 @@ returns-then-not-admits g c =
     let can = subst (λ (s : CoreState g.row.D.Denot). may_in s.held c.args.seat (kind.Admit c.args.op.now) ≡ true) (sym c.self.view_is) (may_admit c.args.seat c.args.op.now c.args.self.now.held c.requires.write c.requires.note c.requires.even) in
     let room = subst (λ (s : CoreState g.row.D.Denot). may_note_in c.args.seat 0 s.held.book ≡ true) (sym c.self.view_is) c.requires.note in
     let weight = c.weight-weight.ensures in
-    let fits = write_fits c.args.op.now c.write-write.result c.write-write.ensures.write c.write-write.ensures.count c.write-write.ensures.key c.write-write.ensures.text in
+    let fits = write_fits c.args.op.now c.write-write.result c.write-write.ensures.write c.write-write.ensures.count c.write-write.ensures.key c.write-write.ensures.text (c.write-write.ensures.tail c.requires.tails) in
     let same = noted_same c.args.seat c.args.op.now c.copy-then-not-admits.result (Full c.charge-charge.result) old.held.book c.note-then-not-admits.new.self c.note-then-not-admits.ensures c.copy-then-not-admits.ensures in
     let charge_is = c.charge-charge.ensures ∙ ap (λ (s : CoreState g.row.D.Denot). charge_in s.held) (sym c.self.view_is) in
     let past = past_as c.charge-charge.result (charge_in old.held) c.weight-weight.result _ c.geometry.result old.held.runs.sizes c.is_del.result _ charge_is weight.weight (c.geometry.ensures ∙ ap (λ (s : CoreState g.row.D.Denot). s.held.runs.sizes) (sym c.self.view_is)) c.is_del.ensures
@@ -88,7 +88,7 @@ returns-in-Taken g c =
     let old : CoreState g.row.D.Denot = record { disk = c.self.inside.disk; held = c.self.inside.held; holds = c.self.inside.holds } in
     let can = subst (λ (s : CoreState g.row.D.Denot). may_in s.held c.args.seat (kind.Admit c.args.op.now) ≡ true) (sym c.self.view_is) (may_admit c.args.seat c.args.op.now c.args.self.now.held c.requires.write c.requires.note c.requires.even) in
     let room = subst (λ (s : CoreState g.row.D.Denot). may_note_in c.args.seat 0 s.held.book ≡ true) (sym c.self.view_is) c.requires.note in
-    let fits = write_fits c.args.op.now c.write-write.result c.write-write.ensures.write c.write-write.ensures.count c.write-write.ensures.key c.write-write.ensures.text in
+    let fits = write_fits c.args.op.now c.write-write.result c.write-write.ensures.write c.write-write.ensures.count c.write-write.ensures.key c.write-write.ensures.text (c.write-write.ensures.tail c.requires.tails) in
     let writing = may_write_at c.self.view_is c.args.seat c.args.op.now c.charge-charge.result c.weight-weight.result c.geometry.result c.is_del.result c.requires.note c.requires.even (sym c.stopped.ensures ∙ none_of c.stopped.result c.in_default.not-Some) c.charge-charge.ensures c.weight-weight.ensures.weight c.geometry.ensures c.is_del.ensures c.weight-weight.ensures.least c.weight-weight.ensures.bound (c.admits.ensures.0 c.if-not-admits.false) in
     let same = noted_same c.args.seat c.args.op.now c.copy-in-Taken.result Done c.take.new.held.book c.note-in-Taken.new.self c.note-in-Taken.ensures c.copy-in-Taken.ensures in
     subst (λ (s : CoreState g.row.D.Denot). Admits g.D.Disk.state c.args.seat c.args.op.now admission.Admitted s (record { disk = c.take.new.disk; held = with_book c.note-in-Taken.new.self c.take.new.held; holds = old.holds })) c.self.view_is
@@ -100,7 +100,7 @@ returns-in-Failed g c =
     let old : CoreState g.row.D.Denot = record { disk = c.self.inside.disk; held = c.self.inside.held; holds = c.self.inside.holds } in
     let can = subst (λ (s : CoreState g.row.D.Denot). may_in s.held c.args.seat (kind.Admit c.args.op.now) ≡ true) (sym c.self.view_is) (may_admit c.args.seat c.args.op.now c.args.self.now.held c.requires.write c.requires.note c.requires.even) in
     let room = subst (λ (s : CoreState g.row.D.Denot). may_note_in c.args.seat 0 s.held.book ≡ true) (sym c.self.view_is) c.requires.note in
-    let fits = write_fits c.args.op.now c.write-write.result c.write-write.ensures.write c.write-write.ensures.count c.write-write.ensures.key c.write-write.ensures.text in
+    let fits = write_fits c.args.op.now c.write-write.result c.write-write.ensures.write c.write-write.ensures.count c.write-write.ensures.key c.write-write.ensures.text (c.write-write.ensures.tail c.requires.tails) in
     let writing = may_write_at c.self.view_is c.args.seat c.args.op.now c.charge-charge.result c.weight-weight.result c.geometry.result c.is_del.result c.requires.note c.requires.even (sym c.stopped.ensures ∙ none_of c.stopped.result c.in_default.not-Some) c.charge-charge.ensures c.weight-weight.ensures.weight c.geometry.ensures c.is_del.ensures c.weight-weight.ensures.least c.weight-weight.ensures.bound (c.admits.ensures.0 c.if-not-admits.false) in
     let begun = c.in-Failed.begun in
     let same = stopped_same c.args.seat c.args.op.now c.copy-in-Failed.result (cond begun FaultUnsure FaultLost) (as_reply c.failed.result) c.faults.result (g.D.Disk.state c.take.new.disk).faults c.take.new.held.book c.stop.new.self c.note-in-Failed.new.self

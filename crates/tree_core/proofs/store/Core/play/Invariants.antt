@@ -7,13 +7,13 @@ use Rattle.pacing.specs.Pace.{Pace}
 use Rattle.tree_machine.specs.Machine.{Machine}
 use Rattle.tree_core.specs.Core.{CoreState}
 use Rattle.tree_core.specs.Holds.{StandsWhole}
-use Rattle.tree_core.specs.Steps.{IsPlayed, StandsSince}
+use Rattle.tree_core.specs.Steps.{IsPlayed, StandsSince, those_that_fit}
 use Rattle.tree_core.proofs.store.Core.play.Given as goal
 
 abbrev pub invariant-loop-step : goal.invariant-loop-step
 invariant-loop-step g l = record {
   played : (opening : List (Key × Value)) (m : Machine) (pace : Pace) → IsTrue (g.D.Disk.state l.fn.self.disk).is_honest → StandsWhole g.D.Disk.state opening l.fn.self m pace
-      → IsPlayed g.D.Disk.state opening (take l.step-index l.fn.steps) l.fn.self l.self m pace;
+      → IsPlayed g.D.Disk.state opening (those_that_fit (take l.step-index l.fn.steps)) l.fn.self l.self m pace;
   lasts : (start : CoreState g.row.D.Denot) → StandsSince g.D.Disk.state start l.fn.self → StandsSince g.D.Disk.state start l.self;
   goes_on : GoesOn (g.D.Disk.state l.fn.self.disk) (g.D.Disk.state l.self.disk);
 }
