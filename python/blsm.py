@@ -2,7 +2,8 @@
 
     store = Store.make("/tmp/fruit.blsm")          # or Store.open, of one that is there
     store.add("apple", 3)
-    store.get("apple")                             # Value(count=3, text='')
+    store.tail("apple", "ripe")
+    store.get("apple")                             # Value(count=3, text='ripe')
     run = store.run({1: [Put("pear", 5, "green"), Get("pear")], 2: [Add("plum", 7)]}, workers=2)
     run.replies(1)                                 # [Done(), Is(count=5, text='green')]
     list(store.rows("a", "q"))                     # of one moment
@@ -130,6 +131,13 @@ def check_text(text: str) -> str:
     return text or "-"
 
 
+def check_tail(tail: str) -> str:
+    """A tail has 1 to 64 visible ASCII characters, and isn't one dash alone."""
+    if tail == "-" or not re.fullmatch(r"[!-~]{1,64}", tail):
+        raise ValueError(f"{tail!r} is no tail: 1 to 64 visible ASCII characters, and no dash alone")
+    return tail
+
+
 def check_number(number: int, most: int = MOST_COUNT, least: int = 0) -> int:
     if not least <= number <= most:
         raise ValueError(f"{number} isn't from {least} to {most}")
@@ -183,6 +191,17 @@ class Add(Command):
 
     def line(self) -> str:
         return f"add {check_key(self.key)} {check_number(self.count)}"
+
+
+@dataclass(frozen=True)
+class Tail(Command):
+    """Puts a tail behind the text, of which the last 64 characters stay; an absent key becomes the count 0 with this text."""
+
+    key: str
+    tail: str
+
+    def line(self) -> str:
+        return f"tail {check_key(self.key)} {check_tail(self.tail)}"
 
 
 @dataclass(frozen=True)
@@ -509,6 +528,9 @@ class Store:
 
     def add(self, key: str, count: int) -> None:
         self._one(Add(key, count))
+
+    def tail(self, key: str, tail: str) -> None:
+        self._one(Tail(key, tail))
 
     def delete(self, key: str) -> None:
         self._one(Del(key))

@@ -69,7 +69,7 @@ def deep_script(draw: random.Random, lines: int) -> str:
 
     first = [f"1 put {key(draw)} 4 {text()}" for _ in range(100)]
     rest = [
-        draw.choice((f"1 put {one} 5 {text()}", f"1 put {one} 6 {text()}", f"1 add {one} 7", f"1 del {one}"))
+        draw.choice((f"1 put {one} 5 {text()}", f"1 put {one} 6 {text()}", f"1 add {one} 7", f"1 tail {one} {text()[:64]}", f"1 del {one}"))
         for one in (key(draw) for _ in range(lines))
     ]
     return "".join(line + "\n" for line in [*first, "1 work 100000", *rest])
@@ -357,10 +357,11 @@ HOLDS = "".join(f"1 {line}\n" for line in [*FIRST_HOLD, *SECOND_HOLD])
 def many_callers(draw: random.Random, lines: int) -> str:
     """Writes and lookups of all callers at keys that the store has and at others."""
     def line(caller: int) -> str:
-        one, kind = key(draw), draw.randrange(12)
+        one, kind = key(draw), draw.randrange(13)
         if kind < 5:
             return f"{caller} put {one} {kind} {'t' * draw.randrange(1, 300)}"
-        return f"{caller} " + (f"add {one} {kind}", f"del {one}", f"get {one}", f"get {one}", f"hold {one} z", "next 4", "work 3")[kind - 5]
+        words = f"add {one} {kind}", f"tail {one} {chr(97 + caller) * draw.randrange(1, 65)}", f"del {one}", f"get {one}", f"get {one}", f"hold {one} z", "next 4", "work 3"
+        return f"{caller} {words[kind - 5]}"
 
     return "".join(line(i % CALLERS + 1) + "\n" for i in range(lines))
 

@@ -20,6 +20,8 @@ from dataclasses import dataclass, field
 CALLERS = 16
 OVERHEAD = 13
 MODULUS = 2**64
+MOST_TAIL = 64  # of a text and the tail behind it, so many bytes stay
+WRITES = ("put", "add", "tail", "del")
 
 Value = tuple[int, str]  # the count, and the text ("" is printed as "-")
 Map = dict[str, Value]
@@ -118,7 +120,7 @@ def entry(line: str, place: int) -> Entry:
 
 def weight(words: tuple[str, ...]) -> int:
     """The weight of a write, in bytes."""
-    text = words[3] if words[0] == "put" and words[3] != "-" else ""
+    text = words[-1] if words[0] in ("put", "tail") and words[-1] != "-" else ""
     return OVERHEAD + len(words[1]) + len(text)
 
 
@@ -134,6 +136,9 @@ def write(store: Map, words: tuple[str, ...]) -> None:
     elif verb == "add":
         count, text = store.get(key, (0, ""))
         store[key] = ((count + int(words[2])) % MODULUS, text)
+    elif verb == "tail":
+        count, text = store.get(key, (0, ""))
+        store[key] = (count, (text + words[2])[-MOST_TAIL:])
     else:
         store.pop(key, None)
 
@@ -156,7 +161,7 @@ class PlainMap:
 
     def take(self, e: Entry) -> None:
         """Judges the next entry, and does it."""
-        kinds = {"put": self.written, "add": self.written, "del": self.written, "get": self.got, "hold": self.holds, "next": self.read_on, "drop": self.dropped, "work": self.worked}
+        kinds = {"put": self.written, "add": self.written, "tail": self.written, "del": self.written, "get": self.got, "hold": self.holds, "next": self.read_on, "drop": self.dropped, "work": self.worked}
         if e.verb not in kinds:
             raise Illegal(e.number, f"there is no command {e.verb}")
         if e.reply.startswith("stopped "):
@@ -171,7 +176,7 @@ class PlainMap:
     def most_quanta(self, e: Entry) -> int:
         if e.verb == "work":
             return int(e.words[1])
-        return self.geometry.work_bound(weight(e.words)) if e.verb in ("put", "add", "del") and e.reply == "ok" else 0
+        return self.geometry.work_bound(weight(e.words)) if e.verb in WRITES and e.reply == "ok" else 0
 
     def stopped(self, e: Entry) -> None:
         kind, _, rest = e.reply.removeprefix("stopped ").partition(" ")
@@ -300,7 +305,7 @@ def maps_after_fronts(entries: Iterable[Entry], opening: Mapping[str, Value] | N
     store: Map = dict(opening or {})
     yield dict(store)
     for e in entries:
-        if e.verb in ("put", "add", "del") and e.reply == "ok":
+        if e.verb in WRITES and e.reply == "ok":
             write(store, e.words)
         yield dict(store)
         if e.reply == "fault unsure":

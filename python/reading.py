@@ -20,7 +20,9 @@ MOST_USED = 4088
 LEAST_USED = 3577  # of a page with a next one
 NO_PAGE = 2**32 - 1
 MOST_VERSION = 2**62
-BASE, DELTA, TOMBSTONE = 1, 2, 3
+BASE, DELTA, TOMBSTONE, TAILED = 1, 2, 3, 4
+MOST_TAIL = 64
+TEXT_LENGTHS = {BASE: range(436), DELTA: range(1), TOMBSTONE: range(1), TAILED: range(1, MOST_TAIL + 1)}
 
 Bytes = bytes | bytearray | memoryview
 
@@ -39,6 +41,8 @@ def damaged(place: str) -> Unread:
 
 @dataclass(frozen=True)
 class Record:
+    """A delta adds its count, and puts its text behind. In the file it is of kind `TAILED` where it has a text, and of kind `DELTA` else."""
+
     kind: int
     count: int
     text: bytes = b""
@@ -55,7 +59,12 @@ def fold(newer: Record, older: Record | None) -> Record:
     if newer.kind != DELTA or older is None:
         return newer
     count = (older.count + newer.count) % 2**64
-    return Record(DELTA if older.kind == DELTA else BASE, count, older.text)
+    return Record(DELTA if older.kind == DELTA else BASE, count, with_tail(older.text, newer.text))
+
+
+def with_tail(text: bytes, tail: bytes) -> bytes:
+    """The text with a tail behind it, of which the last 64 bytes stay."""
+    return (text + tail)[-MOST_TAIL:] if tail else text
 
 
 def fold_in(table: dict[bytes, Record], entries: Iterable[Entry]) -> None:
@@ -178,12 +187,11 @@ def read_entry(file: Bytes, at: int, end: int) -> tuple[bytes, Record, int] | No
         return None
     kind, key_length, text_length, count = struct.unpack_from(">BHHQ", file, at)
     behind = at + 13 + key_length + text_length
-    if kind not in (BASE, DELTA, TOMBSTONE) or not 1 <= key_length <= 64 or text_length > 435 or behind > end:
-        return None
-    if kind != BASE and text_length or kind == TOMBSTONE and count:
+    lengths = TEXT_LENGTHS.get(kind, range(0))
+    if not 1 <= key_length <= 64 or text_length not in lengths or behind > end or kind == TOMBSTONE and count:
         return None
     key = bytes(file[at + 13 : at + 13 + key_length])
-    return key, Record(kind, count, bytes(file[at + 13 + key_length : behind])), behind
+    return key, Record(DELTA if kind == TAILED else kind, count, bytes(file[at + 13 + key_length : behind])), behind
 
 
 @lru_cache(maxsize=512)

@@ -18,7 +18,7 @@ import tempfile
 import time
 
 from blsm import Store
-from judge import Illegal, Map, judge, write
+from judge import WRITES, Illegal, Map, judge, write
 
 CALLERS = 16
 GREATEST_TEXT = 435
@@ -33,8 +33,10 @@ def line(draw: random.Random, caller: int, key: str) -> str:
     kind = draw.randrange(20)
     if kind < 10:
         return f"{caller} put {key} {draw.randrange(1000)} {text_of(draw)}"
-    if kind < 13:
+    if kind < 12:
         return f"{caller} add {key} {draw.randrange(1000)}"
+    if kind == 12:
+        return f"{caller} tail {key} {text_of(draw)[:64]}"
     if kind < 15:
         return f"{caller} del {key}"
     if kind < 18:
@@ -55,7 +57,7 @@ def writes_apart(draw: random.Random, lines: int) -> str:
     while len(made) < lines:
         caller = draw.randrange(1, CALLERS + 1)
         one = line(draw, caller, f"own{caller:02}{draw.randrange(50):02}")
-        if one.split(" ")[1] in ("put", "add", "del", "work"):
+        if one.split(" ")[1] in (*WRITES, "work"):
             made.append(one + "\n")
     return "".join(made)
 
@@ -87,7 +89,7 @@ def fronts(script: str, caller: int, opening: Map) -> list[Map]:
     own = {key: value for key, value in opening.items() if key.startswith(f"own{caller:02}")}
     found = [dict(own)]
     for words in (one.split(" ") for one in script.splitlines()):
-        if words[0] == str(caller) and words[1] in ("put", "add", "del"):
+        if words[0] == str(caller) and words[1] in WRITES:
             write(own, tuple(words[1:]))
             found.append(dict(own))
     return found

@@ -13,7 +13,7 @@ import unittest
 from pathlib import Path
 
 import blsm
-from blsm import Absent, Add, Del, Did, Done, Drop, Full, Get, Held, Hold, Is, Next, NoHold, NotDone, Put, Row, Rows, Stopped, Store, Value, Work, WriteFailed
+from blsm import Absent, Add, Del, Did, Done, Drop, Full, Get, Held, Hold, Is, Next, NoHold, NotDone, Put, Row, Rows, Stopped, Store, Tail, Value, Work, WriteFailed
 from judge import Geometry, judge
 
 BUILT = os.environ.get("BLSM", str(blsm.PROGRAM))
@@ -52,18 +52,18 @@ class Batches(WithStandIn):
     def test_each_reply_has_its_type(self) -> None:
         self.says(
             "open charge 3\n1 2 add plum 7 => ok q1\n2 1 put a 1 hi => full 9 q0\n3 1 get a => is 1 - q0\n4 1 get b => none q0\n5 1 work 3 => did 2 q1\n"
-            "6 1 hold a c => held q0\n7 1 next 2 => rows 2 a 1 - b 2 hi q0\n8 1 drop => nohold q0\n"
+            "6 1 hold a c => held q0\n7 1 next 2 => rows 2 a 1 - b 2 hi q0\n8 1 drop => nohold q0\n9 2 tail plum sweet => ok q0\n"
             "end c0 20 of 65536 callers 2 workers 5 swaps 1 0\n"
         )
         mine = [Put("a", 1, "hi"), Get("a"), Get("b"), Work(3), Hold("a", "c"), Next(2), Drop()]
-        run = self.store.run({1: mine, 2: [Add("plum", 7)]}, workers=2, turns=5)
+        run = self.store.run({1: mine, 2: [Add("plum", 7), Tail("plum", "sweet")]}, workers=2, turns=5)
         self.assertEqual(run.replies(1), [Full(9), Is(1, ""), Absent(), Did(2), Held(), Rows((Row("a", 1), Row("b", 2, "hi"))), NoHold()])
-        self.assertEqual(run.replies(2), [Done()])
-        self.assertEqual([entry.quanta for entry in run.entries], [1, 0, 0, 0, 1, 0, 0, 0])
+        self.assertEqual(run.replies(2), [Done(), Done()])
+        self.assertEqual([entry.quanta for entry in run.entries], [1, 0, 0, 0, 1, 0, 0, 0, 0])
         self.assertEqual((run.charge, run.peak, run.high_mark, run.callers_quanta, run.workers_quanta, run.passes, run.deep_merges), (3, 20, 65536, 2, 5, 1, 0))
         self.assertIs(run.entries[1].command, mine[0])
         self.assertEqual(
-            self.asked(), "run --workers 2 --turns 5 -- -file\n1 put a 1 hi\n2 add plum 7\n1 get a\n1 get b\n1 work 3\n1 hold a c\n1 next 2\n1 drop\n"
+            self.asked(), "run --workers 2 --turns 5 -- -file\n1 put a 1 hi\n2 add plum 7\n1 get a\n2 tail plum sweet\n1 get b\n1 work 3\n1 hold a c\n1 next 2\n1 drop\n"
         )
 
     def test_a_history_of_other_commands_is_refused(self) -> None:
@@ -82,7 +82,7 @@ class Batches(WithStandIn):
                 self.store.run({1: [Get("a")]})
 
     def test_what_no_script_can_spell_never_runs(self) -> None:
-        for command in (Put("", 1), Put("a b", 1), Put("k" * 65, 1), Put("a", 1, "-"), Put("a", 1, "x" * 436), Put("a", 2**64), Put("a", -1), Get("a\n1 del b"), Next(33), Next(0), Work(0)):
+        for command in (Put("", 1), Put("a b", 1), Put("k" * 65, 1), Put("a", 1, "-"), Put("a", 1, "x" * 436), Put("a", 2**64), Put("a", -1), Tail("a", ""), Tail("a", "-"), Tail("a", "x" * 65), Tail("a", "b c"), Get("a\n1 del b"), Next(33), Next(0), Work(0)):
             with self.subTest(command), self.assertRaises(ValueError):
                 self.store.run({1: [command]})
         for caller in (0, 17):
@@ -189,13 +189,16 @@ class Built(unittest.TestCase):
         store.put("apple", 3, "red")
         store.add("apple", 4)
         store.add("plum", 7)
-        self.assertEqual(Store.open(self.path).get("apple"), Value(7, "red"))
+        store.tail("apple", "ripe")
+        store.tail("pear", "green")
+        self.assertEqual(Store.open(self.path).get("apple"), Value(7, "redripe"))
+        self.assertEqual(store.get("pear"), Value(0, "green"))
         store.delete("plum")
         self.assertIsNone(store.get("plum"))
 
     def test_histories_are_legal(self) -> None:
         store = Store.make(self.path, low=0)
-        batch = {caller: [Add(f"k{i % 40:02}", caller) for i in range(200)] + [Del(f"k{caller:02}"), Get("k05"), Hold("k", "l"), Next(32), Next(32), Drop()] for caller in range(1, 17)}
+        batch = {caller: [Tail(f"k{i % 40:02}", f"c{caller}") if i % 3 else Add(f"k{i % 40:02}", caller) for i in range(200)] + [Del(f"k{caller:02}"), Get("k05"), Hold("k", "l"), Next(32), Next(32), Drop()] for caller in range(1, 17)}
         opening: dict[str, tuple[int, str]] = {}
         for workers in (0, 2, 8):
             run = store.run(batch, workers=workers)

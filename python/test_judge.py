@@ -92,6 +92,19 @@ class Legal(unittest.TestCase):
         text = wrapped("1 add n 18446744073709551615 => ok q0", "1 add n 2 => ok q0", "1 get n => is 1 - q0")
         judge(script_of(text), text)
 
+    def test_tails(self) -> None:
+        long = "x" * 70
+        text = wrapped(
+            *("1 put a 5 hello => ok q0", "1 tail a world => ok q0", "1 get a => is 5 helloworld q0"),
+            *(f"1 put b 0 {long} => ok q0", "1 tail b y => ok q0", f"1 get b => is 0 {long[:63]}y q0", f"1 tail b {'z' * 64} => ok q0"),
+            *("1 del a => ok q0", "1 tail a z => ok q0", "1 add a 3 => ok q0", "1 get a => is 3 z q0"),
+        )
+        self.assertEqual(judge(script_of(text), text), {"a": (3, "z"), "b": (0, "z" * 64)})
+
+    def test_a_tail_is_full_as_a_put_is(self) -> None:
+        text = wrapped("1 tail a yz => full 121841 q0", "1 tail a y => ok q0", charge=121841).replace("65536", "34816")
+        self.assertEqual(judge(script_of(text), text, geometry=Geometry(half=17408, ratio=2)), {"a": (0, "y")})
+
     def test_callers_come_between_one_another(self) -> None:
         script = "1 put a 1 -\n2 put a 2 -\n2 get a\n"
         judge(script, wrapped("2 put a 2 - => ok q0", "1 put a 1 - => ok q0", "2 get a => is 1 - q0"))
@@ -189,6 +202,12 @@ class Wrong(unittest.TestCase):
 
     def test_a_text_kept_after_a_del(self) -> None:
         self.changed(5, WORK, "is 7 -", "is 7 old")
+
+    def test_tails_in_the_wrong_order(self) -> None:
+        tails = "1 tail a x => ok q0", "1 tail a y => ok q0"
+        for wrong in ("yx", "y", "x"):
+            self.refuse(3, wrapped(*tails, f"1 get a => is 0 {wrong} q0"))
+        self.refuse(3, wrapped(f"1 put a 0 {'x' * 64} => ok q0", "1 tail a y => ok q0", f"1 get a => is 0 {'x' * 64}y q0"))
 
     def test_an_invented_entry(self) -> None:
         self.refuse(2, wrapped("1 get a => none q0", "1 get a => none q0"), "1 get a\n")

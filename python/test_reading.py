@@ -13,6 +13,7 @@ X = bytes.fromhex("01 0001 0003 0000000000000064 78 6f6c64")  # put x 100 old
 ADD_X = bytes.fromhex("02 0001 0000 0000000000000007 78")
 DEL_X = bytes.fromhex("03 0001 0000 0000000000000000 78")
 PUT_A = bytes.fromhex("01 0001 0002 0000000000000005 61 6869")  # put a 5 hi
+TAIL_X = bytes.fromhex("04 0001 0003 0000000000000007 78 656e64")  # tail x end, and 7 added
 DEL_A = bytes.fromhex("03 0001 0000 0000000000000000 61")
 LANE = SMALLEST.region
 
@@ -52,6 +53,14 @@ class Folding(unittest.TestCase):
         self.assertEqual(fold(delta, delta), Record(DELTA, 2**64 - 2))
         self.assertEqual(fold(delta, tombstone), Record(BASE, 2**64 - 1))
 
+    def test_tails(self) -> None:
+        base, tombstone, tail = Record(BASE, 5, b"t" * 70), Record(TOMBSTONE, 0), Record(DELTA, 1, b"end")
+        self.assertEqual(fold(tail, base), Record(BASE, 6, b"t" * 61 + b"end"))
+        self.assertEqual(fold(tail, tombstone), Record(BASE, 1, b"end"))
+        self.assertEqual(fold(tail, Record(DELTA, 2, b"old")), Record(DELTA, 3, b"oldend"))
+        self.assertEqual(fold(Record(DELTA, 2), tail), Record(DELTA, 3, b"end"))
+        self.assertEqual(fold(Record(DELTA, 2), base), Record(BASE, 7, b"t" * 70))
+
 
 class Right(unittest.TestCase):
     def test_lengths(self) -> None:
@@ -74,6 +83,13 @@ class Right(unittest.TestCase):
         found = read(store(*MERGED, WRITES))
         self.assertEqual((found.report, found.map), ("ok version 4 c1 0 0 c1x 0 0 c2 1 17 lanes 2 0\n", {b"x": (7, b"")}))
         self.assertEqual(found.pages, {SMALLEST.page_at(1): 17})
+
+    def test_a_tail_over_a_page(self) -> None:
+        lane = 4096 + LANE, b"\x01" + TAIL_X + b"\x00"
+        self.assertEqual(read(store(*MERGED, lane)).map, {b"x": (107, b"oldend")})
+        self.assertEqual(read(store(lane)).map, {b"x": (7, b"end")})
+        longest = b"\x04" + struct.pack(">HHQ", 1, 64, 0) + b"x" + b"t" * 64
+        self.assertEqual(read(store(*MERGED, (lane[0], b"\x01" + longest + b"\x00"))).map, {b"x": (100, b"t" * 64)})
 
     def test_lane_b_is_over_lane_a(self) -> None:
         a = (4096, b"\x01" + PUT_A + b"\x00")
@@ -136,6 +152,12 @@ class Wrong(unittest.TestCase):
         whole = b"\x01" + ADD_X
         self.refused(6, "damaged lane 0", (4096, whole * (LANE // len(whole)) + b"\x01" + ADD_X[: LANE % len(whole)]))
 
+    def test_entries_of_no_kind(self) -> None:
+        for kind, text, count in ((0, 0, 0), (1, 436, 0), (2, 1, 0), (3, 1, 0), (3, 0, 1), (4, 0, 1), (4, 65, 0), (5, 0, 0)):
+            entry = struct.pack(">BBHHQ", 1, kind, 1, text, count) + b"x" + b"t" * text
+            with self.subTest((kind, text, count)):
+                self.refused(6, "damaged lane 0", (4096, entry + b"\x00"))
+
     def test_a_table_that_weighs_too_much(self) -> None:
         def put(i: int) -> bytes:
             return b"\x01" + struct.pack(">BHHQ", BASE, 4, 435, 0) + b"%04d" % i + bytes(435)
@@ -157,6 +179,8 @@ class Wrong(unittest.TestCase):
             page(X, following=2),
             page(X) + b"\x01",
             page(ADD_X),
+            page(TAIL_X, used=17, count=1),
+            page(TAIL_X),
             page(X, X),
         ):
             with self.subTest(part):
