@@ -87,7 +87,7 @@ struct Change {
     is_valid: bool,
 }
 
-fn changes() -> [Change; 32] {
+fn changes() -> [Change; 33] {
     let valid = |bytes| Change {
         bytes,
         is_valid: true,
@@ -112,9 +112,10 @@ fn changes() -> [Change; 32] {
         // A next page, where this one isn't full.
         damaged(&[(4, 0), (5, 0), (6, 0), (7, 0)]),
         damaged(&[(7, 0xfe)]),
-        // The first entry's kind: 0, 4; a delta or a tombstone with a text.
+        // The first entry's kind: 0, 5; a delta with its tail, without one, a tombstone with a text.
         damaged(&[(8, 0)]),
-        damaged(&[(8, 4)]),
+        damaged(&[(8, 5)]),
+        valid(&[(8, 4)]),
         damaged(&[(8, 2)]),
         damaged(&[(8, 3)]),
         // Its key's length: 0, and then another text; 65.
@@ -183,7 +184,7 @@ fn page_of(rt: &impl Abort, kind: u8, key_len: usize, text_len: usize) -> [u8; P
 fn an_entry_has_its_lengths(rt: HostRuntime) {
     let geo = smallest(&rt);
     let mut disk = faultless(&rt, rt.alloc(), &geo);
-    const ROWS: [(u8, usize, usize, bool); 10] = [
+    const ROWS: [(u8, usize, usize, bool); 14] = [
         (1, 0, 0, false),
         (1, 1, 0, true),
         (1, 64, 0, true),
@@ -194,6 +195,10 @@ fn an_entry_has_its_lengths(rt: HostRuntime) {
         (2, 64, 0, true),
         (2, 64, 1, false),
         (3, 64, 1, false),
+        (4, 1, 0, false),
+        (4, 1, 1, true),
+        (4, 64, 64, true),
+        (4, 1, 65, false),
     ];
     for &(kind, key_len, text_len, is_valid) in &ROWS {
         let page = page_of(&rt, kind, key_len, text_len);
