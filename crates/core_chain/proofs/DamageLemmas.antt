@@ -1,5 +1,8 @@
 -- Which call of a chain a damaged page stopped.
-use Rattle.std.proofs.Common.{◌≡◌, ◌∙◌, ℕ, Bool, true, false, List, [], ◌∷◌, ◌++◌, Some, None, refl, ap, sym, subst}
+use Rattle.std.proofs.Common.{◌≡◌, ◌∙◌, ℕ, Bool, true, false, List, [], ◌∷◌, Some, None, refl, ap, sym, subst}
+use Rattle.std.proofs.lemmas.Grind.{common_steps}
+use Rattle.std.proofs.lemmas.Bool.Decides.{nat_tests}
+use Rattle.std.proofs.Common.{arith}
 use Rattle.std.specs.Prelude.{Option}
 use Rattle.std.proofs.lemmas.Bool.{false≢true}
 use Rattle.blsm_model.specs.declared.op.Op.{Op}
@@ -90,9 +93,7 @@ module _ {D : Type 0} (state : D → DiskState) where
 
   -- a stop lasts
   link_halts : (why : Why) (seat : ℕ) (k : Kind) (old new : CoreState D) → IsCall state seat k old new → old.held.book.stopped ≡ Some why → new.held.book.stopped ≡ Some why
-  link_halts why seat k old new call is =
-      let link = link_tells state seat k old new call in
-      halted_by link.lookups link.told (pending old.held.book) (pending new.held.book) old.held.book.stopped new.held.book.stopped (state old.disk) (state new.disk) link.how why is
+  link_halts why seat k old new call is = grind (arith, common_steps, nat_tests, link_tells, halted_by, pending)
 
   -- ---- the chain
 

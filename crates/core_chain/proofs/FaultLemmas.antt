@@ -1,14 +1,16 @@
 -- What the calls tell of faults and of the stop, one after another.
 use Rattle.std.proofs.Common.{◌≡◌, ◌≢◌, ◌⊎◌, ◌∙◌, ⊎_elim, inl, inr, ℕ, ◌+◌, ◌<◌, ◌≤◌, Bool, true, false, List, [], ◌∷◌, ◌++◌, Some, None, refl, ap, sym, subst, arith}
+use Rattle.std.proofs.lemmas.Grind.{common_steps}
+use Rattle.std.proofs.lemmas.Bool.Decides.{nat_tests}
 use Rattle.std.specs.Prelude.{Option, zero, suc, slice_index_or, sum_by}
 use Rattle.std.specs.List.{AllByRecursion}
 use Rattle.std.proofs.lemmas.Bool.{false≢true}
 use Rattle.std.proofs.lemmas.List.Sums.{sum_by-append, sum_by-cons}
 use Rattle.refusal.specs.Count.{HasRisen, HasRisenBy}
-use Rattle.blsm_model.specs.Legal.{is_write, may_look}
+use Rattle.blsm_model.specs.Legal.{is_write}
 use Rattle.blsm_model.specs.declared.history.Entry.{Entry}
 use Rattle.blsm_model.specs.declared.history.Reply.{Reply}
-use Rattle.blsm_model.specs.declared.history.Reply.TheVariants.{Fault, Stopped}
+use Rattle.blsm_model.specs.declared.history.Reply.TheVariants.{Stopped}
 use Rattle.blsm_model.specs.declared.history.Why.{Why}
 use Rattle.blsm_model.specs.declared.history.Why.TheVariants.{Faulted, BadPage}
 use Rattle.blsm_model.specs.declared.op.Op.{Op}
@@ -28,21 +30,11 @@ use Rattle.core_chain.specs.Tells.{lookups_failed}
 -- ---- entries
 
 lookup_tells : (op : Op) (reply : Reply) → one_if (is_failed_lookup op reply) ≤ faults_of reply
-lookup_tells op Fault = by (may_look op)
-  where
-    by : (b : Bool) → one_if b ≤ 1
-    by true = omega arith
-    by false = omega arith
-lookup_tells op _ = omega arith
+lookup_tells op reply = grind (arith, common_steps, nat_tests)
 
 pub lookups_tell : (es : List Entry) → lookups_failed es ≤ faults_told es
 lookups_tell [] = omega arith
-lookups_tell (e ∷ es) =
-    let one = lookup_tells e.op e.reply in
-    let rest = lookups_tell es in
-    let lookups = sum_by-cons (λ (x : Entry). one_if (is_failed_lookup x.op x.reply)) e es in
-    let told = sum_by-cons (λ (x : Entry). faults_of x.reply) e es in
-    omega (arith, one, rest, lookups, told)
+lookups_tell (e ∷ es) = grind (arith, common_steps, nat_tests, lookups_tell es)
 
 calm_one : (op : Op) (reply : Reply) → faults_of reply ≤ one_if (is_failed_lookup op reply) → TellsNone op reply
 calm_one op reply few = λ is. omega (arith, few, ap one_if (no_look op reply is))
@@ -177,8 +169,7 @@ abbrev pub How : (lookups told pend left : ℕ) → Option Why → Option Why �
 How lookups told pend left old new before after = Stays lookups told pend left old new before after ⊎ ((lookups ≡ 0) × Stops told pend left old new before after)
 
 pub halted_by : (lookups told pend left : ℕ) (old new : Option Why) (before after : DiskState) → How lookups told pend left old new before after → (why : Why) → old ≡ Some why → new ≡ Some why
-halted_by lookups told pend left old new before after how why is =
-    ⊎_elim (λ (s : Stays lookups told pend left old new before after). s.halted why is) (λ (s : (lookups ≡ 0) × Stops told pend left old new before after). absurd (cc (s.1.ran, is))) how
+halted_by lookups told pend left old new before after how why is = grind (arith, common_steps, nat_tests)
 
 abbrev pub AllNamed : List Entry → Option Why → Type 0
 AllNamed es stopped = AllByRecursion (λ (e : Entry). NamesStop e.reply stopped) es
@@ -285,10 +276,7 @@ module _ (start between after : DiskState) (old new : BookState) (grows : betwee
       how
 
   quiet : HowNow → lookups_failed new.book.entries ≡ 0 → is_by_fault new.stopped ≡ false → after.faults ≡ start.faults
-  quiet how none calm = ⊎_elim
-      (λ (s : StaysNow). s.quiet (omega (arith, none, link.lookups_are)) ∙ so_far.quiet (omega (arith, none, link.lookups_are)) (sym (same_flag old.stopped new.stopped s.stop) ∙ calm))
-      (λ (s : StopsNow). absurd (false≢true (sym calm ∙ ap is_by_fault s.1.stop)))
-      how
+  quiet how none calm = grind (arith, common_steps, nat_tests)
 
   stop_by : (b : Bool) → is_by_fault old.stopped ≡ b → StaysNow → NamesCount new.stopped start after
   stop_by false calm s = unnamed new.stopped start after (same_flag old.stopped new.stopped s.stop ∙ calm)
@@ -298,18 +286,14 @@ module _ (start between after : DiskState) (old new : BookState) (grows : betwee
       s.stop
     where
       no_more : (n : ℕ) → (0 < n → ⊥) → n ≡ 0
-      no_more zero not = refl
-      no_more (suc n) not = absurd (not (omega arith))
+      no_more n h1 = grind (arith, common_steps, nat_tests)
 
   stop : HowNow → NamesCount new.stopped start after
   stop how = ⊎_elim (stop_by (is_by_fault old.stopped) refl)
       (λ (s : StopsNow). subst (λ (o : Option Why). NamesCount o start after) (sym s.1.stop) (refl, omega (arith, s.1.risen, so_far.grows))) how
 
   others : HowNow → faults_told new.book.entries + pending new ≤ lookups_failed new.book.entries + one_if (is_by_fault new.stopped)
-  others how = ⊎_elim
-      (λ (s : StaysNow). let same = flag s in omega (arith, so_far.others, s.told_is, link.lookups_are, link.told_is, same))
-      (λ (s : StopsNow). let none = was s in let one = is s in omega (arith, so_far.others, s.1.told_is, s.0, link.lookups_are, link.told_is, none, one))
-      how
+  others how = grind (arith, common_steps, nat_tests)
 
   pub told_more : Told start new after
   told_more = record {

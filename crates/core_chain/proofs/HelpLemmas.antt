@@ -1,28 +1,23 @@
 -- The workers' quanta and turns, which their own turns alone count.
-use Rattle.std.proofs.Common.{◌≡◌, ◌≢◌, ◌∙◌, ⊎_elim, ℕ, ◌+◌, ◌<◌, ◌≤◌, Bool, true, false, cond, List, [], ◌∷◌, refl, ap, sym, arith, ne_eqb, eq-eqb}
-use Rattle.std.specs.Prelude.{◌==◌, ◌&&◌, drop, nat_le, nat_lt, sum, sum_by}
-use Rattle.std.proofs.lemmas.Bool.{cases_eq, false≢true, leb-true, ltb-true}
+use Rattle.std.proofs.Common.{◌≡◌, ◌≢◌, ◌∙◌, ⊎_elim, ℕ, ◌+◌, ◌<◌, ◌≤◌, Bool, false, cond, List, [], ◌∷◌, refl, ap, sym, arith, ne_eqb, eq-eqb}
+use Rattle.std.proofs.lemmas.Grind.{common_steps}
+use Rattle.std.proofs.lemmas.Bool.Decides.{nat_tests}
+use Rattle.std.specs.Prelude.{◌==◌, ◌&&◌, sum, sum_by}
+use Rattle.std.proofs.lemmas.Bool.{cases_eq, leb-true, ltb-true}
 use Rattle.std.proofs.lemmas.List.Sums.{sum_by-take-drop}
 use Rattle.blsm_model.specs.Book.{Book}
 use Rattle.blsm_model.specs.Format.{callers}
 use Rattle.disk_trait.specs.Disk.{DiskState}
-use Rattle.pacing.specs.Pace.{Pace}
 use Rattle.seat_book.specs.Seats.{turns_in}
-use Rattle.seat_book.specs.State.{BookState}
 use Rattle.tree_machine.proofs.FoldLemmas.{both_hold}
 use Rattle.tree_machine.specs.Machine.{WorkSoFar, seats, turn_more}
 use Rattle.tree_machine.specs.Steps.{one_if}
 use Rattle.tree_machine.specs.declared.step.Kind.{Kind}
 use Rattle.tree_machine.specs.declared.step.Kind.TheVariants as kind
 use Rattle.tree_machine.specs.declared.step.Step.{Step}
-use Rattle.core_moves.specs.declared.held.Held.{Held}
-use Rattle.core_pace.proofs.CallLemmas.{plan_agrees}
-use Rattle.core_pace.proofs.PayLemmas.{payers_wrote}
-use Rattle.tree_core.specs.Calls.{AreCalls, IsCall, Pays}
+use Rattle.tree_core.specs.Calls.{AreCalls, IsCall}
 use Rattle.tree_core.specs.Core.{CoreState, IsCore}
-use Rattle.tree_core.specs.declared.answers.Payment.{Payment}
-use Rattle.tree_core.specs.declared.answers.Payment.TheVariants as payment
-use Rattle.tree_session.proofs.AloneLemmas.{admit_alone, by_workers, pay_alone, turn_alone, unpaid_alone}
+use Rattle.tree_session.proofs.AloneLemmas.{alone_by, by_workers}
 use Rattle.tree_machine.specs.Plays.{is_help}
 use Rattle.core_chain.specs.Quanta.{ChainHelps, helped_after, helps_in}
 use Rattle.core_chain.specs.Start.{IsUnasked, steps_of}
@@ -31,41 +26,9 @@ use Rattle.core_chain.proofs.LinkLemmas.{caller_of, goes_of, link_keeps}
 module _ {D : Type 0} (state : D → DiskState) where
   -- ---- quanta
 
-  -- one that wasn't made counts for nobody
-  unpaid : (seat : ℕ) (answer : Payment) (old new : CoreState D) (call : Pays state seat answer old new) (keeps : IsCore old.held (state old.disk)) → (call.goes.numbers keeps.pace keeps.holds).next.work ≡ keeps.pace.work
-      → new.held.book.book ≡ old.held.book.book → by_workers new.held ≡ by_workers old.held
-  unpaid seat answer old new call keeps work annals =
-      let moves = call.goes.numbers keeps.pace keeps.holds in
-      unpaid_alone old.held new.held (state old.disk) (state new.disk) keeps.pace moves.next keeps.holds moves.holds work annals call.counts.work
-
-  -- a payment that was made is for a write of its seat
-  pay_link : (seat : ℕ) (answer : Payment) (old new : CoreState D) → Pays state seat answer old new → seat < callers → IsCore old.held (state old.disk) → by_workers new.held ≡ by_workers old.held
-  pay_link seat payment.Paid old new call caller keeps =
-      let numbers = (keeps.holds.live call.cause.0.ran).paced.numbers in
-      let has = payers_wrote old.held keeps.pace seat keeps.holds.told.told caller (λ none. call.cause.1 (plan_agrees seat old.held keeps.pace numbers ∙ none)) in
-      pay_alone payment.Paid seat old.held new.held (state old.disk) (state new.disk) keeps.pace keeps.holds (call.goes.numbers keeps.pace keeps.holds) call.cause call.counts has
-  pay_link seat payment.Settled old new call caller keeps = unpaid seat payment.Settled old new call keeps (ap (λ (p : Pace). p.work) (call.goes.numbers keeps.pace keeps.holds).made) call.counts.annals
-  pay_link seat payment.Fault old new call caller keeps = unpaid seat payment.Fault old new call keeps (ap (λ (p : Pace). p.work) (call.goes.numbers keeps.pace keeps.holds).made) call.counts.annals
-  pay_link seat (payment.Damaged page) old new call caller keeps = unpaid seat (payment.Damaged page) old new call keeps (ap (λ (p : Pace). p.work) (call.goes.numbers keeps.pace keeps.holds).made) call.counts.annals
-  pay_link seat (payment.Stopped why) old new call caller keeps = unpaid seat (payment.Stopped why) old new call keeps (ap (λ (p : Pace). p.work) (call.goes.numbers keeps.pace keeps.holds).made) call.counts.annals
-
-  seats_same : (old new : CoreState D) → new.held.book.seats.quanta ≡ old.held.book.seats.quanta → by_workers new.held ≡ by_workers old.held
-  seats_same old new same = ap (λ (l : List ℕ). sum (drop callers l)) same
-
   -- a caller's call counts none for a worker
-  link_alone : (seat : ℕ) (k : Kind) (old new : CoreState D) → IsCall state seat k old new → IsCore old.held (state old.disk) → is_help k ≡ false → by_workers new.held ≡ by_workers old.held
-  link_alone seat (kind.Admit op) old new call keeps other =
-      admit_alone call.0 seat op old.held new.held (state old.disk) (state new.disk) keeps.pace keeps.holds (call.1.goes.numbers keeps.pace keeps.holds) call.1.notes
-  link_alone seat kind.Pay old new call keeps other = pay_link seat call.0 old new call.1 (caller_of state seat kind.Pay old new call refl) keeps
-  link_alone seat (kind.Get key) old new call keeps other = seats_same old new (ap (λ (h : Held). h.book.seats.quanta) call.1.held)
-  link_alone seat (kind.Hold low high) old new call keeps other = seats_same old new (ap (λ (b : BookState). b.seats.quanta) call.1.book)
-  link_alone seat (kind.Next n) old new call keeps other = seats_same old new (ap (λ (b : BookState). b.seats.quanta) call.1.book)
-  link_alone seat kind.Release old new call keeps other = seats_same old new (ap (λ (b : BookState). b.seats.quanta) call.1.book)
-  link_alone seat kind.WorkTurn old new call keeps other =
-      turn_alone call.0 seat old.held new.held (state old.disk) (state new.disk) keeps.pace (caller_of state seat kind.WorkTurn old new call refl) keeps.holds (call.1.goes.numbers keeps.pace keeps.holds) call.1.cause call.1.counts
-  link_alone seat (kind.WorkEnd n) old new call keeps other = seats_same old new (ap (λ (h : Held). h.book.seats.quanta) call.1.held)
-  link_alone seat kind.WorkerTurn old new call keeps other = absurd (false≢true (sym other))
-  link_alone seat kind.Leave old new call keeps other = seats_same old new (ap (λ (h : Held). h.book.seats.quanta) call.held)
+  link_alone : (seat : ℕ) (k : Kind) (old new : CoreState D) → IsCall state seat k old new → is_help k ≡ false → by_workers new.held ≡ by_workers old.held
+  link_alone seat k old new call other = alone_by seat old.held new.held (caller_of state seat k old new call other) (goes_of state seat k old new call).1.follows
 
   -- what the callers took is told by the entries and the open works, which a worker's turn leaves
   link_helps : (seat : ℕ) (old new : CoreState D) → IsCall state seat kind.WorkerTurn old new → IsCore old.held (state old.disk) → by_workers new.held ≤ by_workers old.held + 1
@@ -84,15 +47,7 @@ module _ {D : Type 0} (state : D → DiskState) where
 
   link_rises : (seat : ℕ) (k : Kind) (old new : CoreState D) → IsCall state seat k old new → IsCore old.held (state old.disk) → by_workers new.held ≤ by_workers old.held + one_if (is_help k)
   link_rises seat kind.WorkerTurn old new call keeps = link_helps seat old new call keeps
-  link_rises seat (kind.Admit op) old new call keeps = let same = link_alone seat (kind.Admit op) old new call keeps refl in omega (arith, same)
-  link_rises seat kind.Pay old new call keeps = let same = link_alone seat kind.Pay old new call keeps refl in omega (arith, same)
-  link_rises seat (kind.Get key) old new call keeps = let same = link_alone seat (kind.Get key) old new call keeps refl in omega (arith, same)
-  link_rises seat (kind.Hold low high) old new call keeps = let same = link_alone seat (kind.Hold low high) old new call keeps refl in omega (arith, same)
-  link_rises seat (kind.Next n) old new call keeps = let same = link_alone seat (kind.Next n) old new call keeps refl in omega (arith, same)
-  link_rises seat kind.Release old new call keeps = let same = link_alone seat kind.Release old new call keeps refl in omega (arith, same)
-  link_rises seat kind.WorkTurn old new call keeps = let same = link_alone seat kind.WorkTurn old new call keeps refl in omega (arith, same)
-  link_rises seat (kind.WorkEnd n) old new call keeps = let same = link_alone seat (kind.WorkEnd n) old new call keeps refl in omega (arith, same)
-  link_rises seat kind.Leave old new call keeps = let same = link_alone seat kind.Leave old new call keeps refl in omega (arith, same)
+  link_rises seat k old new call keeps = let same = link_alone seat k old new call refl in omega (arith, same)
 
   chain_rises : (calls : List (Step × CoreState D)) (old new : CoreState D) → AreCalls state calls old new → IsCore old.held (state old.disk) → by_workers new.held ≤ by_workers old.held + helps_in (steps_of calls)
   chain_rises [] old new are keeps = let same = ap (λ (core : CoreState D). by_workers core.held) are in omega (arith, same)
@@ -101,14 +56,13 @@ module _ {D : Type 0} (state : D → DiskState) where
       let rest = chain_rises calls one.1 new are.1 (link_keeps state one.0.seat one.0.kind old one.1 are.0 keeps) in
       omega (arith, first, rest)
 
-  chain_alone : (calls : List (Step × CoreState D)) (old new : CoreState D) → AreCalls state calls old new → IsCore old.held (state old.disk) → helps_in (steps_of calls) ≡ 0 → by_workers new.held ≡ by_workers old.held
-  chain_alone [] old new are keeps none = ap (λ (core : CoreState D). by_workers core.held) are
-  chain_alone (one ∷ calls) old new are keeps none =
-      chain_alone calls one.1 new are.1 (link_keeps state one.0.seat one.0.kind old one.1 are.0 keeps) (omega (arith, none)) ∙ link_alone one.0.seat one.0.kind old one.1 are.0 keeps (by (is_help one.0.kind) (omega (arith, none)))
+  chain_alone : (calls : List (Step × CoreState D)) (old new : CoreState D) → AreCalls state calls old new → helps_in (steps_of calls) ≡ 0 → by_workers new.held ≡ by_workers old.held
+  chain_alone [] old new are none = ap (λ (core : CoreState D). by_workers core.held) are
+  chain_alone (one ∷ calls) old new are none =
+      chain_alone calls one.1 new are.1 (omega (arith, none)) ∙ link_alone one.0.seat one.0.kind old one.1 are.0 (by (is_help one.0.kind) (omega (arith, none)))
     where
       by : (b : Bool) → one_if b ≡ 0 → b ≡ false
-      by true none = absurd (omega (arith, none))
-      by false none = refl
+      by b h1 = grind (arith, common_steps, nat_tests)
 
   -- ---- turns
 
@@ -127,15 +81,7 @@ module _ {D : Type 0} (state : D → DiskState) where
       (λ (apart : any ≡ seat → ⊥).
       others_turn seat any kind.WorkerTurn old new call apart ∙ ap (λ (b : Bool). cond b (turn_more (turns_in any old.held.book)) (turns_in any old.held.book)) (sym (ne_eqb seat any (λ same. apart (sym same)))))
       (cases_eq any seat)
-  link_counts seat any (kind.Admit op) old new call above = by_other seat any (kind.Admit op) old new call above refl
-  link_counts seat any kind.Pay old new call above = by_other seat any kind.Pay old new call above refl
-  link_counts seat any (kind.Get key) old new call above = by_other seat any (kind.Get key) old new call above refl
-  link_counts seat any (kind.Hold low high) old new call above = by_other seat any (kind.Hold low high) old new call above refl
-  link_counts seat any (kind.Next n) old new call above = by_other seat any (kind.Next n) old new call above refl
-  link_counts seat any kind.Release old new call above = by_other seat any kind.Release old new call above refl
-  link_counts seat any kind.WorkTurn old new call above = by_other seat any kind.WorkTurn old new call above refl
-  link_counts seat any (kind.WorkEnd n) old new call above = by_other seat any (kind.WorkEnd n) old new call above refl
-  link_counts seat any kind.Leave old new call above = by_other seat any kind.Leave old new call above refl
+  link_counts seat any k old new call above = by_other seat any k old new call above refl
 
   chain_counts : (any : ℕ) (calls : List (Step × CoreState D)) (old new : CoreState D) → AreCalls state calls old new → callers ≤ any → turns_in any new.held.book ≡ helped_after any (steps_of calls) (turns_in any old.held.book)
   chain_counts any [] old new are above = ap (λ (core : CoreState D). turns_in any core.held.book) are
@@ -148,13 +94,10 @@ module _ {D : Type 0} (state : D → DiskState) where
   helped_some any (step ∷ steps) n some = helped_some any steps _ (by (is_help step.kind && (step.seat == any)))
     where
       by : (b : Bool) → 0 < cond b (turn_more n) n
-      by true = omega arith
-      by false = some
+      by b = grind (arith, common_steps, nat_tests)
 
   helper : (seat : ℕ) (old new : CoreState D) → IsCall state seat kind.WorkerTurn old new → (callers ≤ seat) × (seat < seats)
-  helper seat old new call =
-      let parts = both_hold (nat_le callers seat) (nat_lt seat seats) call.1.goes.may in
-      (leb-true callers seat parts.0, ltb-true seat seats parts.1)
+  helper seat old new call = grind (arith, common_steps, nat_tests, both_hold, leb-true, ltb-true)
 
   chain_rests : (calls : List (Step × CoreState D)) (old new : CoreState D) → AreCalls state calls old new → ((seat : ℕ) → callers ≤ seat → seat < seats → turns_in seat new.held.book ≡ 0) → helps_in (steps_of calls) ≡ 0
   chain_rests [] old new are none = refl
@@ -170,20 +113,12 @@ module _ {D : Type 0} (state : D → DiskState) where
           let last = helped_some one.0.seat (steps_of calls) (turns_in one.0.seat one.1.held.book) some in
           let is_last = chain_counts one.0.seat calls one.1 new are.1 seat.0 in
           absurd (omega (arith, last, is_last, none one.0.seat seat.0 seat.1))
-      first (kind.Admit op) call = refl
-      first kind.Pay call = refl
-      first (kind.Get key) call = refl
-      first (kind.Hold low high) call = refl
-      first (kind.Next n) call = refl
-      first kind.Release call = refl
-      first kind.WorkTurn call = refl
-      first (kind.WorkEnd n) call = refl
-      first kind.Leave call = refl
+      first k call = refl
 
   pub chain_helps : (calls : List (Step × CoreState D)) (start end : CoreState D) → IsUnasked state start → AreCalls state calls start end → ChainHelps state calls start end
   chain_helps calls start end unasked are = record {
     rises = chain_rises calls start end are unasked.keeps;
-    alone = λ none. chain_alone calls start end are unasked.keeps none;
+    alone = chain_alone calls start end are;
     rests = chain_rests calls start end are;
     counted = λ seat above below. chain_counts seat calls start end are above;
   }

@@ -1,5 +1,8 @@
 -- What the calls make of the holds, and what their replies tell of them.
 use Rattle.std.proofs.Common.{◌≡◌, ◌≢◌, ◌∙◌, inl, inr, ℕ, Bool, true, false, cond, List, [], ◌∷◌, ◌++◌, Some, None, refl, ap, sym, subst, eq-eqb, ne_eqb}
+use Rattle.std.proofs.lemmas.Grind.{common_steps}
+use Rattle.std.proofs.lemmas.Bool.Decides.{nat_tests}
+use Rattle.std.proofs.Common.{arith}
 use Rattle.std.specs.Prelude.{Option, is_some, map, replicate}
 use Rattle.std.specs.List.{AllByRecursion}
 use Rattle.std.specs.List.Sorted.{IsStrictlySortedBy}
@@ -30,9 +33,7 @@ use Rattle.tree_core.specs.Causes.{DropsBecause, HoldsBecause, ScansBecause}
 use Rattle.tree_core.specs.Core.{CoreState}
 use Rattle.tree_core.specs.Holds.{KeepsHolds}
 use Rattle.tree_core.specs.declared.answers.Holding.{Holding}
-use Rattle.tree_core.specs.declared.answers.Holding.TheVariants as holding
 use Rattle.tree_core.specs.declared.answers.Release.{Release}
-use Rattle.tree_core.specs.declared.answers.Release.TheVariants as release
 use Rattle.tree_core.specs.Scanned.{Scanned}
 use Rattle.tree_core.specs.Scanned as scanned
 use Rattle.core_chain.specs.Holds.{AreMoreRowsOf, ChainTellsHolds, HoldsNone, IsTold, TellHoldsFrom, TellsHold, ToldHold, held_after, held_by, held_then, with_rows}
@@ -77,10 +78,7 @@ quiet_write _ reply write = record { same = λ had. refl; tells = λ had. tt }
 -- ---- one hold
 
 told_some : (hold : Option HoldState) (told : Option ToldHold) → IsTold hold told → is_some told ≡ is_some hold
-told_some None None is = refl
-told_some (Some hold) (Some told) is = refl
-told_some None (Some told) is = absurd is
-told_some (Some hold) None is = absurd is
+told_some hold told h1 = grind (arith, common_steps, nat_tests)
 
 told_none : (hold : Option HoldState) → is_some hold ≡ false → IsTold hold None
 told_none None none = tt
@@ -164,10 +162,7 @@ module _ {D : Type 0} where
 
   own_of_hold : (answer : Holding) (seat : ℕ) (low high : Key) (old new : CoreState D) → HoldsBecause answer seat low high old new → (told : Option ToldHold) → IsTold (hold_of seat old.holds) told
       → IsTold (hold_of seat new.holds) (held_by (op.Hold low high) (reply_to_hold answer) told) × TellsHold told (op.Hold low high) (reply_to_hold answer)
-  own_of_hold holding.Held seat low high old new because told is =
-      (subst (λ (h : Option HoldState). IsTold h (Some (record { low = low; high = high; given = [] }))) (sym because.1) (record { low = refl; high = refl; rise = none_rise; up_to_place = tt }), tt)
-  own_of_hold holding.NoMemory seat low high old new because told is = (stays seat told old new because.1 is, tt)
-  own_of_hold (holding.Stopped why) seat low high old new because told is = (stays seat told old new because.1 is, tt)
+  own_of_hold answer seat low high old new h1 told h2 = grind (arith, common_steps, nat_tests, none_rise)
 
   own_of_scan : (answer : Scanned) (seat n : ℕ) (old new : CoreState D) (before after : DiskState) → ScansBecause answer seat n old new before after → (told : Option ToldHold) → IsTold (hold_of seat old.holds) told
       → IsTold (hold_of seat new.holds) (held_by (op.Next n) (reply_to_next answer) told) × TellsHold told (op.Next n) (reply_to_next answer)
@@ -180,11 +175,7 @@ module _ {D : Type 0} where
 
   own_of_drop : (answer : Release) (seat : ℕ) (old new : CoreState D) → DropsBecause answer seat old new → (told : Option ToldHold) → IsTold (hold_of seat old.holds) told
       → IsTold (hold_of seat new.holds) (held_by op.Release (reply_to_drop answer) told) × TellsHold told op.Release (reply_to_drop answer)
-  own_of_drop release.Done seat old new because told is =
-      (subst (λ (h : Option HoldState). IsTold h None) (sym because.2) tt, told_some (hold_of seat old.holds) told is ∙ because.1)
-  own_of_drop release.NoHold seat old new because told is =
-      (stays seat told old new because.2 is, told_some (hold_of seat old.holds) told is ∙ is_none (hold_of seat old.holds) because.1)
-  own_of_drop (release.Stopped why) seat old new because told is = (stays seat told old new because.1 is, tt)
+  own_of_drop answer seat old new h1 told h2 = grind (arith, common_steps, nat_tests)
 
 module _ {D : Type 0} (state : D → DiskState) where
   link_tells_holds : (seat : ℕ) (k : Kind) (old new : CoreState D) → IsCall state seat k old new → ChainTellsHolds old → ChainTellsHolds new

@@ -1,17 +1,19 @@
 -- One link of a chain: what each kind of call says of it. And what each link keeps, the chain keeps.
-use Rattle.std.proofs.Common.{◌≡◌, ◌∙◌, ℕ, ◌<◌, Bool, true, false, List, [], ◌∷◌, ◌&&◌, ◌==◌, Some, None, sym, subst}
-use Rattle.std.specs.Prelude.{IsSome, Option, nat_le, nat_lt}
-use Rattle.std.proofs.lemmas.Bool.{ltb-true, false≢true}
-use Rattle.blsm_model.specs.Format.{callers, most_rows}
+use Rattle.std.proofs.Common.{◌≡◌, ◌∙◌, ℕ, ◌<◌, Bool, true, false, List, [], ◌∷◌, ◌&&◌, ◌==◌, None, sym, subst}
+use Rattle.std.proofs.lemmas.Grind.{common_steps}
+use Rattle.std.proofs.lemmas.Bool.Decides.{nat_tests}
+use Rattle.std.proofs.Common.{arith}
+use Rattle.std.specs.Prelude.{IsSome, Option}
+use Rattle.std.proofs.lemmas.Bool.{ltb-true}
+use Rattle.blsm_model.specs.Format.{callers}
 use Rattle.blsm_model.specs.Legal.{is_write}
 use Rattle.blsm_model.specs.declared.history.Why.{Why}
 use Rattle.blsm_model.specs.declared.key.Key.{Key}
 use Rattle.blsm_model.specs.declared.op.Op.{Op}
 use Rattle.disk_trait.specs.Disk.{DiskState}
-use Rattle.seat_book.specs.State.{BookState, may_note_in, may_turn_in, work_in}
-use Rattle.tree_machine.specs.Machine as machine
+use Rattle.seat_book.specs.State.{BookState, may_note_in, work_in}
 use Rattle.tree_machine.specs.Machine.{Turned, is_caller}
-use Rattle.tree_machine.specs.Plays.{has_room, is_finished, is_help, most_turns}
+use Rattle.tree_machine.specs.Plays.{has_room, is_help}
 use Rattle.tree_machine.specs.Steps.{Answer, Left, Replied, Turn}
 use Rattle.tree_machine.specs.declared.step.Kind.{Kind}
 use Rattle.tree_machine.specs.declared.step.Kind.TheVariants as kind
@@ -25,12 +27,9 @@ use Rattle.tree_core.specs.Steps.{is_even_in}
 use Rattle.tree_core.specs.declared.answers.Admission.{Admission}
 use Rattle.tree_core.specs.declared.answers.Admission.TheVariants as admission
 use Rattle.tree_core.specs.declared.answers.Lookup.{Lookup}
-use Rattle.tree_core.specs.declared.answers.Lookup.TheVariants as lookup
 use Rattle.tree_core.specs.declared.answers.Payment.{Payment}
-use Rattle.tree_core.specs.declared.answers.Payment.TheVariants as payment
 use Rattle.tree_core.specs.Scanned.{Scanned}
 use Rattle.tree_core.specs.Scanned as scanned
-use Rattle.tree_core.proofs.SizeLemmas.{made_sizes}
 
 -- ---- one link
 
@@ -53,10 +52,7 @@ link_keeps state seat k old new call keeps = let moves = (goes_of state seat k o
 
 -- and its geometry
 pub link_sizes : {D : Type 0} (state : D → DiskState) (seat : ℕ) (k : Kind) (old new : CoreState D) → IsCall state seat k old new → IsCore old.held (state old.disk) → new.held.runs.sizes ≡ old.held.runs.sizes
-link_sizes state seat k old new call keeps =
-    let goes = goes_of state seat k old new call in
-    let moves = goes.1.numbers keeps.pace keeps.holds in
-    sym moves.holds.told.sizes ∙ made_sizes seat k goes.0 keeps.pace moves.next moves.made ∙ keeps.holds.told.sizes
+link_sizes state seat k old new call keeps = grind (arith, common_steps, nat_tests)
 
 -- who notes, works, pays or leaves is a caller
 noter : (seat rows : ℕ) (b : BookState) → may_note_in seat rows b ≡ true → seat < callers
@@ -66,26 +62,13 @@ pub writes_as : {D : Type 0} (state : D → DiskState) (seat : ℕ) (old : CoreS
 writes_as state seat old op is = both_hold (is_write op) (may_note_in seat 0 old.held.book) (both_hold (is_write op && may_note_in seat 0 old.held.book) (is_even_in seat old.held) is).0
 
 pub caller_of : {D : Type 0} (state : D → DiskState) (seat : ℕ) (k : Kind) (old new : CoreState D) → IsCall state seat k old new → is_help k ≡ false → seat < callers
-caller_of state seat (kind.Admit op) old new call other = noter seat 0 old.held.book (writes_as state seat old op call.1.goes.may).1
-caller_of state seat kind.Pay old new call other = ltb-true seat callers call.1.goes.may
-caller_of state seat (kind.Get key) old new call other = noter seat 0 old.held.book call.1.goes.may
-caller_of state seat (kind.Hold low high) old new call other = noter seat 0 old.held.book call.1.goes.may
-caller_of state seat (kind.Next n) old new call other =
-    noter seat n old.held.book (both_hold (may_note_in seat n old.held.book) (nat_lt 0 n) (both_hold (may_note_in seat n old.held.book && nat_lt 0 n) (nat_le n most_rows) call.1.goes.may).0).0
-caller_of state seat kind.Release old new call other = noter seat 0 old.held.book call.1.goes.may
-caller_of state seat kind.WorkTurn old new call other =
-    ltb-true seat callers (both_hold (is_caller seat) (nat_lt (work_in seat old.held.book).turns most_turns) (both_hold (may_turn_in seat old.held.book) (is_even_in seat old.held) call.1.goes.may).0).0
-caller_of state seat (kind.WorkEnd n) old new call other =
-    ltb-true seat callers (both_hold (is_caller seat) (has_room old.held.book.book.room seat 0) (both_hold (is_caller seat && has_room old.held.book.book.room seat 0) (is_finished n (work_in seat old.held.book)) call.1.goes.may).0).0
-caller_of state seat kind.WorkerTurn old new call other = absurd (false≢true (sym other))
-caller_of state seat kind.Leave old new call other = ltb-true seat callers call.goes.may
+caller_of state seat k old new h1 h2 = grind (arith, common_steps, nat_tests, noter, writes_as, ltb-true, both_hold)
 
 -- ---- a store that is stopped
 
 -- it can't have run
 never : (o : Option Why) → IsSome o → o ≡ None → ⊥
-never (Some why) some none = absurd (cc none)
-never None some none = absurd (false≢true some)
+never o h1 h2 = grind (arith, common_steps, nat_tests)
 
 admit_rests : {D : Type 0} (state : D → DiskState) (seat : ℕ) (op : Op) (answer : Admission) (old new : CoreState D) → Admits state seat op answer old new → IsSome old.held.book.stopped → new.disk ≡ old.disk
 admit_rests state seat op admission.Admitted old new call some = absurd (never old.held.book.stopped some call.cause.0.ran)
@@ -94,18 +77,10 @@ admit_rests state seat op (admission.Fault begun) old new call some = absurd (ne
 admit_rests state seat op (admission.Stopped why) old new call some = call.untouched tt
 
 pay_rests : {D : Type 0} (state : D → DiskState) (seat : ℕ) (answer : Payment) (old new : CoreState D) → Pays state seat answer old new → IsSome old.held.book.stopped → new.disk ≡ old.disk
-pay_rests state seat payment.Paid old new call some = absurd (never old.held.book.stopped some call.cause.0.ran)
-pay_rests state seat payment.Settled old new call some = call.untouched tt
-pay_rests state seat payment.Fault old new call some = absurd (never old.held.book.stopped some call.cause.ran)
-pay_rests state seat (payment.Damaged page) old new call some = absurd (never old.held.book.stopped some call.cause.ran)
-pay_rests state seat (payment.Stopped why) old new call some = call.untouched tt
+pay_rests state seat answer old new h1 h2 = grind (arith, common_steps, nat_tests)
 
 get_rests : {D : Type 0} (state : D → DiskState) (seat : ℕ) (key : Key) (answer : Lookup) (old new : CoreState D) → Gets state seat key answer old new → IsSome old.held.book.stopped → new.disk ≡ old.disk
-get_rests state seat key (lookup.Is value) old new call some = absurd (never old.held.book.stopped some call.cause.0)
-get_rests state seat key lookup.Absent old new call some = absurd (never old.held.book.stopped some call.cause.0)
-get_rests state seat key lookup.Fault old new call some = absurd (never old.held.book.stopped some call.cause.0)
-get_rests state seat key (lookup.Damaged page) old new call some = absurd (never old.held.book.stopped some call.cause.0)
-get_rests state seat key (lookup.Stopped why) old new call some = call.untouched tt
+get_rests state seat key answer old new h1 h2 = grind (arith, common_steps, nat_tests)
 
 scan_rests : {D : Type 0} (state : D → DiskState) (seat n : ℕ) (answer : Scanned) (old new : CoreState D) → ReadsOn state seat n answer old new → IsSome old.held.book.stopped → new.disk ≡ old.disk
 scan_rests state seat n (scanned.Rows rows) old new call some = absurd (never old.held.book.stopped some call.cause.0)
@@ -116,12 +91,7 @@ scan_rests state seat n (scanned.Stopped why) old new call some = call.untouched
 
 turn_rests : {D : Type 0} (state : D → DiskState) (is_worker : Bool) (seat : ℕ) (answer : Turned) (old new : CoreState D) → TurnsBecause answer is_worker seat old.held new.held (state old.disk) (state new.disk) → (TurnsNone answer → new.disk ≡ old.disk)
     → IsSome old.held.book.stopped → new.disk ≡ old.disk
-turn_rests state is_worker seat machine.Worked old new cause untouched some = absurd (never old.held.book.stopped some cause.0.ran)
-turn_rests state is_worker seat machine.Idle old new cause untouched some = absurd (never old.held.book.stopped some cause.0.ran)
-turn_rests state is_worker seat machine.Closed old new cause untouched some = untouched tt
-turn_rests state is_worker seat machine.Failed old new cause untouched some = absurd (never old.held.book.stopped some cause.ran)
-turn_rests state is_worker seat (machine.BadPage page) old new cause untouched some = absurd (never old.held.book.stopped some cause.ran)
-turn_rests state is_worker seat (machine.Halted why) old new cause untouched some = untouched tt
+turn_rests state is_worker seat answer old new h1 h2 h3 = grind (arith, common_steps, nat_tests)
 
 -- no call of it calls the disk
 pub link_rests : {D : Type 0} (state : D → DiskState) (seat : ℕ) (k : Kind) (old new : CoreState D) → IsCall state seat k old new → IsSome old.held.book.stopped → new.disk ≡ old.disk

@@ -1,7 +1,8 @@
 -- Which entries the calls note, in order, and that each is a caller's.
-use Rattle.std.proofs.Common.{◌≡◌, ◌∙◌, ℕ, ◌<◌, ◌≤◌, Bool, false, cond, ◌==◌, List, [], ◌∷◌, ◌++◌, filter, ne_eqb, append-nil, append_assoc, refl, ap, sym, subst, arith}
+use Rattle.std.proofs.Common.{◌≡◌, ◌∙◌, ℕ, ◌<◌, ◌≤◌, List, [], ◌∷◌, ◌++◌, append-nil, refl, ap, sym, subst, arith}
+use Rattle.std.proofs.lemmas.Grind.{common_steps}
+use Rattle.std.proofs.lemmas.Bool.Decides.{nat_tests}
 use Rattle.std.specs.List.{AllByRecursion}
-use Rattle.std.proofs.lemmas.List.{map-append}
 use Rattle.blsm_model.specs.Facts.{entries_of}
 use Rattle.blsm_model.specs.Book.{Book}
 use Rattle.blsm_model.specs.Format.{callers}
@@ -21,18 +22,13 @@ use Rattle.tree_core.specs.Calls.{AreCalls, IsCall}
 use Rattle.tree_core.specs.Core.{CoreState}
 use Rattle.tree_core.specs.Notes.{with_payment}
 use Rattle.tree_core.specs.declared.answers.Payment.{Payment}
-use Rattle.tree_core.specs.declared.answers.Payment.TheVariants as payment
 use Rattle.core_chain.specs.Start.{steps_of}
 use Rattle.core_chain.specs.Tells.{asked_at, asked_by}
 use Rattle.core_chain.proofs.LinkLemmas.{caller_of, chain_keeps}
 
 -- a payment's quantum counts for an entry, and is none
 pub payment_notes_none : (answer : Payment) (seat : ℕ) (book : Book) → (with_payment answer seat book).entries ≡ book.entries
-payment_notes_none payment.Paid seat book = refl
-payment_notes_none payment.Settled seat book = refl
-payment_notes_none payment.Fault seat book = refl
-payment_notes_none (payment.Damaged page) seat book = refl
-payment_notes_none (payment.Stopped why) seat book = refl
+payment_notes_none answer seat book = grind (arith, common_steps, nat_tests)
 
 -- ---- what a link notes: one entry with its command, or none
 
@@ -68,12 +64,7 @@ link_adds state seat kind.Leave old new call = none_added seat kind.Leave _ _ re
 pub chain_asks : {D : Type 0} (state : D → DiskState) (calls : List (Step × CoreState D)) (old new : CoreState D) → AreCalls state calls old new
     → asked_in new.held.book.book.entries ≡ asked_in old.held.book.book.entries ++ asked_by (steps_of calls)
 chain_asks {D} state [] old new are = ap (λ (core : CoreState D). asked_in core.held.book.book.entries) are ∙ sym (append-nil (asked_in old.held.book.book.entries))
-chain_asks state (one ∷ calls) old new are =
-    let adds = link_adds state one.0.seat one.0.kind old one.1 are.0 in
-    chain_asks state calls one.1 new are.1
-    ∙ ap (λ (xs : List (ℕ × Op)). xs ++ asked_by (steps_of calls))
-    (ap asked_in adds.entries ∙ map-append (λ (e : Entry). (e.seat, e.op)) old.held.book.book.entries adds.added ∙ ap (λ (xs : List (ℕ × Op)). asked_in old.held.book.book.entries ++ xs) adds.asked)
-    ∙ append_assoc (asked_in old.held.book.book.entries) (asked_at one.0.seat one.0.kind) (asked_by (steps_of calls))
+chain_asks state (one ∷ calls) old new are = grind (arith, common_steps, nat_tests, chain_asks state calls one.1 new are.1)
 
 abbrev pub AreCallers : List Entry → Type 0
 AreCallers es = AllByRecursion (λ (e : Entry). e.seat < callers) es
@@ -90,6 +81,4 @@ entries_are_callers {D} state calls old new are all =
 -- so none is a worker's
 pub none_of_workers : (i : ℕ) (es : List Entry) → callers ≤ i → AreCallers es → entries_of i es ≡ []
 none_of_workers i [] above all = refl
-none_of_workers i (e ∷ es) above all =
-    let no : (e.seat == i) ≡ false = ne_eqb e.seat i (λ (is : e.seat ≡ i). omega (arith, is, all.0, above)) in
-    ap (λ (b : Bool). cond b (e ∷ filter (λ (x : Entry). x.seat == i) es) (filter (λ (x : Entry). x.seat == i) es)) no ∙ none_of_workers i es above all.1
+none_of_workers i (e ∷ es) above all = grind (arith, common_steps, nat_tests, none_of_workers i es above all.1)

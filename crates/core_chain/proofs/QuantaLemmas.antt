@@ -1,7 +1,9 @@
 -- How many quanta the entries and the open works have.
-use Rattle.std.proofs.Common.{◌≡◌, ◌∙◌, ⊎_elim, ℕ, ◌+◌, ◌<◌, ◌≤◌, Bool, true, false, List, [], ◌∷◌, ◌++◌, refl, ap, sym, subst, arith}
-use Rattle.std.specs.Prelude.{zero, suc, ◌==◌, ◌||◌, ◌&&◌, length, nat_lt, not, slice_index, slice_index_or, slice_set, sum, sum_by, take}
-use Rattle.std.proofs.lemmas.Bool.{cases_eq, cases_lt, eqb-true, ltb-true}
+use Rattle.std.proofs.Common.{◌≡◌, ◌∙◌, ⊎_elim, ℕ, ◌+◌, ◌<◌, ◌≤◌, true, false, List, [], ◌∷◌, ◌++◌, refl, ap, sym, subst, arith}
+use Rattle.std.proofs.lemmas.Grind.{common_steps}
+use Rattle.std.proofs.lemmas.Bool.Decides.{nat_tests}
+use Rattle.std.specs.Prelude.{zero, suc, length, slice_index, slice_index_or, slice_set, sum, sum_by, take}
+use Rattle.std.proofs.lemmas.Bool.{cases_eq, cases_lt}
 use Rattle.std.proofs.lemmas.List.{get_or-set_same, get_or-set_other}
 use Rattle.std.proofs.lemmas.List.Sums.{sum_by-cons}
 use Rattle.blsm_model.specs.Book.{Book, entry_at, no_entry}
@@ -18,13 +20,11 @@ use Rattle.paced_tree.specs.Numbers.{IsWritten}
 use Rattle.seat_book.specs.Places.{HasWrite}
 use Rattle.seat_book.specs.State.{BookState, work_in}
 use Rattle.seat_book.proofs.PlaceLemmas.{write_stands}
-use Rattle.tree_machine.specs.Machine.{Turned, WorkSoFar, is_caller, is_worked, no_work}
-use Rattle.tree_machine.specs.Plays.{has_room, is_finished}
+use Rattle.tree_machine.specs.Machine.{Turned, WorkSoFar, no_work}
 use Rattle.tree_machine.specs.Steps.{last_write, work_reply}
 use Rattle.tree_machine.specs.declared.step.Kind.{Kind}
 use Rattle.tree_machine.specs.declared.step.Kind.TheVariants as kind
 use Rattle.tree_machine.specs.declared.step.Step.{Step}
-use Rattle.tree_machine.proofs.FoldLemmas.{both_hold}
 use Rattle.core_moves.specs.declared.held.Held.{Held}
 use Rattle.core_pace.specs.Turns.{move_in}
 use Rattle.core_pace.proofs.CallLemmas.{plan_agrees}
@@ -147,18 +147,7 @@ module _ {D : Type 0} (state : D → DiskState) where
     where
       -- at most n turns were made
       turns : (work_in seat old.held.book).turns ≤ n
-      turns = by ((work_in seat old.held.book).turns == n) refl
-        where
-          finished : is_finished n (work_in seat old.held.book) ≡ true
-          finished = (both_hold (is_caller seat && has_room old.held.book.book.room seat 0) (is_finished n (work_in seat old.held.book)) call.goes.may).1
-
-          by : (b : Bool) → ((work_in seat old.held.book).turns == n) ≡ b → (work_in seat old.held.book).turns ≤ n
-          by true is = omega (arith, eqb-true (work_in seat old.held.book).turns n is)
-          by false is =
-              let early = sym (ap (λ (b : Bool). b || (nat_lt 0 (work_in seat old.held.book).turns && nat_lt (work_in seat old.held.book).turns n && not (is_worked (work_in seat old.held.book).last))) is) ∙ finished in
-              let both = both_hold (nat_lt 0 (work_in seat old.held.book).turns && nat_lt (work_in seat old.held.book).turns n) (not (is_worked (work_in seat old.held.book).last)) early in
-              let below = ltb-true (work_in seat old.held.book).turns n (both_hold (nat_lt 0 (work_in seat old.held.book).turns) (nat_lt (work_in seat old.held.book).turns n) both.0).1 in
-              omega (arith, below)
+      turns = grind (arith, common_steps, nat_tests)
 
       work_of : (any : ℕ) → (slice_index_or (slice_set old.held.book.seats.work seat no_work) any no_work).quanta ≤ (slice_index_or (slice_set old.held.book.seats.work seat no_work) any no_work).turns
       work_of any = ⊎_elim

@@ -1,7 +1,8 @@
 -- Each entry was noted by one of the calls, which says why it has its reply.
-use Rattle.std.proofs.Common.{◌≡◌, ◌∙◌, ⊎_elim, ◌⊎◌, inl, inr, ℕ, zero, suc, ◌+◌, ◌<◌, ◌≤◌, true, List, [], ◌∷◌, ◌++◌, length, append-nil, append_assoc, length-append, refl, ap, sym, subst, arith}
+use Rattle.std.proofs.Common.{◌≡◌, ◌∙◌, ◌⊎◌, inl, inr, ℕ, ◌≤◌, true, List, [], ◌∷◌, ◌++◌, length, append-nil, append_assoc, length-append, refl, ap, sym, subst, arith}
+use Rattle.std.proofs.lemmas.Grind.{common_steps}
+use Rattle.std.proofs.lemmas.Bool.Decides.{nat_tests}
 use Rattle.std.proofs.lemmas.Bool.{cases_lt, false≢true}
-use Rattle.std.proofs.lemmas.List.{length-map}
 use Rattle.blsm_model.specs.Book.{Book}
 use Rattle.blsm_model.specs.Legal.{is_write}
 use Rattle.blsm_model.specs.declared.history.Entry.{Entry}
@@ -90,8 +91,7 @@ module _ {D : Type 0} (state : D → DiskState) where
 
   -- what was noted stays
   more_of : (seat : ℕ) (old new : CoreState D) → Notes state seat old new → (more : List Entry) × (new.held.book.book.entries ≡ old.held.book.book.entries ++ more)
-  more_of seat old new (inl same) = ([], same ∙ sym (append-nil old.held.book.book.entries))
-  more_of seat old new (inr one) = (record { seat = seat; op = one.op; reply = one.reply } ∷ [], one.entries)
+  more_of seat old new h1 = grind (arith, common_steps, nat_tests)
 
   chain_adds : (calls : List (Step × CoreState D)) (start end : CoreState D) → AreCalls state calls start end → (more : List Entry) × (end.held.book.book.entries ≡ start.held.book.book.entries ++ more)
   chain_adds [] start end are = ([], ap (λ (core : CoreState D). core.held.book.book.entries) are ∙ sym (append-nil start.held.book.book.entries))

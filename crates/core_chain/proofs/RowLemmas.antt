@@ -1,23 +1,21 @@
 -- The rows that a caller has still to read are the same after what it saw and after the whole history, since it saw all entries of its own.
-use Rattle.std.proofs.Common.{◌≡◌, ◌∙◌, ℕ, Bool, true, false, cond, ◌==◌, List, [], ◌∷◌, ◌++◌, filter, length, ne_eqb, length-append, refl, ap, sym, arith}
+use Rattle.std.proofs.Common.{◌≡◌, ◌∙◌, ℕ, Bool, false, ◌==◌, List, [], ◌∷◌, ◌++◌, length, ne_eqb, refl, ap, sym, arith}
+use Rattle.std.proofs.lemmas.Grind.{common_steps}
+use Rattle.std.proofs.lemmas.Bool.Decides.{nat_tests}
 use Rattle.std.specs.Prelude.{fold}
 use Rattle.std.proofs.lemmas.Bool.{eqb-false}
 use Rattle.std.proofs.lemmas.List.Elements.{filter-append}
 use Rattle.std.proofs.lemmas.List.Sums.{fold-append}
 use mathlib.Core.List.{IsPrefix}
 use Rattle.blsm_model.specs.Facts.{entries_of}
-use Rattle.blsm_model.specs.Histories.{Object, after, fresh_object, held_after, is_refusal, object_after}
+use Rattle.blsm_model.specs.Histories.{Object, after, fresh_object, object_after}
 use Rattle.blsm_model.specs.declared.history.Entry.{Entry}
 use Rattle.blsm_model.specs.declared.key.Key.{Key}
 use Rattle.blsm_model.specs.declared.row.Value.{Value}
 
 -- an entry of another seat leaves them
 other_leaves : (object : Object) (e : Entry) (seat : ℕ) → (seat == e.seat) ≡ false → (after object e).held seat ≡ object.held seat
-other_leaves object e seat apart = by (is_refusal e.reply)
-  where
-    by : (b : Bool) → cond b (object.held seat) (cond (seat == e.seat) (held_after e.op object.writes (object.held seat)) (object.held seat)) ≡ object.held seat
-    by true = refl
-    by false = ap (λ (c : Bool). cond c (held_after e.op object.writes (object.held seat)) (object.held seat)) apart
+other_leaves object e seat apart = grind (arith, common_steps, nat_tests)
 
 turned : (m n : ℕ) → (m == n) ≡ false → (n == m) ≡ false
 turned m n apart = ne_eqb n m (λ (same : n ≡ m). eqb-false m n apart (sym same))
@@ -27,16 +25,10 @@ none_leave [] object seat none = refl
 none_leave (e ∷ es) object seat none = by (e.seat == seat) refl (none_leave es (after object e) seat)
   where
     by : (b : Bool) → (e.seat == seat) ≡ b → (entries_of seat es ≡ [] → (fold after (after object e) es).held seat ≡ (after object e).held seat) → (fold after (after object e) es).held seat ≡ object.held seat
-    by true is leaves =
-        let some : entries_of seat (e ∷ es) ≡ e ∷ entries_of seat es = ap (λ (b : Bool). cond b (e ∷ filter (λ (x : Entry). x.seat == seat) es) (filter (λ (x : Entry). x.seat == seat) es)) is in
-        absurd (cc (none, some))
-    by false is leaves =
-        let rest : entries_of seat (e ∷ es) ≡ entries_of seat es = ap (λ (b : Bool). cond b (e ∷ filter (λ (x : Entry). x.seat == seat) es) (filter (λ (x : Entry). x.seat == seat) es)) is in
-        leaves (sym rest ∙ none) ∙ other_leaves object e seat (turned e.seat seat is)
+    by b h1 h2 = grind (arith, common_steps, nat_tests)
 
 no_more : (xs ys : List Entry) → length (xs ++ ys) ≡ length xs → ys ≡ []
-no_more xs [] same = refl
-no_more xs (y ∷ ys) same = absurd (omega (arith, same, length-append xs (y ∷ ys)))
+no_more xs ys h1 = grind (arith, common_steps, nat_tests)
 
 pub rows_of_a_seat_stay : (opening : List (Key × Value)) (seen history : List Entry) (seat : ℕ) → IsPrefix seen history → entries_of seat seen ≡ entries_of seat history
     → (object_after opening seen).held seat ≡ (object_after opening history).held seat

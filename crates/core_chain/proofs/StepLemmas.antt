@@ -1,5 +1,7 @@
 -- On an honest disk each call is a step of the machine, and so a chain of them is a list of steps.
-use Rattle.std.proofs.Common.{◌≡◌, ◌∙◌, ⊎_elim, ℕ, ◌+◌, ◌≤◌, Bool, true, cond, List, [], ◌∷◌, None, Some, length, refl, ap, sym, subst, arith}
+use Rattle.std.proofs.Common.{◌≡◌, ◌∙◌, ℕ, ◌+◌, ◌≤◌, Bool, true, cond, List, [], ◌∷◌, None, Some, length, refl, ap, sym, subst, arith}
+use Rattle.std.proofs.lemmas.Grind.{common_steps}
+use Rattle.std.proofs.lemmas.Bool.Decides.{nat_tests}
 use Rattle.std.specs.Prelude.{IsSome, IsTrue, Option, false, map, suc, take, zero}
 use Rattle.std.proofs.lemmas.Bool.{false≢true}
 use mathlib.Core.List.{IsPrefix}
@@ -103,10 +105,7 @@ closed_rests state opening seat kind.Leave old new m pace call honest whole clos
 -- and not at all where nothing is left to do
 over_rests : {D : Type 0} (state : D → DiskState) (opening : List (Key × Value)) (seat : ℕ) (k : Kind) (old new : CoreState D) (m : Machine) (pace : Pace) → IsCall state seat k old new → IsTrue (state old.disk).is_honest
     → StandsWhole state opening old m pace → IsOver m k → new.disk ≡ old.disk
-over_rests state opening seat k old new m pace call honest whole over = ⊎_elim
-    (λ (stopped : IsSome m.stopped). link_rests state seat k old new call (subst IsSome (ap (λ (b : BookState). b.stopped) whole.stands.book) stopped))
-    (λ (closed : IsTrue (is_closed m) × IsTrue (is_help k)). closed_rests state opening seat k old new m pace call honest whole closed.0 closed.1)
-    over
+over_rests state opening seat k old new m pace call honest whole over = grind (arith, common_steps, nat_tests, link_rests, closed_rests)
 
 -- ---- the chain
 
@@ -143,8 +142,7 @@ module _ {D : Type 0} (state : D → DiskState) (opening : List (Key × Value)) 
       shows = subst (λ (steps : List (Step × Outcome)). LeavesOnly (state start.disk) (state start.disk) (ShowsHistory m.gears.sizes opening (played m steps).book.entries (length m.book.entries))) (no_steps none.made none.steps_are) none.images
 
       same : (k : ℕ) → (played m (take k (outcomes_in []))).book.entries ≡ m.book.entries
-      same zero = refl
-      same (suc k) = refl
+      same k = grind (arith, common_steps, nat_tests)
 
       early : {t : ℕ} (k : ℕ) → clock_after (state start.disk).clock k [] ≤ t → (state start.disk).clock ≤ t
       early zero late = late

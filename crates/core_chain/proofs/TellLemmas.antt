@@ -1,5 +1,7 @@
 -- What each kind of call tells, and what a chain of them does.
 use Rattle.std.proofs.Common.{◌≡◌, ◌∙◌, inl, inr, ℕ, ◌+◌, ◌≤◌, true, false, List, [], ◌∷◌, ◌++◌, None, refl, ap, sym, subst, arith}
+use Rattle.std.proofs.lemmas.Grind.{common_steps}
+use Rattle.std.proofs.lemmas.Bool.Decides.{nat_tests}
 use Rattle.std.specs.Prelude.{Option, slice_set, sum_by}
 use Rattle.std.proofs.lemmas.Bool.{false≢true}
 use Rattle.std.proofs.lemmas.List.{get_or-set_other}
@@ -39,7 +41,7 @@ use Rattle.tree_core.specs.declared.answers.Payment.TheVariants as payment
 use Rattle.tree_core.specs.Scanned.{Scanned}
 use Rattle.tree_core.specs.Scanned as scanned
 use Rattle.tree_session.specs.Faults.{NamesCount, NamesStop, Reaches, faults_of, faults_of_turn, faults_told, is_by_fault}
-use Rattle.tree_session.proofs.BookLemmas.{ended_empty, reply_names, reply_tells}
+use Rattle.tree_session.proofs.BookLemmas.{ended_empty, work_says}
 use Rattle.tree_session.proofs.FaultLemmas.{admit_names, reaches_by, reaches_none, reaches_then, reaches_wider}
 use Rattle.tree_session.proofs.HoldLemmas.{drop_names, drop_quiet, hold_names, hold_quiet}
 use Rattle.core_chain.specs.Start.{IsUnasked, steps_of}
@@ -178,8 +180,8 @@ module _ {D : Type 0} (state : D → DiskState) where
   end_link : (seat n : ℕ) (reply : Reply) (old new : CoreState D) → EndsWork state seat n reply old new → LinkTells old.held.book new.held.book (state old.disk) (state new.disk)
   end_link seat n reply old new call =
       entry_tells 0 told entry old.held.book new.held.book (state old.disk) (state new.disk) (ap (λ (h : Held). h.book.book.entries) call.held ∙ ap (λ (r : Reply). old.held.book.book.entries ++ record { seat = seat; op = op.Work n; reply = r } ∷ []) (sym call.reply_is))
-      (ap one_if (no_look (op.Work n) reply refl)) (ap faults_of call.reply_is ∙ sym (reply_tells (work_in seat old.held.book) old.held.book.stopped))
-      (subst (λ (r : Reply). NamesStop r new.held.book.stopped) (sym call.reply_is) (subst (λ (o : Option Why). NamesStop (work_reply (work_in seat old.held.book) old.held.book.stopped) o) (sym stopped) (reply_names (work_in seat old.held.book) old.held.book.stopped)))
+      (ap one_if (no_look (op.Work n) reply refl)) (ap faults_of call.reply_is ∙ sym (work_says (work_in seat old.held.book) old.held.book.stopped).0)
+      (subst (λ (r : Reply). NamesStop r new.held.book.stopped) (sym call.reply_is) (subst (λ (o : Option Why). NamesStop (work_reply (work_in seat old.held.book) old.held.book.stopped) o) (sym stopped) (work_says (work_in seat old.held.book) old.held.book.stopped).1))
       (inl (stays_same told (pending old.held.book) (pending new.held.book) old.held.book.stopped new.held.book.stopped (state old.disk) (state new.disk) stopped (faults_same old new call.untouched) few))
     where
       entry : Entry
@@ -195,11 +197,7 @@ module _ {D : Type 0} (state : D → DiskState) where
       works = ap (λ (h : Held). h.book.seats.work) call.held
 
       few : faults_of_turn (work_in seat old.held.book).last + pending new.held.book ≤ pending old.held.book
-      few =
-          let changed = one_changed (λ (w : WorkSoFar). faults_of_turn w.last) refl old.held.book.seats.work (slice_set old.held.book.seats.work seat no_work) seat (λ other apart. get_or-set_other old.held.book.seats.work seat other no_work no_work apart) in
-          let now = ap (λ (w : WorkSoFar). faults_of_turn w.last) (ended_empty old.held.book.seats.work seat) in
-          let there = ap (λ (l : List WorkSoFar). sum_by (λ (w : WorkSoFar). faults_of_turn w.last) l) works in
-          omega (arith, changed, now, there)
+      few = grind (arith, common_steps, nat_tests, one_changed, get_or-set_other, ended_empty)
 
   help_link : (seat : ℕ) (answer : Turned) (old new : CoreState D) → Helps state seat answer old new → LinkTells old.held.book new.held.book (state old.disk) (state new.disk)
   help_link seat answer old new call =

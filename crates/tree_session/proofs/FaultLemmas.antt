@@ -1,6 +1,8 @@
 -- Calls of the core, one after another: what they tell of faults, and what they do to the disk.
-use Rattle.std.specs.Prelude.{◌/◌, IsTrue, Option, drop, sum}
-use Rattle.std.proofs.Common.{◌≡◌, ◌∙◌, ℕ, ◌+◌, ◌*◌, ◌≤◌, true, false, Some, None, refl, ap, sym, subst, zero-add, arith}
+use Rattle.std.specs.Prelude.{◌/◌, IsTrue, Option}
+use Rattle.std.proofs.lemmas.Grind.{common_steps}
+use Rattle.std.proofs.lemmas.Bool.Decides.{nat_tests}
+use Rattle.std.proofs.Common.{◌≡◌, ◌∙◌, ℕ, ◌+◌, ◌*◌, ◌<◌, ◌≤◌, true, false, Some, None, refl, ap, sym, subst, zero-add, arith}
 use Rattle.std.proofs.lemmas.Bool.{false≢true}
 use Rattle.refusal.specs.Count.{HasRisen}
 use Rattle.blsm_model.specs.declared.key.Key.{Key}
@@ -19,11 +21,16 @@ use Rattle.disk_trait.specs.Moments.{syncs_later_run, syncs_later_start, goes_on
 use Rattle.disk_trait.specs.Region.{Region}
 use Rattle.tree_machine.specs.Machine as machine
 use Rattle.tree_machine.specs.Machine.{Turned}
+use Rattle.tree_machine.specs.Steps.{Answer}
+use Rattle.tree_machine.specs.declared.step.Kind.{Kind}
 use Rattle.gear_sched.specs.declared.Plan.{Plan}
 use Rattle.core_moves.specs.declared.held.Held.{Held}
-use Rattle.tree_core.specs.Answers.{reply_to_write, reply_to_get}
-use Rattle.tree_core.specs.Causes.{RanOn, HasFailed, FoundDamaged, AdmitsBecause, CallsNone, PaysBecause, PaysNone, TurnsBecause, TurnsNone, FindsBecause}
-use Rattle.tree_core.specs.Core.{CoreState, facts_of_held}
+use Rattle.tree_core.specs.Answers.{reply_to_get, reply_to_next, reply_to_write}
+use Rattle.tree_core.specs.Calls.{Admits, Gets, GoesOnAs, Pays, ReadsOn, TurnsOnce}
+use Rattle.tree_core.specs.Causes.{AdmitsBecause, FindsBecause, FoundDamaged, HasFailed, RanOn, TurnsBecause}
+use Rattle.tree_core.specs.Core.{CoreState, IsCore, facts_of_held}
+use Rattle.tree_core.specs.Scanned.{Scanned}
+use Rattle.tree_core.specs.Scanned as scanned
 use Rattle.tree_core.specs.Steps.{StandsSince}
 use Rattle.tree_core.specs.declared.answers.Admission.{Admission}
 use Rattle.tree_core.specs.declared.answers.Admission.TheVariants as admission
@@ -33,27 +40,28 @@ use Rattle.tree_core.specs.declared.answers.Payment.{Payment}
 use Rattle.tree_core.specs.declared.answers.Payment.TheVariants as payment
 use Rattle.tree_session.specs.Faults.{NamesStop, TellsFaults, TellsNone, Reaches, Proceeds, NamesCount, faults_of, faults_of_turn, is_by_fault}
 use Rattle.tree_session.specs.Session.{EasesOthers}
+use Rattle.tree_session.proofs.AloneLemmas.{alone_by}
 
 -- ---- what one call tells
 
-pub tells_ran : (old new : Held) (before after : DiskState) → RanOn old new before after → TellsFaults 0 old new before after
-tells_ran old new before after ran = record {
+tells_ran : {old new : Held} {before after : DiskState} → RanOn old new before after → TellsFaults 0 old new before after
+tells_ran {old} {new} {before} {after} ran = record {
   risen = omega (arith, ran.faults);
   quiet = λ none calm. ran.faults;
   stops = λ runs. subst (λ (o : Option Why). NamesCount o before after) (sym ran.runs) tt;
   halted = λ why is. absurd (cc (ran.ran, is));
 }
 
-pub tells_failed : (told : ℕ) (old new : Held) (before after : DiskState) → told ≤ 1 → HasFailed old new before after → TellsFaults told old new before after
-tells_failed told old new before after few failed = record {
+tells_failed : {old new : Held} {before after : DiskState} (told : ℕ) → told ≤ 1 → HasFailed old new before after → TellsFaults told old new before after
+tells_failed {old} {new} {before} {after} told few failed = record {
   risen = omega (arith, few, failed.faults);
   quiet = λ none calm. absurd (false≢true (sym calm ∙ ap is_by_fault failed.stopped));
   stops = λ runs. subst (λ (o : Option Why). NamesCount o before after) (sym failed.stopped) (refl, failed.faults);
   halted = λ why is. absurd (cc (failed.ran, is));
 }
 
-pub tells_damaged : {plan : Plan} (page : ℕ) (old new : Held) (before after : DiskState) → FoundDamaged plan page old new before after → TellsFaults 0 old new before after
-tells_damaged page old new before after found = record {
+tells_damaged : {plan : Plan} {page : ℕ} {old new : Held} {before after : DiskState} → FoundDamaged plan page old new before after → TellsFaults 0 old new before after
+tells_damaged {plan} {page} {old} {new} {before} {after} found = record {
   risen = omega (arith, found.faults);
   quiet = λ none calm. found.faults;
   stops = λ runs. subst (λ (o : Option Why). NamesCount o before after) (sym found.stopped) tt;
@@ -61,8 +69,8 @@ tells_damaged page old new before after found = record {
 }
 
 -- the stop stands, and no call failed
-pub tells_quiet : (old new : Held) (before after : DiskState) → new.book.stopped ≡ old.book.stopped → after.faults ≡ before.faults → TellsFaults 0 old new before after
-tells_quiet old new before after same faults = record {
+pub tells_quiet : {old new : Held} {before after : DiskState} → new.book.stopped ≡ old.book.stopped → after.faults ≡ before.faults → TellsFaults 0 old new before after
+tells_quiet {old} {new} {before} {after} same faults = record {
   risen = omega (arith, faults);
   quiet = λ none calm. faults;
   stops = λ runs. subst (λ (o : Option Why). NamesCount o before after) (sym (same ∙ runs)) tt;
@@ -70,44 +78,52 @@ tells_quiet old new before after same faults = record {
 }
 
 -- a lookup, or a next, failed
-pub tells_lookup : (old new : Held) (before after : DiskState) → old.book.stopped ≡ None → new.book.stopped ≡ old.book.stopped → HasRisen before.faults after.faults → TellsFaults 1 old new before after
-tells_lookup old new before after ran same rose = record {
+tells_lookup : {old new : Held} {before after : DiskState} → old.book.stopped ≡ None → new.book.stopped ≡ old.book.stopped → HasRisen before.faults after.faults → TellsFaults 1 old new before after
+tells_lookup {old} {new} {before} {after} ran same rose = record {
   risen = omega (arith, rose);
   quiet = λ told calm. absurd (omega (arith, told));
   stops = λ runs. subst (λ (o : Option Why). NamesCount o before after) (sym (same ∙ runs)) tt;
   halted = λ why is. absurd (cc (ran, is));
 }
 
-pub admit_tells : (result : Admission) (seat : ℕ) (op : Op) (old new : Held) (before after : DiskState) → AdmitsBecause result seat op old new before after → (CallsNone result → after.faults ≡ before.faults)
-    → TellsFaults (faults_of (reply_to_write result)) old new before after
-admit_tells admission.Admitted seat op old new before after because none = tells_ran old new before after because.0
-admit_tells (admission.Full charge) seat op old new before after because none = tells_quiet old new before after (ap (λ (h : Held). h.book.stopped) because.3) (none tt)
-admit_tells (admission.Fault true) seat op old new before after because none = tells_failed 1 old new before after (omega arith) because.0
-admit_tells (admission.Fault false) seat op old new before after because none = tells_failed 1 old new before after (omega arith) because.0
-admit_tells (admission.Stopped why) seat op old new before after because none = tells_quiet old new before after (ap (λ (h : Held). h.book.stopped) because.1) (none tt)
+-- the core is as it was, but for what its book says of the run, and so is the disk
+still : {D : Type 0} (state : D → DiskState) (old new : CoreState D) → new.held.book.stopped ≡ old.held.book.stopped → new.disk ≡ old.disk → TellsFaults 0 old.held new.held (state old.disk) (state new.disk)
+still {D} state old new same disk = tells_quiet same (ap (λ (d : D). (state d).faults) disk)
 
-pub pay_tells : (result : Payment) (seat : ℕ) (old new : Held) (before after : DiskState) → PaysBecause result seat old new before after → (PaysNone result → after.faults ≡ before.faults) → TellsFaults 0 old new before after
-pay_tells payment.Paid seat old new before after because none = tells_ran old new before after because.0
-pay_tells payment.Settled seat old new before after because none = tells_quiet old new before after (ap (λ (h : Held). h.book.stopped) because.2) (none tt)
-pay_tells payment.Fault seat old new before after because none = tells_failed 0 old new before after (omega arith) because
-pay_tells (payment.Damaged page) seat old new before after because none = tells_damaged page old new before after because
-pay_tells (payment.Stopped why) seat old new before after because none = tells_quiet old new before after (ap (λ (h : Held). h.book.stopped) because.1) (none tt)
+pub admit_tells : {D : Type 0} (state : D → DiskState) (seat : ℕ) (op : Op) (answer : Admission) (old new : CoreState D) → Admits state seat op answer old new
+    → TellsFaults (faults_of (reply_to_write answer)) old.held new.held (state old.disk) (state new.disk)
+admit_tells state seat op admission.Admitted old new call = tells_ran call.cause.0
+admit_tells state seat op (admission.Full charge) old new call = still state old new (ap (λ (h : Held). h.book.stopped) call.cause.3) (call.untouched tt)
+admit_tells state seat op (admission.Fault true) old new call = tells_failed 1 (omega arith) call.cause.0
+admit_tells state seat op (admission.Fault false) old new call = tells_failed 1 (omega arith) call.cause.0
+admit_tells state seat op (admission.Stopped why) old new call = still state old new (ap (λ (h : Held). h.book.stopped) call.cause.1) (call.untouched tt)
 
-pub turn_tells : (ended : Turned) (seat : ℕ) (old new : Held) (before after : DiskState) → TurnsBecause ended false seat old new before after → (TurnsNone ended → after.faults ≡ before.faults)
-    → ((why : Why) → old.book.stopped ≡ Some why → new.book.stopped ≡ Some why) → TellsFaults (faults_of_turn ended) old new before after
-turn_tells machine.Worked seat old new before after because none stays = tells_ran old new before after because.0
-turn_tells machine.Idle seat old new before after because none stays = tells_ran old new before after because.0
-turn_tells machine.Closed seat old new before after because none stays = absurd (false≢true because.1)
-turn_tells machine.Failed seat old new before after because none stays = tells_failed 1 old new before after (omega arith) because
-turn_tells (machine.BadPage page) seat old new before after because none stays = tells_damaged page old new before after because
-turn_tells (machine.Halted why) seat old new before after because none stays = tells_quiet old new before after (stays why because.0 ∙ sym because.0) (none tt)
+pub pay_tells : {D : Type 0} (state : D → DiskState) (seat : ℕ) (answer : Payment) (old new : CoreState D) → Pays state seat answer old new → TellsFaults 0 old.held new.held (state old.disk) (state new.disk)
+pay_tells state seat payment.Paid old new call = tells_ran call.cause.0
+pay_tells state seat payment.Settled old new call = still state old new (ap (λ (h : Held). h.book.stopped) call.cause.2) (call.untouched tt)
+pay_tells state seat payment.Fault old new call = tells_failed 0 (omega arith) call.cause
+pay_tells state seat (payment.Damaged page) old new call = tells_damaged call.cause
+pay_tells state seat (payment.Stopped why) old new call = still state old new (ap (λ (h : Held). h.book.stopped) call.cause.1) (call.untouched tt)
 
-pub get_tells : (result : Lookup) (key : Key) (old new : Held) (before after : DiskState) → FindsBecause result key old before after → new.book.stopped ≡ old.book.stopped → TellsFaults (faults_of (reply_to_get result)) old new before after
-get_tells (lookup.Is value) key old new before after because same = tells_quiet old new before after same because.1
-get_tells lookup.Absent key old new before after because same = tells_quiet old new before after same because.1
-get_tells lookup.Fault key old new before after because same = tells_lookup old new before after because.0 same because.1
-get_tells (lookup.Damaged page) key old new before after because same = tells_quiet old new before after same because.1
-get_tells (lookup.Stopped why) key old new before after because same = tells_quiet old new before after same because.1
+pub turn_tells : {D : Type 0} (state : D → DiskState) (seat : ℕ) (ended : Turned) (old new : CoreState D) → TurnsOnce state seat ended old new → TellsFaults (faults_of_turn ended) old.held new.held (state old.disk) (state new.disk)
+turn_tells state seat machine.Closed old new call = absurd (false≢true call.cause.1)
+turn_tells state seat machine.Failed old new call = tells_failed 1 (omega arith) call.cause
+turn_tells state seat (machine.BadPage page) old new call = tells_damaged call.cause
+turn_tells state seat (machine.Halted why) old new call = still state old new (call.counts.halted why call.cause.0 ∙ sym call.cause.0) (call.untouched tt)
+turn_tells state seat _ old new call = tells_ran call.cause.0
+
+pub get_tells : {D : Type 0} (state : D → DiskState) (seat : ℕ) (key : Key) (answer : Lookup) (old new : CoreState D) → Gets state seat key answer old new
+    → TellsFaults (faults_of (reply_to_get answer)) old.held new.held (state old.disk) (state new.disk)
+get_tells state seat key lookup.Fault old new call = tells_lookup call.cause.0 (ap (λ (h : Held). h.book.stopped) call.held) call.cause.1
+get_tells state seat key _ old new call = tells_quiet (ap (λ (h : Held). h.book.stopped) call.held) call.cause.1
+
+-- a next tells a fault without a stop, as a get does
+pub scan_tells : {D : Type 0} (state : D → DiskState) (seat n : ℕ) (answer : Scanned) (old new : CoreState D) → ReadsOn state seat n answer old new → new.held.book.stopped ≡ old.held.book.stopped
+    → TellsFaults (faults_of (reply_to_next answer)) old.held new.held (state old.disk) (state new.disk)
+scan_tells state seat n (scanned.Rows rows) old new call same = tells_quiet same call.cause.1
+scan_tells state seat n scanned.NoHold old new call same = still state old new same (call.untouched tt)
+scan_tells state seat n scanned.Fault old new call same = tells_lookup call.cause.0 same call.cause.3
+scan_tells state seat n _ old new call same = tells_quiet same call.cause.2
 
 -- ---- whose faults stop the store
 
@@ -118,42 +134,25 @@ stopped_not_calm : (old new : Held) (before after : DiskState) → HasFailed old
 stopped_not_calm old new before after failed calm = false≢true (sym calm ∙ ap is_by_fault failed.stopped)
 
 pub admit_calm : (result : Admission) (seat : ℕ) (op : Op) (old new : Held) (before after : DiskState) → AdmitsBecause result seat op old new before after → is_by_fault new.book.stopped ≡ false → faults_of (reply_to_write result) ≡ 0
-admit_calm admission.Admitted seat op old new before after because calm = refl
-admit_calm (admission.Full charge) seat op old new before after because calm = refl
-admit_calm (admission.Fault begun) seat op old new before after because calm = absurd (stopped_not_calm old new before after because.0 calm)
-admit_calm (admission.Stopped why) seat op old new before after because calm = refl
+admit_calm result seat op old new before after h1 h2 = grind (arith, common_steps, nat_tests)
 
 pub turn_calm : (ended : Turned) (seat : ℕ) (old new : Held) (before after : DiskState) → TurnsBecause ended false seat old new before after → is_by_fault new.book.stopped ≡ false → faults_of_turn ended ≡ 0
-turn_calm machine.Worked seat old new before after because calm = refl
-turn_calm machine.Idle seat old new before after because calm = refl
-turn_calm machine.Closed seat old new before after because calm = refl
-turn_calm machine.Failed seat old new before after because calm = absurd (stopped_not_calm old new before after because calm)
-turn_calm (machine.BadPage page) seat old new before after because calm = refl
-turn_calm (machine.Halted why) seat old new before after because calm = refl
+turn_calm ended seat old new before after h1 h2 = grind (arith, common_steps, nat_tests)
 
 -- a store that no fault has stopped now, none had stopped before
 pub calm_before : (told : ℕ) (old new : Held) (before after : DiskState) → TellsFaults told old new before after → is_by_fault new.book.stopped ≡ false → is_by_fault old.book.stopped ≡ false
-calm_before told old new before after tells calm = by old.book.stopped refl
-  where
-    by : (o : Option Why) → old.book.stopped ≡ o → is_by_fault old.book.stopped ≡ false
-    by None is = ap is_by_fault is
-    by (Some why) is = ap is_by_fault (is ∙ sym (tells.halted why is).0) ∙ calm
+calm_before told old new before after tells calm = grind (arith, common_steps, nat_tests)
 
 -- ---- which stop is told
 
 pub admit_names : (result : Admission) (seat : ℕ) (op : Op) (old new : Held) (before after : DiskState) → AdmitsBecause result seat op old new before after → NamesStop (reply_to_write result) new.book.stopped
-admit_names admission.Admitted seat op old new before after because = tt
-admit_names (admission.Full charge) seat op old new before after because = tt
-admit_names (admission.Fault true) seat op old new before after because = tt
-admit_names (admission.Fault false) seat op old new before after because = tt
 admit_names (admission.Stopped why) seat op old new before after because = ap (λ (h : Held). h.book.stopped) because.1 ∙ because.0
+admit_names (admission.Fault true) seat op old new before after because = tt
+admit_names _ seat op old new before after because = tt
 
 pub get_names : (result : Lookup) (key : Key) (old new : Held) (before after : DiskState) → FindsBecause result key old before after → new.book.stopped ≡ old.book.stopped → NamesStop (reply_to_get result) new.book.stopped
-get_names (lookup.Is value) key old new before after because same = tt
-get_names lookup.Absent key old new before after because same = tt
-get_names lookup.Fault key old new before after because same = tt
-get_names (lookup.Damaged page) key old new before after because same = tt
 get_names (lookup.Stopped why) key old new before after because same = same ∙ because.0
+get_names _ key old new before after because same = tt
 
 -- a stop lasts, and so does what was told of it
 pub names_still : (told : ℕ) (reply : Reply) (old new : Held) (before after : DiskState) → TellsFaults told old new before after → NamesStop reply old.book.stopped → NamesStop reply new.book.stopped
@@ -228,17 +227,16 @@ pub proceeds_none : {D : Type 0} (state : D → DiskState) (calls : ℕ) (old : 
 proceeds_none state calls old = record {
   sizes = refl;
   effect = reaches_none (state old.disk);
-  tells = tells_quiet old.held old.held (state old.disk) (state old.disk) refl refl;
+  tells = tells_quiet refl refl;
   alone = refl;
   lasts = λ start since. since;
 }
 
--- one call, of a core that stands since some start
-pub proceeds_by : {D : Type 0} (state : D → DiskState) (told calls : ℕ) (start old new : CoreState D) → StandsSince state start old
-    → ((from : CoreState D) → StandsSince state from old → StandsSince state from new)
-    → Reaches (file_length old.held.runs.sizes) calls (state old.disk) (state new.disk) → TellsFaults told old.held new.held (state old.disk) (state new.disk) → sum (drop callers new.held.book.seats.quanta) ≡ sum (drop callers old.held.book.seats.quanta)
-    → Proceeds state told calls old new
-proceeds_by state told calls start old new since lasts effect tells alone = record { sizes = (lasts start since).sizes ∙ sym since.sizes; effect = effect; tells = tells; alone = alone; lasts = lasts }
+-- one call by a caller
+pub proceeds_by : {D : Type 0} {seat : ℕ} {k : Kind} {answer : Answer} (state : D → DiskState) (told calls : ℕ) (old new : CoreState D) → seat < callers → StandsSince state old old → GoesOnAs state seat k answer old new
+    → Reaches (file_length old.held.runs.sizes) calls (state old.disk) (state new.disk) → TellsFaults told old.held new.held (state old.disk) (state new.disk) → Proceeds state told calls old new
+proceeds_by {D} {seat} state told calls old new below begins goes effect tells =
+    record { sizes = (goes.lasts old begins).sizes; effect = effect; tells = tells; alone = alone_by seat old.held new.held below goes.follows; lasts = goes.lasts }
 
 pub proceeds_then : {D : Type 0} (state : D → DiskState) (one two few more : ℕ) (old mid new : CoreState D) → Proceeds state one few old mid → Proceeds state two more mid new → Proceeds state (one + two) (few + more) old new
 proceeds_then state one two few more old mid new first second = record {
@@ -263,6 +261,10 @@ proceeds_more state told n few old mid new first second =
     subst (λ (all : ℕ). Proceeds state told all old new) calls
     (subst (λ (sum : ℕ). Proceeds state sum (n * share + share) old new) (zero-add told)
     (proceeds_then state 0 told (n * share) share old mid new first (subst (λ (all : ℕ). Proceeds state told all mid new) same second)))
+
+-- the core keeps a pace
+pub core_then : {D : Type 0} {state : D → DiskState} {seat : ℕ} {k : Kind} {answer : Answer} {old new : CoreState D} → GoesOnAs state seat k answer old new → IsCore old.held (state old.disk) → IsCore new.held (state new.disk)
+core_then goes keeps = let moves = goes.numbers keeps.pace keeps.holds in record { pace = moves.next; holds = moves.holds }
 
 -- ---- the other seats
 

@@ -1,6 +1,8 @@
 -- Holds, which are made and dropped in memory alone, and read: each command notes its entry and moves no merge.
-use Rattle.std.specs.Prelude.{Option, drop, sum}
-use Rattle.std.proofs.Common.{◌≡◌, ◌∙◌, ℕ, ◌+◌, ◌≤◌, List, Some, None, length, refl, ap, sym, subst, arith}
+use Rattle.std.specs.Prelude.{Option}
+use Rattle.std.proofs.lemmas.Grind.{common_steps}
+use Rattle.std.proofs.lemmas.Bool.Decides.{nat_tests}
+use Rattle.std.proofs.Common.{◌≡◌, ◌∙◌, ℕ, ◌+◌, ◌<◌, ◌≤◌, List, length, ap, sym, subst, arith}
 use Rattle.blsm_model.specs.Book.{noted, rows_given}
 use Rattle.blsm_model.specs.Format.{callers}
 use Rattle.blsm_model.specs.Geometry.{file_length}
@@ -12,12 +14,14 @@ use Rattle.blsm_model.specs.declared.row.Row.{Row}
 use Rattle.disk_trait.specs.Disk.{DiskState}
 use Rattle.gear_sched.specs.Gears.{GearState, first_debt, second_debt}
 use Rattle.scan_view.specs.Hold.{HoldState}
-use Rattle.scan_view.specs.Holds.{AreGivenBy, hold_of}
+use Rattle.scan_view.specs.Holds.{AreGivenBy}
 use Rattle.seat_book.specs.State.{BookState, noted_in, work_in}
+use Rattle.tree_machine.specs.Steps.{Answer}
+use Rattle.tree_machine.specs.declared.step.Kind.{Kind}
 use Rattle.core_moves.specs.declared.held.Held.{Held}
 use Rattle.tree_core.specs.Answers.{reply_to_drop, reply_to_hold, reply_to_next}
-use Rattle.tree_core.specs.Causes.{DropsBecause, HoldsBecause, ScansBecause, ScansNone}
-use Rattle.tree_core.specs.Causes.{swaps_due_in}
+use Rattle.tree_core.specs.Calls.{GoesOnAs, IsCall}
+use Rattle.tree_core.specs.Causes.{DropsBecause, HoldsBecause, ScansBecause, swaps_due_in}
 use Rattle.tree_core.specs.Core.{CoreState}
 use Rattle.tree_core.specs.Holds.{LeavesOthers}
 use Rattle.tree_core.specs.Steps.{StandsSince}
@@ -27,11 +31,12 @@ use Rattle.tree_core.specs.declared.answers.Release.{Release}
 use Rattle.tree_core.specs.declared.answers.Release.TheVariants as release
 use Rattle.tree_core.specs.Scanned.{Scanned}
 use Rattle.tree_core.specs.Scanned as scanned
-use Rattle.tree_session.specs.Faults.{NamesStop, Proceeds, Reaches, TellsFaults, TellsNone, faults_of}
+use Rattle.tree_session.specs.Faults.{NamesStop, Reaches, TellsFaults, TellsNone, faults_of}
 use Rattle.tree_session.specs.Lines.{Rests, rows_of}
-use Rattle.tree_session.specs.Session.{IsMade, Performs, most_calls}
+use Rattle.tree_session.specs.Session.{Performs, most_calls}
 use Rattle.tree_session.proofs.BookLemmas.{count_none}
-use Rattle.tree_session.proofs.FaultLemmas.{none_told, proceeds_by, reaches_none, tells_lookup, tells_quiet}
+use Rattle.tree_session.proofs.FaultLemmas.{none_told, proceeds_by, reaches_none, tells_quiet}
+use Rattle.tree_session.proofs.MadeLemmas.{made_by}
 
 -- ---- a command that notes its entry alone
 
@@ -44,10 +49,10 @@ still_rests seat op reply old new leaves book rests =
       even = λ runs any. subst (λ (g : GearState). first_debt g any + second_debt g any ≡ 0) (sym gears) (rests.even (sym (ap (λ (b : BookState). b.stopped) book) ∙ runs) any);
     }
 
-pub notes_alone : {D : Type 0} (state : D → DiskState) (seat : ℕ) (op : Op) (reply : Reply) (old new : CoreState D) → LeavesOthers seat old new → new.held.book ≡ noted_in seat op reply old.held.book → Rests old.held
-    → length (rows_given reply) ≤ rows_of op → TellsNone op reply → NamesStop reply new.held.book.stopped → StandsSince state new new
-    → Proceeds state (faults_of reply) (most_calls old.held.runs.sizes op 0 (swaps_due_in old.held)) old new → IsMade state old new → Performs state seat op old new
-notes_alone state seat op reply old new leaves book rests rows calm names begins proceeds made =
+pub notes_alone : {D : Type 0} {answer : Answer} (state : D → DiskState) (seat : ℕ) (k : Kind) (op : Op) (reply : Reply) (old new : CoreState D) → seat < callers → StandsSince state old old → Rests old.held → GoesOnAs state seat k answer old new → IsCall state seat k old new
+    → LeavesOthers seat old new → new.held.book ≡ noted_in seat op reply old.held.book → length (rows_given reply) ≤ rows_of op → TellsNone op reply → NamesStop reply new.held.book.stopped
+    → Reaches (file_length old.held.runs.sizes) (most_calls old.held.runs.sizes op 0 (swaps_due_in old.held)) (state old.disk) (state new.disk) → TellsFaults (faults_of reply) old.held new.held (state old.disk) (state new.disk) → Performs state seat op old new
+notes_alone state seat k op reply old new below begins rests goes call leaves book rows calm names effect tells =
     let entry : Entry = record { seat = seat; op = op; reply = reply } in
     record {
       reply = reply;
@@ -58,71 +63,45 @@ notes_alone state seat op reply old new leaves book rests rows calm names begins
       calm = λ calm_end. calm;
       names = names;
       rests = still_rests seat op reply old new leaves book rests;
-      begins = begins;
-      proceeds = proceeds;
-      made = made;
+      begins = goes.begins;
+      proceeds = proceeds_by state (faults_of reply) (most_calls old.held.runs.sizes op 0 (swaps_due_in old.held)) old new below begins goes effect tells;
+      made = made_by state seat k old new call;
     }
 
 -- and one that calls no disk
-pub in_memory : {D : Type 0} (state : D → DiskState) (seat : ℕ) (op : Op) (reply : Reply) (old new : CoreState D) → LeavesOthers seat old new → new.held.book ≡ noted_in seat op reply old.held.book → Rests old.held
-    → length (rows_given reply) ≤ 0 → faults_of reply ≡ 0 → most_calls old.held.runs.sizes op 0 (swaps_due_in old.held) ≡ 0 → NamesStop reply new.held.book.stopped → StandsSince state old old → StandsSince state new new
-    → ((from : CoreState D) → StandsSince state from old → StandsSince state from new) → new.disk ≡ old.disk → IsMade state old new → Performs state seat op old new
-in_memory {D} state seat op reply old new leaves book rests rows quiet calls names since begins lasts disk made =
-    notes_alone state seat op reply old new leaves book rests (omega (arith, rows)) (none_told op reply quiet) names begins
-    (subst (λ (told : ℕ). Proceeds state told (most_calls old.held.runs.sizes op 0 (swaps_due_in old.held)) old new) (sym quiet) (subst (λ (few : ℕ). Proceeds state 0 few old new) (sym calls)
-    (proceeds_by state 0 0 old old new since lasts
-    (subst (λ (d : D). Reaches (file_length old.held.runs.sizes) 0 (state old.disk) (state d)) (sym disk) (reaches_none (state old.disk)))
-    (tells_quiet old.held new.held (state old.disk) (state new.disk) (ap (λ (b : BookState). b.stopped) book) (ap (λ (d : D). (state d).faults) disk))
-    (ap (λ (b : BookState). sum (drop callers b.seats.quanta)) book)))) made
+pub in_memory : {D : Type 0} {answer : Answer} (state : D → DiskState) (seat : ℕ) (k : Kind) (op : Op) (reply : Reply) (old new : CoreState D) → seat < callers → StandsSince state old old → Rests old.held → GoesOnAs state seat k answer old new → IsCall state seat k old new
+    → LeavesOthers seat old new → new.held.book ≡ noted_in seat op reply old.held.book → (faults_of reply ≡ 0) × (length (rows_given reply) ≤ 0) → most_calls old.held.runs.sizes op 0 (swaps_due_in old.held) ≡ 0 → NamesStop reply new.held.book.stopped → new.disk ≡ old.disk
+    → Performs state seat op old new
+in_memory {D} state seat k op reply old new below begins rests goes call leaves book quiet calls names disk =
+    let none = tells_quiet (ap (λ (b : BookState). b.stopped) book) (ap (λ (d : D). (state d).faults) disk) in
+    notes_alone state seat k op reply old new below begins rests goes call leaves book (omega (arith, quiet.1)) (none_told op reply quiet.0) names
+    (subst (λ (n : ℕ). Reaches (file_length old.held.runs.sizes) n (state old.disk) (state new.disk)) (sym calls) (subst (λ (d : D). Reaches (file_length old.held.runs.sizes) 0 (state old.disk) (state d)) (sym disk) (reaches_none (state old.disk))))
+    (subst (λ (told : ℕ). TellsFaults told old.held new.held (state old.disk) (state new.disk)) (sym quiet.0) none)
 
 -- ---- what is told
 
 pub hold_quiet : (answer : Holding) → (faults_of (reply_to_hold answer) ≡ 0) × (length (rows_given (reply_to_hold answer)) ≤ 0)
-hold_quiet holding.Held = (refl, omega arith)
-hold_quiet holding.NoMemory = (refl, omega arith)
-hold_quiet (holding.Stopped why) = (refl, omega arith)
+hold_quiet answer = grind (arith, common_steps, nat_tests)
 
 pub hold_names : {D : Type 0} (answer : Holding) (seat : ℕ) (low high : Key) (old new : CoreState D) → HoldsBecause answer seat low high old new → new.held.book.stopped ≡ old.held.book.stopped → NamesStop (reply_to_hold answer) new.held.book.stopped
-hold_names holding.Held seat low high old new because same = tt
-hold_names holding.NoMemory seat low high old new because same = tt
 hold_names (holding.Stopped why) seat low high old new because same = same ∙ because.0
+hold_names _ seat low high old new because same = tt
 
 pub drop_quiet : (answer : Release) → (faults_of (reply_to_drop answer) ≡ 0) × (length (rows_given (reply_to_drop answer)) ≤ 0)
-drop_quiet release.Done = (refl, omega arith)
-drop_quiet release.NoHold = (refl, omega arith)
-drop_quiet (release.Stopped why) = (refl, omega arith)
+drop_quiet answer = grind (arith, common_steps, nat_tests)
 
 pub drop_names : {D : Type 0} (answer : Release) (seat : ℕ) (old new : CoreState D) → DropsBecause answer seat old new → new.held.book.stopped ≡ old.held.book.stopped → NamesStop (reply_to_drop answer) new.held.book.stopped
-drop_names release.Done seat old new because same = tt
-drop_names release.NoHold seat old new because same = tt
 drop_names (release.Stopped why) seat old new because same = same ∙ because.0
-
--- a next tells a fault without a stop, as a get does
-pub scan_tells : {D : Type 0} (answer : Scanned) (seat n : ℕ) (old new : CoreState D) (before after : DiskState) → ScansBecause answer seat n old new before after → new.held.book.stopped ≡ old.held.book.stopped → (ScansNone answer → after.faults ≡ before.faults)
-    → TellsFaults (faults_of (reply_to_next answer)) old.held new.held before after
-scan_tells (scanned.Rows rows) seat n old new before after because same none = tells_quiet old.held new.held before after same because.1
-scan_tells scanned.NoHold seat n old new before after because same none = tells_quiet old.held new.held before after same (none tt)
-scan_tells scanned.Fault seat n old new before after because same none = tells_lookup old.held new.held before after because.0 same because.3
-scan_tells (scanned.Damaged page) seat n old new before after because same none = tells_quiet old.held new.held before after same because.2
-scan_tells (scanned.Stopped why) seat n old new before after because same none = tells_quiet old.held new.held before after same because.2
+drop_names _ seat old new because same = tt
 
 pub scan_names : {D : Type 0} (answer : Scanned) (seat n : ℕ) (old new : CoreState D) (before after : DiskState) → ScansBecause answer seat n old new before after → new.held.book.stopped ≡ old.held.book.stopped
     → NamesStop (reply_to_next answer) new.held.book.stopped
-scan_names (scanned.Rows rows) seat n old new before after because same = tt
-scan_names scanned.NoHold seat n old new before after because same = tt
-scan_names scanned.Fault seat n old new before after because same = tt
-scan_names (scanned.Damaged page) seat n old new before after because same = tt
 scan_names (scanned.Stopped why) seat n old new before after because same = same ∙ because.0
+scan_names _ seat n old new before after because same = tt
 
 given_few : (n : ℕ) (old new : Option HoldState) (rows : List Row) → AreGivenBy n old new rows → length rows ≤ n
-given_few n (Some old) (Some new) rows given = given.0.few
-given_few n (Some old) None rows given = absurd given
-given_few n None new rows given = absurd given
+given_few n old new rows h1 = grind (arith, common_steps, nat_tests)
 
 -- nor does it give more rows than it was asked for
 pub scan_rows : {D : Type 0} (answer : Scanned) (seat n : ℕ) (old new : CoreState D) (before after : DiskState) → ScansBecause answer seat n old new before after → length (rows_given (reply_to_next answer)) ≤ n
-scan_rows (scanned.Rows rows) seat n old new before after because = given_few n (hold_of seat old.holds) (hold_of seat new.holds) rows because.2
-scan_rows scanned.NoHold seat n old new before after because = omega arith
-scan_rows scanned.Fault seat n old new before after because = omega arith
-scan_rows (scanned.Damaged page) seat n old new before after because = omega arith
-scan_rows (scanned.Stopped why) seat n old new before after because = omega arith
+scan_rows answer seat n old new before after h1 = grind (arith, common_steps, nat_tests)

@@ -1,13 +1,10 @@
 -- Lines, one after another.
-use Rattle.std.specs.Prelude.{◌==◌, nat_lt, slice_index, slice_set, filter, map, sum_by}
-use Rattle.std.proofs.Common.{◌≡◌, ◌∙◌, ℕ, ◌+◌, ◌-◌, ◌≤◌, ◌<◌, Bool, true, false, cond, List, [], ◌∷◌, ◌++◌, length, refl, ap, sym, subst, arith, append-nil, append_assoc, length-append, eq-eqb, zero-add}
+use Rattle.std.specs.Prelude.{◌==◌, slice_index, slice_set}
+use Rattle.std.proofs.Common.{◌≡◌, ◌∙◌, ℕ, ◌+◌, ◌-◌, ◌≤◌, ◌<◌, Bool, cond, List, [], ◌∷◌, ◌++◌, length, refl, ap, sym, subst, arith, append-nil, append_assoc}
 use Rattle.std.specs.List.{AllByRecursion}
-use Rattle.std.proofs.lemmas.Bool.{eqb-true, eqb-false, ltb-true, ltb-false}
 use Rattle.std.proofs.lemmas.Bool.Decides.{nat_tests}
 use Rattle.std.proofs.lemmas.Grind.{common_steps}
-use Rattle.std.proofs.lemmas.List.{map-append, length-map, get_or-set_same, get_or-set_other, get_or_past, set_past}
-use Rattle.std.proofs.lemmas.List.Elements.{filter-append}
-use Rattle.std.proofs.lemmas.List.Sums.{sum_by-append, sum_by-cons}
+use Rattle.std.proofs.lemmas.List.{map-append}
 use Rattle.blsm_model.specs.Book.{Book, room_after, rows_given}
 use Rattle.blsm_model.specs.Format.{callers}
 use Rattle.blsm_model.specs.Scripts.{lines_of}
@@ -59,79 +56,31 @@ names_more told [] e old new before after tells all one = (one, tt)
 names_more told (x ∷ es) e old new before after tells all one = (names_still told x.reply old new before after tells all.0, names_more told es e old new before after tells all.1 one)
 
 told_more : (es : List Entry) (e : Entry) → faults_told (es ++ e ∷ []) ≡ faults_told es + faults_of e.reply
-told_more es e =
-    let both = sum_by-append (λ (x : Entry). faults_of x.reply) es (e ∷ []) in
-    let one : sum_by (λ (x : Entry). faults_of x.reply) (e ∷ []) ≡ faults_of e.reply = omega arith in
-    omega (arith, both, one)
+told_more es e = grind (arith, common_steps, nat_tests)
 
 lines_more : (seat : ℕ) (lines : List Line) (line : Line) → length (lines_of seat (lines ++ line ∷ [])) ≡ length (lines_of seat lines) + cond (line.seat == seat) 1 0
-lines_more seat lines line =
-    let split = filter-append (λ (l : Line). l.seat == seat) lines (line ∷ []) in
-    length-map (filter (λ (l : Line). l.seat == seat) (lines ++ line ∷ [])) (λ (l : Line). l.op) ∙ ap (λ (ls : List Line). length ls) split
-    ∙ length-append (filter (λ (l : Line). l.seat == seat) lines) (filter (λ (l : Line). l.seat == seat) (line ∷ []))
-    ∙ ap (λ (n : ℕ). n + length (filter (λ (l : Line). l.seat == seat) (line ∷ []))) (sym (length-map (filter (λ (l : Line). l.seat == seat) lines) (λ (l : Line). l.op)))
-    ∙ ap (λ (n : ℕ). length (lines_of seat lines) + n) (last (line.seat == seat))
-  where
-    last : (b : Bool) → length (cond b (line ∷ []) []) ≡ cond b 1 0
-    last true = refl
-    last false = refl
+lines_more seat lines line = grind (arith, common_steps, nat_tests)
 
 -- ---- room
 
 -- one less at the seat of the entry
 room_less : (entries : List ℕ) (seat any : ℕ) → 0 < slice_index entries seat → slice_index (slice_set entries seat (slice_index entries seat - 1)) any + cond (seat == any) 1 0 ≡ slice_index entries any
-room_less entries seat any some = by (seat == any) refl
-  where
-    within : seat < length entries
-    within = inside (nat_lt seat (length entries)) refl
-      where
-        inside : (b : Bool) → nat_lt seat (length entries) ≡ b → seat < length entries
-        inside true is = ltb-true seat (length entries) is
-        inside false is = let past = get_or_past entries seat 0 (ltb-false seat (length entries) is) in absurd (none (slice_index entries seat) past some)
-          where
-            none : (n : ℕ) → n ≡ 0 → 0 < n → ⊥
-            none n zero more = omega arith
-
-    by : (b : Bool) → (seat == any) ≡ b → slice_index (slice_set entries seat (slice_index entries seat - 1)) any + cond b 1 0 ≡ slice_index entries any
-    by true is =
-        let here = get_or-set_same entries seat (slice_index entries seat - 1) 0 within in
-        subst (λ (s : ℕ). slice_index (slice_set entries seat (slice_index entries seat - 1)) s + 1 ≡ slice_index entries s) (eqb-true seat any is) (omega (arith, here, some))
-    by false is =
-        let there = get_or-set_other entries seat any (slice_index entries seat - 1) 0 (λ same. eqb-false seat any is (sym same)) in
-        omega (arith, there)
+room_less entries seat any some = grind (arith, common_steps, nat_tests)
 
 -- so many less there, or nothing where there is less
 rows_less : (rows : List ℕ) (seat any given : ℕ) → slice_index rows any ≤ slice_index (slice_set rows seat (slice_index rows seat - given)) any + cond (seat == any) given 0
-rows_less rows seat any given = by (seat == any) (nat_lt seat (length rows)) refl refl
-  where
-    by : (b within : Bool) → (seat == any) ≡ b → nat_lt seat (length rows) ≡ within → slice_index rows any ≤ slice_index (slice_set rows seat (slice_index rows seat - given)) any + cond b given 0
-    by true true is inside =
-        let here = get_or-set_same rows seat (slice_index rows seat - given) 0 (ltb-true seat (length rows) inside) in
-        subst (λ (s : ℕ). slice_index rows s ≤ slice_index (slice_set rows seat (slice_index rows seat - given)) s + given) (eqb-true seat any is) (omega (arith, here))
-    by true false is outside =
-        let same = ap (λ (l : List ℕ). slice_index l any) (set_past rows seat (slice_index rows seat - given) (ltb-false seat (length rows) outside)) in
-        omega (arith, same)
-    by false within is inside =
-        let there = get_or-set_other rows seat any (slice_index rows seat - given) 0 (λ same. eqb-false seat any is (sym same)) in
-        omega (arith, there)
+rows_less rows seat any given = grind (arith, common_steps, nat_tests)
 
 -- the rows of the first line come on top of those of the others
 asked_first : (seat : ℕ) (line : Line) (lines : List Line) → rows_asked seat (line ∷ lines) ≡ cond (line.seat == seat) (rows_of line.op) 0 + rows_asked seat lines
-asked_first seat line lines = by (line.seat == seat)
-  where
-    by : (b : Bool) → sum_by rows_of (map (λ (l : Line). l.op) (cond b (line ∷ filter (λ (l : Line). l.seat == seat) lines) (filter (λ (l : Line). l.seat == seat) lines))) ≡ cond b (rows_of line.op) 0 + rows_asked seat lines
-    by true = sum_by-cons rows_of line.op (lines_of seat lines)
-    by false = sym (zero-add (rows_asked seat lines))
+asked_first seat line lines = grind (arith, common_steps, nat_tests)
 
 -- a caller whose line is next has room for it, and after it for the rest
 pub room_next : (room : Room) (line : Line) (lines : List Line) → line.seat < callers → HasRoomFor room (line ∷ lines) → 0 < slice_index room.entries line.seat
-room_next room line lines below has =
-    grind (arith, common_steps, nat_tests, has.entries line.seat below)
+room_next room line lines below has = grind (arith, common_steps, nat_tests)
 
 pub rows_next : (room : Room) (line : Line) (lines : List Line) → line.seat < callers → HasRoomFor room (line ∷ lines) → rows_of line.op ≤ slice_index room.rows line.seat
-rows_next room line lines below has =
-    let first : rows_asked line.seat (line ∷ lines) ≡ rows_of line.op + rows_asked line.seat lines = asked_first line.seat line lines ∙ ap (λ (b : Bool). cond b (rows_of line.op) 0 + rows_asked line.seat lines) (eq-eqb line.seat line.seat refl) in
-    omega (arith, first, has.rows line.seat below)
+rows_next room line lines below has = grind (arith, common_steps, nat_tests)
 
 pub room_then : (room : Room) (line : Line) (lines : List Line) (entry : Entry) → entry.seat ≡ line.seat → length (rows_given entry.reply) ≤ rows_of line.op → HasRoomFor room (line ∷ lines) → HasRoomFor (room_after room entry) lines
 room_then room line lines entry same given has = record {
@@ -147,8 +96,7 @@ room_then room line lines entry same given has = record {
     asked_within {all} {sum} {most} is within = subst (λ (n : ℕ). n ≤ most) is within
 
     left : (b : Bool) (rest had has : ℕ) → cond b (rows_of line.op) 0 + rest ≤ had → had ≤ has + cond b (length (rows_given entry.reply)) 0 → rest ≤ has
-    left true rest had has asks less = omega (arith, asks, less, given)
-    left false rest had has asks less = omega (arith, asks, less)
+    left b rest had has h1 h2 = grind (arith, common_steps, nat_tests)
 
 -- ---- a script
 
@@ -205,7 +153,4 @@ runs_more state lines line old mid new places some so_far did =
 -- each entry has its quanta still
 pub places_then : {D : Type 0} (state : D → DiskState) (line : Line) (mid new : CoreState D) → length mid.held.book.book.quanta ≡ length mid.held.book.book.entries → Performs state line.seat line.op mid new
     → length new.held.book.book.quanta ≡ length new.held.book.book.entries
-places_then state line mid new places did =
-    let entry : Entry = record { seat = line.seat; op = line.op; reply = did.reply } in
-    ap (λ (b : Book). length b.quanta) did.annals ∙ ap (λ (ns : List ℕ). length ns) (end_counted mid.held.book.book.quanta (length mid.held.book.book.entries) did.quanta places)
-    ∙ length-append mid.held.book.book.quanta (did.quanta ∷ []) ∙ ap (λ (n : ℕ). n + 1) places ∙ sym (length-append mid.held.book.book.entries (entry ∷ [])) ∙ sym (ap (λ (b : Book). length b.entries) did.annals)
+places_then state line mid new places did = grind (arith, common_steps, nat_tests)

@@ -1,7 +1,10 @@
 -- A write, refused or admitted and paid for.
 use Rattle.std.specs.Prelude.{◌/◌, slice_index_or}
-use Rattle.std.proofs.Common.{◌≡◌, ◌∙◌, ℕ, ◌+◌, ◌*◌, ◌≤◌, true, false, List, Some, None, length, refl, ap, sym, subst, arith}
+use Rattle.std.proofs.lemmas.Grind.{common_steps}
+use Rattle.std.proofs.lemmas.Bool.Decides.{nat_tests}
+use Rattle.std.proofs.Common.{◌≡◌, ◌∙◌, ℕ, ◌+◌, ◌*◌, ◌<◌, ◌≤◌, true, List, Some, None, length, refl, ap, sym, subst, arith}
 use Rattle.blsm_model.specs.Book.{Book, noted, counted_up, rows_given}
+use Rattle.blsm_model.specs.Format.{callers}
 use Rattle.blsm_model.specs.Legal.{is_write}
 use Rattle.blsm_model.specs.Sizes.{Sizes}
 use Rattle.blsm_model.specs.declared.history.Entry.{Entry}
@@ -10,72 +13,74 @@ use Rattle.blsm_model.specs.declared.op.Op.{Op}
 use Rattle.disk_trait.specs.Disk.{DiskState}
 use Rattle.seat_book.specs.State.{BookState, work_in}
 use Rattle.tree_machine.specs.Machine.{WorkSoFar, no_work}
+use Rattle.tree_machine.specs.declared.step.Kind.TheVariants as kind
 use Rattle.core_moves.specs.declared.held.Held.{Held}
 use Rattle.tree_core.specs.Answers.{reply_to_write}
-use Rattle.tree_core.specs.Causes.{AdmitsBecause, calls_to_admit, swaps_due_in}
+use Rattle.tree_core.specs.Calls.{Admits}
+use Rattle.tree_core.specs.Causes.{calls_to_admit, swaps_due_in}
 use Rattle.tree_core.specs.Core.{CoreState, IsCore}
-use Rattle.tree_core.specs.Notes.{NotesOne, OwesNothing}
+use Rattle.tree_core.specs.Notes.{OwesNothing}
 use Rattle.tree_core.specs.Steps.{StandsSince}
 use Rattle.tree_core.specs.declared.answers.Admission.{Admission}
 use Rattle.tree_core.specs.declared.answers.Admission.TheVariants as admission
 use Rattle.tree_session.specs.Faults.{Proceeds, faults_of}
 use Rattle.tree_session.specs.Lines.{Rests, rows_of}
-use Rattle.tree_session.specs.Session.{EasesOthers, IsMade, PaysOff, Performs, most_calls}
-use Rattle.tree_session.proofs.BookLemmas.{all_even, calls_of_write, count_none, last_is, paid_few}
-use Rattle.tree_session.proofs.MadeLemmas.{made_then}
-use Rattle.tree_session.proofs.FaultLemmas.{admit_calm, admit_names, eases_then, none_told, proceeds_then, proceeds_wider}
+use Rattle.tree_session.specs.Session.{PaysOff, Performs, most_calls}
+use Rattle.tree_session.proofs.BookLemmas.{all_even, count_none, last_is, of_write, paid_few}
+use Rattle.tree_session.proofs.MadeLemmas.{made_by, made_then}
+use Rattle.tree_session.proofs.FaultLemmas.{admit_calm, admit_names, admit_tells, eases_by, eases_then, none_told, proceeds_by, proceeds_then, proceeds_wider, reaches_by}
 
 -- a write that isn't admitted leaves no debt
-refused_even : (answer : Admission) (seat : ℕ) (op : Op) (old new : Held) (before after : DiskState) → (answer ≡ admission.Admitted → ⊥) → AdmitsBecause answer seat op old new before after
-    → (old.book.stopped ≡ None → (any : ℕ) → OwesNothing any old) → new.book.stopped ≡ None → (any : ℕ) → OwesNothing any new
-refused_even admission.Admitted seat op old new before after not because even runs any = absurd (not refl)
-refused_even (admission.Full charge) seat op old new before after not because even runs any = subst (λ (h : Held). OwesNothing any h) (sym because.3) (even because.0 any)
-refused_even (admission.Fault begun) seat op old new before after not because even runs any = absurd (cc (because.0.stopped, runs))
-refused_even (admission.Stopped why) seat op old new before after not because even runs any =
-    let still : new.book.stopped ≡ Some why = ap (λ (h : Held). h.book.stopped) because.1 ∙ because.0 in
+refused_even : {D : Type 0} (state : D → DiskState) (seat : ℕ) (op : Op) (answer : Admission) (old new : CoreState D) → (answer ≡ admission.Admitted → ⊥) → Admits state seat op answer old new
+    → (old.held.book.stopped ≡ None → (any : ℕ) → OwesNothing any old.held) → new.held.book.stopped ≡ None → (any : ℕ) → OwesNothing any new.held
+refused_even state seat op admission.Admitted old new not call even runs any = absurd (not refl)
+refused_even state seat op (admission.Full charge) old new not call even runs any = subst (λ (h : Held). OwesNothing any h) (sym call.cause.3) (even call.cause.0 any)
+refused_even state seat op (admission.Fault begun) old new not call even runs any = absurd (cc (call.cause.0.stopped, runs))
+refused_even state seat op (admission.Stopped why) old new not call even runs any =
+    let still : new.held.book.stopped ≡ Some why = ap (λ (h : Held). h.book.stopped) call.cause.1 ∙ call.cause.0 in
     absurd (cc (still, runs))
 
 -- nor does it give rows
 refused_rows : (answer : Admission) (op : Op) → length (rows_given (reply_to_write answer)) ≤ rows_of op
-refused_rows admission.Admitted op = omega arith
-refused_rows (admission.Full charge) op = omega arith
-refused_rows (admission.Fault true) op = omega arith
-refused_rows (admission.Fault false) op = omega arith
-refused_rows (admission.Stopped why) op = omega arith
+refused_rows answer op = grind (arith, common_steps, nat_tests)
 
 idle_still : (old new : BookState) → new.seats.work ≡ old.seats.work → ((any : ℕ) → work_in any old ≡ no_work) → (any : ℕ) → work_in any new ≡ no_work
 idle_still old new same idle any = ap (λ (l : List WorkSoFar). slice_index_or l any no_work) same ∙ idle any
 
-pub write_refused : {D : Type 0} (state : D → DiskState) (seat : ℕ) (op : Op) (answer : Admission) (old new : CoreState D) → is_write op ≡ true → (answer ≡ admission.Admitted → ⊥) → AdmitsBecause answer seat op old.held new.held (state old.disk) (state new.disk)
-    → NotesOne seat op (reply_to_write answer) old.held.book new.held.book → Rests old.held → Proceeds state (faults_of (reply_to_write answer)) (calls_to_admit old.held) old new → StandsSince state new new → IsMade state old new → Performs state seat op old new
-write_refused state seat op answer old new write not because notes rests proceeds begins made =
+-- what an admission does to the disk, and tells
+admit_proceeds : {D : Type 0} (state : D → DiskState) (seat : ℕ) (op : Op) (answer : Admission) (old new : CoreState D) → seat < callers → StandsSince state old old → Admits state seat op answer old new
+    → Proceeds state (faults_of (reply_to_write answer)) (calls_to_admit old.held) old new
+admit_proceeds state seat op answer old new below begins call =
+    proceeds_by state (faults_of (reply_to_write answer)) (calls_to_admit old.held) old new below begins call.goes (reaches_by call.effect) (admit_tells state seat op answer old new call)
+
+pub write_refused : {D : Type 0} (state : D → DiskState) (seat : ℕ) (op : Op) (answer : Admission) (old new : CoreState D) → is_write op ≡ true → seat < callers → StandsSince state old old → (answer ≡ admission.Admitted → ⊥) → Rests old.held
+    → Admits state seat op answer old new → Performs state seat op old new
+write_refused state seat op answer old new write below begins not rests call =
     let entry : Entry = record { seat = seat; op = op; reply = reply_to_write answer } in
     record {
       reply = reply_to_write answer;
       quanta = 0;
-      annals = notes.annals ∙ sym (count_none (noted old.held.book.book entry) (length old.held.book.book.entries));
+      annals = call.notes.annals ∙ sym (count_none (noted old.held.book.book entry) (length old.held.book.book.entries));
       few = omega arith;
       rows = refused_rows answer op;
-      calm = λ calm. none_told op (reply_to_write answer) (admit_calm answer seat op old.held new.held (state old.disk) (state new.disk) because calm);
-      names = admit_names answer seat op old.held new.held (state old.disk) (state new.disk) because;
-      rests = record {
-        idle = idle_still old.held.book new.held.book notes.work rests.idle;
-        even = refused_even answer seat op old.held new.held (state old.disk) (state new.disk) not because rests.even;
-      };
-      begins = begins;
+      calm = λ calm. none_told op (reply_to_write answer) (admit_calm answer seat op old.held new.held (state old.disk) (state new.disk) call.cause calm);
+      names = admit_names answer seat op old.held new.held (state old.disk) (state new.disk) call.cause;
+      rests = record { idle = idle_still old.held.book new.held.book call.notes.work rests.idle; even = refused_even state seat op answer old new not call rests.even };
+      begins = call.goes.begins;
       proceeds = proceeds_wider state (faults_of (reply_to_write answer)) (calls_to_admit old.held) (most_calls old.held.runs.sizes op 0 (swaps_due_in old.held)) old new
-          (omega (arith, calls_of_write old.held.runs.sizes op 0 (swaps_due_in old.held) write)) proceeds;
-      made = made;
+          (omega (arith, (of_write old.held.runs.sizes op 0 (swaps_due_in old.held) write).0)) (admit_proceeds state seat op answer old new below begins call);
+      made = made_by state seat (kind.Admit op) old new (answer, call);
     }
 
-pub write_taken : {D : Type 0} (state : D → DiskState) (seat : ℕ) (op : Op) (old mid new : CoreState D) → is_write op ≡ true → IsCore old.held (state old.disk) → old.held.book.stopped ≡ None
-    → NotesOne seat op Done old.held.book mid.held.book → EasesOthers seat old.held mid.held → Rests old.held → Proceeds state 0 (calls_to_admit old.held) old mid → PaysOff state seat mid new → StandsSince state new new → IsMade state old mid → Performs state seat op old new
-write_taken state seat op old mid new write keeps ran notes eases rests admits pays begins made =
+pub write_taken : {D : Type 0} (state : D → DiskState) (seat : ℕ) (op : Op) (old mid new : CoreState D) → is_write op ≡ true → seat < callers → IsCore old.held (state old.disk) → StandsSince state old old → Rests old.held
+    → Admits state seat op admission.Admitted old mid → PaysOff state seat mid new → StandsSince state new new → Performs state seat op old new
+write_taken state seat op old mid new write below keeps first rests call pays begins =
     let entry : Entry = record { seat = seat; op = op; reply = Done } in
-    let last = last_is seat op old.held.book mid.held.book write notes.annals in
+    let last = last_is seat op old.held.book mid.held.book write call.notes.annals in
     let annals : new.held.book.book ≡ counted_up (noted old.held.book.book entry) (length old.held.book.book.entries) pays.quanta =
-    pays.annals ∙ ap (λ (place : ℕ). counted_up mid.held.book.book place pays.quanta) last.0 ∙ ap (λ (b : Book). counted_up b (length old.held.book.book.entries) pays.quanta) notes.annals in
+    pays.annals ∙ ap (λ (place : ℕ). counted_up mid.held.book.book place pays.quanta) last.0 ∙ ap (λ (b : Book). counted_up b (length old.held.book.book.entries) pays.quanta) call.notes.annals in
     let payments = (pays.quanta + 1) * (old.held.runs.sizes.quantum / 4 + 3) in
+    let admits = admit_proceeds state seat op admission.Admitted old mid below first call in
     let paid = subst (λ (s : Sizes). Proceeds state 0 ((pays.quanta + 1) * (s.quantum / 4 + 3)) mid new) admits.sizes pays.proceeds in
     let proceeds = proceeds_then state 0 0 (calls_to_admit old.held) payments old mid new admits paid in
     record {
@@ -87,10 +92,10 @@ write_taken state seat op old mid new write keeps ran notes eases rests admits p
       calm = λ calm. none_told op Done refl;
       names = tt;
       rests = record {
-        idle = idle_still old.held.book new.held.book (pays.work ∙ notes.work) rests.idle;
-        even = λ runs. all_even seat old.held new.held (rests.even ran) (eases_then seat old.held mid.held new.held eases pays.others) (pays.even runs);
+        idle = idle_still old.held.book new.held.book (pays.work ∙ call.notes.work) rests.idle;
+        even = λ runs. all_even seat old.held new.held (rests.even call.cause.0.ran) (eases_then seat old.held mid.held new.held (eases_by seat old.held mid.held call.goes.follows) pays.others) (pays.even runs);
       };
       begins = begins;
-      proceeds = subst (λ (calls : ℕ). Proceeds state 0 calls old new) (sym (calls_of_write old.held.runs.sizes op pays.quanta (swaps_due_in old.held) write)) proceeds;
-      made = made_then state old mid new made pays.made;
+      proceeds = subst (λ (calls : ℕ). Proceeds state 0 calls old new) (sym (of_write old.held.runs.sizes op pays.quanta (swaps_due_in old.held) write).0) proceeds;
+      made = made_then state old mid new (made_by state seat (kind.Admit op) old mid (admission.Admitted, call)) pays.made;
     }

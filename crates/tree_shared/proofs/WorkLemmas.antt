@@ -20,7 +20,7 @@ use Rattle.tree_machine.specs.Plays.{has_room, is_finished, most_turns}
 use Rattle.core_moves.specs.declared.held.Held.{Held}
 use Rattle.tree_core.specs.Calls.{CameSince, EndsWork, TurnsOnce}
 use Rattle.tree_core.specs.Core.{CoreState, facts_of_held}
-use Rattle.tree_session.proofs.BookLemmas.{ended_empty, reply_gives_none}
+use Rattle.tree_session.proofs.BookLemmas.{ended_empty, work_says}
 use Rattle.tree_shared.specs.Seats.{DidOn, KnowsOf, HasRoomFor, IsEven, IsFinished, IsFree, IsWorking, facts_of}
 use Rattle.tree_shared.proofs.SeatLemmas.{both, caller_turns, is_a_caller, its_own, less_there, or_left, or_right}
 use Rattle.tree_shared.proofs.NoteLemmas.{still_even}
@@ -118,7 +118,7 @@ module _ {D : Type 0} (state : D → DiskState) (c d : Caller (CoreState D)) (n 
       (its_own the_entry c.number refl)
 
   no_rows : length (rows_given reply) ≤ 0
-  no_rows = subst (λ (r : Rattle.blsm_model.specs.declared.history.Reply.Reply). length (rows_given r) ≤ 0) (sym ends.reply_is) (reply_gives_none (work_in c.number b.held.book) b.held.book.stopped)
+  no_rows = subst (λ (r : Rattle.blsm_model.specs.declared.history.Reply.Reply). length (rows_given r) ≤ 0) (sym ends.reply_is) (work_says (work_in c.number b.held.book) b.held.book.stopped).2
 
   pub end_frees : (entries rows : ℕ) → KnowsOf (IsFinished n (entries + 1) rows) c → KnowsOf (IsFree entries rows) d
   end_frees entries rows knows = knows_after facts_of (CameSince state) (IsFinished n (entries + 1) rows) (IsFree entries rows) c d b w turn knows
