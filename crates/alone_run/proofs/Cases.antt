@@ -1,5 +1,7 @@
 -- From each step on: the end is that of what is paid for, and of the commands to come, done alone.
 use Rattle.std.proofs.Common.{◌≡◌, ◌≢◌, ◌∙◌, refl, ap, sym, subst, ℕ, ◌+◌, ◌<◌, ◌≤◌, Bool, true, false, not, ◌&&◌, ◌||◌, ◌⊎◌, inl, inr, List, [], ◌∷◌, ◌++◌, length, None, is_some, append_assoc, arith, get_or-set_same, length-append, length-set, ltb-true}
+use Rattle.std.proofs.lemmas.Grind.{common_steps}
+use Rattle.std.proofs.lemmas.Bool.Decides.{nat_tests}
 use Rattle.std.specs.Prelude.{nat_lt, slice_set}
 use Rattle.std.specs.List.{AllByRecursion}
 use Rattle.std.proofs.lemmas.Bool.{false≢true}
@@ -8,7 +10,7 @@ use Rattle.blsm_model.specs.Format.{callers}
 use Rattle.blsm_model.specs.Legal.{is_write}
 use Rattle.blsm_model.specs.declared.history.Entry.{Entry}
 use Rattle.blsm_model.specs.declared.op.Op.{Op}
-use Rattle.blsm_model.specs.declared.op.Op.TheVariants.{Get, Hold, Next, Release, Work}
+use Rattle.blsm_model.specs.declared.op.Op.TheVariants.{Work}
 use Rattle.gear_sched.specs.Gears.{first_debt, second_debt}
 use Rattle.tree_machine.proofs.FoldLemmas.{both_hold}
 use Rattle.tree_machine.proofs.FrameLemmas.{step_follows}
@@ -61,8 +63,7 @@ even_from : (seat : ℕ) (m : Machine) → m.stopped ≡ None → is_even seat m
 even_from seat m runs ok = even_not_owing seat m (by (owes seat m) (is_some m.stopped) (ap is_some runs) ok)
   where
     by : (b c : Bool) → c ≡ false → (not b || c) ≡ true → b ≡ false
-    by true c none is = absurd (false≢true (sym none ∙ is))
-    by false c none is = refl
+    by b c h1 h2 = grind (arith, common_steps, nat_tests)
 
 module _ (s : ℕ) (end : Machine) where
   -- ---- steps that read
@@ -144,12 +145,7 @@ module _ (s : ℕ) (end : Machine) where
   -- ---- a write
 
   write_done : (op : Op) (m : Machine) → is_write op ≡ true → done_resumed s op m ≡ all_paid s (admit m s op Well).state
-  write_done (Get key) m is = absurd (false≢true is)
-  write_done (Hold low high) m is = absurd (false≢true is)
-  write_done (Next n) m is = absurd (false≢true is)
-  write_done Release m is = absurd (false≢true is)
-  write_done (Work n) m is = absurd (false≢true is)
-  write_done _ m is = refl
+  write_done op m h1 = grind (arith, common_steps, nat_tests)
 
   abbrev Steps : Machine → Kind → Outcome → ℕ → Type 0
   Steps m k outcome seat =
@@ -199,8 +195,7 @@ module _ (s : ℕ) (end : Machine) where
   own_pays m outcome is ok before rest = by (owes s m) refl
     where
       some_entry : IsEven s m ⊎ (0 < length m.book.entries) → owes s m ≡ true → 0 < length m.book.entries
-      some_entry (inl even) owing = absurd (false≢true (sym (not_owing s m even) ∙ owing))
-      some_entry (inr some) owing = some
+      some_entry h1 h2 = grind (arith, common_steps, nat_tests)
 
       no_work_open : ((work_of s m).turns ≡ 0) ⊎ (IsEven s m × RestsOnceOver s m) → owes s m ≡ true → (work_of s m).turns ≡ 0
       no_work_open (inl none) owing = none
@@ -243,12 +238,7 @@ module _ (s : ℕ) (end : Machine) where
   -- a work that goes on to the same end leads to the same
   work_alike : (old new : Machine) (n : ℕ) (ops more : List Op) → IsEven s old → IsEven s new → ops ≡ Work n ∷ more → done_resumed s (Work n) new ≡ done_resumed s (Work n) old
       → but_left (alone_resumed s (all_paid s new) ops) ≡ but_left (alone_resumed s (all_paid s old) ops)
-  work_alike old new n ops more even even_too are same =
-      ap (λ x. but_left (alone_resumed s x ops)) (even_paid (first_debt new.gears s + second_debt new.gears s) s new even_too)
-      ∙ ap (λ os. but_left (alone_resumed s new os)) are
-      ∙ ap (λ x. but_left (alone_resumed s x more)) same
-      ∙ sym (ap (λ os. but_left (alone_resumed s old os)) are)
-      ∙ sym (ap (λ x. but_left (alone_resumed s x ops)) (even_paid (first_debt old.gears s + second_debt old.gears s) s old even))
+  work_alike old new n ops more even even_too are same = grind (arith, common_steps, nat_tests, alone_resumed, even_paid)
 
   turn_leads : (m new : Machine) → IsAlone s m → s < length m.seats.work → new ≡ (work_turn m s Well).state → IsEven s m → Turns s m new → Leads s new end → Leads s m end
   turn_leads m new is within well even turns leads =
@@ -284,10 +274,7 @@ module _ (s : ℕ) (end : Machine) where
 
   -- another seat's turn would leave an open work
   pub no_other_turns : (m : Machine) (seat : ℕ) (outcome : Outcome) → IsAlone s m → may m seat kind.WorkTurn ≡ true → (work_turn m seat outcome).state.stopped ≡ None → (work_of seat (work_turn m seat outcome).state).turns ≡ 0 → ⊥
-  no_other_turns m seat outcome is ok runs none =
-      let below = turning_caller m seat ok in
-      let turns = subst (λ x. Turns seat m x) (sym (turn_as_well m seat outcome runs)) (turn_turns m seat is.runs (omega (arith, below, is.works))) in
-      omega (arith, turns.turns, none)
+  no_other_turns m seat outcome is ok runs none = grind (arith, common_steps, nat_tests, turn_as_well, turn_turns)
 
   -- ---- a caller leaves
 

@@ -1,29 +1,29 @@
 -- Each payment lowers what is owed, so as many payments as bytes are owed are enough.
-use Rattle.std.proofs.Common.{◌≡◌, ◌∙◌, refl, ap, sym, subst, ℕ, zero, suc, ◌+◌, ◌-◌, ◌<◌, ◌≤◌, Bool, cond, true, false, not, ◌&&◌, ◌||◌, List, [], ◌∷◌, Option, Some, None, is_some, arith, ltb-true}
-use Rattle.std.specs.Prelude.{nat_lt, slice_index, slice_set, sum_by}
-use Rattle.std.specs.Ordering.{eq_by_cmp, is_eq}
+use Rattle.std.proofs.Common.{◌≡◌, ◌∙◌, refl, ap, sym, subst, ℕ, zero, suc, ◌+◌, ◌<◌, ◌≤◌, Bool, cond, true, false, not, ◌&&◌, ◌||◌, List, [], ◌∷◌, Option, Some, None, is_some, arith, ltb-true}
+use Rattle.std.proofs.lemmas.Grind.{common_steps}
+use Rattle.std.specs.Prelude.{slice_index, slice_set}
+use Rattle.std.specs.Ordering.{is_eq}
 use Rattle.std.specs.Cmp.{tied_itself}
 use Rattle.std.specs.FinMap.{put}
 use Rattle.std.specs.FinMap.Entries.{by_order}
 use Rattle.std.specs.declared.cmp.Ordering.{Ordering}
 use Rattle.std.specs.declared.cmp.Ordering.TheVariants.{Less, Equal, Greater}
-use Rattle.std.proofs.lemmas.Bool.{false≢true}
 use Rattle.std.proofs.lemmas.Bool.Decides.{nat_tests}
 use Rattle.std.proofs.lemmas.Cmp.{nat_list_cmp_total}
 use Rattle.std.proofs.lemmas.List.Sums.{sum_by-cons}
 use Rattle.blsm_model.specs.Keys.{key_cmp}
 use Rattle.blsm_model.specs.declared.history.Why.{Why}
 use Rattle.blsm_model.specs.declared.key.Key.{Key}
-use Rattle.gear_sched.specs.Gears.{first_debt, forgives_first, forgives_second, left_of, plan_for, second_debt}
+use Rattle.gear_sched.specs.Gears.{first_debt, left_of, plan_for, second_debt}
 use Rattle.gear_sched.specs.declared.Plan.{Plan}
 use Rattle.gear_sched.specs.declared.Plan.TheVariants.{Snow, Deep, Nothing}
-use Rattle.record_delta.specs.Entries.{Entries, above, folded_over, record_of_key}
+use Rattle.record_delta.specs.Entries.{Entries, folded_over, record_of_key}
 use Rattle.record_delta.specs.Folding.{over}
 use Rattle.record_delta.specs.Records.{weight}
 use Rattle.record_delta.specs.declared.record.Rec.{Rec}
-use Rattle.tree_machine.specs.Machine.{Machine, deep_done, deep_is_done, in_deep, in_pass, owes, pass_done, pass_is_done}
-use Rattle.tree_machine.specs.Merges.{Merge, group_weight, is_done, is_empty, quantum_of, until, weight_of_any}
-use Rattle.tree_machine.specs.Moves.{deep_quantum, deep_quantum_of, pass_quantum, pass_quantum_of}
+use Rattle.tree_machine.specs.Machine.{Machine, owes}
+use Rattle.tree_machine.specs.Merges.{Merge, group_weight, is_done, is_empty, quantum_of, weight_of_any}
+use Rattle.tree_machine.specs.Moves.{deep_quantum, pass_quantum}
 use Rattle.tree_machine.specs.Steps.{Well, forgive, pay, pay_planned, pay_running}
 use Rattle.alone_run.specs.Alone.{all_paid, paid}
 use Rattle.alone_run.proofs.Moves.{Synced, deep_quantum_moves, pass_quantum_moves}
@@ -36,17 +36,10 @@ weighs_some : (key : Key) (rec : Rec) → 0 < weight key rec
 weighs_some key rec = omega arith
 
 more_weigh : (e : Key × Rec) (newer older : Entries) (key : Key) → 0 < group_weight newer older key → 0 < group_weight (e ∷ newer) older key
-more_weigh e newer older key some = by (eq_by_cmp key_cmp key e.0)
-  where
-    by : (b : Bool) → 0 < weight_of_any key (cond b (Some e.1) (record_of_key key newer)) + weight_of_any key (record_of_key key older)
-    by true = let here = weighs_some key e.1 in omega (arith, here)
-    by false = some
+more_weigh e newer older key some = grind (arith, common_steps, nat_tests)
 
 first_weighs : (e : Key × Rec) (newer older : Entries) → 0 < group_weight (e ∷ newer) older e.0
-first_weighs e newer older =
-    let here : weight_of_any e.0 (record_of_key e.0 (e ∷ newer)) ≡ weight e.0 e.1 = ap (λ o. weight_of_any e.0 (cond (is_eq o) (Some e.1) (record_of_key e.0 newer))) (tied_itself nat_list_cmp_total e.0) in
-    let some = weighs_some e.0 e.1 in
-    omega (arith, here, some)
+first_weighs e newer older = grind (arith, common_steps, nat_tests, nat_list_cmp_total, weighs_some)
 
 -- the first group weighs something, and there is one unless both lists are empty
 abbrev FirstWeighs : Entries → Entries → Entries → Type 0
@@ -71,15 +64,7 @@ fold_first [] (e ∷ older) =
 fold_first (e ∷ newer) older = put_first e (over e.1 (record_of_key e.0 (folded_over newer older))) newer older (folded_over newer older) (fold_first newer older)
 
 took_some : (quantum : ℕ) (merge : Merge) (newer older : Entries) → is_done merge newer older ≡ false → 0 < (quantum_of quantum merge newer older).weight
-took_some quantum merge newer older left = by (folded_over (above merge.cursor newer) (above merge.cursor older)) (fold_first (above merge.cursor newer) (above merge.cursor older))
-  where
-    by : (groups : Entries) → FirstWeighs (above merge.cursor newer) (above merge.cursor older) groups
-        → 0 < sum_by (λ e. group_weight (above merge.cursor newer) (above merge.cursor older) e.0) (until quantum (group_weight (above merge.cursor newer) (above merge.cursor older)) groups)
-    by [] none = absurd (false≢true (sym left ∙ none))
-    by (g ∷ groups) first =
-        let more = cond (nat_lt (group_weight (above merge.cursor newer) (above merge.cursor older) g.0) quantum) (until (quantum - group_weight (above merge.cursor newer) (above merge.cursor older) g.0) (group_weight (above merge.cursor newer) (above merge.cursor older)) groups) [] in
-        let sum = sum_by-cons (λ (e : Key × Rec). group_weight (above merge.cursor newer) (above merge.cursor older) e.0) g more in
-        omega (arith, sum, first)
+took_some quantum merge newer older left = grind (arith, common_steps, nat_tests, fold_first, sum_by-cons)
 
 -- ---- each payment lowers what is owed
 
@@ -92,21 +77,17 @@ set_at_most (d ∷ debts) zero n = omega arith
 set_at_most (d ∷ debts) (suc seat) n = set_at_most debts seat n
 
 left_at_most : (b : Bool) (debt : ℕ) → left_of b debt ≤ debt
-left_at_most true debt = omega arith
-left_at_most false debt = omega arith
+left_at_most b debt = grind (arith, common_steps, nat_tests)
 
 -- what is left of a debt was not forgiven
 not_forgiven : (b : Bool) (debts : List ℕ) (seat debt : ℕ) → 0 < slice_index (slice_set debts seat (left_of b debt)) seat → b ≡ false
-not_forgiven true debts seat debt some = absurd (let most = set_at_most debts seat 0 in omega (arith, most, some))
-not_forgiven false debts seat debt some = refl
+not_forgiven b debts seat debt h1 = grind (arith, common_steps, nat_tests)
 
 neither : (a b : Bool) → (a || b) ≡ false → (a ≡ false) × (b ≡ false)
-neither true b is = absurd (false≢true (sym is))
-neither false b is = (refl, is)
+neither a b h1 = grind (arith, common_steps, nat_tests)
 
 runs_of : (b : Bool) → not b ≡ false → b ≡ true
-runs_of true is = refl
-runs_of false is = sym is
+runs_of b h1 = grind (arith, common_steps, nat_tests)
 
 snow_owes : (first second : ℕ) → plan_for first second ≡ Snow → 0 < first
 snow_owes first second is = grind (arith, nat_tests)
@@ -120,46 +101,13 @@ none_owes first second is = grind (arith, nat_tests)
 module _ (seat : ℕ) where
   -- the debts after what may be forgiven was
   fewer : (m : Machine) → (first_debt (forgive seat m).gears seat ≤ first_debt m.gears seat) × (second_debt (forgive seat m).gears seat ≤ second_debt m.gears seat)
-  fewer m =
-      let b = forgives_first m.gears (not (in_pass m) || pass_done m) (first_debt m.gears seat) in
-      let c = forgives_second m.gears (not (in_deep m) || deep_done m) (second_debt m.gears seat) in
-      let first = set_at_most m.gears.first_debts seat (left_of b (first_debt m.gears seat)) in
-      let second = set_at_most m.gears.second_debts seat (left_of c (second_debt m.gears seat)) in
-      let first_left = left_at_most b (first_debt m.gears seat) in
-      let second_left = left_at_most c (second_debt m.gears seat) in
-      (omega (arith, first, first_left), omega (arith, second, second_left))
+  fewer m = grind (arith, common_steps, nat_tests)
 
   snow_lessens : (m : Machine) → Synced m → 0 < first_debt (forgive seat m).gears seat → owed seat (pass_quantum seat (forgive seat m)) < owed seat m
-  snow_lessens m synced some = by m.merges.pass (sym synced.0 ∙ runs_of (in_pass m) runs.0) runs.1
-    where
-      runs : (not (in_pass m) ≡ false) × (pass_done m ≡ false)
-      runs =
-          neither (not (in_pass m)) (pass_done m)
-          (neither (not (in_pass m) || pass_done m) _ (not_forgiven (forgives_first m.gears (not (in_pass m) || pass_done m) (first_debt m.gears seat)) m.gears.first_debts seat (first_debt m.gears seat) some)).0
-
-      by : (p : Option Merge) → is_some p ≡ true → pass_is_done p m.lists ≡ false → owed seat (pass_quantum_of p seat (forgive seat m)) < owed seat m
-      by None there left = absurd (false≢true there)
-      by (Some pass) there left =
-          let took = took_some m.gears.sizes.quantum pass m.lists.a m.lists.c1 left in
-          let less = set_at_most (forgive seat m).gears.first_debts seat (first_debt (forgive seat m).gears seat - (quantum_of m.gears.sizes.quantum pass m.lists.a m.lists.c1).weight) in
-          let few = fewer m in
-          omega (arith, took, less, few.0, few.1, some)
+  snow_lessens m synced some = grind (arith, common_steps, nat_tests, runs_of, neither, not_forgiven, is_some, took_some, set_at_most)
 
   deep_lessens : (m : Machine) → Synced m → 0 < second_debt (forgive seat m).gears seat → owed seat (deep_quantum seat (forgive seat m)) < owed seat m
-  deep_lessens m synced some = by m.merges.deep (sym synced.1 ∙ runs_of (in_deep m) runs.0) runs.1
-    where
-      runs : (not (in_deep m) ≡ false) × (deep_done m ≡ false)
-      runs =
-          neither (not (in_deep m)) (deep_done m)
-          (neither (not (in_deep m) || deep_done m) _ (not_forgiven (forgives_second m.gears (not (in_deep m) || deep_done m) (second_debt m.gears seat)) m.gears.second_debts seat (second_debt m.gears seat) some)).0
-
-      by : (p : Option Merge) → is_some p ≡ true → deep_is_done p m.lists ≡ false → owed seat (deep_quantum_of p seat (forgive seat m)) < owed seat m
-      by None there left = absurd (false≢true there)
-      by (Some deep) there left =
-          let took = took_some m.gears.sizes.quantum deep m.lists.c1x m.lists.c2 left in
-          let less = set_at_most (forgive seat m).gears.second_debts seat (second_debt (forgive seat m).gears seat - (quantum_of m.gears.sizes.quantum deep m.lists.c1x m.lists.c2).weight) in
-          let few = fewer m in
-          omega (arith, took, less, few.0, few.1, some)
+  deep_lessens m synced some = grind (arith, common_steps, nat_tests, runs_of, neither, not_forgiven, is_some, took_some, set_at_most)
 
   lessens : (m : Machine) → Synced m → m.stopped ≡ None → 0 < owed seat m → owed seat (pay m seat Well).state < owed seat m
   lessens m synced runs some = subst (λ o. owed seat (pay_running o m seat Well).state < owed seat m) (sym runs) (by (plan_for (first_debt (forgive seat m).gears seat) (second_debt (forgive seat m).gears seat)) refl)

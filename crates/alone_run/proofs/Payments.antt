@@ -1,26 +1,21 @@
 -- A payment and a step that only reads may change places; a seat that owes nothing pays nothing.
-use Rattle.std.proofs.Common.{◌≡◌, ◌∙◌, refl, ap, sym, subst, ℕ, zero, suc, ◌+◌, ◌-◌, ◌<◌, ◌≤◌, Bool, cond, true, false, not, ◌&&◌, ◌||◌, ◌⊎◌, inl, inr, List, [], ◌∷◌, ◌++◌, length, Option, Some, None, arith, ltb-false, ltb-true, length-set}
-use Rattle.std.specs.Prelude.{◌==◌, slice_index, slice_set}
-use Rattle.std.proofs.lemmas.List.{set-get_or}
+use Rattle.std.proofs.Common.{◌≡◌, ◌∙◌, refl, ap, sym, subst, ℕ, zero, suc, ◌+◌, ◌<◌, ◌≤◌, Bool, cond, true, false, ◌⊎◌, inl, inr, List, [], ◌∷◌, ◌++◌, length, Option, Some, None, arith, ltb-false, length-set}
+use Rattle.std.proofs.lemmas.Grind.{common_steps}
+use Rattle.std.proofs.lemmas.Bool.Decides.{nat_tests}
+use Rattle.std.specs.Prelude.{slice_index, slice_set}
 use Rattle.blsm_model.specs.Legal.{is_write}
-use Rattle.blsm_model.specs.Histories.{is_done}
-use Rattle.std.proofs.lemmas.List.{length-take-le}
-use Rattle.std.specs.List.{suffix_len}
 use Rattle.blsm_model.specs.Book.{Book, counted_up}
 use Rattle.blsm_model.specs.declared.history.Entry.{Entry}
 use Rattle.blsm_model.specs.declared.history.Reply.{Reply}
 use Rattle.blsm_model.specs.declared.history.Why.{Why}
-use Rattle.blsm_model.specs.declared.history.Why.TheVariants.{Faulted, BadPage}
 use Rattle.blsm_model.specs.declared.op.Op.{Op}
-use Rattle.gear_sched.specs.Gears.{first_debt, forgives_first, forgives_second, left_of, plan_for, second_debt}
+use Rattle.gear_sched.specs.Gears.{first_debt, left_of, plan_for, second_debt}
 use Rattle.gear_sched.specs.declared.Plan.{Plan}
 use Rattle.gear_sched.specs.declared.Plan.TheVariants.{Snow, Deep, Nothing}
 use Rattle.seat_book.proofs.PlaceLemmas.{last_after}
-use Rattle.tree_machine.proofs.ToldLemmas.{some_or_none}
-use Rattle.tree_machine.specs.Machine.{Machine, deep_done, in_deep, in_pass, owes, pass_done}
-use Rattle.tree_machine.specs.Merges.{Merge}
-use Rattle.tree_machine.specs.Moves.{deep_quantum, deep_quantum_of, pass_quantum, pass_quantum_of}
-use Rattle.tree_machine.specs.Steps.{Outcome, Well, FailedAfter, Broken, NoRoom, count_for_write, do_pay, forgive, is_write_by, last_write, pay, pay_planned, pay_running}
+use Rattle.tree_machine.specs.Machine.{Machine, owes}
+use Rattle.tree_machine.specs.Moves.{deep_quantum, pass_quantum}
+use Rattle.tree_machine.specs.Steps.{Outcome, Well, count_for_write, forgive, is_write_by, last_write, pay, pay_planned, pay_running}
 use Rattle.alone_run.specs.Alone.{all_paid, paid}
 use Rattle.alone_run.proofs.Moves.{Moves, deep_quantum_moves, pass_quantum_moves}
 use Rattle.alone_run.proofs.Readings.{Reading, entry_of, read_as, seen}
@@ -32,32 +27,16 @@ abbrev pub IsEven : ℕ → Machine → Type 0
 IsEven seat m = (first_debt m.gears seat ≡ 0) × (second_debt m.gears seat ≡ 0)
 
 forgiven_same : (debts : List ℕ) (seat : ℕ) (b : Bool) → slice_index debts seat ≡ 0 → slice_set debts seat (left_of b (slice_index debts seat)) ≡ debts
-forgiven_same debts seat true none = ap (λ n. slice_set debts seat n) (sym none) ∙ set-get_or debts seat 0
-forgiven_same debts seat false none = set-get_or debts seat 0
+forgiven_same debts seat b h1 = grind (arith, common_steps, nat_tests)
 
 even_forgiven : (seat : ℕ) (m : Machine) → IsEven seat m → forgive seat m ≡ m
-even_forgiven seat m even =
-    ap (λ debts. record (forgive seat m) { gears = record (forgive seat m).gears { first_debts = debts } })
-    (forgiven_same m.gears.first_debts seat (forgives_first m.gears (not (in_pass m) || pass_done m) (first_debt m.gears seat)) even.0)
-    ∙ ap (λ debts. record m { gears = record m.gears { second_debts = debts } })
-    (forgiven_same m.gears.second_debts seat (forgives_second m.gears (not (in_deep m) || deep_done m) (second_debt m.gears seat)) even.1)
+even_forgiven seat m even = grind (arith, common_steps, nat_tests, forgiven_same)
 
 pub even_pays_none : (seat : ℕ) (m : Machine) (outcome : Outcome) → IsEven seat m → (pay m seat outcome).state ≡ m
-even_pays_none seat m outcome even = by m.stopped
-  where
-    nothing : (pay_planned (plan_for (first_debt m.gears seat) (second_debt m.gears seat)) m seat outcome).state ≡ m
-    nothing = ap (λ n. (pay_planned (plan_for n (second_debt m.gears seat)) m seat outcome).state) even.0 ∙ ap (λ n. (pay_planned (plan_for 0 n) m seat outcome).state) even.1
-
-    by : (o : Option Why) → (pay_running o m seat outcome).state ≡ m
-    by (Some why) = refl
-    by None = ap (λ n. (pay_planned (plan_for (first_debt n.gears seat) (second_debt n.gears seat)) n seat outcome).state) (even_forgiven seat m even) ∙ nothing
+even_pays_none seat m outcome even = grind (arith, common_steps, nat_tests, even_forgiven)
 
 pub not_owing : (seat : ℕ) (m : Machine) → IsEven seat m → owes seat m ≡ false
-not_owing seat m even = by (owes seat m) refl
-  where
-    by : (b : Bool) → owes seat m ≡ b → owes seat m ≡ false
-    by false is = is
-    by true is = absurd (let some : 0 < first_debt m.gears seat + second_debt m.gears seat = ltb-true 0 (first_debt m.gears seat + second_debt m.gears seat) is in omega (arith, some, even.0, even.1))
+not_owing seat m even = grind (arith, common_steps, nat_tests)
 
 pub even_of : (seat : ℕ) (m : Machine) → first_debt m.gears seat + second_debt m.gears seat ≡ 0 → IsEven seat m
 even_of seat m none = (omega (arith, none), omega (arith, none))
@@ -72,22 +51,7 @@ even_paid (suc fuel) seat m even = ap (λ b. cond b (paid fuel seat (pay m seat 
 -- ---- a payment that leaves the tree running is as one that went well
 
 pub pay_as_well : (m : Machine) (seat : ℕ) (outcome : Outcome) → (pay m seat outcome).state.stopped ≡ None → (pay m seat outcome).state ≡ (pay m seat Well).state
-pay_as_well m seat outcome = by m.stopped
-  where
-    done : (quantum : Machine → Machine) (n : Machine) (e : Outcome) → (do_pay n quantum seat e).state.stopped ≡ None → (do_pay n quantum seat e).state ≡ (do_pay n quantum seat Well).state
-    done quantum n Well runs = refl
-    done quantum n NoRoom runs = refl
-    done quantum n (FailedAfter commits faults) runs = absurd (some_or_none (Some (Faulted faults)) (Faulted faults) refl runs)
-    done quantum n (Broken page) runs = absurd (some_or_none (Some (BadPage page)) (BadPage page) refl runs)
-
-    planned : (plan : Plan) (n : Machine) → (pay_planned plan n seat outcome).state.stopped ≡ None → (pay_planned plan n seat outcome).state ≡ (pay_planned plan n seat Well).state
-    planned Snow n runs = done (pass_quantum seat) n outcome runs
-    planned Deep n runs = done (deep_quantum seat) n outcome runs
-    planned Nothing n runs = refl
-
-    by : (o : Option Why) → (pay_running o m seat outcome).state.stopped ≡ None → (pay_running o m seat outcome).state ≡ (pay_running o m seat Well).state
-    by (Some why) runs = refl
-    by None runs = planned (plan_for (first_debt (forgive seat m).gears seat) (second_debt (forgive seat m).gears seat)) (forgive seat m) runs
+pay_as_well m seat outcome = grind (arith, common_steps, nat_tests)
 
 -- ---- what a payment keeps
 
@@ -108,18 +72,10 @@ module _ (seat : ℕ) where
   }
 
   pass_lists : (n : Machine) → ((pass_quantum seat n).lists ≡ n.lists) × ((pass_quantum seat n).holds ≡ n.holds)
-  pass_lists n = by n.merges.pass
-    where
-      by : (p : Option Merge) → ((pass_quantum_of p seat n).lists ≡ n.lists) × ((pass_quantum_of p seat n).holds ≡ n.holds)
-      by None = (refl, refl)
-      by (Some pass) = (refl, refl)
+  pass_lists n = grind (arith, common_steps, nat_tests)
 
   deep_lists : (n : Machine) → ((deep_quantum seat n).lists ≡ n.lists) × ((deep_quantum seat n).holds ≡ n.holds)
-  deep_lists n = by n.merges.deep
-    where
-      by : (p : Option Merge) → ((deep_quantum_of p seat n).lists ≡ n.lists) × ((deep_quantum_of p seat n).holds ≡ n.holds)
-      by None = (refl, refl)
-      by (Some deep) = (refl, refl)
+  deep_lists n = grind (arith, common_steps, nat_tests)
 
   pub pay_pays : (m : Machine) → Pays m (pay m seat Well).state
   pay_pays m = by m.stopped
@@ -137,11 +93,7 @@ module _ (seat : ℕ) where
 
   pub paid_seen : (fuel : ℕ) (m : Machine) → seen (paid fuel seat m) ≡ seen m
   paid_seen zero m = refl
-  paid_seen (suc fuel) m = by (owes seat m) (paid_seen fuel (pay m seat Well).state)
-    where
-      by : (b : Bool) → seen (paid fuel seat (pay m seat Well).state) ≡ seen (pay m seat Well).state → seen (cond b (paid fuel seat (pay m seat Well).state) m) ≡ seen m
-      by true rest = rest ∙ (pay_pays m).seen
-      by false rest = refl
+  paid_seen (suc fuel) m = grind (arith, common_steps, nat_tests, paid_seen fuel (pay m seat Well).state)
 
   pub paid_lengths : (fuel : ℕ) (m : Machine) → length m.book.quanta ≡ length m.book.entries → length (paid fuel seat m).book.quanta ≡ length (paid fuel seat m).book.entries
   paid_lengths zero m same = same
@@ -149,17 +101,12 @@ module _ (seat : ℕ) where
     where
       by : (b : Bool) → length (paid fuel seat (pay m seat Well).state).book.quanta ≡ length (paid fuel seat (pay m seat Well).state).book.entries
           → length (cond b (paid fuel seat (pay m seat Well).state) m).book.quanta ≡ length (cond b (paid fuel seat (pay m seat Well).state) m).book.entries
-      by true rest = rest
-      by false rest = same
+      by b h1 = grind (arith, common_steps, nat_tests)
 
   -- ---- it may change places with a step that reads
 
   none_written : (op : Op) (reply : Reply) → is_write op ≡ false → is_write_by seat (entry_of seat op reply) ≡ false
-  none_written op reply is = by ((seat == seat) && is_done reply)
-    where
-      by : (b : Bool) → (b && is_write op) ≡ false
-      by true = is
-      by false = refl
+  none_written op reply is = grind (arith, common_steps, nat_tests)
 
   set_before : (xs : List ℕ) (q place : ℕ) → place < length xs → slice_set (xs ++ q ∷ []) place (slice_index (xs ++ q ∷ []) place + 1) ≡ slice_set xs place (slice_index xs place + 1) ++ q ∷ []
   set_before [] q place within = absurd (omega (arith, within))
@@ -167,8 +114,7 @@ module _ (seat : ℕ) where
   set_before (x ∷ xs) q (suc place) within = ap (λ ys. x ∷ ys) (set_before xs q place (omega (arith, within)))
 
   place_before : (es : List Entry) → 0 < length es → last_write seat es < length es
-  place_before es some =
-      let is = length-take-le (length es - suffix_len (λ x. not (is_write_by seat x)) es - 1) es (omega arith) in omega (arith, some, is)
+  place_before es some = grind (arith, common_steps, nat_tests)
 
   count_reads : (r : Reading) (op : Op) (y : Machine) → is_write op ≡ false → last_write seat y.book.entries < length y.book.quanta
       → count_for_write seat (read_as r seat op y) ≡ read_as r seat op (count_for_write seat y)
@@ -178,18 +124,10 @@ module _ (seat : ℕ) where
       ∙ ap (λ quanta. record (read_as r seat op y) { book = record (read_as r seat op y).book { quanta = quanta } }) (set_before y.book.quanta (r.quanta (seen y)) (last_write seat y.book.entries) before)
 
   pass_reads : (r : Reading) (op : Op) (n : Machine) → pass_quantum seat (read_as r seat op n) ≡ read_as r seat op (pass_quantum seat n)
-  pass_reads r op n = by n.merges.pass
-    where
-      by : (p : Option Merge) → pass_quantum_of p seat (read_as r seat op n) ≡ read_as r seat op (pass_quantum_of p seat n)
-      by None = refl
-      by (Some pass) = refl
+  pass_reads r op n = grind (arith, common_steps, nat_tests)
 
   deep_reads : (r : Reading) (op : Op) (n : Machine) → deep_quantum seat (read_as r seat op n) ≡ read_as r seat op (deep_quantum seat n)
-  deep_reads r op n = by n.merges.deep
-    where
-      by : (p : Option Merge) → deep_quantum_of p seat (read_as r seat op n) ≡ read_as r seat op (deep_quantum_of p seat n)
-      by None = refl
-      by (Some deep) = refl
+  deep_reads r op n = grind (arith, common_steps, nat_tests)
 
   pay_reads : (r : Reading) (op : Op) (m : Machine) → is_write op ≡ false → length m.book.quanta ≡ length m.book.entries → 0 < length m.book.entries
       → (pay (read_as r seat op m) seat Well).state ≡ read_as r seat op (pay m seat Well).state

@@ -1,5 +1,7 @@
 -- Steps that note an entry and leave the merges alone: lookups, holds, and the end of a work.
 use Rattle.std.proofs.Common.{◌≡◌, ◌∙◌, refl, ap, sym, subst, ℕ, zero, suc, ◌+◌, false, List, [], ◌∷◌, ◌++◌, length, take, drop, Option, Some, None, arith}
+use Rattle.std.proofs.lemmas.Grind.{common_steps}
+use Rattle.std.proofs.lemmas.Bool.Decides.{nat_tests}
 use Rattle.std.specs.Prelude.{slice_index, slice_index_or, slice_set}
 use Rattle.std.specs.List.{AllByRecursion}
 use Rattle.std.proofs.lemmas.Bool.{false≢true}
@@ -97,10 +99,7 @@ get_reads m seat key outcome none calm =
     ∙ by outcome (no_trouble m seat (Get key) (reply_unless outcome (answer_to_get (value_in m.lists key))) (replied seat (Get key) (reply_unless outcome (answer_to_get (value_in m.lists key))) m) none refl calm)
   where
     by : (e : Outcome) → is_trouble (reply_unless e (answer_to_get (value_in m.lists key))) ≡ false → (replied seat (Get key) (reply_unless e (answer_to_get (value_in m.lists key))) m).state ≡ read_as (getting key) seat (Get key) m
-    by Well is = refl
-    by NoRoom is = refl
-    by (FailedAfter commits faults) is = absurd (false≢true (sym is))
-    by (Broken page) is = absurd (false≢true (sym is))
+    by e h1 = grind (arith, common_steps, nat_tests)
 
 pub hold_reads : (m : Machine) (seat : ℕ) (low high : Key) (outcome : Outcome) → m.stopped ≡ None → Calm (hold m seat low high outcome).state.book.entries → (hold m seat low high outcome).state ≡ read_as (taking_hold seat low high) seat (Hold low high) m
 hold_reads m seat low high outcome none calm = running_is m seat (Hold low high) (do_hold m seat low high outcome) none ∙ by outcome calm
@@ -124,11 +123,7 @@ next_reads m seat n outcome none calm = running_is m seat (Next n) (do_next m se
 
 -- a next that went well reads so whatever it finds
 pub next_well : (m : Machine) (seat n : ℕ) → m.stopped ≡ None → (next_rows m seat n Well).state ≡ read_as (reading_on seat n) seat (Next n) m
-next_well m seat n none = running_is m seat (Next n) (do_next m seat n Well (held_by seat m)) none ∙ by (held_by seat m)
-  where
-    by : (held : Option (List Row)) → (do_next m seat n Well held).state ≡ read_as (record (reading_on seat n) { reply = λ v. next_reply n held; holds = λ v. next_holds seat n v.holds held }) seat (Next n) m
-    by None = refl
-    by (Some rows) = refl
+next_well m seat n none = grind (arith, common_steps, nat_tests)
 
 pub drop_reads : (m : Machine) (seat : ℕ) → m.stopped ≡ None → (drop_hold m seat).state ≡ read_as (releasing seat) seat Release m
 drop_reads m seat none = running_is m seat Release (replied seat Release (answer_to_release (held_by seat m)) (holding seat None m)) none
@@ -141,6 +136,4 @@ count_last (x ∷ xs) zero q is = absurd (omega (arith, is))
 count_last (x ∷ xs) (suc k) q is = ap (λ ys. x ∷ ys) (count_last xs k q (omega (arith, is)))
 
 pub end_reads : (m : Machine) (seat n : ℕ) → length m.book.quanta ≡ length m.book.entries → (work_end m seat n).state ≡ read_as (ending seat) seat (Work n) m
-end_reads m seat n lengths =
-    ap (λ quanta. record (read_as (ending seat) seat (Work n) m) { book = record (read_as (ending seat) seat (Work n) m).book { quanta = quanta } })
-    (count_last m.book.quanta (length m.book.entries) (work_at seat m.seats.work).quanta (sym lengths))
+end_reads m seat n lengths = grind (arith, common_steps, nat_tests, count_last)

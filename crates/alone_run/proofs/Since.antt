@@ -1,5 +1,7 @@
 -- What an end tells of the states before it: they ran, had no entry that it lacks, and a work that none of the seat's entries ended never began.
-use Rattle.std.proofs.Common.{◌≡◌, ◌≢◌, ◌∙◌, refl, ap, sym, subst, ℕ, zero, suc, ◌+◌, ◌-◌, ◌<◌, Bool, cond, true, false, ◌&&◌, inl, inr, List, [], ◌∷◌, ◌++◌, Option, Some, None, arith, eqb-true, lt-ltb, leb-true}
+use Rattle.std.proofs.Common.{◌≡◌, ◌≢◌, ◌∙◌, refl, ap, sym, subst, ℕ, zero, suc, ◌+◌, ◌-◌, ◌<◌, Bool, cond, true, false, ◌&&◌, inl, inr, List, [], ◌∷◌, ◌++◌, Option, None, arith, eqb-true, lt-ltb, leb-true}
+use Rattle.std.proofs.lemmas.Grind.{common_steps}
+use Rattle.std.proofs.lemmas.Bool.Decides.{nat_tests}
 use Rattle.std.specs.Prelude.{◌==◌, nat_le, nat_lt, slice_index, slice_index_or, slice_set}
 use Rattle.std.specs.List.{AllByRecursion}
 use Rattle.std.proofs.lemmas.Bool.{false≢true, eq-eqb}
@@ -10,8 +12,7 @@ use Rattle.blsm_model.specs.declared.history.Entry.{Entry}
 use Rattle.blsm_model.specs.declared.history.Why.{Why}
 use Rattle.blsm_model.specs.declared.op.Op.TheVariants.{Work}
 use Rattle.tree_machine.proofs.FoldLemmas.{both_hold}
-use Rattle.tree_machine.proofs.FrameLemmas.{step_follows, step_stays}
-use Rattle.tree_machine.proofs.ToldLemmas.{some_or_none}
+use Rattle.tree_machine.proofs.FrameLemmas.{step_follows}
 use Rattle.tree_machine.specs.declared.step.Kind.{Kind}
 use Rattle.tree_machine.specs.declared.step.Kind.TheVariants as kind
 use Rattle.tree_machine.specs.declared.step.Step.{Step}
@@ -50,12 +51,10 @@ one_ran : (m : Machine) (made : Step × Outcome) → (played_one m made).stopped
 one_ran m made = by (may_step m made.0)
   where
     stays : (o : Option Why) → m.stopped ≡ o → (stepped m made.0 made.1).state.stopped ≡ None → o ≡ None
-    stays (Some why) is runs = absurd (some_or_none (stepped m made.0 made.1).state.stopped why (step_stays m made.0.seat made.0.kind made.1 why is) runs)
-    stays None is runs = refl
+    stays o h1 h2 = grind (arith, common_steps, nat_tests)
 
     by : (b : Bool) → (cond b (stepped m made.0 made.1).state m).stopped ≡ None → m.stopped ≡ None
-    by true runs = stays m.stopped refl runs
-    by false runs = runs
+    by b h1 = grind (arith, common_steps, nat_tests)
 
 pub ran_since : (m : Machine) (rest : List (Step × Outcome)) → (played m rest).stopped ≡ None → m.stopped ≡ None
 ran_since m [] runs = runs

@@ -1,8 +1,8 @@
 -- A write that is admitted, and turns of work.
-use Rattle.std.proofs.Common.{◌≡◌, ◌∙◌, refl, ap, sym, subst, ℕ, zero, suc, ◌+◌, ◌-◌, ◌<◌, ◌≤◌, Bool, cond, true, false, not, ◌&&◌, ◌||◌, List, [], ◌∷◌, ◌++◌, length, option_map, replicate, unwrap_or, Option, Some, None, arith, eqb-true, lt-ltb, ltb-true, get_or-set_same, set-set, length-set, length-append}
-use Rattle.std.specs.Prelude.{◌==◌, nat_le, nat_lt, slice_index, slice_index_or, slice_set}
-use Rattle.std.proofs.lemmas.Bool.{false≢true}
-use Rattle.std.proofs.lemmas.List.{set-get_or}
+use Rattle.std.proofs.Common.{◌≡◌, ◌∙◌, refl, ap, sym, subst, ℕ, zero, suc, ◌+◌, ◌-◌, ◌<◌, ◌≤◌, Bool, cond, true, false, ◌&&◌, List, [], ◌∷◌, ◌++◌, length, option_map, replicate, Option, Some, None, arith, eqb-true, lt-ltb, ltb-true, get_or-set_same, set-set, length-set, length-append}
+use Rattle.std.proofs.lemmas.Grind.{common_steps}
+use Rattle.std.proofs.lemmas.Bool.Decides.{nat_tests}
+use Rattle.std.specs.Prelude.{nat_le, nat_lt, slice_index, slice_set}
 use Rattle.blsm_model.specs.Book.{Book, counted_up, noted}
 use Rattle.blsm_model.specs.Format.{callers}
 use Rattle.blsm_model.specs.Geometry.{c1_mark, charge_limit}
@@ -10,21 +10,18 @@ use Rattle.blsm_model.specs.Histories.{writes_of}
 use Rattle.blsm_model.specs.Legal.{total_weight, is_del}
 use Rattle.blsm_model.specs.declared.history.Entry.{Entry}
 use Rattle.blsm_model.specs.declared.history.Reply.{Reply}
-use Rattle.blsm_model.specs.declared.history.Reply.TheVariants.{Done, Did, Full, FaultLost, FaultUnsure, Stopped}
-use Rattle.blsm_model.specs.declared.history.Why.{Why}
-use Rattle.blsm_model.specs.declared.history.Why.TheVariants.{BadPage, Faulted}
+use Rattle.blsm_model.specs.declared.history.Reply.TheVariants.{Done, Full}
 use Rattle.blsm_model.specs.declared.op.Op.{Op}
 use Rattle.blsm_model.specs.declared.op.Op.TheVariants.{Work}
 use Rattle.record_delta.specs.Entries.{entries_weight}
 use Rattle.tree_machine.proofs.FoldLemmas.{both, both_hold}
 use Rattle.tree_machine.proofs.PlayLemmas.{of_replicate}
-use Rattle.tree_machine.proofs.ToldLemmas.{some_or_none}
-use Rattle.tree_machine.specs.Machine.{Machine, Idle, WorkSoFar, charge, is_worked, no_work, work_of}
+use Rattle.tree_machine.specs.Machine.{Machine, Idle, WorkSoFar, charge, no_work, work_of}
 use Rattle.tree_machine.specs.Merges.{Merge, quantum_of}
-use Rattle.tree_machine.specs.Moves.{end_pass, note, output_of, pass_quantum_of, deep_quantum_of, rotate, stop, with_peak}
+use Rattle.tree_machine.specs.Moves.{end_pass, note, output_of, pass_quantum_of, deep_quantum_of, rotate, with_peak}
 use Rattle.tree_machine.specs.Outcomes.{work_choice}
 use Rattle.tree_machine.specs.Plays.{is_finished}
-use Rattle.tree_machine.specs.Steps.{Choice, SwapDeep, SwapPass, DeepQuantum, PassQuantum, Begin, Rotate, Rest, Outcome, Well, FailedAfter, Broken, NoRoom, admit, admit_fitting, chosen, deep_swapped, do_turn, ended_as, is_idle, quanta_of, ready_for, replied, reply_by, swaps_due, taken_once, with_turn, work_end, work_noted, work_reply, work_turn, work_turning}
+use Rattle.tree_machine.specs.Steps.{Choice, SwapDeep, SwapPass, DeepQuantum, PassQuantum, Begin, Rotate, Rest, Outcome, Well, admit, admit_fitting, chosen, ended_as, is_idle, quanta_of, ready_for, replied, taken_once, with_turn, work_end, work_noted, work_turn, work_turning}
 use Rattle.alone_run.specs.Alone.{is_over, turned}
 use Rattle.alone_run.proofs.Moves.{Moves, Synced, chosen_moves, moves_none, moves_on, ready_moves, taken_moves}
 use Rattle.alone_run.proofs.Payments.{IsEven}
@@ -33,31 +30,7 @@ use Rattle.alone_run.proofs.Readings.{entry_of, running_is}
 -- ---- a write that leaves the tree running is as one that went well
 
 pub admit_as_well : (m : Machine) (seat : ℕ) (op : Op) (outcome : Outcome) → m.stopped ≡ None → (admit m seat op outcome).state.stopped ≡ None → (admit m seat op outcome).state ≡ (admit m seat op Well).state
-admit_as_well m seat op outcome none runs =
-    let weight = total_weight (writes_of op) in
-    let full = nat_lt (charge_limit m.gears.sizes (is_del op)) (charge m + weight) in
-    let made = λ (e : Outcome). cond full (replied seat op (Full (charge m)) m) (admit_fitting m seat op weight e) in
-    running_is m seat op (made outcome) none
-    ∙ by full (subst (λ (n : Machine). n.stopped ≡ None) (running_is m seat op (made outcome) none) runs)
-    ∙ sym (running_is m seat op (made Well) none)
-  where
-    failed : (commits faults : ℕ) (b : Bool)
-        → (cond b (replied seat op FaultLost (stop (Faulted faults) (cond (commits == 0) m (deep_swapped m)))) (replied seat op FaultUnsure (stop (Faulted faults) (ready_for (total_weight (writes_of op)) m)))).state.stopped ≡ None
-        → ⊥
-    failed commits faults true runs = some_or_none (Some (Faulted faults)) (Faulted faults) refl runs
-    failed commits faults false runs = some_or_none (Some (Faulted faults)) (Faulted faults) refl runs
-
-    fitting : (e : Outcome) → (admit_fitting m seat op (total_weight (writes_of op)) e).state.stopped ≡ None → (admit_fitting m seat op (total_weight (writes_of op)) e).state ≡ (admit_fitting m seat op (total_weight (writes_of op)) Well).state
-    fitting Well runs = refl
-    fitting NoRoom runs = refl
-    fitting (Broken page) runs = refl
-    fitting (FailedAfter commits faults) runs = absurd (failed commits faults (nat_lt commits (swaps_due m)) runs)
-
-    by : (b : Bool) → (cond b (replied seat op (Full (charge m)) m) (admit_fitting m seat op (total_weight (writes_of op)) outcome)).state.stopped ≡ None
-        → (cond b (replied seat op (Full (charge m)) m) (admit_fitting m seat op (total_weight (writes_of op)) outcome)).state
-        ≡ (cond b (replied seat op (Full (charge m)) m) (admit_fitting m seat op (total_weight (writes_of op)) Well)).state
-    by true runs = refl
-    by false runs = fitting outcome runs
+admit_as_well m seat op outcome none runs = grind (arith, common_steps, nat_tests)
 
 -- it notes one entry
 pub record Notes (seat : ℕ) (op : Op) (old new : Machine) : Type 0 where
@@ -97,17 +70,7 @@ admit_notes m seat op none =
 -- ---- a turn that leaves the tree running is as one that went well
 
 pub turn_as_well : (m : Machine) (seat : ℕ) (outcome : Outcome) → (work_turn m seat outcome).state.stopped ≡ None → (work_turn m seat outcome).state ≡ (work_turn m seat Well).state
-turn_as_well m seat outcome runs = ap (λ turning. work_noted seat (with_turn (work_of seat m) turning) turning.state) (by m.stopped runs)
-  where
-    turning : (c : Choice) (e : Outcome) → (do_turn c e seat m).state.stopped ≡ None → do_turn c e seat m ≡ do_turn c Well seat m
-    turning c Well runs = refl
-    turning c NoRoom runs = refl
-    turning c (FailedAfter commits faults) runs = absurd (some_or_none (Some (Faulted faults)) (Faulted faults) refl runs)
-    turning c (Broken page) runs = absurd (some_or_none (Some (BadPage page)) (BadPage page) refl runs)
-
-    by : (o : Option Why) → (work_turning o m seat outcome).state.stopped ≡ None → work_turning o m seat outcome ≡ work_turning o m seat Well
-    by (Some why) runs = refl
-    by None runs = turning (work_choice m) outcome runs
+turn_as_well m seat outcome runs = grind (arith, common_steps, nat_tests)
 
 -- what the work is after a turn of this choice
 abbrev pub work_after : Choice → WorkSoFar → WorkSoFar
@@ -129,9 +92,7 @@ pub replicated : (seat : ℕ) → slice_index (replicate callers 0) seat ≡ 0
 replicated seat = of_replicate 16 seat 0
 
 none_taken : (debts : List ℕ) (seat n : ℕ) → slice_index debts seat ≡ 0 → slice_index (slice_set debts seat (slice_index debts seat - n)) seat ≡ 0
-none_taken debts seat n none =
-    let less : slice_index debts seat - n ≡ slice_index debts seat = omega (arith, none) in
-    ap (λ (ds : List ℕ). slice_index ds seat) (ap (λ k. slice_set debts seat k) less ∙ set-get_or debts seat 0) ∙ none
+none_taken debts seat n none = grind (arith, common_steps, nat_tests)
 
 chosen_even : (c : Choice) (seat : ℕ) (m : Machine) → IsEven seat m → IsEven seat (chosen c seat m)
 chosen_even SwapDeep seat m even = (even.0, replicated seat)
@@ -173,13 +134,7 @@ module _ (m : Machine) (seat : ℕ) (none : m.stopped ≡ None) (within : seat <
   work_is c = get_or-set_same (chosen c seat m).seats.work seat (work_after c (work_of seat m)) no_work (subst (λ (ws : List WorkSoFar). seat < length ws) (sym (chosen_moves c seat m).work) within)
 
   rests_by : (c : Choice) → work_choice m ≡ c → is_over (work_after c (work_of seat m)) ≡ true → (ended_as c ≡ Idle) × (work_choice (turn_of c seat m) ≡ Rest)
-  rests_by SwapDeep is over = absurd (false≢true (both_hold (nat_lt 0 ((work_of seat m).turns + 1)) false over).1)
-  rests_by SwapPass is over = absurd (false≢true (both_hold (nat_lt 0 ((work_of seat m).turns + 1)) false over).1)
-  rests_by DeepQuantum is over = absurd (false≢true (both_hold (nat_lt 0 ((work_of seat m).turns + 1)) false over).1)
-  rests_by PassQuantum is over = absurd (false≢true (both_hold (nat_lt 0 ((work_of seat m).turns + 1)) false over).1)
-  rests_by Begin is over = absurd (false≢true (both_hold (nat_lt 0 ((work_of seat m).turns + 1)) false over).1)
-  rests_by Rotate is over = absurd (false≢true (both_hold (nat_lt 0 ((work_of seat m).turns + 1)) false over).1)
-  rests_by Rest is over = (refl, is)
+  rests_by c h1 h2 = grind (arith, common_steps, nat_tests)
 
   pub turn_turns : Turns seat m (work_turn m seat Well).state
   turn_turns = subst (λ n. Turns seat m n) (sym (turn_is m seat none)) (record {
@@ -199,14 +154,7 @@ abbrev ended_with : ℕ → ℕ → Reply → ℕ → List WorkSoFar → Machine
 ended_with seat n reply quanta works m = record m { book = counted_up (noted m.book (entry_of seat (Work n) reply)) (length m.book.entries) quanta; seats = record m.seats { work = works } }
 
 end_again : (m : Machine) (seat n : ℕ) → seat < length m.seats.work → (work_of seat m).last ≡ Idle → (work_end (turn_of Rest seat m) seat n).state ≡ (work_end m seat n).state
-end_again m seat n within idle =
-    let work = work_of seat m in
-    let works = slice_set m.seats.work seat (work_after Rest work) in
-    let is : slice_index_or works seat no_work ≡ work_after Rest work = get_or-set_same m.seats.work seat (work_after Rest work) no_work within in
-    ap (λ w. ended_with seat n (work_reply w m.stopped) w.quanta (slice_set works seat no_work) m) is
-    ∙ ap (λ quanta. ended_with seat n (work_reply (work_after Rest work) m.stopped) quanta (slice_set works seat no_work) m) (let same : work.quanta + 0 ≡ work.quanta = omega arith in same)
-    ∙ ap (λ last. ended_with seat n (reply_by last (unwrap_or (option_map (λ why. Stopped why) m.stopped) (Did work.worked))) work.quanta (slice_set works seat no_work) m) (sym idle)
-    ∙ ap (λ ws. ended_with seat n (work_reply work m.stopped) work.quanta ws m) (set-set m.seats.work seat (work_after Rest work) no_work)
+end_again m seat n within idle = grind (arith, common_steps, nat_tests, get_or-set_same, option_map, set-set)
 
 -- ---- the turns that are left
 
@@ -236,16 +184,4 @@ turned_first m seat n none within rests few =
 
 -- a work that may end has no turns left, and had no more than that
 pub finished : (m : Machine) (seat n : ℕ) → is_finished n (work_of seat m) ≡ true → (turned (n - (work_of seat m).turns) seat m ≡ m) × ((work_of seat m).turns ≤ n)
-finished m seat n is = by ((work_of seat m).turns == n) refl is
-  where
-    by : (b : Bool) → ((work_of seat m).turns == n) ≡ b → (b || ((nat_lt 0 (work_of seat m).turns && nat_lt (work_of seat m).turns n) && not (is_worked (work_of seat m).last))) ≡ true
-        → (turned (n - (work_of seat m).turns) seat m ≡ m) × ((work_of seat m).turns ≤ n)
-    by true all over =
-        let same : (work_of seat m).turns ≡ n = eqb-true (work_of seat m).turns n all in
-        let none : n - (work_of seat m).turns ≡ 0 = omega (arith, same) in
-        (ap (λ k. turned k seat m) none, omega (arith, same))
-    by false some over =
-        let parts = both_hold (nat_lt 0 (work_of seat m).turns && nat_lt (work_of seat m).turns n) (not (is_worked (work_of seat m).last)) over in
-        let few = both_hold (nat_lt 0 (work_of seat m).turns) (nat_lt (work_of seat m).turns n) parts.0 in
-        let less = ltb-true (work_of seat m).turns n few.1 in
-        (turned_over (n - (work_of seat m).turns) seat m (both (nat_lt 0 (work_of seat m).turns) (not (is_worked (work_of seat m).last)) few.0 parts.1), omega (arith, less))
+finished m seat n is = grind (arith, common_steps, nat_tests, eqb-true, both_hold, ltb-true, turned_over, both)

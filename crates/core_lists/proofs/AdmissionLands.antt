@@ -1,6 +1,9 @@
 -- An admission's moves, over the lists.
 use Rattle.std.specs.Prelude.{is_some, nat_lt}
-use Rattle.std.proofs.Common.{◌≡◌, ◌∙◌, ℕ, ◌+◌, Bool, true, false, cond, not, ◌&&◌, List, ⊎_elim, refl, ap, sym, subst}
+use Rattle.std.proofs.lemmas.Grind.{common_steps}
+use Rattle.std.proofs.lemmas.Bool.Decides.{nat_tests}
+use Rattle.std.proofs.Common.{arith}
+use Rattle.std.proofs.Common.{◌≡◌, ◌∙◌, ℕ, ◌+◌, Bool, true, false, cond, not, ◌&&◌, List, ⊎_elim, ap, sym, subst}
 use Rattle.blsm_model.specs.Sizes.{Sizes}
 use Rattle.blsm_model.specs.declared.op.Write.{Write}
 use Rattle.blsm_model.specs.declared.history.Reply.TheVariants.{Done}
@@ -8,7 +11,7 @@ use Rattle.blsm_model.specs.Histories.{writes_of}
 use Rattle.blsm_model.specs.Legal.{total_weight}
 use Rattle.blsm_model.specs.Values.{key_of}
 use Rattle.record_delta.specs.Records.{record_of}
-use Rattle.gear_sched.specs.Gears.{GearState, pass_ended, rotated}
+use Rattle.gear_sched.specs.Gears.{GearState}
 use Rattle.seat_book.specs.State.{noted_in}
 use Rattle.tree_machine.specs.Machine.{Machine, in_pass, pass_done, deep_done}
 use Rattle.tree_machine.specs.Moves.{begin_pass, swap_deep, swap_pass, take_write, with_peak, note}
@@ -16,10 +19,9 @@ use Rattle.tree_machine.specs.Steps.{deep_swapped, swapped, ready_for, taken_onc
 use Rattle.tree_machine.proofs.CarryLemmas.{deep_swapped_carries, swapped_carries, ready_carries}
 use Rattle.tree_file.specs.Tree.{Tree}
 use Rattle.tree_log.specs.Log.{appended}
-use Rattle.tree_runs.specs.Runs.{made_by_pass}
 use Rattle.tree_runs.specs.Holding.{AreOf}
 use Rattle.core_moves.specs.declared.held.Held.{Held}
-use Rattle.core_moves.specs.Held.{goes_ahead, is_run_full}
+use Rattle.core_moves.specs.Held.{goes_ahead}
 use Rattle.core_moves.specs.Moves.{SettlesDeep, SettlesPass, with_pass_begun, with_book}
 use Rattle.core_lists.specs.Standing.{IsAt}
 use Rattle.core_lists.specs.Lists.{Agrees}
@@ -30,8 +32,7 @@ use Rattle.core_lists.proofs.TestLemmas.{tests_agree_with_lists}
 
 -- a test that doesn't hold fails
 fails : (b : Bool) → (b ≡ true → ⊥) → b ≡ false
-fails true never = absurd (never refl)
-fails false never = refl
+fails b h1 = grind (arith, common_steps, nat_tests)
 
 -- the same core with another tree, over the same file
 pub same_tree : (held new : Held) (tree next : Tree) (m : Machine) (file after : List ℕ) → new ≡ held → next ≡ tree → IsAt held tree m file → AreOf new.runs next new.log.a.entries after → IsAt new next m after
@@ -85,20 +86,10 @@ beginning_lands w held tree m file at sound sizes are_of =
 
 -- the swaps leave the sizes
 sizes_after_deep : (old new : Held) → SettlesDeep old new → old.gears.sizes ≡ old.runs.sizes → new.gears.sizes ≡ new.runs.sizes
-sizes_after_deep old new settles sizes =
-    ⊎_elim (λ done. ap (λ (g : GearState). g.sizes) done.1.gears ∙ sizes ∙ sym done.1.runs.sizes)
-    (λ rests. subst (λ (h : Held). h.gears.sizes ≡ h.runs.sizes) (sym rests.1) sizes)
-    settles
+sizes_after_deep old new settles sizes = grind (arith, common_steps, nat_tests)
 
 sizes_after_pass : (old new : Held) → SettlesPass old new → old.gears.sizes ≡ old.runs.sizes → new.gears.sizes ≡ new.runs.sizes
-sizes_after_pass old new settles sizes =
-    ⊎_elim (λ done. ap (λ (g : GearState). g.sizes) done.1.gears ∙ by (is_run_full old) ∙ sizes ∙ sym done.1.runs.sizes)
-    (λ rests. subst (λ (h : Held). h.gears.sizes ≡ h.runs.sizes) (sym rests.1) sizes)
-    settles
-  where
-    by : (b : Bool) → (cond b (rotated (pass_ended old.gears) ((made_by_pass old.runs.pass).weight + old.runs.catalogue.c2.weight)) (pass_ended old.gears)).sizes ≡ old.gears.sizes
-    by true = refl
-    by false = refl
+sizes_after_pass old new settles sizes = grind (arith, common_steps, nat_tests)
 
 pub readying_lands : ReadyingLands
 readying_lands w old settled ready tree middle next m before after file between last at sound way sizes has then_has moves =

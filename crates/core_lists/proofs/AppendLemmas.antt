@@ -1,8 +1,9 @@
 -- What the images show of a write that is appended.
 use Rattle.std.proofs.Common.{◌≡◌, ◌∙◌, ℕ, ◌+◌, ◌≤◌, Bool, true, false, cond, ◌&&◌, List, [], ◌∷◌, ◌++◌, flat_map, length, Option, ⊎_elim, refl, ap, sym, subst, append-nil, length-append, arith}
+use Rattle.std.proofs.lemmas.Grind.{common_steps}
+use Rattle.std.proofs.lemmas.Bool.Decides.{nat_tests}
 use Rattle.std.specs.Prelude.{nat_lt}
 use Rattle.std.specs.List.{AllByRecursion}
-use Rattle.std.proofs.lemmas.Bool.{ltb-true}
 use Rattle.std.proofs.lemmas.List.{flat_map_more}
 use Rattle.std.proofs.lemmas.List.Sums.{sum_by_push}
 use Rattle.blsm_model.specs.Sizes.{Sizes}
@@ -44,7 +45,7 @@ use Rattle.tree_machine.proofs.LightLemmas.{write_is_light}
 use Rattle.tree_machine.proofs.CarryLemmas.{ready_carries}
 use Rattle.paced_tree.specs.Kept.{IsPacedTree}
 use Rattle.paced_tree.specs.Numbers.{IsPaceOf}
-use Rattle.paced_tree.specs.After.{weight_after, admitted, after_admission, unless_stopped, pace_after}
+use Rattle.paced_tree.specs.After.{weight_after, pace_after}
 use Rattle.paced_tree.proofs.Admissions.{Goes}
 use Rattle.paced_tree.proofs.Counted.{lands_at, writes_once}
 use Rattle.paced_tree.proofs.Moves.{ready_of}
@@ -64,11 +65,7 @@ use Rattle.core_lists.proofs.WriteLands.{same_way, write_has_lists}
 
 -- a test that fails
 pub not_past : (limit n : ℕ) → n ≤ limit → nat_lt limit n ≡ false
-not_past limit n fits = by (nat_lt limit n) refl
-  where
-    by : (b : Bool) → nat_lt limit n ≡ b → b ≡ false
-    by true past = absurd (omega (arith, fits, ltb-true limit n past))
-    by false past = refl
+not_past limit n fits = grind (arith, common_steps, nat_tests)
 
 module _ (opening : List (Key × Value)) (m : Machine) (pace : Pace) (fronts : Fronts) (seat : ℕ) (op : Op) (write : Write) (begun : Held) (tree : Tree)
     (is : MayAppend opening m pace fronts seat op write begun tree) where
@@ -113,11 +110,7 @@ module _ (opening : List (Key × Value)) (m : Machine) (pace : Pace) (fronts : F
       ∙ ap (λ (ws : List Write). note seat op Done (with_peak (taken_once seat ws ready))) is.writes
 
   pace_is : pace_after m pace seat (kind.Admit op) Well ≡ then_pace
-  pace_is =
-      ap (λ (o : Option Why). unless_stopped o pace (cond (nat_lt (charge_limit m.gears.sizes (is_del op)) (charge m + w)) pace (after_admission m pace seat op w Well))) is.runs
-      ∙ ap (λ (b : Bool). cond b pace (after_admission m pace seat op w Well)) within
-      ∙ ap (λ (ws : List Write). admitted seat op ws ready pace) is.writes
-      ∙ ap (λ (n : ℕ). pacing_after pace (Admit seat n (is_del op) ahead then_weighs)) (sym (ap total_weight is.writes))
+  pace_is = grind (arith, common_steps, nat_tests)
 
   wrote_paced : IsPacedTree opening wrote then_pace
   wrote_paced = subst (λ (s : Machine). IsPacedTree opening s then_pace) state_is
@@ -199,9 +192,7 @@ module _ (opening : List (Key × Value)) (m : Machine) (pace : Pace) (fronts : F
   counts_in = sym (flat_map_more counted (puts_of opening) m.book.entries done)
 
   counts_in_doubt : (b : Bool) → puts_of opening ++ flat_map (counted_with b) (history_with seat op FaultUnsure m) ≡ before ++ counted_with b unsure
-  counts_in_doubt b =
-      sym (flat_map_more (counted_with b) (puts_of opening) m.book.entries unsure)
-      ∙ ap (λ (ws : List Write). (puts_of opening ++ ws) ++ counted_with b unsure) (running_writes b m.book.entries (is.paced.stands.told.running is.runs))
+  counts_in_doubt b = grind (arith, common_steps, nat_tests, flat_map_more, running_writes)
 
   shows_done : (file : List ℕ) → HoldsTree m.gears.sizes (with_appended write begun tree) file → ShowsHistory m.gears.sizes opening (history_with seat op Done m) (length m.book.entries + 1) file
   shows_done file holds =

@@ -1,26 +1,24 @@
 -- What a file weighs that holds the tree, also within an admission.
-use Rattle.std.specs.Prelude.{nat_le, nat_lt, sum}
-use Rattle.std.proofs.Common.{◌≡◌, ◌∙◌, ℕ, ◌+◌, ◌*◌, ◌≤◌, Bool, true, false, cond, not, ◌&&◌, ◌||◌, List, [], ◌∷◌, ◌++◌, refl, ap, sym, subst, arith}
-use Rattle.std.proofs.lemmas.Bool.{false≢true}
+use Rattle.std.specs.Prelude.{nat_le, nat_lt}
+use Rattle.std.proofs.lemmas.Grind.{common_steps}
+use Rattle.std.proofs.lemmas.Bool.Decides.{nat_tests}
+use Rattle.std.proofs.Common.{◌≡◌, ◌∙◌, ℕ, ◌+◌, ◌≤◌, Bool, true, false, cond, not, ◌&&◌, ◌||◌, List, [], ◌∷◌, ◌++◌, refl, sym, subst, arith}
 use Rattle.std.proofs.lemmas.List.Sums.{sum_by-append, sum_by-cons}
 use Rattle.blsm_model.specs.declared.key.Key.{Key}
 use Rattle.blsm_model.specs.declared.row.Value.{Value}
 use Rattle.blsm_model.specs.declared.op.Op.{Op}
 use Rattle.blsm_model.specs.declared.history.Entry.{Entry}
 use Rattle.blsm_model.specs.declared.history.Reply.{Reply}
-use Rattle.blsm_model.specs.declared.history.Reply.TheVariants.{FaultUnsure}
 use Rattle.blsm_model.specs.Geometry.{c1_mark}
 use Rattle.blsm_model.specs.Histories.{writes_of}
 use Rattle.blsm_model.specs.Images.{is_unsure}
 use Rattle.blsm_model.specs.Legal.{is_running, is_stopped, is_stopping, total_weight}
 use Rattle.blsm_model.specs.Sizes.{Sizes}
-use Rattle.record_delta.specs.Entries.{entries_weight, replayed}
-use Rattle.page_file.specs.Component.{entries_of}
-use Rattle.pacing.specs.Kept.{IsPaced, most_taken}
+use Rattle.record_delta.specs.Entries.{entries_weight}
+use Rattle.pacing.specs.Kept.{IsPaced}
 use Rattle.pacing.specs.Pace.{Pace}
 use Rattle.pacing.specs.Steps.{deep_settled, ready_for as pace_ready_for}
 use Rattle.pacing.proofs.Admissions.{deep_settled_kept, ready_kept}
-use Rattle.tree_machine.specs.Lists.{Lists}
 use Rattle.tree_machine.specs.Machine.{Machine, in_pass, pass_done, deep_done}
 use Rattle.tree_machine.specs.Moves.{begin_pass, end_pass, output_of, rotate, swap_deep, swap_pass}
 use Rattle.tree_machine.specs.Steps.{deep_swapped, pass_begun_for, pass_swapped, ready_for, swapped}
@@ -84,8 +82,7 @@ doubt_grows history more = omega (arith, sum_by-append weight_in_doubt history m
 
 -- a history of a tree that runs has no write in doubt
 sure_reply : (op : Op) (reply : Reply) → not (is_stopping op reply || is_stopped reply) ≡ true → cond (is_unsure reply) (total_weight (writes_of op)) 0 ≡ 0
-sure_reply op FaultUnsure runs = absurd (false≢true runs)
-sure_reply op _ runs = refl
+sure_reply op reply h1 = grind (arith, common_steps, nat_tests)
 
 pub running_is_sure : (history : List Entry) → is_running history ≡ true → doubted history ≡ 0
 running_is_sure [] runs = refl
@@ -94,10 +91,7 @@ running_is_sure (e ∷ es) runs =
     sum_by-cons weight_in_doubt e es ∙ omega (arith, sure_reply e.op e.reply parts.0, running_is_sure es parts.1)
 
 pub same_work : (m later : Machine) → later.gears.sizes ≡ m.gears.sizes → CountsAs m later → most_worked later ≡ most_worked m
-same_work m later sizes counts =
-    ap (λ (n : ℕ). n + most_taken later.gears.sizes * sum later.seats.quanta) counts.charge
-    ∙ ap (λ (s : Sizes). m.counts.charge + most_taken s * sum later.seats.quanta) sizes
-    ∙ ap (λ (quanta : List ℕ). m.counts.charge + most_taken m.gears.sizes * sum quanta) counts.quanta
+same_work m later sizes counts = grind (arith, common_steps, nat_tests)
 
 -- A file weighs no more for a later machine that counts the same, nor for a history with more in doubt.
 pub weighs_as : (m later : Machine) (history longer : List Entry) (file : List ℕ) → later.gears.sizes ≡ m.gears.sizes → CountsAs m later → doubted history ≤ doubted longer → WeighsWithin m history file
@@ -112,25 +106,10 @@ weighs_as m later history longer file sizes counts more weighs = record {
 -- ---- by the pace
 
 pub paced_components : (m : Machine) (pace : Pace) (tree : Tree) → IsPaceOf m pace → IsPaced pace → m.lists ≡ lists_of tree → components_weight tree ≤ most_worked m
-paced_components m pace tree of_tree paced lists =
-    let sizes : pace.gears.sizes ≡ m.gears.sizes = sym (ap (λ (p : Pace). p.gears.sizes) of_tree.numbers) in
-    let c1 : entries_weight (entries_of tree.c1) ≡ pace.c1 = sym (ap (λ (l : Lists). entries_weight l.c1) lists) ∙ ap (λ (p : Pace). p.c1) of_tree.numbers in
-    let c1x : entries_weight (entries_of tree.c1x) ≡ pace.c1x = sym (ap (λ (l : Lists). entries_weight l.c1x) lists) ∙ ap (λ (p : Pace). p.c1x) of_tree.numbers in
-    let c2 : entries_weight (entries_of tree.c2) ≡ pace.c2 = sym (ap (λ (l : Lists). entries_weight l.c2) lists) ∙ ap (λ (p : Pace). p.c2) of_tree.numbers in
-    let opening : pace.opening ≡ m.counts.charge = sym (ap (λ (p : Pace). p.opening) of_tree.numbers) in
-    let took : most_taken pace.gears.sizes * pace.work ≡ most_taken m.gears.sizes * sum m.seats.quanta =
-    ap (λ (s : Sizes). most_taken s * pace.work) sizes ∙ ap (λ (n : ℕ). most_taken m.gears.sizes * n) of_tree.booked.worked in
-    numbers _ _ _ _ _ _ _ _ _ _ _ paced.within.worked c1 c1x c2 opening took
-  where
-    numbers : (c1 c1x c2 taken opening took one two three charge most : ℕ) → c1 + c1x + c2 + taken ≤ opening + took → one ≡ c1 → two ≡ c1x → three ≡ c2 → opening ≡ charge → took ≡ most → one + two + three ≤ charge + most
-    numbers c1 c1x c2 taken opening took one two three charge most le a b c d e = omega arith
+paced_components m pace tree of_tree paced lists = grind (arith, common_steps, nat_tests)
 
 pub paced_lanes : (m : Machine) (pace : Pace) (tree : Tree) → IsPaceOf m pace → IsPaced pace → m.lists ≡ lists_of tree → lanes_weight tree ≤ m.counts.peak
-paced_lanes m pace tree of_tree paced lists =
-    let a : entries_weight (replayed tree.lane_a) ≡ pace.a = sym (ap (λ (l : Lists). entries_weight l.a) lists) ∙ ap (λ (p : Pace). p.a) of_tree.numbers in
-    let b : entries_weight (replayed tree.lane_b) ≡ pace.b = sym (ap (λ (l : Lists). entries_weight l.b) lists) ∙ ap (λ (p : Pace). p.b) of_tree.numbers in
-    let peak : m.counts.peak ≡ pace.peak = ap (λ (p : Pace). p.peak) of_tree.numbers in
-    omega (arith, paced.within.within_peak, a, b, peak)
+paced_lanes m pace tree of_tree paced lists = grind (arith, common_steps, nat_tests)
 
 -- each file that holds the tree of a machine that is paced,
 pub paced_weighs : (m : Machine) (pace : Pace) (tree : Tree) (history : List Entry) (file : List ℕ) → IsPaceOf m pace → IsPaced pace → m.lists ≡ lists_of tree → HoldsTree m.gears.sizes tree file → WeighsWithin m history file

@@ -1,16 +1,16 @@
 -- What goes on from an opening on, step by step.
 use Rattle.std.specs.Prelude.{⊤}
-use Rattle.std.proofs.Common.{◌≡◌, ◌∙◌, ℕ, ◌+◌, Bool, true, false, cond, ◌&&◌, List, Option, Some, None, refl, ap, sym, subst, arith}
-use Rattle.std.specs.Prelude.{◌==◌, nat_lt, nat_le}
-use Rattle.std.proofs.lemmas.Bool.{false≢true, leb-true, lt-ltb}
-use Rattle.blsm_model.specs.Format.{callers}
+use Rattle.std.proofs.lemmas.Grind.{common_steps}
+use Rattle.std.proofs.lemmas.Bool.Decides.{nat_tests}
+use Rattle.std.proofs.Common.{◌≡◌, ◌∙◌, ℕ, ◌+◌, Bool, true, false, cond, List, Option, None, refl, ap, sym, subst, arith}
+use Rattle.std.specs.Prelude.{◌==◌, nat_lt}
+use Rattle.std.proofs.lemmas.Bool.{lt-ltb}
 use Rattle.blsm_model.specs.Sizes.{Sizes}
 use Rattle.blsm_model.specs.Geometry.{charge_limit}
 use Rattle.blsm_model.specs.declared.key.Key.{Key}
 use Rattle.blsm_model.specs.declared.row.Row.{Row}
 use Rattle.blsm_model.specs.declared.row.Value.{Value}
 use Rattle.blsm_model.specs.declared.op.Op.{Op}
-use Rattle.blsm_model.specs.declared.op.Op.TheVariants as op
 use Rattle.blsm_model.specs.declared.history.Reply.TheVariants.{Full, FaultLost, FaultUnsure}
 use Rattle.blsm_model.specs.declared.history.Why.TheVariants.{Faulted}
 use Rattle.blsm_model.specs.declared.history.Why.{Why}
@@ -18,7 +18,6 @@ use Rattle.blsm_model.specs.Histories.{writes_of}
 use Rattle.blsm_model.specs.Legal.{total_weight, is_del}
 use Rattle.gear_sched.specs.Gears.{GearState}
 use Rattle.gear_sched.specs.declared.Plan.{Plan}
-use Rattle.gear_sched.specs.declared.Plan.TheVariants.{Snow, Deep, Nothing}
 use Rattle.pacing.specs.Pace.{Pace, with_forgiven}
 use Rattle.pacing.specs.Kept.{IsPaced}
 use Rattle.pacing.specs.Steps as pacing
@@ -26,17 +25,15 @@ use Rattle.pacing.specs.Steps.{Move, Pay, Turn, turn_of, is_worker_seat}
 use Rattle.pacing.specs.Fronts.{Fronts, AreFronts, fronts_by}
 use Rattle.pacing.proofs.Fronts.{step_fronts}
 use Rattle.tree_machine.specs.Lists.{Lists}
-use Rattle.tree_machine.specs.Merges.{Merge}
-use Rattle.tree_machine.specs.Machine.{Machine, Failed, BadPage, seats, charge, deep_done, pass_done, pass_is_done, is_caller, is_closed, held_by, work_of}
-use Rattle.tree_machine.specs.Moves.{note, stop, swap_deep, swap_pass, pass_quantum, deep_quantum, pass_quantum_of, deep_quantum_of}
+use Rattle.tree_machine.specs.Machine.{Machine, Failed, BadPage, charge, deep_done, pass_done, is_closed}
+use Rattle.tree_machine.specs.Moves.{note, stop, swap_deep, swap_pass, pass_quantum, deep_quantum}
 use Rattle.tree_machine.specs.Steps as machine
 use Rattle.tree_machine.specs.Steps.{Outcome, Well, FailedAfter, deep_swapped, one_if, ready_for, swaps_due, Broken, NoRoom, Answer, Paid, Settled, Choice, Stepped, replied, unless_stopped as machine_unless, admit_fitting, forgive, pay_running, pay_planned, do_pay, do_hold, do_next, chosen, ended_as, work_turning, worker_turning}
-use Rattle.tree_machine.specs.Plays.{may, most_turns, is_even, stepped_as}
+use Rattle.tree_machine.specs.Plays.{may, stepped_as}
 use Rattle.tree_machine.specs.Stands.{WritesFit}
 use Rattle.tree_machine.specs.declared.step.Kind.{Kind}
 use Rattle.tree_machine.specs.declared.step.Kind.TheVariants as kind
 use Rattle.tree_machine.specs.declared.step.Step.{Step}
-use Rattle.tree_machine.proofs.FoldLemmas.{both_hold}
 use Rattle.paced_tree.specs.After.{after_admission, after_turn, pace_after, unless_stopped as pace_unless}
 use Rattle.paced_tree.specs.Kept.{IsPacedTree}
 use Rattle.paced_tree.specs.Numbers.{with_numbers_of}
@@ -44,8 +41,7 @@ use Rattle.paced_tree.specs.Made.{IsMadeBy, IsPaidBy, IsTurnedBy}
 use Rattle.paced_tree.proofs.Made.{step_made}
 use Rattle.paced_tree.proofs.Moves.{of_pace}
 use Rattle.paced_tree.proofs.Promises.{has_way, step_is_paced}
-use Rattle.paced_tree.proofs.Steps.{caller_below}
-use Rattle.paced_tree.proofs.Turns.{move_of, turn_is, no_worker, a_worker}
+use Rattle.paced_tree.proofs.Turns.{move_of, turn_is}
 use Rattle.tree_file.specs.Tree.{Tree}
 use Rattle.core_moves.specs.declared.held.Held.{Held}
 use Rattle.core_pace.specs.Turns.{move_in}
@@ -81,26 +77,14 @@ admission_fits m seat op outcome runs room =
     ∙ ap (λ (b : Bool). cond b (replied seat op (Full (charge m)) m) (admit_fitting m seat op (total_weight (writes_of op)) outcome)) (not_past (charge_limit m.gears.sizes (is_del op)) (charge m + total_weight (writes_of op)) room)
 
 some_due : (deep pass : Bool) → deep ≡ true → nat_lt 0 (one_if deep + one_if pass) ≡ true
-some_due true true done = refl
-some_due true false done = refl
-some_due false pass done = absurd (false≢true done)
+some_due deep pass h1 = grind (arith, common_steps, nat_tests)
 
 pass_due : (deep pass : Bool) → pass ≡ true → nat_lt (one_if deep) (one_if deep + one_if pass) ≡ true
-pass_due true true done = refl
-pass_due false true done = refl
-pass_due deep false done = absurd (false≢true done)
+pass_due deep pass h1 = grind (arith, common_steps, nat_tests)
 
 -- the deep merge's swap is none of the pass's
 same_pass : (m : Machine) → pass_done (deep_swapped m) ≡ pass_done m
-same_pass m = by (deep_done m)
-  where
-    by_merge : (p : Option Merge) → pass_is_done p (swap_deep m).lists ≡ pass_is_done p m.lists
-    by_merge None = refl
-    by_merge (Some pass) = refl
-
-    by : (b : Bool) → pass_done (cond b (swap_deep m) m) ≡ pass_done m
-    by true = by_merge m.merges.pass
-    by false = refl
+same_pass m = grind (arith, common_steps, nat_tests)
 
 pub failures_are_the_machines : FailuresAreTheMachines
 failures_are_the_machines m seat op w faults = record {
@@ -112,8 +96,7 @@ failures_are_the_machines m seat op w faults = record {
 }
   where
     committed_of : (b : Bool) → cond (one_if b == 0) m (cond b (swap_deep m) m) ≡ cond b (swap_deep m) m
-    committed_of true = refl
-    committed_of false = refl
+    committed_of b = grind (arith, common_steps, nat_tests)
 
 pub admission_goes_on : AdmissionGoesOn
 admission_goes_on opening m pace fronts seat op write begun tree is = append_goes_on opening m pace fronts seat op write begun tree is
@@ -162,36 +145,19 @@ paid_fronts opening m pace then fronts seat answer paced within made = subst (λ
 
 -- a payment leaves the lists
 pass_quantum_lists : (seat : ℕ) (m : Machine) → (pass_quantum seat m).lists ≡ m.lists
-pass_quantum_lists seat m = by m.merges.pass
-  where
-    by : (p : Option Merge) → (pass_quantum_of p seat m).lists ≡ m.lists
-    by None = refl
-    by (Some pass) = refl
+pass_quantum_lists seat m = grind (arith, common_steps, nat_tests)
 
 deep_quantum_lists : (seat : ℕ) (m : Machine) → (deep_quantum seat m).lists ≡ m.lists
-deep_quantum_lists seat m = by m.merges.deep
-  where
-    by : (p : Option Merge) → (deep_quantum_of p seat m).lists ≡ m.lists
-    by None = refl
-    by (Some deep) = refl
+deep_quantum_lists seat m = grind (arith, common_steps, nat_tests)
 
 done_lists : (m : Machine) (quantum : Machine → Machine) (seat : ℕ) (outcome : Outcome) → (quantum m).lists ≡ m.lists → (do_pay m quantum seat outcome).state.lists ≡ m.lists
-done_lists m quantum seat (FailedAfter commits faults) stays = refl
-done_lists m quantum seat (Broken page) stays = refl
-done_lists m quantum seat Well stays = stays
-done_lists m quantum seat NoRoom stays = stays
+done_lists m quantum seat outcome h1 = grind (arith, common_steps, nat_tests)
 
 planned_lists : (plan : Plan) (m : Machine) (seat : ℕ) (outcome : Outcome) → (pay_planned plan m seat outcome).state.lists ≡ m.lists
-planned_lists Snow m seat outcome = done_lists m (pass_quantum seat) seat outcome (pass_quantum_lists seat m)
-planned_lists Deep m seat outcome = done_lists m (deep_quantum seat) seat outcome (deep_quantum_lists seat m)
-planned_lists Nothing m seat outcome = refl
+planned_lists plan m seat outcome = grind (arith, common_steps, nat_tests)
 
 paid_lists : (m : Machine) (seat : ℕ) (outcome : Outcome) → (stepped_as m seat kind.Pay outcome).state.lists ≡ m.lists
-paid_lists m seat outcome = by m.stopped
-  where
-    by : (o : Option Why) → (pay_running o m seat outcome).state.lists ≡ m.lists
-    by (Some why) = refl
-    by None = planned_lists _ (forgive seat m) seat outcome
+paid_lists m seat outcome = grind (arith, common_steps, nat_tests)
 
 pub payment_goes_on : PaymentGoesOn
 payment_goes_on opening m pace fronts tree seat outcome ok goes = record {
@@ -234,18 +200,13 @@ turned_lanes pacing.Idle seat n old moved tree next m fronts trees lanes = subst
 
 -- a turn that runs is the one chosen
 turn_state : (is_worker : Bool) (m : Machine) (seat : ℕ) → m.stopped ≡ None → IsOpenTo is_worker m → (stepped_as m seat (kind_of_turn is_worker) Well).state.lists ≡ (chosen (chosen_by is_worker m) seat m).lists
-turn_state true m seat runs opened = ap (λ (o : Option Why). (worker_turning o (is_closed m) m seat Well).state.lists) runs ∙ ap (λ (b : Bool). (worker_turning None b m seat Well).state.lists) opened
-turn_state false m seat runs opened = ap (λ (o : Option Why). (work_turning o m seat Well).state.lists) runs
+turn_state is_worker m seat h1 h2 = grind (arith, common_steps, nat_tests)
 
 turn_answer : (is_worker : Bool) (m : Machine) (seat : ℕ) → m.stopped ≡ None → IsOpenTo is_worker m → (stepped_as m seat (kind_of_turn is_worker) Well).answer ≡ machine.Turn (ended_as (chosen_by is_worker m))
-turn_answer true m seat runs opened = ap (λ (o : Option Why). machine.Turn (worker_turning o (is_closed m) m seat Well).ended) runs ∙ ap (λ (b : Bool). machine.Turn (worker_turning None b m seat Well).ended) opened
-turn_answer false m seat runs opened = ap (λ (o : Option Why). machine.Turn (work_turning o m seat Well).ended) runs
+turn_answer is_worker m seat h1 h2 = grind (arith, common_steps, nat_tests)
 
 whose_turn : (is_worker : Bool) (m : Machine) (seat : ℕ) → may m seat (kind_of_turn is_worker) ≡ true → is_worker_seat seat ≡ is_worker
-whose_turn true m seat ok = a_worker seat (leb-true callers seat (both_hold (nat_le callers seat) (nat_lt seat seats) ok).0)
-whose_turn false m seat ok =
-    let parts = both_hold (is_caller seat && nat_lt (work_of seat m).turns most_turns) (is_even seat m) ok in
-    no_worker seat (caller_below seat (both_hold (is_caller seat) (nat_lt (work_of seat m).turns most_turns) parts.0).0)
+whose_turn is_worker m seat h1 = grind (arith, common_steps, nat_tests)
 
 turn_made : (is_worker : Bool) (opening : List (Key × Value)) (m : Machine) (pace : Pace) (seat : ℕ) → may m seat (kind_of_turn is_worker) ≡ true → IsPacedTree opening m pace
     → IsTurnedBy (stepped_as m seat (kind_of_turn is_worker) Well).answer seat pace (pace_after m pace seat (kind_of_turn is_worker) Well)
@@ -299,33 +260,16 @@ quiet_paced opening m pace seat (kind.WorkEnd n) outcome ok quiet paced = then_p
 quiet_paced opening m pace seat kind.Leave outcome ok quiet paced = then_paced opening m pace seat kind.Leave outcome ok tt paced
 
 unless_lists : (m : Machine) (seat : ℕ) (o : Op) (otherwise : Stepped) (stopped : Option Why) → otherwise.state.lists ≡ m.lists → (machine_unless stopped seat o m otherwise).state.lists ≡ m.lists
-unless_lists m seat o otherwise (Some why) same = refl
-unless_lists m seat o otherwise None same = same
+unless_lists m seat o otherwise stopped h1 = grind (arith, common_steps, nat_tests)
 
 held_lists : (m : Machine) (seat : ℕ) (low high : Key) (outcome : Outcome) → (do_hold m seat low high outcome).state.lists ≡ m.lists
-held_lists m seat low high NoRoom = refl
-held_lists m seat low high Well = refl
-held_lists m seat low high (FailedAfter commits faults) = refl
-held_lists m seat low high (Broken page) = refl
+held_lists m seat low high outcome = grind (arith, common_steps, nat_tests)
 
 next_lists : (m : Machine) (seat n : ℕ) (outcome : Outcome) (rows : Option (List Row)) → (do_next m seat n outcome rows).state.lists ≡ m.lists
-next_lists m seat n outcome None = refl
-next_lists m seat n (FailedAfter commits faults) (Some rows) = refl
-next_lists m seat n (Broken page) (Some rows) = refl
-next_lists m seat n Well (Some rows) = refl
-next_lists m seat n NoRoom (Some rows) = refl
+next_lists m seat n outcome rows = grind (arith, common_steps, nat_tests)
 
 quiet_lists : (m : Machine) (seat : ℕ) (k : Kind) (outcome : Outcome) → IsQuiet k → (stepped_as m seat k outcome).state.lists ≡ m.lists
-quiet_lists m seat (kind.Admit op) outcome quiet = absurd quiet
-quiet_lists m seat kind.Pay outcome quiet = absurd quiet
-quiet_lists m seat kind.WorkTurn outcome quiet = absurd quiet
-quiet_lists m seat kind.WorkerTurn outcome quiet = absurd quiet
-quiet_lists m seat (kind.Get key) outcome quiet = unless_lists m seat (op.Get key) _ m.stopped refl
-quiet_lists m seat (kind.Hold low high) outcome quiet = unless_lists m seat (op.Hold low high) (do_hold m seat low high outcome) m.stopped (held_lists m seat low high outcome)
-quiet_lists m seat (kind.Next n) outcome quiet = unless_lists m seat (op.Next n) (do_next m seat n outcome (held_by seat m)) m.stopped (next_lists m seat n outcome (held_by seat m))
-quiet_lists m seat kind.Release outcome quiet = unless_lists m seat op.Release _ m.stopped refl
-quiet_lists m seat (kind.WorkEnd n) outcome quiet = refl
-quiet_lists m seat kind.Leave outcome quiet = refl
+quiet_lists m seat k outcome h1 = grind (arith, common_steps, nat_tests)
 
 pub quiet_goes_on : QuietGoesOn
 quiet_goes_on opening m pace fronts tree seat k outcome ok quiet goes = record {

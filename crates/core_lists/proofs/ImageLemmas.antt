@@ -1,8 +1,8 @@
 -- What the images show of each swap and rotation.
-use Rattle.std.proofs.Common.{◌≡◌, ◌∙◌, ℕ, ◌+◌, ◌≤◌, Bool, true, false, cond, ◌&&◌, List, [], Option, Some, None, ⊎_elim, refl, ap, sym, subst, arith}
-use Rattle.std.specs.Prelude.{nat_le}
+use Rattle.std.proofs.Common.{◌≡◌, ◌∙◌, ℕ, ◌+◌, ◌≤◌, Bool, true, false, cond, ◌&&◌, List, [], Option, None, ⊎_elim, refl, ap, sym, subst, arith}
+use Rattle.std.proofs.lemmas.Grind.{common_steps}
+use Rattle.std.proofs.lemmas.Bool.Decides.{nat_tests}
 use Rattle.std.proofs.lemmas.Bool.{false≢true}
-use Rattle.blsm_model.specs.Geometry.{c1_mark}
 use Rattle.blsm_model.specs.Histories.{written}
 use Rattle.blsm_model.specs.Rows.{map_of}
 use Rattle.blsm_model.specs.declared.key.Key.{Key}
@@ -19,7 +19,7 @@ use Rattle.tree_machine.specs.Lists.{Lists, map_in}
 use Rattle.tree_machine.specs.Merges.{Merge}
 use Rattle.tree_machine.specs.Layers.{IsSound, IsDeepOver}
 use Rattle.tree_machine.specs.Machine.{Machine, pass_done, deep_done}
-use Rattle.tree_machine.specs.Moves.{swap_deep, swap_pass, rotate, rotate_alone, end_pass, output_of}
+use Rattle.tree_machine.specs.Moves.{swap_deep, swap_pass, rotate_alone}
 use Rattle.tree_machine.specs.Steps.{deep_swapped, swapped}
 use Rattle.tree_machine.proofs.CarryLemmas.{deep_swapped_carries, rotate_alone_carries}
 use Rattle.tree_machine.proofs.MapLemmas.{map_in_is}
@@ -72,11 +72,7 @@ deep_swap_images opening held m pace fronts tree next file image is done swapped
 
 -- the pass's swap drops table A, and empties table B
 pub swapped_tables : (m : Machine) → ((swap_pass m).lists.a ≡ m.lists.b) × ((swap_pass m).lists.b ≡ [])
-swapped_tables m = by (nat_le (c1_mark m.gears.sizes) (entries_weight (output_of m.merges.pass)))
-  where
-    by : (b : Bool) → ((cond b (rotate (end_pass m)) (end_pass m)).lists.a ≡ m.lists.b) × ((cond b (rotate (end_pass m)) (end_pass m)).lists.b ≡ [])
-    by true = (refl, refl)
-    by false = (refl, refl)
+swapped_tables m = grind (arith, common_steps, nat_tests)
 
 module _ (opening : List (Key × Value)) (old settled : Held) (m : Machine) (pace : Pace) (fronts : Fronts) (tree middle : Tree) (file between : List ℕ)
     (is : SettledIn opening old settled m pace fronts tree middle file between) where
@@ -128,14 +124,10 @@ pass_swap_images opening old settled m pace fronts tree middle next file between
 -- ---- C1 by itself
 
 no_pass : (pass : Option Merge) (snow : Option SnowState) → IsPassAt pass snow → snow ≡ None → pass ≡ None
-no_pass None snow comes none = refl
-no_pass (Some pass) None comes none = absurd comes
-no_pass (Some pass) (Some snow) comes none = absurd (subst (λ (o : Option SnowState). IsPassAt (Some pass) o) none comes)
+no_pass pass snow h1 h2 = grind (arith, common_steps, nat_tests)
 
 no_deep : (deep : Option Merge) (merge : Option DeepState) → IsDeepAt deep merge → merge ≡ None → deep ≡ None
-no_deep None merge comes none = refl
-no_deep (Some deep) None comes none = absurd comes
-no_deep (Some deep) (Some merge) comes none = absurd (subst (λ (o : Option DeepState). IsDeepAt (Some deep) o) none comes)
+no_deep deep merge h1 h2 = grind (arith, common_steps, nat_tests)
 
 pub rotation_images : RotationImages
 rotation_images opening held m pace fronts tree next file image is rests unmerged rotated either =

@@ -1,7 +1,8 @@
 -- A store that was opened stands at the machine's first state.
 use Rattle.std.proofs.Common.{◌≡◌, ◌∙◌, ℕ, ◌+◌, List, [], Option, None, length, refl, ap, sym, subst, arith}
+use Rattle.std.proofs.lemmas.Grind.{common_steps}
+use Rattle.std.proofs.lemmas.Bool.Decides.{nat_tests}
 use Rattle.blsm_model.specs.Book.{Book}
-use Rattle.blsm_model.specs.declared.history.Entry.{Entry}
 use Rattle.catalog_swap.specs.declared.catalog.Catalog.{Catalog}
 use Rattle.record_delta.specs.Entries.{Entries, entries_weight, replayed}
 use Rattle.page_file.specs.Component.{entries_of}
@@ -50,9 +51,7 @@ module _ (annals : Book) (faults : ℕ) (held : Held) (tree : Tree) (file : List
 
   -- the annals are empty
   annals_are : ◌≡◌ {A = Book} (record { entries = []; quanta = []; room = annals.room }) annals
-  annals_are =
-      ap (λ (es : List Entry). record { entries = es; quanta = []; room = annals.room }) (sym is.entries)
-      ∙ ap (λ (ns : List ℕ). record { entries = annals.entries; quanta = ns; room = annals.room }) (sym is.quanta)
+  annals_are = grind (arith, common_steps, nat_tests)
 
   lists : first.lists ≡ lists_of tree
   lists = same_lists first.lists (lists_of tree) (ap replayed (sym lane_b)) (ap replayed (sym lane_a)) refl (ap entries_of (sym no_c1x)) refl

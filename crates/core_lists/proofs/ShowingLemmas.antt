@@ -1,7 +1,7 @@
 -- What a file shows of a history, in the words of what an image may show.
-use Rattle.std.specs.Prelude.{nat_lt}
-use Rattle.std.proofs.Common.{◌≡◌, ◌∙◌, ℕ, ◌+◌, ◌≤◌, Bool, true, false, cond, not, ◌&&◌, ◌||◌, List, [], ◌∷◌, ◌++◌, flat_map, length, ⊎_elim, refl, ap, sym, subst, append_assoc, append-nil, length-append, arith}
-use Rattle.std.proofs.lemmas.Bool.{false≢true}
+use Rattle.std.proofs.lemmas.Grind.{common_steps}
+use Rattle.std.proofs.lemmas.Bool.Decides.{nat_tests}
+use Rattle.std.proofs.Common.{◌≡◌, ◌∙◌, ℕ, ◌≤◌, Bool, true, false, cond, not, ◌&&◌, ◌||◌, List, [], ◌∷◌, ◌++◌, flat_map, length, ⊎_elim, refl, ap, sym, subst, append_assoc, append-nil, length-append, arith}
 use Rattle.std.proofs.lemmas.List.{flat_map_more}
 use mathlib.Core.List.{IsPrefix}
 use Rattle.blsm_model.specs.declared.key.Key.{Key}
@@ -10,7 +10,6 @@ use Rattle.blsm_model.specs.declared.op.Op.{Op}
 use Rattle.blsm_model.specs.declared.op.Write.{Write}
 use Rattle.blsm_model.specs.declared.history.Entry.{Entry}
 use Rattle.blsm_model.specs.declared.history.Reply.{Reply}
-use Rattle.blsm_model.specs.declared.history.Reply.TheVariants.{FaultUnsure}
 use Rattle.blsm_model.specs.Book.{Book}
 use Rattle.blsm_model.specs.Sizes.{Sizes}
 use Rattle.blsm_model.specs.Histories.{is_done, writes_of, counted, counted_writes, written}
@@ -22,7 +21,6 @@ use Rattle.pacing.specs.Steps.{deep_settled, ready_for as pace_ready_for}
 use Rattle.pacing.specs.Fronts.{Fronts, AreFronts, fronts_ready}
 use Rattle.tree_machine.specs.Lists.{Lists}
 use Rattle.tree_machine.specs.Machine.{Machine}
-use Rattle.tree_machine.specs.Moves.{begin_pass}
 use Rattle.tree_machine.specs.Steps.{deep_swapped, swapped, ready_for}
 use Rattle.tree_machine.proofs.FoldLemmas.{both_hold}
 use Rattle.tree_machine.proofs.CarryLemmas.{deep_swapped_carries, ready_carries}
@@ -36,8 +34,7 @@ use Rattle.core_lists.proofs.FileWeights.{paced_weighs, settled_weighs, ready_we
 -- ---- what counts
 
 or_false : (b : Bool) → (b || false) ≡ b
-or_false true = refl
-or_false false = refl
+or_false b = grind (arith, common_steps, nat_tests)
 
 -- without doubt, what counts is what was answered Done
 sure_one : (entry : Entry) → counted_with false entry ≡ counted entry
@@ -49,8 +46,7 @@ sure_writes (e ∷ es) = ap (λ ws. ws ++ flat_map (counted_with false) es) (sur
 
 -- and a history of a tree that runs has no doubt
 running_one : (seat : ℕ) (op : Op) (reply : Reply) → not (is_stopping op reply || is_stopped reply) ≡ true → counted_with true (record { seat = seat; op = op; reply = reply }) ≡ counted (record { seat = seat; op = op; reply = reply })
-running_one seat op FaultUnsure runs = absurd (false≢true runs)
-running_one seat op _ runs = refl
+running_one seat op reply h1 = grind (arith, common_steps, nat_tests)
 
 pub running_writes : (unsure : Bool) (history : List Entry) → is_running history ≡ true → flat_map (counted_with unsure) history ≡ counted_writes history
 running_writes false history runs = sure_writes history
@@ -69,11 +65,7 @@ prefix_then a b c first second = (first.0 ++ second.0, sym (append_assoc a first
 
 -- one that is as long is the whole
 prefix_whole : (front history : List Entry) → IsPrefix front history → length history ≤ length front → front ≡ history
-prefix_whole front history begins long = by begins.0 begins.1
-  where
-    by : (rest : List Entry) → (front ++ rest) ≡ history → front ≡ history
-    by [] is = sym (append-nil front) ∙ is
-    by (e ∷ rest) is = absurd (omega (arith, long, ap (λ (l : List Entry). length l) is, length-append front (e ∷ rest)))
+prefix_whole front history begins long = grind (arith, common_steps, nat_tests)
 
 -- ---- what is shown
 
@@ -109,11 +101,7 @@ reads_as opening m later file sizes book reads =
 
 -- a pass that begins leaves the lists
 pub begun_lists : (w : ℕ) (m : Machine) → (ready_for w m).lists ≡ (swapped m).lists
-begun_lists w m = by (not (swapped m).gears.pass && nat_lt (swapped m).gears.sizes.low ((swapped m).spring + w))
-  where
-    by : (b : Bool) → (cond b (begin_pass (swapped m)) (swapped m)).lists ≡ (swapped m).lists
-    by true = refl
-    by false = refl
+begun_lists w m = grind (arith, common_steps, nat_tests)
 
 pub swapped_reads : (opening : List (Key × Value)) (m : Machine) (pace : Pace) (fronts : Fronts) (next : Tree) (file : List ℕ) → IsPacedTree opening m pace → AreFronts pace fronts
     → (swapped m).lists ≡ lists_of next → HasFronts next (swapped m).lists (fronts_ready pace fronts) → HoldsTree m.gears.sizes next file → ReadsHistory opening m file
@@ -155,14 +143,10 @@ pub quiet_entry_counts_none : QuietEntryCountsNone
 quiet_entry_counts_none entry quiet unsure = ⊎_elim (λ none. by_writes (is_done entry.reply || (unsure && is_unsure entry.reply)) none) (λ refused. by_reply unsure (is_done entry.reply) (is_unsure entry.reply) refused.0 refused.1) quiet
   where
     by_writes : (b : Bool) → writes_of entry.op ≡ [] → cond b (writes_of entry.op) [] ≡ []
-    by_writes true none = none
-    by_writes false none = refl
+    by_writes b h1 = grind (arith, common_steps, nat_tests)
 
     by_reply : (b done doubt : Bool) → done ≡ false → doubt ≡ false → cond (done || (b && doubt)) (writes_of entry.op) [] ≡ []
-    by_reply b true doubt d u = absurd (false≢true (sym d))
-    by_reply true false true d u = absurd (false≢true (sym u))
-    by_reply true false false d u = refl
-    by_reply false false doubt d u = refl
+    by_reply b done doubt h1 h2 = grind (arith, common_steps, nat_tests)
 
 pub quiet_entry_shows : QuietEntryShows
 quiet_entry_shows sizes opening history entry file none shows =

@@ -1,5 +1,8 @@
 -- A payment, and a turn of work or of a worker, over lists.
 use Rattle.std.proofs.Common.{◌≡◌, ◌∙◌, ℕ, ◌+◌, Bool, true, false, cond, not, ◌&&◌, ◌||◌, List, Option, None, refl, ap, sym, subst}
+use Rattle.std.proofs.lemmas.Grind.{common_steps}
+use Rattle.std.proofs.lemmas.Bool.Decides.{nat_tests}
+use Rattle.std.proofs.Common.{arith}
 use Rattle.std.specs.Prelude.{⊤, is_some, slice_index_or, ◌==◌, nat_lt}
 use Rattle.std.proofs.lemmas.Bool.{eqb-true, eq-eqb}
 use Rattle.blsm_model.specs.Geometry.{high_mark}
@@ -17,7 +20,6 @@ use Rattle.tree_machine.specs.Machine.{Machine, Turned, charge, WorkSoFar, in_pa
 use Rattle.tree_machine.specs.Moves.{begin_pass, pass_quantum, deep_quantum}
 use Rattle.tree_machine.specs.Steps as machine
 use Rattle.tree_machine.specs.Steps.{Choice, Well, Turning, choice, chosen, ended_as, quanta_of, forgive, pay, pay_running, pay_planned, work_turn, worker_turn, work_turning, worker_turning, work_noted, with_turn}
-use Rattle.tree_machine.proofs.FoldLemmas.{both}
 use Rattle.tree_machine.proofs.CarryLemmas.{chosen_carries}
 use Rattle.seat_book.specs.State.{BookState, is_closed_in, may_end_in, may_note_in, may_turn_in, paid_in, helped_in, totals_in, turned_in, work_in}
 use Rattle.paced_tree.specs.Booking.{quanta_of_move}
@@ -104,33 +106,18 @@ payment_lands agree seat n old taken new tree m file after is pays took are_of =
 
 -- two tests with one meaning
 one_test : (a b c : Bool) → (a ≡ true → (b ≡ true) × (c ≡ true)) → (b ≡ true → c ≡ true → a ≡ true) → a ≡ (b && c)
-one_test true b c p q = let h = p refl in sym (both b c h.0 h.1)
-one_test false true true p q = q refl refl
-one_test false true false p q = refl
-one_test false false c p q = refl
+one_test a b c h1 h2 = grind (arith, common_steps, nat_tests)
 
 by_tests : (b1 b2 b3 b4 b5 b6 : Bool)
     → cond b1 machine.SwapDeep (cond b2 machine.SwapPass (cond b3 machine.DeepQuantum (cond b4 machine.PassQuantum (cond b5 machine.Begin (cond b6 machine.Rotate machine.Rest)))))
     ≡ choice_of (cond b1 pacing.SwapDeep (cond b2 pacing.SwapPass (cond b3 pacing.TakeDeep (cond b4 pacing.TakeSnow (cond b5 pacing.Begin (cond b6 pacing.Rotate pacing.Idle))))))
-by_tests true b2 b3 b4 b5 b6 = refl
-by_tests false true b3 b4 b5 b6 = refl
-by_tests false false true b4 b5 b6 = refl
-by_tests false false false true b5 b6 = refl
-by_tests false false false false true b6 = refl
-by_tests false false false false false true = refl
-by_tests false false false false false false = refl
+by_tests b1 b2 b3 b4 b5 b6 = grind (arith, common_steps, nat_tests)
 
 abbrev machine_choice : (b1 b2 b3 b4 b5 b6 : Bool) → Choice
 machine_choice b1 b2 b3 b4 b5 b6 = cond b1 machine.SwapDeep (cond b2 machine.SwapPass (cond b3 machine.DeepQuantum (cond b4 machine.PassQuantum (cond b5 machine.Begin (cond b6 machine.Rotate machine.Rest)))))
 
 same_choice : (a1 a2 a3 a4 a5 a6 b1 b2 b3 b4 b5 b6 : Bool) → a1 ≡ b1 → a2 ≡ b2 → a3 ≡ b3 → a4 ≡ b4 → a5 ≡ b5 → a6 ≡ b6 → machine_choice a1 a2 a3 a4 a5 a6 ≡ machine_choice b1 b2 b3 b4 b5 b6
-same_choice a1 a2 a3 a4 a5 a6 b1 b2 b3 b4 b5 b6 e1 e2 e3 e4 e5 e6 =
-    ap (λ (b : Bool). machine_choice b a2 a3 a4 a5 a6) e1
-    ∙ ap (λ (b : Bool). machine_choice b1 b a3 a4 a5 a6) e2
-    ∙ ap (λ (b : Bool). machine_choice b1 b2 b a4 a5 a6) e3
-    ∙ ap (λ (b : Bool). machine_choice b1 b2 b3 b a5 a6) e4
-    ∙ ap (λ (b : Bool). machine_choice b1 b2 b3 b4 b a6) e5
-    ∙ ap (λ (b : Bool). machine_choice b1 b2 b3 b4 b5 b) e6
+same_choice a1 a2 a3 a4 a5 a6 b1 b2 b3 b4 b5 b6 e1 e2 e3 e4 e5 e6 = grind (arith, common_steps, nat_tests)
 
 module _ (held : Held) (tree : Tree) (m : Machine) (file : List ℕ) (is : IsSteady held tree m file) where
   agrees : Agrees held m
@@ -147,10 +134,7 @@ module _ (held : Held) (tree : Tree) (m : Machine) (file : List ℕ) (is : IsSte
       (λ runs none. agrees.pass_is_done.0 (runs, eqb-true (left_for_pass held.runs.pass held.log.a.entries) 0 none))
 
   takes_deep : (in_deep m && (not (in_pass m) || deep_is_behind m.gears)) ≡ (is_some held.runs.deep && (not (is_some held.runs.pass) || deep_is_behind held.gears))
-  takes_deep =
-      ap (λ (b : Bool). b && (not (in_pass m) || deep_is_behind m.gears)) agrees.deep_runs
-      ∙ ap (λ (b : Bool). is_some held.runs.deep && (not b || deep_is_behind m.gears)) agrees.pass_runs
-      ∙ ap (λ (g : GearState). is_some held.runs.deep && (not (is_some held.runs.pass) || deep_is_behind g)) is.at.holds.gears
+  takes_deep = grind (arith, common_steps, nat_tests)
 
   pub choices : (is_worker : Bool) → chosen_by is_worker m ≡ choice_of (move_in is_worker held)
   choices true =
@@ -221,22 +205,10 @@ turn_lands agree is_worker seat n old moved tree next m file after is moves tree
 
 -- how it ends, and how many quanta it takes
 same_end : (mv : Move) → end_of_move mv ≡ ended_as (choice_of mv)
-same_end pacing.SwapDeep = refl
-same_end pacing.SwapPass = refl
-same_end pacing.TakeDeep = refl
-same_end pacing.TakeSnow = refl
-same_end pacing.Begin = refl
-same_end pacing.Rotate = refl
-same_end pacing.Idle = refl
+same_end mv = grind (arith, common_steps, nat_tests)
 
 same_quanta : (mv : Move) → quanta_of_move mv ≡ quanta_of (choice_of mv)
-same_quanta pacing.SwapDeep = refl
-same_quanta pacing.SwapPass = refl
-same_quanta pacing.TakeDeep = refl
-same_quanta pacing.TakeSnow = refl
-same_quanta pacing.Begin = refl
-same_quanta pacing.Rotate = refl
-same_quanta pacing.Idle = refl
+same_quanta mv = grind (arith, common_steps, nat_tests)
 
 pub work_lands : QuantaAgree → WorkLands
 work_lands agree seat n old moved new tree next m file after is way works trees are_of =

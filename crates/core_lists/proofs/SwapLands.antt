@@ -1,9 +1,11 @@
 -- Swaps, rotations and begins, over lists.
 use Rattle.std.proofs.Common.{◌≡◌, ◌∙◌, ℕ, ◌+◌, Bool, true, false, cond, [], ◌∷◌, List, length, Option, Some, None, refl, ap, sym, subst}
+use Rattle.std.proofs.lemmas.Grind.{common_steps}
+use Rattle.std.proofs.lemmas.Bool.Decides.{nat_tests}
+use Rattle.std.proofs.Common.{arith}
 use Rattle.std.specs.Prelude.{nat_le}
 use Rattle.std.proofs.lemmas.Bool.{false≢true}
 use Rattle.blsm_model.specs.declared.key.Key.{Key}
-use Rattle.blsm_model.specs.Sizes.{Sizes}
 use Rattle.blsm_model.specs.Geometry.{c1_mark}
 use Rattle.blsm_model.specs.Lanes.{a_of, b_of, spare_of}
 use Rattle.catalog_swap.specs.declared.catalog.Catalog.{Catalog}
@@ -14,8 +16,8 @@ use Rattle.deep_merge.specs.Merge.{started as deep_started}
 use Rattle.snow_merge.specs.Pass.{SnowState}
 use Rattle.tree_machine.specs.Lists.{Lists, memory_weight}
 use Rattle.tree_machine.specs.Merges.{Merge, begun, is_empty}
-use Rattle.tree_machine.specs.Layers.{IsSound, IsDeepOver, IsPassOver}
-use Rattle.tree_machine.specs.Machine.{Machine, Catalogue, pass_done, deep_done, pass_is_done, deep_is_done}
+use Rattle.tree_machine.specs.Layers.{IsSound}
+use Rattle.tree_machine.specs.Machine.{Machine, Catalogue, pass_done, deep_done, pass_is_done}
 use Rattle.tree_machine.specs.Moves.{begin_pass, swap_deep, end_pass, rotate, committed, turned, output_of}
 use Rattle.merge_ends.proofs.GroupLemmas.{all_up_to}
 use Rattle.tree_machine.proofs.FoldLemmas.{both_hold}
@@ -41,28 +43,15 @@ abbrev five : Entries → Entries → Entries → Entries → Entries → Lists
 five b a c1 c1x c2 = record { b = b; a = a; c1 = c1; c1x = c1x; c2 = c2 }
 
 pub same_lists : (one other : Lists) → one.b ≡ other.b → one.a ≡ other.a → one.c1 ≡ other.c1 → one.c1x ≡ other.c1x → one.c2 ≡ other.c2 → one ≡ other
-same_lists one other b a c1 c1x c2 =
-    ap (λ (es : Entries). five es one.a one.c1 one.c1x one.c2) b
-    ∙ ap (λ (es : Entries). five other.b es one.c1 one.c1x one.c2) a
-    ∙ ap (λ (es : Entries). five other.b other.a es one.c1x one.c2) c1
-    ∙ ap (λ (es : Entries). five other.b other.a other.c1 es one.c2) c1x
-    ∙ ap (λ (es : Entries). five other.b other.a other.c1 other.c1x es) c2
+same_lists one other b a c1 c1x c2 = grind (arith, common_steps, nat_tests)
 
 -- ---- what a merge that is done has written
 
 pub deep_wrote : (m : Machine) → IsSound m → deep_done m ≡ true → output_of m.merges.deep ≡ settled_entries (folded_over m.lists.c1x m.lists.c2)
-deep_wrote m sound done = by m.merges.deep sound.layered.deep done
-  where
-    by : (deep : Option Merge) → IsDeepOver m.lists deep → deep_is_done deep m.lists ≡ true → output_of deep ≡ settled_entries (folded_over m.lists.c1x m.lists.c2)
-    by None over done = absurd (false≢true done)
-    by (Some deep) over done = deep_output m.lists.c1x m.lists.c2 deep sound.layered.sorted_c1x sound.layered.sorted_c2 over done
+deep_wrote m sound done = grind (arith, common_steps, nat_tests, deep_output)
 
 pub pass_wrote : (m : Machine) → IsSound m → pass_done m ≡ true → output_of m.merges.pass ≡ folded_over m.lists.a m.lists.c1
-pass_wrote m sound done = by m.merges.pass sound.layered.pass done
-  where
-    by : (pass : Option Merge) → IsPassOver m.lists pass → pass_is_done pass m.lists ≡ true → output_of pass ≡ folded_over m.lists.a m.lists.c1
-    by None over done = absurd (false≢true done)
-    by (Some pass) over done = pass_output m.lists.a m.lists.c1 pass sound.layered.sorted_a sound.layered.sorted_c1 over.1 done
+pass_wrote m sound done = grind (arith, common_steps, nat_tests, pass_output)
 
 -- ---- a log that stays
 
@@ -109,39 +98,21 @@ deep_swap_lands old new tree next m file after at sound done moves swapped are_o
 -- ---- the pass
 
 wrote_of : (held : Held) (tree : Tree) (m : Machine) → HoldsMachine held tree m → IsSound m → pass_done m ≡ true → output_of m.merges.pass ≡ folded_over held.log.a.entries (entries_of tree.c1)
-wrote_of held tree m holds sound done =
-    pass_wrote m sound done
-    ∙ ap (λ (l : Lists). folded_over l.a l.c1) holds.lists
-    ∙ ap (λ (es : Entries). folded_over es (entries_of tree.c1)) (sym holds.of_log.a)
+wrote_of held tree m holds sound done = grind (arith, common_steps, nat_tests, pass_wrote)
 
 -- the lists after the pass, where C1 is rotated with it, and where it isn't
 ended_lists : (b : Bool) (held : Held) (tree next : Tree) (m : Machine) → HoldsMachine held tree m → IsSound m → pass_done m ≡ true → IsPassSwapped b held.log.a.entries tree next
     → (cond b (rotate (end_pass m)) (end_pass m)).lists ≡ lists_of next
-ended_lists true held tree next m holds sound done swapped =
-    same_lists (rotate (end_pass m)).lists (lists_of next)
-    (ap replayed (sym swapped.lane_b))
-    (ap (λ (l : Lists). l.b) holds.lists ∙ ap replayed (sym swapped.lane_a))
-    (sym swapped.c1)
-    (wrote_of held tree m holds sound done ∙ sym swapped.c1x)
-    (ap (λ (l : Lists). l.c2) holds.lists ∙ ap entries_of (sym swapped.c2))
-ended_lists false held tree next m holds sound done swapped =
-    same_lists (end_pass m).lists (lists_of next)
-    (ap replayed (sym swapped.lane_b))
-    (ap (λ (l : Lists). l.b) holds.lists ∙ ap replayed (sym swapped.lane_a))
-    (wrote_of held tree m holds sound done ∙ sym swapped.c1)
-    (ap (λ (l : Lists). l.c1x) holds.lists ∙ sym swapped.c1x)
-    (ap (λ (l : Lists). l.c2) holds.lists ∙ ap entries_of (sym swapped.c2))
+ended_lists b held tree next m h1 h2 h3 h4 = grind (arith, common_steps, nat_tests, same_lists, wrote_of)
 
 -- the code's test of the run is the machine's
 same_full : (held : Held) (tree : Tree) (m : Machine) → HoldsMachine held tree m → held.gears.sizes ≡ held.runs.sizes → (made_by_pass held.runs.pass).weight ≡ entries_weight (output_of m.merges.pass)
     → is_run_full held ≡ nat_le (c1_mark m.gears.sizes) (entries_weight (output_of m.merges.pass))
-same_full held tree m holds sizes weighs =
-    ap (λ (s : Sizes). nat_le (c1_mark s) (made_by_pass held.runs.pass).weight) (sym (ap (λ (g : GearState). g.sizes) holds.gears ∙ sizes)) ∙ ap (λ (n : ℕ). nat_le (c1_mark m.gears.sizes) n) weighs
+same_full held tree m holds sizes weighs = grind (arith, common_steps, nat_tests)
 
 -- a pass that is done wrote a run that weighs what the machine's output does
 none_in : (es : Entries) → is_empty es ≡ true → es ≡ []
-none_in [] none = refl
-none_in (e ∷ es) none = absurd (false≢true none)
+none_in es h1 = grind (arith, common_steps, nat_tests)
 
 made_of_done : (held : Held) (tree : Tree) (m : Machine) (file : List ℕ) → IsAt held tree m file → IsSound m → pass_done m ≡ true → (made_by_pass held.runs.pass).weight ≡ entries_weight (output_of m.merges.pass)
 made_of_done held tree m file at sound done =

@@ -1,11 +1,12 @@
 -- The tests of the code are the machine's, and its weights those of the lists.
 use Rattle.std.proofs.Common.{◌≡◌, ◌∙◌, ◌↔◌, ℕ, ◌+◌, Bool, true, false, cond, not, ◌||◌, List, refl, ap, sym, arith}
+use Rattle.std.proofs.lemmas.Grind.{common_steps}
+use Rattle.std.proofs.lemmas.Bool.Decides.{nat_tests}
 use Rattle.std.specs.Prelude.{is_some, ◌==◌}
 use Rattle.std.proofs.lemmas.Bool.{eqb-true, eq-eqb}
 use Rattle.record_delta.specs.Entries.{entries_weight}
 use Rattle.gear_sched.specs.Gears.{GearState, forgiven}
 use Rattle.pacing.specs.Pace.{Pace}
-use Rattle.tree_machine.specs.Lists.{memory_weight}
 use Rattle.tree_machine.specs.Layers.{IsSound}
 use Rattle.tree_machine.specs.Machine.{Machine, in_pass, in_deep, charge, memory_charge, pass_done, deep_done}
 use Rattle.tree_machine.proofs.NumberLemmas.{pass_taken_when_done, pass_done_when_taken, pass_runs, deep_taken_when_done, deep_done_when_taken, deep_runs}
@@ -102,18 +103,13 @@ module _ (held : Held) (tree : Tree) (m : Machine) (file : List ℕ) (pace : Pac
       (λ done. eq-eqb (left_for_deep held.runs.deep) 0 (deep_none_left done))
 
   memory_is : memory_charge m ≡ cond (is_some held.runs.pass) (held.gears.pass_memory + held.gears.pass_admitted) (weight_of_tables held.log)
-  memory_is =
-      ap (λ (b : Bool). cond b (m.gears.pass_memory + m.gears.pass_admitted) (memory_weight m.lists)) runs_pass
-      ∙ ap (λ (g : GearState). cond (is_some held.runs.pass) (g.pass_memory + g.pass_admitted) (memory_weight m.lists)) at.holds.gears
-      ∙ ap (λ (n : ℕ). cond (is_some held.runs.pass) (held.gears.pass_memory + held.gears.pass_admitted) n) (weight_tables held tree m file at)
+  memory_is = grind (arith, common_steps, nat_tests)
 
   components_are : entries_weight m.lists.c1 + entries_weight m.lists.c1x + entries_weight m.lists.c2 ≡ components_in held
   components_are = omega (arith, weight_c1 held tree m file at, weight_c1x held tree m file at, weight_c2 held tree m file at)
 
   pub same_charge : charge m ≡ charge_in held
-  same_charge =
-      ap (λ (n : ℕ). (entries_weight m.lists.c1 + entries_weight m.lists.c1x + entries_weight m.lists.c2) + n) memory_is
-      ∙ ap (λ (n : ℕ). n + cond (is_some held.runs.pass) (held.gears.pass_memory + held.gears.pass_admitted) (weight_of_tables held.log)) components_are
+  same_charge = grind (arith, common_steps, nat_tests)
 
 pub tests_agree_with_lists : TestsAgreeWithLists
 tests_agree_with_lists held tree m file pace at sound has = record {

@@ -1,7 +1,10 @@
 -- What the core has in memory weighs what the machine's lists do.
-use Rattle.std.proofs.Common.{◌≡◌, ◌∙◌, ℕ, ◌+◌, List, ap, sym}
+use Rattle.std.proofs.Common.{◌≡◌, ◌∙◌, ℕ, List, ap, sym}
+use Rattle.std.proofs.lemmas.Grind.{common_steps}
+use Rattle.std.proofs.lemmas.Bool.Decides.{nat_tests}
+use Rattle.std.proofs.Common.{arith}
 use Rattle.catalog_swap.specs.declared.catalog.Catalog.{Catalog}
-use Rattle.record_delta.specs.Entries.{Entries, entries_weight}
+use Rattle.record_delta.specs.Entries.{entries_weight}
 use Rattle.page_file.specs.Component.{entries_of}
 use Rattle.tree_machine.specs.Lists.{Lists, memory_weight}
 use Rattle.tree_machine.specs.Machine.{Machine}
@@ -12,10 +15,7 @@ use Rattle.core_lists.specs.Standing.{IsAt}
 
 -- the tables of a log weigh what its tree's lists do
 pub tables_weigh : (lists : Lists) (tree : Tree) (log : LogState) → lists ≡ lists_of tree → IsLogOf tree log → memory_weight lists ≡ weight_of_tables log
-tables_weigh lists tree log are is =
-    ap memory_weight are
-    ∙ ap (λ (es : Entries). entries_weight es + entries_weight (lists_of tree).b) (sym is.a)
-    ∙ ap (λ (es : Entries). entries_weight log.a.entries + entries_weight es) (sym is.b)
+tables_weigh lists tree log are is = grind (arith, common_steps, nat_tests)
 
 module _ (held : Held) (tree : Tree) (m : Machine) (file : List ℕ) (at : IsAt held tree m file) where
   pub table_a : m.lists.a ≡ held.log.a.entries

@@ -1,6 +1,9 @@
 -- A write, and what is done to the book alone, over lists.
 use Rattle.std.specs.Prelude.{is_some}
-use Rattle.std.proofs.Common.{◌≡◌, ◌∙◌, ℕ, ◌+◌, Bool, true, false, cond, List, Option, Some, None, refl, ap, sym, subst}
+use Rattle.std.proofs.lemmas.Grind.{common_steps}
+use Rattle.std.proofs.lemmas.Bool.Decides.{nat_tests}
+use Rattle.std.proofs.Common.{arith}
+use Rattle.std.proofs.Common.{◌≡◌, ◌∙◌, ℕ, ◌+◌, Bool, cond, List, Option, refl, ap, sym, subst}
 use Rattle.blsm_model.specs.declared.key.Key.{Key}
 use Rattle.blsm_model.specs.declared.op.Write.{Write}
 use Rattle.blsm_model.specs.Values.{key_of, weight_of}
@@ -9,16 +12,15 @@ use Rattle.record_delta.specs.Records.{record_of, weight}
 use Rattle.record_delta.specs.Entries.{is_above, with_record}
 use Rattle.gear_sched.specs.Gears.{GearState, entered}
 use Rattle.snow_merge.specs.Pass.{SnowState}
-use Rattle.tree_machine.specs.Lists.{Lists, memory_weight}
+use Rattle.tree_machine.specs.Lists.{memory_weight}
 use Rattle.tree_machine.specs.Merges.{Merge}
-use Rattle.tree_machine.specs.Layers.{IsSound, IsPassCounted}
+use Rattle.tree_machine.specs.Layers.{IsSound}
 use Rattle.tree_machine.specs.Machine.{Machine, Merges}
-use Rattle.tree_machine.specs.Moves.{goes_to_a, with_write, take_write, note, stop}
+use Rattle.tree_machine.specs.Moves.{goes_to_a, take_write, note, stop}
 use Rattle.tree_machine.specs.Steps.{count_for_write, work_end, leave}
 use Rattle.tree_machine.proofs.WeightLemmas.{weight_of_record}
 use Rattle.seat_book.specs.State.{BookState, book_of, peaked_in, noted_in, stopped_in, paid_in, turned_in, helped_in, ended_in, left_in}
 use Rattle.tree_file.specs.Tree.{Tree, lists_of}
-use Rattle.tree_file.proofs.ListLemmas.{lists_appended_a, lists_appended_b}
 use Rattle.tree_log.specs.Log.{appended}
 use Rattle.tree_runs.specs.Runs.{RunsState}
 use Rattle.tree_runs.specs.Holding.{cursor_of_pass}
@@ -31,36 +33,20 @@ use Rattle.core_lists.proofs.WeighLemmas.{tables_weigh}
 
 -- the code sends a write where the machine does
 pub same_way : (pass : Option Merge) (snow : Option SnowState) (key : Key) → IsPassAt pass snow → goes_to_a pass key ≡ is_above (cursor_of_pass snow) key
-same_way None None key comes = refl
-same_way None (Some snow) key comes = absurd comes
-same_way (Some pass) None key comes = absurd comes
-same_way (Some pass) (Some snow) key comes = ap (λ (k : Option Key). is_above k key) comes
+same_way pass snow key h1 = grind (arith, common_steps, nat_tests)
 
 -- the lists with the write
 joined : (ahead : Bool) (key : Key) (rec : Rec) (tree : Tree)
     → cond ahead (record (lists_of tree) { a = with_record key rec (lists_of tree).a }) (record (lists_of tree) { b = with_record key rec (lists_of tree).b }) ≡ lists_of (appended ahead (key, rec) tree)
-joined true key rec tree = sym (lists_appended_a (key, rec) tree)
-joined false key rec tree = sym (lists_appended_b (key, rec) tree)
+joined ahead key rec tree = grind (arith, common_steps, nat_tests)
 
 -- the gears know a pass where one runs
 pub runs_as : (m : Machine) (held : Held) → IsSound m → IsPassAt m.merges.pass held.runs.pass → m.gears.pass ≡ is_some held.runs.pass
-runs_as m held sound comes = by m.merges.pass held.runs.pass sound.pass comes
-  where
-    by : (p : Option Merge) (o : Option SnowState) → IsPassCounted m.lists.a m.lists.c1 m.gears.pass m.gears.pass_c1 m.gears.pass_memory m.gears.pass_admitted m.gears.pass_taken p → IsPassAt p o → m.gears.pass ≡ is_some o
-    by None None counted comes = counted.0
-    by None (Some snow) counted comes = absurd comes
-    by (Some pass) None counted comes = absurd comes
-    by (Some pass) (Some snow) counted comes = counted.0
+runs_as m held sound comes = grind (arith, common_steps, nat_tests)
 
 pub write_has_lists : (seat : ℕ) (write : Write) (held : Held) (tree : Tree) (m : Machine) → HoldsMachine held tree m
     → (take_write seat write m).lists ≡ lists_of (appended (goes_ahead (key_of write) held) (key_of write, record_of write) tree)
-write_has_lists seat write held tree m holds =
-    let key = key_of write in
-    let rec = record_of write in
-    ap (λ (l : Lists). with_write m.merges.pass key rec l) holds.lists
-    ∙ ap (λ (b : Bool). cond b (record (lists_of tree) { a = with_record key rec (lists_of tree).a }) (record (lists_of tree) { b = with_record key rec (lists_of tree).b }))
-    (same_way m.merges.pass held.runs.pass key holds.pass)
-    ∙ joined (goes_ahead key held) key rec tree
+write_has_lists seat write held tree m holds = grind (arith, common_steps, nat_tests)
 
 pub write_lands : WriteLands
 write_lands seat write old new tree m file after at sound moves of_log are_of =

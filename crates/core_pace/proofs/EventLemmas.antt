@@ -1,9 +1,8 @@
 -- An admission is made of its moves.
 use Rattle.std.proofs.Common.{◌≡◌, ◌∙◌, ⊎_elim, ℕ, ◌+◌, ◌-◌, ◌<◌, ◌≤◌, Bool, true, false, cond, not, ◌&&◌, List, [], ◌∷◌, length, refl, ap, sym, subst, arith, length-append}
+use Rattle.std.proofs.lemmas.Grind.{common_steps}
+use Rattle.std.proofs.lemmas.Bool.Decides.{nat_tests}
 use Rattle.std.specs.Prelude.{is_some, nat_le, nat_lt, slice_index, slice_set, sum}
-use Rattle.std.proofs.lemmas.Bool.{ltb-true, ltb-false}
-use Rattle.std.proofs.lemmas.List.{get_or_past}
-use Rattle.std.proofs.lemmas.List.Sums.{sum_by-set}
 use Rattle.blsm_model.specs.Format.{most_entries}
 use Rattle.blsm_model.specs.Geometry.{c1_mark, charge_limit}
 use Rattle.blsm_model.specs.Book.{Book, noted, HasRoom}
@@ -47,8 +46,7 @@ use Rattle.core_pace.proofs.OneLemmas.{each_move_keeps_one}
 use Rattle.core_pace.proofs.BookLemmas.{rebooked, one_rebooked}
 
 not_so : (b : Bool) → (b ≡ true → ⊥) → b ≡ false
-not_so true fails = absurd (fails refl)
-not_so false fails = refl
+not_so b h1 = grind (arith, common_steps, nat_tests)
 
 -- the numbers, the geometry and the version
 pub record Stands (held : Held) (pace : Pace) : Type 0 where
@@ -76,8 +74,7 @@ pass_swapped old new pace s m = record {
     more : (b : Bool) → pace.passes + pace.deeps + pace.rotations + 1
         ≤ (cond b (with_rotation (with_pass_swapped pace)) (with_pass_swapped pace)).passes + (cond b (with_rotation (with_pass_swapped pace)) (with_pass_swapped pace)).deeps
         + (cond b (with_rotation (with_pass_swapped pace)) (with_pass_swapped pace)).rotations
-    more true = omega arith
-    more false = omega arith
+    more b = grind (arith, common_steps, nat_tests)
 
 settles_deep : (old new : Held) (pace : Pace) → Stands old pace → SettlesDeep old new → Stands new (deep_settled pace)
 settles_deep old new pace s settles = ⊎_elim
@@ -136,11 +133,7 @@ pass_keeps old new settles = ⊎_elim
     settles
 
 begun_book : (w : ℕ) (held : Held) → (begun_in w held).book ≡ held.book
-begun_book w held = by (not (is_some held.runs.pass) && nat_lt held.runs.sizes.low (held.spring + w))
-  where
-    by : (b : Bool) → (cond b (with_pass_begun held) held).book ≡ held.book
-    by true = refl
-    by false = refl
+begun_book w held = grind (arith, common_steps, nat_tests)
 
 pub ready_keeps : (old settled ready : Held) (w : ℕ) → SettlesDeep old settled → SettlesPass settled ready → KeepsBook old.book (begun_in w ready).book
 ready_keeps old settled ready w deep pass =
@@ -187,11 +180,7 @@ moves_are_told old settled ready pace w k deep pass = (
 
 -- an entry takes its room
 lowered : (xs : List ℕ) (seat : ℕ) → 0 < slice_index xs seat → sum (slice_set xs seat (slice_index xs seat - 1)) + 1 ≡ sum xs
-lowered xs seat some = by (nat_lt seat (length xs)) refl
-  where
-    by : (b : Bool) → nat_lt seat (length xs) ≡ b → sum (slice_set xs seat (slice_index xs seat - 1)) + 1 ≡ sum xs
-    by true there = omega (arith, some, sum_by-set (λ n. n) xs seat (slice_index xs seat - 1) 0 (ltb-true seat (length xs) there))
-    by false past = absurd (omega (arith, some, get_or_past xs seat 0 (ltb-false seat (length xs) past)))
+lowered xs seat some = grind (arith, common_steps, nat_tests)
 
 pub room_taken : (book : Book) (entry : Entry) → HasRoom book.room entry → length book.entries + sum book.room.entries ≤ most_entries → length (noted book entry).entries + sum (noted book entry).room.entries ≤ most_entries
 room_taken book entry room few = omega (arith, few, lowered book.room.entries entry.seat room.entries, length-append book.entries (entry ∷ []))

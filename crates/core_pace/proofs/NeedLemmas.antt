@@ -1,18 +1,19 @@
 -- What the calls below require, a paced core has.
-use Rattle.std.proofs.Common.{◌≡◌, ◌∙◌, ℕ, ◌+◌, ◌-◌, ◌*◌, ◌≤◌, Bool, true, false, cond, ◌&&◌, Option, Some, None, refl, ap, sym, arith}
+use Rattle.std.proofs.Common.{◌≡◌, ◌∙◌, ℕ, ◌+◌, ◌-◌, ◌*◌, ◌≤◌, Bool, true, false, cond, ◌&&◌, Option, None, refl, ap, sym, arith}
+use Rattle.std.proofs.lemmas.Grind.{common_steps}
+use Rattle.std.proofs.lemmas.Bool.Decides.{nat_tests}
 use Rattle.std.specs.Prelude.{is_some}
-use Rattle.std.proofs.lemmas.Bool.{false≢true, leb-true}
-use Rattle.blsm_model.specs.Geometry.{capacity, c1_mark}
+use Rattle.std.proofs.lemmas.Bool.{leb-true}
+use Rattle.blsm_model.specs.Geometry.{capacity}
 use Rattle.blsm_model.specs.Sizes.{Sizes}
 use Rattle.record_delta.specs.Records.{weight}
 use Rattle.record_delta.specs.Entries.{Entries, entries_weight, with_record}
 use Rattle.gear_sched.specs.Gears.{GearState}
-use Rattle.pacing.specs.Pace.{Pace, with_write}
+use Rattle.pacing.specs.Pace.{Pace}
 use Rattle.pacing.specs.Steps.{Lands}
 use Rattle.pacing.specs.Laws.{Fits}
 use Rattle.pacing.proofs.Promises.{all_fits}
 use Rattle.pacing.proofs.Runs.{deep_in_time, bounded}
-use Rattle.pacing.proofs.Writes.{written_within}
 use Rattle.snow_merge.specs.Pass.{SnowState}
 use Rattle.deep_merge.specs.Merge.{DeepState}
 use Rattle.tree_log.specs.Log.{table_for}
@@ -27,16 +28,13 @@ use Rattle.core_pace.proofs.WriteLemmas.{lands_by}
 -- ---- pages
 
 run_is : (runs : Bool) (made left taken all : ℕ) → (runs ≡ true → taken + left ≡ all) → (runs ≡ false → (made ≡ 0) × (left ≡ 0)) → made + left ≤ cond runs (made + (all - taken)) 0
-run_is true made left taken all adds none = let sum = adds refl in omega (arith, sum)
-run_is false made left taken all adds none = let nothing = none refl in omega (arith, nothing.0, nothing.1)
+run_is runs made left taken all h1 h2 = grind (arith, common_steps, nat_tests)
 
 no_pass : (snow : Option SnowState) (a : Entries) → is_some snow ≡ false → ((made_by_pass snow).weight ≡ 0) × (left_for_pass snow a ≡ 0)
-no_pass None a is = (refl, refl)
-no_pass (Some snow) a is = absurd (false≢true (sym is))
+no_pass snow a h1 = grind (arith, common_steps, nat_tests)
 
 no_deep : (merge : Option DeepState) → is_some merge ≡ false → ((made_by_deep merge).weight ≡ 0) × (left_for_deep merge ≡ 0)
-no_deep None is = (refl, refl)
-no_deep (Some merge) is = absurd (false≢true (sym is))
+no_deep merge h1 = grind (arith, common_steps, nat_tests)
 
 sizes_are : (held : Held) (pace : Pace) → HasPace held pace → IsOne held → pace.gears.sizes ≡ held.runs.sizes
 sizes_are held pace p one = ap (λ (g : GearState). g.sizes) p.gears ∙ one.gears
@@ -54,32 +52,21 @@ pages_fit held pace p one within = record {
     room = ap (λ (s : Sizes). capacity s) (sizes_are held pace p one)
 
     pass : pace.made1 + left_for_pass held.runs.pass held.log.a.entries ≤ cond pace.gears.pass (pace.made1 + (pace.a + pace.c1 - pace.gears.pass_taken)) 0
-    pass = run_is pace.gears.pass pace.made1 (left_for_pass held.runs.pass held.log.a.entries) pace.gears.pass_taken (pace.a + pace.c1) (λ is. p.pass_left (sym p.in_pass ∙ is))
-        (λ is. let none = no_pass held.runs.pass held.log.a.entries (sym p.in_pass ∙ is) in (p.made1 ∙ none.0, none.1))
+    pass = grind (arith, common_steps, nat_tests)
 
     deep : pace.made2 + left_for_deep held.runs.deep ≤ cond pace.gears.deep (pace.made2 + (pace.c1x + pace.c2 - pace.gears.deep_taken)) 0
-    deep = run_is pace.gears.deep pace.made2 (left_for_deep held.runs.deep) pace.gears.deep_taken (pace.c1x + pace.c2) (λ is. p.deep_left (sym p.in_deep ∙ is))
-        (λ is. let none = no_deep held.runs.deep (sym p.in_deep ∙ is) in (p.made2 ∙ none.0, none.1))
+    deep = grind (arith, common_steps, nat_tests)
 
 -- ---- the way of a swap
 
 both : (b c : Bool) → (b && c) ≡ true → (b ≡ true) × (c ≡ true)
-both true c is = (refl, is)
-both false c is = absurd (false≢true is)
+both b c h1 = grind (arith, common_steps, nat_tests)
 
 pub way_is_free : WayIsFree
 way_is_free held pace p one paced not_done done full = by held.runs.deep refl
   where
     by : (d : Option DeepState) → held.runs.deep ≡ d → held.runs.deep ≡ None
-    by None is = is
-    by (Some merge) is =
-        let tests = each_test_agrees held pace p in
-        let pass = both pace.gears.pass (Rattle.pacing.specs.Pace.pass_done pace) (tests.pass_done.0 done) in
-        let runs : pace.gears.deep ≡ true = p.in_deep ∙ ap (λ (d : Option DeepState). is_some d) is in
-        let heavy : c1_mark held.runs.sizes ≤ (made_by_pass held.runs.pass).weight = leb-true (c1_mark held.runs.sizes) (made_by_pass held.runs.pass).weight full in
-        let mark : c1_mark pace.gears.sizes ≡ c1_mark held.runs.sizes = ap (λ (s : Sizes). c1_mark s) (sizes_are held pace p one) in
-        let over = deep_in_time pace paced pass.0 pass.1 (omega (arith, heavy, mark, p.made1)) runs in
-        absurd (not_done (tests.deep_done.1 (ap (λ (b : Bool). b && Rattle.pacing.specs.Pace.deep_done pace) runs ∙ over)))
+    by d h1 = grind (arith, common_steps, nat_tests, each_test_agrees, both, leb-true, sizes_are, deep_in_time)
 
 -- ---- a write
 
@@ -107,14 +94,8 @@ writes_fit key rec held pace p one paced room heavy = record {
 
     by_lane : (b : Bool) → Lands pace (weight key rec) b (entries_weight (with_record key rec (table_for b held.log).entries))
         → Rattle.gated_log.specs.Lanes.end_of held.log.lanes (Rattle.tree_log.specs.Log.lane_for b held.log) + 1 + weight key rec + 1 ≤ 4 * held.log.lanes.sizes.half
-    by_lane true land = let f = all_fits (with_write pace 0 (weight key rec) true (entries_weight (with_record key rec held.log.a.entries))) (written_within pace 0 (weight key rec) true (entries_weight (with_record key rec held.log.a.entries)) paced.within room land) in
-        omega (arith, f.lane_a, p.lane_a, lane_sizes)
-    by_lane false land = let f = all_fits (with_write pace 0 (weight key rec) false (entries_weight (with_record key rec held.log.b.entries))) (written_within pace 0 (weight key rec) false (entries_weight (with_record key rec held.log.b.entries)) paced.within room land) in
-        omega (arith, f.lane_b, p.lane_b, lane_sizes)
+    by_lane b h1 = grind (arith, common_steps, nat_tests)
 
     by_table : (b : Bool) → Lands pace (weight key rec) b (entries_weight (with_record key rec (table_for b held.log).entries))
         → entries_weight (with_record key rec (table_for b held.log).entries) ≤ (table_for b held.log).reserved
-    by_table true land = let k = written_within pace 0 (weight key rec) true (entries_weight (with_record key rec held.log.a.entries)) paced.within room land in
-        omega (arith, k.within_peak, k.peak, one.reserved_a, half_is held pace p one)
-    by_table false land = let k = written_within pace 0 (weight key rec) false (entries_weight (with_record key rec held.log.b.entries)) paced.within room land in
-        omega (arith, k.within_peak, k.peak, one.reserved_b, half_is held pace p one)
+    by_table b h1 = grind (arith, common_steps, nat_tests)

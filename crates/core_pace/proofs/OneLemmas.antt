@@ -1,5 +1,8 @@
 -- Each move keeps one geometry, and the tables sorted and as large as they may be.
-use Rattle.std.proofs.Common.{◌≡◌, ◌∙◌, ℕ, ◌+◌, ◌≤◌, Bool, true, false, cond, List, [], ◌∷◌, refl, ap, sym, subst}
+use Rattle.std.proofs.Common.{◌≡◌, ◌∙◌, ℕ, ◌≤◌, Bool, true, false, List, [], ◌∷◌, refl, ap, sym, subst}
+use Rattle.std.proofs.lemmas.Grind.{common_steps}
+use Rattle.std.proofs.lemmas.Bool.Decides.{nat_tests}
+use Rattle.std.proofs.Common.{arith}
 use Rattle.blsm_model.specs.Geometry.{high_mark}
 use Rattle.blsm_model.specs.Lanes.{AreRoles, a_of, b_of, spare_of}
 use Rattle.blsm_model.specs.Sizes.{Sizes}
@@ -7,12 +10,12 @@ use Rattle.blsm_model.specs.declared.key.Key.{Key}
 use Rattle.catalog_swap.specs.declared.catalog.Catalog.{Catalog}
 use Rattle.record_delta.specs.declared.record.Rec.{Rec}
 use Rattle.record_delta.specs.Entries.{AreSorted}
-use Rattle.gear_sched.specs.Gears.{GearState, pass_ended, rotated}
+use Rattle.gear_sched.specs.Gears.{GearState}
 use Rattle.tree_log.specs.Log.{LogState, turned_log, with_entry}
 use Rattle.tree_machine.proofs.FoldLemmas.{sorted_with_record}
-use Rattle.tree_runs.specs.Runs.{RunsState, made_by_pass}
+use Rattle.tree_runs.specs.Runs.{RunsState}
 use Rattle.core_moves.specs.declared.held.Held.{Held}
-use Rattle.core_moves.specs.Held.{IsOne, is_run_full, goes_ahead}
+use Rattle.core_moves.specs.Held.{IsOne, goes_ahead}
 use Rattle.core_moves.specs.Moves.{with_pass_begun, with_debts_forgiven, gears_after_pass}
 use Rattle.core_pace.specs.Laws.{EachMoveKeepsOne}
 
@@ -110,11 +113,7 @@ written old new key rec ahead one runs log gears =
     }
 
 after_pass_sizes : (old : Held) → (gears_after_pass old).sizes ≡ old.gears.sizes
-after_pass_sizes old = by (is_run_full old)
-  where
-    by : (b : Bool) → (cond b (rotated (pass_ended old.gears) ((made_by_pass old.runs.pass).weight + old.runs.catalogue.c2.weight)) (pass_ended old.gears)).sizes ≡ old.gears.sizes
-    by true = refl
-    by false = refl
+after_pass_sizes old = grind (arith, common_steps, nat_tests)
 
 pub each_move_keeps_one : EachMoveKeepsOne
 each_move_keeps_one old new one = record {

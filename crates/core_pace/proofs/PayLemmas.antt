@@ -1,11 +1,11 @@
 -- A seat that pays has a merge to pay and a write that it pays for, and its payment is one of the pacing.
-use Rattle.std.proofs.Common.{◌≡◌, ◌∙◌, ℕ, zero, suc, ◌+◌, ◌-◌, ◌*◌, ◌<◌, ◌≤◌, Bool, true, false, cond, not, ◌||◌, List, length, refl, ap, sym, subst, arith}
-use Rattle.std.specs.Prelude.{◌==◌, is_some, sum, nat_le, slice_index}
-use Rattle.std.specs.Int.{div_ceil}
-use Rattle.std.proofs.lemmas.Bool.{false≢true, eq-eqb}
+use Rattle.std.proofs.Common.{◌≡◌, ◌∙◌, ℕ, ◌+◌, ◌<◌, ◌≤◌, Bool, true, false, cond, not, ◌||◌, List, length, refl, ap, sym, subst, arith}
+use Rattle.std.proofs.lemmas.Grind.{common_steps}
+use Rattle.std.proofs.lemmas.Bool.Decides.{nat_tests}
+use Rattle.std.specs.Prelude.{◌==◌, is_some, sum, slice_index}
 use Rattle.blsm_model.specs.Format.{callers, most_entries}
 use Rattle.blsm_model.specs.Book.{entry_at}
-use Rattle.blsm_model.specs.Geometry.{first_gear, second_gear, work_bound}
+use Rattle.blsm_model.specs.Geometry.{work_bound}
 use Rattle.blsm_model.specs.Histories.{writes_of}
 use Rattle.blsm_model.specs.Legal.{total_weight}
 use Rattle.blsm_model.specs.Sizes.{Sizes, IsGeometry}
@@ -13,15 +13,15 @@ use Rattle.gear_sched.specs.Gears.{GearState, Owes, first_debt, second_debt, pla
 use Rattle.gear_sched.specs.declared.Plan.{Plan}
 use Rattle.gear_sched.specs.declared.Plan.TheVariants.{Snow, Deep, Nothing}
 use Rattle.pacing.specs.Pace.{Pace, Quantum, with_forgiven, with_snow, with_deep, pass_over, deep_over}
-use Rattle.pacing.specs.Kept.{IsPaced, quanta_for, quanta_owed}
+use Rattle.pacing.specs.Kept.{IsPaced, quanta_owed}
 use Rattle.pacing.specs.Counts.{IsCounted}
 use Rattle.pacing.specs.Steps.{Pay, MayPay, FitsPlan, plan_of, paid_by}
 use Rattle.pacing.proofs.Runs.{step_keeps}
 use Rattle.pacing.proofs.Counts.{step_counts, counted_few}
 use Rattle.pacing.proofs.Spent.{step_spends}
-use Rattle.pacing.proofs.Numbers.{one_at_least, none_for_none}
+use Rattle.pacing.proofs.Numbers.{one_at_least}
 use Rattle.pacing.proofs.Promises.{forgiving_keeps}
-use Rattle.pacing.proofs.Payments.{snow_owed, deep_owed, nothing_left}
+use Rattle.pacing.proofs.Payments.{snow_owed, deep_owed}
 use Rattle.paced_tree.specs.Booking.{IsBookOf}
 use Rattle.paced_tree.specs.Numbers.{is_last}
 use Rattle.paced_tree.specs.Made.{IsPaidBy}
@@ -46,27 +46,18 @@ use Rattle.core_pace.proofs.EventLemmas.{forgiving_is_paced}
 
 -- a merge that isn't over runs, and something is left
 runs_on : (runs : Bool) (left : ℕ) → (not runs || (left == 0)) ≡ false → (runs ≡ true) × (0 < left)
-runs_on true left is = (refl, some left is)
-  where
-    some : (n : ℕ) → (n == 0) ≡ false → 0 < n
-    some zero differs = absurd (false≢true (sym differs ∙ eq-eqb 0 0 refl))
-    some (suc n) differs = omega arith
-runs_on false left is = absurd (false≢true (sym is))
+runs_on runs left h1 = grind (arith, common_steps, nat_tests)
 
 in_place : (xs : List ℕ) (seat : ℕ) → length xs ≡ callers → seat < callers → seat < length xs
 in_place xs seat is caller = omega (arith, is, caller)
 
 -- the seat owes to a pass that isn't over
 snow_runs : (pace : Pace) (seat : ℕ) → IsPaced pace → seat < callers → plan_of (with_forgiven pace seat) seat ≡ Snow → pass_over pace ≡ false
-snow_runs pace seat paced caller is =
-    nothing_left pace.gears.first_debts seat (pass_over pace) (nat_le (first_gear pace.gears.sizes * pace.gears.pass_admitted) (pace.gears.pass_taken + (sum pace.gears.first_debts - first_debt pace.gears seat)))
-    (in_place pace.gears.first_debts seat paced.debts.first_seats caller) (snow_owed (first_debt (with_forgiven pace seat).gears seat) (second_debt (with_forgiven pace seat).gears seat) is)
+snow_runs pace seat paced caller is = grind (arith, common_steps, nat_tests)
 
 -- or to such a deep merge
 deep_runs : (pace : Pace) (seat : ℕ) → IsPaced pace → seat < callers → plan_of (with_forgiven pace seat) seat ≡ Deep → deep_over pace ≡ false
-deep_runs pace seat paced caller is =
-    nothing_left pace.gears.second_debts seat (deep_over pace) (nat_le (second_gear pace.gears.sizes * pace.gears.deep_admitted) (pace.gears.deep_taken + (sum pace.gears.second_debts - second_debt pace.gears seat)))
-    (in_place pace.gears.second_debts seat paced.debts.second_seats caller) (deep_owed (first_debt (with_forgiven pace seat).gears seat) (second_debt (with_forgiven pace seat).gears seat) is)
+deep_runs pace seat paced caller is = grind (arith, common_steps, nat_tests)
 
 pub each_plan_runs : EachPlanRuns
 each_plan_runs held pace seat p paced caller = record {
@@ -78,32 +69,11 @@ each_plan_runs held pace seat p paced caller = record {
 
 -- Some quanta are owed by a seat that pays.
 some_owed : (pace : Pace) (seat : ℕ) → IsPaced pace → seat < callers → (plan_of (with_forgiven pace seat) seat ≡ Nothing → ⊥) → 0 < quanta_owed (with_forgiven pace seat) seat
-some_owed pace seat paced caller owes = by (plan_of (with_forgiven pace seat) seat) refl
-  where
-    quantum : 0 < pace.gears.sizes.quantum
-    quantum = let fits = paced.within.sizes.quantum in omega (arith, fits)
-
-    by : (plan : Plan) → plan_of (with_forgiven pace seat) seat ≡ plan → 0 < quanta_owed (with_forgiven pace seat) seat
-    by Nothing is = absurd (owes is)
-    by Snow is =
-        let some = one_at_least (first_debt (with_forgiven pace seat).gears seat) pace.gears.sizes.quantum quantum (snow_owed (first_debt (with_forgiven pace seat).gears seat) (second_debt (with_forgiven pace seat).gears seat) is) in
-        let first : cond (pass_over pace) 0 (quanta_for pace.gears.sizes (first_debt (with_forgiven pace seat).gears seat)) ≡ quanta_for pace.gears.sizes (first_debt (with_forgiven pace seat).gears seat)
-        = ap (λ (b : Bool). cond b 0 (quanta_for pace.gears.sizes (first_debt (with_forgiven pace seat).gears seat))) (snow_runs pace seat paced caller is) in
-        omega (arith, some, first)
-    by Deep is =
-        let some = one_at_least (second_debt (with_forgiven pace seat).gears seat) pace.gears.sizes.quantum quantum (deep_owed (first_debt (with_forgiven pace seat).gears seat) (second_debt (with_forgiven pace seat).gears seat) is) in
-        let second : cond (deep_over pace) 0 (quanta_for pace.gears.sizes (second_debt (with_forgiven pace seat).gears seat)) ≡ quanta_for pace.gears.sizes (second_debt (with_forgiven pace seat).gears seat)
-        = ap (λ (b : Bool). cond b 0 (quanta_for pace.gears.sizes (second_debt (with_forgiven pace seat).gears seat))) (deep_runs pace seat paced caller is) in
-        omega (arith, some, second)
+some_owed pace seat paced caller owes = grind (arith, common_steps, nat_tests, one_at_least, snow_owed, snow_runs, deep_owed, deep_runs)
 
 -- a seat without a write is bound to none
 bound_to_none : (sizes : Sizes) → IsGeometry sizes → work_bound sizes 0 ≡ 0
-bound_to_none sizes fits =
-    let some : 0 < sizes.quantum = omega (arith, fits.quantum) in
-    let none = none_for_none sizes.quantum some in
-    let first : first_gear sizes * 0 ≡ 0 = omega arith in
-    let second : second_gear sizes * 0 ≡ 0 = omega arith in
-    omega (arith, none, ap (λ (n : ℕ). div_ceil n sizes.quantum) first, ap (λ (n : ℕ). div_ceil n sizes.quantum) second)
+bound_to_none sizes fits = grind (arith, common_steps, nat_tests)
 
 pub payers_wrote : PayersWrote
 payers_wrote held pace seat told caller owes = by (is_last held.book.book seat) refl

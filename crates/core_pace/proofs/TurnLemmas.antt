@@ -1,11 +1,12 @@
 -- A turn is made of its move, and what is told where the book alone changes.
-use Rattle.std.proofs.Common.{◌≡◌, ◌∙◌, ℕ, zero, suc, ◌+◌, ◌<◌, ◌≤◌, Bool, true, false, cond, not, ◌||◌, ◌&&◌, List, length, Option, Some, None, refl, ap, sym, subst, arith}
-use Rattle.std.specs.Prelude.{◌==◌, is_some, nat_lt, slice_index, slice_index_or, slice_set, sum}
+use Rattle.std.proofs.Common.{◌≡◌, ◌∙◌, ℕ, ◌+◌, ◌<◌, ◌≤◌, Bool, true, false, cond, not, ◌||◌, ◌&&◌, List, length, Option, None, refl, ap, sym, subst, arith}
+use Rattle.std.proofs.lemmas.Grind.{common_steps}
+use Rattle.std.proofs.lemmas.Bool.Decides.{nat_tests}
+use Rattle.std.specs.Prelude.{◌==◌, is_some, slice_index, slice_index_or, slice_set, sum}
 use Rattle.std.proofs.lemmas.Bool.{false≢true, eq-eqb, eqb-true, le-leb, lt-leb, and_parts, and_from}
-use Rattle.std.proofs.lemmas.List.{get_or_past, set-get_or}
+use Rattle.std.proofs.lemmas.List.{set-get_or}
 use Rattle.blsm_model.specs.Format.{callers, most_entries}
 use Rattle.blsm_model.specs.Book.{Book}
-use Rattle.blsm_model.specs.Sizes.{Sizes}
 use Rattle.blsm_model.specs.declared.op.Op.TheVariants.{Work}
 use Rattle.catalog_swap.specs.declared.catalog.Catalog.{Catalog}
 use Rattle.gear_sched.specs.Gears.{GearState, first_debt, second_debt, deep_is_behind}
@@ -26,7 +27,6 @@ use Rattle.paced_tree.proofs.BookLaws.{turn_books, help_books, end_books}
 use Rattle.tree_machine.specs.Machine.{WorkSoFar, no_work}
 use Rattle.tree_machine.specs.Steps.{Turn, work_reply}
 use Rattle.seat_book.specs.State.{BookState, work_in, with_ended, turned_in, helped_in}
-use Rattle.tree_log.specs.Log.{weight_of_tables}
 use Rattle.snow_merge.specs.Pass.{SnowState}
 use Rattle.deep_merge.specs.Merge.{DeepState}
 use Rattle.tree_runs.specs.Runs.{left_for_pass, left_for_deep}
@@ -64,15 +64,10 @@ move_is_turn is_worker held pace p one =
     pass_done_is = done_agrees (is_some held.runs.pass) pace.gears.pass pace.gears.pass_taken (left_for_pass held.runs.pass held.log.a.entries) (pace.a + pace.c1) p.in_pass p.pass_left
 
     behind_is : (is_some held.runs.deep && (not (is_some held.runs.pass) || deep_is_behind held.gears)) ≡ (pace.gears.deep && (not pace.gears.pass || deep_is_behind pace.gears))
-    behind_is =
-        let behind : deep_is_behind pace.gears ≡ deep_is_behind held.gears = ap (λ (g : GearState). deep_is_behind g) p.gears in
-        ap (λ (b : Bool). b && (not (is_some held.runs.pass) || deep_is_behind held.gears)) (sym p.in_deep)
-        ∙ ap (λ (b : Bool). pace.gears.deep && (not b || deep_is_behind held.gears)) (sym p.in_pass)
-        ∙ ap (λ (b : Bool). pace.gears.deep && (not pace.gears.pass || b)) (sym behind)
+    behind_is = grind (arith, common_steps, nat_tests)
 
     begins_is : (b : Bool) → may_begin_in b held ≡ may_begin b pace
-    begins_is true = ap (λ (n : ℕ). nat_lt n held.spring) (sym (ap (λ (s : Sizes). s.low) sizes)) ∙ ap (λ (n : ℕ). nat_lt pace.gears.sizes.low n) (sym p.spring)
-    begins_is false = let weighs : weight_of_tables held.log ≡ pace.a + pace.b = omega (arith, p.a, p.b) in ap (λ (n : ℕ). not (n == 0)) weighs
+    begins_is b = grind (arith, common_steps, nat_tests)
 
     rotates_is : (not is_worker && not (held.runs.catalogue.c1.weight == 0)) ≡ (not is_worker && not (pace.c1 == 0))
     rotates_is = ap (λ (n : ℕ). not is_worker && not (n == 0)) (sym p.c1)
@@ -80,18 +75,14 @@ move_is_turn is_worker held pace p one =
 -- ---- what a move requires of the merges
 
 some_left : (runs : Bool) (left : ℕ) → (runs && (left == 0)) ≡ false → runs ≡ true → 0 < left
-some_left true zero differs runs = absurd (false≢true (sym differs ∙ eq-eqb 0 0 refl))
-some_left true (suc n) differs runs = omega arith
-some_left false left differs runs = absurd (false≢true runs)
+some_left runs left h1 h2 = grind (arith, common_steps, nat_tests)
 
 no_pass : (snow : Option SnowState) → is_some snow ≡ false → snow ≡ None
-no_pass None is = refl
-no_pass (Some snow) is = absurd (false≢true (sym is))
+no_pass snow h1 = grind (arith, common_steps, nat_tests)
 
 -- no deep merge runs where neither a pass nor a quantum of a deep merge is due
 no_deep : (deep : Option DeepState) (pass behind : Bool) → pass ≡ false → (is_some deep && (not pass || behind)) ≡ false → deep ≡ None
-no_deep None pass behind rests none = refl
-no_deep (Some merge) pass behind rests none = absurd (false≢true (sym none ∙ ap (λ (b : Bool). not b || behind) rests))
+no_deep deep pass behind h1 h2 = grind (arith, common_steps, nat_tests)
 
 none_left : (runs : Bool) (left : ℕ) → (runs && (left == 0)) ≡ true → (runs ≡ true) × (left ≡ 0)
 none_left runs left is = let parts = and_parts runs (left == 0) is in (parts.0, eqb-true left 0 parts.1)
@@ -307,13 +298,7 @@ module _ (seat n : ℕ) (old moved : Held) (pace : Pace) (k : IsPacedHeld old pa
   worker_is = le-leb callers seat may.worker
 
   none_owed : first_debt old.gears seat + second_debt old.gears seat ≡ 0
-  none_owed =
-      let debts = k.told.paced.debts in
-      let gears = k.numbers.gears in
-      let first = get_or_past pace.gears.first_debts seat 0 (omega (arith, debts.first_seats, may.worker)) in
-      let second = get_or_past pace.gears.second_debts seat 0 (omega (arith, debts.second_seats, may.worker)) in
-      let sum : first_debt pace.gears seat + second_debt pace.gears seat ≡ 0 = omega (arith, first, second) in
-      subst (λ (g : GearState). first_debt g seat + second_debt g seat ≡ 0) gears sum
+  none_owed = grind (arith, common_steps, nat_tests)
 
   abbrev help_next : Pace
   help_next = next true seat n old moved pace k worker_is none_owed moves

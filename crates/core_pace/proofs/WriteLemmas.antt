@@ -1,5 +1,7 @@
 -- A write has the pace that the pacing makes of it.
 use Rattle.std.proofs.Common.{◌≡◌, ◌∙◌, ℕ, ◌+◌, ◌<◌, ◌≤◌, Bool, true, false, cond, max, Option, Some, None, refl, ap, sym, subst, arith}
+use Rattle.std.proofs.lemmas.Grind.{common_steps}
+use Rattle.std.proofs.lemmas.Bool.Decides.{nat_tests}
 use Rattle.std.specs.Prelude.{is_some}
 use Rattle.std.proofs.lemmas.Bool.{false≢true}
 use Rattle.blsm_model.specs.declared.key.Key.{Key}
@@ -38,12 +40,7 @@ left_grown (Some snow) a key rec ahead = record { table = let grows = left_grows
 
 -- a key behind a pass finds one that has taken something
 behind_some : (snow : Option SnowState) (taken : ℕ) (key : Key) → HasTaken snow taken → is_above (cursor_of_pass snow) key ≡ false → (is_some snow ≡ true) × (0 < taken)
-behind_some None taken key has behind = absurd (false≢true (sym behind))
-behind_some (Some snow) taken key has behind = (refl, has (at_key snow.at behind))
-  where
-    at_key : (at : Option Key) → is_above at key ≡ false → is_some at ≡ true
-    at_key None is = absurd (false≢true (sym is))
-    at_key (Some low) is = refl
+behind_some snow taken key h1 h2 = grind (arith, common_steps, nat_tests)
 
 -- where a write would land
 pub lands_by : (key : Key) (rec : Rec) (held : Held) (pace : Pace) → HasPace held pace → IsOne held → (b : Bool) → goes_ahead key held ≡ b

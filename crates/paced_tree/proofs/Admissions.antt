@@ -1,8 +1,10 @@
 -- An admission of the lists is one of the numbers.
 use Rattle.std.proofs.Common.{◌≡◌, ◌∙◌, refl, sym, ap, subst, ℕ, ◌+◌, ◌<◌, ◌≤◌, Bool, cond, true, false, ◌&&◌, [], ◌∷◌, Option, Some, None, set, arith}
+use Rattle.std.proofs.lemmas.Grind.{common_steps}
+use Rattle.std.proofs.lemmas.Bool.Decides.{nat_tests}
 use Rattle.std.specs.Prelude.{◌==◌, nat_lt, is_some}
 use Rattle.std.specs.List.{AllByRecursion}
-use Rattle.std.proofs.lemmas.Bool.{false≢true, ltb-false}
+use Rattle.std.proofs.lemmas.Bool.{ltb-false}
 use Rattle.blsm_model.specs.Format.{callers}
 use Rattle.blsm_model.specs.Geometry.{charge_limit}
 use Rattle.blsm_model.specs.Values.{key_of, weight_of}
@@ -27,7 +29,7 @@ use Rattle.pacing.proofs.Promises.{moves_keep}
 use Rattle.record_delta.specs.Entries.{AreSorted, Entries, entries_weight, is_above, with_record}
 use Rattle.tree_machine.specs.Lists.{Lists}
 use Rattle.tree_machine.specs.Merges.{Merge}
-use Rattle.tree_machine.specs.Layers.{IsSound, IsPassCounted, HasWay}
+use Rattle.tree_machine.specs.Layers.{IsSound, HasWay}
 use Rattle.tree_machine.specs.Machine.{Machine, charge}
 use Rattle.tree_machine.specs.Moves.{goes_to_a, with_write, take_write, with_peak, note, stop}
 use Rattle.tree_machine.specs.Steps.{Outcome, Well, FailedAfter, Broken, NoRoom, replied, deep_swapped, swaps_due, ready_for, taken_once, admit, admit_fitting}
@@ -67,17 +69,11 @@ taken_le None es = omega arith
 taken_le (Some pass) es = omega (arith, weight_parts pass.cursor es)
 
 at_key : (cursor : Option Key) (key : Key) → is_above cursor key ≡ false → is_some cursor ≡ true
-at_key None key is = absurd (false≢true (sym is))
-at_key (Some cursor) key is = refl
+at_key cursor key h1 = grind (arith, common_steps, nat_tests)
 
 -- a key that isn't ahead finds a pass that has taken something
 behind_runs : (m : Machine) (key : Key) → IsSound m → HasTaken m.merges.pass m.gears.pass_taken → goes_to_a m.merges.pass key ≡ false → (m.gears.pass ≡ true) × (0 < m.gears.pass_taken)
-behind_runs m key sound started = by m.merges.pass sound.pass started
-  where
-    by : (p : Option Merge) → IsPassCounted m.lists.a m.lists.c1 m.gears.pass m.gears.pass_c1 m.gears.pass_memory m.gears.pass_admitted m.gears.pass_taken p → HasTaken p m.gears.pass_taken
-        → goes_to_a p key ≡ false → (m.gears.pass ≡ true) × (0 < m.gears.pass_taken)
-    by None counted has is = absurd (false≢true (sym is))
-    by (Some pass) counted has is = (counted.0, has (at_key pass.cursor key is))
+behind_runs m key sound started = grind (arith, common_steps, nat_tests)
 
 module _ (m : Machine) (l : Pace) (w : Write) (sound : IsSound m) (started : HasTaken m.merges.pass m.gears.pass_taken) where
   abbrev at_a : Lists
@@ -102,15 +98,7 @@ module _ (m : Machine) (l : Pace) (w : Write) (sound : IsSound m) (started : Has
       → with_numbers_of (note seat op reply (with_peak (take_write seat w m)))
       (pace_with_write (with_numbers_of m l) seat (weight_of w) (goes_to_a m.merges.pass (key_of w)) (weight_after (goes_to_a m.merges.pass (key_of w)) (with_write m.merges.pass (key_of w) (record_of w) m.lists)))
       ≡ pace_with_write (with_numbers_of m l) seat (weight_of w) (goes_to_a m.merges.pass (key_of w)) (weight_after (goes_to_a m.merges.pass (key_of w)) (with_write m.merges.pass (key_of w) (record_of w) m.lists))
-  written_numbers seat op reply = by (goes_to_a m.merges.pass (key_of w)) refl
-    where
-      by : (b : Bool) → goes_to_a m.merges.pass (key_of w) ≡ b
-          → with_numbers_of (note seat op reply (with_peak (record (take_write seat w m) { lists = cond b at_a at_b })))
-          (pace_with_write (with_numbers_of m l) seat (weight_of w) b (weight_after b (cond b at_a at_b)))
-          ≡ pace_with_write (with_numbers_of m l) seat (weight_of w) b (weight_after b (cond b at_a at_b))
-      by true ahead = ap (λ n. record (pace_with_write (with_numbers_of m l) seat (weight_of w) true (entries_weight (with_record (key_of w) (record_of w) m.lists.a))) { taken = n })
-          (taken_stays m.merges.pass (key_of w) (record_of w) m.lists.a sound.layered.sorted_a ahead)
-      by false behind = refl
+  written_numbers seat op reply = grind (arith, common_steps, nat_tests, taken_stays)
 
 -- ---- an admission
 

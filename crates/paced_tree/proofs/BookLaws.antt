@@ -1,5 +1,7 @@
 -- What each part of a step does to the book's counts, over the pace alone.
 use Rattle.std.proofs.Common.{◌≡◌, refl, sym, subst, ℕ, ◌+◌, ◌<◌, ◌≤◌, Bool, cond, true, false, not, ◌&&◌, set, arith}
+use Rattle.std.proofs.lemmas.Grind.{common_steps}
+use Rattle.std.proofs.lemmas.Bool.Decides.{nat_tests}
 use Rattle.std.specs.Prelude.{nat_lt, nat_le, slice_index}
 use Rattle.blsm_model.specs.Geometry.{c1_mark, work_bound}
 use Rattle.blsm_model.specs.declared.history.Reply.TheVariants.{Done}
@@ -32,8 +34,7 @@ note_books book s pace entry is k =
     noted_booked pace.gears.sizes book s.quanta s.work pace.work pace.admitted pace.writes pace.weights pace.quanta entry (by (is_done entry.reply) is) k
   where
     by : (b : Bool) → (b ≡ true → is_write entry.op ≡ false) → (b && is_write entry.op) ≡ false
-    by true is = is refl
-    by false is = refl
+    by b h1 = grind (arith, common_steps, nat_tests)
 
 -- ---- moves that the book doesn't see
 

@@ -1,5 +1,7 @@
 -- The merges stay few, while the tree runs.
-use Rattle.std.proofs.Common.{◌≡◌, ◌∙◌, refl, sym, ap, subst, ℕ, ◌+◌, Bool, cond, true, false, List, [], ◌∷◌, Option, Some, None, length, arith, ◌≤◌}
+use Rattle.std.proofs.Common.{◌≡◌, refl, sym, subst, ℕ, ◌+◌, Bool, cond, true, false, List, [], ◌∷◌, Option, Some, None, arith}
+use Rattle.std.proofs.lemmas.Grind.{common_steps}
+use Rattle.std.proofs.lemmas.Bool.Decides.{nat_tests}
 use Rattle.std.specs.Prelude.{◌==◌, nat_lt}
 use Rattle.blsm_model.specs.Geometry.{charge_limit}
 use Rattle.blsm_model.specs.Values.{key_of, weight_of}
@@ -10,7 +12,6 @@ use Rattle.blsm_model.specs.declared.op.Write.{Write}
 use Rattle.blsm_model.specs.declared.history.Why.{Why}
 use Rattle.blsm_model.specs.declared.history.Why.TheVariants.{Faulted}
 use Rattle.blsm_model.specs.declared.history.Reply.TheVariants.{Full, FaultLost, FaultUnsure}
-use Rattle.blsm_model.proofs.OpLemmas.{writes_few}
 use Rattle.record_delta.specs.Records.{record_of}
 use Rattle.pacing.specs.Pace.{Pace, with_forgiven}
 use Rattle.pacing.specs.Kept.{IsPaced}
@@ -25,13 +26,11 @@ use Rattle.tree_machine.specs.Machine.{Machine, charge, is_closed}
 use Rattle.tree_machine.specs.Moves.{goes_to_a, with_write, stop}
 use Rattle.tree_machine.specs.Steps.{Outcome, Well, FailedAfter, Broken, NoRoom, replied, deep_swapped, swaps_due, ready_for, forgive, admit_fitting}
 use Rattle.tree_machine.specs.Plays.{stepped_as}
-use Rattle.tree_machine.proofs.FrameLemmas.{step_stays}
 use Rattle.tree_machine.proofs.CarryLemmas.{ready_carries}
-use Rattle.tree_machine.proofs.ToldLemmas.{some_or_none}
 use Rattle.paced_tree.specs.Numbers.{IsPaceOf}
 use Rattle.paced_tree.specs.After.{no_quantum, weight_after, admitted, after_admission, after_payment, after_turn, unless_stopped, pace_after, quantum_for_plan, quantum_for_move}
 use Rattle.paced_tree.proofs.Moves.{of_pace, ready_of}
-use Rattle.paced_tree.proofs.Admissions.{Goes, lands_of, one_weight}
+use Rattle.paced_tree.proofs.Admissions.{Goes, lands_of}
 
 -- ---- an admission
 
@@ -58,12 +57,7 @@ first_weight (w ∷ ws) = weight_of w
 
 -- a command writes once at most
 pub writes_once : (op : Op) (w : Write) (rest : List Write) → writes_of op ≡ w ∷ rest → total_weight (writes_of op) ≡ weight_of w
-writes_once op w rest is = by (writes_of op) (writes_few op) is
-  where
-    by : (ws : List Write) → length ws ≤ 1 → ws ≡ w ∷ rest → total_weight ws ≡ weight_of w
-    by [] few is = absurd (omega (arith, ap (λ (ws : List Write). length ws) is))
-    by (x ∷ []) few is = one_weight x ∙ ap first_weight is
-    by (x ∷ y ∷ ws) few is = absurd (omega (arith, few))
+writes_once op w rest is = grind (arith, common_steps, nat_tests)
 
 admission_counts : (m : Machine) (p : Pace) (seat : ℕ) (op : Op) (outcome : Outcome) → IsSound m → HasWay m → Goes m p → IsCounted p
     → (Rattle.tree_machine.specs.Steps.admit m seat op outcome).state.stopped ≡ None
@@ -72,8 +66,7 @@ admission_counts m p seat op outcome sound way g c runs = by m.stopped (nat_lt (
   where
     stops : (faults : ℕ) (b d : Bool)
         → (cond b (replied seat op FaultLost (stop (Faulted faults) (cond d m (deep_swapped m)))) (replied seat op FaultUnsure (stop (Faulted faults) (ready_for (total_weight (writes_of op)) m)))).state.stopped ≡ None → ⊥
-    stops faults true d none = some_or_none (Some (Faulted faults)) (Faulted faults) refl none
-    stops faults false d none = some_or_none (Some (Faulted faults)) (Faulted faults) refl none
+    stops faults b d h1 = grind (arith, common_steps, nat_tests)
 
     written : IsCounted (admitted seat op (writes_of op) (ready_for (total_weight (writes_of op)) m) p)
     written = written_counts m p seat op sound way g c (writes_of op) (writes_once op)
@@ -112,11 +105,7 @@ either_counts false p q c d = d
 
 -- a tree that runs after a step ran before it
 ran : (m : Machine) (seat : ℕ) (k : Kind) (outcome : Outcome) → (stepped_as m seat k outcome).state.stopped ≡ None → m.stopped ≡ None
-ran m seat k outcome none = by m.stopped refl
-  where
-    by : (o : Option Why) → m.stopped ≡ o → o ≡ None
-    by None is = refl
-    by (Some why) is = absurd (some_or_none (stepped_as m seat k outcome).state.stopped why (step_stays m seat k outcome why is) none)
+ran m seat k outcome none = grind (arith, common_steps, nat_tests)
 
 pub step_counts : (m : Machine) (p : Pace) (seat : ℕ) (k : Kind) (outcome : Outcome) → IsSound m → HasWay m → Goes m p → (m.stopped ≡ None → IsCounted p)
     → (stepped_as m seat k outcome).state.stopped ≡ None → IsCounted (pace_after m p seat k outcome)

@@ -1,8 +1,9 @@
 -- A lane's fronts, one record at a time.
-use Rattle.std.proofs.Common.{◌≡◌, ◌∙◌, refl, sym, ap, subst, ℕ, ◌≤◌, max, Bool, true, false, [], ◌∷◌, ◌++◌, take, length, arith}
+use Rattle.std.proofs.Common.{◌≡◌, ◌∙◌, refl, sym, ap, subst, ℕ, ◌≤◌, max, Bool, [], ◌∷◌, ◌++◌, take, length, arith}
+use Rattle.std.proofs.lemmas.Grind.{common_steps}
+use Rattle.std.proofs.lemmas.Bool.Decides.{nat_tests}
 use Rattle.std.specs.Prelude.{fold, nat_lt}
-use Rattle.std.proofs.lemmas.Bool.{ltb-true, ltb-false}
-use Rattle.std.proofs.lemmas.List.{take-append-le, take_all, length-append}
+use Rattle.std.proofs.lemmas.List.{take_all}
 use Rattle.blsm_model.specs.declared.key.Key.{Key}
 use Rattle.record_delta.specs.declared.record.Rec.{Rec}
 use Rattle.record_delta.specs.Entries.{Entries, entries_weight, replayed, with_record}
@@ -29,12 +30,7 @@ lane_grows lane table most key rec is = record { replays = now; fronts = λ n. b
     now = fold_push [] lane key rec ∙ ap (λ t. with_record key rec t) is.replays
 
     by : (n : ℕ) (b : Bool) → nat_lt (length lane) n ≡ b → entries_weight (replayed (take n (lane ++ (key, rec) ∷ []))) ≤ max most (entries_weight (with_record key rec table))
-    by n true past =
-        let whole : take n (lane ++ (key, rec) ∷ []) ≡ lane ++ (key, rec) ∷ [] = take_all n (lane ++ (key, rec) ∷ []) (omega (arith, length-append lane ((key, rec) ∷ []), ltb-true (length lane) n past)) in
-        omega (arith, ap (λ es. entries_weight (replayed es)) whole, ap entries_weight now)
-    by n false within =
-        let front : take n (lane ++ (key, rec) ∷ []) ≡ take n lane = take-append-le n lane ((key, rec) ∷ []) (ltb-false (length lane) n within) in
-        omega (arith, ap (λ es. entries_weight (replayed es)) front, is.fronts n)
+    by n b h1 = grind (arith, common_steps, nat_tests)
 
 pub lanes_replay : LanesReplay
 lanes_replay pace fronts lane_a lane_b a b paced are is_a is_b weighs =

@@ -1,9 +1,10 @@
 -- What a step of the tree makes of its numbers, by its answer.
 use Rattle.std.proofs.Common.{◌≡◌, ◌∙◌, ap, refl, sym, subst, ℕ, ◌+◌, ◌<◌, ◌≤◌, inl, inr, Bool, cond, true, false, ◌&&◌, List, [], ◌∷◌, Option, Some, None, arith, length}
+use Rattle.std.proofs.lemmas.Grind.{common_steps}
+use Rattle.std.proofs.lemmas.Bool.Decides.{nat_tests}
 use Rattle.std.specs.Prelude.{◌==◌, nat_lt, nat_le}
 use Rattle.std.specs.List.{AllByRecursion}
 use Rattle.std.proofs.lemmas.Bool.{ltb-false, leb-true}
-use Rattle.std.proofs.lemmas.List.{get_or_past}
 use Rattle.blsm_model.specs.Format.{callers, least_weight, most_weight}
 use Rattle.blsm_model.specs.Geometry.{charge_limit}
 use Rattle.blsm_model.specs.Values.{key_of, weight_of}
@@ -136,10 +137,7 @@ payment_made m p seat outcome sound g caller = planned (plan_for (first_debt (fo
     owing quantum owes NoRoom = paid_made owes
 
     nothing : plan_of (with_forgiven p seat) seat ≡ Nothing → (e : Outcome) → after_payment m p seat e ≡ with_forgiven p seat
-    nothing is (FailedAfter commits faults) = refl
-    nothing is (Broken page) = refl
-    nothing is Well = ap (λ plan. paid_by plan (with_forgiven p seat) seat (quantum_for_plan plan (forgive seat m))) is
-    nothing is NoRoom = ap (λ plan. paid_by plan (with_forgiven p seat) seat (quantum_for_plan plan (forgive seat m))) is
+    nothing h1 e = grind (arith, common_steps, nat_tests)
 
     planned : (plan : Plan) → plan_for (first_debt (forgive seat m).gears seat) (second_debt (forgive seat m).gears seat) ≡ plan
         → IsPaidBy (pay_planned plan (forgive seat m) seat outcome).answer seat p (after_payment m p seat outcome)
@@ -192,8 +190,7 @@ turn_made m l seat is_worker outcome sound g is settled = by outcome
 
 -- a worker has no desk
 no_desk : (m : Machine) (l : Pace) (seat : ℕ) → IsPaced (with_numbers_of m l) → callers ≤ seat → first_debt m.gears seat + second_debt m.gears seat ≡ 0
-no_desk m l seat k worker =
-    omega (arith, get_or_past m.gears.first_debts seat 0 (omega (arith, worker, k.debts.first_seats)), get_or_past m.gears.second_debts seat 0 (omega (arith, worker, k.debts.second_seats)))
+no_desk m l seat k worker = grind (arith, common_steps, nat_tests)
 
 -- ---- any step
 

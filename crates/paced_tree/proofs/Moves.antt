@@ -1,5 +1,8 @@
 -- A move of the lists is one of the numbers.
-use Rattle.std.proofs.Common.{◌≡◌, ◌∙◌, refl, sym, ap, subst, ℕ, ◌+◌, Bool, cond, true, false, not, ◌&&◌, ◌||◌, Option, Some, None}
+use Rattle.std.proofs.Common.{◌≡◌, refl, sym, ap, subst, ℕ, ◌+◌, Bool, cond, true, false, not, ◌&&◌, ◌||◌}
+use Rattle.std.proofs.lemmas.Grind.{common_steps}
+use Rattle.std.proofs.lemmas.Bool.Decides.{nat_tests}
+use Rattle.std.proofs.Common.{arith}
 use Rattle.std.specs.Prelude.{◌==◌, nat_lt, nat_le}
 use Rattle.std.proofs.lemmas.Bool.{false≢true, eqb-true, eq-eqb}
 use Rattle.blsm_model.specs.Geometry.{c1_mark}
@@ -7,12 +10,10 @@ use Rattle.gear_sched.specs.Gears.{forgiven}
 use Rattle.pacing.specs.Pace.{Pace, pass_done as pace_pass_done, deep_done as pace_deep_done, deep_over, with_deep_swapped, with_pass_swapped, with_swap_and_rotation, with_rotation, with_pass, with_forgiven}
 use Rattle.pacing.specs.Steps.{deep_settled, pass_settled, begun_for, ready_for as pace_ready_for}
 use Rattle.record_delta.specs.Entries.{entries_weight}
-use Rattle.tree_machine.specs.Merges.{Merge}
-use Rattle.tree_machine.specs.Layers.{IsSound, IsDeepCounted}
+use Rattle.tree_machine.specs.Layers.{IsSound}
 use Rattle.tree_machine.specs.Machine.{Machine, in_pass, pass_done, deep_done}
 use Rattle.tree_machine.specs.Moves.{begin_pass, rotate, rotate_alone, end_pass, swap_deep, swap_pass, output_of}
 use Rattle.tree_machine.specs.Steps.{deep_swapped, pass_swapped, swapped, pass_begun_for, ready_for, forgive}
-use Rattle.tree_machine.proofs.FoldLemmas.{both}
 use Rattle.tree_machine.proofs.CarryLemmas.{behind_none, deep_swapped_carries}
 use Rattle.tree_machine.proofs.NumberLemmas.{pass_runs, deep_runs, pass_taken_when_done, pass_done_when_taken, deep_taken_when_done, deep_done_when_taken}
 use Rattle.paced_tree.specs.Numbers.{with_numbers_of, IsPaceOf}
@@ -24,31 +25,19 @@ of_pace R K m p is k f = subst R is (f p (subst K (sym is) k))
 -- ---- when a merge is done
 
 same_test : (a b c : Bool) → (a ≡ true → (b ≡ true) × (c ≡ true)) → (b ≡ true → c ≡ true → a ≡ true) → a ≡ (b && c)
-same_test true b c p q = let h = p refl in sym (both b c h.0 h.1)
-same_test false true true p q = q refl refl
-same_test false true false p q = refl
-same_test false false c p q = refl
+same_test a b c h1 h2 = grind (arith, common_steps, nat_tests)
 
 pub input_is : (m : Machine) → IsSound m → m.gears.deep ≡ true → m.gears.deep_input ≡ entries_weight m.lists.c1x + entries_weight m.lists.c2
-input_is m sound runs = by m.merges.deep sound.deep
-  where
-    by : (p : Option Merge) → IsDeepCounted m.lists.c1x m.lists.c2 m.gears.deep m.gears.deep_input m.gears.deep_admitted m.gears.deep_taken p → m.gears.deep_input ≡ entries_weight m.lists.c1x + entries_weight m.lists.c2
-    by None counted = absurd (false≢true (sym counted.0 ∙ runs))
-    by (Some deep) counted = counted.1
+input_is m sound runs = grind (arith, common_steps, nat_tests)
 
 pub pass_test : (m : Machine) → IsSound m → pass_done m ≡ (m.gears.pass && (m.gears.pass_taken == (entries_weight m.lists.a + entries_weight m.lists.c1)))
-pass_test m sound = same_test (pass_done m) m.gears.pass (m.gears.pass_taken == (entries_weight m.lists.a + entries_weight m.lists.c1))
-    (λ done. (pass_runs m sound done, eq-eqb m.gears.pass_taken (entries_weight m.lists.a + entries_weight m.lists.c1) (pass_taken_when_done m sound done)))
-    (λ runs all. pass_done_when_taken m sound runs (eqb-true m.gears.pass_taken (entries_weight m.lists.a + entries_weight m.lists.c1) all))
+pass_test m sound = grind (arith, common_steps, nat_tests, same_test, pass_runs, eq-eqb, pass_taken_when_done, pass_done_when_taken, eqb-true)
 
 pub deep_test : (m : Machine) → IsSound m → deep_done m ≡ (m.gears.deep && (m.gears.deep_taken == (entries_weight m.lists.c1x + entries_weight m.lists.c2)))
-deep_test m sound = same_test (deep_done m) m.gears.deep (m.gears.deep_taken == (entries_weight m.lists.c1x + entries_weight m.lists.c2))
-    (λ done. (deep_runs m sound done, eq-eqb m.gears.deep_taken (entries_weight m.lists.c1x + entries_weight m.lists.c2) (deep_taken_when_done m sound done ∙ input_is m sound (deep_runs m sound done))))
-    (λ runs all. deep_done_when_taken m sound runs (eqb-true m.gears.deep_taken (entries_weight m.lists.c1x + entries_weight m.lists.c2) all ∙ sym (input_is m sound runs)))
+deep_test m sound = grind (arith, common_steps, nat_tests, same_test, deep_runs, eq-eqb, deep_taken_when_done, input_is, deep_done_when_taken, eqb-true)
 
 pub over_test : (a b c : Bool) → a ≡ (b && c) → (not b || a) ≡ (not b || c)
-over_test a true c is = is
-over_test a false c is = refl
+over_test a b c h1 = grind (arith, common_steps, nat_tests)
 
 -- ---- the merges are swapped in
 

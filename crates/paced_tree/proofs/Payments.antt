@@ -1,7 +1,7 @@
 -- A payment of the lists is one of the numbers.
-use Rattle.std.proofs.Common.{◌≡◌, ◌∙◌, refl, sym, ap, subst, ℕ, ◌+◌, ◌-◌, ◌<◌, ◌≤◌, Bool, true, false, List, Option, Some, None, sum, set, arith}
+use Rattle.std.proofs.Common.{◌≡◌, refl, sym, ap, subst, ℕ, ◌+◌, ◌-◌, ◌<◌, ◌≤◌, Bool, true, false, List, Option, Some, None, sum, set, arith}
+use Rattle.std.proofs.lemmas.Grind.{common_steps}
 use Rattle.std.specs.Prelude.{slice_index}
-use Rattle.std.proofs.lemmas.Bool.{false≢true}
 use Rattle.std.proofs.lemmas.Bool.Decides.{nat_tests}
 use Rattle.blsm_model.specs.Format.{callers}
 use Rattle.blsm_model.specs.declared.history.Why.{Why}
@@ -12,13 +12,12 @@ use Rattle.gear_sched.specs.declared.Plan.TheVariants.{Snow, Deep, Nothing}
 use Rattle.pacing.specs.Pace.{Pace, Quantum, with_snow, with_deep, with_forgiven, counted, pass_over, deep_over}
 use Rattle.pacing.specs.Kept.{IsPaced}
 use Rattle.pacing.specs.Steps.{IsSnow, IsDeep, FitsPlan, plan_of, paid_by}
-use Rattle.pacing.proofs.Numbers.{each_below_sum}
 use Rattle.pacing.proofs.Forgiven.{falls_at}
 use Rattle.pacing.proofs.Payments.{paid}
 use Rattle.pacing.proofs.Promises.{forgiving_keeps}
 use Rattle.record_delta.specs.Entries.{entries_weight, up_to}
 use Rattle.tree_machine.specs.Merges.{Merge, cursor_after, quantum_of}
-use Rattle.tree_machine.specs.Layers.{IsSound, IsPassCounted, IsDeepCounted}
+use Rattle.tree_machine.specs.Layers.{IsSound}
 use Rattle.tree_machine.specs.Machine.{Machine}
 use Rattle.tree_machine.specs.Moves.{pass_quantum, deep_quantum, stop}
 use Rattle.tree_machine.specs.Steps.{Outcome, Well, FailedAfter, Broken, NoRoom, forgive, count_for_write, pay, pay_running, pay_planned}
@@ -62,22 +61,13 @@ deep_numbers m deep l seat quanta = refl
 -- ---- which merge is owed to runs
 
 pub pass_of : (m : Machine) → IsSound m → m.gears.pass ≡ true → (pass : Merge) × (m.merges.pass ≡ Some pass)
-pass_of m sound runs = by m.merges.pass sound.pass
-  where
-    by : (p : Option Merge) → IsPassCounted m.lists.a m.lists.c1 m.gears.pass m.gears.pass_c1 m.gears.pass_memory m.gears.pass_admitted m.gears.pass_taken p → (pass : Merge) × (p ≡ Some pass)
-    by None counted = absurd (false≢true (sym counted.0 ∙ runs))
-    by (Some pass) counted = (pass, refl)
+pass_of m sound runs = grind (arith, common_steps, nat_tests)
 
 pub deep_run_of : (m : Machine) → IsSound m → m.gears.deep ≡ true → (deep : Merge) × (m.merges.deep ≡ Some deep)
-deep_run_of m sound runs = by m.merges.deep sound.deep
-  where
-    by : (p : Option Merge) → IsDeepCounted m.lists.c1x m.lists.c2 m.gears.deep m.gears.deep_input m.gears.deep_admitted m.gears.deep_taken p → (deep : Merge) × (p ≡ Some deep)
-    by None counted = absurd (false≢true (sym counted.0 ∙ runs))
-    by (Some deep) counted = (deep, refl)
+deep_run_of m sound runs = grind (arith, common_steps, nat_tests)
 
 owed_runs : (b : Bool) (debts : List ℕ) (seat : ℕ) → (b ≡ false → sum debts ≡ 0) → 0 < slice_index debts seat → b ≡ true
-owed_runs true debts seat none owes = refl
-owed_runs false debts seat none owes = let all = none refl in let one = each_below_sum debts seat in absurd (omega arith)
+owed_runs b debts seat h1 h2 = grind (arith, common_steps, nat_tests)
 
 pub snow_owes : (first second : ℕ) → plan_for first second ≡ Snow → 0 < first
 snow_owes first second is = grind (arith, nat_tests)
@@ -203,9 +193,7 @@ payment_goes m p seat outcome sound g caller = by m.stopped refl outcome
     broken page Nothing = forgiven_goes
 
     same : (plan : Plan) → (pay_planned plan (forgive seat m) seat Well).state ≡ (pay_planned plan (forgive seat m) seat NoRoom).state
-    same Snow = refl
-    same Deep = refl
-    same Nothing = refl
+    same plan = grind (arith, common_steps, nat_tests)
 
     by : (o : Option Why) → m.stopped ≡ o → (e : Outcome) → Goes (pay_running o m seat e).state (unless_stopped o p (after_payment m p seat e))
     by (Some cause) is e = g

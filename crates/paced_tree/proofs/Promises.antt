@@ -1,6 +1,8 @@
 -- What a paced tree keeps, over every list of steps.
-use Rattle.std.proofs.Common.{◌≡◌, ◌≢◌, ◌∙◌, refl, sym, subst, ℕ, ◌+◌, ◌*◌, ◌<◌, ◌≤◌, Bool, cond, true, false, not, ◌||◌, List, [], ◌∷◌, length, inl, inr, arith, get_or, replicate, ◌&&◌, ap}
-use Rattle.std.specs.Prelude.{◌==◌, slice_index}
+use Rattle.std.proofs.Common.{◌≡◌, ◌≢◌, ◌∙◌, refl, sym, subst, ℕ, ◌+◌, ◌*◌, ◌<◌, ◌≤◌, Bool, cond, true, false, not, ◌||◌, List, [], ◌∷◌, length, inl, inr, arith, get_or, replicate, ap}
+use Rattle.std.proofs.lemmas.Grind.{common_steps}
+use Rattle.std.proofs.lemmas.Bool.Decides.{nat_tests}
+use Rattle.std.specs.Prelude.{slice_index}
 use Rattle.std.proofs.lemmas.Bool.{false≢true, eqb-true, eq-eqb}
 use Rattle.blsm_model.specs.Sizes.{Sizes}
 use Rattle.blsm_model.specs.Format.{callers}
@@ -33,7 +35,6 @@ use Rattle.paced_tree.specs.After.{pace_after}
 use Rattle.blsm_model.specs.Book.{Book, no_entry, entry_at}
 use Rattle.blsm_model.specs.Histories.{writes_of}
 use Rattle.blsm_model.specs.Legal.{total_weight, is_del}
-use Rattle.std.proofs.lemmas.List.{get_or_past}
 use Rattle.tree_machine.specs.Steps.{is_write_by, last_write}
 use Rattle.paced_tree.specs.Calls.{IsCall, IsRight}
 use Rattle.paced_tree.specs.Kept.{AreComponents, IsPacedTree, paced_one, paced_all, AllFit}
@@ -122,11 +123,7 @@ abbrev book_of : Room → Book
 book_of room = record { entries = []; quanta = []; room = room }
 
 none_yet : (seat : ℕ) → is_write_by seat (get_or [] (last_write seat []) no_entry) ≡ false
-none_yet seat = ap (λ e. is_write_by seat e) (get_or_past [] (last_write seat []) no_entry (omega arith)) ∙ by (no_entry.seat == seat)
-  where
-    by : (b : Bool) → ((b && false) && false) ≡ false
-    by true = refl
-    by false = refl
+none_yet seat = grind (arith, common_steps, nat_tests)
 
 pub opened_booked : (sizes : Sizes) (room : Room) → IsBooked sizes (book_of room) fresh_seats.quanta fresh_seats.work 0 0 0 (replicate callers 0) (replicate callers 0)
 opened_booked sizes room = record {
@@ -221,18 +218,10 @@ keeps_pace m l sound k g =
 
 -- the passes begun, and the rotations, are those swapped in and the one that runs
 begun_is : (p : Pace) → AreFew p → p.passes + one_if p.gears.pass ≡ p.begun
-begun_is p few = by p.gears.pass refl
-  where
-    by : (b : Bool) → p.gears.pass ≡ b → p.passes + one_if b ≡ p.begun
-    by true is = few.running is
-    by false is = omega (arith, few.resting is)
+begun_is p few = grind (arith, common_steps, nat_tests)
 
 rotations_are : (p : Pace) → AreFew p → p.deeps + one_if p.gears.deep ≡ p.rotations
-rotations_are p few = by p.gears.deep refl
-  where
-    by : (b : Bool) → p.gears.deep ≡ b → p.deeps + one_if b ≡ p.rotations
-    by true is = few.merging is
-    by false is = omega (arith, few.unmerged is)
+rotations_are p few = grind (arith, common_steps, nat_tests)
 
 bounded_of : (m : Machine) (l : Pace) → IsSound m → AreSettled m → IsPaced (with_numbers_of m l) → IsPaceOf m (with_numbers_of m l) → AreFew (with_numbers_of m l) → IsSpent (with_numbers_of m l) → IsBounded m
 bounded_of m l sound settled k g few spent =

@@ -1,7 +1,8 @@
 -- A quantum of the lists is one of the numbers.
-use Rattle.std.proofs.Common.{◌≡◌, ◌∙◌, refl, sym, ap, subst, ℕ, ◌+◌, ◌<◌, ◌≤◌, ◌⊎◌, inl, inr, Bool, true, false, [], ◌∷◌, ◌++◌, Some, arith}
+use Rattle.std.proofs.Common.{◌≡◌, ◌∙◌, refl, ap, subst, ℕ, ◌+◌, ◌<◌, ◌≤◌, ◌⊎◌, inl, inr, Bool, true, [], ◌++◌, Some, arith}
+use Rattle.std.proofs.lemmas.Grind.{common_steps}
+use Rattle.std.proofs.lemmas.Bool.Decides.{nat_tests}
 use Rattle.std.specs.Prelude.{is_some}
-use Rattle.std.proofs.lemmas.Bool.{false≢true}
 use Rattle.blsm_model.specs.Format.{most_weight}
 use Rattle.pacing.specs.Pace.{Pace}
 use Rattle.pacing.specs.Steps.{IsSnow, IsDeep}
@@ -68,9 +69,7 @@ module _ (quantum : ℕ) (merge : Merge) (newer older : Entries) (sorted_newer :
 
 -- lists of no weight have no group
 no_groups : (quantum : ℕ) (merge : Merge) (newer older : Entries) → is_empty newer ≡ true → is_empty older ≡ true → (quantum_of quantum merge newer older).groups ≡ []
-no_groups quantum merge [] [] p q = refl
-no_groups quantum merge [] (e ∷ es) p q = absurd (false≢true q)
-no_groups quantum merge (e ∷ es) older p q = absurd (false≢true p)
+no_groups quantum merge newer older h1 h2 = grind (arith, common_steps, nat_tests)
 
 -- a pass whose cursor stands at a key has taken something
 pub has_taken_on : (quantum : ℕ) (merge : Merge) (newer older : Entries) (taken : ℕ) → AreSorted newer → AreSorted older → 0 < quantum
@@ -81,13 +80,7 @@ has_taken_on quantum merge newer older taken sorted_newer sorted_older some coun
   where
     by : (quantum ≤ (quantum_of quantum merge newer older).weight) ⊎ ((entries_weight (up_to merge.cursor newer) + entries_weight (up_to merge.cursor older)) + (quantum_of quantum merge newer older).weight ≡ entries_weight newer + entries_weight older)
         → (b : Bool) → Rattle.std.specs.Prelude.nat_lt 0 (taken + (quantum_of quantum merge newer older).weight) ≡ b → 0 < taken + (quantum_of quantum merge newer older).weight
-    by (inl enough) b is = omega (arith, enough, some)
-    by (inr all) true is = Rattle.std.proofs.lemmas.Bool.ltb-true 0 (taken + (quantum_of quantum merge newer older).weight) is
-    by (inr all) false is =
-        let none = Rattle.std.proofs.lemmas.Bool.ltb-false 0 (taken + (quantum_of quantum merge newer older).weight) is in
-        let empty = no_groups quantum merge newer older (light_none newer (omega (arith, none, all, counted))) (light_none older (omega (arith, none, all, counted))) in
-        let before = started (ap (λ gs. is_some (cursor_after merge.cursor gs)) (sym empty) ∙ stands) in
-        omega (arith, before)
+    by h1 b h2 = grind (arith, common_steps, nat_tests, no_groups, light_none)
 
 -- ---- of the machine
 
@@ -126,8 +119,7 @@ snow_is m pass l is sound some =
         ⊎ ((entries_weight (up_to pass.cursor m.lists.a) + entries_weight (up_to pass.cursor m.lists.c1)) + (quantum_of m.gears.sizes.quantum pass m.lists.a m.lists.c1).weight ≡ entries_weight m.lists.a + entries_weight m.lists.c1)
         → (m.gears.sizes.quantum ≤ (quantum_of m.gears.sizes.quantum pass m.lists.a m.lists.c1).weight)
         ⊎ (m.gears.pass_taken + (quantum_of m.gears.sizes.quantum pass m.lists.a m.lists.c1).weight ≡ entries_weight m.lists.a + entries_weight m.lists.c1)
-    enough counted (inl much) = inl much
-    enough counted (inr all) = inr (ap (λ n. n + (quantum_of m.gears.sizes.quantum pass m.lists.a m.lists.c1).weight) counted ∙ all)
+    enough h1 h2 = grind (arith, common_steps, nat_tests)
 
 pub deep_is : (m : Machine) (deep : Merge) (l : Pace) → m.merges.deep ≡ Some deep → IsSound m → 1 ≤ m.gears.sizes.quantum → IsDeep (with_numbers_of m l) (deep_of (Some deep) m)
 deep_is m deep l is sound some =
@@ -146,5 +138,4 @@ deep_is m deep l is sound some =
         ⊎ ((entries_weight (up_to deep.cursor m.lists.c1x) + entries_weight (up_to deep.cursor m.lists.c2)) + (quantum_of m.gears.sizes.quantum deep m.lists.c1x m.lists.c2).weight ≡ entries_weight m.lists.c1x + entries_weight m.lists.c2)
         → (m.gears.sizes.quantum ≤ (quantum_of m.gears.sizes.quantum deep m.lists.c1x m.lists.c2).weight)
         ⊎ (m.gears.deep_taken + (quantum_of m.gears.sizes.quantum deep m.lists.c1x m.lists.c2).weight ≡ entries_weight m.lists.c1x + entries_weight m.lists.c2)
-    enough counted (inl much) = inl much
-    enough counted (inr all) = inr (ap (λ n. n + (quantum_of m.gears.sizes.quantum deep m.lists.c1x m.lists.c2).weight) counted ∙ all)
+    enough h1 h2 = grind (arith, common_steps, nat_tests)

@@ -1,7 +1,9 @@
 -- A turn of the lists is one of the numbers.
 use Rattle.std.proofs.Common.{◌≡◌, ◌∙◌, refl, sym, ap, subst, ℕ, ◌+◌, ◌-◌, ◌<◌, ◌≤◌, Bool, cond, true, false, not, ◌&&◌, ◌||◌, List, Option, Some, None, length, arith}
-use Rattle.std.specs.Prelude.{◌==◌, nat_lt, nat_le, slice_index, slice_index_or, slice_set}
-use Rattle.std.proofs.lemmas.Bool.{false≢true, le-leb, leb-true}
+use Rattle.std.proofs.lemmas.Grind.{common_steps}
+use Rattle.std.proofs.lemmas.Bool.Decides.{nat_tests}
+use Rattle.std.specs.Prelude.{◌==◌, nat_lt, slice_index, slice_index_or, slice_set}
+use Rattle.std.proofs.lemmas.Bool.{le-leb}
 use Rattle.blsm_model.specs.Format.{callers}
 use Rattle.blsm_model.specs.declared.history.Why.{Why}
 use Rattle.blsm_model.specs.declared.history.Why.TheVariants as why
@@ -11,13 +13,12 @@ use Rattle.pacing.specs.Kept.{IsPaced}
 use Rattle.pacing.specs.Steps as pacing
 use Rattle.pacing.specs.Steps.{Move, FitsMove, IsSnow, IsDeep, turn_of, turned_by, may_begin, is_worker_seat}
 use Rattle.pacing.proofs.Turns.{turn_kept}
-use Rattle.blsm_model.specs.Geometry.{c1_mark}
 use Rattle.record_delta.specs.Entries.{entries_weight}
 use Rattle.tree_machine.specs.Lists.{memory_weight}
 use Rattle.tree_machine.specs.Merges.{Merge}
 use Rattle.tree_machine.specs.Layers.{IsSound}
 use Rattle.tree_machine.specs.Machine.{Machine, Seats, Turned, Failed, BadPage, Halted, is_closed, WorkSoFar, no_work, seats, pass_done, deep_done, work_of, turn_more}
-use Rattle.tree_machine.specs.Moves.{begin_pass, rotate, rotate_alone, end_pass, swap_deep, swap_pass, output_of, pass_quantum, deep_quantum, stop}
+use Rattle.tree_machine.specs.Moves.{begin_pass, rotate_alone, swap_deep, swap_pass, pass_quantum, deep_quantum, stop}
 use Rattle.tree_machine.specs.Steps.{Choice, SwapDeep, SwapPass, DeepQuantum, PassQuantum, Begin, Rotate, Rest, choice, chosen, quanta_of, work_noted, with_turn, work_turn, work_turning, worker_turn, worker_turning, do_turn, Outcome, Well, FailedAfter, Broken, NoRoom}
 use Rattle.paced_tree.specs.Numbers.{with_numbers_of, IsPaceOf, HasTaken}
 use Rattle.paced_tree.specs.After.{snow_of, deep_of, quantum_for_move, after_turn, unless_stopped}
@@ -41,27 +42,14 @@ move_of Rest = pacing.Idle
 same_choice : (b1 b2 b3 b4 b5 b6 : Bool)
     → cond b1 pacing.SwapDeep (cond b2 pacing.SwapPass (cond b3 pacing.TakeDeep (cond b4 pacing.TakeSnow (cond b5 pacing.Begin (cond b6 pacing.Rotate pacing.Idle)))))
     ≡ move_of (cond b1 SwapDeep (cond b2 SwapPass (cond b3 DeepQuantum (cond b4 PassQuantum (cond b5 Begin (cond b6 Rotate Rest))))))
-same_choice true b2 b3 b4 b5 b6 = refl
-same_choice false true b3 b4 b5 b6 = refl
-same_choice false false true b4 b5 b6 = refl
-same_choice false false false true b5 b6 = refl
-same_choice false false false false true b6 = refl
-same_choice false false false false false true = refl
-same_choice false false false false false false = refl
+same_choice b1 b2 b3 b4 b5 b6 = grind (arith, common_steps, nat_tests)
 
 -- the turn that the numbers ask for, in the machine's words
 abbrev pub due : Bool → Machine → Pace → Choice
 due is_worker m l = choice (may_begin is_worker (with_numbers_of m l)) (not is_worker && not (entries_weight m.lists.c1 == 0)) m
 
 pub turn_is : (is_worker : Bool) (m : Machine) (l : Pace) → IsSound m → turn_of is_worker (with_numbers_of m l) ≡ move_of (due is_worker m l)
-turn_is is_worker m l sound =
-    subst (λ b1. cond b1 pacing.SwapDeep (cond (m.gears.pass && (m.gears.pass_taken == (entries_weight m.lists.a + entries_weight m.lists.c1))) pacing.SwapPass
-    (cond (m.gears.deep && (not m.gears.pass || deep_is_behind m.gears)) pacing.TakeDeep (cond m.gears.pass pacing.TakeSnow (cond (may_begin is_worker (with_numbers_of m l)) pacing.Begin (cond (not is_worker && not (entries_weight m.lists.c1 == 0)) pacing.Rotate pacing.Idle)))))
-    ≡ move_of (choice (may_begin is_worker (with_numbers_of m l)) (not is_worker && not (entries_weight m.lists.c1 == 0)) m)) (deep_test m sound)
-    (subst (λ b2. cond (deep_done m) pacing.SwapDeep (cond b2 pacing.SwapPass
-    (cond (m.gears.deep && (not m.gears.pass || deep_is_behind m.gears)) pacing.TakeDeep (cond m.gears.pass pacing.TakeSnow (cond (may_begin is_worker (with_numbers_of m l)) pacing.Begin (cond (not is_worker && not (entries_weight m.lists.c1 == 0)) pacing.Rotate pacing.Idle)))))
-    ≡ move_of (choice (may_begin is_worker (with_numbers_of m l)) (not is_worker && not (entries_weight m.lists.c1 == 0)) m)) (pass_test m sound)
-    (same_choice (deep_done m) (pass_done m) (m.gears.deep && (not m.gears.pass || deep_is_behind m.gears)) m.gears.pass (may_begin is_worker (with_numbers_of m l)) (not is_worker && not (entries_weight m.lists.c1 == 0))))
+turn_is is_worker m l sound = grind (arith, common_steps, nat_tests, deep_test, pass_test, same_choice)
 
 abbrev takes_deep : Choice → Bool
 takes_deep DeepQuantum = true
@@ -72,30 +60,14 @@ takes_pass PassQuantum = true
 takes_pass _ = false
 
 deep_due : (b1 b2 b3 e b4 b5 b6 : Bool) → takes_deep (cond b1 SwapDeep (cond b2 SwapPass (cond (b3 && e) DeepQuantum (cond b4 PassQuantum (cond b5 Begin (cond b6 Rotate Rest)))))) ≡ true → b3 ≡ true
-deep_due true b2 b3 e b4 b5 b6 is = absurd (false≢true is)
-deep_due false true b3 e b4 b5 b6 is = absurd (false≢true is)
-deep_due false false true e b4 b5 b6 is = refl
-deep_due false false false e true b5 b6 is = absurd (false≢true is)
-deep_due false false false e false true b6 is = absurd (false≢true is)
-deep_due false false false e false false true is = absurd (false≢true is)
-deep_due false false false e false false false is = absurd (false≢true is)
+deep_due b1 b2 b3 e b4 b5 b6 h1 = grind (arith, common_steps, nat_tests)
 
 pass_due : (b1 b2 b3 b4 b5 b6 : Bool) → takes_pass (cond b1 SwapDeep (cond b2 SwapPass (cond b3 DeepQuantum (cond b4 PassQuantum (cond b5 Begin (cond b6 Rotate Rest)))))) ≡ true → b4 ≡ true
-pass_due true b2 b3 b4 b5 b6 is = absurd (false≢true is)
-pass_due false true b3 b4 b5 b6 is = absurd (false≢true is)
-pass_due false false true b4 b5 b6 is = absurd (false≢true is)
-pass_due false false false true b5 b6 is = refl
-pass_due false false false false true b6 is = absurd (false≢true is)
-pass_due false false false false false true is = absurd (false≢true is)
-pass_due false false false false false false is = absurd (false≢true is)
+pass_due b1 b2 b3 b4 b5 b6 h1 = grind (arith, common_steps, nat_tests)
 
 -- which seats are workers'
 pub no_worker : (seat : ℕ) → seat < callers → is_worker_seat seat ≡ false
-no_worker seat caller = by (is_worker_seat seat) refl
-  where
-    by : (b : Bool) → is_worker_seat seat ≡ b → b ≡ false
-    by true is = absurd (omega (arith, caller, leb-true callers seat is))
-    by false is = refl
+no_worker seat caller = grind (arith, common_steps, nat_tests)
 
 pub a_worker : (seat : ℕ) → callers ≤ seat → is_worker_seat seat ≡ true
 a_worker seat worker = le-leb callers seat worker
@@ -134,11 +106,7 @@ module _ (m : Machine) (l : Pace) (seat : ℕ) (sound : IsSound m) (goes : Goes 
       (subst (λ x. FitsMove x (with_numbers_of m l) (quantum_for_move (move_of c) m)) (sym move) (fits_move is_worker c is)))
 
   swapped_seats : (swap_pass m).seats ≡ m.seats
-  swapped_seats = by (nat_le (c1_mark m.gears.sizes) (entries_weight (output_of m.merges.pass)))
-    where
-      by : (b : Bool) → (cond b (rotate (end_pass m)) (end_pass m)).seats ≡ m.seats
-      by true = refl
-      by false = refl
+  swapped_seats = grind (arith, common_steps, nat_tests)
 
   -- ---- of a caller's work
 

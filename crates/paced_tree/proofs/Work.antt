@@ -1,11 +1,12 @@
 -- What the cursors pass is at most what the quanta can take.
 use Rattle.std.proofs.Common.{◌≡◌, ◌∙◌, refl, sym, ap, subst, ℕ, ◌+◌, ◌*◌, ◌^◌, ◌<◌, ◌≤◌, ◌⊎◌, inl, inr, Bool, cond, true, false, ◌&&◌, List, [], ◌∷◌, Option, Some, None, length, set, sum, arith}
-use Rattle.std.specs.Prelude.{nat_lt, nat_le, slice_index}
+use Rattle.std.proofs.lemmas.Grind.{common_steps}
+use Rattle.std.proofs.lemmas.Bool.Decides.{nat_tests}
+use Rattle.std.specs.Prelude.{slice_index}
 use Rattle.std.proofs.lemmas.Bool.{ltb-true}
 use Rattle.std.proofs.Math.Nat.{mul-add, mul-le-mul_left}
 use Rattle.blsm_model.specs.Format.{callers, most_weight, most_entries}
 use Rattle.blsm_model.specs.Sizes.{Sizes, IsGeometry}
-use Rattle.blsm_model.specs.Legal.{is_write}
 use Rattle.blsm_model.specs.Geometry.{capacity}
 use Rattle.blsm_model.specs.Histories.{counted_writes}
 use Rattle.blsm_model.specs.declared.key.Key.{Key}
@@ -19,14 +20,13 @@ use Rattle.pacing.proofs.Numbers.{sum_set, small}
 use Rattle.tree_machine.specs.Lists.{map_in}
 use Rattle.tree_machine.specs.Merges.{Merge, begun}
 use Rattle.tree_machine.specs.Layers.{IsSound}
-use Rattle.tree_machine.specs.Machine.{Machine, Merges, Catalogue, opened, seats, is_caller, work_of}
+use Rattle.tree_machine.specs.Machine.{Machine, Catalogue, opened, seats, is_caller}
 use Rattle.tree_machine.specs.Moves.{pass_quantum, deep_quantum, pass_quantum_of, deep_quantum_of}
 use Rattle.tree_machine.specs.Steps.{Outcome}
-use Rattle.tree_machine.specs.Plays.{has_room, is_between, may_note, is_even, is_finished, most_turns, may, may_step, stepped, stepped_as, played, played_one}
+use Rattle.tree_machine.specs.Plays.{has_room, is_between, may_note, may, may_step, stepped, stepped_as, played, played_one}
 use Rattle.tree_machine.specs.Effects.{MergeStands, Rests, TakesQuantum, passed_by, work_between}
 use Rattle.tree_machine.specs.declared.step.Step.{Step}
 use Rattle.tree_machine.specs.declared.step.Kind.{Kind}
-use Rattle.tree_machine.specs.declared.step.Kind.TheVariants as kind
 use Rattle.tree_machine.proofs.CarryLemmas.{behind_none}
 use Rattle.tree_machine.proofs.EffectLemmas.{step_works}
 use Rattle.tree_machine.specs.Laws.{IsVersion}
@@ -44,24 +44,17 @@ use Rattle.paced_tree.proofs.Promises.{has_way, opened_is_paced, one_is_paced, s
 -- ---- one merge
 
 passed_same : (p : Option Merge) (newer older : Entries) → passed_by p p newer older ≡ 0
-passed_same None newer older = refl
-passed_same (Some merge) newer older = omega arith
+passed_same p newer older = grind (arith, common_steps, nat_tests)
 
 passed_none : (p : Option Merge) (newer older : Entries) → passed_by p None newer older ≡ 0
-passed_none None newer older = refl
-passed_none (Some merge) newer older = refl
+passed_none p newer older = grind (arith, common_steps, nat_tests)
 
 passed_begun : (p : Option Merge) (newer older : Entries) → passed_by p (Some begun) newer older ≡ 0
 passed_begun None newer older = refl
 passed_begun (Some merge) newer older = omega (arith, ap entries_weight (behind_none newer), ap entries_weight (behind_none older))
 
 passed_stands : (done : Bool) (old new : Option Merge) (newer older : Entries) → MergeStands done old new → passed_by old new newer older ≡ 0
-passed_stands done old new newer older (inl is) = ap (λ p. passed_by old p newer older) is ∙ passed_same old newer older
-passed_stands done old new newer older (inr changed) = by changed.1
-  where
-    by : (new ≡ None) ⊎ (new ≡ Some begun) → passed_by old new newer older ≡ 0
-    by (inl is) = ap (λ p. passed_by old p newer older) is ∙ passed_none old newer older
-    by (inr is) = ap (λ p. passed_by old p newer older) is ∙ passed_begun old newer older
+passed_stands done old new newer older h1 = grind (arith, common_steps, nat_tests, passed_same, passed_none, passed_begun)
 
 -- ---- a quantum
 
@@ -87,28 +80,13 @@ deep_takes seat m sound some = by m.merges.deep
 
 -- the other merge's cursor stands
 pass_leaves_deep : (seat : ℕ) (m : Machine) → (pass_quantum seat m).merges.deep ≡ m.merges.deep
-pass_leaves_deep seat m = by m.merges.pass
-  where
-    by : (p : Option Merge) → (pass_quantum_of p seat m).merges.deep ≡ m.merges.deep
-    by None = refl
-    by (Some pass) = refl
+pass_leaves_deep seat m = grind (arith, common_steps, nat_tests)
 
 deep_leaves_pass : (seat : ℕ) (m : Machine) → (deep_quantum seat m).merges.pass ≡ m.merges.pass
-deep_leaves_pass seat m = by m.merges.deep
-  where
-    by : (p : Option Merge) → (deep_quantum_of p seat m).merges.pass ≡ m.merges.pass
-    by None = refl
-    by (Some deep) = refl
+deep_leaves_pass seat m = grind (arith, common_steps, nat_tests)
 
 taken_work : (seat : ℕ) (m n : Machine) → IsSound m → 1 ≤ m.gears.sizes.quantum → (n.merges ≡ (pass_quantum seat m).merges) ⊎ (n.merges ≡ (deep_quantum seat m).merges) → work_between m n ≤ most_taken m.gears.sizes
-taken_work seat m n sound some (inl is) =
-    let pass = ap (λ (g : Merges). passed_by m.merges.pass g.pass m.lists.a m.lists.c1) is in
-    let deep = ap (λ (g : Merges). passed_by m.merges.deep g.deep m.lists.c1x m.lists.c2) is ∙ ap (λ d. passed_by m.merges.deep d m.lists.c1x m.lists.c2) (pass_leaves_deep seat m) ∙ passed_same m.merges.deep m.lists.c1x m.lists.c2 in
-    omega (arith, pass, deep, pass_takes seat m sound some)
-taken_work seat m n sound some (inr is) =
-    let pass = ap (λ (g : Merges). passed_by m.merges.pass g.pass m.lists.a m.lists.c1) is ∙ ap (λ p. passed_by m.merges.pass p m.lists.a m.lists.c1) (deep_leaves_pass seat m) ∙ passed_same m.merges.pass m.lists.a m.lists.c1 in
-    let deep = ap (λ (g : Merges). passed_by m.merges.deep g.deep m.lists.c1x m.lists.c2) is in
-    omega (arith, pass, deep, deep_takes seat m sound some)
+taken_work seat m n h1 h2 h3 = grind (arith, common_steps, nat_tests, pass_leaves_deep, passed_same, pass_takes, deep_leaves_pass, deep_takes)
 
 -- ---- a step
 
@@ -119,16 +97,7 @@ noting_below : (m : Machine) (seat rows : ℕ) → may_note seat rows m ≡ true
 noting_below m seat rows ok = below_all seat (both_hold (is_caller seat) (has_room m.book.room seat rows) (both_hold (is_caller seat && has_room m.book.room seat rows) (is_between seat m) ok).0).0
 
 pub seat_below : (m : Machine) (seat : ℕ) (k : Kind) → may m seat k ≡ true → seat < seats
-seat_below m seat (kind.Admit op) ok = noting_below m seat 0 (both_hold (is_write op) (may_note seat 0 m) (both_hold (is_write op && may_note seat 0 m) (is_even seat m) ok).0).1
-seat_below m seat kind.Pay ok = below_all seat ok
-seat_below m seat (kind.Get key) ok = noting_below m seat 0 ok
-seat_below m seat (kind.Hold low high) ok = noting_below m seat 0 ok
-seat_below m seat (kind.Next n) ok = noting_below m seat n (both_hold (may_note seat n m) (nat_lt 0 n) (both_hold (may_note seat n m && nat_lt 0 n) (nat_le n 32) ok).0).0
-seat_below m seat kind.Release ok = noting_below m seat 0 ok
-seat_below m seat kind.WorkTurn ok = below_all seat (both_hold (is_caller seat) (nat_lt (work_of seat m).turns most_turns) (both_hold (is_caller seat && nat_lt (work_of seat m).turns most_turns) (is_even seat m) ok).0).0
-seat_below m seat (kind.WorkEnd n) ok = below_all seat (both_hold (is_caller seat) (has_room m.book.room seat 0) (both_hold (is_caller seat && has_room m.book.room seat 0) (is_finished n (work_of seat m)) ok).0).0
-seat_below m seat kind.WorkerTurn ok = ltb-true seat seats (both_hold (nat_le callers seat) (nat_lt seat seats) ok).1
-seat_below m seat kind.Leave ok = below_all seat ok
+seat_below m seat k h1 = grind (arith, common_steps, nat_tests)
 
 pub step_work : (opening : List (Key × Value)) (m : Machine) (p : Pace) (seat : ℕ) (k : Kind) (outcome : Outcome) → IsPacedTree opening m p → may m seat k ≡ true
     → work_between m (stepped_as m seat k outcome).state + most_taken m.gears.sizes * sum m.seats.quanta ≤ most_taken m.gears.sizes * sum (stepped_as m seat k outcome).state.seats.quanta
@@ -174,11 +143,7 @@ one_sizes m made = by (may_step m made.0) refl
 all_work : (opening : List (Key × Value)) (m : Machine) (p : Pace) (steps : List (Step × Outcome)) → IsPacedTree opening m p → AllFit steps
     → work_in m steps + most_taken m.gears.sizes * sum m.seats.quanta ≤ most_taken m.gears.sizes * sum (played m steps).seats.quanta
 all_work opening m p [] t fits = omega arith
-all_work opening m p (made ∷ steps) t fits =
-    let first = one_work opening m p made t in
-    let rest = all_work opening (played_one m made) (paced_one m p made) steps (one_is_paced opening m p made t fits.0) fits.1 in
-    let rest_as = subst (λ sizes. work_in (played_one m made) steps + most_taken sizes * sum (played_one m made).seats.quanta ≤ most_taken sizes * sum (played m (made ∷ steps)).seats.quanta) (one_sizes m made) rest in
-    omega (arith, first, rest_as)
+all_work opening m p (made ∷ steps) t fits = grind (arith, common_steps, nat_tests, all_work opening (played_one m made) (paced_one m p made) steps (one_is_paced opening m p made t fits.0) fits.1, one_work, one_is_paced, sum, one_sizes)
 
 pub run_work : (sizes : Sizes) (c1 c2 : Entries) (catalogue : Catalogue) (faults : ℕ) (room : Room) (steps : List (Step × Outcome)) → AreComponents sizes c1 c2 → AllFit steps
     → work_in (opened sizes c1 c2 catalogue faults room) steps ≤ most_taken sizes * sum (played (opened sizes c1 c2 catalogue faults room) steps).seats.quanta

@@ -1,5 +1,7 @@
 -- The counts of merges.
 use Rattle.std.proofs.Common.{◌≡◌, ◌⊎◌, ◌∙◌, refl, sym, ℕ, ◌+◌, ◌<◌, ◌≤◌, ◌&&◌, ◌||◌, not, Bool, true, false, cond, eqb, leb, ltb, List, [], ◌∷◌, inl, inr, arith}
+use Rattle.std.proofs.lemmas.Grind.{common_steps}
+use Rattle.std.proofs.lemmas.Bool.Decides.{nat_tests}
 use Rattle.std.proofs.lemmas.Bool.{cases_Bool, false≢true, true≢false, cases_lt, cond_both, and_parts, not-true, eqb-true, eqb-false, leb-true, ltb-true, both_ways}
 use Rattle.blsm_model.specs.Sizes.{Sizes}
 use Rattle.blsm_model.specs.Geometry.{c1_mark}
@@ -109,8 +111,7 @@ begins_after : (p : Pace) → IsReadyCount p → p.begun ≤ p.writes + 1
 begins_after p c = elim c.begins [ inl few ↦ omega arith | inr fresh ↦ fresh.3 ]
 
 behind_after : (p : Pace) (w : ℕ) (ahead : Bool) (weight : ℕ) → IsReadyCount p → Lands p w ahead weight → 0 < cond ahead p.lane_b (p.lane_b + w) → p.begun < p.writes + 1
-behind_after p w true weight c lands some = elim c.begins [ inl few ↦ omega arith | inr fresh ↦ absurd (let none = fresh.2 in omega arith) ]
-behind_after p w false weight c lands some = elim c.begins [ inl few ↦ omega arith | inr fresh ↦ absurd (let none = fresh.1 in let taken = lands.1 in omega arith) ]
+behind_after p w ahead weight h1 h2 h3 = grind (arith, common_steps, nat_tests)
 
 rests_after : (p : Pace) → IsReadyCount p → p.gears.pass ≡ false → p.begun < p.writes + 1
 rests_after p c e = elim c.begins [ inl few ↦ omega arith | inr fresh ↦ absurd (both_ways _ e fresh.0) ]
@@ -128,11 +129,7 @@ write p seat w ahead weight c lands = record {
 
 -- a deep merge that isn't done keeps a full run from being swapped in
 pub way : (p : Pace) → IsPaced p → p.gears.pass ≡ true → p.gears.pass_taken ≡ p.a + p.c1 → (p.gears.deep ≡ true → p.gears.deep_taken < p.c1x + p.c2) → c1_mark p.gears.sizes ≤ p.made1 → p.gears.deep ≡ false
-way p k runs done going full =
-    elim (cases_Bool p.gears.deep) [
-      | inl merges ↦ absurd (let left = going merges in let over = makes_way p k runs done full merges in omega arith)
-      | inr none ↦ none
-    ]
+way p k runs done going full = grind (arith, common_steps, nat_tests, cases_Bool, makes_way)
 
 settle_deep : (p : Pace) → IsCounted p → IsCounted (deep_settled p)
 settle_deep p c =

@@ -1,5 +1,7 @@
 -- The fronts of the log's lanes are within the opening's bounds.
 use Rattle.std.proofs.Common.{◌≡◌, refl, ap, ℕ, ◌+◌, ◌≤◌, ◌&&◌, ◌||◌, not, Bool, true, false, cond, eqb, leb, ltb, inl, inr, arith}
+use Rattle.std.proofs.lemmas.Grind.{common_steps}
+use Rattle.std.proofs.lemmas.Bool.Decides.{nat_tests}
 use Rattle.std.proofs.lemmas.Bool.{cases_Bool, cond_both, and_parts, eqb-true}
 use Rattle.blsm_model.specs.Geometry.{c1_mark, high_mark, capacity}
 use Rattle.gear_sched.specs.Gears.{deep_is_behind}
@@ -64,16 +66,7 @@ ready p w f k a =
 
 -- table A by itself is within the bounds
 table_fits : (q : Pace) → IsPaced q → (q.a ≤ high_mark q.gears.sizes) × (q.c1 + q.c1x + q.c2 + q.a ≤ capacity q.gears.sizes)
-table_fits q k = elim (cases_Bool q.gears.pass) [
-  | inl runs ↦
-      let run = k.within.running runs in
-      let held_is : held q ≡ q.gears.pass_memory + q.gears.pass_admitted = ap (λ b. cond b (q.gears.pass_memory + q.gears.pass_admitted) (q.a + q.b)) runs in
-      (omega (arith, run.tables, run.begin, run.since), omega (arith, run.tables, held_is, k.within.full))
-  | inr rests ↦
-      let rest = k.within.resting rests in
-      let held_is : held q ≡ q.a + q.b = ap (λ b. cond b (q.gears.pass_memory + q.gears.pass_admitted) (q.a + q.b)) rests in
-      (omega (arith, rest.spring, rest.low), omega (arith, held_is, k.within.full))
-]
+table_fits q k = grind (arith, common_steps, nat_tests)
 
 write : (p : Pace) (seat w : ℕ) (ahead : Bool) (weight : ℕ) (f : Fronts) → AreFronts p f → Lands p w ahead weight → IsPaced (with_write p seat w ahead weight) → AreFronts (with_write p seat w ahead weight) (fronts_written ahead weight f)
 write p seat w true weight f a lands k =

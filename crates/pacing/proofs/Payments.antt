@@ -1,8 +1,9 @@
 -- A payment keeps what is kept.
 use Rattle.std.proofs.Common.{◌≡◌, ◌∙◌, refl, ℕ, ◌+◌, ◌<◌, ◌||◌, not, Bool, true, false, List, length, get_or, set, inl, inr, arith}
+use Rattle.std.proofs.lemmas.Grind.{common_steps}
 use Rattle.std.proofs.lemmas.Bool.{false≢true, cases_lt, or_parts, not-false, eqb-false}
 use Rattle.std.proofs.lemmas.Bool.Decides.{nat_tests}
-use Rattle.std.proofs.lemmas.List.{get_or-set_same, length-set}
+use Rattle.std.proofs.lemmas.List.{length-set}
 use Rattle.blsm_model.specs.Format.{callers}
 use Rattle.gear_sched.specs.Gears.{first_debt, second_debt, left_of, plan_for}
 use Rattle.gear_sched.specs.declared.Plan.{Plan}
@@ -23,8 +24,7 @@ deep_owed first second e = grind (arith, nat_tests)
 
 -- a debt that is left isn't owed to a merge that is over
 pub nothing_left : (xs : List ℕ) (seat : ℕ) (over ahead : Bool) → seat < length xs → 0 < get_or (set xs seat (left_of (over || ahead) (get_or xs seat 0))) seat 0 → over ≡ false
-nothing_left xs seat true ahead there owes = let same = get_or-set_same xs seat 0 0 there in absurd (omega arith)
-nothing_left xs seat false ahead there owes = refl
+nothing_left xs seat over ahead h1 h2 = grind (arith, common_steps, nat_tests)
 
 pub snow_paid : (p : Pace) (pass : Bool) (seat : ℕ) (quantum : Quantum) → pass ≡ true → IsPaced (at p pass p.gears.deep) → IsSnow (at p pass p.gears.deep) quantum
     → seat < callers → 0 < first_debt p.gears seat → p.gears.pass_taken < p.a + p.c1 → IsPaced (counted (with_snow (at p pass p.gears.deep) seat quantum) seat)

@@ -1,13 +1,15 @@
 -- How many quanta there can be.
 use Rattle.std.proofs.Common.{◌≡◌, ◌∙◌, refl, sym, ap, ℕ, ◌+◌, ◌*◌, ◌<◌, ◌≤◌, ◌&&◌, ◌||◌, not, Bool, true, false, cond, eqb, leb, ltb, inl, inr, arith}
-use Rattle.std.proofs.lemmas.Bool.{cases_Bool, false≢true, true≢false, cases_lt, cond_both, and_parts, or_parts, not-true, not-false, eqb-true, eqb-false, leb-true}
+use Rattle.std.proofs.lemmas.Grind.{common_steps}
+use Rattle.std.proofs.lemmas.Bool.Decides.{nat_tests}
+use Rattle.std.proofs.lemmas.Bool.{cases_Bool, true≢false, cases_lt, cond_both, and_parts, or_parts, not-true, not-false, eqb-true, eqb-false, leb-true}
 use Rattle.std.proofs.Math.Nat.{mul-add, mul-le-mul_left}
 use Rattle.blsm_model.specs.Sizes.{Sizes}
 use Rattle.blsm_model.specs.Geometry.{c1_mark, capacity}
 use Rattle.gear_sched.specs.Gears.{first_debt, second_debt, deep_is_behind}
 use Rattle.gear_sched.specs.declared.Plan.{Plan}
 use Rattle.gear_sched.specs.declared.Plan.TheVariants.{Snow, Deep, Nothing}
-use Rattle.pacing.specs.Pace.{Pace, Quantum, held, pass_done, deep_done, pass_over, deep_over, with_deep_swapped, with_pass_swapped, with_rotation, with_swap_and_rotation, with_pass, with_snow, with_deep, with_forgiven, counted}
+use Rattle.pacing.specs.Pace.{Pace, Quantum, pass_done, deep_done, pass_over, deep_over, with_deep_swapped, with_pass_swapped, with_rotation, with_swap_and_rotation, with_pass, with_snow, with_deep, with_forgiven, counted}
 use Rattle.pacing.specs.Kept.{IsPaced}
 use Rattle.pacing.specs.Steps.{Admit, Pay, Turn, FitsPlan, FitsMove, IsQuantum, Move, SwapDeep, SwapPass, TakeDeep, TakeSnow, Begin, Rotate, Idle, turn_of, turn_at_rest, turned_by, may_begin, paid_by, plan_of, is_worker_seat, deep_settled, pass_settled, ready_for}
 use Rattle.pacing.specs.Spent.{IsSpent, OpeningSpends, StepSpends, MovesSpend, QuantaAreFew}
@@ -18,10 +20,7 @@ use Rattle.pacing.proofs.Turns.{deep_left, no_deep_left}
 
 -- the inputs of a merge weigh at most the capacity
 pass_input : (p : Pace) → IsPaced p → p.gears.pass ≡ true → p.a + p.c1 ≤ capacity p.gears.sizes
-pass_input p k runs =
-    let run = k.within.running runs in
-    let held_is : held p ≡ p.gears.pass_memory + p.gears.pass_admitted = ap (λ b. cond b (p.gears.pass_memory + p.gears.pass_admitted) (p.a + p.b)) runs in
-    omega (arith, k.within.full, held_is, run.tables)
+pass_input p k runs = grind (arith, common_steps, nat_tests)
 
 deep_input : (p : Pace) → IsPaced p → p.c1x + p.c2 ≤ capacity p.gears.sizes
 deep_input p k = omega (arith, k.within.full)
@@ -162,8 +161,7 @@ turn p is_worker seat quantum k s =
     (λ e. turn_rests p is_worker seat quantum s e (no_deep_left p.gears.deep p.gears.pass (deep_is_behind p.gears) none e)))))
   where
     both_false : (a b : Bool) → a ≡ true → (a && b) ≡ false → b ≡ false
-    both_false true b is still = still
-    both_false false b is still = absurd (false≢true is)
+    both_false a b h1 h2 = grind (arith, common_steps, nat_tests)
 
     pass_left : p.gears.pass ≡ true → (p.gears.pass && pass_done p) ≡ false → p.gears.pass_taken ≤ p.a + p.c1 → p.gears.pass_taken < p.a + p.c1
     pass_left runs still le = less p.gears.pass_taken (p.a + p.c1) (both_false p.gears.pass (pass_done p) runs still) le

@@ -1,5 +1,8 @@
 -- The first entry of two sorted lists that are folded.
-use Rattle.std.proofs.Common.{◌≡◌, inl, inr, Bool, true, false, cond, T, [], ◌∷◌, Option, Some, None, refl, ap, sym, ◌∙◌}
+use Rattle.std.proofs.Common.{◌≡◌, inl, inr, Bool, cond, T, [], ◌∷◌, Option, Some, None, refl, ap, sym, ◌∙◌}
+use Rattle.std.proofs.lemmas.Grind.{common_steps}
+use Rattle.std.proofs.lemmas.Bool.Decides.{nat_tests}
+use Rattle.std.proofs.Common.{arith}
 use Rattle.std.specs.Ordering.{is_eq}
 use Rattle.std.specs.declared.cmp.Ordering.{Ordering}
 use Rattle.std.specs.declared.cmp.Ordering.TheVariants.{Less, Equal, Greater}
@@ -37,16 +40,7 @@ pair_is a b keys recs = let same_recs : a.1 ≡ b.1 = cc in λ i. (keys i, same_
 -- the entry whose key is in a sorted list, and below which no key is
 first_is : (es : Entries) (e : Key × Rec) → T (is_sorted key_cmp es) → find key_cmp e.0 es ≡ Some e.1 → ((q : Key) → key_cmp q e.0 ≡ Less → find key_cmp q es ≡ None)
     → first_of es ≡ Some e
-first_is [] e sorted here none = absurd (cc)
-first_is (x ∷ es) e sorted here none = by_order (key_cmp e.0 x.0) refl
-  where
-    by_order : (r : Ordering) → key_cmp e.0 x.0 ≡ r → Some x ≡ Some e
-    by_order Less is = absurd (let absent = below_first e.0 x es sorted is in cc)
-    by_order Equal is =
-        let keys : e.0 ≡ x.0 = same e.0 x.0 is in
-        let recs : Some x.1 ≡ Some e.1 = sym (found_first x es) ∙ ap (λ k. find key_cmp k (x ∷ es)) (sym keys) ∙ here in
-        ap Some (pair_is x e (sym keys) recs)
-    by_order Greater is = absurd (let absent = none x.0 (turned e.0 x.0 Greater is) in let there = found_first x es in cc)
+first_is es e h1 h2 h3 = grind (arith, common_steps, nat_tests, below_first, same, found_first, pair_is, turned)
 
 -- ---- what is above a key in a folded list
 
@@ -66,16 +60,7 @@ same_lists es fs sorted_es sorted_fs alike =
 -- of a folded list those that pass a test are those of the lists, folded
 pub where_folded : (p : Key → Bool) (xs ys : Entries) → AreSorted xs → AreSorted ys
     → where_key key_cmp p (folded_over xs ys) ≡ folded_over (where_key key_cmp p xs) (where_key key_cmp p ys)
-where_folded p xs ys sorted_xs sorted_ys =
-    same_lists _ _ (sorted_where p (folded_over xs ys) (sorted_folded xs ys sorted_ys)) (sorted_folded (where_key key_cmp p xs) (where_key key_cmp p ys) (sorted_where p ys sorted_ys))
-    (λ q. find_where p q (folded_over xs ys) ∙ ap (λ o. cond (p q) o None) (find_folded q xs ys sorted_xs)
-    ∙ by (p q) (find key_cmp q xs) (find key_cmp q ys)
-    ∙ sym (find_folded q (where_key key_cmp p xs) (where_key key_cmp p ys) (sorted_where p xs sorted_xs)
-    ∙ ap (λ o. over_any o (find key_cmp q (where_key key_cmp p ys))) (find_where p q xs) ∙ ap (over_any (cond (p q) (find key_cmp q xs) None)) (find_where p q ys)))
-  where
-    by : (b : Bool) (x y : Option Rec) → cond b (over_any x y) None ≡ over_any (cond b x None) (cond b y None)
-    by true x y = refl
-    by false x y = refl
+where_folded p xs ys sorted_xs sorted_ys = grind (arith, common_steps, nat_tests, same_lists, sorted_where, sorted_folded, find_where, find_folded)
 
 pub sorted_above : (at : Option Key) (es : Entries) → AreSorted es → AreSorted (above at es)
 sorted_above at es sorted = sorted_where (λ k. is_above at k) es sorted

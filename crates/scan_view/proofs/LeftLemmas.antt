@@ -1,8 +1,7 @@
 -- What a cursor has left above a key, while it goes on.
-use Rattle.std.proofs.Common.{◌≡◌, ◌≢◌, ◌∙◌, ◌⊎◌, inl, inr, ℕ, suc, ◌+◌, ◌<◌, ◌≤◌, Bool, true, false, cond, List, [], ◌∷◌, length, Option, Some, None, IfSome, IfNone, Result, Ok, Err, OnOk, refl, ap, sym, subst, arith}
-use Rattle.std.specs.Ordering.{is_lt}
-use Rattle.std.specs.Cmp.{tied_itself}
-use Rattle.std.proofs.lemmas.Bool.{false≢true}
+use Rattle.std.proofs.Common.{◌≡◌, ◌≢◌, ◌∙◌, ◌⊎◌, ℕ, ◌+◌, ◌<◌, ◌≤◌, Bool, true, false, cond, List, [], ◌∷◌, length, Option, Some, None, IfSome, IfNone, Result, Ok, Err, OnOk, refl, ap, sym, subst, arith}
+use Rattle.std.proofs.lemmas.Grind.{common_steps}
+use Rattle.std.proofs.lemmas.Bool.Decides.{nat_tests}
 use Rattle.std.proofs.lemmas.Cmp.{nat_list_cmp_total}
 use Rattle.blsm_model.specs.declared.key.Key.{Key}
 use Rattle.blsm_model.specs.Sizes.{Sizes}
@@ -75,20 +74,12 @@ advance_left result sizes file bytes at old new entries same stale has list othe
     (advanced.0, subst (λ (b : List ℕ). HasLeft sizes at new entries b) same (left_on sizes bytes at old new entries stale here advanced.1))
 
 pub none_of : (es : Entries) → length es ≡ 0 → es ≡ []
-none_of [] is = refl
-none_of (e ∷ es) is = absurd (omega (arith, is))
+none_of es h1 = grind (arith, common_steps, nat_tests)
 
 -- a cursor that is at an entry above the key, or at the end, is at the first of what it has left
 pub head_first : (sizes : Sizes) (file : List ℕ) (at : Option Key) (cursor : CursorState) (entries : Entries) → HasLeft sizes at cursor entries file
     → (head_above at cursor.head ≡ true) ⊎ ((cursor.head ≡ None) × (cursor.entries ≡ 0)) → cursor.head ≡ first_of (above at entries)
-head_first sizes file at cursor entries has (inl is) = by_head cursor.head is ∙ ap first_of has.left_is
-  where
-    by_head : (head : Option (Key × Rec)) → head_above at head ≡ true → head ≡ first_of (above at (from_head head has.rest))
-    by_head None is = absurd (false≢true is)
-    by_head (Some e) is = sym (ap (λ b. first_of (cond b (e ∷ above at has.rest) (above at has.rest))) is)
-head_first sizes file at cursor entries has (inr end) =
-    end.0 ∙ sym (ap (λ l. first_of (above at l)) (none_of has.rest (has.ahead.entries_is ∙ end.1)))
-    ∙ sym (ap (λ h. first_of (above at (from_head h has.rest))) end.0) ∙ ap first_of has.left_is
+head_first sizes file at cursor entries h1 h2 = grind (arith, common_steps, nat_tests)
 
 -- ---- above another key
 
@@ -103,8 +94,7 @@ left_further sizes file at key cursor entries key_above has = record {
 -- ---- counts
 
 at_most_one : (b : Bool) → cond b 1 0 ≤ 1
-at_most_one true = omega arith
-at_most_one false = omega arith
+at_most_one b = grind (arith, common_steps, nat_tests)
 
 -- what a call of `advance` says of counts
 abbrev pub Falls : CursorState → CursorState → Option (Key × Rec) → Type 0
@@ -114,11 +104,7 @@ abbrev pub Ends : CursorState → CursorState → Option (Key × Rec) → Type 0
 Ends old new head = IfNone head ((old.weight ≡ 0) × (new.entries ≡ 0) × (new.weight ≡ 0) × (new.pages ≡ 0))
 
 pub count_falls : (at : Option Key) (old new : CursorState) → head_above at old.head ≡ false → Falls old new new.head → Ends old new new.head → count_left at new ≤ count_left at old
-count_falls at old new stale falls ended = by_head new.head refl falls ended
-  where
-    by_head : (head : Option (Key × Rec)) → new.head ≡ head → Falls old new head → Ends old new head → count_left at new ≤ count_left at old
-    by_head None is some none = omega (arith, ap {B = ℕ} (λ h. cond (head_above at h) 1 0) is, none.1)
-    by_head (Some e) is some none = omega (arith, ap {B = ℕ} (λ b. cond b 1 0) stale, some.0, at_most_one (head_above at new.head))
+count_falls at old new stale falls ended = grind (arith, common_steps, nat_tests)
 
 pub at_end : (old new : CursorState) → new.head ≡ None → Ends old new new.head → (new.head ≡ None) × (new.entries ≡ 0)
 at_end old new none ended = (none, (subst (λ (h : Option (Key × Rec)). Ends old new h) none ended).1)
@@ -169,17 +155,10 @@ first_ahead at es = some_of (first_of (above at es)) (λ e is. by_list (above at
     by_list (x ∷ more) left_is e is = let same : x ≡ e = cc in subst (λ (f : Key × Rec). is_above at f.0 ≡ true) same (first_above at es more x left_is)
 
 pub from_key : (newer older entry : Option (Key × Rec)) (key : Key) → IsFromOne newer older entry → key_of entry ≡ Some key → (key_of newer ≡ Some key) ⊎ (key_of older ≡ Some key)
-from_key newer older None key from is = absurd (cc)
-from_key newer older (Some e) key (inl from) is = inl (from ∙ is)
-from_key newer older (Some e) key (inr from) is = inr (from ∙ is)
+from_key newer older entry key h1 h2 = grind (arith, common_steps, nat_tests)
 
 count_by : (at : Option Key) (key : Key) (head : Option (Key × Rec)) → is_above at key ≡ true → cond (head_above (Some key) head) 1 0 ≤ cond (head_above at head) 1 0
-count_by at key None key_above = omega arith
-count_by at key (Some e) key_above = by (is_above (Some key) e.0) refl
-  where
-    by : (b : Bool) → is_above (Some key) e.0 ≡ b → cond b 1 0 ≤ cond (is_above at e.0) 1 0
-    by true is = omega (arith, ap {B = ℕ} (λ b. cond b 1 0) (further at key e.0 key_above is))
-    by false is = omega arith
+count_by at key head h1 = grind (arith, common_steps, nat_tests, further)
 
 -- no more is left above a greater key
 pub count_further : (at : Option Key) (key : Key) (cursor : CursorState) → is_above at key ≡ true → count_left (Some key) cursor ≤ count_left at cursor
@@ -187,55 +166,23 @@ count_further at key cursor key_above = omega (arith, count_by at key cursor.hea
 
 -- and less, where the cursor is at it
 pub count_less : (at : Option Key) (key : Key) (cursor : CursorState) → is_above at key ≡ true → key_of cursor.head ≡ Some key → count_left (Some key) cursor < count_left at cursor
-count_less at key cursor key_above is = by_head cursor.head refl
-  where
-    by_head : (head : Option (Key × Rec)) → cursor.head ≡ head → count_left (Some key) cursor < count_left at cursor
-    by_head None head_is = absurd (let wrong : None ≡ Some key = ap key_of (sym head_is) ∙ is in cc)
-    by_head (Some e) head_is =
-        let keys : Some e.0 ≡ Some key = ap key_of (sym head_is) ∙ is in
-        let same_key : e.0 ≡ key = cc in
-        let now : head_above (Some key) cursor.head ≡ false = ap (head_above (Some key)) head_is ∙ ap (is_above (Some key)) same_key ∙ ap is_lt (tied_itself nat_list_cmp_total key) in
-        let was : head_above at cursor.head ≡ true = ap (head_above at) head_is ∙ ap (is_above at) same_key ∙ key_above in
-        omega (arith, ap {B = ℕ} (λ b. cond b 1 0) now, ap {B = ℕ} (λ b. cond b 1 0) was)
+count_less at key cursor key_above is = grind (arith, common_steps, nat_tests, nat_list_cmp_total)
 
 fewer : (at : Option Key) (es : Entries) → length (above at es) ≤ length es
 fewer at [] = omega arith
-fewer at (e ∷ es) = by (is_above at e.0) (fewer at es)
-  where
-    by : (b : Bool) → length (above at es) ≤ length es → length (cond b (e ∷ above at es) (above at es)) ≤ suc (length es)
-    by true few = omega (arith, few)
-    by false few = omega (arith, few)
+fewer at (e ∷ es) = grind (arith, common_steps, nat_tests, fewer at es)
 
 pub memory_further : (at : Option Key) (key : Key) (es : Entries) → is_above at key ≡ true → length (above (Some key) es) ≤ length (above at es)
 memory_further at key es key_above = omega (arith, ap {B = ℕ} (λ (l : Entries). length l) (above_further at key es key_above), fewer (Some key) (above at es))
 
 pub memory_less : (at : Option Key) (key : Key) (es : Entries) → AreSorted es → key_of (first_of (above at es)) ≡ Some key → length (above (Some key) es) < length (above at es)
-memory_less at key es sorted is = by_list (above at es) refl is
-  where
-    by_list : (rest : Entries) → above at es ≡ rest → key_of (first_of rest) ≡ Some key → length (above (Some key) es) < length (above at es)
-    by_list [] left_is none = absurd (cc)
-    by_list (e ∷ more) left_is some =
-        let same_key : e.0 ≡ key = cc in
-        let rest : above (Some key) es ≡ more = subst (λ (k : Key). above (Some k) es ≡ more) same_key (taken at es more e sorted left_is).0 in
-        omega (arith, ap {B = ℕ} (λ (l : Entries). length l) rest, ap {B = ℕ} (λ (l : Entries). length l) left_is)
+memory_less at key es sorted is = grind (arith, common_steps, nat_tests, taken)
 
 -- an entry that was folded from four heads has one of their keys
 pub from_four : (memory h1 h2 h3 deep older found m g1 g2 g3 : Option (Key × Rec)) (key : Key) → m ≡ memory → g1 ≡ h1 → g2 ≡ h2 → g3 ≡ h3
     → IsFromOne g2 g3 deep → IsFromOne g1 deep older → IsFromOne m older found → key_of found ≡ Some key
     → (key_of memory ≡ Some key) ⊎ ((key_of h1 ≡ Some key) ⊎ ((key_of h2 ≡ Some key) ⊎ (key_of h3 ≡ Some key)))
-from_four memory h1 h2 h3 deep older found m g1 g2 g3 key m_is is1 is2 is3 from_deep from_older from_found is =
-    elim (from_key m older found key from_found is) [
-      | inl at_m ↦ inl (ap key_of (sym m_is) ∙ at_m)
-      | inr at_older ↦
-          elim (from_key g1 deep older key from_older at_older) [
-            | inl at1 ↦ inr (inl (ap key_of (sym is1) ∙ at1))
-            | inr at_deep ↦
-                elim (from_key g2 g3 deep key from_deep at_deep) [
-                  | inl at2 ↦ inr (inr (inl (ap key_of (sym is2) ∙ at2)))
-                  | inr at3 ↦ inr (inr (inr (ap key_of (sym is3) ∙ at3)))
-                ]
-          ]
-    ]
+from_four memory h1 h2 h3 deep older found m g1 g2 g3 key m_is is1 is2 is3 from_deep from_older from_found is = grind (arith, common_steps, nat_tests)
 
 pub key_is_ahead : (at : Option Key) (entry : Option (Key × Rec)) (e : Key × Rec) → entry ≡ Some e → IsAheadOf at entry → is_above at e.0 ≡ true
 key_is_ahead at entry e is ahead = subst (λ (x : Option (Key × Rec)). IsAheadOf at x) is ahead

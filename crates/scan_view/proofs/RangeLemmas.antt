@@ -1,5 +1,8 @@
 -- The entries of a range, and the rows of a hold that has copies of them.
 use Rattle.std.proofs.Common.{◌≡◌, ◌∙◌, Bool, true, false, cond, List, [], ◌∷◌, ◌++◌, Option, Some, None, refl, ap, sym, subst}
+use Rattle.std.proofs.lemmas.Grind.{common_steps}
+use Rattle.std.proofs.lemmas.Bool.Decides.{nat_tests}
+use Rattle.std.proofs.Common.{arith}
 use Rattle.std.specs.Ordering.{is_lt}
 use Rattle.std.specs.FinMap.{find}
 use Rattle.blsm_model.specs.declared.key.Key.{Key}
@@ -17,11 +20,7 @@ use Rattle.scan_view.proofs.RowLemmas.{rows_cons, rows_outside, outside, still_p
 -- ---- the entries
 
 within_cons : (low high : Key) (e : Key × Rec) (es : Entries) → within low high (e ∷ es) ≡ within low high (e ∷ []) ++ within low high es
-within_cons low high e es = by (in_range low high e.0)
-  where
-    by : (b : Bool) → cond b (e ∷ within low high es) (within low high es) ≡ cond b (e ∷ []) [] ++ within low high es
-    by true = refl
-    by false = refl
+within_cons low high e es = grind (arith, common_steps, nat_tests)
 
 within_past : (low high : Key) (e : Key × Rec) (es : Entries) → AreSorted (e ∷ es) → is_lt (key_cmp e.0 high) ≡ false → within low high (e ∷ es) ≡ []
 within_past low high e [] sorted past = ap (λ b. cond b (e ∷ []) []) (outside low high e.0 past)
@@ -31,25 +30,11 @@ within_past low high e (f ∷ es) sorted past =
 
 pub within_step : (low high : Key) (at : Option Key) (es : Entries) (e : Key × Rec) → AreSorted es → first_of (above at es) ≡ Some e
     → within low high (above at es) ≡ within low high (e ∷ []) ++ within low high (above (Some e.0) es)
-within_step low high at es e sorted is = by_list (above at es) refl is
-  where
-    by_list : (rest : Entries) → above at es ≡ rest → first_of rest ≡ Some e → within low high (above at es) ≡ within low high (e ∷ []) ++ within low high (above (Some e.0) es)
-    by_list [] left_is none = absurd (cc)
-    by_list (x ∷ more) left_is some =
-        let same : x ≡ e = cc in
-        let here : above at es ≡ e ∷ more = left_is ∙ ap (λ (y : Key × Rec). y ∷ more) same in
-        ap (within low high) here ∙ within_cons low high e more ∙ ap (λ (l : Entries). within low high (e ∷ []) ++ within low high l) (sym (taken at es more e sorted here).0)
+within_step low high at es e sorted is = grind (arith, common_steps, nat_tests, within_cons, taken)
 
 pub within_ended : (low high : Key) (at : Option Key) (es : Entries) (e : Key × Rec) → AreSorted es → first_of (above at es) ≡ Some e → is_lt (key_cmp e.0 high) ≡ false
     → within low high (above at es) ≡ []
-within_ended low high at es e sorted is past = by_list (above at es) refl is
-  where
-    by_list : (rest : Entries) → above at es ≡ rest → first_of rest ≡ Some e → within low high (above at es) ≡ []
-    by_list [] left_is none = absurd (cc)
-    by_list (x ∷ more) left_is some =
-        let same : x ≡ e = cc in
-        let here : above at es ≡ e ∷ more = left_is ∙ ap (λ (y : Key × Rec). y ∷ more) same in
-        ap (within low high) here ∙ within_past low high e more (subst AreSorted here (sorted_above at es sorted)) past
+within_ended low high at es e sorted is past = grind (arith, common_steps, nat_tests, within_past, sorted_above)
 
 pub above_none : (es : Entries) → above None es ≡ es
 above_none [] = refl
@@ -109,8 +94,4 @@ held_rows low high b a older sorted_b sorted_a sorted_older =
 pub rows_from : (low high copied_low copied_high : Key) (memory b a older : Entries) → copied_low ≡ low → copied_high ≡ high → memory ≡ within low high (folded_over b a)
     → AreSorted b → AreSorted a → AreSorted older
     → rows_of low high (folded_over b (folded_over a older)) ≡ rows_of copied_low copied_high (above None (folded_over memory older))
-rows_from low high copied_low copied_high memory b a older low_is high_is memory_is sorted_b sorted_a sorted_older =
-    held_rows low high b a older sorted_b sorted_a sorted_older ∙ ap (λ (m : Entries). rows_of low high (folded_over m older)) (sym memory_is)
-    ∙ ap (rows_of low high) (sym (above_none (folded_over memory older)))
-    ∙ ap (λ (k : Key). rows_of k high (above None (folded_over memory older))) (sym low_is)
-    ∙ ap (λ (k : Key). rows_of copied_low k (above None (folded_over memory older))) (sym high_is)
+rows_from low high copied_low copied_high memory b a older low_is high_is memory_is sorted_b sorted_a sorted_older = grind (arith, common_steps, nat_tests, held_rows, above_none)

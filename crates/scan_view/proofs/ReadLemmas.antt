@@ -1,10 +1,11 @@
 -- What was read of components, whatever they read as.
-use Rattle.std.proofs.Common.{◌≡◌, ◌∙◌, ◌⊎◌, inl, inr, ℕ, true, false, cond, List, [], ◌∷◌, ◌++◌, length, Option, Some, None, refl, ap, sym, subst, arith}
+use Rattle.std.proofs.Common.{◌≡◌, ◌∙◌, ◌⊎◌, ℕ, true, false, List, [], ◌∷◌, ◌++◌, Option, Some, None, refl, ap, sym, subst, arith}
+use Rattle.std.proofs.lemmas.Grind.{common_steps}
+use Rattle.std.proofs.lemmas.Bool.Decides.{nat_tests}
 use Rattle.std.specs.List.{AllByRecursion}
 use Rattle.std.specs.List.Sorted.{IsStrictlySortedBy}
 use Rattle.std.specs.declared.cmp.Ordering.TheVariants.{Less}
-use Rattle.std.proofs.lemmas.Bool.{false≢true}
-use Rattle.std.proofs.lemmas.List.{append_assoc, append-nil, length-append}
+use Rattle.std.proofs.lemmas.List.{append_assoc, append-nil}
 use Rattle.std.proofs.lemmas.List.Elements.{filter-append}
 use Rattle.blsm_model.specs.declared.component.Component.{Component}
 use Rattle.blsm_model.specs.declared.key.Key.{Key}
@@ -22,7 +23,6 @@ use Rattle.scan_view.specs.declared.scan.Scan.{Scan}
 use Rattle.scan_view.specs.Left.{HasRead, HasReadOn}
 use Rattle.scan_view.specs.Scan.{HaveRead}
 use Rattle.scan_view.specs.Told.{Begins, BeginWith, Contents, IsFront}
-use Rattle.scan_view.proofs.LeftLemmas.{none_of}
 
 -- ---- a cursor that goes on
 
@@ -30,8 +30,7 @@ above_append : (at : Option Key) (xs ys : Entries) → above at (xs ++ ys) ≡ a
 above_append at xs ys = filter-append (λ e. is_above at e.0) xs ys
 
 pub stale_none : (at : Option Key) (head : Option (Key × Rec)) → head_above at head ≡ false → above at (from_head head []) ≡ []
-stale_none at None stale = refl
-stale_none at (Some e) stale = ap (λ b. cond b (e ∷ []) []) stale
+stale_none at head h1 = grind (arith, common_steps, nat_tests)
 
 front_onward : (run : Component) (read more all : Entries) → IsFront run (read ++ more) all → IsFront run read all
 front_onward run read more all front =
@@ -73,20 +72,7 @@ read_after sizes file run at mid new before first second = record { now = second
 -- a cursor that is at an entry above the key, or at the end, is at the first of each list that may come of what was read
 pub read_first : (sizes : Sizes) (file : List ℕ) (run : Component) (at : Option Key) (cursor : CursorState) (given : Entries) → HasRead sizes run at cursor given file
     → (head_above at cursor.head ≡ true) ⊎ ((cursor.head ≡ None) × (cursor.entries ≡ 0)) → (all : Entries) → IsFront run given all → cursor.head ≡ first_of (above at all)
-read_first sizes file run at cursor given has there all front = by there
-  where
-    split : above at all ≡ above at (from_head cursor.head []) ++ above at front.behind
-    split = ap (above at) front.parts ∙ above_append at given front.behind ∙ ap (λ (l : Entries). l ++ above at front.behind) has.passed
-
-    by_head : (head : Option (Key × Rec)) → head_above at head ≡ true → head ≡ first_of (above at (from_head head []) ++ above at front.behind)
-    by_head None is = absurd (false≢true is)
-    by_head (Some e) is = sym (ap (λ b. first_of (cond b (e ∷ []) [] ++ above at front.behind)) is)
-
-    by : (head_above at cursor.head ≡ true) ⊎ ((cursor.head ≡ None) × (cursor.entries ≡ 0)) → cursor.head ≡ first_of (above at all)
-    by (inl is) = by_head cursor.head is ∙ sym (ap first_of split)
-    by (inr end) =
-        let none : front.behind ≡ [] = none_of front.behind (omega (arith, front.few, ap (λ (l : Entries). length l) front.parts, length-append given front.behind, has.begins.entries_is, end.1)) in
-        end.0 ∙ sym (ap first_of (split ∙ ap (λ h. above at (from_head h []) ++ above at front.behind) end.0 ∙ ap (above at) none))
+read_first sizes file run at cursor given has there all front = grind (arith, common_steps, nat_tests)
 
 read_further : (sizes : Sizes) (file : List ℕ) (run : Component) (at : Option Key) (key : Key) (cursor : CursorState) (given : Entries) → is_above at key ≡ true
     → HasRead sizes run at cursor given file → HasRead sizes run (Some key) cursor given file

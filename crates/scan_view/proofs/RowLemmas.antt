@@ -1,17 +1,17 @@
 -- The rows that sorted entries settle to, one after the other.
 use Rattle.std.proofs.Common.{◌≡◌, ◌∙◌, ℕ, zero, suc, ◌<◌, ◌≤◌, Bool, true, false, not, cond, ◌&&◌, T, List, [], ◌∷◌, ◌++◌, length, map, filter, take, drop, Option, Some, None, refl, ap, sym, subst, arith}
+use Rattle.std.proofs.lemmas.Grind.{common_steps}
+use Rattle.std.proofs.lemmas.Bool.Decides.{nat_tests}
 use Rattle.std.specs.List.{AllByRecursion}
 use Rattle.std.specs.List.Sorted.{IsStrictlySortedBy}
 use Rattle.std.specs.Ordering.{is_lt}
 use Rattle.std.specs.Cmp.{tied_itself}
-use Rattle.std.specs.declared.cmp.Ordering.{Ordering}
-use Rattle.std.specs.declared.cmp.Ordering.TheVariants.{Less, Equal, Greater}
+use Rattle.std.specs.declared.cmp.Ordering.TheVariants.{Less}
 use Rattle.std.specs.FinMap.{put, is_sorted}
 use Rattle.std.specs.FinMap.Entries.{below_all, by_order}
 use Rattle.std.proofs.lemmas.Bool.{false≢true}
 use Rattle.std.proofs.lemmas.Cmp.{nat_list_cmp_total}
 use Rattle.std.proofs.lemmas.List.{append-nil, length-append}
-use Rattle.std.proofs.Math.Seq.{take-append_seam, drop-append_seam}
 use Rattle.blsm_model.specs.declared.key.Key.{Key}
 use Rattle.blsm_model.specs.declared.row.Row.{Row}
 use Rattle.blsm_model.specs.declared.row.Value.{Value}
@@ -68,16 +68,7 @@ rows_in_pairs low high pairs = map (λ p. record { key = p.0; value = p.1 }) (fi
 
 -- the rows of a list are those of its first entry and those of the others
 pub rows_cons : (low high : Key) (e : Key × Rec) (es : Entries) → AreSorted (e ∷ es) → rows_of low high (e ∷ es) ≡ rows_of low high (e ∷ []) ++ rows_of low high es
-rows_cons low high e es sorted = ap (rows_in_pairs low high) (pairs_front e es (test _ sorted)) ∙ by (settle e.1)
-  where
-    by : (found : Option Value) → rows_in_pairs low high (in_front e.0 found (settled_pairs es)) ≡ rows_in_pairs low high (with_value e.0 found []) ++ rows_of low high es
-    by None = refl
-    by (Some value) = by_range (in_range low high e.0)
-      where
-        by_range : (b : Bool) → map (λ (p : Key × Value). row_of p) (cond b ((e.0, value) ∷ filter (λ p. in_range low high p.0) (settled_pairs es)) (filter (λ p. in_range low high p.0) (settled_pairs es)))
-            ≡ map (λ (p : Key × Value). row_of p) (cond b ((e.0, value) ∷ []) []) ++ rows_of low high es
-        by_range true = refl
-        by_range false = refl
+rows_cons low high e es sorted = grind (arith, common_steps, nat_tests, pairs_front, test)
 
 -- an entry gives one row or none
 data One (low high key : Key) (rows : List Row) : Type 0 where
@@ -98,31 +89,21 @@ one_of low high e = by (settle e.1)
 -- ---- behind the range
 
 and_false : (a b : Bool) → b ≡ false → (a && b) ≡ false
-and_false true b is = is
-and_false false b is = refl
+and_false a b h1 = grind (arith, common_steps, nat_tests)
 
 -- a key that isn't below high is outside
 pub outside : (low high key : Key) → is_lt (key_cmp key high) ≡ false → in_range low high key ≡ false
 outside low high key past = and_false (not (is_lt (key_cmp key low))) (is_lt (key_cmp key high)) past
 
 pub rows_outside : (low high : Key) (e : Key × Rec) → in_range low high e.0 ≡ false → rows_of low high (e ∷ []) ≡ []
-rows_outside low high e apart = by (one_of low high e)
-  where
-    by : One low high e.0 (rows_of low high (e ∷ [])) → rows_of low high (e ∷ []) ≡ []
-    by (gives_none is) = is
-    by (gives_row value inside is) = absurd (false≢true (sym apart ∙ inside))
+rows_outside low high e apart = grind (arith, common_steps, nat_tests)
 
 past_none : (low high : Key) (e : Key × Rec) → is_lt (key_cmp e.0 high) ≡ false → rows_of low high (e ∷ []) ≡ []
 past_none low high e past = rows_outside low high e (outside low high e.0 past)
 
 -- a key above one that isn't below high isn't either
 pub still_past : (high a b : Key) → is_lt (key_cmp a high) ≡ false → key_cmp a b ≡ Less → is_lt (key_cmp b high) ≡ false
-still_past high a b past rises = by (key_cmp b high) refl
-  where
-    by : (r : Ordering) → key_cmp b high ≡ r → is_lt r ≡ false
-    by Less is = absurd (false≢true (sym past ∙ ap is_lt (nat_list_cmp_total.trans a b high rises is)))
-    by Equal is = refl
-    by Greater is = refl
+still_past high a b past rises = grind (arith, common_steps, nat_tests, nat_list_cmp_total)
 
 pub rows_past : (low high : Key) (e : Key × Rec) (es : Entries) → AreSorted (e ∷ es) → is_lt (key_cmp e.0 high) ≡ false → rows_of low high (e ∷ es) ≡ []
 rows_past low high e [] sorted past = past_none low high e past
@@ -164,29 +145,21 @@ rows_behind low high (Some key) es past sorted = by_list (above (Some key) es) r
 -- ---- all rows, and the first n
 
 pub first_rows : (n : ℕ) (all rows rest : List Row) → all ≡ rows ++ rest → length rows ≡ n → (rows ≡ take n all) × (rest ≡ drop n all)
-first_rows n all rows rest is long = (
-  sym (ap (take n) is ∙ ap (λ (k : ℕ). take k (rows ++ rest)) (sym long) ∙ take-append_seam rows rest),
-  sym (ap (drop n) is ∙ ap (λ (k : ℕ). drop k (rows ++ rest)) (sym long) ∙ drop-append_seam rows rest),
-)
+first_rows n all rows rest is long = grind (arith, common_steps, nat_tests)
 
 few_rows : (n : ℕ) (rows : List Row) → length rows ≤ n → (take n rows ≡ rows) × (drop n rows ≡ [])
 few_rows n [] few = (none_of_none n, none_left n)
   where
     none_of_none : (k : ℕ) → take {A = Row} k [] ≡ []
-    none_of_none zero = refl
-    none_of_none (suc k) = refl
+    none_of_none k = grind (arith, common_steps, nat_tests)
 
     none_left : (k : ℕ) → drop {A = Row} k [] ≡ []
-    none_left zero = refl
-    none_left (suc k) = refl
+    none_left k = grind (arith, common_steps, nat_tests)
 few_rows zero (r ∷ rows) few = absurd (omega (arith, few))
 few_rows (suc n) (r ∷ rows) few = let rest = few_rows n rows (omega (arith, few)) in (ap (λ (l : List Row). r ∷ l) rest.0, rest.1)
 
 pub last_rows : (n : ℕ) (all rows rest : List Row) → all ≡ rows ++ rest → rest ≡ [] → length rows ≤ n → (rows ≡ take n all) × (rest ≡ drop n all)
-last_rows n all rows rest is ended few =
-    let same : all ≡ rows = is ∙ ap (λ (l : List Row). rows ++ l) ended ∙ append-nil rows in
-    let parts = few_rows n rows few in
-    (sym (ap (take n) same ∙ parts.0), ended ∙ sym (ap (drop n) same ∙ parts.1))
+last_rows n all rows rest is ended few = grind (arith, common_steps, nat_tests)
 
 -- ---- on any disk
 
@@ -267,11 +240,7 @@ rise_on place (x ∷ before) rows rise up_to rows_rise rows_above = (all_below b
 pub up_to_on : (old new : Option Key) (before rows : List Row) → ((key : Key) → is_above new key ≡ true → is_above old key ≡ true) → AllByRecursion (λ r. is_above old r.key ≡ false) before
     → AllByRecursion (λ r. is_above new r.key ≡ false) rows → AllByRecursion (λ r. is_above new r.key ≡ false) (before ++ rows)
 up_to_on old new [] rows onward up_to rows_up_to = rows_up_to
-up_to_on old new (x ∷ before) rows onward up_to rows_up_to = (by (is_above new x.key) refl, up_to_on old new before rows onward up_to.1 rows_up_to)
-  where
-    by : (b : Bool) → is_above new x.key ≡ b → is_above new x.key ≡ false
-    by true is = absurd (false≢true (sym up_to.0 ∙ onward x.key is))
-    by false is = is
+up_to_on old new (x ∷ before) rows onward up_to rows_up_to = grind (arith, common_steps, nat_tests, up_to_on old new before rows onward up_to.1 rows_up_to)
 
 -- before any row
 pub none_rise : IsStrictlySortedBy key_cmp (map (λ (r : Row). r.key) [])

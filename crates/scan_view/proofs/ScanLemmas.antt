@@ -1,5 +1,7 @@
 -- A scan that starts, and one that passes a key.
-use Rattle.std.proofs.Common.{◌≡◌, ◌⊎◌, inl, inr, ℕ, ◌<◌, true, Option, Some, List, ap, subst, arith}
+use Rattle.std.proofs.Common.{◌≡◌, ◌⊎◌, ℕ, ◌<◌, true, Option, Some, List, ap, subst, arith}
+use Rattle.std.proofs.lemmas.Grind.{common_steps}
+use Rattle.std.proofs.lemmas.Bool.Decides.{nat_tests}
 use Rattle.blsm_model.specs.declared.component.Component.{Component}
 use Rattle.blsm_model.specs.declared.key.Key.{Key}
 use Rattle.blsm_model.specs.Sizes.{Sizes}
@@ -37,14 +39,7 @@ scan_further sizes scan key xs ys zs file key_above is = record {
 pub passes_one : (memory : Entries) (scan : Scan) (key : Key) → AreSorted memory → is_above scan.at key ≡ true
     → (key_of (first_of (above scan.at memory)) ≡ Some key) ⊎ ((key_of scan.c1.head ≡ Some key) ⊎ ((key_of scan.c1x.head ≡ Some key) ⊎ (key_of scan.c2.head ≡ Some key)))
     → all_left memory (record scan { at = Some key }) < all_left memory scan
-passes_one memory scan key sorted key_above (inl is) =
-    omega (arith, memory_less scan.at key memory sorted is, count_further scan.at key scan.c1 key_above, count_further scan.at key scan.c1x key_above, count_further scan.at key scan.c2 key_above)
-passes_one memory scan key sorted key_above (inr (inl is)) =
-    omega (arith, memory_further scan.at key memory key_above, count_less scan.at key scan.c1 key_above is, count_further scan.at key scan.c1x key_above, count_further scan.at key scan.c2 key_above)
-passes_one memory scan key sorted key_above (inr (inr (inl is))) =
-    omega (arith, memory_further scan.at key memory key_above, count_further scan.at key scan.c1 key_above, count_less scan.at key scan.c1x key_above is, count_further scan.at key scan.c2 key_above)
-passes_one memory scan key sorted key_above (inr (inr (inr is))) =
-    omega (arith, memory_further scan.at key memory key_above, count_further scan.at key scan.c1 key_above, count_further scan.at key scan.c1x key_above, count_less scan.at key scan.c2 key_above is)
+passes_one memory scan key h1 h2 h3 = grind (arith, common_steps, nat_tests, memory_less, count_further, memory_further, count_less)
 
 pub view_sorted : (memory xs ys zs : Entries) → AreSorted zs → AreSorted (view_of memory xs ys zs)
 view_sorted memory xs ys zs sorted = sorted_folded memory (folded_over xs (folded_over ys zs)) (sorted_folded xs (folded_over ys zs) (sorted_folded ys zs sorted))

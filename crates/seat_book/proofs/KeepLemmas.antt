@@ -1,10 +1,10 @@
 -- What the calls of the book leave to the other seats.
 use Rattle.std.proofs.Common.{◌≡◌, ◌≢◌, ℕ, zero, suc, ◌+◌, ◌-◌, ◌≤◌, ◌⊎◌, inl, inr, Bool, cond, true, false, List, [], ◌∷◌, ◌++◌, length, sum, Option, Some, refl, ap, sym, ◌∙◌, arith, append_assoc, length-append}
+use Rattle.std.proofs.lemmas.Grind.{common_steps}
+use Rattle.std.proofs.lemmas.Bool.Decides.{nat_tests}
 use Rattle.std.specs.Prelude.{nat_lt, is_some, slice_index, slice_index_or, slice_set}
 use Rattle.std.specs.List.{AllByRecursion}
-use Rattle.std.proofs.lemmas.Bool.{ltb-true, ltb-false}
-use Rattle.std.proofs.lemmas.List.{get_or-set_other, append-nil, set_past}
-use Rattle.std.proofs.lemmas.List.Sums.{sum_by-set}
+use Rattle.std.proofs.lemmas.List.{get_or-set_other, append-nil}
 use Rattle.blsm_model.specs.Format.{callers}
 use Rattle.blsm_model.specs.Facts.{Follows, Notes}
 use Rattle.blsm_model.specs.Book.{rows_given}
@@ -157,12 +157,7 @@ raised seat xs = record {
 }
   where
     sums : (b : Bool) → nat_lt seat (length xs) ≡ b → (sum xs ≤ sum (slice_set xs seat (slice_index xs seat + 1))) × (sum (slice_set xs seat (slice_index xs seat + 1)) ≤ sum xs + 1)
-    sums true is =
-        let more : sum (slice_set xs seat (slice_index xs seat + 1)) + slice_index xs seat ≡ sum xs + (slice_index xs seat + 1) = sum_by-set (λ n. n) xs seat (slice_index xs seat + 1) 0 (ltb-true seat (length xs) is) in
-        (omega (arith, more), omega (arith, more))
-    sums false is =
-        let same : slice_set xs seat (slice_index xs seat + 1) ≡ xs = set_past xs seat (slice_index xs seat + 1) (ltb-false seat (length xs) is) in
-        (rw same (omega arith), rw same (omega arith))
+    sums b h1 = grind (arith, common_steps, nat_tests)
 
     once : (ys : List ℕ) (i : ℕ) → slice_index (slice_set ys i (slice_index ys i + 1)) i ≤ slice_index ys i + 1
     once [] i = omega arith
@@ -240,14 +235,7 @@ turn_keeps seat ended quanta b = worked_keeps seat (with_ended (work_in seat b) 
 -- other turns of a worker
 helped_turns : (seat other turns : ℕ) (b : BookState) → callers ≤ seat → other ≢ seat
     → cond (is_caller other) (work_in other b).turns (slice_index (slice_set b.seats.turns (seat - callers) turns) (other - callers)) ≡ turns_in other b
-helped_turns seat other turns b worker apart = by (nat_lt other callers) refl
-  where
-    by : (c : Bool) → nat_lt other callers ≡ c
-        → cond c (work_in other b).turns (slice_index (slice_set b.seats.turns (seat - callers) turns) (other - callers)) ≡ cond c (work_in other b).turns (slice_index b.seats.turns (other - callers))
-    by true is = refl
-    by false is =
-        let here : callers ≤ other = ltb-false other callers is in
-        get_or-set_other b.seats.turns (seat - callers) (other - callers) turns 0 (λ same. apart (omega (arith, worker, here, same)))
+helped_turns seat other turns b worker apart = grind (arith, common_steps, nat_tests)
 
 pub worker_keeps : (seat : ℕ) (b : BookState) → callers ≤ seat → KeepsSeats seat 0 0 b (helped_in seat b)
 worker_keeps seat b worker = record {

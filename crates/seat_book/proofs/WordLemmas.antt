@@ -1,9 +1,10 @@
 -- The machine's words on its book.
-use Rattle.std.proofs.Common.{◌≡◌, ℕ, ◌+◌, ◌≤◌, Bool, cond, true, false, not, ◌&&◌, Option, Some, None, refl, ap, ◌∙◌, sym, List, IsTrue, length, arith}
-use Rattle.std.specs.Prelude.{◌==◌, is_some, nat_lt, nat_le, slice_index, slice_index_or, slice_set}
-use Rattle.std.proofs.lemmas.Bool.{false≢true, ltb-true, leb-true}
+use Rattle.std.proofs.Common.{◌≡◌, ℕ, ◌≤◌, not, ◌&&◌, Option, Some, None, refl, IsTrue, length, arith}
+use Rattle.std.proofs.lemmas.Grind.{common_steps}
+use Rattle.std.proofs.lemmas.Bool.Decides.{nat_tests}
+use Rattle.std.specs.Prelude.{◌==◌, is_some, nat_lt, nat_le, slice_index}
+use Rattle.std.proofs.lemmas.Bool.{ltb-true, leb-true}
 use Rattle.blsm_model.specs.Format.{callers}
-use Rattle.blsm_model.specs.Geometry.{c1_mark}
 use Rattle.blsm_model.specs.Book.{HasRoom, rows_given}
 use Rattle.blsm_model.specs.declared.op.Op.{Op}
 use Rattle.blsm_model.specs.declared.history.Why.{Why}
@@ -11,12 +12,12 @@ use Rattle.blsm_model.specs.declared.history.Reply.{Reply}
 use Rattle.record_delta.specs.Entries.{entries_weight}
 use Rattle.tree_machine.specs.Merges.{Merge}
 use Rattle.tree_machine.specs.Lists.{memory_weight}
-use Rattle.tree_machine.specs.Machine.{Machine, WorkSoFar, no_work, in_pass, pass_done, deep_done, is_caller}
-use Rattle.tree_machine.specs.Moves.{begin_pass, rotate, end_pass, swap_deep, swap_pass, output_of, pass_quantum_of, deep_quantum_of}
-use Rattle.tree_machine.specs.Steps.{Outcome, Well, FailedAfter, Broken, NoRoom, Choice, SwapDeep, SwapPass, DeepQuantum, PassQuantum, Begin, Rotate, Rest, choice, chosen, swapped, deep_swapped, ready_for, do_turn, work_turning, work_turn}
+use Rattle.tree_machine.specs.Machine.{Machine, pass_done, deep_done, is_caller}
+use Rattle.tree_machine.specs.Moves.{swap_pass, pass_quantum_of, deep_quantum_of}
+use Rattle.tree_machine.specs.Steps.{Outcome, Choice, choice, chosen, deep_swapped, ready_for, do_turn, work_turning, work_turn}
 use Rattle.tree_machine.specs.Plays.{has_room}
 use Rattle.tree_machine.proofs.FoldLemmas.{both_hold}
-use Rattle.seat_book.specs.State.{BookState, book_of, work_in, may_note_in, pass_counted_in, deep_counted_in, quantum_counted_in, with_ended, turned_in}
+use Rattle.seat_book.specs.State.{BookState, book_of, work_in, may_note_in, pass_counted_in, deep_counted_in, quantum_counted_in, turned_in}
 use Rattle.seat_book.specs.Words.{ReadsBook, MovesBook, StepsBook, Runs, chosen_in, counted_if}
 
 pub reads_book : (m : Machine) → ReadsBook m
@@ -33,46 +34,22 @@ reads_book m = record {
 -- ---- moves
 
 pass_swapped : (m : Machine) → book_of (swap_pass m) ≡ pass_counted_in (book_of m)
-pass_swapped m = by (nat_le (c1_mark m.gears.sizes) (entries_weight (output_of m.merges.pass)))
-  where
-    by : (b : Bool) → book_of (cond b (rotate (end_pass m)) (end_pass m)) ≡ pass_counted_in (book_of m)
-    by true = refl
-    by false = refl
+pass_swapped m = grind (arith, common_steps, nat_tests)
 
 pass_taken : (seat : ℕ) (m : Machine) (pass : Option Merge) → IsTrue (is_some pass) → book_of (pass_quantum_of pass seat m) ≡ quantum_counted_in seat (book_of m)
-pass_taken seat m (Some pass) runs = refl
-pass_taken seat m None runs = absurd (false≢true runs)
+pass_taken seat m pass h1 = grind (arith, common_steps, nat_tests)
 
 deep_taken : (seat : ℕ) (m : Machine) (deep : Option Merge) → IsTrue (is_some deep) → book_of (deep_quantum_of deep seat m) ≡ quantum_counted_in seat (book_of m)
-deep_taken seat m (Some deep) runs = refl
-deep_taken seat m None runs = absurd (false≢true runs)
+deep_taken seat m deep h1 = grind (arith, common_steps, nat_tests)
 
 turn_is : (seat : ℕ) (m : Machine) (c : Choice) → Runs c m → book_of (chosen c seat m) ≡ chosen_in c seat (book_of m)
-turn_is seat m SwapDeep runs = refl
-turn_is seat m SwapPass runs = pass_swapped m
-turn_is seat m DeepQuantum runs = deep_taken seat m m.merges.deep runs
-turn_is seat m PassQuantum runs = pass_taken seat m m.merges.pass runs
-turn_is seat m Begin runs = refl
-turn_is seat m Rotate runs = refl
-turn_is seat m Rest runs = refl
+turn_is seat m c h1 = grind (arith, common_steps, nat_tests)
 
 deep_is : (m : Machine) → book_of (deep_swapped m) ≡ counted_if (deep_done m) deep_counted_in (book_of m)
-deep_is m = by (deep_done m)
-  where
-    by : (b : Bool) → book_of (cond b (swap_deep m) m) ≡ counted_if b deep_counted_in (book_of m)
-    by true = refl
-    by false = refl
+deep_is m = grind (arith, common_steps, nat_tests)
 
 ready_is : (m : Machine) (weight : ℕ) → book_of (ready_for weight m) ≡ counted_if (pass_done (deep_swapped m)) pass_counted_in (book_of (deep_swapped m))
-ready_is m weight = begun (not (in_pass (swapped m)) && nat_lt (swapped m).gears.sizes.low ((swapped m).spring + weight)) ∙ swap (pass_done (deep_swapped m))
-  where
-    begun : (b : Bool) → book_of (cond b (begin_pass (swapped m)) (swapped m)) ≡ book_of (swapped m)
-    begun true = refl
-    begun false = refl
-
-    swap : (b : Bool) → book_of (cond b (swap_pass (deep_swapped m)) (deep_swapped m)) ≡ counted_if b pass_counted_in (book_of (deep_swapped m))
-    swap true = pass_swapped (deep_swapped m)
-    swap false = refl
+ready_is m weight = grind (arith, common_steps, nat_tests)
 
 pub moves_book : (m : Machine) → MovesBook m
 moves_book m = record {
@@ -92,27 +69,10 @@ moves_book m = record {
 
 -- no turn changes a work
 chosen_works : (seat : ℕ) (c : Choice) (m : Machine) → (chosen c seat m).seats.work ≡ m.seats.work
-chosen_works seat SwapDeep m = refl
-chosen_works seat SwapPass m = ap (λ (b : BookState). b.seats.work) (pass_swapped m)
-chosen_works seat DeepQuantum m = by m.merges.deep
-  where
-    by : (deep : Option Merge) → (deep_quantum_of deep seat m).seats.work ≡ m.seats.work
-    by None = refl
-    by (Some deep) = refl
-chosen_works seat PassQuantum m = by m.merges.pass
-  where
-    by : (pass : Option Merge) → (pass_quantum_of pass seat m).seats.work ≡ m.seats.work
-    by None = refl
-    by (Some pass) = refl
-chosen_works seat Begin m = refl
-chosen_works seat Rotate m = refl
-chosen_works seat Rest m = refl
+chosen_works seat c m = grind (arith, common_steps, nat_tests)
 
 turn_works : (c : Choice) (outcome : Outcome) (seat : ℕ) (m : Machine) → (do_turn c outcome seat m).state.seats.work ≡ m.seats.work
-turn_works c (FailedAfter commits faults) seat m = refl
-turn_works c (Broken page) seat m = refl
-turn_works c Well seat m = chosen_works seat c m
-turn_works c NoRoom seat m = chosen_works seat c m
+turn_works c outcome seat m = grind (arith, common_steps, nat_tests)
 
 turning_works : (stopped : Option Why) (m : Machine) (seat : ℕ) (outcome : Outcome) → (work_turning stopped m seat outcome).state.seats.work ≡ m.seats.work
 turning_works (Some why) m seat outcome = refl
@@ -120,10 +80,7 @@ turning_works None m seat outcome = turn_works (choice (not (memory_weight m.lis
 
 work_turned : (m : Machine) (seat : ℕ) (outcome : Outcome) → book_of (work_turn m seat outcome).state
     ≡ turned_in seat (work_turning m.stopped m seat outcome).ended (work_turning m.stopped m seat outcome).quanta (book_of (work_turning m.stopped m seat outcome).state)
-work_turned m seat outcome =
-    let turning = work_turning m.stopped m seat outcome in
-    ap (λ (works : List WorkSoFar). record (book_of turning.state) { seats = record turning.state.seats { work = slice_set turning.state.seats.work seat (with_ended (slice_index_or works seat no_work) turning.ended turning.quanta) } })
-    (sym (turning_works m.stopped m seat outcome))
+work_turned m seat outcome = grind (arith, common_steps, nat_tests, turning_works)
 
 pub steps_book : (m : Machine) → StepsBook m
 steps_book m = record {

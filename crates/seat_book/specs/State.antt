@@ -1,6 +1,6 @@
 -- The machine's book: what its seats did, the history, the counts and the stop. Each word here is the machine's own, on these four
 -- parts alone.
-use Rattle.std.specs.Prelude.{ℕ, ◌+◌, ◌-◌, ◌^◌, Bool, true, ◌&&◌, length, take, drop, sum, max, Option, Some, None, slice_index, slice_index_or, slice_set, if◌then◌else◌, nat_lt, ◌==◌}
+use Rattle.std.specs.Prelude.{ℕ, ◌+◌, ◌-◌, Bool, true, ◌&&◌, length, take, drop, sum, max, Option, Some, None, slice_index, slice_index_or, slice_set, if◌then◌else◌, nat_lt, ◌==◌}
 use Rattle.blsm_model.specs.Format.{callers}
 use Rattle.blsm_model.specs.declared.op.Op.{Op}
 use Rattle.blsm_model.specs.declared.op.Op.TheVariants.{Work}

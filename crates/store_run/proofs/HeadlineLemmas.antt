@@ -1,5 +1,7 @@
 -- The headline, from what opening a store says and what a run from there on keeps.
 use Rattle.std.specs.Prelude.{◌≡◌, ◌<◌, ◌≤◌, ◌+◌, ◌*◌, ℕ, Bool, true, false, ◌||◌, List, [], ◌∷◌, None, IsTrue, drop, map, sum, take}
+use Rattle.std.proofs.lemmas.Grind.{common_steps}
+use Rattle.std.proofs.lemmas.Bool.Decides.{nat_tests}
 use Rattle.std.specs.List.{AllByRecursion, list_any}
 use Rattle.std.proofs.Common.{◌∙◌, append-nil, arith, ap, cond, refl, subst, sym}
 use Rattle.std.proofs.lemmas.List.Sums.{sum_by-take-drop}
@@ -34,13 +36,13 @@ use Rattle.seat_book.specs.State.{BookState, book_of, totals_in}
 use Rattle.tree_core.specs.Core.{CoreState}
 use Rattle.tree_core.specs.Holds.{StandsWhole}
 use Rattle.tree_core.specs.Standing.{RunsOver, StandsFor}
-use Rattle.tree_core.specs.Steps.{IsPlayed, StandsSince}
+use Rattle.tree_core.specs.Steps.{IsPlayed}
 use Rattle.tree_core.proofs.QuietLemmas.{shows_now}
 use Rattle.tree_file.specs.Tree.{HoldsTree, components_weight}
 use Rattle.tree_machine.specs.declared.step.Step.{Step}
 use Rattle.tree_machine.specs.Laws.{StepKeepsOpening}
 use Rattle.tree_machine.specs.Machine.{Catalogue, Machine, WorkSoFar, charge, no_work, opened, seats, totals}
-use Rattle.tree_machine.specs.Outcomes.{AreTold, FindsNone, NoneDamaged, is_bad_page, is_by_page, is_damaged}
+use Rattle.tree_machine.specs.Outcomes.{AreTold, FindsNone, NoneDamaged, is_bad_page, is_damaged}
 use Rattle.tree_machine.specs.Plays.{may_step, played, played_one, stepped}
 use Rattle.tree_machine.specs.Steps.{Outcome}
 use Rattle.tree_machine.proofs.PlayLemmas.{of_replicate}
@@ -94,9 +96,7 @@ pub record Ends (opening : List (Key × Value)) (held : Held) (first : Machine) 
   pub none : FindsNone m
 
 no_page_of : (opening : List (Key × Value)) (held : Held) (first m : Machine) (pace : Pace) (d : DiskState) (charge : ℕ) → Ends opening held first m pace d → finds_damage (run_at charge held) ≡ false
-no_page_of opening held first m pace d charge ends =
-    subst (λ (b : BookState). (list_any (λ e. is_damaged e.reply) b.book.entries || is_by_page b.stopped) ≡ false) ends.stands.book
-    (ap (λ (b : Bool). b || is_by_page m.stopped) (no_reply m.book.entries ends.none.entries) ∙ ends.none.stopped)
+no_page_of opening held first m pace d charge ends = grind (arith, common_steps, nat_tests, no_reply)
 
 replies_of : (opening : List (Key × Value)) (held : Held) (first m : Machine) (pace : Pace) (d : DiskState) (sizes : Sizes) (charge : ℕ) → held.runs.sizes ≡ sizes → first.counts.charge ≡ charge
     → Ends opening held first m pace d → IsLegal (limits_of sizes charge) opening held.book.book.entries
@@ -107,10 +107,7 @@ replies_of opening held first m pace d sizes charge same is ends =
     subst (λ (b : BookState). IsLegal (limits_of sizes charge) opening b.book.entries) ends.stands.book of_charge
 
 totals_of : (held : Held) (m : Machine) → m.gears.sizes ≡ held.runs.sizes → charge m ≡ charge_in held → book_of m ≡ held.book → totals m ≡ totals_in (high_mark held.runs.sizes) (charge_in held) held.book
-totals_of held m sizes is book =
-    ap (λ (s : Sizes). totals_in (high_mark s) (charge m) (book_of m)) sizes
-    ∙ ap (λ (n : ℕ). totals_in (high_mark held.runs.sizes) n (book_of m)) is
-    ∙ ap (λ (b : BookState). totals_in (high_mark held.runs.sizes) (charge_in held) b) book
+totals_of held m sizes is book = grind (arith, common_steps, nat_tests)
 
 -- whether it runs or was stopped
 ended_of : (opening : List (Key × Value)) (held : Held) (first m : Machine) (pace : Pace) (d : DiskState) (sizes : Sizes) (charge : ℕ) → held.runs.sizes ≡ sizes → first.counts.charge ≡ charge
@@ -142,9 +139,7 @@ committed_of opening held first m pace d sizes same ends =
 
 -- the charge of the opening is what its components weigh
 opened_charge : (sizes : Sizes) (c1 c2 : Entries) (catalogue : Catalogue) (faults : ℕ) (room : Room) (held : Held) → charge (opened sizes c1 c2 catalogue faults room) ≡ charge_in held → entries_weight c1 + entries_weight c2 ≡ charge_in held
-opened_charge sizes c1 c2 catalogue faults room held is =
-    let weigh : entries_weight c1 + entries_weight c2 ≡ charge (opened sizes c1 c2 catalogue faults room) = omega arith in
-    weigh ∙ is
+opened_charge sizes c1 c2 catalogue faults room held is = grind (arith, common_steps, nat_tests)
 
 ends_of : StepKeepsOpening → NoneDamaged → {D : Type 0} (state : D → DiskState) (opening : List (Key × Value)) (sizes : Sizes) (c1 c2 : Entries) (catalogue : Catalogue) (faults : ℕ) (room : Room) (pace : Pace) (steps : List Step) (old new : CoreState D)
     → (play : IsPlayed state opening steps old new (opened sizes c1 c2 catalogue faults room) pace)

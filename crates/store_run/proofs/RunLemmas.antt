@@ -1,5 +1,7 @@
 -- What a run leaves to be printed, on every disk.
 use Rattle.std.specs.Prelude.{◌≡◌, ◌≤◌, ◌<◌, ◌+◌, ◌-◌, ◌*◌, ℕ, zero, suc, List, [], ◌∷◌, ◌++◌, drop, length, replicate, slice_index, slice_index_or, sum, sum_by, take}
+use Rattle.std.proofs.lemmas.Grind.{common_steps}
+use Rattle.std.proofs.lemmas.Bool.Decides.{nat_tests}
 use Rattle.std.specs.List.{AllByRecursion}
 use Rattle.std.proofs.Common.{◌∙◌, refl, ap, sym, subst, arith, get_or-drop, length-drop, suc-mul, zero-le}
 use Rattle.std.proofs.lemmas.List.Sums.{sum_by-cons}
@@ -39,8 +41,7 @@ run_with charge annals totals = record { charge = charge; entries = annals.entri
 -- so it is, by what ending a core gives
 pub run_is : (charge first : ℕ) (annals : Book) (totals : Totals) (held : Held) → charge ≡ first → annals ≡ held.book.book → totals ≡ totals_in (high_mark held.runs.sizes) (charge_in held) held.book
     → run_with charge annals totals ≡ run_at first held
-run_is charge first annals totals held same is are =
-    ap (λ (c : ℕ). run_with c annals totals) same ∙ ap (λ (b : Book). run_with first b totals) is ∙ ap (λ (t : Totals). run_with first held.book.book t) are
+run_is charge first annals totals held same is are = grind (arith, common_steps, nat_tests)
 
 -- works of which none is open have no quanta
 no_quanta : (works : List WorkSoFar) → ((seat : ℕ) → slice_index_or works seat no_work ≡ no_work) → sum_by (λ w. w.quanta) works ≡ 0
@@ -65,9 +66,7 @@ geometry_of held d core = subst IsGeometry core.holds.told.sizes core.holds.told
 
 -- on every disk the charge is within the capacity
 charge_fits : (held : Held) (d : DiskState) → IsCore held d → charge_in held ≤ capacity held.runs.sizes
-charge_fits held d core =
-    let told = core.holds.told in
-    subst (λ (s : Sizes). charge_in held ≤ capacity s) told.sizes (subst (λ (n : ℕ). n ≤ capacity core.pace.gears.sizes) told.charge_is told.told.paced.within.full)
+charge_fits held d core = grind (arith, common_steps, nat_tests)
 
 -- ---- a run, whoever's threads made it
 
@@ -213,6 +212,4 @@ is_unasked state annals faults core opened rests keeps begins = record {
 -- no quantum was counted for a worker yet, so each one is one of its turns
 pub few_turned : {D : Type 0} (state : D → DiskState) (calls : List (Step × CoreState D)) (annals : Book) (faults : ℕ) (old new : CoreState D) → IsOpened annals faults old.held
     → ChainHelps state calls old new → sum (drop callers new.held.book.seats.quanta) ≤ helps_in (steps_of calls)
-few_turned state calls annals faults old new opened helps =
-    let none : sum (drop callers old.held.book.seats.quanta) ≡ 0 = ap (λ (b : BookState). sum (drop callers b.seats.quanta)) opened.book in
-    omega (arith, helps.rises, none)
+few_turned state calls annals faults old new opened helps = grind (arith, common_steps, nat_tests)

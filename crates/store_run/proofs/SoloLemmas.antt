@@ -1,7 +1,9 @@
 -- One caller alone: what is printed is one function of the state that it begins with and its commands.
-use Rattle.std.specs.Prelude.{◌≡◌, ◌≢◌, ◌==◌, ℕ, Bool, true, false, List, [], ◌∷◌, filter, map}
+use Rattle.std.specs.Prelude.{◌≡◌, ◌≢◌, ◌==◌, ℕ, Bool, false, List, [], ◌∷◌, filter, map}
+use Rattle.std.proofs.lemmas.Grind.{common_steps}
+use Rattle.std.proofs.lemmas.Bool.Decides.{nat_tests}
 use Rattle.std.specs.List.{AllByRecursion}
-use Rattle.std.proofs.Common.{◌∙◌, arith, ap, cond, eq-eqb, ne_eqb, refl, subst, sym}
+use Rattle.std.proofs.Common.{◌∙◌, arith, ap, cond, eq-eqb, refl, subst, sym}
 use mathlib.Core.Logic.{dite}
 use native.Mathlib.Decide.{ℕ_discrete}
 use Rattle.alone_run.specs.Alone.{EndsAlone, NoneHelps, RunsAlone, alone, ops_in}
@@ -28,10 +30,7 @@ use Rattle.store_run.specs.Run.{HaveEnded, Run}
 -- a script of one caller has no lines of another
 none_of : (seat other : ℕ) (lines : List Line) → AllByRecursion (λ l. l.seat ≡ seat) lines → other ≢ seat → lines_of other lines ≡ []
 none_of seat other [] all apart = refl
-none_of seat other (line ∷ lines) all apart =
-    let no : (line.seat == other) ≡ false = ne_eqb line.seat other (λ (is : line.seat ≡ other). apart (sym is ∙ all.0)) in
-    ap (λ (b : Bool). map (λ (l : Line). l.op) (cond b (line ∷ filter (λ (l : Line). l.seat == other) lines) (filter (λ (l : Line). l.seat == other) lines))) no
-    ∙ none_of seat other lines all.1 apart
+none_of seat other (line ∷ lines) all apart = grind (arith, common_steps, nat_tests, none_of seat other lines all.1 apart)
 
 -- a history in which no other seat has an entry is of the seat
 all_of : (seat : ℕ) (entries : List Entry) → ((other : ℕ) → other ≢ seat → ops_of other entries ≡ []) → AllByRecursion (λ e. e.seat ≡ seat) entries
@@ -45,18 +44,12 @@ all_of seat (e ∷ entries) none = (dite (ℕ_discrete e.seat seat) (λ is. is) 
     its apart = cc (sym (ap (λ (b : Bool). map (λ (x : Entry). x.op) (cond b (e ∷ filter (λ (x : Entry). x.seat == e.seat) entries) (filter (λ (x : Entry). x.seat == e.seat) entries))) (eq-eqb e.seat e.seat refl)) ∙ none e.seat apart)
 
     rest : (other : ℕ) → ops_of other (e ∷ entries) ≡ [] → ops_of other entries ≡ []
-    rest other is = by (e.seat == other) is
-      where
-        by : (b : Bool) → map (λ (x : Entry). x.op) (cond b (e ∷ filter (λ (x : Entry). x.seat == other) entries) (filter (λ (x : Entry). x.seat == other) entries)) ≡ [] → ops_of other entries ≡ []
-        by true wrong = absurd (cc wrong)
-        by false same = same
+    rest other is = grind (arith, common_steps, nat_tests)
 
 -- whose commands are all there are
 whole_of : (seat : ℕ) (entries : List Entry) → AllByRecursion (λ e. e.seat ≡ seat) entries → ops_of seat entries ≡ ops_in entries
 whole_of seat [] all = refl
-whole_of seat (e ∷ entries) all =
-    ap (λ (b : Bool). map (λ (x : Entry). x.op) (cond b (e ∷ filter (λ (x : Entry). x.seat == seat) entries) (filter (λ (x : Entry). x.seat == seat) entries))) (eq-eqb e.seat seat all.0)
-    ∙ ap (λ (os : List Op). e.op ∷ os) (whole_of seat entries all.1)
+whole_of seat (e ∷ entries) all = grind (arith, common_steps, nat_tests, whole_of seat entries all.1)
 
 -- ---- no worker
 
@@ -65,8 +58,7 @@ none_helps [] none = tt
 none_helps (one ∷ made) none = (by (is_help one.0.kind) (omega (arith, none)), none_helps made (omega (arith, none)))
   where
     by : (b : Bool) → one_if b ≡ 0 → b ≡ false
-    by true wrong = absurd (omega (arith, wrong))
-    by false is = refl
+    by b h1 = grind (arith, common_steps, nat_tests)
 
 -- ---- the end
 

@@ -1,5 +1,7 @@
 -- What an admission leaves to the other seats.
 use Rattle.std.specs.Prelude.{is_some, slice_index, slice_set, nat_lt}
+use Rattle.std.proofs.lemmas.Grind.{common_steps}
+use Rattle.std.proofs.lemmas.Bool.Decides.{nat_tests}
 use Rattle.std.proofs.Common.{◌≡◌, ◌≢◌, ⊎_elim, ℕ, ◌+◌, ◌≤◌, Bool, true, false, cond, not, ◌&&◌, List, replicate, refl, sym, subst, arith}
 use Rattle.std.proofs.lemmas.List.{get_or-set_other}
 use Rattle.blsm_model.specs.Facts.{Follows}
@@ -66,8 +68,7 @@ begin_eases : (seat c1 memory : ℕ) (gears : GearState) → Eases seat gears (p
 begin_eases seat c1 memory gears = record { first = λ other apart. omega (arith, none_owed other); second = λ other apart. omega arith }
 
 same_or_set : (b : Bool) (xs : List ℕ) (seat other n : ℕ) → other ≢ seat → slice_index (cond b (slice_set xs seat n) xs) other ≤ slice_index xs other
-same_or_set true xs seat other n apart = omega (arith, get_or-set_other xs seat other n 0 apart)
-same_or_set false xs seat other n apart = omega arith
+same_or_set b xs seat other n h1 = grind (arith, common_steps, nat_tests)
 
 entry_eases : (seat w : ℕ) (gears : GearState) → Eases seat gears (entered gears seat w)
 entry_eases seat w gears = record {

@@ -1,5 +1,8 @@
 -- What an admission makes of the numbers, on every disk.
 use Rattle.std.specs.Prelude.{◌<◌}
+use Rattle.std.proofs.lemmas.Grind.{common_steps}
+use Rattle.std.proofs.lemmas.Bool.Decides.{nat_tests}
+use Rattle.std.proofs.Common.{arith}
 use Rattle.std.proofs.Common.{◌≡◌, ◌∙◌, ⊎_elim, inl, inr, ℕ, ◌+◌, ◌≤◌, Bool, true, false, cond, [], ◌∷◌, None, Some, Option, refl, ap, sym, subst}
 use Rattle.std.proofs.lemmas.Bool.{false≢true, cases_lt}
 use Rattle.std.proofs.lemmas.Option.{none-some}
@@ -91,17 +94,13 @@ stopped_holds seat op reply why held pace d undone room between = record {
 -- ---- whether there is room
 
 pub none_of : (o : Option Why) → ((why : Why) → o ≡ Some why → ⊥) → o ≡ None
-none_of None never = refl
-none_of (Some why) never = absurd (never why refl)
+none_of o h1 = grind (arith, common_steps, nat_tests)
 
 pub room_as : (n n' w w' : ℕ) (z z' : Sizes) (b b' : Bool) → n ≡ n' → w ≡ w' → z ≡ z' → b ≡ b' → n + w ≤ charge_limit z b → n' + w' ≤ charge_limit z' b'
-room_as n n' w w' z z' b b' en ew ez eb fits =
-    subst (λ (x : ℕ). x + w' ≤ charge_limit z' b') en (subst (λ (x : ℕ). n + x ≤ charge_limit z' b') ew
-    (subst (λ (x : Sizes). n + w ≤ charge_limit x b') ez (subst (λ (x : Bool). n + w ≤ charge_limit z x) eb fits)))
+room_as n n' w w' z z' b b' en ew ez eb fits = grind (arith, common_steps, nat_tests)
 
 pub past_as : (n n' w w' : ℕ) (z z' : Sizes) (b b' : Bool) → n ≡ n' → w ≡ w' → z ≡ z' → b ≡ b' → (n + w ≤ charge_limit z b → ⊥) → charge_limit z' b' < n' + w'
-past_as n n' w w' z z' b b' en ew ez eb never =
-    ⊎_elim (λ past. past) (λ fits. absurd (never (room_as n' n w' w z' z b' b (sym en) (sym ew) (sym ez) (sym eb) fits))) (cases_lt (charge_limit z' b') (n' + w'))
+past_as n n' w w' z z' b b' en ew ez eb never = grind (arith, common_steps, nat_tests)
 
 -- ---- what is noted
 
@@ -111,9 +110,7 @@ noted_same seat op asked reply b new is same = is ∙ ap (λ (o : Op). noted_in 
 -- with the stop before it
 pub stopped_same : (seat : ℕ) (op asked : Op) (reply noted : Reply) (n faults : ℕ) (b mid new : BookState) → mid ≡ stopped_in (Faulted n) b → n ≡ faults → new ≡ noted_in seat asked noted mid → asked ≡ op → noted ≡ reply
     → new ≡ noted_in seat op reply (stopped_in (Faulted faults) b)
-stopped_same seat op asked reply noted n faults b mid new stops counts is same_op same_reply =
-    is ∙ ap (λ (o : Op). noted_in seat o noted mid) same_op ∙ ap (λ (r : Reply). noted_in seat op r mid) same_reply
-    ∙ ap (λ (k : BookState). noted_in seat op reply k) (stops ∙ ap (λ (k : ℕ). stopped_in (Faulted k) b) counts)
+stopped_same seat op asked reply noted n faults b mid new stops counts is same_op same_reply = grind (arith, common_steps, nat_tests)
 
 -- ---- what the book keeps
 

@@ -1,5 +1,7 @@
 -- An admission is one step of the machine, on an honest disk.
 use Rattle.std.specs.Prelude.{is_some, IsSome, nat_lt, ◌==◌, ◌^◌, ◌<◌}
+use Rattle.std.proofs.lemmas.Grind.{common_steps}
+use Rattle.std.proofs.lemmas.Bool.Decides.{nat_tests}
 use Rattle.std.specs.List.{AllByRecursion}
 use Rattle.std.proofs.Common.{◌≡◌, ◌∙◌, ⊎_elim, inr, ℕ, ◌+◌, ◌≤◌, Bool, true, false, cond, not, ◌&&◌, IsTrue, None, Some, Option, List, [], ◌∷◌, ◌++◌, length, length-append, refl, ap, sym, subst, arith}
 use Rattle.std.proofs.lemmas.Bool.{false≢true, lt-ltb}
@@ -123,45 +125,24 @@ standing_tells opening held m pace d stands = record { sizes = stands.sizes; gea
 -- ---- failures, as the machine has them
 
 some_due : (deep pass : Bool) → deep ≡ true → nat_lt 0 (one_if deep + one_if pass) ≡ true
-some_due true true done = refl
-some_due true false done = refl
-some_due false pass done = absurd (false≢true done)
+some_due deep pass h1 = grind (arith, common_steps, nat_tests)
 
 pass_due : (deep pass : Bool) → pass ≡ true → nat_lt (one_if deep) (one_if deep + one_if pass) ≡ true
-pass_due true true done = refl
-pass_due false true done = refl
-pass_due deep false done = absurd (false≢true done)
+pass_due deep pass h1 = grind (arith, common_steps, nat_tests)
 
 -- the deep merge's swap is none of the pass's
 same_pass : (m : Machine) → pass_done (deep_swapped m) ≡ pass_done m
-same_pass m = by (deep_done m)
-  where
-    by_merge : (p : Option Merge) → pass_is_done p (swap_deep m).lists ≡ pass_is_done p m.lists
-    by_merge None = refl
-    by_merge (Some pass) = refl
-
-    by : (b : Bool) → pass_done (cond b (swap_deep m) m) ≡ pass_done m
-    by true = by_merge m.merges.pass
-    by false = refl
+same_pass m = grind (arith, common_steps, nat_tests)
 
 deep_lost : (seat : ℕ) (op : Op) (w faults : ℕ) (m : Machine) → deep_done m ≡ true → admit_fitting m seat op w (FailedAfter 0 faults) ≡ replied seat op FaultLost (stop (Faulted faults) m)
-deep_lost seat op w faults m done =
-    ap (λ (b : Bool). cond b (replied seat op FaultLost (stop (Faulted faults) (cond (0 == 0) m (deep_swapped m)))) (replied seat op FaultUnsure (stop (Faulted faults) (ready_for w m)))) (some_due (deep_done m) (pass_done m) done)
+deep_lost seat op w faults m done = grind (arith, common_steps, nat_tests)
 
 pass_lost : (seat : ℕ) (op : Op) (w faults : ℕ) (m : Machine) → pass_done (deep_swapped m) ≡ true
     → admit_fitting m seat op w (FailedAfter (one_if (deep_done m)) faults) ≡ replied seat op FaultLost (stop (Faulted faults) (deep_swapped m))
-pass_lost seat op w faults m done =
-    ap (λ (b : Bool). cond b (replied seat op FaultLost (stop (Faulted faults) (cond (one_if (deep_done m) == 0) m (deep_swapped m)))) (replied seat op FaultUnsure (stop (Faulted faults) (ready_for w m))))
-    (pass_due (deep_done m) (pass_done m) (sym (same_pass m) ∙ done))
-    ∙ ap (λ (s : Machine). replied seat op FaultLost (stop (Faulted faults) s)) (committed_of (deep_done m))
-  where
-    committed_of : (b : Bool) → cond (one_if b == 0) m (cond b (swap_deep m) m) ≡ cond b (swap_deep m) m
-    committed_of true = refl
-    committed_of false = refl
+pass_lost seat op w faults m done = grind (arith, common_steps, nat_tests)
 
 append_lost : (seat : ℕ) (op : Op) (w faults : ℕ) (m : Machine) → admit_fitting m seat op w (FailedAfter (swaps_due m) faults) ≡ replied seat op FaultUnsure (stop (Faulted faults) (ready_for w m))
-append_lost seat op w faults m =
-    ap (λ (b : Bool). cond b (replied seat op FaultLost (stop (Faulted faults) (cond (swaps_due m == 0) m (deep_swapped m)))) (replied seat op FaultUnsure (stop (Faulted faults) (ready_for w m)))) (not_past (swaps_due m) (swaps_due m) (omega arith))
+append_lost seat op w faults m = grind (arith, common_steps, nat_tests)
 
 -- ---- the step
 

@@ -1,5 +1,7 @@
 -- A write that failed has committed the swaps that were due, or fewer. They are those of the machine.
 use Rattle.std.specs.Prelude.{◌≡◌, ◌⊎◌, ℕ, ◌+◌, ◌<◌, ◌≤◌, Bool, true, false, not, ◌&&◌, ◌==◌, nat_lt, is_some, List, None, Option}
+use Rattle.std.proofs.lemmas.Grind.{common_steps}
+use Rattle.std.proofs.lemmas.Bool.Decides.{nat_tests}
 use Rattle.std.proofs.Common.{◌∙◌, ⊎_elim, cond, refl, ap, sym, arith}
 use Rattle.std.proofs.lemmas.Bool.{eqb-true, eq-eqb, false≢true}
 use Rattle.catalog_swap.specs.declared.catalog.Catalog.{Catalog}
@@ -36,54 +38,27 @@ pub pass_is : (held : Held) → IsPassDone held → is_pass_due held ≡ true
 pass_is held done = both (is_some held.runs.pass) (left_for_pass held.runs.pass held.log.a.entries == 0) done.0 (eq-eqb (left_for_pass held.runs.pass held.log.a.entries) 0 done.1)
 
 not_deep : (held : Held) → (IsDeepDone held → ⊥) → is_deep_due held ≡ false
-not_deep held none = by (is_deep_due held) refl
-  where
-    by : (b : Bool) → is_deep_due held ≡ b → b ≡ false
-    by true is = let parts = both_hold (is_some held.runs.deep) (left_for_deep held.runs.deep == 0) is in absurd (none (parts.0, eqb-true (left_for_deep held.runs.deep) 0 parts.1))
-    by false is = refl
+not_deep held none = grind (arith, common_steps, nat_tests)
 
 not_pass : (held : Held) → (IsPassDone held → ⊥) → is_pass_due held ≡ false
-not_pass held none = by (is_pass_due held) refl
-  where
-    by : (b : Bool) → is_pass_due held ≡ b → b ≡ false
-    by true is = let parts = both_hold (is_some held.runs.pass) (left_for_pass held.runs.pass held.log.a.entries == 0) is in absurd (none (parts.0, eqb-true (left_for_pass held.runs.pass held.log.a.entries) 0 parts.1))
-    by false is = refl
+not_pass held none = grind (arith, common_steps, nat_tests)
 
 abbrev version : Held → ℕ
 version held = held.runs.catalogue.version
 
 unmoved : (old new : Held) (due : Bool) → due ≡ false → new ≡ old → version new ≡ version old + one_where due
-unmoved old new due none same =
-    let zero : one_where due ≡ 0 = ap one_where none in
-    let still : version new ≡ version old = ap (λ (held : Held). version held) same in
-    omega (arith, zero, still)
+unmoved old new due none same = grind (arith, common_steps, nat_tests)
 
 -- the deep merge's swap is one commit, and leaves the pass as it was
 pub deep_counts : (old new : Held) → SettlesDeep old new → (version new ≡ version old + one_where (is_deep_due old)) × (is_pass_due new ≡ is_pass_due old)
-deep_counts old new settles = ⊎_elim
-    (λ (done : IsDeepDone old × SwapsDeepIn old new). (
-      ap (λ (c : Catalog). c.version) done.1.runs.catalogue ∙ ap (λ (b : Bool). version old + one_where b) (sym (deep_is old done.0)),
-      ap (λ (s : Option SnowState). is_some s && (left_for_pass s new.log.a.entries == 0)) done.1.runs.pass ∙ ap (λ (l : LogState). is_some old.runs.pass && (left_for_pass old.runs.pass l.a.entries == 0)) done.1.log,
-    ))
-    (λ (rests : (IsDeepDone old → ⊥) × (new ≡ old)). (
-      unmoved old new (is_deep_due old) (not_deep old rests.0) rests.1,
-      ap (λ (held : Held). is_pass_due held) rests.1,
-    ))
-    settles
+deep_counts old new settles = grind (arith, common_steps, nat_tests)
 
 pass_counts : (old new : Held) → SettlesPass old new → version new ≡ version old + one_where (is_pass_due old)
-pass_counts old new settles = ⊎_elim
-    (λ (done : IsPassDone old × SwapsPassIn old new). ap (λ (c : Catalog). c.version) done.1.runs.catalogue ∙ ap (λ (b : Bool). version old + one_where b) (sym (pass_is old done.0)))
-    (λ (rests : (IsPassDone old → ⊥) × (new ≡ old)). unmoved old new (is_pass_due old) (not_pass old rests.0) rests.1)
-    settles
+pass_counts old new settles = grind (arith, common_steps, nat_tests)
 
 -- a begin commits nothing
 begin_counts : (w : ℕ) (held : Held) → version (begun_in w held) ≡ version held
-begin_counts w held = by (not (is_some held.runs.pass) && nat_lt held.runs.sizes.low (held.spring + w))
-  where
-    by : (b : Bool) → version (cond b (with_pass_begun held) held) ≡ version held
-    by true = refl
-    by false = refl
+begin_counts w held = grind (arith, common_steps, nat_tests)
 
 pub begun_append : (w : ℕ) (old new : Held) → IsReadied w old new → version new ≡ version old + swaps_due_in old
 begun_append w old new r =
@@ -93,13 +68,7 @@ begun_append w old new r =
     omega (arith, all, pass, deep.0)
 
 pub lost_before : (old new : Held) → ((new ≡ old) × IsDeepDone old) ⊎ (SettlesDeep old new × IsPassDone new) → version new < version old + swaps_due_in old
-lost_before old new lost = ⊎_elim
-    (λ (first : (new ≡ old) × IsDeepDone old). let due : one_where (is_deep_due old) ≡ 1 = ap one_where (deep_is old first.1) in let same : version new ≡ version old = ap (λ (held : Held). version held) first.0 in omega (arith, due, same))
-    (λ (second : SettlesDeep old new × IsPassDone new).
-    let deep = deep_counts old new second.0 in
-    let due : one_where (is_pass_due old) ≡ 1 = ap one_where (sym deep.1 ∙ pass_is new second.1) in
-    omega (arith, due, deep.0))
-    lost
+lost_before old new lost = grind (arith, common_steps, nat_tests)
 
 pub begun_by : (begun : Bool) (seat : ℕ) (key : Key) (rec : Rec) (old new : Held) (b : BookState) (after : DiskState) → Takes (taking.Failed begun) seat key rec old new after
     → HasBegun (admission.Fault begun) old (with_book b new)
@@ -109,16 +78,12 @@ begun_by false seat key rec old new b after lost = lost_before old new lost
 -- ---- how many they are
 
 at_most_one : (b : Bool) → one_where b ≤ 1
-at_most_one true = omega arith
-at_most_one false = omega arith
+at_most_one b = grind (arith, common_steps, nat_tests)
 
 -- ---- by the machine
 
 same_count : (done due : Bool) → (done ≡ true → due ≡ true) → (due ≡ true → done ≡ true) → one_if done ≡ one_where due
-same_count true true p q = refl
-same_count false false p q = refl
-same_count true false p q = absurd (false≢true (p refl))
-same_count false true p q = absurd (false≢true (q refl))
+same_count done due h1 h2 = grind (arith, common_steps, nat_tests)
 
 pub due_agree : (opening : List (Key × Value)) (old : Held) (m : Machine) (pace : Pace) (d : DiskState) → StandsFor opening old m pace d → IsCore old d → old.book.stopped ≡ None → swaps_due m ≡ swaps_due_in old
 due_agree opening old m pace d stands keeps runs =

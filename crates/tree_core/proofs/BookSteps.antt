@@ -1,5 +1,7 @@
 -- A leave and the end of a work: steps that only write in the book.
 use Rattle.std.specs.Prelude.{◌≡◌, ℕ, ◌<◌, ◌≤◌, ◌&&◌, true, false, List, Option, None, Some, IsTrue, length, nat_lt, nat_le, option_map, slice_index, unwrap_or}
+use Rattle.std.proofs.lemmas.Grind.{common_steps}
+use Rattle.std.proofs.lemmas.Bool.Decides.{nat_tests}
 use Rattle.std.proofs.Common.{◌∙◌, inl, inr, refl, ap, sym, subst, arith}
 use Rattle.std.proofs.lemmas.Bool.{ltb-true}
 use Rattle.std.proofs.lemmas.List.{get_or-set_same}
@@ -90,22 +92,7 @@ end_has_room seat n b reply none can =
 
 -- a work gives no rows
 no_rows : (work : WorkSoFar) (stopped : Option Why) → length (rows_given (work_reply work stopped)) ≡ 0
-no_rows work stopped = by work.last stopped
-  where
-    otherwise : (o : Option Why) → Reply
-    otherwise o = unwrap_or (option_map (λ why. Stopped why) o) (Did work.worked)
-
-    none : (o : Option Why) → length (rows_given (otherwise o)) ≡ 0
-    none None = refl
-    none (Some why) = refl
-
-    by : (last : Turned) (o : Option Why) → length (rows_given (reply_by last (otherwise o))) ≡ 0
-    by machine.Failed o = refl
-    by (machine.BadPage page) o = refl
-    by machine.Worked o = none o
-    by machine.Idle o = none o
-    by machine.Closed o = none o
-    by (machine.Halted why) o = none o
+no_rows work stopped = grind (arith, common_steps, nat_tests)
 
 pub end_does : {D : Type 0} (state : D → DiskState) (seat n : ℕ) (reply : Reply) (old : CoreState D) (b : BookState) → IsCore old.held (state old.disk) → IsTimed (state old.disk) → length old.held.book.seats.work ≡ callers
     → may_end_in seat n old.held.book ≡ true → reply ≡ work_reply (work_in seat old.held.book) old.held.book.stopped → b ≡ ended_in seat n old.held.book → EndsWork state seat n reply old (record old { held = with_book b old.held })

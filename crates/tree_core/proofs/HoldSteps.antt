@@ -1,5 +1,7 @@
 -- A hold, the reading on in it and its drop: the seat's pins and its hold may change, and an entry is noted. All else stays.
 use Rattle.std.specs.Prelude.{◌≡◌, ℕ, ◌<◌, true, false, List, [], ◌∷◌, ◌++◌, Option, Some, None, IsTrue, is_some, slice_index_or, slice_set, length}
+use Rattle.std.proofs.lemmas.Grind.{common_steps}
+use Rattle.std.proofs.lemmas.Bool.Decides.{nat_tests}
 use Rattle.std.proofs.Common.{◌∙◌, inl, inr, refl, ap, sym, subst, arith}
 use Rattle.std.proofs.lemmas.Bool.{cases_eq, false≢true}
 use Rattle.std.proofs.lemmas.List.{get_or-set_same, get_or-set_other}
@@ -292,11 +294,7 @@ same_rows old mid before after m d d2 runs holds bytes rows = λ other within.
 
 -- a seat's hold has rows just where it is one
 pub none_held : (sizes : Sizes) (pins : List Members) (seat : ℕ) (file : List ℕ) (hold : Option HoldState) (rows : Option (List Row)) → hold ≡ None → HasHeld sizes pins seat hold rows file → rows ≡ None
-none_held sizes pins seat file None None is has = refl
-none_held sizes pins seat file None (Some rows) is has = absurd has
-none_held sizes pins seat file (Some hold) rows is has = cc is
+none_held sizes pins seat file hold rows h1 h2 = grind (arith, common_steps, nat_tests)
 
 pub some_held : (sizes : Sizes) (pins : List Members) (seat : ℕ) (file : List ℕ) (hold : Option HoldState) (rows : Option (List Row)) → IsTrue (is_some hold) → HasHeld sizes pins seat hold rows file → (given : List Row) × (rows ≡ Some given)
-some_held sizes pins seat file None rows is has = absurd (false≢true is)
-some_held sizes pins seat file (Some hold) None is has = absurd has
-some_held sizes pins seat file (Some hold) (Some rows) is has = (rows, refl)
+some_held sizes pins seat file hold rows h1 h2 = grind (arith, common_steps, nat_tests)

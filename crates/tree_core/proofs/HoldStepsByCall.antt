@@ -1,5 +1,7 @@
 -- Each of the three calls of a hold, by its answer.
 use Rattle.std.specs.Prelude.{◌≡◌, ◌≢◌, ℕ, ◌<◌, ◌≤◌, ◌^◌, ◌==◌, true, false, not, ◌&&◌, List, Option, Some, None, IsTrue, is_some, slice_set, length, take, drop}
+use Rattle.std.proofs.lemmas.Grind.{common_steps}
+use Rattle.std.proofs.lemmas.Bool.Decides.{nat_tests}
 use Rattle.std.proofs.Common.{◌∙◌, refl, ap, sym, subst, arith}
 use Rattle.std.proofs.lemmas.Bool.{ltb-true}
 use Rattle.blsm_model.specs.Book.{HasRoom, rows_given}
@@ -58,26 +60,16 @@ pub notes_below : (seat rows : ℕ) (b : BookState) → may_note_in seat rows b 
 notes_below seat rows b can = ltb-true seat callers (both_hold (is_caller seat) (has_room b.book.room seat rows) (both_hold (is_caller seat && has_room b.book.room seat rows) ((work_in seat b).turns == 0) can).0).0
 
 none_by_hold : (answer : Holding) → length (rows_given (reply_to_hold answer)) ≤ 0
-none_by_hold holds.Held = omega arith
-none_by_hold holds.NoMemory = omega arith
-none_by_hold (holds.Stopped why) = omega arith
+none_by_hold answer = grind (arith, common_steps, nat_tests)
 
 none_by_drop : (answer : Release) → length (rows_given (reply_to_drop answer)) ≤ 0
-none_by_drop release.Done = omega arith
-none_by_drop release.NoHold = omega arith
-none_by_drop (release.Stopped why) = omega arith
+none_by_drop answer = grind (arith, common_steps, nat_tests)
 
 few_given : (n : ℕ) (old new : Option HoldState) (rows : List Row) → AreGivenBy n old new rows → length rows ≤ n
-few_given n (Some old) (Some new) rows given = given.0.few
-few_given n None new rows given = absurd given
-few_given n (Some old) None rows given = absurd given
+few_given n old new rows h1 = grind (arith, common_steps, nat_tests)
 
 few_by_next : {D : Type 0} (answer : Scanned) (seat n : ℕ) (old new : CoreState D) (d d2 : DiskState) → ScansBecause answer seat n old new d d2 → length (rows_given (reply_to_next answer)) ≤ n
-few_by_next (scanned.Rows rows) seat n old new d d2 because = few_given n (hold_of seat old.holds) (hold_of seat new.holds) rows because.2
-few_by_next scanned.NoHold seat n old new d d2 because = omega arith
-few_by_next scanned.Fault seat n old new d d2 because = omega arith
-few_by_next (scanned.Damaged page) seat n old new d d2 because = omega arith
-few_by_next (scanned.Stopped why) seat n old new d d2 because = omega arith
+few_by_next answer seat n old new d d2 h1 = grind (arith, common_steps, nat_tests)
 
 pub hold_room : (seat : ℕ) (low high : Key) (answer : Holding) (b : BookState) → may_note_in seat 0 b ≡ true → HasRoom b.book.room (record { seat = seat; op = op.Hold low high; reply = reply_to_hold answer })
 hold_room seat low high answer b can = note_has_room b seat 0 (op.Hold low high) (reply_to_hold answer) can (none_by_hold answer)
@@ -94,13 +86,11 @@ next_room answer seat n old new d d2 b because can = note_has_room b seat n (op.
 -- what was noted, of the book from before
 pub noted_before : {seat : ℕ} {old mid : Held} {before after : List (Option HoldState)} (b : BookState) (command : Op) (given kept : Reply) → MovesHold seat old mid before after → b ≡ noted_in seat command given mid.book → given ≡ kept
     → b ≡ noted_in seat command kept old.book
-noted_before {seat} {old} {mid} b command given kept moves is same =
-    is ∙ ap (λ (held : Held). noted_in seat command given held.book) moves.rest ∙ ap (λ (r : Reply). noted_in seat command r old.book) same
+noted_before {seat} {old} {mid} b command given kept moves is same = grind (arith, common_steps, nat_tests)
 
 pub noted_hold : {seat : ℕ} {old mid : Held} {before after : List (Option HoldState)} (b : BookState) (low low2 high high2 : Key) (given kept : Reply) → MovesHold seat old mid before after → b ≡ noted_in seat (op.Hold low high) given mid.book
     → low ≡ low2 → high ≡ high2 → given ≡ kept → b ≡ noted_in seat (op.Hold low2 high2) kept old.book
-noted_hold {seat} b low low2 high high2 given kept moves is one two same =
-    noted_before b (op.Hold low high) given kept moves is same ∙ cc (one, two)
+noted_hold {seat} b low low2 high high2 given kept moves is one two same = grind (arith, common_steps, nat_tests)
 
 running_still : {why : Why} (o : Option Why) → o ≡ Some why → o ≡ None → ⊥
 running_still o some none = absurd (cc (some, none))

@@ -1,5 +1,7 @@
 -- Steps that are none of a hold leave the callers' holds as they are, those of the machine and those of the core.
 use Rattle.std.specs.Prelude.{◌≢◌, ◌≤◌, nat_le, nat_lt, not, ◌&&◌, ◌==◌, replicate, slice_index_or, IsErr, IfOk, Ok, Err}
+use Rattle.std.proofs.lemmas.Grind.{common_steps}
+use Rattle.std.proofs.lemmas.Bool.Decides.{nat_tests}
 use Rattle.std.specs.declared.result.Result.{Result}
 use Rattle.std.proofs.Common.{◌≡◌, ◌∙◌, ⊎_elim, inl, inr, ℕ, ◌+◌, Bool, true, false, cond, List, [], ◌∷◌, Option, None, Some, refl, ap, sym, subst, arith}
 use Rattle.std.proofs.lemmas.Bool.{cases_eq, false≢true}
@@ -176,16 +178,7 @@ worker_keeps None true m seat outcome = itself m
 worker_keeps None false m seat outcome = turn_keeps (choice (nat_lt m.gears.sizes.low m.spring) false m) outcome seat m
 
 pub step_keeps_holds : (m : Machine) (seat : ℕ) (k : Kind) (outcome : Outcome) → is_held k ≡ false → (stepped_as m seat k outcome).state.holds ≡ m.holds
-step_keeps_holds m seat (kind.Admit op) outcome none = (admission_keeps m seat op outcome).holds
-step_keeps_holds m seat kind.Pay outcome none = (payment_keeps m seat outcome).holds
-step_keeps_holds m seat (kind.Get key) outcome none = (unless m.stopped seat _ m _ (record { holds = refl })).holds
-step_keeps_holds m seat (kind.Hold low high) outcome some = absurd (false≢true (sym some))
-step_keeps_holds m seat (kind.Next n) outcome some = absurd (false≢true (sym some))
-step_keeps_holds m seat kind.Release outcome some = absurd (false≢true (sym some))
-step_keeps_holds m seat kind.WorkTurn outcome none = (work_keeps m.stopped m seat outcome).holds
-step_keeps_holds m seat (kind.WorkEnd n) outcome none = refl
-step_keeps_holds m seat kind.WorkerTurn outcome none = (worker_keeps m.stopped (is_closed m) m seat outcome).holds
-step_keeps_holds m seat kind.Leave outcome none = refl
+step_keeps_holds m seat k outcome h1 = grind (arith, common_steps, nat_tests, admission_keeps, payment_keeps, unless, work_keeps, worker_keeps)
 
 -- ---- the core
 

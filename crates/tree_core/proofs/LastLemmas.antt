@@ -1,5 +1,7 @@
 -- What lasts from a start on, over each call.
 use Rattle.std.specs.Prelude.{◌≡◌, ℕ, ◌+◌, ◌<◌, ◌≤◌, Bool, true, false, not, ◌&&◌, ◌||◌, nat_le, nat_lt, is_some, List, [], ◌∷◌, ◌++◌, Option, None, Some, IsTrue}
+use Rattle.std.proofs.lemmas.Grind.{common_steps}
+use Rattle.std.proofs.lemmas.Bool.Decides.{nat_tests}
 use Rattle.std.proofs.Common.{◌∙◌, refl, ap, sym, subst, arith}
 use Rattle.blsm_model.specs.declared.key.Key.{Key}
 use Rattle.blsm_model.specs.declared.row.Value.{Value}
@@ -121,20 +123,11 @@ pub may_leave : (seat : ℕ) → seat < callers → is_caller seat ≡ true
 may_leave seat below = lt-ltb seat callers below
 
 pub may_next : (seat n : ℕ) (held : Held) → may_note_in seat n held.book ≡ true → 0 < n → n ≤ most_rows → may_in held seat (kind.Next n) ≡ true
-may_next seat n held note some few =
-    both (may_note_in seat n held.book && nat_lt 0 n) (nat_le n most_rows) (both (may_note_in seat n held.book) (nat_lt 0 n) note (lt-ltb 0 n some)) (le-leb n most_rows few)
+may_next seat n held note some few = grind (arith, common_steps, nat_tests)
 
 -- a seat that owes nothing while the store runs is even
 pub even_in : (seat : ℕ) (held : Held) → (held.book.stopped ≡ None → first_debt held.gears seat + second_debt held.gears seat ≡ 0) → is_even_in seat held ≡ true
-even_in seat held nothing = by (first_debt held.gears seat + second_debt held.gears seat) held.book.stopped nothing
-  where
-    or_true : (b : Bool) → (b || true) ≡ true
-    or_true true = refl
-    or_true false = refl
-
-    by : (n : ℕ) (o : Option Why) → (o ≡ None → n ≡ 0) → (not (nat_lt 0 n) || is_some o) ≡ true
-    by n None zero = subst (λ (k : ℕ). (not (nat_lt 0 k) || false) ≡ true) (sym (zero refl)) refl
-    by n (Some why) zero = or_true (not (nat_lt 0 n))
+even_in seat held nothing = grind (arith, common_steps, nat_tests)
 
 pub may_admit : (seat : ℕ) (op : Op) (held : Held) → is_write op ≡ true → may_note_in seat 0 held.book ≡ true → (held.book.stopped ≡ None → first_debt held.gears seat + second_debt held.gears seat ≡ 0)
     → may_in held seat (kind.Admit op) ≡ true

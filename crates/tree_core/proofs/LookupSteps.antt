@@ -1,5 +1,7 @@
 -- A lookup is a step that only reads, and notes what it found.
 use Rattle.std.specs.Prelude.{◌≡◌, ◌≢◌, ℕ, ◌<◌, ◌≤◌, ◌^◌, true, false, List, Option, None, IsTrue, is_some, length, not, ◌&&◌}
+use Rattle.std.proofs.lemmas.Grind.{common_steps}
+use Rattle.std.proofs.lemmas.Bool.Decides.{nat_tests}
 use Rattle.std.proofs.Common.{◌∙◌, inl, inr, refl, ap, sym, subst, arith}
 use Rattle.blsm_model.specs.Geometry.{file_length}
 use Rattle.blsm_model.specs.declared.key.Key.{Key}
@@ -50,11 +52,7 @@ use Rattle.tree_core.proofs.BookSteps.{book_goes}
 
 -- a lookup gives no rows
 few_rows : (found : Lookup) → length (Rattle.blsm_model.specs.Book.rows_given (reply_to_get found)) ≤ 0
-few_rows (lookup.Is value) = omega arith
-few_rows lookup.Absent = omega arith
-few_rows lookup.Fault = omega arith
-few_rows (lookup.Damaged page) = omega arith
-few_rows (lookup.Stopped why) = omega arith
+few_rows found = grind (arith, common_steps, nat_tests)
 
 get_has_room : (seat : ℕ) (key : Key) (found : Lookup) (b : BookState) → may_note_in seat 0 b ≡ true → HasRoom b.book.room (record { seat = seat; op = Get key; reply = reply_to_get found })
 get_has_room seat key found b can = note_has_room b seat 0 (Get key) (reply_to_get found) can (few_rows found)

@@ -1,5 +1,7 @@
 -- What a call leaves of the annals, of the callers' open works, and of its own seat's debts.
 use Rattle.std.specs.Prelude.{IfOk, IsErr, length, slice_index, slice_index_or, slice_set, nat_lt, ◌==◌}
+use Rattle.std.proofs.lemmas.Grind.{common_steps}
+use Rattle.std.proofs.lemmas.Bool.Decides.{nat_tests}
 use Rattle.std.specs.declared.result.Result.{Result}
 use Rattle.std.proofs.Common.{◌≡◌, ◌∙◌, ℕ, ◌+◌, ◌-◌, ◌≤◌, ◌<◌, Bool, true, false, cond, List, Some, Ok, Err, replicate, refl, ap, sym, subst, arith}
 use Rattle.std.proofs.lemmas.Bool.{eqb-true, ltb-true, ltb-false}
@@ -77,28 +79,15 @@ failed_payment_counts seat plan why old forgiven failed b f =
 
 -- where nothing is planned, nothing is owed
 pub plans_nothing : (first second : ℕ) → plan_for first second ≡ Nothing → first + second ≡ 0
-plans_nothing first second is = by (first == 0) (second == 0) refl refl is
-  where
-    by : (x y : Bool) → (first == 0) ≡ x → (second == 0) ≡ y → cond x (cond y Nothing Deep) Snow ≡ Nothing → first + second ≡ 0
-    by true true none none_too same = omega (arith, eqb-true first 0 none, eqb-true second 0 none_too)
-    by true false none some same = absurd (cc same)
-    by false y some any same = absurd (cc same)
+plans_nothing first second is = grind (arith, common_steps, nat_tests)
 
 -- ---- a turn
 
 well_quanta : (mv : Move) → quanta_of_move mv ≡ quanta_of_turn (end_of_move mv) mv
-well_quanta pacing.SwapDeep = refl
-well_quanta pacing.SwapPass = refl
-well_quanta pacing.TakeDeep = refl
-well_quanta pacing.TakeSnow = refl
-well_quanta pacing.Begin = refl
-well_quanta pacing.Rotate = refl
-well_quanta pacing.Idle = refl
+well_quanta mv = grind (arith, common_steps, nat_tests)
 
 ended_quanta : (mv : Move) (made : Result ℕ Broken) → quanta_by made mv ≡ quanta_of_turn (ended_by made mv) mv
-ended_quanta mv (Ok n) = well_quanta mv
-ended_quanta mv (Err Fault) = refl
-ended_quanta mv (Err (Damaged page)) = refl
+ended_quanta mv made = grind (arith, common_steps, nat_tests)
 
 -- the move, and the stop where it failed, leave the annals and the works
 stopped_notes : (made : Result ℕ Broken) (faults : ℕ) (b : BookState) → NotesNone b (stopped_by made faults b)
@@ -160,11 +149,7 @@ record OwesNoMore (seat : ℕ) (old new : GearState) : Type 0 where
   second : second_debt new seat ≤ second_debt old seat
 
 lowered : (xs : List ℕ) (seat n : ℕ) → slice_index (slice_set xs seat (slice_index xs seat - n)) seat ≤ slice_index xs seat
-lowered xs seat n = by (nat_lt seat (length xs)) refl
-  where
-    by : (b : Bool) → nat_lt seat (length xs) ≡ b → slice_index (slice_set xs seat (slice_index xs seat - n)) seat ≤ slice_index xs seat
-    by true is = let same = get_or-set_same xs seat (slice_index xs seat - n) 0 (ltb-true seat (length xs) is) in omega (arith, same)
-    by false is = let same = set_past xs seat (slice_index xs seat - n) (ltb-false seat (length xs) is) in subst (λ (l : List ℕ). slice_index l seat ≤ slice_index xs seat) (sym same) (omega arith)
+lowered xs seat n = grind (arith, common_steps, nat_tests)
 
 none_left : (seat debt : ℕ) → slice_index (replicate callers 0) seat ≤ debt
 none_left seat debt = let none : slice_index (replicate callers 0) seat ≡ 0 = of_replicate {A = ℕ} 16 seat 0 in omega (arith, none)
@@ -198,20 +183,13 @@ turn_owes seat mv made faults old moved ended b before after e =
 -- ---- a worker's turn counts
 
 stopped_turns : (made : Result ℕ Broken) (faults : ℕ) (b : BookState) → (stopped_by made faults b).seats.turns ≡ b.seats.turns
-stopped_turns (Ok n) faults b = refl
-stopped_turns (Err Fault) faults b = refl
-stopped_turns (Err (Damaged page)) faults b = refl
+stopped_turns made faults b = grind (arith, common_steps, nat_tests)
 
 moved_turns : (mv : Move) (seat : ℕ) (made : Result ℕ Broken) (old moved : Held) → IfOk made (λ n. TurnsBy mv seat n old moved) → KeepsAllButMerges (IsErr made) old moved → moved.book.seats.turns ≡ old.book.seats.turns
-moved_turns mv seat (Ok n) old moved moves kept = (moved_open mv seat n old moved moves).turns
-moved_turns mv seat (Err broken) old moved moves kept = ap (λ (b : BookState). b.seats.turns) (kept.book refl)
+moved_turns mv seat made old moved h1 h2 = grind (arith, common_steps, nat_tests)
 
 no_caller : (seat : ℕ) → callers ≤ seat → is_caller seat ≡ false
-no_caller seat above = by (nat_lt seat callers) refl
-  where
-    by : (b : Bool) → nat_lt seat callers ≡ b → b ≡ false
-    by false is = refl
-    by true is = let below = ltb-true seat callers is in absurd (omega (arith, above, below))
+no_caller seat above = grind (arith, common_steps, nat_tests)
 
 pub helps_once : (seat : ℕ) (old between b : BookState) → callers ≤ seat → seat < seats → length old.seats.turns ≡ seats - callers → between.seats.turns ≡ old.seats.turns → b ≡ helped_in seat between → HelpsOnce seat old b
 helps_once seat old between b above below places same is =

@@ -1,5 +1,7 @@
 -- A payment: what was planned, what its quantum requires, and the numbers that it leaves.
 use Rattle.std.proofs.Common.{◌≡◌, ◌∙◌, ⊎_elim, ℕ, ◌+◌, ◌-◌, ◌^◌, ◌<◌, ◌≤◌, List, None, refl, ap, sym, subst, arith}
+use Rattle.std.proofs.lemmas.Grind.{common_steps}
+use Rattle.std.proofs.lemmas.Bool.Decides.{nat_tests}
 use Rattle.std.specs.Prelude.{⊤, length, slice_index, slice_set, sum}
 use Rattle.std.proofs.lemmas.List.{get_or-set_same}
 use Rattle.blsm_model.specs.Format.{callers}
@@ -78,9 +80,7 @@ quantum_ready seat plan old forgiven pace d p holds =
 -- ---- what it leaves
 
 taken_book : (plan : Plan) (seat n : ℕ) (old taken : Held) → TakesByPlan plan seat n old taken → taken.book ≡ quantum_counted_in seat old.book
-taken_book Snow seat n old taken takes = takes.book
-taken_book Deep seat n old taken takes = takes.book
-taken_book Nothing seat n old taken takes = absurd takes
+taken_book plan seat n old taken h1 = grind (arith, common_steps, nat_tests)
 
 taken_debts : (plan : Plan) (seat n : ℕ) (old taken : Held) → TakesByPlan plan seat n old taken → LeavesDebts seat old.gears taken.gears
 taken_debts Snow seat n old taken takes = subst (λ (g : GearState). LeavesDebts seat old.gears g) (sym takes.gears) (debts_first seat n old.gears)
@@ -121,8 +121,7 @@ payment_moves seat n plan old forgiven taken b pace before after took holds on c
     record { next = next.0; made = next.1; holds = holds_running (with_book b taken) next.0 after next.2 (on_rebooked taken b after on) }
 
 pub payment_runs : (seat n : ℕ) (plan : Plan) (old forgiven taken : Held) (b : BookState) → Took seat n plan old forgiven taken → b ≡ paid_in seat taken.book → b.stopped ≡ None
-payment_runs seat n plan old forgiven taken b took counted =
-    ap (λ (x : BookState). x.stopped) counted ∙ ap (λ (x : BookState). x.stopped) (book_taken seat n plan old forgiven taken took) ∙ took.plans.ran
+payment_runs seat n plan old forgiven taken b took counted = grind (arith, common_steps, nat_tests)
 
 pub payment_follows : (seat n : ℕ) (plan : Plan) (old forgiven taken : Held) (b : BookState) → Took seat n plan old forgiven taken → b ≡ paid_in seat taken.book
     → Follows seat (facts_of_held old) (facts_of_held (with_book b taken))
@@ -141,8 +140,7 @@ payment_follows seat n plan old forgiven taken b took counted = follows_by seat 
 
 -- a quantum takes something of a merge that has something left
 takes_some : (sizes : Sizes) (taken all left : ℕ) (quantum : Quantum) → 0 < sizes.quantum → taken + left ≡ all → 0 < left → IsQuantum sizes taken all quantum → 0 < quantum.took
-takes_some sizes taken all left quantum size sum some is =
-    ⊎_elim (λ (whole : sizes.quantum ≤ quantum.took). omega (arith, size, whole)) (λ (rest : taken + quantum.took ≡ all). omega (arith, rest, sum, some)) is.enough
+takes_some sizes taken all left quantum size sum some is = grind (arith, common_steps, nat_tests)
 
 -- so a debt falls by it
 falls_by : (debts : List ℕ) (seat n : ℕ) → seat < length debts → 0 < n → 0 < slice_index debts seat → slice_index (slice_set debts seat (slice_index debts seat - n)) seat < slice_index debts seat

@@ -1,5 +1,7 @@
 -- On an honest disk a payment is the machine's own step.
 use Rattle.std.proofs.Common.{◌≡◌, ◌∙◌, ℕ, zero, suc, ◌+◌, true, not, ◌&&◌, List, Some, None, Option, Ok, Err, refl, ap, sym, subst, arith}
+use Rattle.std.proofs.lemmas.Grind.{common_steps}
+use Rattle.std.proofs.lemmas.Bool.Decides.{nat_tests}
 use Rattle.std.specs.Prelude.{IsTrue, is_some, nat_lt}
 use Rattle.std.specs.declared.result.Result.{Result}
 use Rattle.std.proofs.lemmas.Bool.{lt-ltb}
@@ -105,13 +107,10 @@ settled_payment opening seat old forgiven m pace numbers d timed ran holds stand
 
 -- where the quantum was taken
 paid_answer : (plan : Plan) (m : Machine) (seat : ℕ) → (plan ≡ Nothing → ⊥) → (pay_planned plan m seat Well).answer ≡ Paid
-paid_answer Snow m seat owes = refl
-paid_answer Deep m seat owes = refl
-paid_answer Nothing m seat owes = absurd (owes refl)
+paid_answer plan m seat h1 = grind (arith, common_steps, nat_tests)
 
 paid_entries : (seat n : ℕ) (plan : Plan) (old forgiven taken : Held) (b : BookState) → Took seat n plan old forgiven taken → b ≡ paid_in seat taken.book → b.book.entries ≡ old.book.book.entries
-paid_entries seat n plan old forgiven taken b took counted =
-    ap (λ (x : BookState). x.book.entries) counted ∙ ap (λ (x : BookState). x.book.entries) (book_taken seat n plan old forgiven taken took)
+paid_entries seat n plan old forgiven taken b took counted = grind (arith, common_steps, nat_tests)
 
 -- the trees stand in files of one geometry
 same_file : (seat : ℕ) (old forgiven : Held) (tree : Tree) (file : List ℕ) → forgiven ≡ with_debts_forgiven seat old → HoldsTree forgiven.runs.sizes tree file → HoldsTree old.runs.sizes tree file
@@ -150,15 +149,11 @@ paid_step lands opening seat n plan old forgiven taken b m pace next before afte
 -- ---- where it failed
 
 failed_as : (plan : Plan) (m : Machine) (seat f : ℕ) → (plan ≡ Nothing → ⊥) → pay_planned plan m seat (FailedAfter 0 f) ≡ record { state = stop (Faulted f) m; answer = Turn machine.Failed }
-failed_as Snow m seat f owes = refl
-failed_as Deep m seat f owes = refl
-failed_as Nothing m seat f owes = absurd (owes refl)
+failed_as plan m seat f h1 = grind (arith, common_steps, nat_tests)
 
 -- a seat with something to pay owes it
 owed_by : (first second : ℕ) → (plan_for first second ≡ Nothing → ⊥) → nat_lt 0 (first + second) ≡ true
-owed_by zero zero owes = absurd (owes refl)
-owed_by zero (suc second) owes = lt-ltb 0 (0 + suc second) (omega arith)
-owed_by (suc first) second owes = lt-ltb 0 (suc first + second) (omega arith)
+owed_by first second h1 = grind (arith, common_steps, nat_tests)
 
 pub failed_payment_step : (opening : List (Key × Value)) (seat f : ℕ) (plan : Plan) (old forgiven failed : Held) (b : BookState) (m : Machine) (pace : Pace) (before after : DiskState) (tree : Tree) (result : Result ℕ Broken)
     → FailedToTake seat plan (Faulted f) old forgiven failed b → RunsAt opening old m pace before tree → IsTrue (may m seat kind.Pay) → f ≡ after.faults → Rose before.faults after.faults
@@ -220,7 +215,4 @@ failed_payment_step opening seat f plan old forgiven failed b m pace before afte
 
 -- On an honest disk no page is found damaged.
 pub never_damaged : (plan : Plan) (page : ℕ) (old new : Held) (tree : Tree) (before after : DiskState) (result : Result ℕ Broken) → result ≡ Err (Damaged page) → LeavesTaken plan result old new tree before after → ⊥
-never_damaged plan page old new tree before after result is leaves =
-    let left = leaves.taken (λ same. cc (same, is)) in
-    let e = left.1 in
-    cc (e, is)
+never_damaged plan page old new tree before after result is leaves = grind (arith, common_steps, nat_tests)

@@ -1,5 +1,7 @@
 -- Lists of steps: each step is the machine's, or is passed over.
 use Rattle.std.specs.Prelude.{◌≡◌, ◌↔◌, IsTrue, ℕ, ◌+◌, ◌<◌, ◌≤◌, Bool, true, false, not, ◌&&◌, ◌||◌, nat_le, nat_lt, List, [], ◌∷◌, ◌++◌, Option, None, Some, is_some, length, map}
+use Rattle.std.proofs.lemmas.Grind.{common_steps}
+use Rattle.std.proofs.lemmas.Bool.Decides.{nat_tests}
 use Rattle.std.proofs.Common.{◌∙◌, ⊎_elim, cond, inl, inr, length-append, refl, ap, sym, subst, arith}
 use Rattle.std.proofs.lemmas.List.{map-append}
 use Rattle.std.proofs.lemmas.List.Sums.{fold-append}
@@ -43,47 +45,26 @@ use Rattle.tree_core.specs.Steps.{IsWholeStep, IsPlayed, is_even_in, is_fit, may
 -- ---- when a step may be made
 
 even_agrees : (seat : ℕ) (held : Held) (m : Machine) → book_of m ≡ held.book → m.gears ≡ held.gears → is_even seat m ≡ is_even_in seat held
-even_agrees seat held m book gears =
-    ap (λ (g : GearState). not (nat_lt 0 (first_debt g seat + second_debt g seat)) || is_some m.stopped) gears
-    ∙ ap (λ (b : BookState). not (nat_lt 0 (first_debt held.gears seat + second_debt held.gears seat)) || is_some b.stopped) book
+even_agrees seat held m book gears = grind (arith, common_steps, nat_tests)
 
 note_agrees : (seat rows : ℕ) (held : Held) (m : Machine) → book_of m ≡ held.book → may_note seat rows m ≡ may_note_in seat rows held.book
 note_agrees seat rows held m book = (reads_book m).notes seat rows ∙ ap (λ (b : BookState). may_note_in seat rows b) book
 
 -- what the machine says of it is what the core has in memory
 pub may_agrees : (seat : ℕ) (k : Kind) (held : Held) (m : Machine) → book_of m ≡ held.book → m.gears ≡ held.gears → may m seat k ≡ may_in held seat k
-may_agrees seat (kind.Admit op) held m book gears =
-    ap (λ (b : Bool). is_write op && b && is_even seat m) (note_agrees seat 0 held m book)
-    ∙ ap (λ (b : Bool). is_write op && may_note_in seat 0 held.book && b) (even_agrees seat held m book gears)
-may_agrees seat kind.Pay held m book gears = refl
-may_agrees seat (kind.Get key) held m book gears = note_agrees seat 0 held m book
-may_agrees seat (kind.Hold low high) held m book gears = note_agrees seat 0 held m book
-may_agrees seat (kind.Next n) held m book gears = ap (λ (b : Bool). b && nat_lt 0 n && nat_le n most_rows) (note_agrees seat n held m book)
-may_agrees seat kind.Release held m book gears = note_agrees seat 0 held m book
-may_agrees seat kind.WorkTurn held m book gears =
-    (reads_book m).turns seat ∙ ap (λ (b : BookState). may_turn_in seat b && is_even seat m) book ∙ ap (λ (b : Bool). may_turn_in seat held.book && b) (even_agrees seat held m book gears)
-may_agrees seat (kind.WorkEnd n) held m book gears = (reads_book m).ends seat n ∙ ap (λ (b : BookState). may_end_in seat n b) book
-may_agrees seat kind.WorkerTurn held m book gears = refl
-may_agrees seat kind.Leave held m book gears = refl
+may_agrees seat k held m h1 h2 = grind (arith, common_steps, nat_tests)
 
 -- a seat that is even owes nothing while the store runs
 pub even_owes : (seat : ℕ) (held : Held) → is_even_in seat held ≡ true → held.book.stopped ≡ None → first_debt held.gears seat + second_debt held.gears seat ≡ 0
-even_owes seat held even runs = by (first_debt held.gears seat + second_debt held.gears seat) held.book.stopped even runs
-  where
-    by : (n : ℕ) (o : Option Why) → (not (nat_lt 0 n) || is_some o) ≡ true → o ≡ None → n ≡ 0
-    by n (Some why) even runs = absurd (false≢true (sym (ap is_some runs)))
-    by n None even runs = ⊎_elim (λ (some : 0 < n). absurd (false≢true (sym (ap (λ (b : Bool). not b || false) (lt-ltb 0 n some)) ∙ even))) (λ (none : n ≤ 0). omega (arith, none)) (cases_lt 0 n)
+even_owes seat held even runs = grind (arith, common_steps, nat_tests)
 
 -- ---- which tails fit
 
 both_are : (a b : Bool) → (a && b) ≡ true → (a ≡ true) × (b ≡ true)
-both_are true b is = (refl, is)
-both_are false b is = absurd (false≢true is)
+both_are a b h1 = grind (arith, common_steps, nat_tests)
 
 same_truth : (a b : Bool) → (a ≡ true → b ≡ true) → (b ≡ true → a ≡ true) → a ≡ b
-same_truth true b there back = sym (there refl)
-same_truth false true there back = absurd (false≢true (back refl))
-same_truth false false there back = refl
+same_truth a b h1 h2 = grind (arith, common_steps, nat_tests)
 
 -- what is tested is what is asked for
 pub tails_fit : (op : Op) → is_fit op ≡ true → TailsFit op
@@ -100,15 +81,7 @@ tails_fit ops.Release is = tt
 tails_fit (ops.Work n) is = tt
 
 are_fit : (op : Op) → TailsFit op → is_fit op ≡ true
-are_fit (Tail key tail) fits = both_true (le-leb 1 (length tail) fits.0.0) (le-leb (length tail) most_tail fits.0.1)
-are_fit (ops.Put key value) fits = refl
-are_fit (ops.Add key count) fits = refl
-are_fit (ops.Del key) fits = refl
-are_fit (ops.Get key) fits = refl
-are_fit (ops.Hold low high) fits = refl
-are_fit (ops.Next n) fits = refl
-are_fit ops.Release fits = refl
-are_fit (ops.Work n) fits = refl
+are_fit op h1 = grind (arith, common_steps, nat_tests)
 
 pub fit_as : (op : Op) (fits : Bool) → (IsTrue fits ↔ TailsFit op) → fits ≡ is_fit op
 fit_as op fits is = same_truth fits (is_fit op) (λ yes. are_fit op (is.0 yes)) (λ yes. is.1 (tails_fit op yes))

@@ -1,5 +1,7 @@
 -- What a payment and a turn leave, of the numbers, of the other seats, and of what is told.
 use Rattle.std.proofs.Common.{◌≡◌, ◌≢◌, ◌∙◌, ℕ, ◌≤◌, Bool, Some, ap, sym, arith}
+use Rattle.std.proofs.lemmas.Grind.{common_steps}
+use Rattle.std.proofs.lemmas.Bool.Decides.{nat_tests}
 use Rattle.std.specs.Prelude.{⊤}
 use Rattle.std.proofs.lemmas.List.{get_or-set_other}
 use Rattle.blsm_model.specs.Facts.{Follows}
@@ -45,12 +47,7 @@ pub on_rebooked : (held : Held) (b : BookState) (d : DiskState) → IsOn held d 
 on_rebooked held b d on = record { running = on.running; long = on.long }
 
 pub charge_kept : (old failed : Held) → KeepsAllButMerges ⊤ old failed → charge_in failed ≡ charge_in old
-charge_kept old failed kept =
-    let catalogue = kept.catalogue tt in
-    let pass = kept.pass tt in
-    let log = kept.log tt in
-    let gears = kept.gears tt in
-    cc (catalogue, pass, log, gears)
+charge_kept old failed kept = grind (arith, common_steps, nat_tests)
 
 -- What failed has the charge, the counts and the geometry that it had; its book is told otherwise.
 pub told_after_failure : (old failed : Held) (b : BookState) (pace : Pace) → KeepsAllButMerges ⊤ old failed → HasPace old pace → IsOne old → b.counts ≡ old.book.counts → IsRunBook b pace → IsTold (with_book b failed) pace

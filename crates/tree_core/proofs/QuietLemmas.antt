@@ -1,5 +1,7 @@
 -- Steps that change the book alone: a lookup, the end of a work, a leave, and whatever is asked of a tree that has stopped.
 use Rattle.std.specs.Prelude.{◌≡◌, ◌⊎◌, ℕ, ◌+◌, ◌≤◌, Bool, false, true, List, [], ◌∷◌, ◌++◌, Option, Some, None, IsSome, IsTrue, length}
+use Rattle.std.proofs.lemmas.Grind.{common_steps}
+use Rattle.std.proofs.lemmas.Bool.Decides.{nat_tests}
 use Rattle.std.proofs.Common.{◌∙◌, ⊎_elim, inl, inr, refl, ap, sym, subst, arith}
 use mathlib.Core.List.{IsPrefix}
 use Rattle.blsm_model.specs.declared.key.Key.{Key}
@@ -77,8 +79,7 @@ reads_on {end} {most} {d} {d2} held stay reads on = record {
 -- ---- by lists
 
 runs_or_not : (stopped : Option Why) → (stopped ≡ None) ⊎ IsSome stopped
-runs_or_not None = inl refl
-runs_or_not (Some why) = inr refl
+runs_or_not stopped = grind (arith, common_steps, nat_tests)
 
 -- The disk's images, and what it reads, show the whole history.
 pub shows_now : (opening : List (Key × Value)) (held : Held) (m : Machine) (pace : Pace) (d : DiskState) → StandsFor opening held m pace d → HasStopped opening m d

@@ -1,5 +1,7 @@
 -- What a next gave, by the entry that it noted.
 use Rattle.std.specs.Prelude.{◌≡◌, ℕ, ◌-◌, List, [], ◌∷◌, ◌++◌, length, slice_index_or}
+use Rattle.std.proofs.lemmas.Grind.{common_steps}
+use Rattle.std.proofs.lemmas.Bool.Decides.{nat_tests}
 use Rattle.std.proofs.Common.{refl, ap, sym, ◌∙◌, arith}
 use Rattle.std.proofs.lemmas.List.{get_or_push, length_push}
 use Rattle.blsm_model.specs.Book.{no_entry, rows_given}
@@ -22,11 +24,7 @@ rows_last rows seat n b = ap (λ (e : Entry). rows_given e.reply) (last_entry b.
 
 -- the last entry has the rows that the answer stands for
 pub told_by_entry : (answer : Scan) (rows : List Row) (seat n : ℕ) (b : BookState) → scanned_in answer (noted_in seat (op.Next n) (reply_to_next (scanned_by answer rows)) b) ≡ scanned_by answer rows
-told_by_entry (scan.Rows count) rows seat n b = ap (λ (rs : List Row). scanned.Rows rs) (rows_last rows seat n b)
-told_by_entry scan.NoHold rows seat n b = refl
-told_by_entry scan.Fault rows seat n b = refl
-told_by_entry (scan.Damaged page) rows seat n b = refl
-told_by_entry (scan.Stopped why) rows seat n b = refl
+told_by_entry answer rows seat n b = grind (arith, common_steps, nat_tests)
 
 -- and so many
 pub counts_entry : (answer : Scan) (rows : List Row) (seat n : ℕ) (b : BookState) → Counts answer rows → Counts answer (rows_noted (noted_in seat (op.Next n) (reply_to_next (scanned_by answer rows)) b).book)

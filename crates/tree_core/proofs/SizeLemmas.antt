@@ -1,5 +1,8 @@
 -- No step of the pacing changes the geometry.
 use Rattle.std.specs.Prelude.{◌≡◌, ℕ, ◌+◌, Bool, true, false, nat_le, nat_lt, not, ◌&&◌}
+use Rattle.std.proofs.lemmas.Grind.{common_steps}
+use Rattle.std.proofs.lemmas.Bool.Decides.{nat_tests}
+use Rattle.std.proofs.Common.{arith}
 use Rattle.std.proofs.Common.{◌∙◌, ⊎_elim, cond, refl, ap}
 use Rattle.blsm_model.specs.Geometry.{c1_mark}
 use Rattle.blsm_model.specs.Histories.{writes_of}
@@ -20,8 +23,7 @@ use Rattle.tree_machine.specs.Steps as steps
 use Rattle.tree_machine.specs.Steps.{Answer, Replied, Paid, Settled, Left}
 
 by_test : (b : Bool) (then otherwise old : Pace) → then.gears.sizes ≡ old.gears.sizes → otherwise.gears.sizes ≡ old.gears.sizes → (cond b then otherwise).gears.sizes ≡ old.gears.sizes
-by_test true then otherwise old one other = one
-by_test false then otherwise old one other = other
+by_test b then otherwise old h1 h2 = grind (arith, common_steps, nat_tests)
 
 deep_sizes : (p : Pace) → (deep_settled p).gears.sizes ≡ p.gears.sizes
 deep_sizes p = by_test (p.gears.deep && deep_done p) (with_deep_swapped p) p p refl refl
@@ -36,18 +38,10 @@ ready_sizes : (p : Pace) (w : ℕ) → (ready_for p w).gears.sizes ≡ p.gears.s
 ready_sizes p w = begun_sizes (pass_settled (deep_settled p)) w ∙ pass_sizes (deep_settled p) ∙ deep_sizes p
 
 paid_sizes : (plan : Plan) (p : Pace) (seat : ℕ) (quantum : Quantum) → (paid_by plan p seat quantum).gears.sizes ≡ p.gears.sizes
-paid_sizes Snow p seat quantum = refl
-paid_sizes Deep p seat quantum = refl
-paid_sizes Nothing p seat quantum = refl
+paid_sizes plan p seat quantum = grind (arith, common_steps, nat_tests)
 
 turned_sizes : (move : Move) (p : Pace) (seat : ℕ) (quantum : Quantum) → (turned_by move p seat quantum).gears.sizes ≡ p.gears.sizes
-turned_sizes SwapDeep p seat quantum = refl
-turned_sizes SwapPass p seat quantum = by_test (nat_le (c1_mark p.gears.sizes) p.made1) (with_rotation (with_pass_swapped p)) (with_pass_swapped p) p refl refl
-turned_sizes TakeDeep p seat quantum = refl
-turned_sizes TakeSnow p seat quantum = refl
-turned_sizes Begin p seat quantum = refl
-turned_sizes Rotate p seat quantum = refl
-turned_sizes Idle p seat quantum = refl
+turned_sizes move p seat quantum = grind (arith, common_steps, nat_tests)
 
 same : (old new : Pace) → new ≡ old → new.gears.sizes ≡ old.gears.sizes
 same old new is = ap (λ (p : Pace). p.gears.sizes) is
@@ -59,11 +53,7 @@ replied_sizes reply.FaultUnsure seat op old new is = same (ready_for old (total_
 replied_sizes _ seat op old new is = same old new is
 
 payment_sizes : (answer : Answer) (seat : ℕ) (old new : Pace) → IsPaidBy answer seat old new → new.gears.sizes ≡ old.gears.sizes
-payment_sizes Paid seat old new is = same (after old (Pay seat is.0)) new is.2 ∙ paid_sizes (plan_of (with_forgiven old seat) seat) (with_forgiven old seat) seat is.0
-payment_sizes Settled seat old new is = same (with_forgiven old seat) new is
-payment_sizes (steps.Turn machine.Failed) seat old new is = same (with_forgiven old seat) new is
-payment_sizes (steps.Turn (machine.BadPage page)) seat old new is = same (with_forgiven old seat) new is
-payment_sizes _ seat old new is = same old new is
+payment_sizes answer seat old new h1 = grind (arith, common_steps, nat_tests)
 
 turn_sizes : (answer : Answer) (seat : ℕ) (old new : Pace) → IsTurnedBy answer seat old new → new.gears.sizes ≡ old.gears.sizes
 turn_sizes (steps.Turn machine.Worked) seat old new is = same (after old (Turn seat is.0)) new is.2 ∙ turned_sizes (turn_of (is_worker_seat seat) old) old seat is.0
@@ -74,8 +64,4 @@ admitted_sizes (Replied r) seat op old new is = replied_sizes r seat op old new 
 admitted_sizes _ seat op old new is = same old new is
 
 pub made_sizes : (seat : ℕ) (k : Kind) (answer : Answer) (old new : Pace) → IsMadeBy seat k answer old new → new.gears.sizes ≡ old.gears.sizes
-made_sizes seat (kind.Admit op) answer old new is = admitted_sizes answer seat op old new is
-made_sizes seat kind.Pay answer old new is = payment_sizes answer seat old new is
-made_sizes seat kind.WorkTurn answer old new is = turn_sizes answer seat old new is
-made_sizes seat kind.WorkerTurn answer old new is = turn_sizes answer seat old new is
-made_sizes seat _ answer old new is = same old new is
+made_sizes seat k answer old new h1 = grind (arith, common_steps, nat_tests, admitted_sizes, payment_sizes, turn_sizes, same)

@@ -1,5 +1,7 @@
 -- What the moves of an admission require and leave, on every disk.
 use Rattle.std.specs.Prelude.{is_ok, is_err, OnOk, OnErr, Result, Ok, Err}
+use Rattle.std.proofs.lemmas.Grind.{common_steps}
+use Rattle.std.proofs.lemmas.Bool.Decides.{nat_tests}
 use Rattle.std.proofs.Common.{◌≡◌, ◌∙◌, ℕ, ◌+◌, ◌≤◌, Bool, List, [], ◌∷◌, true, false, cond, refl, ap, sym, subst, arith}
 use Rattle.std.proofs.lemmas.Bool.{false≢true}
 use Rattle.refusal.specs.Count.{HasRisen}
@@ -30,8 +32,7 @@ use Rattle.tree_core.proofs.KeepLemmas.{KeepsPins}
 -- ---- what a result tells
 
 pub is_ok_of : {T E : Type 0} (r : Result T E) → is_err r ≡ false → is_ok r ≡ true
-is_ok_of (Ok value) is = refl
-is_ok_of (Err error) is = absurd (false≢true (sym is))
+is_ok_of r h1 = grind (arith, common_steps, nat_tests)
 
 pub ok_of : {T E P : Type 0} (r : Result T E) → is_err r ≡ false → OnOk r P → P
 ok_of (Ok value) is holds = holds
@@ -42,8 +43,7 @@ err_of (Ok value) is holds = absurd (false≢true is)
 err_of (Err error) is holds = holds
 
 pub calm_of : {T E : Type 0} (r : Result T E) (old new : DiskState) → is_err r ≡ false → TellsFaults r old new → new.faults ≡ old.faults
-calm_of (Ok value) old new is tells = tells
-calm_of (Err error) old new is tells = absurd (false≢true (sym is))
+calm_of r old new h1 h2 = grind (arith, common_steps, nat_tests)
 
 pub risen_of : {T E : Type 0} (r : Result T E) (old new : DiskState) → is_err r ≡ true → TellsFaults r old new → HasRisen old.faults new.faults
 risen_of (Ok value) old new is tells = absurd (false≢true is)

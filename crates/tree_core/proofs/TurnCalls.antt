@@ -1,5 +1,8 @@
 -- A turn of a caller's work or of a worker, as one call of the core.
 use Rattle.std.specs.Prelude.{◌≡◌, ◌&&◌, ℕ, ◌+◌, ◌/◌, ◌≤◌, ◌<◌, ◌-◌, ◌^◌, Bool, true, false, None, Some, Ok, Err, IsErr, IsTrue, length}
+use Rattle.std.proofs.lemmas.Grind.{common_steps}
+use Rattle.std.proofs.lemmas.Bool.Decides.{nat_tests}
+use Rattle.std.proofs.Common.{arith}
 use Rattle.std.specs.declared.result.Result.{Result}
 use Rattle.std.proofs.Common.{◌∙◌, refl, ap, sym, subst}
 use Rattle.std.proofs.lemmas.Bool.{false≢true}
@@ -134,15 +137,7 @@ turning_goes work help state w seat mv made faults old disk moved ended b none c
 
 -- it isn't one that calls no disk
 never_still : (made : Result ℕ Broken) (mv : Move) → TurnsNone (ended_by made mv) → ⊥
-never_still (Ok n) pacing.SwapDeep none = none
-never_still (Ok n) pacing.SwapPass none = none
-never_still (Ok n) pacing.TakeDeep none = none
-never_still (Ok n) pacing.TakeSnow none = none
-never_still (Ok n) pacing.Begin none = none
-never_still (Ok n) pacing.Rotate none = none
-never_still (Ok n) pacing.Idle none = none
-never_still (Err Fault) mv none = none
-never_still (Err (Damaged page)) mv none = none
+never_still made mv h1 = grind (arith, common_steps, nat_tests)
 
 pub takes_turn : WorkLands → HelpLands → {D : Type 0} (state : D → DiskState) (w : Bool) (seat : ℕ) (mv : Move) (made : Result ℕ Broken) (faults : ℕ) (old : CoreState D) (disk : D) (moved : Held) (ended : Turned) (b : BookState) → HasPlaces old.held.book
     → Turning state w seat mv made faults old disk moved ended b → MayCount w seat old.held.book → (old.held.book.stopped ≡ None → IsEven w seat old.held) → TakesTurn w state seat ended old (record { disk = disk; held = with_book b moved; holds = old.holds })

@@ -1,5 +1,7 @@
 -- A turn of a caller's work or of a worker: what its move requires, and the numbers that it leaves.
 use Rattle.std.proofs.Common.{◌≡◌, ◌∙◌, ℕ, ◌≤◌, ◌<◌, ◌&&◌, Bool, true, false, List, Some, None, Ok, Err, refl, ap, sym, subst, arith}
+use Rattle.std.proofs.lemmas.Grind.{common_steps}
+use Rattle.std.proofs.lemmas.Bool.Decides.{nat_tests}
 use Rattle.std.specs.Prelude.{⊤, IfOk, OnOk, IsErr, IsTrue, length, nat_lt, replicate, slice_index, slice_index_or, if◌then◌else◌}
 use Rattle.std.specs.declared.result.Result.{Result}
 use Rattle.std.proofs.lemmas.Bool.{ltb-true}
@@ -130,16 +132,13 @@ counted_keeps true seat ended quanta b c is = worker_keeps seat c is.0
 counted_keeps false seat ended quanta b c is = turn_keeps seat ended quanta c
 
 pub counted_stops : (w : Bool) (seat : ℕ) (ended : Turned) (quanta : ℕ) (b : BookState) → (counted_by w seat ended quanta b).stopped ≡ b.stopped
-counted_stops true seat ended quanta b = refl
-counted_stops false seat ended quanta b = refl
+counted_stops w seat ended quanta b = grind (arith, common_steps, nat_tests)
 
 counted_counts : (w : Bool) (seat : ℕ) (ended : Turned) (quanta : ℕ) (b : BookState) → (counted_by w seat ended quanta b).counts ≡ b.counts
-counted_counts true seat ended quanta b = refl
-counted_counts false seat ended quanta b = refl
+counted_counts w seat ended quanta b = grind (arith, common_steps, nat_tests)
 
 pub counted_book : (w : Bool) (seat : ℕ) (ended : Turned) (quanta : ℕ) (b : BookState) → (counted_by w seat ended quanta b).book ≡ b.book
-counted_book true seat ended quanta b = refl
-counted_book false seat ended quanta b = refl
+counted_book w seat ended quanta b = grind (arith, common_steps, nat_tests)
 
 counted_told : (w : Bool) (seat : ℕ) (ended : Turned) (b : BookState) (pace : Pace) → IsSeat w seat b → IsRunBook b pace → IsRunBook (counted_by w seat ended 0 b) pace
 counted_told true seat ended b pace is told = help_is_told b pace seat told
@@ -252,13 +251,10 @@ turn_moves w seat mv made faults old moved ended b pace before after e holds =
 
 -- a stop leaves the turns
 stopped_work : (made : Result ℕ Broken) (faults : ℕ) (b : BookState) → (stopped_by made faults b).seats.work ≡ b.seats.work
-stopped_work (Ok n) faults b = refl
-stopped_work (Err Fault) faults b = refl
-stopped_work (Err (Damaged page)) faults b = refl
+stopped_work made faults b = grind (arith, common_steps, nat_tests)
 
 moved_work : (mv : Move) (seat : ℕ) (made : Result ℕ Broken) (old moved : Held) → IfOk made (λ n. TurnsBy mv seat n old moved) → KeepsAllButMerges (IsErr made) old moved → moved.book.seats.work ≡ old.book.seats.work
-moved_work mv seat (Ok n) old moved moves kept = (moved_open mv seat n old moved moves).work
-moved_work mv seat (Err broken) old moved moves kept = ap (λ (x : BookState). x.seats.work) (kept.book refl)
+moved_work mv seat made old moved h1 h2 = grind (arith, common_steps, nat_tests)
 
 turn_open : (mv : Move) (seat : ℕ) (made : Result ℕ Broken) (faults : ℕ) (old moved : Held) (b : BookState) → IfOk made (λ n. TurnsBy mv seat n old moved) → KeepsAllButMerges (IsErr made) old moved → b ≡ stopped_by made faults moved.book
     → IsTrue (may_turn_in seat old.book) → IsTrue (may_turn_in seat b)
@@ -341,5 +337,4 @@ pub turns_at : (w : Bool) (seat : ℕ) (mv : Move) (held : Held) → MayCount w 
 turns_at w seat mv held may even places ran is = record { ran = sym ran; is_seat = seat_is w seat held.book may places; even = even (sym ran); is = is }
 
 pub turn_seat : (w : Bool) (seat : ℕ) (b : BookState) → MayCount w seat b → seat < seats
-turn_seat true seat b may = may.1
-turn_seat false seat b may = omega (arith, working_caller seat b may)
+turn_seat w seat b h1 = grind (arith, common_steps, nat_tests)

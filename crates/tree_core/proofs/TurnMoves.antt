@@ -1,5 +1,8 @@
 -- What a turn's move leaves, by the moves of the core.
 use Rattle.std.proofs.Common.{◌≡◌, ◌≢◌, ◌∙◌, inl, ℕ, Bool, List, Ok, Err, refl, ap, sym, subst}
+use Rattle.std.proofs.lemmas.Grind.{common_steps}
+use Rattle.std.proofs.lemmas.Bool.Decides.{nat_tests}
+use Rattle.std.proofs.Common.{arith}
 use Rattle.std.specs.Prelude.{IfOk, OnOk, OnErr, IsErr, is_ok}
 use Rattle.std.specs.declared.result.Result.{Result}
 use Rattle.std.proofs.lemmas.Bool.{false≢true}
@@ -31,8 +34,7 @@ on_both (Ok done) P Q p so = so p
 on_both (Err failed) P Q p so = tt
 
 pub on_pair : {T E : Type 0} (r : Result T E) (P Q : Type 0) → P → OnOk r Q → OnOk r (P × Q)
-on_pair (Ok done) P Q p q = (p, q)
-on_pair (Err failed) P Q p q = tt
+on_pair r P Q h1 h2 = grind (arith, common_steps, nat_tests)
 
 swap_leaves : {T E : Type 0} (r : Result T E) (mv : Move) (old new : Held) (tree next : Tree) (before after : DiskState) → MakesTree mv old tree next
     → LeavesSwapped old.runs new.runs tree next new.log.a.entries (is_ok r) before after → OnOk r (TurnsTree mv 0 old new tree next) → LeavesMoved mv (as_moved r) old new tree next before after
@@ -53,8 +55,7 @@ swap_moved r made P Q is so p = subst (λ (x : Result ℕ Broken). IfOk x Q) (sy
 
 -- it names no page
 not_named : {T E : Type 0} (r : Result T E) (n : ℕ) → as_moved r ≡ Err (Damaged n) → ⊥
-not_named (Ok done) n is = cc
-not_named (Err failed) n is = cc
+not_named r n h1 = grind (arith, common_steps, nat_tests)
 
 pub swap_not_named : {T E : Type 0} (r : Result T E) (made : Result ℕ Broken) (n : ℕ) → made ≡ as_moved r → made ≡ Err (Damaged n) → ⊥
 swap_not_named r made n is named = not_named r n (sym is ∙ named)

@@ -1,5 +1,7 @@
 -- On an honest disk a turn is the machine's own step.
 use Rattle.std.proofs.Common.{◌≡◌, ◌∙◌, ⊎_elim, ℕ, Bool, true, false, cond, not, ◌&&◌, List, Some, None, Option, Ok, Err, refl, ap, sym, subst, arith}
+use Rattle.std.proofs.lemmas.Grind.{common_steps}
+use Rattle.std.proofs.lemmas.Bool.Decides.{nat_tests}
 use Rattle.std.specs.Prelude.{⊤, IfOk, OnOk, IsErr, IsTrue, is_some, ◌==◌}
 use Rattle.std.specs.declared.result.Result.{Result}
 use Rattle.std.proofs.lemmas.Bool.{false≢true, eq-eqb}
@@ -96,8 +98,7 @@ halted_as false seat why m is =
     ap (λ (o : Option Why). record { state = steps.work_noted seat (steps.with_turn (machine.work_of seat m) (work_turning o m seat Well)) (work_turning o m seat Well).state; answer = Turn (work_turning o m seat Well).ended }) is
 
 halted_pace : (w : Bool) (seat : ℕ) (why : Why) (m : Machine) (pace : Pace) → m.stopped ≡ Some why → pace_after m pace seat (kind_of_turn w) Well ≡ pace
-halted_pace true seat why m pace is = ap (λ (o : Option Why). unless_stopped o pace (cond (is_closed m) pace (after_turn m pace seat Well))) is
-halted_pace false seat why m pace is = ap (λ (o : Option Why). unless_stopped o pace (after_turn m pace seat Well)) is
+halted_pace w seat why m pace h1 = grind (arith, common_steps, nat_tests)
 
 then_paced : (w : Bool) (opening : List (Key × Value)) (m : Machine) (pace : Pace) (seat : ℕ) (outcome : Outcome) → IsTrue (may m seat (kind_of_turn w)) → IsPacedTree opening m pace
     → IsPacedTree opening (stepped_as m seat (kind_of_turn w) outcome).state (pace_after m pace seat (kind_of_turn w) outcome)
@@ -143,13 +144,11 @@ halted_turn w opening seat why old b m pace d timed is counts stands ok =
 -- ---- what the images show of a move
 
 not_deep_first : (b : Bool) (rest : Move) → b ≡ true → pacing.SwapPass ≡ cond b pacing.SwapDeep rest → ⊥
-not_deep_first true rest is same = cc same
-not_deep_first false rest is same = false≢true is
+not_deep_first b rest h1 h2 = grind (arith, common_steps, nat_tests)
 
 -- a pass is swapped in where no deep merge is done
 pub not_deep_done : (w : Bool) (old : Held) → pacing.SwapPass ≡ move_in w old → IsDeepDone old → ⊥
-not_deep_done w old is done =
-    not_deep_first (is_some old.runs.deep && (left_for_deep old.runs.deep == 0)) _ (both (is_some old.runs.deep) (left_for_deep old.runs.deep == 0) done.0 (eq-eqb (left_for_deep old.runs.deep) 0 done.1)) is
+not_deep_done w old is done = grind (arith, common_steps, nat_tests)
 
 stays_shown : (opening : List (Key × Value)) (old : Held) (m : Machine) (pace : Pace) (d : DiskState) (tree next : Tree) (file : List ℕ) → RunsAt opening old m pace d tree → next ≡ tree → HoldsEither old.runs.sizes tree next file → ShowsWhole opening m file
 stays_shown opening old m pace d tree next file r same either =
@@ -195,17 +194,10 @@ well_at work help false opening seat n old moved tree next m pace file after ste
     (record { moves = moves; counted = refl }) trees are_of
 
 well_answer : (w : Bool) (m : Machine) (seat : ℕ) → m.stopped ≡ None → IsOpenTo w m → (stepped_as m seat (kind_of_turn w) Well).answer ≡ Turn (ended_as (chosen_by w m))
-well_answer true m seat runs opened = ap (λ (o : Option Why). Turn (worker_turning o (is_closed m) m seat Well).ended) runs ∙ ap (λ (b : Bool). Turn (worker_turning None b m seat Well).ended) opened
-well_answer false m seat runs opened = ap (λ (o : Option Why). Turn (work_turning o m seat Well).ended) runs
+well_answer w m seat h1 h2 = grind (arith, common_steps, nat_tests)
 
 same_end : (mv : Move) → end_of_move mv ≡ ended_as (choice_of mv)
-same_end pacing.SwapDeep = refl
-same_end pacing.SwapPass = refl
-same_end pacing.TakeDeep = refl
-same_end pacing.TakeSnow = refl
-same_end pacing.Begin = refl
-same_end pacing.Rotate = refl
-same_end pacing.Idle = refl
+same_end mv = grind (arith, common_steps, nat_tests)
 
 -- What a turn finds on an honest disk, and what its move left there.
 pub record TurnsOver (w : Bool) (opening : List (Key × Value)) (seat : ℕ) (mv : Move) (made : Result ℕ Broken) (old moved : Held) (m : Machine) (pace : Pace) (tree : Tree) (before after : DiskState) : Type 0 where
@@ -275,9 +267,7 @@ failed_as false seat f m runs opened =
     ap (λ (o : Option Why). record { state = steps.work_noted seat (steps.with_turn (machine.work_of seat m) (work_turning o m seat (FailedAfter 0 f))) (work_turning o m seat (FailedAfter 0 f)).state; answer = Turn (work_turning o m seat (FailedAfter 0 f)).ended }) runs
 
 failed_pace : (w : Bool) (seat f : ℕ) (m : Machine) (pace : Pace) → m.stopped ≡ None → IsOpenTo w m → pace_after m pace seat (kind_of_turn w) (FailedAfter 0 f) ≡ pace
-failed_pace true seat f m pace runs opened =
-    ap (λ (o : Option Why). unless_stopped o pace (cond (is_closed m) pace (after_turn m pace seat (FailedAfter 0 f)))) runs ∙ ap (λ (b : Bool). cond b pace (after_turn m pace seat (FailedAfter 0 f))) opened
-failed_pace false seat f m pace runs opened = ap (λ (o : Option Why). unless_stopped o pace (after_turn m pace seat (FailedAfter 0 f))) runs
+failed_pace w seat f m pace h1 h2 = grind (arith, common_steps, nat_tests)
 
 failed_possible : (w : Bool) (seat f old new : ℕ) (m : Machine) → m.stopped ≡ None → IsOpenTo w m → calls_disk (chosen_by w m) ≡ true → Rose old new → f ≡ new → IsPossible m seat (kind_of_turn w) (FailedAfter 0 f) old new
 failed_possible true seat f old new m runs opened called rose counted = (

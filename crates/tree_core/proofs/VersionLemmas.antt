@@ -1,5 +1,8 @@
 -- How many commits a disk tells, where the core is stopped: as many as the machine counted, or one more that failed.
 use Rattle.std.specs.Prelude.{◌≡◌, ◌⊎◌, ℕ, ◌+◌, List}
+use Rattle.std.proofs.lemmas.Grind.{common_steps}
+use Rattle.std.proofs.lemmas.Bool.Decides.{nat_tests}
+use Rattle.std.proofs.Common.{arith}
 use Rattle.std.proofs.Common.{◌∙◌, inl, inr, refl, ap, sym, subst}
 use Rattle.blsm_model.specs.Sizes.{Sizes}
 use Rattle.catalog_swap.specs.declared.catalog.Catalog.{Catalog}
@@ -50,10 +53,4 @@ commits_still m after d d2 gears catalogue bytes images commits =
 
 -- a move commits once at most
 pub moved_version : (mv : Move) (held : Held) (tree next : Tree) → MakesTree mv held tree next → (next.catalogue.version ≡ tree.catalogue.version) ⊎ (next.catalogue.version ≡ tree.catalogue.version + 1)
-moved_version pacing.SwapDeep held tree next makes = inr makes.version
-moved_version pacing.SwapPass held tree next makes = inr makes.version
-moved_version pacing.Rotate held tree next makes = inr makes.version
-moved_version pacing.TakeDeep held tree next makes = inl (ap (λ (t : Tree). t.catalogue.version) makes)
-moved_version pacing.TakeSnow held tree next makes = inl (ap (λ (t : Tree). t.catalogue.version) makes)
-moved_version pacing.Begin held tree next makes = inl (ap (λ (t : Tree). t.catalogue.version) makes)
-moved_version pacing.Idle held tree next makes = inl (ap (λ (t : Tree). t.catalogue.version) makes)
+moved_version mv held tree next h1 = grind (arith, common_steps, nat_tests)

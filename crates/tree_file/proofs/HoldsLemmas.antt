@@ -1,8 +1,9 @@
 -- A tree stays in its file where bytes change beside it.
 use Rattle.std.specs.Prelude.{◌≢◌, ◌⊎◌, ℕ, ◌+◌, ◌<◌, ◌≤◌, List, ◌++◌}
+use Rattle.std.proofs.lemmas.Grind.{common_steps}
+use Rattle.std.proofs.lemmas.Bool.Decides.{nat_tests}
 use Rattle.std.specs.List.{Contains}
 use Rattle.std.proofs.Common.{inl, inr, ⊎_elim, sym, subst, arith}
-use Rattle.std.proofs.lemmas.Bool.{cases_lt}
 use Rattle.std.proofs.lemmas.List.Elements.{Contains-append_left, Contains-append_right}
 use Rattle.disk_trait.specs.Region.{Region, span, IsWithin, AreApart, IsSameOutside, part_apart}
 use Rattle.blsm_model.specs.Format.{page_length}
@@ -82,11 +83,7 @@ store_beside : {region : Region} {old new : List ℕ} (sizes : Sizes) → AreApa
 store_beside {region} sizes apart inside same store = store_apart sizes behind same store
   where
     behind : (i : ℕ) → region i → (superblock_length ≤ i) × (i < file_length sizes)
-    behind i here =
-        elim (cases_lt i superblock_length) [
-          | inl below ↦ absurd (apart i here (omega arith, omega (arith, below)))
-          | inr from ↦ (from, inside i here)
-        ]
+    behind i here = grind (arith, common_steps, nat_tests)
 
 -- what a file has of a tree it has still
 pub body_beside : {region : Region} {old new : List ℕ} (sizes : Sizes) (tree : Tree) → HasBody sizes tree old → IsBesideBody sizes tree region → IsSameOutside region old new
@@ -201,8 +198,7 @@ pub roles_of : {sizes : Sizes} {tree : Tree} {file : List ℕ} → HoldsTree siz
 roles_of holds = holds.newest.stands.fits.lanes
 
 pub role_below : (role : Role) (tree : Tree) → AreRoles tree.catalogue.lanes → lane_of role tree < 3
-role_below as_a tree roles = roles.a_below
-role_below as_b tree roles = roles.b_below
+role_below role tree h1 = grind (arith, common_steps, nat_tests)
 
 pub has_entries : (role : Role) {sizes : Sizes} {tree : Tree} {file : List ℕ} → HoldsTree sizes tree file → HasEntries sizes (lane_of role tree) (entries_in role tree) file
 has_entries as_a holds = holds.lane_a

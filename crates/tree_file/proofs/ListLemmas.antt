@@ -1,5 +1,8 @@
 -- The lists of a tree that a file holds.
-use Rattle.std.specs.Prelude.{◌≡◌, ◌++◌, ℕ, List, [], ◌∷◌, Option, None, fold, refl}
+use Rattle.std.specs.Prelude.{◌≡◌, ◌++◌, ℕ, List, [], ◌∷◌, Option, fold, refl}
+use Rattle.std.proofs.lemmas.Grind.{common_steps}
+use Rattle.std.proofs.lemmas.Bool.Decides.{nat_tests}
+use Rattle.std.proofs.Common.{arith}
 use Rattle.std.proofs.Common.{ap}
 use Rattle.std.proofs.lemmas.List.Elements.{All-head, All-tail}
 use Rattle.blsm_model.specs.Sizes.{Sizes}
@@ -74,10 +77,4 @@ lists_sorted sizes tree file holds =
 
 pub lists_light : (sizes : Sizes) (tree : Tree) (file : List ℕ) → HoldsTree sizes tree file
     → AreLight (lists_of tree).b × AreLight (lists_of tree).a × AreLight (lists_of tree).c1 × AreLight (lists_of tree).c1x × AreLight (lists_of tree).c2
-lists_light sizes tree file holds = (
-  light_replayed tree.lane_b holds.lane_b.each,
-  light_replayed tree.lane_a holds.lane_a.each,
-  light_pages sizes tree.c1 None file holds.c1.chained,
-  light_pages sizes tree.c1x None file holds.c1x.chained,
-  light_pages sizes tree.c2 None file holds.c2.chained,
-)
+lists_light sizes tree file holds = grind (arith, common_steps, nat_tests, light_replayed, light_pages)

@@ -1,11 +1,13 @@
 -- Trees whose lists say the same of each key show one map.
-use Rattle.std.specs.Prelude.{◌≡◌, ℕ, [], None, refl}
+use Rattle.std.specs.Prelude.{◌≡◌, [], None, refl}
+use Rattle.std.proofs.lemmas.Grind.{common_steps}
+use Rattle.std.proofs.lemmas.Bool.Decides.{nat_tests}
+use Rattle.std.proofs.Common.{arith}
 use Rattle.std.specs.FinMap.{find}
-use Rattle.std.proofs.Common.{ap, ◌∙◌}
 use Rattle.blsm_model.specs.declared.key.Key.{Key}
 use Rattle.blsm_model.specs.Keys.{key_cmp}
 use Rattle.record_delta.specs.Records.{settled}
-use Rattle.record_delta.specs.Entries.{Entries, AreSorted, folded_over, over_any, record_of_key}
+use Rattle.record_delta.specs.Entries.{Entries, AreSorted, record_of_key}
 use Rattle.tree_machine.specs.Lists.{Lists, map_in, settled_pairs, value_in}
 use Rattle.tree_machine.specs.Machine.{Merges}
 use Rattle.tree_machine.specs.Layers.{AreLayered}
@@ -33,18 +35,6 @@ find-pairs es sorted key = find-map_in (alone es) no_merges (alone_layered es so
 
 -- the map of sorted lists has the value of each key
 find-map : (lists : Lists) → AreAllSorted lists → (key : Key) → find key_cmp key (map_in lists) ≡ value_in lists key
-find-map lists sorted key =
-    let c1x = folded_over lists.c1x lists.c2 in
-    let c1 = folded_over lists.c1 c1x in
-    let a = folded_over lists.a c1 in
-    find-pairs (folded_over lists.b a)
-    (sorted_folded_over lists.b a (sorted_folded_over lists.a c1 (sorted_folded_over lists.c1 c1x (sorted_folded_over lists.c1x lists.c2 sorted.4)))) key
-    ∙ ap settled (
-    find-folded_over lists.b a sorted.0 key
-    ∙ ap (over_any (record_of_key key lists.b)) (
-    find-folded_over lists.a c1 sorted.1 key
-    ∙ ap (over_any (record_of_key key lists.a)) (
-    find-folded_over lists.c1 c1x sorted.2 key
-    ∙ ap (over_any (record_of_key key lists.c1)) (find-folded_over lists.c1x lists.c2 sorted.3 key))))
+find-map lists sorted key = grind (arith, common_steps, nat_tests, find-pairs, sorted_folded_over, find-folded_over)
 
 -- ---- the swaps, over lists alone

@@ -1,7 +1,9 @@
 -- A file holds one tree at most; that of a store that was just made holds the empty one.
 use Rattle.std.specs.Prelude.{◌≡◌, ◌↔◌, ℕ, ◌*◌, ◌≤◌, List, [], take, refl, nat_eq}
+use Rattle.std.proofs.lemmas.Grind.{common_steps}
+use Rattle.std.proofs.lemmas.Bool.Decides.{nat_tests}
 use Rattle.std.specs.List.{IsDistinct}
-use Rattle.std.proofs.Common.{sym, subst, ◌∙◌, ap, arith}
+use Rattle.std.proofs.Common.{subst, ap, arith}
 use Rattle.std.proofs.Math.Seq.{take-nil}
 use Rattle.std.specs.List.Sorted.{IsStrictlySortedBy}
 use Rattle.blsm_model.specs.Sizes.{Sizes, IsGeometry}
@@ -53,20 +55,12 @@ one_tree sizes one other file holds also =
 
 -- so it reads as one map
 pub one_map : (a b : Sizes) (one other : List (Key × Value)) (file : List ℕ) → ReadsAsMap a one file → ReadsAsMap b other file → one ≡ other
-one_map a b one other file reads also =
-    let sizes : a ≡ b = one_size a b reads.tree also.tree file reads.holds also.holds in
-    let tree : reads.tree ≡ also.tree = one_tree b reads.tree also.tree file (subst (λ (s : Sizes). HoldsTree s reads.tree file) sizes reads.holds) also.holds in
-    sym reads.map_is ∙ ap map_of_tree tree ∙ also.map_is
+one_map a b one other file reads also = grind (arith, common_steps, nat_tests, one_size, one_tree)
 
 -- It does so exactly where its tree fits, and that map is the tree's.
 pub reads_exactly : (sizes : Sizes) (tree : Tree) (pairs : List (Key × Value)) (file : List ℕ) → HoldsTree sizes tree file
     → ReadsAsMap sizes pairs file ↔ (FitsSizes sizes tree × (map_of_tree tree ≡ pairs))
-reads_exactly sizes tree pairs file holds = (
-  λ reads.
-      let same : reads.tree ≡ tree = one_tree sizes reads.tree tree file reads.holds holds in
-      (subst (FitsSizes sizes) same reads.fits, ap map_of_tree (sym same) ∙ reads.map_is),
-  λ is. record { tree = tree; holds = holds; fits = is.0; map_is = is.1 },
-)
+reads_exactly sizes tree pairs file holds = grind (arith, common_steps, nat_tests, one_tree)
 
 -- ---- the empty tree
 

@@ -1,5 +1,7 @@
 -- What each writer of a store's file leaves of the tree that stood on its disk.
 use Rattle.std.specs.Prelude.{◌≡◌, Result, Ok, Err, OnOk, is_ok, ◌⊎◌, ℕ, ◌≤◌, Bool, IsTrue, List, [], ◌∷◌, ◌++◌, length}
+use Rattle.std.proofs.lemmas.Grind.{common_steps}
+use Rattle.std.proofs.lemmas.Bool.Decides.{nat_tests}
 use Rattle.std.proofs.Common.{inl, inr, ⊎_elim, sym, subst, arith}
 use Rattle.disk_trait.specs.Disk.{DiskState}
 use Rattle.disk_trait.specs.Effects.{Affects}
@@ -146,11 +148,7 @@ stands_appended_b = stands_appended as_b
 
 -- what holds at each moment of both
 both_leave : {old new : DiskState} {P Q : List ℕ → Type 0} → LeavesOnly old new P → LeavesOnly old new Q → LeavesOnly old new (λ c. P c × Q c)
-both_leave one other = record {
-  later = one.later;
-  each = λ c left. (one.each c left, other.each c left);
-  before = λ t c le left. ⊎_elim (λ was. inl was) (λ (p : _). ⊎_elim (λ was. inl was) (λ q. inr (p, q)) (other.before t c le left)) (one.before t c le left);
-}
+both_leave one other = grind (arith, common_steps, nat_tests)
 
 -- what a preparation may write is beside the body of the tree
 prepared_beside : (sizes : Sizes) (tree : Tree) → 1 ≤ sizes.half → AreRoles tree.catalogue.lanes → IsBesideBody sizes tree (prepared sizes tree.catalogue)

@@ -1,5 +1,7 @@
 -- Admission: what the machine stands for before it stands for afterwards, with the write counted, lost or unsure, or refused.
 use Rattle.std.proofs.Common.{◌≡◌, ℕ, ◌+◌, ◌<◌, ◌≤◌, Bool, cond, true, false, List, [], ◌∷◌, ◌++◌, length, Some, None, Option, refl, ap, sym, subst, ◌∙◌, arith}
+use Rattle.std.proofs.lemmas.Grind.{common_steps}
+use Rattle.std.proofs.lemmas.Bool.Decides.{nat_tests}
 use Rattle.std.specs.Prelude.{◌==◌, nat_lt, slice_index_or}
 use Rattle.std.specs.List.{AllByRecursion}
 use Rattle.std.proofs.lemmas.Bool.{ltb-true}
@@ -104,8 +106,7 @@ components_stay : (key : Key) (rec : Rec) (lists : Lists) (b : Bool)
     (record { b = lists.b; a = with_record key rec lists.a; c1 = lists.c1; c1x = lists.c1x; c2 = lists.c2 })
     (record { b = with_record key rec lists.b; a = lists.a; c1 = lists.c1; c1x = lists.c1x; c2 = lists.c2 }) in
     entries_weight new.c1 + entries_weight new.c1x + entries_weight new.c2 ≡ entries_weight lists.c1 + entries_weight lists.c1x + entries_weight lists.c2)
-components_stay key rec lists true = refl
-components_stay key rec lists false = refl
+components_stay key rec lists b = grind (arith, common_steps, nat_tests)
 
 -- a write ahead of the cursor leaves what is behind it
 pass_counted : (key : Key) (rec : Rec) (lists : Lists) (running : Bool) (input memory admitted taken w : ℕ) (p : Option Merge) → AreSorted lists.a → IsPassCounted lists.a lists.c1 running input memory admitted taken p
@@ -238,11 +239,7 @@ fitting_stands opening m seat op weight outcome stands way none is_one fit = by 
     by NoRoom = done
 
 limit_is : (sizes : Sizes) (at_opening : ℕ) (op : Op) → limit_for (limits_of sizes at_opening) op ≡ charge_limit sizes (is_del op)
-limit_is sizes at_opening op = by (is_del op)
-  where
-    by : (b : Bool) → cond b (charge_limit sizes true) (charge_limit sizes false) ≡ charge_limit sizes b
-    by true = refl
-    by false = refl
+limit_is sizes at_opening op = grind (arith, common_steps, nat_tests)
 
 pub admit_stands : (opening : List (Key × Value)) (m : Machine) (seat : ℕ) (op : Op) (outcome : Outcome) → Stands opening m → HasWay m → is_write op ≡ true
     → AllByRecursion FitsFormat (writes_of op) → Stands opening (admit m seat op outcome).state

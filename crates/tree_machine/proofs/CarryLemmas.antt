@@ -1,5 +1,7 @@
 -- Each move of the merges carries the machine on: values, history and holds stay, and the charge doesn't rise.
 use Rattle.std.proofs.Common.{◌≡◌, ℕ, ◌+◌, ◌≤◌, Bool, cond, true, false, not, ◌&&◌, ◌||◌, [], ◌∷◌, Some, None, Option, refl, ap, sym, subst, ◌∙◌, arith}
+use Rattle.std.proofs.lemmas.Grind.{common_steps}
+use Rattle.std.proofs.lemmas.Bool.Decides.{nat_tests}
 use Rattle.std.specs.Prelude.{nat_lt, nat_le}
 use Rattle.std.proofs.lemmas.Bool.{leb-true, false≢true}
 use Rattle.blsm_model.specs.Geometry.{c1_mark}
@@ -48,18 +50,10 @@ behind_none (e ∷ es) = behind_none es
 
 -- where the gears know no merge, none runs
 pub no_pass_of : (m : Machine) → IsSound m → in_pass m ≡ false → m.merges.pass ≡ None
-no_pass_of m sound none = by m.merges.pass sound.pass
-  where
-    by : (p : Option Merge) → IsPassCounted m.lists.a m.lists.c1 m.gears.pass m.gears.pass_c1 m.gears.pass_memory m.gears.pass_admitted m.gears.pass_taken p → p ≡ None
-    by None counted = refl
-    by (Some pass) counted = absurd (false≢true (sym none ∙ counted.0))
+no_pass_of m sound none = grind (arith, common_steps, nat_tests)
 
 pub no_deep_of : (m : Machine) → IsSound m → in_deep m ≡ false → m.merges.deep ≡ None
-no_deep_of m sound none = by m.merges.deep sound.deep
-  where
-    by : (p : Option Merge) → IsDeepCounted m.lists.c1x m.lists.c2 m.gears.deep m.gears.deep_input m.gears.deep_admitted m.gears.deep_taken p → p ≡ None
-    by None counted = refl
-    by (Some deep) counted = absurd (false≢true (sym none ∙ counted.0))
+no_deep_of m sound none = grind (arith, common_steps, nat_tests)
 
 -- ---- one move
 
@@ -243,12 +237,7 @@ swap_pass_carries m sound done free = by (nat_le (c1_mark m.gears.sizes) (entrie
 -- ---- what is made of them
 
 no_deep_left : (m : Machine) → IsSound m → deep_done m ≡ false → (not (in_deep m) || deep_done m) ≡ true → m.merges.deep ≡ None
-no_deep_left m sound undone way = no_deep_of m sound (of_not (in_deep m) (deep_done m) undone way)
-  where
-    of_not : (a b : Bool) → b ≡ false → (not a || b) ≡ true → a ≡ false
-    of_not true true p q = p
-    of_not true false p q = sym q
-    of_not false b p q = refl
+no_deep_left m sound undone way = grind (arith, common_steps, nat_tests)
 
 -- the merges that are done are swapped in
 pub deep_swapped_carries : (m : Machine) → IsSound m → Carries m (deep_swapped m)

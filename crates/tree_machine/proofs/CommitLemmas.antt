@@ -1,5 +1,7 @@
 -- The version rises by no more than the swaps and the rotations.
 use Rattle.std.proofs.Common.{◌≤◌, ◌≡◌, refl, ap, ℕ, ◌+◌, Bool, cond, true, false, not, ◌&&◌, ◌||◌, List, [], ◌∷◌, Option, Some, None, arith}
+use Rattle.std.proofs.lemmas.Grind.{common_steps}
+use Rattle.std.proofs.lemmas.Bool.Decides.{nat_tests}
 use Rattle.std.specs.Prelude.{◌==◌, nat_lt, nat_le}
 use Rattle.blsm_model.specs.declared.key.Key.{Key}
 use Rattle.blsm_model.specs.declared.row.Row.{Row}
@@ -40,8 +42,7 @@ rotate_commits : (first : ℕ) (m : Machine) → IsVersion first m → IsVersion
 rotate_commits first m v = omega (arith, v, at_most (in_deep m))
   where
     at_most : (b : Bool) → one_if b ≤ 1
-    at_most true = omega arith
-    at_most false = omega arith
+    at_most b = grind (arith, common_steps, nat_tests)
 
 swap_pass_commits : (first : ℕ) (m : Machine) → IsVersion first m → IsVersion first (swap_pass m)
 swap_pass_commits first m v = by (nat_le (c1_mark m.gears.sizes) (entries_weight (output_of m.merges.pass)))

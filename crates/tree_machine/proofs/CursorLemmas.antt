@@ -1,14 +1,16 @@
 -- What a merge takes of its lists: those ahead of its cursor, from the front, up to its next cursor.
 use Rattle.std.proofs.Common.{◌≡◌, ℕ, ◌-◌, inl, inr, Bool, cond, true, false, T, [], ◌∷◌, Some, None, Option, refl, ap, sym, subst, ◌∙◌}
+use Rattle.std.proofs.lemmas.Grind.{common_steps}
+use Rattle.std.proofs.lemmas.Bool.Decides.{nat_tests}
+use Rattle.std.proofs.Common.{arith}
 use Rattle.std.specs.Prelude.{nat_lt}
 use Rattle.std.specs.List.{AllByRecursion}
 use Rattle.std.specs.Ordering.{is_eq, is_lt, eq_by_cmp, ordering_reverse}
 use Rattle.std.specs.declared.cmp.Ordering.{Ordering}
-use Rattle.std.specs.declared.cmp.Ordering.TheVariants.{Less, Equal, Greater}
+use Rattle.std.specs.declared.cmp.Ordering.TheVariants.{Equal}
 use Rattle.std.specs.Cmp.{tied_itself}
 use Rattle.std.specs.FinMap.{is_sorted}
 use Rattle.std.specs.FinMap.Entries.{below_all, is_sorted-where_key, find-where_key}
-use Rattle.std.proofs.lemmas.Bool.{false≢true}
 use Rattle.std.proofs.lemmas.Cmp.{nat_list_cmp_total}
 use Rattle.blsm_model.specs.declared.key.Key.{Key}
 use Rattle.blsm_model.specs.Keys.{key_cmp}
@@ -27,9 +29,7 @@ pub not_below_itself : (x : Key) → is_lt (key_cmp x x) ≡ false
 not_below_itself x = ap is_lt (tied_itself nat_list_cmp_total x)
 
 lt_of_cases : (o : Ordering) → is_lt (ordering_reverse o) ≡ false → is_eq o ≡ false → is_lt o ≡ true
-lt_of_cases Less a b = refl
-lt_of_cases Equal a b = absurd (false≢true (sym b))
-lt_of_cases Greater a b = absurd (false≢true (sym a))
+lt_of_cases o h1 h2 = grind (arith, common_steps, nat_tests)
 
 -- two keys that aren't the same: one is below the other
 pub below_or_above : (x y : Key) → is_lt (key_cmp y x) ≡ false → is_eq (key_cmp x y) ≡ false → is_lt (key_cmp x y) ≡ true
@@ -94,15 +94,10 @@ still_ahead (Some x) (e ∷ groups) q sorted all past =
 
 -- of the next cursor's key the first group is found
 pub not_ahead_at_first : (x : Key) (groups : Entries) → below_all key_cmp x groups ≡ true → is_sorted key_cmp groups ≡ true → is_above (cursor_after (Some x) groups) x ≡ false
-not_ahead_at_first x groups below sorted =
-    elim (by_test (is_above (cursor_after (Some x) groups) x)) [
-      | inl past ↦ absurd (false≢true (sym (not_below_itself x) ∙ cursor_rises x groups x below sorted past))
-      | inr behind ↦ behind
-    ]
+not_ahead_at_first x groups below sorted = grind (arith, common_steps, nat_tests, by_test, not_below_itself, cursor_rises)
 
 none_twice : (b : Bool) (x : Option Rec) → cond b x x ≡ x
-none_twice true x = refl
-none_twice false x = refl
+none_twice b x = grind (arith, common_steps, nat_tests)
 
 -- The groups taken have just the keys up to the next cursor.
 pub find-until : (weigh : Key → ℕ) (wanted : ℕ) (es : Entries) (cursor : Option Key) (q : Key) → AreSorted es

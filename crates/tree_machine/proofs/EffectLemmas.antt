@@ -1,5 +1,8 @@
 -- What a step leaves as it was, and which merge a quantum moves.
 use Rattle.std.proofs.Common.{◌≤◌, ◌≡◌, ◌⊎◌, inl, inr, refl, ap, sym, subst, ◌∙◌, ℕ, zero, suc, ◌+◌, Bool, cond, true, false, not, ◌&&◌, ◌||◌, List, [], ◌∷◌, Option, Some, None}
+use Rattle.std.proofs.lemmas.Grind.{common_steps}
+use Rattle.std.proofs.lemmas.Bool.Decides.{nat_tests}
+use Rattle.std.proofs.Common.{arith}
 use Rattle.std.specs.Prelude.{◌==◌, nat_lt, nat_le, slice_set, slice_index_or}
 use Rattle.std.proofs.lemmas.Bool.{false≢true, leb-true}
 use Rattle.blsm_model.specs.declared.key.Key.{Key}
@@ -22,8 +25,8 @@ use Rattle.tree_machine.specs.declared.step.Kind.{Kind}
 use Rattle.tree_machine.specs.declared.step.Kind.TheVariants as kind
 use Rattle.tree_machine.specs.Lists.{memory_weight, value_in}
 use Rattle.tree_machine.specs.Merges.{Merge, begun}
-use Rattle.tree_machine.specs.Machine.{Machine, Merges, in_pass, in_deep, pass_is_done, pass_done, deep_done, is_closed, charge, held_by}
-use Rattle.tree_machine.specs.Moves.{begin_pass, rotate, swap_pass, swap_deep, end_pass, output_of, pass_quantum, deep_quantum, pass_quantum_of, deep_quantum_of, with_peak, note, stop}
+use Rattle.tree_machine.specs.Machine.{Machine, Merges, in_pass, in_deep, pass_done, deep_done, is_closed, charge, held_by}
+use Rattle.tree_machine.specs.Moves.{rotate, swap_pass, swap_deep, end_pass, output_of, pass_quantum, deep_quantum, pass_quantum_of, deep_quantum_of, with_peak, note, stop}
 use Rattle.tree_machine.specs.Steps.{Outcome, Well, FailedAfter, Broken, NoRoom, Stepped, SwapDeep, SwapPass, DeepQuantum, PassQuantum, Begin, Rotate, Rest, choice, chosen, replied, unless_stopped, swaps_due, admit, admit_fitting, deep_swapped, pass_swapped, swapped, pass_begun_for, ready_for, taken_once, reply_unless, hold, do_hold, next_rows, do_next, drop_hold, holding, forgive, pay, pay_running, pay_planned, do_pay, do_turn, work_turning, worker_turning, work_turn, worker_turn, count_for_write, work_end, leave}
 use Rattle.tree_machine.specs.Plays.{stepped_as}
 use Rattle.tree_machine.specs.Layers.{IsSound, HasWay}
@@ -110,32 +113,13 @@ quiet seat m n quanta merges = inl (record { quanta = quanta; pass = inl (ap (λ
 -- ---- what is made ready
 
 pass_still : (m : Machine) → (pass_done (deep_swapped m) ≡ pass_done m) × ((deep_swapped m).merges.pass ≡ m.merges.pass)
-pass_still m = by (deep_done m)
-  where
-    by : (b : Bool) → (pass_done (cond b (swap_deep m) m) ≡ pass_done m) × ((cond b (swap_deep m) m).merges.pass ≡ m.merges.pass)
-    by true = (still m.merges.pass, refl)
-      where
-        still : (p : Option Merge) → pass_is_done p (swap_deep m).lists ≡ pass_is_done p m.lists
-        still None = refl
-        still (Some pass) = refl
-    by false = (refl, refl)
+pass_still m = grind (arith, common_steps, nat_tests)
 
 pass_after_swap : (n : Machine) → (pass_swapped n).merges.pass ≡ cond (pass_done n) None n.merges.pass
-pass_after_swap n = by (pass_done n) (nat_le (c1_mark n.gears.sizes) (entries_weight (output_of n.merges.pass)))
-  where
-    by : (b c : Bool) → (cond b (cond c (rotate (end_pass n)) (end_pass n)) n).merges.pass ≡ cond b None n.merges.pass
-    by true true = refl
-    by true false = refl
-    by false c = refl
+pass_after_swap n = grind (arith, common_steps, nat_tests)
 
 pass_after_begin : (weight : ℕ) (n : Machine) → IsSound n → ((pass_begun_for weight n).merges.pass ≡ n.merges.pass) ⊎ ((n.merges.pass ≡ None) × ((pass_begun_for weight n).merges.pass ≡ Some begun))
-pass_after_begin weight n sound = by (in_pass n) refl (nat_lt n.gears.sizes.low (n.spring + weight))
-  where
-    by : (b : Bool) → in_pass n ≡ b → (c : Bool)
-        → ((cond (not b && c) (begin_pass n) n).merges.pass ≡ n.merges.pass) ⊎ ((n.merges.pass ≡ None) × ((cond (not b && c) (begin_pass n) n).merges.pass ≡ Some begun))
-    by true is c = inl refl
-    by false is true = inr (no_pass_of n sound is, refl)
-    by false is false = inl refl
+pass_after_begin weight n sound = grind (arith, common_steps, nat_tests)
 
 pass_stands : (weight : ℕ) (m : Machine) → IsSound m → HasWay m → MergeStands (pass_done m) m.merges.pass (ready_for weight m).merges.pass
 pass_stands weight m sound way = by (pass_done m) (ready_for weight m).merges.pass (swapped m).merges.pass swap (pass_after_begin weight (swapped m) (swapped_carries m sound way).sound)
@@ -154,21 +138,13 @@ deep_stands : (weight : ℕ) (m : Machine) → IsSound m → HasWay m → MergeS
 deep_stands weight m sound way = subst (λ d. MergeStands (deep_done m) m.merges.deep d) (sym (begun_keeps (swapped m))) (by (deep_done m) refl)
   where
     begun_keeps : (n : Machine) → (pass_begun_for weight n).merges.deep ≡ n.merges.deep
-    begun_keeps n = by (not (in_pass n) && nat_lt n.gears.sizes.low (n.spring + weight))
-      where
-        by : (b : Bool) → (cond b (begin_pass n) n).merges.deep ≡ n.merges.deep
-        by true = refl
-        by false = refl
+    begun_keeps n = grind (arith, common_steps, nat_tests)
 
     rotates : (n : Machine) (b c : Bool) → ((cond b (cond c (rotate (end_pass n)) (end_pass n)) n).merges.deep ≡ n.merges.deep) ⊎ ((b ≡ true) × (c ≡ true) × ((cond b (cond c (rotate (end_pass n)) (end_pass n)) n).merges.deep ≡ Some begun))
-    rotates n true true = inr (refl, refl, refl)
-    rotates n true false = inl refl
-    rotates n false c = inl refl
+    rotates n b c = grind (arith, common_steps, nat_tests)
 
     none_left : (a b : Bool) → b ≡ false → (not a || b) ≡ true → a ≡ false
-    none_left true true p q = p
-    none_left true false p q = sym q
-    none_left false b p q = refl
+    none_left a b h1 h2 = grind (arith, common_steps, nat_tests)
 
     by : (done : Bool) → deep_done m ≡ done → MergeStands done m.merges.deep (pass_swapped (cond done (swap_deep m) m)).merges.deep
     by true is = of_done (rotates (swap_deep m) (pass_done (swap_deep m)) (nat_le (c1_mark m.gears.sizes) (entries_weight (output_of m.merges.pass))))
@@ -185,20 +161,7 @@ deep_stands weight m sound way = subst (λ d. MergeStands (deep_done m) m.merges
         of_running (inr new) = inr (inr (no_deep_of m sound (none_left (in_deep m) (deep_done m) is (way new.0 (leb-true (c1_mark m.gears.sizes) (entries_weight (output_of m.merges.pass)) new.1)))), inr new.2)
 
 ready_quanta : (weight : ℕ) (m : Machine) → (ready_for weight m).seats.quanta ≡ m.seats.quanta
-ready_quanta weight m = begins (swapped m) (not (in_pass (swapped m)) && nat_lt (swapped m).gears.sizes.low ((swapped m).spring + weight)) ∙ swap (deep_swapped m) (pass_done (deep_swapped m)) (nat_le (c1_mark (deep_swapped m).gears.sizes) (entries_weight (output_of (deep_swapped m).merges.pass))) ∙ deep (deep_done m)
-  where
-    begins : (n : Machine) (b : Bool) → (cond b (begin_pass n) n).seats.quanta ≡ n.seats.quanta
-    begins n true = refl
-    begins n false = refl
-
-    swap : (n : Machine) (b c : Bool) → (cond b (cond c (rotate (end_pass n)) (end_pass n)) n).seats.quanta ≡ n.seats.quanta
-    swap n true true = refl
-    swap n true false = refl
-    swap n false c = refl
-
-    deep : (b : Bool) → (cond b (swap_deep m) m).seats.quanta ≡ m.seats.quanta
-    deep true = refl
-    deep false = refl
+ready_quanta weight m = grind (arith, common_steps, nat_tests)
 
 ready_rests : (weight : ℕ) (m : Machine) → IsSound m → HasWay m → Rests m (ready_for weight m)
 ready_rests weight m sound way = record { quanta = ready_quanta weight m; pass = pass_stands weight m sound way; deep = deep_stands weight m sound way }
@@ -222,14 +185,12 @@ works_on seat m n k quanta merges lists (inl r) = inl (rests_on m n k quanta mer
 works_on seat m n k quanta merges lists (inr t) = inr (record { quanta = quanta ∙ t.quanta; lists = lists ∙ t.lists; merge = of t.merge })
   where
     of : (n.merges ≡ (pass_quantum seat m).merges) ⊎ (n.merges ≡ (deep_quantum seat m).merges) → (k.merges ≡ (pass_quantum seat m).merges) ⊎ (k.merges ≡ (deep_quantum seat m).merges)
-    of (inl is) = inl (merges ∙ is)
-    of (inr is) = inr (merges ∙ is)
+    of h1 = grind (arith, common_steps, nat_tests)
 
 -- ---- an admission
 
 taken_keeps : (seat : ℕ) (ws : List Write) (n : Machine) → ((taken_once seat ws n).seats.quanta ≡ n.seats.quanta) × ((taken_once seat ws n).merges ≡ n.merges)
-taken_keeps seat [] n = (refl, refl)
-taken_keeps seat (w ∷ ws) n = (refl, refl)
+taken_keeps seat ws n = grind (arith, common_steps, nat_tests)
 
 admit_works : (m : Machine) (seat : ℕ) (op : Op) (outcome : Outcome) → IsSound m → HasWay m → Works seat m (admit m seat op outcome).state
 admit_works m seat op outcome sound way = unless m.stopped
@@ -313,9 +274,7 @@ chosen_works : (may_begin may_rotate : Bool) (seat : ℕ) (m : Machine) → IsSo
 chosen_works may_begin may_rotate seat m sound way = by_deep (deep_done m) refl
   where
     none_left : (a b : Bool) → b ≡ false → (not a || b) ≡ true → a ≡ false
-    none_left true true p q = p
-    none_left true false p q = sym q
-    none_left false b p q = refl
+    none_left a b h1 h2 = grind (arith, common_steps, nat_tests)
 
     pass_turn : (p : Option Merge) → m.merges.pass ≡ p → Works seat m (pass_quantum_of p seat m)
     pass_turn None is = quiet seat m m refl refl

@@ -1,16 +1,17 @@
 -- Records over one another, and what folded lists have of a key.
 use Rattle.std.proofs.Common.{◌≡◌, ◌⊎◌, inl, inr, Bool, cond, true, false, ◌&&◌, T, [], ◌∷◌, Some, None, Option, refl, ap, sym, subst, ◌∙◌}
+use Rattle.std.proofs.lemmas.Grind.{common_steps}
+use Rattle.std.proofs.lemmas.Bool.Decides.{nat_tests}
+use Rattle.std.proofs.Common.{arith}
 use Rattle.std.specs.Ordering.{is_eq, is_lt, eq_by_cmp}
 use Rattle.std.specs.declared.cmp.Ordering.{Ordering}
-use Rattle.std.specs.declared.cmp.Ordering.TheVariants.{Less, Equal, Greater}
+use Rattle.std.specs.declared.cmp.Ordering.TheVariants.{Less, Equal}
 use Rattle.std.specs.FinMap.{slice_cmp-IsAntisymmetric, nat_cmp-IsAntisymmetric, is_sorted}
 use Rattle.std.specs.FinMap.Entries.{below_all, is_sorted-put, find-put}
-use Rattle.std.proofs.lemmas.Bool.{false≢true}
 use Rattle.std.proofs.lemmas.Cmp.{nat_list_cmp_total}
 use Rattle.blsm_model.specs.declared.key.Key.{Key}
 use Rattle.blsm_model.specs.Keys.{key_cmp}
 use Rattle.record_delta.specs.declared.record.Rec.{Rec}
-use Rattle.record_delta.specs.declared.record.Rec.TheVariants.{Base, Delta, Tomb}
 use Rattle.record_delta.specs.Records.{settled}
 use Rattle.record_delta.specs.Folding.{over}
 use Rattle.record_delta.proofs.FoldingLemmas.{fold_associative}
@@ -18,39 +19,30 @@ use Rattle.record_delta.specs.Entries.{AreSorted, Entries, folded_over, over_any
 use Rattle.tree_machine.specs.Layers.{as_base}
 
 pub by_test : (b : Bool) → (b ≡ true) ⊎ (b ≡ false)
-by_test true = inl refl
-by_test false = inr refl
+by_test b = grind (arith, common_steps, nat_tests)
 
 pub holds : (b : Bool) → T b → b ≡ true
-holds true h = refl
-holds false h = absurd h
+holds b h1 = grind (arith, common_steps, nat_tests)
 
 pub both_hold : (a b : Bool) → (a && b) ≡ true → (a ≡ true) × (b ≡ true)
-both_hold true b h = (refl, h)
-both_hold false b h = absurd (false≢true h)
+both_hold a b h1 = grind (arith, common_steps, nat_tests)
 
 pub both : (a b : Bool) → a ≡ true → b ≡ true → (a && b) ≡ true
-both true b p q = q
-both false b p q = absurd (false≢true p)
+both a b h1 h2 = grind (arith, common_steps, nat_tests)
 
 pub tied : (a b : Key) → key_cmp a b ≡ Equal → a ≡ b
 tied a b e = slice_cmp-IsAntisymmetric nat_cmp-IsAntisymmetric a b e
 
 pub equal_of : (o : Ordering) → is_eq o ≡ true → o ≡ Equal
-equal_of Less e = absurd (false≢true e)
-equal_of Equal e = refl
-equal_of Greater e = absurd (false≢true e)
+equal_of o h1 = grind (arith, common_steps, nat_tests)
 
 pub less_of : (o : Ordering) → is_lt o ≡ true → o ≡ Less
-less_of Less e = refl
-less_of Equal e = absurd (false≢true e)
-less_of Greater e = absurd (false≢true e)
+less_of o h1 = grind (arith, common_steps, nat_tests)
 
 -- ---- records over one another
 
 pub over_any-None : (rec : Option Rec) → over_any rec None ≡ rec
-over_any-None None = refl
-over_any-None (Some rec) = refl
+over_any-None rec = grind (arith, common_steps, nat_tests)
 
 pub over_any_assoc : (x y z : Option Rec) → over_any (over_any x y) z ≡ over_any x (over_any y z)
 over_any_assoc None y z = refl
@@ -60,22 +52,7 @@ over_any_assoc (Some x) (Some y) (Some z) = ap (λ r. Some r) (fold_associative 
 
 -- over a settled base the value is that over the record itself
 pub settled_over_base : (x y : Option Rec) → settled (over_any x (as_base y)) ≡ settled (over_any x y)
-settled_over_base None None = refl
-settled_over_base None (Some (Base v)) = refl
-settled_over_base None (Some (Delta d)) = refl
-settled_over_base None (Some Tomb) = refl
-settled_over_base (Some (Base v)) None = refl
-settled_over_base (Some (Base v)) (Some (Base w)) = refl
-settled_over_base (Some (Base v)) (Some (Delta d)) = refl
-settled_over_base (Some (Base v)) (Some Tomb) = refl
-settled_over_base (Some Tomb) None = refl
-settled_over_base (Some Tomb) (Some (Base v)) = refl
-settled_over_base (Some Tomb) (Some (Delta d)) = refl
-settled_over_base (Some Tomb) (Some Tomb) = refl
-settled_over_base (Some (Delta c)) None = refl
-settled_over_base (Some (Delta c)) (Some (Base v)) = refl
-settled_over_base (Some (Delta c)) (Some (Delta d)) = refl
-settled_over_base (Some (Delta c)) (Some Tomb) = refl
+settled_over_base x y = grind (arith, common_steps, nat_tests)
 
 -- ---- a key below all of a list
 

@@ -1,7 +1,9 @@
 -- What each part of a step leaves to the other seats.
-use Rattle.std.proofs.Common.{subst, ◌≡◌, ◌≢◌, ℕ, zero, suc, ◌+◌, ◌-◌, ◌*◌, ◌≤◌, ◌⊎◌, Bool, cond, true, false, not, ◌&&◌, List, [], ◌∷◌, length, take, drop, replicate, Some, None, Option, refl, ap, sym, ◌∙◌, arith}
+use Rattle.std.proofs.Common.{◌≡◌, ◌≢◌, ℕ, zero, suc, ◌+◌, ◌-◌, ◌*◌, ◌≤◌, ◌⊎◌, Bool, cond, true, false, not, ◌&&◌, List, [], ◌∷◌, length, take, drop, replicate, Some, None, Option, refl, ap, sym, ◌∙◌, arith}
+use Rattle.std.proofs.lemmas.Grind.{common_steps}
+use Rattle.std.proofs.lemmas.Bool.Decides.{nat_tests}
 use Rattle.std.specs.Prelude.{◌==◌, sum, nat_lt, nat_le, slice_index, slice_index_or, slice_set, is_some}
-use Rattle.std.proofs.lemmas.Bool.{false≢true, leb-true, ltb-false}
+use Rattle.std.proofs.lemmas.Bool.{false≢true}
 use Rattle.std.proofs.lemmas.List.{get_or-set_other}
 use Rattle.std.proofs.lemmas.List.Sums.{sum_by-cons}
 use Rattle.blsm_model.specs.declared.key.Key.{Key}
@@ -28,7 +30,7 @@ use Rattle.tree_machine.specs.Merges.{Merge, quantum_of}
 use Rattle.gear_sched.specs.Gears.{plan_for, first_debt, second_debt}
 use Rattle.gear_sched.specs.declared.Plan.{Plan}
 use Rattle.gear_sched.specs.declared.Plan.TheVariants.{Snow, Deep, Nothing}
-use Rattle.tree_machine.specs.Machine.{Machine, WorkSoFar, is_worked, seats, no_work, in_pass, in_deep, pass_done, deep_done, is_closed, all_true, charge, held_by, work_of, turn_more}
+use Rattle.tree_machine.specs.Machine.{Machine, WorkSoFar, is_worked, no_work, in_pass, in_deep, pass_done, deep_done, is_closed, all_true, charge, held_by, work_of, turn_more}
 use Rattle.tree_machine.specs.Moves.{begin_pass, rotate, rotate_alone, swap_pass, swap_deep, end_pass, output_of, pass_quantum, deep_quantum, pass_quantum_of, deep_quantum_of, take_write, with_peak, note, stop}
 use Rattle.tree_machine.specs.Steps.{Choice, SwapDeep, SwapPass, DeepQuantum, PassQuantum, Begin, Rotate, Rest, chosen, deep_swapped, pass_swapped, swapped, pass_begun_for, ready_for, taken_once, forgive, count_for_write, holding, work_noted, Outcome, Well, FailedAfter, Broken, NoRoom, Stepped, replied, unless_stopped, swaps_due, admit, admit_fitting, do_pay, pay_planned, pay, pay_running, reply_unless, hold, do_hold, next_rows, do_next, choice, do_turn, work_turning, worker_turning, with_turn, work_turn, worker_turn, work_reply, work_end, leave}
 use Rattle.tree_machine.specs.Plays.{stepped_as, may, is_help}
@@ -64,11 +66,7 @@ none_owed seat = of_replicate 16 seat 0
 raised : (xs : List ℕ) (i : ℕ) → (sum xs ≤ sum (slice_set xs i (slice_index xs i + 1))) × (sum (slice_set xs i (slice_index xs i + 1)) ≤ sum xs + 1)
 raised [] i = (omega arith, omega arith)
 raised (x ∷ xs) zero = (omega (arith, sum_by-cons (λ n. n) x xs, sum_by-cons (λ n. n) (x + 1) xs), omega (arith, sum_by-cons (λ n. n) x xs, sum_by-cons (λ n. n) (x + 1) xs))
-raised (x ∷ xs) (suc i) =
-    let rest = raised xs i in (
-      omega (arith, rest.0, sum_by-cons (λ n. n) x xs, sum_by-cons (λ n. n) x (slice_set xs i (slice_index xs i + 1))),
-      omega (arith, rest.1, sum_by-cons (λ n. n) x xs, sum_by-cons (λ n. n) x (slice_set xs i (slice_index xs i + 1))),
-    )
+raised (x ∷ xs) (suc i) = grind (arith, common_steps, nat_tests, raised xs i)
 
 raised_once : (xs : List ℕ) (i : ℕ) → slice_index (slice_set xs i (slice_index xs i + 1)) i ≤ slice_index xs i + 1
 raised_once [] i = omega arith
@@ -303,12 +301,10 @@ stop_apart seat cause m none = record {
 }
 
 either : (b : Bool) (x y z : ℕ) → x ≤ z → y ≤ z → cond b x y ≤ z
-either true x y z p q = p
-either false x y z p q = q
+either b x y z h1 h2 = grind (arith, common_steps, nat_tests)
 
 same_or_set : (b : Bool) (xs : List ℕ) (seat other n : ℕ) → other ≢ seat → slice_index (cond b (slice_set xs seat n) xs) other ≤ slice_index xs other
-same_or_set true xs seat other n apart = omega (arith, get_or-set_other xs seat other n 0 apart)
-same_or_set false xs seat other n apart = omega arith
+same_or_set b xs seat other n h1 = grind (arith, common_steps, nat_tests)
 
 pub take_apart : (seat : ℕ) (w : Write) (m : Machine) → Apart seat 0 m (with_peak (take_write seat w m))
 take_apart seat w m =
@@ -370,32 +366,10 @@ recounted_apart seat place quanta m = same_apart seat m (record m { book = count
 
 -- the swaps and the begin stop nothing
 deep_swapped_runs : (m : Machine) → m.stopped ≡ None → (deep_swapped m).stopped ≡ None
-deep_swapped_runs m none = by (deep_done m)
-  where
-    by : (b : Bool) → (cond b (swap_deep m) m).stopped ≡ None
-    by true = none
-    by false = none
+deep_swapped_runs m none = grind (arith, common_steps, nat_tests)
 
 ready_runs : (weight : ℕ) (m : Machine) → m.stopped ≡ None → (ready_for weight m).stopped ≡ None
-ready_runs weight m none = begun (swapped m) (swaps (deep_swapped m) (deep_swapped_runs m none))
-  where
-    rotated : (n : Machine) (b : Bool) → n.stopped ≡ None → (cond b (rotate (end_pass n)) (end_pass n)).stopped ≡ None
-    rotated n true is = is
-    rotated n false is = is
-
-    swap : (n : Machine) (b : Bool) → n.stopped ≡ None → (cond b (swap_pass n) n).stopped ≡ None
-    swap n true is = rotated n (nat_le (c1_mark n.gears.sizes) (entries_weight (output_of n.merges.pass))) is
-    swap n false is = is
-
-    swaps : (n : Machine) → n.stopped ≡ None → (pass_swapped n).stopped ≡ None
-    swaps n is = swap n (pass_done n) is
-
-    begin : (n : Machine) (b : Bool) → n.stopped ≡ None → (cond b (begin_pass n) n).stopped ≡ None
-    begin n true is = is
-    begin n false is = is
-
-    begun : (n : Machine) → n.stopped ≡ None → (pass_begun_for weight n).stopped ≡ None
-    begun n is = begin n (not (in_pass n) && nat_lt n.gears.sizes.low (n.spring + weight)) is
+ready_runs weight m none = grind (arith, common_steps, nat_tests)
 
 -- ---- each step
 
@@ -588,24 +562,17 @@ same_or_more : (a b : ℕ) → a ≤ b → b ≤ a + 1 → (b ≡ a) ⊎ (b ≡ 
 same_or_more a b le more = grind (arith, le, more)
 
 some_stays : (o p : Option Why) → ((why : Why) → o ≡ Some why → p ≡ Some why) → is_some o ≡ true → is_some p ≡ true
-some_stays (Some why) p stays is = ap is_some (stays why refl)
-some_stays None p stays is = absurd (false≢true is)
+some_stays o p h1 h2 = grind (arith, common_steps, nat_tests)
 
 turns_stay : (seat other : ℕ) (old new : Machine) → Apart seat 1 old new → other ≢ seat → turns_of other new ≡ turns_of other old
-turns_stay seat other old new p apart = by (nat_lt other callers) refl
-  where
-    by : (b : Bool) → nat_lt other callers ≡ b → cond b (work_of other new).turns (slice_index new.seats.turns (other - callers)) ≡ cond b (work_of other old).turns (slice_index old.seats.turns (other - callers))
-    by true is = ap (λ w. w.turns) (p.work other apart)
-    by false is = p.turns other (ltb-false other callers is) apart
+turns_stay seat other old new p apart = grind (arith, common_steps, nat_tests)
 
 -- a stopped tree stays stopped, for the same cause
 pub step_stays : (m : Machine) (seat : ℕ) (k : Kind) (outcome : Outcome) (why : Why) → m.stopped ≡ Some why → (stepped_as m seat k outcome).state.stopped ≡ Some why
-step_stays m seat kind.WorkerTurn outcome why is = subst (λ o. (worker_turning o (is_closed m) m seat outcome).state.stopped ≡ Some why) (sym is) is
-step_stays m seat k outcome why is = (step_apart m seat k outcome (λ w. absurd (false≢true w))).stopped why is
+step_stays m seat k outcome why h1 = grind (arith, common_steps, nat_tests)
 
 worker_turns : (m : Machine) (seat : ℕ) (k : Kind) → may m seat k ≡ true → is_help k ≡ true → callers ≤ seat
-worker_turns m seat kind.WorkerTurn ok is = leb-true callers seat (both_hold (nat_le callers seat) (nat_lt seat seats) ok).0
-worker_turns m seat k ok is = absurd (false≢true is)
+worker_turns m seat k h1 h2 = grind (arith, common_steps, nat_tests)
 
 pub step_follows : (m : Machine) (seat : ℕ) (k : Kind) (outcome : Outcome) → may m seat k ≡ true → Follows seat (facts_of m) (facts_of (stepped_as m seat k outcome).state)
 step_follows m seat k outcome ok =

@@ -1,9 +1,9 @@
 -- A step notes one entry of its seat, or none.
-use Rattle.std.proofs.Common.{◌≡◌, ◌<◌, ◌⊎◌, ℕ, ◌+◌, ◌-◌, length, sym, subst, arith, inl, inr, Bool, cond, true, false, not, ◌&&◌, List, [], ◌∷◌, ◌++◌, take, drop, Some, None, Option, refl, ap, ◌∙◌}
+use Rattle.std.proofs.Common.{◌≡◌, ◌<◌, ◌⊎◌, ℕ, ◌+◌, ◌-◌, length, arith, inl, inr, Bool, cond, true, false, ◌&&◌, List, [], ◌∷◌, ◌++◌, take, drop, Some, None, Option, refl, ap, ◌∙◌}
+use Rattle.std.proofs.lemmas.Grind.{common_steps}
+use Rattle.std.proofs.lemmas.Bool.Decides.{nat_tests}
 use Rattle.std.specs.Prelude.{◌==◌, nat_lt, nat_le, sum, slice_index, slice_set}
-use Rattle.std.proofs.lemmas.Bool.{ltb-true, ltb-false}
-use Rattle.std.proofs.lemmas.List.{length-append, get_or_past}
-use Rattle.std.proofs.lemmas.List.Sums.{sum_by-set}
+use Rattle.std.proofs.lemmas.Bool.{ltb-true}
 use Rattle.blsm_model.specs.Format.{most_rows}
 use Rattle.blsm_model.specs.Legal.{is_write, is_del}
 use Rattle.blsm_model.specs.declared.room.Room.{Room}
@@ -19,7 +19,7 @@ use Rattle.blsm_model.specs.declared.history.Why.TheVariants.{Faulted}
 use Rattle.blsm_model.specs.declared.history.Reply.{Reply}
 use Rattle.blsm_model.specs.declared.history.Reply.TheVariants.{Done, Held, Rows, NoHold, Full, NoMemory, FaultLost, FaultUnsure, Fault, Damaged, Stopped}
 use Rattle.blsm_model.specs.Book.{Book, room_after}
-use Rattle.blsm_model.specs.Geometry.{c1_mark, charge_limit}
+use Rattle.blsm_model.specs.Geometry.{charge_limit}
 use Rattle.blsm_model.specs.Histories.{writes_of, answer_to_get, answer_to_release}
 use Rattle.blsm_model.specs.Legal.{total_weight}
 use Rattle.tree_machine.specs.declared.step.Kind.{Kind}
@@ -27,12 +27,10 @@ use Rattle.tree_machine.specs.declared.step.Kind.TheVariants as kind
 use Rattle.gear_sched.specs.Gears.{plan_for, first_debt, second_debt}
 use Rattle.gear_sched.specs.declared.Plan.{Plan}
 use Rattle.gear_sched.specs.declared.Plan.TheVariants.{Snow, Deep, Nothing}
-use Rattle.record_delta.specs.Entries.{entries_weight}
-use Rattle.tree_machine.specs.Lists.{memory_weight, value_in, rows_in}
-use Rattle.tree_machine.specs.Merges.{Merge}
-use Rattle.tree_machine.specs.Machine.{Machine, is_caller, in_pass, pass_done, deep_done, is_closed, charge, held_by, work_of}
-use Rattle.tree_machine.specs.Moves.{begin_pass, rotate, end_pass, swap_pass, swap_deep, output_of, pass_quantum, deep_quantum, pass_quantum_of, deep_quantum_of, with_peak, note, stop}
-use Rattle.tree_machine.specs.Steps.{Choice, SwapDeep, SwapPass, DeepQuantum, PassQuantum, Begin, Rotate, Rest, choice, chosen, deep_swapped, swapped, ready_for, taken_once, forgive, holding, Outcome, Well, FailedAfter, Broken, NoRoom, Stepped, replied, unless_stopped, swaps_due, admit, admit_fitting, do_pay, pay_planned, pay, pay_running, reply_unless, do_hold, do_next, do_turn, work_turning, worker_turning, work_reply}
+use Rattle.tree_machine.specs.Lists.{value_in, rows_in}
+use Rattle.tree_machine.specs.Machine.{Machine, is_caller, is_closed, charge, held_by, work_of}
+use Rattle.tree_machine.specs.Moves.{swap_pass, pass_quantum, deep_quantum, with_peak, note, stop}
+use Rattle.tree_machine.specs.Steps.{Choice, chosen, deep_swapped, ready_for, taken_once, forgive, holding, Outcome, Well, FailedAfter, Broken, NoRoom, Stepped, replied, unless_stopped, swaps_due, admit, admit_fitting, do_pay, pay_planned, pay, pay_running, reply_unless, do_hold, do_next, do_turn, work_turning, worker_turning, work_reply}
 use Rattle.tree_machine.specs.Plays.{stepped_as}
 use Rattle.blsm_model.specs.Facts.{Notes}
 use Rattle.blsm_model.specs.declared.op.Write.{Write}
@@ -40,52 +38,22 @@ use Rattle.blsm_model.specs.declared.op.Write.{Write}
 -- ---- the merges note nothing
 
 swap_pass_book : (m : Machine) → (swap_pass m).book ≡ m.book
-swap_pass_book m = by (nat_le (c1_mark m.gears.sizes) (entries_weight (output_of m.merges.pass)))
-  where
-    by : (b : Bool) → (cond b (rotate (end_pass m)) (end_pass m)).book ≡ m.book
-    by true = refl
-    by false = refl
+swap_pass_book m = grind (arith, common_steps, nat_tests)
 
 pub deep_swapped_book : (m : Machine) → (deep_swapped m).book ≡ m.book
-deep_swapped_book m = by (deep_done m)
-  where
-    by : (b : Bool) → (cond b (swap_deep m) m).book ≡ m.book
-    by true = refl
-    by false = refl
+deep_swapped_book m = grind (arith, common_steps, nat_tests)
 
 pub ready_book : (weight : ℕ) (m : Machine) → (ready_for weight m).book ≡ m.book
-ready_book weight m = begun (not (in_pass (swapped m)) && nat_lt (swapped m).gears.sizes.low ((swapped m).spring + weight)) ∙ swap (pass_done (deep_swapped m)) ∙ deep_swapped_book m
-  where
-    swap : (b : Bool) → (cond b (swap_pass (deep_swapped m)) (deep_swapped m)).book ≡ (deep_swapped m).book
-    swap true = swap_pass_book (deep_swapped m)
-    swap false = refl
-
-    begun : (b : Bool) → (cond b (begin_pass (swapped m)) (swapped m)).book ≡ (swapped m).book
-    begun true = refl
-    begun false = refl
+ready_book weight m = grind (arith, common_steps, nat_tests)
 
 pub pass_quantum_book : (seat : ℕ) (m : Machine) → (pass_quantum seat m).book ≡ m.book
-pass_quantum_book seat m = by m.merges.pass
-  where
-    by : (p : Option Merge) → (pass_quantum_of p seat m).book ≡ m.book
-    by None = refl
-    by (Some pass) = refl
+pass_quantum_book seat m = grind (arith, common_steps, nat_tests)
 
 pub deep_quantum_book : (seat : ℕ) (m : Machine) → (deep_quantum seat m).book ≡ m.book
-deep_quantum_book seat m = by m.merges.deep
-  where
-    by : (p : Option Merge) → (deep_quantum_of p seat m).book ≡ m.book
-    by None = refl
-    by (Some deep) = refl
+deep_quantum_book seat m = grind (arith, common_steps, nat_tests)
 
 chosen_book : (c : Choice) (seat : ℕ) (m : Machine) → (chosen c seat m).book ≡ m.book
-chosen_book SwapDeep seat m = refl
-chosen_book SwapPass seat m = swap_pass_book m
-chosen_book DeepQuantum seat m = deep_quantum_book seat m
-chosen_book PassQuantum seat m = pass_quantum_book seat m
-chosen_book Begin seat m = refl
-chosen_book Rotate seat m = refl
-chosen_book Rest seat m = refl
+chosen_book c seat m = grind (arith, common_steps, nat_tests)
 
 -- ---- each step
 
@@ -115,8 +83,7 @@ unless_grows seat op m otherwise grows = by m.stopped
     by None = grows
 
 pub taken_book : (seat : ℕ) (ws : List Write) (m : Machine) → (taken_once seat ws m).book ≡ m.book
-taken_book seat [] m = refl
-taken_book seat (w ∷ ws) m = refl
+taken_book seat ws m = grind (arith, common_steps, nat_tests)
 
 admit_grows : (m : Machine) (seat : ℕ) (op : Op) (outcome : Outcome) → Grows seat m (admit m seat op outcome).state
 admit_grows m seat op outcome =
@@ -125,8 +92,7 @@ admit_grows m seat op outcome =
     (by (nat_lt (charge_limit m.gears.sizes (is_del op)) (charge m + total_weight (writes_of op))))
   where
     lost : (faults : ℕ) (b : Bool) → (stop (Faulted faults) (cond b m (deep_swapped m))).book ≡ m.book
-    lost faults true = refl
-    lost faults false = deep_swapped_book m
+    lost faults b = grind (arith, common_steps, nat_tests)
 
     failed : (commits faults : ℕ) (b : Bool)
         → Grows seat m (cond b (replied seat op FaultLost (stop (Faulted faults) (cond (commits == 0) m (deep_swapped m)))) (replied seat op FaultUnsure (stop (Faulted faults) (ready_for (total_weight (writes_of op)) m)))).state
@@ -179,25 +145,13 @@ next_grows m seat n Well (Some rows) = noted_grows seat (Next n) (Rows (take n r
 next_grows m seat n NoRoom (Some rows) = noted_grows seat (Next n) (Rows (take n rows)) m (holding seat (Some (drop n rows)) m) refl
 
 pub turn_book : (c : Choice) (outcome : Outcome) (seat : ℕ) (m : Machine) → (do_turn c outcome seat m).state.book ≡ m.book
-turn_book c (FailedAfter commits faults) seat m = refl
-turn_book c (Broken page) seat m = refl
-turn_book c Well seat m = chosen_book c seat m
-turn_book c NoRoom seat m = chosen_book c seat m
+turn_book c outcome seat m = grind (arith, common_steps, nat_tests)
 
 work_book : (m : Machine) (seat : ℕ) (outcome : Outcome) → (work_turning m.stopped m seat outcome).state.book ≡ m.book
-work_book m seat outcome = by m.stopped
-  where
-    by : (o : Option Why) → (work_turning o m seat outcome).state.book ≡ m.book
-    by (Some cause) = refl
-    by None = turn_book (choice (not (memory_weight m.lists == 0)) (not (entries_weight m.lists.c1 == 0)) m) outcome seat m
+work_book m seat outcome = grind (arith, common_steps, nat_tests, turn_book)
 
 worker_book : (m : Machine) (seat : ℕ) (outcome : Outcome) → (worker_turning m.stopped (is_closed m) m seat outcome).state.book ≡ m.book
-worker_book m seat outcome = by m.stopped (is_closed m)
-  where
-    by : (o : Option Why) (b : Bool) → (worker_turning o b m seat outcome).state.book ≡ m.book
-    by (Some cause) b = refl
-    by None true = refl
-    by None false = turn_book (choice (nat_lt m.gears.sizes.low m.spring) false m) outcome seat m
+worker_book m seat outcome = grind (arith, common_steps, nat_tests)
 
 pub step_grows : (m : Machine) (seat : ℕ) (k : Kind) (outcome : Outcome) → Grows seat m (stepped_as m seat k outcome).state
 step_grows m seat (kind.Admit op) outcome = admit_grows m seat op outcome
@@ -218,17 +172,10 @@ step_grows m seat kind.Leave outcome = inl (refl, refl)
 -- ---- room
 
 lowered : (xs : List ℕ) (seat : ℕ) → 0 < slice_index xs seat → sum (slice_set xs seat (slice_index xs seat - 1)) + 1 ≡ sum xs
-lowered xs seat some = by (nat_lt seat (length xs)) refl
-  where
-    by : (b : Bool) → nat_lt seat (length xs) ≡ b → sum (slice_set xs seat (slice_index xs seat - 1)) + 1 ≡ sum xs
-    by true there = omega (arith, some, sum_by-set (λ n. n) xs seat (slice_index xs seat - 1) 0 (ltb-true seat (length xs) there))
-    by false past = absurd (omega (arith, some, get_or_past xs seat 0 (ltb-false seat (length xs) past)))
+lowered xs seat some = grind (arith, common_steps, nat_tests)
 
 grown : (seat : ℕ) (m n : Machine) → 0 < slice_index m.book.room.entries seat → Grows seat m n → length n.book.entries + sum n.book.room.entries ≡ length m.book.entries + sum m.book.room.entries
-grown seat m n some (inl same) = omega (arith, ap (λ (es : List Entry). length es) same.0, ap (λ (r : Room). sum r.entries) same.1)
-grown seat m n some (inr noted) =
-    let here : 0 < slice_index m.book.room.entries noted.0.seat = subst (λ s. 0 < slice_index m.book.room.entries s) (sym noted.1) some in
-    omega (arith, ap (λ (es : List Entry). length es) noted.2, length-append m.book.entries (noted.0 ∷ []), ap (λ (r : Room). sum r.entries) noted.3, lowered m.book.room.entries noted.0.seat here)
+grown seat m n h1 h2 = grind (arith, common_steps, nat_tests)
 
 kept : (m n : Machine) → Keeps m n → length n.book.entries + sum n.book.room.entries ≡ length m.book.entries + sum m.book.room.entries
 kept m n same = omega (arith, ap (λ (es : List Entry). length es) same.0, ap (λ (r : Room). sum r.entries) same.1)

@@ -1,5 +1,8 @@
 -- What the moves of the merges keep: the order of the lists, and the value of every key.
 use Rattle.std.proofs.Common.{◌≡◌, ℕ, true, [], Some, None, Option, refl, ap, sym, subst, ◌∙◌}
+use Rattle.std.proofs.lemmas.Grind.{common_steps}
+use Rattle.std.proofs.lemmas.Bool.Decides.{nat_tests}
+use Rattle.std.proofs.Common.{arith}
 use Rattle.std.proofs.lemmas.Bool.{false≢true}
 use Rattle.record_delta.specs.declared.record.Rec.{Rec}
 use Rattle.record_delta.specs.Records.{settled}
@@ -8,7 +11,7 @@ use Rattle.tree_machine.specs.Merges.{Merge, quantum_of}
 use Rattle.tree_machine.specs.Layers.{IsBehind, IsPassOver, IsDeepOver, AreLayered, as_base, as_it_is, Keeps}
 use Rattle.tree_machine.specs.Machine.{Machine, pass_is_done, deep_is_done, pass_done, deep_done}
 use Rattle.tree_machine.specs.Moves.{begin_pass, rotate, swap_deep, end_pass, output_of, pass_quantum, deep_quantum, pass_quantum_of, deep_quantum_of}
-use Rattle.tree_machine.proofs.FoldLemmas.{over_any_assoc, settled_over_base}
+use Rattle.tree_machine.proofs.FoldLemmas.{over_any_assoc}
 use Rattle.tree_machine.proofs.MergeLemmas.{still_behind, written_as_it_is, written_as_base, groups_sorted, groups_ahead, quantum_keeps, done_folds}
 
 -- ---- what a key has in five lists
@@ -23,13 +26,7 @@ five_pass b a c1 c1x c2 = ap (over_any b) (over_any_assoc a c1 (over_any c1x c2)
 
 -- a deep merge: C1' and C2 give place to the bases of their values
 five_deep : (b a c1 c1x c2 : Option Rec) → settled (five b a c1 None (as_base (over_any c1x c2))) ≡ settled (five b a c1 c1x c2)
-five_deep b a c1 c1x c2 =
-    ap settled (sym (three b a c1 (as_base (over_any c1x c2))))
-    ∙ settled_over_base (over_any b (over_any a c1)) (over_any c1x c2)
-    ∙ ap settled (three b a c1 (over_any c1x c2))
-  where
-    three : (b a c1 rest : Option Rec) → over_any (over_any b (over_any a c1)) rest ≡ over_any b (over_any a (over_any c1 rest))
-    three b a c1 rest = over_any_assoc b (over_any a c1) rest ∙ ap (over_any b) (over_any_assoc a c1 rest)
+five_deep b a c1 c1x c2 = grind (arith, common_steps, nat_tests)
 
 -- ---- begins
 

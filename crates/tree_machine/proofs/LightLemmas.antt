@@ -1,5 +1,7 @@
 -- The records of the lists are within the format's lengths, so none weighs more than the heaviest entry.
-use Rattle.std.proofs.Common.{◌≡◌, ℕ, List, length, ◌^◌, ◌<◌, ◌-◌, ◌≤◌, Bool, cond, true, false, [], ◌∷◌, ◌++◌, Some, refl, sym, subst, arith}
+use Rattle.std.proofs.Common.{◌≡◌, ℕ, length, ◌^◌, ◌<◌, ◌-◌, ◌≤◌, Bool, cond, true, false, [], ◌∷◌, ◌++◌, Some, refl, sym, subst, arith}
+use Rattle.std.proofs.lemmas.Grind.{common_steps}
+use Rattle.std.proofs.lemmas.Bool.Decides.{nat_tests}
 use Rattle.std.specs.Prelude.{nat_lt}
 use Rattle.std.specs.List.{AllByRecursion}
 use Rattle.std.specs.Ordering.{eq_by_cmp}
@@ -10,7 +12,6 @@ use Rattle.std.specs.FinMap.Entries.{by_order}
 use Rattle.blsm_model.specs.Format.{most_key, most_text, most_weight}
 use Rattle.blsm_model.specs.declared.key.Key.{Key}
 use Rattle.blsm_model.specs.declared.op.Write.{Write}
-use Rattle.blsm_model.specs.declared.op.Write.TheVariants.{Put, Add, Tail, Del}
 use Rattle.blsm_model.specs.Tails.{TailFits}
 use Rattle.blsm_model.specs.Keys.{key_cmp}
 use Rattle.blsm_model.specs.Values.{added_count, key_of, text_written, weight_of}
@@ -28,7 +29,7 @@ use Rattle.tree_machine.specs.Layers.{AreLight, AllLight}
 use Rattle.tree_machine.specs.Stands.{FitsFormat}
 use Rattle.tree_machine.proofs.FoldLemmas.{tied, equal_of}
 use Rattle.tree_machine.proofs.QuantumLemmas.{all_ahead}
-use Rattle.tree_machine.proofs.WeightLemmas.{text_of_record, weight_of_record}
+use Rattle.tree_machine.proofs.WeightLemmas.{weight_of_record}
 
 -- ---- what weights follow
 
@@ -41,10 +42,7 @@ write_is_light write fits = omega (arith, within_is_light (key_of write) (record
 
 -- a write of these lengths fits the format
 text_within : (write : Write) → length (text_written write) ≤ most_text → TailFits write → length (text_of (record_of write)) ≤ text_limit (record_of write)
-text_within (Put key value) text tail = text
-text_within (Add key count) text tail = omega arith
-text_within (Tail key tail) text is = is.1
-text_within (Del key) text tail = omega arith
+text_within write h1 h2 = grind (arith, common_steps, nat_tests)
 
 pub fits_format : (write : Write) → added_count write < 2 ^ 64 → (1 ≤ length (key_of write)) × (length (key_of write) ≤ most_key) → length (text_written write) ≤ most_text → TailFits write → FitsFormat write
 fits_format write count key text tail = record {

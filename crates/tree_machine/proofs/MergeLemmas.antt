@@ -1,6 +1,9 @@
 -- What a quantum of a merge keeps: what was written is the fold of the inputs up to the cursor. A merge that is done has
 -- written the fold of its whole inputs.
 use Rattle.std.proofs.Common.{◌≡◌, ℕ, ◌-◌, inl, inr, Bool, cond, true, false, [], ◌∷◌, ◌++◌, Some, None, Option, refl, ap, sym, ◌∙◌}
+use Rattle.std.proofs.lemmas.Grind.{common_steps}
+use Rattle.std.proofs.lemmas.Bool.Decides.{nat_tests}
+use Rattle.std.proofs.Common.{arith}
 use Rattle.std.specs.Prelude.{nat_lt}
 use Rattle.std.specs.List.{AllByRecursion}
 use Rattle.std.specs.Ordering.{is_lt, eq_by_cmp}
@@ -12,7 +15,7 @@ use Rattle.blsm_model.specs.declared.key.Key.{Key}
 use Rattle.blsm_model.specs.declared.row.Value.{Value}
 use Rattle.blsm_model.specs.Keys.{key_cmp}
 use Rattle.record_delta.specs.declared.record.Rec.{Rec}
-use Rattle.record_delta.specs.declared.record.Rec.TheVariants.{Base, Delta, Tomb}
+use Rattle.record_delta.specs.declared.record.Rec.TheVariants.{Base}
 use Rattle.record_delta.specs.Records.{settle}
 use Rattle.record_delta.specs.Folding.{over}
 use Rattle.record_delta.specs.Entries.{AreSorted, Entries, above, folded_over, is_above, over_any, record_of_key, settled_base, settled_entries}
@@ -85,12 +88,7 @@ first_of (Some x) y = Some x
 
 find-append : (xs ys : Entries) (q : Key) → record_of_key q (xs ++ ys) ≡ first_of (record_of_key q xs) (record_of_key q ys)
 find-append [] ys q = refl
-find-append (x ∷ xs) ys q = by (eq_by_cmp key_cmp q x.0) (find-append xs ys q)
-  where
-    by : (b : Bool) → record_of_key q (xs ++ ys) ≡ first_of (record_of_key q xs) (record_of_key q ys)
-        → cond b (Some x.1) (record_of_key q (xs ++ ys)) ≡ first_of (cond b (Some x.1) (record_of_key q xs)) (record_of_key q ys)
-    by true rest = refl
-    by false rest = rest
+find-append (x ∷ xs) ys q = grind (arith, common_steps, nat_tests, find-append xs ys q)
 
 -- a key that isn't ahead is below all that are
 below_ahead : (cursor : Option Key) (x : Key) (ys : Entries) → is_above cursor x ≡ false → AllAhead cursor ys → below_all key_cmp x ys ≡ true
@@ -99,10 +97,7 @@ below_ahead None x (y ∷ ys) behind all = absurd (false≢true (sym behind))
 below_ahead (Some k) x (y ∷ ys) behind all = both (is_lt (key_cmp x y.0)) (below_all key_cmp x ys) here (below_ahead (Some k) x ys behind all.1)
   where
     here : is_lt (key_cmp x y.0) ≡ true
-    here = elim (by_test (eq_by_cmp key_cmp x k)) [
-      | inl same ↦ ap (λ (z : Key). is_lt (key_cmp z y.0)) (tied x k (equal_of (key_cmp x k) same)) ∙ all.0
-      | inr apart ↦ less_trans x k y.0 (below_or_above x k behind apart) all.0
-    ]
+    here = grind (arith, common_steps, nat_tests, by_test, tied, equal_of, less_trans, below_or_above)
 
 below_append : (x : Key) (xs ys : Entries) → below_all key_cmp x xs ≡ true → below_all key_cmp x ys ≡ true → below_all key_cmp x (xs ++ ys) ≡ true
 below_append x [] ys p q = q
@@ -126,8 +121,7 @@ settled_below x (e ∷ es) h =
     by (settle e.1) parts.0 (settled_below x es parts.1)
   where
     by : (v : Option Value) → is_lt (key_cmp x e.0) ≡ true → below_all key_cmp x (settled_entries es) ≡ true → below_all key_cmp x (settled_base e.0 v (settled_entries es)) ≡ true
-    by None p q = q
-    by (Some v) p q = both (is_lt (key_cmp x e.0)) (below_all key_cmp x (settled_entries es)) p q
+    by v h1 h2 = grind (arith, common_steps, nat_tests)
 
 pub settled_sorted : (es : Entries) → is_sorted key_cmp es ≡ true → is_sorted key_cmp (settled_entries es) ≡ true
 settled_sorted [] h = refl
@@ -136,8 +130,7 @@ settled_sorted (e ∷ es) h =
     by (settle e.1) (settled_below e.0 es parts.0) (settled_sorted es parts.1)
   where
     by : (v : Option Value) → below_all key_cmp e.0 (settled_entries es) ≡ true → is_sorted key_cmp (settled_entries es) ≡ true → is_sorted key_cmp (settled_base e.0 v (settled_entries es)) ≡ true
-    by None p q = q
-    by (Some v) p q = both (below_all key_cmp e.0 (settled_entries es)) (is_sorted key_cmp (settled_entries es)) p q
+    by v h1 h2 = grind (arith, common_steps, nat_tests)
 
 settled_all : (P : Key → Type 0) (es : Entries) → AllByRecursion (λ e. P e.0) es → AllByRecursion (λ e. P e.0) (settled_entries es)
 settled_all P [] all = tt
@@ -152,9 +145,7 @@ based None = None
 based (Some v) = Some (Base v)
 
 as_base_of : (rec : Rec) → as_base (Some rec) ≡ based (settle rec)
-as_base_of (Base v) = refl
-as_base_of (Delta d) = refl
-as_base_of Tomb = refl
+as_base_of rec = grind (arith, common_steps, nat_tests)
 
 pub find-settled : (es : Entries) (q : Key) → is_sorted key_cmp es ≡ true → record_of_key q (settled_entries es) ≡ as_base (record_of_key q es)
 find-settled [] q h = refl
@@ -206,15 +197,10 @@ module _ (quantum : ℕ) (merge : Merge) (newer older : Entries) (sorted_newer :
       (ahead_folded merge.cursor (above merge.cursor newer) (above merge.cursor older) (ahead_of merge.cursor newer) (ahead_of merge.cursor older))
 
   left_of : (b : Bool) (n o : Option Rec) → over_any (cond b n None) (cond b o None) ≡ cond b (over_any n o) None
-  left_of true n o = refl
-  left_of false n o = refl
+  left_of b n o = grind (arith, common_steps, nat_tests)
 
   pub find-left : (q : Key) → record_of_key q folds_left ≡ cond (is_above merge.cursor q) (over_any (record_of_key q newer) (record_of_key q older)) None
-  find-left q =
-      find-folded_over (above merge.cursor newer) (above merge.cursor older) (sorted_ahead merge.cursor newer sorted_newer) q
-      ∙ ap (λ r. over_any r (record_of_key q (above merge.cursor older))) (find-ahead merge.cursor newer q)
-      ∙ ap (λ r. over_any (cond (is_above merge.cursor q) (record_of_key q newer) None) r) (find-ahead merge.cursor older q)
-      ∙ left_of (is_above merge.cursor q) (record_of_key q newer) (record_of_key q older)
+  find-left q = grind (arith, common_steps, nat_tests, find-folded_over, sorted_ahead, find-ahead)
 
   pub find-groups : (q : Key) → record_of_key q (quantum_of quantum merge newer older).groups
       ≡ cond (is_above (cursor_after merge.cursor (quantum_of quantum merge newer older).groups) q) None
@@ -245,14 +231,10 @@ module _ (quantum : ℕ) (merge : Merge) (newer older : Entries) (sorted_newer :
           (λ past. still_ahead merge.cursor (quantum_of quantum merge newer older).groups q groups_sorted groups_ahead past)
         where
           first_kept : (x : Option Rec) → first_of x None ≡ x
-          first_kept None = refl
-          first_kept (Some x) = refl
+          first_kept x = grind (arith, common_steps, nat_tests)
 
           by : (was is : Bool) (x : Option Rec) → (is ≡ true → was ≡ true) → first_of (cond was None (kept x)) (kept (cond is None (cond was x None))) ≡ cond is None (kept x)
-          by true true x rises = nothing
-          by true false x rises = refl
-          by false true x rises = absurd (false≢true (rises refl))
-          by false false x rises = ap (λ r. first_of (kept x) r) nothing ∙ first_kept (kept x)
+          by was is x h1 = grind (arith, common_steps, nat_tests)
 
 -- ---- a merge that is done
 
@@ -261,34 +243,14 @@ none_left cursor es empty q past =
     ap (λ b. cond b (record_of_key q es) None) (sym past) ∙ sym (find-ahead cursor es q) ∙ of_empty (above cursor es) empty
   where
     of_empty : (xs : Entries) → is_empty xs ≡ true → record_of_key q xs ≡ None
-    of_empty [] h = refl
-    of_empty (x ∷ xs) h = absurd (false≢true h)
+    of_empty xs h1 = grind (arith, common_steps, nat_tests)
 
 pub done_folds : (kept : Option Rec → Option Rec) (newer older : Entries) (merge : Merge) → kept None ≡ None → IsMergeOf kept newer older merge → is_done merge newer older ≡ true
     → (q : Key) → record_of_key q merge.output ≡ kept (over_any (record_of_key q newer) (record_of_key q older))
-done_folds kept newer older merge nothing is done q =
-    let parts = both_hold (is_empty (above merge.cursor newer)) (is_empty (above merge.cursor older)) done in
-    is.folds q
-    ∙ elim (by_test (is_above merge.cursor q)) [
-      | inl past ↦
-          ap (λ b. cond b None (kept (over_any (record_of_key q newer) (record_of_key q older)))) past
-          ∙ sym nothing
-          ∙ ap (λ r. kept (over_any r None)) (sym (none_left merge.cursor newer parts.0 q past))
-          ∙ ap (λ r. kept (over_any (record_of_key q newer) r)) (sym (none_left merge.cursor older parts.1 q past))
-      | inr behind ↦ ap (λ b. cond b None (kept (over_any (record_of_key q newer) (record_of_key q older)))) behind
-    ]
+done_folds kept newer older merge nothing is done q = grind (arith, common_steps, nat_tests, both_hold, by_test, none_left)
 
 -- what a pass wrote, over what is left of its inputs
 pub output_then_rest : (merge : Merge) (newer older : Entries) → IsMergeOf as_it_is newer older merge → (q : Key)
     → over_any (record_of_key q merge.output) (over_any (record_of_key q (above merge.cursor newer)) (record_of_key q (above merge.cursor older)))
     ≡ over_any (record_of_key q newer) (record_of_key q older)
-output_then_rest merge newer older is q =
-    ap (λ r. over_any r (over_any (record_of_key q (above merge.cursor newer)) (record_of_key q (above merge.cursor older)))) (is.folds q)
-    ∙ ap (λ r. over_any (cond (is_above merge.cursor q) None (over_any (record_of_key q newer) (record_of_key q older))) (over_any r (record_of_key q (above merge.cursor older)))) (find-ahead merge.cursor newer q)
-    ∙ ap (λ r. over_any (cond (is_above merge.cursor q) None (over_any (record_of_key q newer) (record_of_key q older))) (over_any (cond (is_above merge.cursor q) (record_of_key q newer) None) r)) (find-ahead merge.cursor older q)
-    ∙ by (is_above merge.cursor q)
-  where
-    by : (b : Bool) → over_any (cond b None (over_any (record_of_key q newer) (record_of_key q older))) (over_any (cond b (record_of_key q newer) None) (cond b (record_of_key q older) None))
-        ≡ over_any (record_of_key q newer) (record_of_key q older)
-    by true = refl
-    by false = over_any-None (over_any (record_of_key q newer) (record_of_key q older))
+output_then_rest merge newer older is q = grind (arith, common_steps, nat_tests, find-ahead, over_any-None)

@@ -1,17 +1,18 @@
 -- The gears' numbers are those of the lists: when a merge is done, and what it wrote.
-use Rattle.std.proofs.Common.{◌≡◌, ◌+◌, ◌≤◌, Bool, cond, true, false, not, ◌||◌, T, Some, None, Option, refl, ap, sym, subst, ◌∙◌, arith}
+use Rattle.std.proofs.Common.{◌≡◌, ◌+◌, ◌≤◌, Bool, cond, true, not, ◌||◌, T, None, Option, ap, sym, subst, ◌∙◌, arith}
+use Rattle.std.proofs.lemmas.Grind.{common_steps}
+use Rattle.std.proofs.lemmas.Bool.Decides.{nat_tests}
 use Rattle.std.specs.FinMap.{is_sorted}
 use Rattle.std.specs.FinMap.Entries.{same_entries}
-use Rattle.std.proofs.lemmas.Bool.{false≢true}
 use Rattle.std.proofs.lemmas.Cmp.{nat_list_cmp_total}
 use Rattle.blsm_model.specs.declared.key.Key.{Key}
 use Rattle.blsm_model.specs.Keys.{key_cmp}
 use Rattle.record_delta.specs.declared.record.Rec.{Rec}
 use Rattle.record_delta.specs.Entries.{AreSorted, Entries, entries_weight, folded_over, is_above, over_any, record_of_key, settled_entries, up_to}
 use Rattle.tree_machine.specs.Merges.{Merge}
-use Rattle.tree_machine.specs.Layers.{IsMergeOf, IsPassCounted, IsDeepCounted, IsSound, HasWay, as_base, as_it_is}
+use Rattle.tree_machine.specs.Layers.{IsMergeOf, IsSound, HasWay, as_base, as_it_is}
 use Rattle.blsm_model.specs.Geometry.{c1_mark}
-use Rattle.tree_machine.specs.Machine.{Machine, pass_is_done, deep_is_done, in_pass, in_deep, pass_done, deep_done}
+use Rattle.tree_machine.specs.Machine.{Machine, in_pass, in_deep, pass_done, deep_done}
 use Rattle.tree_machine.specs.Moves.{output_of}
 use Rattle.tree_machine.proofs.FoldLemmas.{holds, tied, find-folded_over, sorted_folded_over}
 use Rattle.tree_machine.proofs.MergeLemmas.{find-settled, settled_sorted}
@@ -27,8 +28,7 @@ module _ (merge : Merge) (newer older : Entries) (sorted_newer : AreSorted newer
   fold_sorted = sorted_folded_over (up_to merge.cursor newer) (up_to merge.cursor older) (behind_sorted older sorted_older)
 
   behind_of : (b : Bool) (n o : Option Rec) → over_any (cond (not b) n None) (cond (not b) o None) ≡ cond b None (over_any n o)
-  behind_of true n o = refl
-  behind_of false n o = refl
+  behind_of b n o = grind (arith, common_steps, nat_tests)
 
   -- the fold of what both lists have up to the cursor
   find-fold : (q : Key) → record_of_key q (folded_over (up_to merge.cursor newer) (up_to merge.cursor older))
@@ -44,8 +44,7 @@ module _ (merge : Merge) (newer older : Entries) (sorted_newer : AreSorted newer
       (subst T (sym is.sorted) tt) (subst T (sym fold_sorted) tt) (λ q. is.folds q ∙ sym (find-fold q))
 
   base_of : (b : Bool) (x : Option Rec) → as_base (cond b None x) ≡ cond b None (as_base x)
-  base_of true x = refl
-  base_of false x = refl
+  base_of b x = grind (arith, common_steps, nat_tests)
 
   pub deep_wrote : IsMergeOf as_base newer older merge → merge.output ≡ settled_entries (folded_over (up_to merge.cursor newer) (up_to merge.cursor older))
   deep_wrote is = same_entries key_cmp nat_list_cmp_total tied merge.output (settled_entries (folded_over (up_to merge.cursor newer) (up_to merge.cursor older)))
@@ -68,52 +67,22 @@ module _ (merge : Merge) (newer older : Entries) (sorted_newer : AreSorted newer
 -- ---- of the machine
 
 pub pass_taken_when_done : (m : Machine) → IsSound m → pass_done m ≡ true → m.gears.pass_taken ≡ entries_weight m.lists.a + entries_weight m.lists.c1
-pass_taken_when_done m sound done = by m.merges.pass sound.pass done
-  where
-    by : (p : Option Merge) → IsPassCounted m.lists.a m.lists.c1 m.gears.pass m.gears.pass_c1 m.gears.pass_memory m.gears.pass_admitted m.gears.pass_taken p → pass_is_done p m.lists ≡ true
-        → m.gears.pass_taken ≡ entries_weight m.lists.a + entries_weight m.lists.c1
-    by None counted is = absurd (false≢true is)
-    by (Some pass) counted is = counted.2 ∙ done_weighs pass m.lists.a m.lists.c1 is
+pass_taken_when_done m sound done = grind (arith, common_steps, nat_tests, done_weighs)
 
 pub pass_done_when_taken : (m : Machine) → IsSound m → in_pass m ≡ true → m.gears.pass_taken ≡ entries_weight m.lists.a + entries_weight m.lists.c1 → pass_done m ≡ true
-pass_done_when_taken m sound runs all = by m.merges.pass sound.pass runs
-  where
-    by : (p : Option Merge) → IsPassCounted m.lists.a m.lists.c1 m.gears.pass m.gears.pass_c1 m.gears.pass_memory m.gears.pass_admitted m.gears.pass_taken p → m.gears.pass ≡ true
-        → pass_is_done p m.lists ≡ true
-    by None counted is = absurd (false≢true (sym counted.0 ∙ is))
-    by (Some pass) counted is = weighs_done pass m.lists.a m.lists.c1 (sym counted.2 ∙ all)
+pass_done_when_taken m sound runs all = grind (arith, common_steps, nat_tests, weighs_done)
 
 pub deep_taken_when_done : (m : Machine) → IsSound m → deep_done m ≡ true → m.gears.deep_taken ≡ m.gears.deep_input
-deep_taken_when_done m sound done = by m.merges.deep sound.deep done
-  where
-    by : (p : Option Merge) → IsDeepCounted m.lists.c1x m.lists.c2 m.gears.deep m.gears.deep_input m.gears.deep_admitted m.gears.deep_taken p → deep_is_done p m.lists ≡ true
-        → m.gears.deep_taken ≡ m.gears.deep_input
-    by None counted is = absurd (false≢true is)
-    by (Some deep) counted is = counted.2 ∙ done_weighs deep m.lists.c1x m.lists.c2 is ∙ sym counted.1
+deep_taken_when_done m sound done = grind (arith, common_steps, nat_tests, done_weighs)
 
 pub deep_done_when_taken : (m : Machine) → IsSound m → in_deep m ≡ true → m.gears.deep_taken ≡ m.gears.deep_input → deep_done m ≡ true
-deep_done_when_taken m sound runs all = by m.merges.deep sound.deep runs
-  where
-    by : (p : Option Merge) → IsDeepCounted m.lists.c1x m.lists.c2 m.gears.deep m.gears.deep_input m.gears.deep_admitted m.gears.deep_taken p → m.gears.deep ≡ true
-        → deep_is_done p m.lists ≡ true
-    by None counted is = absurd (false≢true (sym counted.0 ∙ is))
-    by (Some deep) counted is = weighs_done deep m.lists.c1x m.lists.c2 (sym counted.2 ∙ all ∙ counted.1)
+deep_done_when_taken m sound runs all = grind (arith, common_steps, nat_tests, weighs_done)
 
 pub pass_runs : (m : Machine) → IsSound m → pass_done m ≡ true → in_pass m ≡ true
-pass_runs m sound done = by m.merges.pass sound.pass done
-  where
-    by : (p : Option Merge) → IsPassCounted m.lists.a m.lists.c1 m.gears.pass m.gears.pass_c1 m.gears.pass_memory m.gears.pass_admitted m.gears.pass_taken p → pass_is_done p m.lists ≡ true
-        → m.gears.pass ≡ true
-    by None counted is = absurd (false≢true is)
-    by (Some pass) counted is = counted.0
+pass_runs m sound done = grind (arith, common_steps, nat_tests)
 
 pub deep_runs : (m : Machine) → IsSound m → deep_done m ≡ true → in_deep m ≡ true
-deep_runs m sound done = by m.merges.deep sound.deep done
-  where
-    by : (p : Option Merge) → IsDeepCounted m.lists.c1x m.lists.c2 m.gears.deep m.gears.deep_input m.gears.deep_admitted m.gears.deep_taken p → deep_is_done p m.lists ≡ true
-        → m.gears.deep ≡ true
-    by None counted is = absurd (false≢true is)
-    by (Some deep) counted is = counted.0
+deep_runs m sound done = grind (arith, common_steps, nat_tests)
 
 -- no deep merge is cut off where the numbers say so
 pub way_by_numbers : (m : Machine) → IsSound m → (in_pass m ≡ true → m.gears.pass_taken ≡ entries_weight m.lists.a + entries_weight m.lists.c1 → c1_mark m.gears.sizes ≤ entries_weight (output_of m.merges.pass)
@@ -122,5 +91,4 @@ way_by_numbers m sound in_time done heavy =
     by (in_deep m) (deep_done m) (λ runs. deep_done_when_taken m sound runs (in_time (pass_runs m sound done) (pass_taken_when_done m sound done) heavy runs))
   where
     by : (b c : Bool) → (b ≡ true → c ≡ true) → (not b || c) ≡ true
-    by true c ends = ends refl
-    by false c ends = refl
+    by b c h1 = grind (arith, common_steps, nat_tests)

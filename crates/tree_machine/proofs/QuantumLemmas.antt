@@ -1,15 +1,15 @@
 -- What a quantum weighs: it is what the lists have between the two cursors; at least what was wanted, or all that was left; and
 -- less than what was wanted and one group.
-use Rattle.std.proofs.Common.{◌≡◌, ℕ, ◌+◌, ◌-◌, ◌*◌, ◌<◌, ◌≤◌, ◌⊎◌, inl, inr, Bool, cond, true, false, not, [], ◌∷◌, Some, None, Option, refl, ap, sym, subst, ◌∙◌, arith}
+use Rattle.std.proofs.Common.{◌≡◌, ℕ, ◌+◌, ◌-◌, ◌*◌, ◌≤◌, ◌⊎◌, inl, inr, Bool, cond, true, false, not, [], ◌∷◌, Some, None, Option, refl, ap, sym, subst, ◌∙◌, arith}
+use Rattle.std.proofs.lemmas.Grind.{common_steps}
+use Rattle.std.proofs.lemmas.Bool.Decides.{nat_tests}
 use Rattle.std.specs.Prelude.{nat_lt, is_some, sum_by}
 use Rattle.std.specs.List.{AllByRecursion}
 use Rattle.std.specs.Ordering.{is_eq, eq_by_cmp, ordering_reverse}
 use Rattle.std.specs.declared.cmp.Ordering.{Ordering}
-use Rattle.std.specs.declared.cmp.Ordering.TheVariants.{Less, Equal, Greater}
 use Rattle.std.specs.Cmp.{tied_itself}
 use Rattle.std.specs.FinMap.{is_sorted}
 use Rattle.std.specs.FinMap.Entries.{below_all}
-use Rattle.std.proofs.lemmas.Bool.{false≢true, ltb-true, ltb-false}
 use Rattle.std.proofs.lemmas.Cmp.{nat_list_cmp_total}
 use Rattle.std.proofs.lemmas.List.Sums.{sum_by-cons}
 use Rattle.blsm_model.specs.declared.key.Key.{Key}
@@ -21,39 +21,18 @@ use Rattle.tree_machine.specs.Merges.{Merge, is_empty, is_done, until, weight_of
 use Rattle.tree_machine.proofs.FoldLemmas.{both_hold, both, tied, equal_of, below_none, find-folded_over}
 use Rattle.tree_machine.proofs.CursorLemmas.{sorted_ahead, still_ahead, find-until}
 use Rattle.tree_machine.proofs.MergeLemmas.{left_sorted, groups_sorted, groups_ahead}
-use Rattle.tree_machine.proofs.WeightLemmas.{weigh_first}
 
 -- ---- the parts of a list
 
 pub weight_parts : (cursor : Option Key) (es : Entries) → entries_weight (up_to cursor es) + entries_weight (above cursor es) ≡ entries_weight es
 weight_parts cursor [] = refl
-weight_parts cursor (e ∷ es) = by (is_above cursor e.0) (weight_parts cursor es)
-  where
-    by : (b : Bool) → entries_weight (up_to cursor es) + entries_weight (above cursor es) ≡ entries_weight es
-        → entries_weight (cond (not b) (e ∷ up_to cursor es) (up_to cursor es)) + entries_weight (cond b (e ∷ above cursor es) (above cursor es)) ≡ entries_weight (e ∷ es)
-    by true rest = omega (arith, rest, weigh_first e (above cursor es), weigh_first e es)
-    by false rest = omega (arith, rest, weigh_first e (up_to cursor es), weigh_first e es)
+weight_parts cursor (e ∷ es) = grind (arith, common_steps, nat_tests, weight_parts cursor es)
 
 -- what is behind a later cursor: what was behind the earlier one, and what lies between
 weight_between : (cursor later : Option Key) (es : Entries) → ((key : Key) → is_above later key ≡ true → is_above cursor key ≡ true)
     → entries_weight (up_to later es) ≡ entries_weight (up_to cursor es) + entries_weight (up_to later (above cursor es))
 weight_between cursor later [] rises = refl
-weight_between cursor later (e ∷ es) rises = by (is_above cursor e.0) (is_above later e.0) refl (rises e.0) (weight_between cursor later es rises)
-  where
-    by : (b c : Bool) → is_above later e.0 ≡ c → (c ≡ true → b ≡ true) → entries_weight (up_to later es) ≡ entries_weight (up_to cursor es) + entries_weight (up_to later (above cursor es))
-        → entries_weight (cond (not c) (e ∷ up_to later es) (up_to later es))
-        ≡ entries_weight (cond (not b) (e ∷ up_to cursor es) (up_to cursor es)) + entries_weight (up_to later (cond b (e ∷ above cursor es) (above cursor es)))
-    by true true is up rest = omega (arith, rest, ap (λ d. entries_weight (cond (not d) (e ∷ up_to later (above cursor es)) (up_to later (above cursor es)))) is)
-    by true false is up rest =
-        omega (
-          arith,
-          rest,
-          ap (λ d. entries_weight (cond (not d) (e ∷ up_to later (above cursor es)) (up_to later (above cursor es)))) is,
-          weigh_first e (up_to later es),
-          weigh_first e (up_to later (above cursor es)),
-        )
-    by false true is up rest = absurd (false≢true (up refl))
-    by false false is up rest = omega (arith, rest, weigh_first e (up_to later es), weigh_first e (up_to cursor es))
+weight_between cursor later (e ∷ es) rises = grind (arith, common_steps, nat_tests, weight_between cursor later es rises)
 
 -- ---- the weight that groups take of a list
 
@@ -61,9 +40,7 @@ abbrev taken_of : Entries → Entries → ℕ
 taken_of groups es = sum_by (λ g. weight_of_any g.0 (record_of_key g.0 es)) groups
 
 turned_eq : (o : Ordering) → is_eq (ordering_reverse o) ≡ is_eq o
-turned_eq Less = refl
-turned_eq Equal = refl
-turned_eq Greater = refl
+turned_eq o = grind (arith, common_steps, nat_tests)
 
 eq_turned : (a b : Key) → eq_by_cmp key_cmp a b ≡ eq_by_cmp key_cmp b a
 eq_turned a b = ap is_eq (nat_list_cmp_total.antisymm a b) ∙ turned_eq (key_cmp b a)
@@ -113,24 +90,18 @@ taken_behind cursor groups (e ∷ es) sorted rise has =
   where
     by : (b : Bool) → is_some (record_of_key e.0 groups) ≡ b → taken_of groups (e ∷ es) ≡ taken_of groups es + cond (is_some (record_of_key e.0 groups)) (weight e.0 e.1) 0
         → taken_of groups es ≡ entries_weight (up_to cursor es) → taken_of groups (e ∷ es) ≡ entries_weight (cond b (e ∷ up_to cursor es) (up_to cursor es))
-    by true is more rest = omega (arith, rest, more, ap (λ c. cond c (weight e.0 e.1) 0) is, weigh_first e (up_to cursor es))
-    by false is more rest = omega (arith, rest, more, ap (λ c. cond c (weight e.0 e.1) 0) is)
+    by b h1 h2 h3 = grind (arith, common_steps, nat_tests)
 
 -- ---- a quantum has all the groups up to its cursor
 
 some_is_some : (o p : Option Rec) → is_some o ≡ true → is_some (over_any o p) ≡ true
-some_is_some (Some x) p is = refl
-some_is_some None p is = absurd (false≢true is)
+some_is_some o p h1 = grind (arith, common_steps, nat_tests)
 
 some_is_some_too : (o p : Option Rec) → is_some p ≡ true → is_some (over_any o p) ≡ true
-some_is_some_too (Some x) p is = refl
-some_is_some_too None p is = is
+some_is_some_too o p h1 = grind (arith, common_steps, nat_tests)
 
 some_of : (b c : Bool) (o : Option Rec) → is_some o ≡ true → b ≡ c → is_some (cond b None o) ≡ not c
-some_of true true o is e = refl
-some_of true false o is e = absurd (false≢true (sym e))
-some_of false true o is e = absurd (false≢true e)
-some_of false false o is e = is
+some_of b c o h1 h2 = grind (arith, common_steps, nat_tests)
 
 -- each entry of a list is found in it
 all_found : (es : Entries) → AllByRecursion (λ e. is_some (record_of_key e.0 es) ≡ true) es
@@ -144,8 +115,7 @@ all_found es = at es (λ q found. found)
     )
       where
         later : (b : Bool) (q : Key) → is_some (record_of_key q part) ≡ true → is_some (cond b (Some e.1) (record_of_key q part)) ≡ true
-        later true q found = refl
-        later false q found = found
+        later b q h1 = grind (arith, common_steps, nat_tests)
 
 map_all : {P Q : Key × Rec → Type 0} (es : Entries) → ((e : Key × Rec) → P e → Q e) → AllByRecursion P es → AllByRecursion Q es
 map_all [] f all = tt
@@ -218,13 +188,7 @@ quantum_weighs quantum merge newer older sorted_newer sorted_older =
 -- enough, or all that there is
 until_enough : (weigh : Key → ℕ) (wanted : ℕ) (es : Entries) → (wanted ≤ sum_by (λ e. weigh e.0) (until wanted weigh es)) ⊎ (until wanted weigh es ≡ es)
 until_enough weigh wanted [] = inr refl
-until_enough weigh wanted (e ∷ es) = by (nat_lt (weigh e.0) wanted) refl (until_enough weigh (wanted - weigh e.0) es)
-  where
-    by : (b : Bool) → nat_lt (weigh e.0) wanted ≡ b → (wanted - weigh e.0 ≤ sum_by (λ e. weigh e.0) (until (wanted - weigh e.0) weigh es)) ⊎ (until (wanted - weigh e.0) weigh es ≡ es)
-        → (wanted ≤ sum_by (λ e. weigh e.0) (e ∷ cond b (until (wanted - weigh e.0) weigh es) [])) ⊎ (e ∷ cond b (until (wanted - weigh e.0) weigh es) [] ≡ e ∷ es)
-    by true is (inl enough) = inl (omega (arith, enough, sum_by-cons (λ e. weigh e.0) e (until (wanted - weigh e.0) weigh es)))
-    by true is (inr all) = inr (ap (λ l. e ∷ l) all)
-    by false is _ = inl (omega (arith, ltb-false (weigh e.0) wanted is, sum_by-cons (λ e. weigh e.0) e []))
+until_enough weigh wanted (e ∷ es) = grind (arith, common_steps, nat_tests, until_enough weigh (wanted - weigh e.0) es)
 
 -- less than was wanted, and one group
 until_few : (weigh : Key → ℕ) (most wanted : ℕ) (es : Entries) → ((key : Key) → weigh key ≤ most) → 1 ≤ wanted → sum_by (λ e. weigh e.0) (until wanted weigh es) ≤ wanted - 1 + most
@@ -233,11 +197,7 @@ until_few weigh most wanted (e ∷ es) light some = by (nat_lt (weigh e.0) wante
   where
     by : (b : Bool) → nat_lt (weigh e.0) wanted ≡ b → (1 ≤ wanted - weigh e.0 → sum_by (λ e. weigh e.0) (until (wanted - weigh e.0) weigh es) ≤ (wanted - weigh e.0) - 1 + most)
         → sum_by (λ e. weigh e.0) (e ∷ cond b (until (wanted - weigh e.0) weigh es) []) ≤ wanted - 1 + most
-    by true is more =
-        let below : weigh e.0 < wanted = ltb-true (weigh e.0) wanted is in
-        let left : 1 ≤ wanted - weigh e.0 = omega (arith, below) in
-        omega (arith, below, more left, sum_by-cons (λ e. weigh e.0) e (until (wanted - weigh e.0) weigh es))
-    by false is more = omega (arith, light e.0, sum_by-cons (λ e. weigh e.0) e [])
+    by b h1 h2 = grind (arith, common_steps, nat_tests)
 
 -- a record of a list weighs no more than the heaviest
 light_any : (most : ℕ) (es : Entries) → AllByRecursion (λ e. weight e.0 e.1 ≤ most) es → (key : Key) → weight_of_any key (record_of_key key es) ≤ most
@@ -277,20 +237,12 @@ none_past later (e ∷ es) all = ap (λ b. is_empty (cond b (e ∷ above later e
 -- what is ahead of a later cursor
 ahead_twice : (cursor later : Option Key) (es : Entries) → ((key : Key) → is_above later key ≡ true → is_above cursor key ≡ true) → above later (above cursor es) ≡ above later es
 ahead_twice cursor later [] rises = refl
-ahead_twice cursor later (e ∷ es) rises = by (is_above cursor e.0) (is_above later e.0) refl (rises e.0) (ahead_twice cursor later es rises)
-  where
-    by : (b c : Bool) → is_above later e.0 ≡ c → (c ≡ true → b ≡ true) → above later (above cursor es) ≡ above later es
-        → above later (cond b (e ∷ above cursor es) (above cursor es)) ≡ cond c (e ∷ above later es) (above later es)
-    by true true is up rest = ap (λ d. cond d (e ∷ above later (above cursor es)) (above later (above cursor es))) is ∙ ap (λ l. e ∷ l) rest
-    by true false is up rest = ap (λ d. cond d (e ∷ above later (above cursor es)) (above later (above cursor es))) is ∙ rest
-    by false true is up rest = absurd (false≢true (up refl))
-    by false false is up rest = rest
+ahead_twice cursor later (e ∷ es) rises = grind (arith, common_steps, nat_tests, ahead_twice cursor later es rises)
 
 module _ (quantum : ℕ) (merge : Merge) (newer older : Entries) (sorted_newer : AreSorted newer) (sorted_older : AreSorted older) where
   -- a key of what is left has a group, so that it isn't ahead of the cursor behind them all
   reached : (x : Option Rec) (b : Bool) → is_some x ≡ true → x ≡ cond b None x → b ≡ false
-  reached x false is e = refl
-  reached x true is e = absurd (false≢true (sym (ap is_some e) ∙ is))
+  reached x b h1 h2 = grind (arith, common_steps, nat_tests)
 
   pub all_taken : (quantum_of quantum merge newer older).groups ≡ folded_over (above merge.cursor newer) (above merge.cursor older)
       → is_done (moved_on merge (quantum_of quantum merge newer older).groups []) newer older ≡ true
@@ -324,22 +276,16 @@ module _ (quantum : ℕ) (merge : Merge) (newer older : Entries) (sorted_newer :
 -- ---- done
 
 none_light : (es : Entries) → is_empty es ≡ true → entries_weight es ≡ 0
-none_light [] is = refl
-none_light (e ∷ es) is = absurd (false≢true is)
+none_light es h1 = grind (arith, common_steps, nat_tests)
 
 pub light_none : (es : Entries) → entries_weight es ≡ 0 → is_empty es ≡ true
-light_none [] is = refl
-light_none (e ∷ es) is = absurd (omega (arith, is, weigh_first e es))
+light_none es h1 = grind (arith, common_steps, nat_tests)
 
 -- a merge is done just where it has taken the whole weight of its inputs
 pub done_weighs : (merge : Merge) (newer older : Entries) → is_done merge newer older ≡ true
     → entries_weight (up_to merge.cursor newer) + entries_weight (up_to merge.cursor older) ≡ entries_weight newer + entries_weight older
-done_weighs merge newer older done =
-    let parts = both_hold (is_empty (above merge.cursor newer)) (is_empty (above merge.cursor older)) done in
-    omega (arith, weight_parts merge.cursor newer, weight_parts merge.cursor older, none_light (above merge.cursor newer) parts.0, none_light (above merge.cursor older) parts.1)
+done_weighs merge newer older done = grind (arith, common_steps, nat_tests, both_hold, weight_parts, none_light)
 
 pub weighs_done : (merge : Merge) (newer older : Entries) → entries_weight (up_to merge.cursor newer) + entries_weight (up_to merge.cursor older) ≡ entries_weight newer + entries_weight older
     → is_done merge newer older ≡ true
-weighs_done merge newer older same =
-    both _ _ (light_none (above merge.cursor newer) (omega (arith, same, weight_parts merge.cursor newer, weight_parts merge.cursor older)))
-    (light_none (above merge.cursor older) (omega (arith, same, weight_parts merge.cursor newer, weight_parts merge.cursor older)))
+weighs_done merge newer older same = grind (arith, common_steps, nat_tests, both, light_none, weight_parts)

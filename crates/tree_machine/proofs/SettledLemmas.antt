@@ -1,7 +1,9 @@
 -- C2 keeps bases only, and C1' isn't empty while a deep merge runs.
 use Rattle.std.proofs.Common.{◌≡◌, ◌≢◌, ◌<◌, refl, ap, sym, subst, ◌∙◌, ℕ, ◌+◌, Bool, cond, true, false, not, ◌&&◌, ◌||◌, List, [], ◌∷◌, Option, Some, None, arith}
+use Rattle.std.proofs.lemmas.Grind.{common_steps}
+use Rattle.std.proofs.lemmas.Bool.Decides.{nat_tests}
 use Rattle.std.specs.Prelude.{◌==◌, nat_lt, nat_le}
-use Rattle.std.proofs.lemmas.Bool.{false≢true, leb-true, eq-eqb}
+use Rattle.std.proofs.lemmas.Bool.{false≢true, leb-true}
 use Rattle.blsm_model.specs.declared.key.Key.{Key}
 use Rattle.blsm_model.specs.declared.row.Row.{Row}
 use Rattle.blsm_model.specs.declared.row.Value.{Value}
@@ -19,7 +21,7 @@ use Rattle.blsm_model.specs.Histories.{writes_of, answer_to_get, answer_to_relea
 use Rattle.blsm_model.specs.Legal.{total_weight, is_del}
 use Rattle.record_delta.specs.declared.record.Rec.{Rec}
 use Rattle.record_delta.specs.Records.{settle, record_of}
-use Rattle.record_delta.specs.Entries.{Entries, entries_weight, settled_base, settled_entries, folded_over, with_record}
+use Rattle.record_delta.specs.Entries.{Entries, entries_weight, settled_base, settled_entries, folded_over}
 use Rattle.gear_sched.specs.Gears.{plan_for, first_debt, second_debt, deep_is_behind}
 use Rattle.gear_sched.specs.declared.Plan.{Plan}
 use Rattle.gear_sched.specs.declared.Plan.TheVariants.{Snow, Deep, Nothing}
@@ -28,7 +30,7 @@ use Rattle.tree_machine.specs.declared.step.Kind.TheVariants as kind
 use Rattle.tree_machine.specs.Lists.{Lists, memory_weight, value_in}
 use Rattle.tree_machine.specs.Merges.{Merge, is_empty, is_done}
 use Rattle.tree_machine.specs.Machine.{Machine, in_pass, in_deep, pass_done, deep_is_done, deep_done, is_closed, charge, held_by}
-use Rattle.tree_machine.specs.Moves.{begin_pass, rotate, swap_pass, swap_deep, end_pass, output_of, pass_quantum, deep_quantum, pass_quantum_of, deep_quantum_of, goes_to_a, with_write, take_write, with_peak, note, stop}
+use Rattle.tree_machine.specs.Moves.{begin_pass, rotate, swap_pass, swap_deep, end_pass, output_of, pass_quantum, deep_quantum, pass_quantum_of, deep_quantum_of, with_write, take_write, with_peak, note, stop}
 use Rattle.tree_machine.specs.Steps.{Outcome, Well, FailedAfter, Broken, NoRoom, Stepped, SwapDeep, SwapPass, DeepQuantum, PassQuantum, Begin, Rotate, Rest, choice, chosen, replied, unless_stopped, swaps_due, admit, admit_fitting, deep_swapped, swapped, ready_for, taken_once, reply_unless, do_hold, do_next, holding, forgive, pay, pay_running, pay_planned, do_pay, do_turn, work_turning, worker_turning, work_turn, worker_turn}
 use Rattle.tree_machine.specs.Plays.{stepped_as}
 use Rattle.tree_machine.specs.Layers.{IsSound, AreBases, AreSettled, IsDeepOver}
@@ -46,8 +48,7 @@ settled_bases (e ∷ es) = by (settle e.1) (settled_bases es)
 
 -- what weighs something isn't empty
 some_there : (es : Entries) → entries_weight es ≢ 0 → is_empty es ≡ false
-some_there [] some = absurd (some refl)
-some_there (e ∷ es) some = refl
+some_there es h1 = grind (arith, common_steps, nat_tests)
 
 settled_on : (m n : Machine) → n.lists.c2 ≡ m.lists.c2 → n.lists.c1x ≡ m.lists.c1x → in_deep n ≡ in_deep m → AreSettled m → AreSettled n
 settled_on m n c2 c1x deep s = record {
@@ -93,11 +94,7 @@ deep_swapped_settles m sound s = by (deep_done m) refl
     by false is = s
 
 same_sizes : (m : Machine) → (deep_swapped m).gears.sizes ≡ m.gears.sizes
-same_sizes m = by (deep_done m)
-  where
-    by : (b : Bool) → (cond b (swap_deep m) m).gears.sizes ≡ m.gears.sizes
-    by true = refl
-    by false = refl
+same_sizes m = grind (arith, common_steps, nat_tests)
 
 ready_settles : (weight : ℕ) (m : Machine) → IsSound m → 0 < c1_mark m.gears.sizes → AreSettled m → AreSettled (ready_for weight m)
 ready_settles weight m sound mark s =
@@ -115,17 +112,7 @@ ready_settles weight m sound mark s =
 -- ---- an admission
 
 write_keeps : (pass : Option Merge) (key : Key) (rec : Rec) (lists : Lists) → ((with_write pass key rec lists).c2 ≡ lists.c2) × ((with_write pass key rec lists).c1x ≡ lists.c1x)
-write_keeps pass key rec lists = by (goes_to_a pass key)
-  where
-    to_a : Lists
-    to_a = record { b = lists.b; a = with_record key rec lists.a; c1 = lists.c1; c1x = lists.c1x; c2 = lists.c2 }
-
-    to_b : Lists
-    to_b = record { b = with_record key rec lists.b; a = lists.a; c1 = lists.c1; c1x = lists.c1x; c2 = lists.c2 }
-
-    by : (b : Bool) → ((cond b to_a to_b).c2 ≡ lists.c2) × ((cond b to_a to_b).c1x ≡ lists.c1x)
-    by true = (refl, refl)
-    by false = (refl, refl)
+write_keeps pass key rec lists = grind (arith, common_steps, nat_tests)
 
 taken_settles : (seat : ℕ) (op : Op) (n : Machine) → AreSettled n → AreSettled (with_peak (taken_once seat (writes_of op) n))
 taken_settles seat op n s = by (writes_of op)
@@ -251,8 +238,7 @@ work_turn_settles : (m : Machine) (seat : ℕ) (outcome : Outcome) → IsSound m
 work_turn_settles m seat outcome sound mark s = let t = by m.stopped in record { bases = t.bases; merging = t.merging }
   where
     some : (b : Bool) → (entries_weight m.lists.c1 == 0) ≡ b → not b ≡ true → is_empty m.lists.c1 ≡ false
-    some true is may = absurd (false≢true may)
-    some false is may = some_there m.lists.c1 (λ none. false≢true (sym is ∙ eq-eqb (entries_weight m.lists.c1) 0 none))
+    some b h1 h2 = grind (arith, common_steps, nat_tests)
 
     by : (o : Option Why) → AreSettled (work_turning o m seat outcome).state
     by (Some cause) = s

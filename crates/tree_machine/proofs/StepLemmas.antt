@@ -1,7 +1,9 @@
 -- Each step keeps what the machine stands for, and so does each list of steps.
-use Rattle.std.proofs.Common.{◌≡◌, ℕ, ◌<◌, ◌≤◌, Bool, cond, true, false, not, ◌&&◌, ◌||◌, List, [], length, Some, None, Option, refl, ap, sym, subst, ◌∙◌, arith}
-use Rattle.std.specs.Prelude.{◌==◌, nat_lt, nat_le, slice_set, option_map, unwrap_or}
-use Rattle.std.proofs.lemmas.Bool.{false≢true, eqb-true, eq-eqb, ltb-true}
+use Rattle.std.proofs.Common.{◌≡◌, ℕ, ◌<◌, ◌≤◌, true, ◌&&◌, List, [], length, Some, None, Option, refl, ap, arith}
+use Rattle.std.proofs.lemmas.Grind.{common_steps}
+use Rattle.std.proofs.lemmas.Bool.Decides.{nat_tests}
+use Rattle.std.specs.Prelude.{nat_lt, nat_le, slice_set, option_map, unwrap_or}
+use Rattle.std.proofs.lemmas.Bool.{false≢true, ltb-true}
 use Rattle.blsm_model.specs.Format.{callers, most_rows}
 use Rattle.blsm_model.specs.declared.key.Key.{Key}
 use Rattle.blsm_model.specs.declared.row.Value.{Value}
@@ -17,7 +19,7 @@ use Rattle.blsm_model.proofs.HoldLemmas.{held-refusal, held-still}
 use Rattle.tree_machine.specs.declared.step.Kind.{Kind}
 use Rattle.tree_machine.specs.declared.step.Kind.TheVariants as kind
 use Rattle.tree_machine.specs.Layers.{HasWay}
-use Rattle.tree_machine.specs.Machine.{Machine, is_worked, WorkSoFar, Turned, Failed, BadPage, no_work, work_of, is_caller}
+use Rattle.tree_machine.specs.Machine.{Machine, WorkSoFar, Turned, Failed, BadPage, no_work, work_of, is_caller}
 use Rattle.tree_machine.specs.Moves.{note}
 use Rattle.tree_machine.specs.Steps.{Outcome, reply_by, work_noted, work_reply, work_end, leave}
 use Rattle.tree_machine.specs.Plays.{has_room, is_between, may_note, is_even, is_finished, most_turns, may, stepped_as}
@@ -26,7 +28,7 @@ use Rattle.tree_machine.proofs.FoldLemmas.{both_hold}
 use Rattle.tree_machine.proofs.ToldLemmas.{none_is_some, note_told}
 use Rattle.tree_machine.proofs.StandLemmas.{entry_of, note_stands, quiet_ready, running_told, stopped_stands, get_stands, hold_stands, next_stands, drop_stands}
 use Rattle.tree_machine.proofs.AdmitLemmas.{admit_stands}
-use Rattle.tree_machine.proofs.TurnLemmas.{works_on, work_set, pay_stands, work_turn_stands, worker_turn_stands}
+use Rattle.tree_machine.proofs.TurnLemmas.{works_on, pay_stands, work_turn_stands, worker_turn_stands}
 
 -- ---- the end of a work
 
@@ -41,13 +43,7 @@ recounted opening m place quanta s = record {
 }
 
 finished_few : (n : ℕ) (work : WorkSoFar) → is_finished n work ≡ true → work.turns ≤ n
-finished_few n work is = by (work.turns == n) (nat_lt 0 work.turns) (nat_lt work.turns n) refl refl is
-  where
-    by : (b c d : Bool) → (work.turns == n) ≡ b → nat_lt work.turns n ≡ d → (b || ((c && d) && not (is_worked work.last))) ≡ true → work.turns ≤ n
-    by true c d is_n below all = omega (arith, eqb-true work.turns n is_n)
-    by false c true is_n below all = omega (arith, ltb-true work.turns n below)
-    by false true false is_n below all = absurd (false≢true all)
-    by false false false is_n below all = absurd (false≢true all)
+finished_few n work is = grind (arith, common_steps, nat_tests)
 
 pub work_end_stands : (opening : List (Key × Value)) (m : Machine) (seat n : ℕ) → Stands opening m → seat < callers → is_finished n (work_of seat m) ≡ true → Stands opening (work_end m seat n).state
 work_end_stands opening m seat n stands within finished =
@@ -70,11 +66,7 @@ work_end_stands opening m seat n stands within finished =
 
     -- where this work failed, no other did
     alone : is_failing (work_of seat m).last ≡ true → (s : ℕ) → is_failing (work_at s (slice_set m.seats.work seat no_work)).last ≡ true → ⊥
-    alone failed s fails = of (s == seat) refl (subst (λ (w : WorkSoFar). is_failing w.last ≡ true) (work_set m.seats.work seat s no_work (subst (λ k. seat < k) (sym stands.told.works.places) within)) fails)
-      where
-        of : (b : Bool) → (s == seat) ≡ b → is_failing (cond b no_work (work_at s m.seats.work)).last ≡ true → ⊥
-        of true own f = false≢true f
-        of false other f = false≢true (sym other ∙ eq-eqb s seat (stands.told.works.one s seat f failed))
+    alone failed s fails = grind (arith, common_steps, nat_tests)
 
     failed : (reply : Reply) → is_failing (work_of seat m).last ≡ true → is_refusal reply ≡ true
         → (none_stopping m.book.entries ≡ true → MayReply (limits_of m.gears.sizes m.counts.charge) opening m.book.entries seat (Work n) reply)

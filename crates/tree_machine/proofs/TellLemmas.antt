@@ -1,10 +1,10 @@
 -- What a list of steps tells of the disk's faults and pages.
-use Rattle.std.proofs.Common.{◌≡◌, ◌⊎◌, inl, inr, refl, ap, sym, subst, ◌∙◌, ℕ, ◌+◌, ◌≤◌, Bool, cond, true, false, not, ◌&&◌, List, [], ◌∷◌, ◌++◌, take, drop, length, Option, Some, None, arith}
-use Rattle.std.specs.Prelude.{◌==◌, nat_lt, nat_le, sum_by, unwrap_or, slice_set, slice_index_or}
+use Rattle.std.proofs.Common.{◌≡◌, ◌⊎◌, inl, inr, refl, ap, sym, subst, ◌∙◌, ℕ, ◌+◌, ◌≤◌, Bool, cond, true, false, not, List, [], ◌∷◌, ◌++◌, take, drop, Option, Some, None, arith}
+use Rattle.std.proofs.lemmas.Grind.{common_steps}
+use Rattle.std.proofs.lemmas.Bool.Decides.{nat_tests}
+use Rattle.std.specs.Prelude.{◌==◌, nat_lt, sum_by, unwrap_or, slice_set, slice_index_or}
 use Rattle.std.specs.List.{AllByRecursion}
-use Rattle.std.proofs.lemmas.Bool.{false≢true, eqb-true, eq-eqb, ltb-true, ltb-false}
-use Rattle.std.proofs.lemmas.List.{get_or-set_other, get_or-set_same, get_or_past, length-set}
-use Rattle.std.proofs.lemmas.List.Sums.{sum_by-append}
+use Rattle.std.proofs.lemmas.Bool.{false≢true, ltb-true, ltb-false}
 use Rattle.blsm_model.specs.declared.key.Key.{Key}
 use Rattle.blsm_model.specs.declared.row.Row.{Row}
 use Rattle.blsm_model.specs.declared.op.Op.{Op}
@@ -16,7 +16,7 @@ use Rattle.blsm_model.specs.declared.history.Reply.TheVariants.{Done, Held, Rows
 use Rattle.blsm_model.specs.declared.history.Entry.{Entry}
 use Rattle.blsm_model.specs.Book.{Book}
 use Rattle.blsm_model.specs.declared.op.Write.{Write}
-use Rattle.blsm_model.specs.Geometry.{c1_mark, charge_limit}
+use Rattle.blsm_model.specs.Geometry.{charge_limit}
 use Rattle.blsm_model.specs.Histories.{writes_of, answer_to_get, answer_to_release}
 use Rattle.blsm_model.specs.Legal.{total_weight, is_del, may_look}
 use Rattle.blsm_model.specs.declared.row.Value.{Value}
@@ -28,15 +28,13 @@ use Rattle.tree_machine.specs.declared.step.Kind.{Kind}
 use Rattle.tree_machine.specs.declared.step.Kind.TheVariants as kind
 use Rattle.tree_machine.specs.declared.step.Step.{Step}
 use Rattle.tree_machine.specs.Lists.{memory_weight, value_in, rows_in}
-use Rattle.tree_machine.specs.Merges.{Merge}
-use Rattle.tree_machine.specs.Machine.{Machine, WorkSoFar, Turned, Worked, Idle, Closed, Failed, BadPage, Halted, no_work, in_pass, pass_done, deep_done, is_closed, charge, held_by, work_of}
-use Rattle.tree_machine.specs.Moves.{begin_pass, rotate, swap_deep, end_pass, output_of, pass_quantum, deep_quantum, pass_quantum_of, deep_quantum_of, with_peak, note, stop}
-use Rattle.tree_machine.specs.Steps.{Outcome, Well, FailedAfter, Broken, NoRoom, Stepped, Choice, SwapDeep, SwapPass, DeepQuantum, PassQuantum, Begin, Rotate, Rest, choice, chosen, ended_as, replied, unless_stopped, swaps_due, one_if, admit, admit_fitting, deep_swapped, swapped, ready_for, taken_once, reply_unless, do_hold, do_next, holding, forgive, count_for_write, pay, pay_running, pay_planned, do_pay, do_turn, work_turning, worker_turning, with_turn, work_turn, worker_turn, work_reply, work_end, leave}
+use Rattle.tree_machine.specs.Machine.{Machine, WorkSoFar, Turned, no_work, is_closed, charge, held_by, work_of}
+use Rattle.tree_machine.specs.Moves.{pass_quantum, deep_quantum, with_peak, note, stop}
+use Rattle.tree_machine.specs.Steps.{Outcome, Well, FailedAfter, Broken, NoRoom, Stepped, Choice, DeepQuantum, PassQuantum, choice, chosen, ended_as, replied, unless_stopped, swaps_due, one_if, admit, admit_fitting, deep_swapped, ready_for, taken_once, reply_unless, do_hold, do_next, holding, forgive, count_for_write, pay, pay_running, pay_planned, do_pay, do_turn, work_turning, worker_turning, with_turn, work_turn, worker_turn, work_reply, work_end, leave}
 use Rattle.tree_machine.specs.Plays.{may_step, stepped, stepped_as, played, played_one}
 use Rattle.tree_machine.specs.Outcomes.{Rose, last_count, IsPossible, AreTold, is_failed_lookup, is_faulted, faults_told, is_damaged, is_bad_page, is_by_page, is_broken, FindsNone, FaultsAreCounted, StopsNameMore, NoneDamaged, ReachesOnBy}
-use Rattle.tree_machine.proofs.FrameLemmas.{step_stays}
 use Rattle.tree_machine.proofs.ToldLemmas.{some_or_none}
-use Rattle.tree_machine.proofs.GrowLemmas.{taken_book, ready_book, deep_swapped_book, turn_book, pass_quantum_book, deep_quantum_book}
+use Rattle.tree_machine.proofs.GrowLemmas.{taken_book, ready_book, turn_book, pass_quantum_book, deep_quantum_book}
 
 abbrev is_failed : Outcome → Bool
 is_failed (FailedAfter commits faults) = true
@@ -69,53 +67,16 @@ Tells m seat outcome new = Quiet m seat outcome new ⊎ Stops m outcome new
 -- ---- what the merges' moves leave
 
 deep_swapped_stop : (m : Machine) → (deep_swapped m).stopped ≡ m.stopped
-deep_swapped_stop m = by (deep_done m)
-  where
-    by : (b : Bool) → (cond b (swap_deep m) m).stopped ≡ m.stopped
-    by true = refl
-    by false = refl
+deep_swapped_stop m = grind (arith, common_steps, nat_tests)
 
 ready_stop : (weight : ℕ) (m : Machine) → (ready_for weight m).stopped ≡ m.stopped
-ready_stop weight m =
-    begins (swapped m) (not (in_pass (swapped m)) && nat_lt (swapped m).gears.sizes.low ((swapped m).spring + weight))
-    ∙ swap (deep_swapped m) (pass_done (deep_swapped m)) (nat_le (c1_mark (deep_swapped m).gears.sizes) (entries_weight (output_of (deep_swapped m).merges.pass))) ∙ deep_swapped_stop m
-  where
-    begins : (n : Machine) (b : Bool) → (cond b (begin_pass n) n).stopped ≡ n.stopped
-    begins n true = refl
-    begins n false = refl
-
-    swap : (n : Machine) (b c : Bool) → (cond b (cond c (rotate (end_pass n)) (end_pass n)) n).stopped ≡ n.stopped
-    swap n true true = refl
-    swap n true false = refl
-    swap n false c = refl
+ready_stop weight m = grind (arith, common_steps, nat_tests)
 
 chosen_stop : (c : Choice) (seat : ℕ) (m : Machine) → (chosen c seat m).stopped ≡ m.stopped
-chosen_stop SwapDeep seat m = refl
-chosen_stop SwapPass seat m = by (nat_le (c1_mark m.gears.sizes) (entries_weight (output_of m.merges.pass)))
-  where
-    by : (b : Bool) → (cond b (rotate (end_pass m)) (end_pass m)).stopped ≡ m.stopped
-    by true = refl
-    by false = refl
-chosen_stop DeepQuantum seat m = by m.merges.deep
-  where
-    by : (p : Option Merge) → (deep_quantum_of p seat m).stopped ≡ m.stopped
-    by None = refl
-    by (Some deep) = refl
-chosen_stop PassQuantum seat m = by m.merges.pass
-  where
-    by : (p : Option Merge) → (pass_quantum_of p seat m).stopped ≡ m.stopped
-    by None = refl
-    by (Some pass) = refl
-chosen_stop Begin seat m = refl
-chosen_stop Rotate seat m = refl
-chosen_stop Rest seat m = refl
+chosen_stop c seat m = grind (arith, common_steps, nat_tests)
 
 taken_stop : (seat : ℕ) (op : Op) (m : Machine) → (taken_once seat (writes_of op) m).stopped ≡ m.stopped
-taken_stop seat op m = by (writes_of op)
-  where
-    by : (ws : List Write) → (taken_once seat ws m).stopped ≡ m.stopped
-    by [] = refl
-    by (w ∷ ws) = refl
+taken_stop seat op m = grind (arith, common_steps, nat_tests)
 
 -- ---- each step
 
@@ -145,8 +106,7 @@ admit_tells m seat op outcome =
     (λ none. by none (nat_lt (charge_limit m.gears.sizes (is_del op)) (charge m + total_weight (writes_of op))))
   where
     lost : (faults : ℕ) (c : Bool) → (stop (why.Faulted faults) (cond c m (deep_swapped m))).book.entries ≡ m.book.entries
-    lost faults true = refl
-    lost faults false = ap (λ (b : Book). b.entries) (deep_swapped_book m)
+    lost faults c = grind (arith, common_steps, nat_tests)
 
     failed : m.stopped ≡ None → (commits faults : ℕ) (b : Bool)
         → Stops m (FailedAfter commits faults) (cond b (replied seat op FaultLost (stop (why.Faulted faults) (cond (commits == 0) m (deep_swapped m)))) (replied seat op FaultUnsure (stop (why.Faulted faults) (ready_for (total_weight (writes_of op)) m)))).state
@@ -244,14 +204,12 @@ tells_on m seat outcome n k stopped entries (inl q) = inl (record { stopped = st
         × (n.book.entries ≡ m.book.entries ++ entry ∷ [])))
         → ((k.book.entries ≡ m.book.entries) ⊎ ((entry : Entry) × (is_failed_lookup entry.op entry.reply ≡ true → is_failed outcome ≡ true) × (is_damaged entry.reply ≡ true → (is_broken outcome ≡ true) ⊎ (is_bad_page (work_of seat m).last ≡ true))
         × (k.book.entries ≡ m.book.entries ++ entry ∷ [])))
-    of (inl same) = inl (entries ∙ same)
-    of (inr noted) = inr (noted.0, noted.1, noted.2, entries ∙ noted.3)
+    of h1 = grind (arith, common_steps, nat_tests)
 tells_on m seat outcome n k stopped entries (inr s) = inr (record { cause = s.cause; is_cause = s.is_cause; was = s.was; stopped = stopped ∙ s.stopped; entries = of s.entries })
   where
     of : ((n.book.entries ≡ m.book.entries) ⊎ ((entry : Entry) × (is_failed_lookup entry.op entry.reply ≡ false) × (is_damaged entry.reply ≡ false) × (n.book.entries ≡ m.book.entries ++ entry ∷ [])))
         → ((k.book.entries ≡ m.book.entries) ⊎ ((entry : Entry) × (is_failed_lookup entry.op entry.reply ≡ false) × (is_damaged entry.reply ≡ false) × (k.book.entries ≡ m.book.entries ++ entry ∷ [])))
-    of (inl same) = inl (entries ∙ same)
-    of (inr noted) = inr (noted.0, noted.1, noted.2, entries ∙ noted.3)
+    of h1 = grind (arith, common_steps, nat_tests)
 
 turn_tells : (c : Choice) (m : Machine) (seat : ℕ) (outcome : Outcome) → m.stopped ≡ None → Tells m seat outcome (do_turn c outcome seat m).state
 turn_tells c m seat (FailedAfter commits faults) none = inr (record { cause = why.Faulted faults; is_cause = refl; was = none; stopped = refl; entries = inl refl })
@@ -276,8 +234,7 @@ worker_turn_tells m seat outcome = tells_on m seat outcome (worker_turning m.sto
 
 -- a command that doesn't only look is no lookup that failed
 pub no_look : (op : Op) (reply : Reply) → may_look op ≡ false → is_failed_lookup op reply ≡ false
-no_look op Fault is = is
-no_look op _ is = refl
+no_look op reply h1 = grind (arith, common_steps, nat_tests)
 
 work_end_tells : (m : Machine) (seat n : ℕ) (outcome : Outcome) → Tells m seat outcome (work_end m seat n).state
 work_end_tells m seat n outcome = inl (record {
@@ -286,16 +243,7 @@ work_end_tells m seat n outcome = inl (record {
 })
   where
     damage : (last : Turned) (o : Option Why) → is_damaged (work_reply (record (work_of seat m) { last = last }) o) ≡ true → (is_broken outcome ≡ true) ⊎ (is_bad_page last ≡ true)
-    damage (BadPage page) o is = inr refl
-    damage Failed o is = absurd (false≢true is)
-    damage Worked None is = absurd (false≢true is)
-    damage Worked (Some cause) is = absurd (false≢true is)
-    damage Idle None is = absurd (false≢true is)
-    damage Idle (Some cause) is = absurd (false≢true is)
-    damage Closed None is = absurd (false≢true is)
-    damage Closed (Some cause) is = absurd (false≢true is)
-    damage (Halted w) None is = absurd (false≢true is)
-    damage (Halted w) (Some cause) is = absurd (false≢true is)
+    damage last o h1 = grind (arith, common_steps, nat_tests)
 
 step_tells : (m : Machine) (seat : ℕ) (k : Kind) (outcome : Outcome) → Tells m seat outcome (stepped_as m seat k outcome).state
 step_tells m seat (kind.Admit op) outcome = admit_tells m seat op outcome
@@ -317,55 +265,20 @@ abbrev lookups : List Entry → ℕ
 lookups entries = sum_by (λ e. one_if (is_failed_lookup e.op e.reply)) entries
 
 lookups_push : (es : List Entry) (e : Entry) → lookups (es ++ e ∷ []) ≡ lookups es + one_if (is_failed_lookup e.op e.reply)
-lookups_push es e = omega (arith, sum_by-append (λ (e : Entry). one_if (is_failed_lookup e.op e.reply)) es (e ∷ []), alone (one_if (is_failed_lookup e.op e.reply)))
-  where
-    alone : (n : ℕ) → n + 0 ≡ n
-    alone n = omega arith
+lookups_push es e = grind (arith, common_steps, nat_tests)
 
 one_at_most : (b : Bool) → one_if b ≤ 1
-one_at_most true = omega arith
-one_at_most false = omega arith
+one_at_most b = grind (arith, common_steps, nat_tests)
 
 one_where : (b c : Bool) → (b ≡ true → c ≡ true) → one_if b ≤ one_if c
-one_where true c is = subst (λ x. 1 ≤ one_if x) (sym (is refl)) (omega arith)
-one_where false c is = omega arith
+one_where b c h1 = grind (arith, common_steps, nat_tests)
 
 -- a stop by a failed call
 cause_failed : (outcome : Outcome) (cause : Why) → IsCause outcome cause → one_if (is_faulted (Some cause)) ≤ one_if (is_failed outcome)
-cause_failed (FailedAfter commits faults) cause is = one_at_most (is_faulted (Some cause))
-cause_failed (Broken page) cause is = omega (arith, ap (λ w. one_if (is_faulted (Some w))) is)
-cause_failed Well cause is = absurd is
-cause_failed NoRoom cause is = absurd is
+cause_failed outcome cause h1 = grind (arith, common_steps, nat_tests)
 
 step_faults : (m : Machine) (seat : ℕ) (k : Kind) (outcome : Outcome) → faults_told (stepped_as m seat k outcome).state ≤ faults_told m + one_if (is_failed outcome)
-step_faults m seat k outcome = by (step_tells m seat k outcome)
-  where
-    quiet : (new : Machine) → Quiet m seat outcome new → faults_told new ≤ faults_told m + one_if (is_failed outcome)
-    quiet new q = of q.entries
-      where
-        stop_same : one_if (is_faulted new.stopped) ≡ one_if (is_faulted m.stopped)
-        stop_same = ap (λ o. one_if (is_faulted o)) q.stopped
-
-        of : (new.book.entries ≡ m.book.entries)
-            ⊎ ((entry : Entry) × (is_failed_lookup entry.op entry.reply ≡ true → is_failed outcome ≡ true) × (is_damaged entry.reply ≡ true → (is_broken outcome ≡ true) ⊎ (is_bad_page (work_of seat m).last ≡ true))
-            × (new.book.entries ≡ m.book.entries ++ entry ∷ [])) → faults_told new ≤ faults_told m + one_if (is_failed outcome)
-        of (inl same) = omega (arith, stop_same, ap lookups same)
-        of (inr noted) = omega (arith, stop_same, ap lookups noted.3, lookups_push m.book.entries noted.0, one_where (is_failed_lookup noted.0.op noted.0.reply) (is_failed outcome) noted.1)
-
-    stops : (new : Machine) → Stops m outcome new → faults_told new ≤ faults_told m + one_if (is_failed outcome)
-    stops new s = of s.entries
-      where
-        stop_is : one_if (is_faulted new.stopped) ≤ one_if (is_failed outcome)
-        stop_is = subst (λ o. one_if (is_faulted o) ≤ one_if (is_failed outcome)) (sym s.stopped) (cause_failed outcome s.cause s.is_cause)
-
-        of : (new.book.entries ≡ m.book.entries) ⊎ ((entry : Entry) × (is_failed_lookup entry.op entry.reply ≡ false) × (is_damaged entry.reply ≡ false) × (new.book.entries ≡ m.book.entries ++ entry ∷ []))
-            → faults_told new ≤ faults_told m + one_if (is_failed outcome)
-        of (inl same) = omega (arith, stop_is, ap lookups same)
-        of (inr noted) = omega (arith, stop_is, ap lookups noted.3, lookups_push m.book.entries noted.0, ap one_if noted.1)
-
-    by : Tells m seat outcome (stepped_as m seat k outcome).state → faults_told (stepped_as m seat k outcome).state ≤ faults_told m + one_if (is_failed outcome)
-    by (inl q) = quiet (stepped_as m seat k outcome).state q
-    by (inr s) = stops (stepped_as m seat k outcome).state s
+step_faults m seat k outcome = grind (arith, common_steps, nat_tests, step_tells, common_steps, nat_tests)
 
 told_le : (m : Machine) (old new : ℕ) (steps : List (Step × Outcome)) → AreTold m old steps new → old ≤ new
 told_le m old new [] told = told
@@ -378,14 +291,7 @@ one_faults m made old mid le possible = by (may_step m made.0) refl
   where
     of : (outcome : Outcome) → IsPossible m made.0.seat made.0.kind outcome old mid → faults_told (stepped m made.0 outcome).state ≤ faults_told m + one_if (is_failed outcome)
         → (faults_told (stepped m made.0 outcome).state + old ≤ faults_told m + mid) ⊎ (mid ≡ last_count)
-    of Well is few = inl (omega (arith, le, few))
-    of NoRoom is few = inl (omega (arith, le, few))
-    of (Broken page) is few = inl (omega (arith, le, few))
-    of (FailedAfter commits faults) is few = rose is.2
-      where
-        rose : Rose old mid → (faults_told (stepped m made.0 (FailedAfter commits faults)).state + old ≤ faults_told m + mid) ⊎ (mid ≡ last_count)
-        rose (inl less) = inl (omega (arith, less, few))
-        rose (inr last) = inr last.1
+    of outcome h1 h2 = grind (arith, common_steps, nat_tests)
 
     by : (b : Bool) → may_step m made.0 ≡ b → (faults_told (cond b (stepped m made.0 made.1).state m) + old ≤ faults_told m + mid) ⊎ (mid ≡ last_count)
     by true is = of made.1 (possible is) (step_faults m made.0.seat made.0.kind made.1)
@@ -419,33 +325,20 @@ damage_push [] e all one = (one, tt)
 damage_push (x ∷ xs) e all one = (all.0, damage_push xs e all.1 one)
 
 cause_sound : (outcome : Outcome) (cause : Why) → is_broken outcome ≡ false → IsCause outcome cause → is_by_page (Some cause) ≡ false
-cause_sound (FailedAfter commits faults) cause whole is = ap (λ w. is_by_page (Some w)) is
-cause_sound (Broken page) cause whole is = absurd (false≢true (sym whole))
-cause_sound Well cause whole is = absurd is
-cause_sound NoRoom cause whole is = absurd is
+cause_sound outcome cause h1 h2 = grind (arith, common_steps, nat_tests)
 
 is_false : (b : Bool) → (b ≡ true → ⊥) → b ≡ false
-is_false true never = absurd (never refl)
-is_false false never = refl
+is_false b h1 = grind (arith, common_steps, nat_tests)
 
 -- works' last turns
 turned_sound : (m : Machine) (seat : ℕ) (outcome : Outcome) → is_broken outcome ≡ false → is_bad_page (work_turning m.stopped m seat outcome).ended ≡ false
 turned_sound m seat outcome whole = by m.stopped
   where
     ended : (c : Choice) → is_bad_page (ended_as c) ≡ false
-    ended SwapDeep = refl
-    ended SwapPass = refl
-    ended DeepQuantum = refl
-    ended PassQuantum = refl
-    ended Begin = refl
-    ended Rotate = refl
-    ended Rest = refl
+    ended c = grind (arith, common_steps, nat_tests)
 
     of : (c : Choice) (e : Outcome) → is_broken e ≡ false → is_bad_page (do_turn c e seat m).ended ≡ false
-    of c (FailedAfter commits faults) whole = refl
-    of c (Broken page) whole = absurd (false≢true (sym whole))
-    of c Well whole = ended c
-    of c NoRoom whole = ended c
+    of c e h1 = grind (arith, common_steps, nat_tests)
 
     by : (o : Option Why) → is_bad_page (work_turning o m seat outcome).ended ≡ false
     by (Some cause) = refl
@@ -453,68 +346,23 @@ turned_sound m seat outcome whole = by m.stopped
 
 work_set : (works : List WorkSoFar) (seat : ℕ) (now : WorkSoFar) → is_bad_page now.last ≡ false → ((s : ℕ) → is_bad_page (slice_index_or works s no_work).last ≡ false)
     → (s : ℕ) → is_bad_page (slice_index_or (slice_set works seat now) s no_work).last ≡ false
-work_set works seat now sound were s = by (s == seat) refl
-  where
-    here : (b : Bool) → nat_lt seat (length works) ≡ b → is_bad_page (slice_index_or (slice_set works seat now) seat no_work).last ≡ false
-    here true less = ap (λ (w : WorkSoFar). is_bad_page w.last) (get_or-set_same works seat now no_work (ltb-true seat (length works) less)) ∙ sound
-    here false past = ap (λ (w : WorkSoFar). is_bad_page w.last) (get_or_past (slice_set works seat now) seat no_work (omega (arith, length-set works seat now, ltb-false seat (length works) past)))
-
-    by : (b : Bool) → (s == seat) ≡ b → is_bad_page (slice_index_or (slice_set works seat now) s no_work).last ≡ false
-    by true is = subst (λ t. is_bad_page (slice_index_or (slice_set works seat now) t no_work).last ≡ false) (sym (eqb-true s seat is)) (here (nat_lt seat (length works)) refl)
-    by false is = ap (λ (w : WorkSoFar). is_bad_page w.last) (get_or-set_other works seat s now no_work (λ same. false≢true (sym is ∙ eq-eqb s seat same))) ∙ were s
+work_set works seat now sound were s = grind (arith, common_steps, nat_tests)
 
 -- the works are a caller's, and only its turns and its end touch them
 deep_swapped_work : (m : Machine) → (deep_swapped m).seats.work ≡ m.seats.work
-deep_swapped_work m = by (deep_done m)
-  where
-    by : (b : Bool) → (cond b (swap_deep m) m).seats.work ≡ m.seats.work
-    by true = refl
-    by false = refl
+deep_swapped_work m = grind (arith, common_steps, nat_tests)
 
 ready_work : (weight : ℕ) (m : Machine) → (ready_for weight m).seats.work ≡ m.seats.work
-ready_work weight m =
-    begins (swapped m) (not (in_pass (swapped m)) && nat_lt (swapped m).gears.sizes.low ((swapped m).spring + weight))
-    ∙ swap (deep_swapped m) (pass_done (deep_swapped m)) (nat_le (c1_mark (deep_swapped m).gears.sizes) (entries_weight (output_of (deep_swapped m).merges.pass))) ∙ deep_swapped_work m
-  where
-    begins : (n : Machine) (b : Bool) → (cond b (begin_pass n) n).seats.work ≡ n.seats.work
-    begins n true = refl
-    begins n false = refl
-
-    swap : (n : Machine) (b c : Bool) → (cond b (cond c (rotate (end_pass n)) (end_pass n)) n).seats.work ≡ n.seats.work
-    swap n true true = refl
-    swap n true false = refl
-    swap n false c = refl
+ready_work weight m = grind (arith, common_steps, nat_tests)
 
 chosen_work : (c : Choice) (seat : ℕ) (m : Machine) → (chosen c seat m).seats.work ≡ m.seats.work
-chosen_work SwapDeep seat m = refl
-chosen_work SwapPass seat m = by (nat_le (c1_mark m.gears.sizes) (entries_weight (output_of m.merges.pass)))
-  where
-    by : (b : Bool) → (cond b (rotate (end_pass m)) (end_pass m)).seats.work ≡ m.seats.work
-    by true = refl
-    by false = refl
-chosen_work DeepQuantum seat m = by m.merges.deep
-  where
-    by : (p : Option Merge) → (deep_quantum_of p seat m).seats.work ≡ m.seats.work
-    by None = refl
-    by (Some deep) = refl
-chosen_work PassQuantum seat m = by m.merges.pass
-  where
-    by : (p : Option Merge) → (pass_quantum_of p seat m).seats.work ≡ m.seats.work
-    by None = refl
-    by (Some pass) = refl
-chosen_work Begin seat m = refl
-chosen_work Rotate seat m = refl
-chosen_work Rest seat m = refl
+chosen_work c seat m = grind (arith, common_steps, nat_tests)
 
 turn_work : (c : Choice) (outcome : Outcome) (seat : ℕ) (m : Machine) → (do_turn c outcome seat m).state.seats.work ≡ m.seats.work
-turn_work c (FailedAfter commits faults) seat m = refl
-turn_work c (Broken page) seat m = refl
-turn_work c Well seat m = chosen_work c seat m
-turn_work c NoRoom seat m = chosen_work c seat m
+turn_work c outcome seat m = grind (arith, common_steps, nat_tests)
 
 unless_work : (m : Machine) (seat : ℕ) (op : Op) (o : Option Why) (otherwise : Stepped) → otherwise.state.seats.work ≡ m.seats.work → (unless_stopped o seat op m otherwise).state.seats.work ≡ m.seats.work
-unless_work m seat op (Some cause) otherwise same = refl
-unless_work m seat op None otherwise same = same
+unless_work m seat op o otherwise h1 = grind (arith, common_steps, nat_tests)
 
 admit_work : (m : Machine) (seat : ℕ) (op : Op) (outcome : Outcome) → (admit m seat op outcome).state.seats.work ≡ m.seats.work
 admit_work m seat op outcome =
@@ -522,15 +370,13 @@ admit_work m seat op outcome =
     (full (nat_lt (charge_limit m.gears.sizes (is_del op)) (charge m + total_weight (writes_of op))))
   where
     taken : (ws : List Write) (n : Machine) → (taken_once seat ws n).seats.work ≡ n.seats.work
-    taken [] n = refl
-    taken (w ∷ ws) n = refl
+    taken ws n = grind (arith, common_steps, nat_tests)
 
     done : (with_peak (taken_once seat (writes_of op) (ready_for (total_weight (writes_of op)) m))).seats.work ≡ m.seats.work
     done = taken (writes_of op) (ready_for (total_weight (writes_of op)) m) ∙ ready_work (total_weight (writes_of op)) m
 
     lost : (c : Bool) → (cond c m (deep_swapped m)).seats.work ≡ m.seats.work
-    lost true = refl
-    lost false = deep_swapped_work m
+    lost c = grind (arith, common_steps, nat_tests)
 
     failed : (commits faults : ℕ) (b : Bool)
         → (cond b (replied seat op FaultLost (stop (why.Faulted faults) (cond (commits == 0) m (deep_swapped m)))) (replied seat op FaultUnsure (stop (why.Faulted faults) (ready_for (total_weight (writes_of op)) m)))).state.seats.work ≡ m.seats.work
@@ -548,35 +394,13 @@ admit_work m seat op outcome =
     full false = fitting outcome
 
 pay_work : (m : Machine) (seat : ℕ) (outcome : Outcome) → (pay m seat outcome).state.seats.work ≡ m.seats.work
-pay_work m seat outcome = by m.stopped
-  where
-    owing : (quantum : Machine → Machine) → (quantum (forgive seat m)).seats.work ≡ m.seats.work → (e : Outcome) → (do_pay (forgive seat m) quantum seat e).state.seats.work ≡ m.seats.work
-    owing quantum same (FailedAfter commits faults) = refl
-    owing quantum same (Broken page) = refl
-    owing quantum same Well = same
-    owing quantum same NoRoom = same
-
-    planned : (plan : Plan) → (pay_planned plan (forgive seat m) seat outcome).state.seats.work ≡ m.seats.work
-    planned Snow = owing (pass_quantum seat) (chosen_work PassQuantum seat (forgive seat m)) outcome
-    planned Deep = owing (deep_quantum seat) (chosen_work DeepQuantum seat (forgive seat m)) outcome
-    planned Nothing = refl
-
-    by : (o : Option Why) → (pay_running o m seat outcome).state.seats.work ≡ m.seats.work
-    by (Some cause) = refl
-    by None = planned (plan_for (first_debt (forgive seat m).gears seat) (second_debt (forgive seat m).gears seat))
+pay_work m seat outcome = grind (arith, common_steps, nat_tests)
 
 hold_work : (m : Machine) (seat : ℕ) (low high : Key) (outcome : Outcome) → (do_hold m seat low high outcome).state.seats.work ≡ m.seats.work
-hold_work m seat low high NoRoom = refl
-hold_work m seat low high Well = refl
-hold_work m seat low high (FailedAfter commits faults) = refl
-hold_work m seat low high (Broken page) = refl
+hold_work m seat low high outcome = grind (arith, common_steps, nat_tests)
 
 next_work : (m : Machine) (seat n : ℕ) (outcome : Outcome) (held : Option (List Row)) → (do_next m seat n outcome held).state.seats.work ≡ m.seats.work
-next_work m seat n outcome None = refl
-next_work m seat n (FailedAfter commits faults) (Some rows) = refl
-next_work m seat n (Broken page) (Some rows) = refl
-next_work m seat n Well (Some rows) = refl
-next_work m seat n NoRoom (Some rows) = refl
+next_work m seat n outcome held = grind (arith, common_steps, nat_tests)
 
 -- what changes the works: a turn of work and its end
 works_sound : (m : Machine) (seat : ℕ) (k : Kind) (outcome : Outcome) → is_broken outcome ≡ false → ((s : ℕ) → is_bad_page (work_of s m).last ≡ false) → (s : ℕ) → is_bad_page (work_of s (stepped_as m seat k outcome).state).last ≡ false
@@ -591,9 +415,7 @@ works_sound m seat (kind.WorkEnd n) outcome whole were s = work_set m.seats.work
 works_sound m seat kind.WorkerTurn outcome whole were s = ap (λ ws. is_bad_page (slice_index_or ws s no_work).last) (turning_work m.stopped (is_closed m)) ∙ were s
   where
     turning_work : (o : Option Why) (b : Bool) → (worker_turning o b m seat outcome).state.seats.work ≡ m.seats.work
-    turning_work (Some cause) b = refl
-    turning_work None true = refl
-    turning_work None false = turn_work (choice (nat_lt m.gears.sizes.low m.spring) false m) outcome seat m
+    turning_work o b = grind (arith, common_steps, nat_tests)
 works_sound m seat (kind.Admit op) outcome whole were s = ap (λ ws. is_bad_page (slice_index_or ws s no_work).last) (admit_work m seat op outcome) ∙ were s
 works_sound m seat kind.Pay outcome whole were s = ap (λ ws. is_bad_page (slice_index_or ws s no_work).last) (pay_work m seat outcome) ∙ were s
 works_sound m seat (kind.Get key) outcome whole were s = ap (λ ws. is_bad_page (slice_index_or ws s no_work).last) (unless_work m seat (Get key) m.stopped (replied seat (Get key) (reply_unless outcome (answer_to_get (value_in m.lists key))) m) refl) ∙ were s
@@ -615,16 +437,14 @@ step_finds m seat k outcome whole f = by (step_tells m seat k outcome)
         of (inr noted) = subst (λ es. AllByRecursion (λ (e : Entry). is_damaged e.reply ≡ false) es) (sym noted.3) (damage_push m.book.entries noted.0 f.entries (is_false (is_damaged noted.0.reply) (λ is. neither (noted.2 is))))
           where
             neither : (is_broken outcome ≡ true) ⊎ (is_bad_page (work_of seat m).last ≡ true) → ⊥
-            neither (inl broken) = false≢true (sym whole ∙ broken)
-            neither (inr bad) = false≢true (sym (f.works seat) ∙ bad)
+            neither h1 = grind (arith, common_steps, nat_tests)
 
     stops : Stops m outcome (stepped_as m seat k outcome).state → FindsNone (stepped_as m seat k outcome).state
     stops s = record { entries = of s.entries; stopped = ap is_by_page s.stopped ∙ cause_sound outcome s.cause whole s.is_cause; works = works_sound m seat k outcome whole f.works }
       where
         of : ((stepped_as m seat k outcome).state.book.entries ≡ m.book.entries) ⊎ ((entry : Entry) × (is_failed_lookup entry.op entry.reply ≡ false) × (is_damaged entry.reply ≡ false) × ((stepped_as m seat k outcome).state.book.entries ≡ m.book.entries ++ entry ∷ []))
             → AllByRecursion (λ e. is_damaged e.reply ≡ false) (stepped_as m seat k outcome).state.book.entries
-        of (inl same) = subst (λ es. AllByRecursion (λ (e : Entry). is_damaged e.reply ≡ false) es) (sym same) f.entries
-        of (inr noted) = subst (λ es. AllByRecursion (λ (e : Entry). is_damaged e.reply ≡ false) es) (sym noted.3) (damage_push m.book.entries noted.0 f.entries noted.2)
+        of h1 = grind (arith, common_steps, nat_tests)
 
     by : Tells m seat outcome (stepped_as m seat k outcome).state → FindsNone (stepped_as m seat k outcome).state
     by (inl q) = quiet q
@@ -669,8 +489,7 @@ played_stays m [] cause is = is
 played_stays m (made ∷ steps) cause is = played_stays (played_one m made) steps cause (by (may_step m made.0))
   where
     by : (b : Bool) → (cond b (stepped m made.0 made.1).state m).stopped ≡ Some cause
-    by true = step_stays m made.0.seat made.0.kind made.1 cause is
-    by false = is
+    by b = grind (arith, common_steps, nat_tests)
 
 abbrev count_of : Option Why → ℕ
 count_of (Some (why.Faulted faults)) = faults

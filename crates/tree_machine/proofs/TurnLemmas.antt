@@ -1,9 +1,10 @@
 -- Payments, turns and the end of a work: what the machine stands for before it stands for afterwards.
-use Rattle.std.proofs.Common.{◌≡◌, ℕ, ◌+◌, ◌<◌, ◌≤◌, inl, inr, Bool, cond, true, false, not, ◌&&◌, ◌||◌, List, [], ◌∷◌, length, Some, None, Option, refl, ap, sym, subst, ◌∙◌, arith}
-use Rattle.std.specs.Prelude.{◌==◌, nat_lt, IsSome, slice_set, slice_index_or}
-use Rattle.std.proofs.lemmas.Bool.{false≢true, eqb-true}
-use Rattle.std.proofs.lemmas.Bool.Decides.{eqb_tells}
-use Rattle.std.proofs.lemmas.List.{get_or-set_same, get_or-set_other, length-set}
+use Rattle.std.proofs.Common.{◌≡◌, ℕ, ◌+◌, ◌<◌, ◌≤◌, Bool, cond, true, false, not, ◌&&◌, ◌||◌, List, [], ◌∷◌, length, Some, None, Option, refl, sym, subst, ◌∙◌, arith}
+use Rattle.std.proofs.lemmas.Grind.{common_steps}
+use Rattle.std.proofs.lemmas.Bool.Decides.{nat_tests}
+use Rattle.std.specs.Prelude.{◌==◌, nat_lt, IsSome, slice_set}
+use Rattle.std.proofs.lemmas.Bool.{false≢true}
+use Rattle.std.proofs.lemmas.List.{length-set}
 use Rattle.blsm_model.specs.Format.{callers}
 use Rattle.blsm_model.specs.declared.key.Key.{Key}
 use Rattle.blsm_model.specs.declared.row.Value.{Value}
@@ -17,9 +18,9 @@ use Rattle.gear_sched.specs.declared.Plan.TheVariants.{Snow, Deep, Nothing}
 use Rattle.record_delta.specs.Entries.{entries_weight}
 use Rattle.tree_machine.specs.Lists.{memory_weight}
 use Rattle.tree_machine.specs.Layers.{Carries, HasWay}
-use Rattle.tree_machine.specs.Machine.{Machine, WorkSoFar, no_work, work_of, is_closed}
+use Rattle.tree_machine.specs.Machine.{Machine, WorkSoFar, work_of, is_closed}
 use Rattle.tree_machine.specs.Moves.{stop, pass_quantum, deep_quantum}
-use Rattle.tree_machine.specs.Steps.{Outcome, Well, FailedAfter, Broken, NoRoom, Choice, Rest, choice, chosen, ended_as, forgive, count_for_write, do_pay, pay_planned, pay_forgiven, pay_running, pay, Turning, do_turn, work_turning, worker_turning, with_turn, is_idle, work_noted, work_turn, worker_turn}
+use Rattle.tree_machine.specs.Steps.{Outcome, Well, FailedAfter, Broken, NoRoom, Choice, choice, chosen, ended_as, forgive, count_for_write, do_pay, pay_planned, pay_forgiven, pay_running, pay, Turning, do_turn, work_turning, worker_turning, with_turn, is_idle, work_noted, work_turn, worker_turn}
 use Rattle.tree_machine.specs.Stands.{AreWorks, Stands, work_at, is_failing}
 use Rattle.tree_machine.proofs.CarryLemmas.{chosen_carries, pass_quantum_carries, deep_quantum_carries}
 use Rattle.tree_machine.proofs.ToldLemmas.{none_is_some, stop_told}
@@ -85,11 +86,7 @@ pay_stands opening m seat outcome stands = by m.stopped refl
 -- ---- works
 
 pub work_set : (works : List WorkSoFar) (seat s : ℕ) (work : WorkSoFar) → seat < length works → work_at s (slice_set works seat work) ≡ cond (s == seat) work (work_at s works)
-work_set works seat s work within = elim (eqb_tells s seat) [
-  | inl same ↦ ap (λ k. slice_index_or (slice_set works seat work) k no_work) same.1 ∙ get_or-set_same works seat work no_work within
-      ∙ ap (λ b. cond b work (work_at s works)) (sym same.0)
-  | inr apart ↦ get_or-set_other works seat s work no_work apart.1 ∙ ap (λ b. cond b work (work_at s works)) (sym apart.0)
-]
+work_set works seat s work within = grind (arith, common_steps, nat_tests)
 
 -- a work goes on: it fails only where nothing failed before
 pub works_on : (works : List WorkSoFar) (stopped : Option Why) (history : List Entry) (seat : ℕ) (work : WorkSoFar) → seat < callers → length works ≡ callers
@@ -108,35 +105,21 @@ works_on works stopped history seat work within places few light others one now 
 }
   where
     few_of : (s : ℕ) (b : Bool) → (cond b work (work_at s works)).worked ≤ (cond b work (work_at s works)).turns
-    few_of s true = light
-    few_of s false = few s
+    few_of s b = grind (arith, common_steps, nat_tests)
 
     first_of : (s : ℕ) (b : Bool) → (s == seat) ≡ b → is_failing (cond (s == seat) work (work_at s works)).last ≡ true → IsSome stopped × (none_stopping history ≡ true)
-    first_of s true is failing = now (subst (λ c. is_failing (cond c work (work_at s works)).last ≡ true) is failing)
-    first_of s false is failing =
-        let all = others s (subst (λ c. is_failing (cond c work (work_at s works)).last ≡ true) is failing) is in (all.1, all.2)
+    first_of s b h1 h2 = grind (arith, common_steps, nat_tests)
 
     one_of : (s t : ℕ) (b : Bool) → (s == seat) ≡ b → (c : Bool) → (t == seat) ≡ c → is_failing (cond (s == seat) work (work_at s works)).last ≡ true
         → is_failing (cond (t == seat) work (work_at t works)).last ≡ true → s ≡ t
-    one_of s t true is_s true is_t fails fails_too = eqb-true s seat is_s ∙ sym (eqb-true t seat is_t)
-    one_of s t true is_s false is_t fails fails_too =
-        absurd (false≢true (sym (others t (subst (λ k. is_failing (cond k work (work_at t works)).last ≡ true) is_t fails_too) is_t).0
-        ∙ subst (λ k. is_failing (cond k work (work_at s works)).last ≡ true) is_s fails))
-    one_of s t false is_s true is_t fails fails_too =
-        absurd (false≢true (sym (others s (subst (λ k. is_failing (cond k work (work_at s works)).last ≡ true) is_s fails) is_s).0
-        ∙ subst (λ k. is_failing (cond k work (work_at t works)).last ≡ true) is_t fails_too))
-    one_of s t false is_s false is_t fails fails_too =
-        one s t (subst (λ k. is_failing (cond k work (work_at s works)).last ≡ true) is_s fails) (subst (λ k. is_failing (cond k work (work_at t works)).last ≡ true) is_t fails_too)
+    one_of s t b h1 c h2 h3 h4 = grind (arith, common_steps, nat_tests)
 
 running_none : (before : List Entry) → is_running before ≡ true → none_stopping before ≡ true
 running_none [] running = refl
 running_none (e ∷ es) running = parts (is_stopping e.op e.reply) (is_stopped e.reply) (is_running es) running (running_none es)
   where
     parts : (stopping stopped rest : Bool) → (not (stopping || stopped) && rest) ≡ true → (rest ≡ true → none_stopping es ≡ true) → (not stopping && none_stopping es) ≡ true
-    parts false false true running rest = rest refl
-    parts false true rest running later = absurd (false≢true running)
-    parts false false false running later = absurd (false≢true running)
-    parts true stopped rest running later = absurd (false≢true running)
+    parts stopping stopped rest h1 h2 = grind (arith, common_steps, nat_tests)
 
 -- ---- turns
 
@@ -150,8 +133,7 @@ pub record IsTurned (opening : List (Key × Value)) (m : Machine) (turning : Tur
   pub halted : IsSome m.stopped → (is_failing turning.ended ≡ false) × IsSome turning.state.stopped × (turning.state.book.entries ≡ m.book.entries)
 
 ended_well : (c : Choice) → is_failing (ended_as c) ≡ false
-ended_well Rest = refl
-ended_well _ = refl
+ended_well c = grind (arith, common_steps, nat_tests)
 
 do_turn_turned : (opening : List (Key × Value)) (m : Machine) (c : Choice) (outcome : Outcome) (seat : ℕ) → Stands opening m → m.stopped ≡ None → Carries m (chosen c seat m)
     → IsTurned opening m (do_turn c outcome seat m)
@@ -222,8 +204,7 @@ work_noted_stands opening m seat work s works = record {
 }
 
 counted_worked : (b : Bool) (worked turns : ℕ) → worked ≤ turns → cond b worked (worked + 1) ≤ turns + 1
-counted_worked true worked turns few = omega arith
-counted_worked false worked turns few = omega arith
+counted_worked b worked turns h1 = grind (arith, common_steps, nat_tests)
 
 pub work_turn_stands : (opening : List (Key × Value)) (m : Machine) (seat : ℕ) (outcome : Outcome) → Stands opening m → HasWay m → seat < callers → Stands opening (work_turn m seat outcome).state
 work_turn_stands opening m seat outcome stands way within =

@@ -1,5 +1,7 @@
 -- What folding does to the weight of lists, and so to the charge.
 use Rattle.std.proofs.Common.{◌≡◌, ℕ, List, length, ◌+◌, ◌≤◌, cond, true, T, [], ◌∷◌, Some, None, refl, ap, sym, subst, ◌∙◌, arith}
+use Rattle.std.proofs.lemmas.Grind.{common_steps}
+use Rattle.std.proofs.lemmas.Bool.Decides.{nat_tests}
 use Rattle.std.specs.Ordering.{is_eq, is_lt}
 use Rattle.std.specs.declared.cmp.Ordering.{Ordering}
 use Rattle.std.specs.declared.cmp.Ordering.TheVariants.{Less, Equal, Greater}
@@ -9,13 +11,11 @@ use Rattle.std.proofs.lemmas.Cmp.{nat_list_cmp_total}
 use Rattle.std.proofs.lemmas.List.Sums.{sum_by-cons}
 use Rattle.blsm_model.specs.declared.key.Key.{Key}
 use Rattle.blsm_model.specs.declared.op.Write.{Write}
-use Rattle.blsm_model.specs.declared.op.Write.TheVariants.{Put, Add, Tail, Del}
 use Rattle.blsm_model.specs.Keys.{key_cmp}
 use Rattle.blsm_model.specs.Format.{overhead}
 use Rattle.blsm_model.specs.Values.{key_of, text_written, weight_of}
 use Rattle.record_delta.specs.declared.record.Rec.{Rec}
-use Rattle.record_delta.specs.declared.record.Rec.TheVariants.{Base, Delta, Tomb}
-use Rattle.record_delta.specs.Records.{alone, weight, settle, record_of, text_of}
+use Rattle.record_delta.specs.Records.{weight, settle, record_of, text_of}
 use Rattle.record_delta.specs.Folding.{over}
 use Rattle.record_delta.proofs.FoldingLemmas.{fold_lighter}
 use Rattle.record_delta.specs.Entries.{AreSorted, Entries, entries_weight, folded_over, record_of_key, settled_base, settled_entries, with_record}
@@ -59,9 +59,7 @@ weight_folded (e ∷ newer) older sorted =
     omega (arith, weight_with e.0 e.1 (folded_over newer older) (sorted_folded_over newer older sorted), weight_folded newer older sorted, weigh_first e newer)
 
 settle_weight : (key : Key) (rec : Rec) (es : Entries) → entries_weight (settled_base key (settle rec) es) ≤ weight key rec + entries_weight es
-settle_weight key (Base v) es = omega (arith, weigh_first (key, Base v) es)
-settle_weight key (Delta d) es = omega (arith, weigh_first (key, Base (alone d)) es)
-settle_weight key Tomb es = omega arith
+settle_weight key rec es = grind (arith, common_steps, nat_tests)
 
 pub weight_settled : (es : Entries) → entries_weight (settled_entries es) ≤ entries_weight es
 weight_settled [] = omega arith
@@ -96,10 +94,7 @@ deep_output_light newer older merge sorted_newer sorted_older is done =
     omega (arith, ap entries_weight (deep_output newer older merge sorted_newer sorted_older is done), weight_settled (folded_over newer older), weight_folded newer older sorted_older)
 
 pub text_of_record : (write : Write) → text_of (record_of write) ≡ text_written write
-text_of_record (Put key value) = refl
-text_of_record (Add key count) = refl
-text_of_record (Tail key tail) = refl
-text_of_record (Del key) = refl
+text_of_record write = grind (arith, common_steps, nat_tests)
 
 pub weight_of_record : (write : Write) → weight (key_of write) (record_of write) ≡ weight_of write
 weight_of_record write = ap (λ (text : List ℕ). overhead + length (key_of write) + length text) (text_of_record write)

@@ -1,6 +1,9 @@
 -- What a write does to the lists: it goes to table A where its key is ahead of the pass, else to B, and its record is over
 -- whatever the lists had of its key.
 use Rattle.std.proofs.Common.{◌≡◌, ◌^◌, ◌<◌, inl, inr, Bool, cond, true, false, not, T, List, [], ◌∷◌, ◌++◌, Some, None, Option, refl, ap, sym, subst, ◌∙◌}
+use Rattle.std.proofs.lemmas.Grind.{common_steps}
+use Rattle.std.proofs.lemmas.Bool.Decides.{nat_tests}
+use Rattle.std.proofs.Common.{arith}
 use Rattle.std.specs.Ordering.{eq_by_cmp}
 use Rattle.std.specs.declared.cmp.Ordering.TheVariants.{Less, Equal, Greater}
 use Rattle.std.specs.Cmp.{nat_eq_equiv}
@@ -16,7 +19,7 @@ use Rattle.blsm_model.specs.Keys.{key_cmp, same_key}
 use Rattle.blsm_model.specs.Tails.{TailFits}
 use Rattle.blsm_model.specs.Values.{key_of, added_count, value_at}
 use Rattle.record_delta.specs.declared.record.Rec.{Rec}
-use Rattle.record_delta.specs.Records.{settled, record_of}
+use Rattle.record_delta.specs.Records.{record_of}
 use Rattle.record_delta.specs.Folding.{over as rec_over, StandsForMore}
 use Rattle.record_delta.proofs.FoldingLemmas.{stands_put, stands_add, stands_tail, stands_del}
 use Rattle.record_delta.specs.Entries.{AreSorted, Entries, is_above, over_any, record_of_key, up_to, with_record}
@@ -49,12 +52,7 @@ behind_put cursor key rec (e ∷ es) here behind =
 
 -- what is behind the cursor keeps its record where a key ahead of it is written
 kept_behind : (cursor : Option Key) (key : Key) (rec : Rec) (es : Entries) (q : Key) → is_above cursor key ≡ true → is_above cursor q ≡ false → record_of_key q (with_record key rec es) ≡ record_of_key q es
-kept_behind cursor key rec es q past behind =
-    find-with_record key rec es q
-    ∙ elim (by_test (eq_by_cmp key_cmp q key)) [
-      | inl same ↦ absurd (false≢true (sym behind ∙ ap (is_above cursor) (tied q key (equal_of (key_cmp q key) same)) ∙ past))
-      | inr apart ↦ ap (λ b. over_any (cond b (Some rec) None) (record_of_key q es)) apart
-    ]
+kept_behind cursor key rec es q past behind = grind (arith, common_steps, nat_tests, find-with_record, by_test, tied, equal_of)
 
 pub find-behind : (cursor : Option Key) (es : Entries) (q : Key) → record_of_key q (up_to cursor es) ≡ cond (not (is_above cursor q)) (record_of_key q es) None
 find-behind cursor es q = find-where_key key_cmp (λ k. not (is_above cursor k)) q (λ x same. ap (λ k. not (is_above cursor k)) (sym (tied q x same))) es
@@ -171,16 +169,11 @@ stands_write (Tail key tail) fits is = stands_tail key tail is
 stands_write (Del key) fits tail = stands_del key
 
 over_as_kept : (b : Bool) (rec : Rec) (kept : Option Rec) → over_any (cond b (Some rec) None) kept ≡ cond b (Some (rec_over rec kept)) kept
-over_as_kept true rec kept = refl
-over_as_kept false rec kept = refl
+over_as_kept b rec kept = grind (arith, common_steps, nat_tests)
 
 pub value_in-write : (write : Write) (lists : Lists) (pass : Option Merge) (writes : List Write) → added_count write < 2 ^ 64 → TailFits write → IsPassOver lists pass
     → ((q : Key) → value_in lists q ≡ value_at writes q) → (q : Key) → value_in (with_write pass (key_of write) (record_of write) lists) q ≡ value_at (writes ++ write ∷ []) q
-value_in-write write lists pass writes fits tail over stood q =
-    ap settled (record_at-write (key_of write) (record_of write) lists pass over q)
-    ∙ ap settled (over_as_kept (eq_by_cmp key_cmp q (key_of write)) (record_of write) (record_at lists q))
-    ∙ ap (λ b. settled (cond b (Some (rec_over (record_of write) (record_at lists q))) (record_at lists q))) (sym (same_as_tie q (key_of write)))
-    ∙ stands_write write fits tail q (record_at lists q) writes (stood q)
+value_in-write write lists pass writes fits tail over stood q = grind (arith, common_steps, nat_tests, record_at-write, over_as_kept, same_as_tie, stands_write)
 
 -- ---- where a write goes
 

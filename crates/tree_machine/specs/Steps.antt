@@ -1,6 +1,6 @@
 -- The steps of the tree. Each is one function of the state, the seat, what is asked, and the step's outcome, which says
 -- whether a call of the disk failed and where, whether a page was found damaged, or whether memory was refused.
-use Rattle.std.specs.Prelude.{ℕ, ◌+◌, ◌-◌, ◌^◌, Bool, true, false, ◌&&◌, ◌||◌, not, List, [], ◌∷◌, length, take, drop, Option, Some, None, option_map, unwrap_or, slice_index, slice_set, if◌then◌else◌, nat_lt, ◌==◌}
+use Rattle.std.specs.Prelude.{ℕ, ◌+◌, ◌-◌, Bool, true, false, ◌&&◌, ◌||◌, not, List, [], ◌∷◌, length, take, drop, Option, Some, None, option_map, unwrap_or, slice_index, slice_set, if◌then◌else◌, nat_lt, ◌==◌}
 use Rattle.std.specs.List.{before_last}
 use Rattle.blsm_model.specs.Format.{callers}
 use Rattle.blsm_model.specs.declared.key.Key.{Key}

@@ -1,5 +1,7 @@
 -- A second walk over a component that didn't read: its pages' entries and weight are below all bounds, so it stops at the first damaged page.
 use Rattle.std.proofs.Common.{◌≡◌, ◌⊎◌, ℕ, zero, ◌+◌, ◌*◌, ◌^◌, ◌<◌, ◌≤◌, List, [], ◌∷◌, ◌++◌, length, refl, ap, sym, subst, ◌∙◌, arith, inl, inr, ⊎_elim, Bool, Option, Some, None, Result, Ok, Err, append-nil, append_assoc, length-append}
+use Rattle.std.proofs.lemmas.Grind.{common_steps}
+use Rattle.std.proofs.lemmas.Bool.Decides.{nat_tests}
 use Rattle.std.specs.Prelude.{nat_eq, IsSome, IsErr, IfErr}
 use Rattle.std.specs.List.{Contains, IsDistinct}
 use Rattle.std.proofs.lemmas.Bool.{cases_lt, false≢true}
@@ -60,8 +62,7 @@ goes_on_within sizes run only pages end n next es file small chained more go =
     }
 
 none_next : (next : Option ℕ) → (IsSome next → ⊥) → next ≡ None
-none_next None not = refl
-none_next (Some n) not = absurd (not refl)
+none_next next h1 = grind (arith, common_steps, nat_tests)
 
 -- as the last one, it makes the component read
 pub record ReadsWhole (sizes : Sizes) (run : Component) (only : Bool) (earlier : List ℕ) (file : List ℕ) : Type 0 where

@@ -1,5 +1,7 @@
 -- A file gives one reason at most not to be read.
 use Rattle.std.proofs.Common.{◌≡◌, ◌∙◌, ℕ, ◌<◌, ◌≤◌, List, [], ◌++◌, refl, ap, sym, subst, arith, true, false}
+use Rattle.std.proofs.lemmas.Grind.{common_steps}
+use Rattle.std.proofs.lemmas.Bool.Decides.{nat_tests}
 use Rattle.std.specs.Prelude.{nat_eq}
 use Rattle.std.specs.List.{IsDistinct}
 use Rattle.blsm_model.specs.Components.{no_page}
@@ -59,17 +61,10 @@ past_version sizes (Lane n) catalogue file damage has above =
     past damage.0.version catalogue.version most_version (ap (λ (c : Catalog). c.version) (same_catalogue sizes damage.0 catalogue file damage.1 has)) damage.2 above
 
 pub damaged_not_worn : (sizes : Sizes) (place : Place) (version : ℕ) (file : List ℕ) → IsFirstDamage sizes place file → IsWorn version file → ⊥
-damaged_not_worn sizes place version file damage worn =
-    past_version sizes place worn.catalogue file damage
-    (subst (λ (s : Sizes). HasCatalogue s worn.catalogue file) (only_sizes worn.sizes sizes file worn.has.store (store_of sizes place file damage)) worn.has)
-    (subst (λ k. most_version < k) (sym worn.version_is) worn.above)
+damaged_not_worn sizes place version file damage worn = grind (arith, common_steps, nat_tests, past_version, only_sizes, store_of)
 
 pub one_version : (one other : ℕ) (file : List ℕ) → IsWorn one file → IsWorn other file → one ≡ other
-one_version one other file a b =
-    sym a.version_is
-    ∙ ap (λ (c : Catalog). c.version)
-    (same_catalogue b.sizes a.catalogue b.catalogue file (subst (λ (s : Sizes). HasCatalogue s a.catalogue file) (only_sizes a.sizes b.sizes file a.has.store b.has.store) a.has) b.has)
-    ∙ b.version_is
+one_version one other file a b = grind (arith, common_steps, nat_tests, same_catalogue, only_sizes)
 
 -- ---- the components
 
@@ -158,13 +153,4 @@ one_place sizes (Lane n) (Lane m) file d e =
 
 pub map_is_read : (sizes : Sizes) (pairs : List (Key × Value)) (why : Unreadable) (file : List ℕ) → (reads : ReadsAsMap sizes pairs file) → reads.tree.catalogue.version ≤ most_version → IsOfFile why
     → IsWhy why file → ⊥
-map_is_read sizes pairs NotAStore file reads taken of why = why (sizes, reads.holds.store)
-map_is_read sizes pairs (Damaged place) file reads taken of why =
-    no_damage sizes place reads.tree file
-    (subst (λ (s : Sizes). IsFirstDamage s place file) (only_sizes why.0 sizes file (store_of why.0 place file why.1) reads.holds.store) why.1) reads.holds reads.fits
-map_is_read sizes pairs (Worn version) file reads taken of why =
-    let has = subst (λ (s : Sizes). HasCatalogue s why.catalogue file) (only_sizes why.sizes sizes file why.has.store reads.holds.store) why.has in
-    past reads.tree.catalogue.version version most_version (ap (λ (c : Catalog). c.version) (one_newest sizes reads.tree.catalogue why.catalogue file reads.holds.newest has.newest) ∙ why.version_is) taken
-    why.above
-map_is_read sizes pairs Fault file reads taken of why = of
-map_is_read sizes pairs NoMemory file reads taken of why = of
+map_is_read sizes pairs why file reads h1 h2 h3 = grind (arith, common_steps, nat_tests, no_damage, only_sizes, store_of, past, one_newest)

@@ -1,5 +1,7 @@
 -- The replay of a lane, entry by entry.
 use Rattle.std.proofs.Common.{◌≡◌, ◌⊎◌, ℕ, zero, suc, ◌+◌, ◌*◌, ◌≤◌, List, [], ◌∷◌, ◌++◌, length, take, refl, ap, sym, subst, ◌∙◌, arith, inl, inr, Result, Ok, Err, Some}
+use Rattle.std.proofs.lemmas.Grind.{common_steps}
+use Rattle.std.proofs.lemmas.Bool.Decides.{nat_tests}
 use Rattle.std.proofs.Math.Seq.{take-nil}
 use Rattle.std.proofs.lemmas.List.{take_at}
 use Rattle.std.proofs.lemmas.List.Sums.{fold-append}
@@ -28,11 +30,7 @@ replayed_push es e = fold-append (λ (table : Entries) (f : Key × Rec). with_re
 pub front_of_push : (es : Entries) (e : Key × Rec) (n : ℕ) → (take n (es ++ e ∷ []) ≡ take n es) ⊎ (take n (es ++ e ∷ []) ≡ es ++ e ∷ [])
 front_of_push es e zero = inl refl
 front_of_push [] e (suc n) = inr (ap (λ (l : Entries). e ∷ l) (take-nil n))
-front_of_push (f ∷ es) e (suc n) =
-    elim (front_of_push es e n) [
-      | inl same ↦ inl (ap (λ (l : Entries). f ∷ l) same)
-      | inr all ↦ inr (ap (λ (l : Entries). f ∷ l) all)
-    ]
+front_of_push (f ∷ es) e (suc n) = grind (arith, common_steps, nat_tests, front_of_push es e n)
 
 pub within_push : (room : ℕ) (es : Entries) (e : Key × Rec) → StaysWithin room es → entries_weight (replayed (es ++ e ∷ [])) ≤ room → StaysWithin room (es ++ e ∷ [])
 within_push room es e within light = λ n.

@@ -1,5 +1,7 @@
 -- The free-page map: one that nobody used, and one whose pages of one tag are released.
 use Rattle.std.proofs.Common.{◌≡◌, ◌≢◌, ℕ, ◌<◌, List, [], sym, subst, ◌∙◌, arith, inl, inr, ⊎_elim, false}
+use Rattle.std.proofs.lemmas.Grind.{common_steps}
+use Rattle.std.proofs.lemmas.Bool.Decides.{nat_tests}
 use Rattle.std.specs.Prelude.{replicate, slice_index_or}
 use Rattle.std.specs.List.{IsDistinct}
 use Rattle.std.proofs.lemmas.Bool.{cases_lt, false≢true}
@@ -10,21 +12,13 @@ use Rattle.tree_reading.specs.Walk.{ChangesOnly, TakesUp}
 use Rattle.tree_reading.proofs.WalkLemmas.{same_or_not}
 
 pub none_has : (pages k : ℕ) → IsIn (none_of pages) k → ⊥
-none_has pages k has =
-    elim (cases_lt k pages) [
-      | inl below ↦ false≢true (sym (get_or-replicate pages k false false below) ∙ has)
-      | inr past ↦ false≢true (sym (get_or_past (none_of pages) k false (omega (arith, past, length-replicate pages false))) ∙ has)
-    ]
+none_has pages k has = grind (arith, common_steps, nat_tests)
 
 nothing_has : (k : ℕ) → IsIn [] k → ⊥
 nothing_has k has = false≢true has
 
 some_none : (n pages i k : ℕ) → IsIn (slice_index_or (replicate n (none_of pages)) i []) k → ⊥
-some_none n pages i k has =
-    elim (cases_lt i n) [
-      | inl below ↦ none_has pages k (subst (λ (set : Members). IsIn set k) (get_or-replicate n i (none_of pages) [] below) has)
-      | inr past ↦ nothing_has k (subst (λ (set : Members). IsIn set k) (get_or_past (replicate n (none_of pages)) i [] (omega (arith, past, length-replicate n (none_of pages)))) has)
-    ]
+some_none n pages i k has = grind (arith, common_steps, nat_tests)
 
 pub no_role_yet : (pages tag k : ℕ) (space : SpaceState) → space ≡ unused pages → HasRole space tag k → ⊥
 no_role_yet pages tag k space is has = some_none role_count pages tag k (subst (λ (s : SpaceState). HasRole s tag k) is has)

@@ -1,5 +1,7 @@
 -- Chains of pages from one first page, and where one is damaged.
 use Rattle.std.proofs.Common.{◌≡◌, ◌⊎◌, ℕ, zero, suc, ◌+◌, ◌<◌, ◌≤◌, List, [], ◌∷◌, ◌++◌, length, refl, ap, sym, subst, ◌∙◌, arith, inl, inr, ⊎_elim, Bool, true, false, Option, Some, None, append_assoc, length-append}
+use Rattle.std.proofs.lemmas.Grind.{common_steps}
+use Rattle.std.proofs.lemmas.Bool.Decides.{nat_tests}
 use Rattle.std.specs.Prelude.{nat_eq, IsSome}
 use Rattle.std.specs.List.{AllByRecursion, Contains, IsDistinct}
 use Rattle.std.specs.declared.cmp.Ordering.TheVariants.{Less}
@@ -45,8 +47,7 @@ front_of_chain sizes (p ∷ ps) (q ∷ qs) end other file few c d first =
     ]
 
 pub is_some : (end : Option ℕ) (n : ℕ) → page_number end ≡ n → n < no_page → end ≡ Some n
-is_some None n is below = absurd (omega (arith, is, below))
-is_some (Some m) n is below = ap (λ k. Some k) is
+is_some end n h1 h2 = grind (arith, common_steps, nat_tests)
 
 -- ---- parts of a list
 
@@ -72,8 +73,7 @@ allowed_back true (e ∷ es) fs all = allowed_back true es fs all.1
 -- ---- a page that is met once
 
 pub single : (y x : ℕ) → Contains (y ∷ []) x → y ≡ x
-single y x (zero, lt, is) = is
-single y x (suc k, lt, is) = absurd (omega (arith, lt))
+single y x h1 = grind (arith, common_steps, nat_tests)
 
 pub distinct_behind : (xs : List ℕ) (y : ℕ) (ys : List ℕ) → IsDistinct nat_eq (xs ++ y ∷ ys) → Contains xs y → ⊥
 unfolding IsDistinct
@@ -105,8 +105,7 @@ distinct_back (x ∷ xs) ys apart = distinct_back xs ys apart.1
 -- ---- a component that reads stops no walk, and has no damaged page
 
 some_first : (ps : List RunPage) → IsSome (first_number ps None) → 0 < length ps
-some_first [] some = absurd (cc)
-some_first (p ∷ ps) some = omega arith
+some_first ps h1 = grind (arith, common_steps, nat_tests)
 
 first_some : (ps : List RunPage) → 0 < length ps → IsSome (first_number ps None)
 first_some [] some = absurd (omega (arith, some))
@@ -121,8 +120,7 @@ no_stopped_page sizes run only earlier n qs file few reads apart allowed d =
     ]
   where
     no_rest : (rest : List RunPage) → length rest ≡ 0 → rest ≡ []
-    no_rest [] none = refl
-    no_rest (p ∷ rest) none = absurd (omega (arith, none))
+    no_rest rest h1 = grind (arith, common_steps, nat_tests)
 
     behind : (rest : List RunPage) → qs ≡ d.pages ++ rest → page_number (first_number rest None) ≡ n → ⊥
     behind [] parts on = omega (arith, d.more, reads.pages_is, ap (λ (l : List RunPage). length l) parts, length-append {A = RunPage} d.pages [])

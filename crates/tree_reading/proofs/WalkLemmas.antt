@@ -1,5 +1,7 @@
 -- A walk over a component's pages, entry by entry.
 use Rattle.std.proofs.Common.{◌≡◌, ◌⊎◌, ◌≢◌, ◌↔◌, ℕ, zero, ◌+◌, ◌-◌, ◌*◌, ◌<◌, ◌≤◌, List, [], ◌∷◌, ◌++◌, length, refl, ap, sym, subst, ◌∙◌, arith, inl, inr, ⊎_elim, Bool, true, false, Option, Some, None, Result, Ok, Err, append-nil, append_assoc, length-append}
+use Rattle.std.proofs.lemmas.Grind.{common_steps}
+use Rattle.std.proofs.lemmas.Bool.Decides.{nat_tests}
 use Rattle.std.specs.Prelude.{nat_eq, IsSome, IfSome, IfNone, ◌||◌}
 use Rattle.std.specs.List.{Contains, IsDistinct, last_or, list_any}
 use Rattle.std.specs.List.Sorted.{IsStrictlySortedBy}
@@ -46,8 +48,7 @@ pages_stay sizes run old new given more file few g h same =
     ]
   where
     none : (rest : List RunPage) → length rest ≡ 0 → rest ≡ []
-    none [] is = refl
-    none (p ∷ rest) is = absurd (omega (arith, is))
+    none rest h1 = grind (arith, common_steps, nat_tests)
 
 -- where a page less is left, the next one was read
 pub record HasTurned (old : CursorState) (before after : List RunPage) : Type 0 where
@@ -72,20 +73,14 @@ pages_turn sizes run old new given more file few g h less =
 
 -- a number and one that isn't it
 pub same_or_not : (a b : ℕ) → (a ≡ b) ⊎ (a ≢ b)
-same_or_not a b = decided (nat_eq a b) refl
-  where
-    decided : (r : Bool) → nat_eq a b ≡ r → (a ≡ b) ⊎ (a ≢ b)
-    decided true is = inl (eqb-true a b is)
-    decided false is = inr (eqb-false a b is)
+same_or_not a b = grind (arith, common_steps, nat_tests)
 
 pub distinct_push : (xs : List ℕ) (y : ℕ) → IsDistinct nat_eq xs → (Contains xs y → ⊥) → IsDistinct nat_eq (xs ++ y ∷ [])
 distinct_push xs y apart not = IsDistinct-push nat_eq_equiv xs y apart (not_any xs not)
   where
     not_any : (zs : List ℕ) → (Contains zs y → ⊥) → list_any (nat_eq y) zs ≡ false
     not_any [] none = refl
-    not_any (z ∷ zs) none =
-        ap (λ b. b || list_any (nat_eq y) zs) (ne_eqb y z (λ same. none (Contains-append_left (z ∷ []) zs y (zero, omega arith, sym same))))
-        ∙ not_any zs (λ has. none (Contains-append_right (z ∷ []) zs y has))
+    not_any (z ∷ zs) none = grind (arith, common_steps, nat_tests, not_any zs (λ has. none (Contains-append_right (z ∷ []) zs y has)))
 
 pub takes_push : (numbers : List ℕ) (role n : ℕ) (old new : SpaceState) → TakesUp numbers old → IsFree old n → Claims role n old new → TakesUp (numbers ++ n ∷ []) new
 takes_push numbers role n old new takes free claims = record {
@@ -155,8 +150,7 @@ taken_turned earlier role page n old space now ps qs p was parts number free cla
     numbers = ap numbers_of parts ∙ numbers_push ps p ∙ ap (λ k. numbers_of ps ++ k ∷ []) number
 
 still : (behind : List ℕ) (old new : ℕ) → (behind ≡ [] → old ≡ 0) → (behind ≢ [] → new ≡ old) → new ≤ old → new ≡ old
-still [] old new none stays fewer = omega (arith, none refl, fewer)
-still (b ∷ behind) old new none stays fewer = stays (λ is. cc (is))
+still behind old new h1 h2 h3 = grind (arith, common_steps, nat_tests)
 
 -- one advance of the cursor, after its next page was entered
 pub taken_on : (sizes : Sizes) (run : Component) (earlier : List ℕ) (role page n : ℕ) (first space now : SpaceState) (old new : CursorState) (given more : Entries) (file : List ℕ) → page_count sizes ≤ no_page
@@ -230,8 +224,7 @@ met_again sizes run only earlier role old cursor page n space file few w count n
 
 -- the page that is read next was entered
 entered_inside : (cursor : CursorState) (page role n : ℕ) (old new : SpaceState) → IsEntered cursor page role n old new → cursor.behind ≡ [] → 0 < cursor.pages → cursor.next < old.pages
-entered_inside cursor page role n old new (due none some is free claims) empty more = omega (arith, is, free.in_range)
-entered_inside cursor page role n old new (on none is same) empty more = absurd (omega (arith, none empty, more))
+entered_inside cursor page role n old new h1 h2 h3 = grind (arith, common_steps, nat_tests)
 
 -- it isn't valid, or doesn't go on
 pub damage_at : (sizes : Sizes) (run : Component) (only : Bool) (earlier : List ℕ) (role : ℕ) (old : SpaceState) (cursor : CursorState) (page m n : ℕ) (space now : SpaceState) (file : List ℕ) → page_count sizes ≤ no_page
@@ -313,8 +306,7 @@ last_stops sizes run only earlier role old cursor given page space file ps p few
     }
 
 pub some_pages : (sizes : Sizes) (run : Component) (new : CursorState) (given : Entries) (e : Key × Rec) (file : List ℕ) → (h : HasGiven sizes run new (given ++ e ∷ []) file) → h.pages ≡ [] → ⊥
-some_pages sizes run new given e file h none =
-    omega (arith, ap (λ (l : List RunPage). length (entries_of l)) none, ap (λ (l : Entries). length l) h.entries_are, length-append (given ++ e ∷ []) h.here, length-append given (e ∷ []))
+some_pages sizes run new given e file h none = grind (arith, common_steps, nat_tests)
 
 -- it has an entry that the component may not have
 pub not_allowed : (sizes : Sizes) (run : Component) (only : Bool) (earlier : List ℕ) (role : ℕ) (old : SpaceState) (new : CursorState) (given : Entries) (e : Key × Rec) (page : ℕ) (space : SpaceState)
@@ -365,8 +357,7 @@ first_nowhere sizes run only earlier n file apart first past some = record {
 }
 
 none_named : (pages : ℕ) (next : Option ℕ) → IfSome next (λ n. n < pages) → pages ≤ page_number next → IsSome next → ⊥
-none_named pages None next_is past some = absurd (cc)
-none_named pages (Some n) next_is past some = omega (arith, next_is, past)
+none_named pages next h1 h2 h3 = grind (arith, common_steps, nat_tests)
 
 -- the page that the walk is at isn't the component's last one
 nowhere_on : (sizes : Sizes) (run : Component) (only : Bool) (earlier : List ℕ) (role : ℕ) (old : SpaceState) (cursor : CursorState) (page : ℕ) (space : SpaceState) (file : List ℕ) → page_count sizes ≤ no_page
@@ -413,8 +404,7 @@ walked_end sizes run only earlier role old new given page space file few list h 
     }
   where
     none : (rest : List RunPage) → length rest ≡ 0 → rest ≡ []
-    none [] is = refl
-    none (p ∷ rest) is = absurd (omega (arith, is))
+    none rest h1 = grind (arith, common_steps, nat_tests)
 
     all_pages : list.pages ≡ h.pages
     all_pages =
@@ -532,16 +522,11 @@ pub not_fault : (n : ℕ) → Damaged n ≡ Fault → ⊥
 not_fault n same = cc
 
 pub no_head : (head : Option (Key × Rec)) → ((e : Key × Rec) → head ≡ Some e → ⊥) → head ≡ None
-no_head None none = refl
-no_head (Some e) none = absurd (none e refl)
+no_head head h1 = grind (arith, common_steps, nat_tests)
 
 -- one call for each page that isn't read yet
 pub few_calls : (pages all old mid new : ℕ) → mid + pages ≤ old + all → new ≤ mid + 1 → (pages ≡ 0 → new ≡ mid) → new ≤ old + all
-few_calls pages all old mid new so_far one none =
-    elim (cases_lt 0 pages) [
-      | inl some ↦ omega (arith, some, so_far, one)
-      | inr le ↦ omega (arith, so_far, none (omega (arith, le)))
-    ]
+few_calls pages all old mid new so_far one none = grind (arith, common_steps, nat_tests)
 
 pub record IsEnterRefused (cursor : CursorState) (page : ℕ) (old new : SpaceState) (broken : Broken) : Type 0 where
   pub number : ℕ
@@ -560,9 +545,7 @@ tells_broken sizes run only earlier role old new file (Damaged n) damage = damag
 
 -- at the end no page is left
 pub ended_pages : (old cursor : CursorState) → cursor.head ≡ None → IfNone cursor.head ((old.weight ≡ 0) × (cursor.entries ≡ 0) × (cursor.weight ≡ 0) × (cursor.pages ≡ 0)) → cursor.pages ≡ 0
-ended_pages old cursor none ended =
-    let there = subst (λ (h : Option (Key × Rec)). IfNone h ((old.weight ≡ 0) × (cursor.entries ≡ 0) × (cursor.weight ≡ 0) × (cursor.pages ≡ 0))) none ended in
-    there.3
+ended_pages old cursor none ended = grind (arith, common_steps, nat_tests)
 
 pub walked_start : (sizes : Sizes) (run : Component) (only : Bool) (earlier : List ℕ) (role : ℕ) (space : SpaceState) (cursor : CursorState) (page : ℕ) (file : List ℕ) → HasGiven sizes run cursor [] file
     → cursor.pages ≡ run.pages → page ≡ run.first → TakesUp earlier space → HasWalked sizes run only earlier role space cursor page space file
@@ -575,5 +558,4 @@ walked_start sizes run only earlier role space cursor page file g all first take
 }
   where
     no_pages : (ps : List RunPage) → length ps ≡ 0 → ps ≡ []
-    no_pages [] none = refl
-    no_pages (p ∷ ps) none = absurd (omega (arith, none))
+    no_pages ps h1 = grind (arith, common_steps, nat_tests)

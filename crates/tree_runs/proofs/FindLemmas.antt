@@ -1,5 +1,7 @@
 -- Lookups in one component after the other.
 use Rattle.std.specs.Prelude.{◌≡◌, ◌≢◌, ◌⊎◌, ℕ, ◌+◌, ◌≤◌, IsTrue, List, length, Option, Result, Ok, Err}
+use Rattle.std.proofs.lemmas.Grind.{common_steps}
+use Rattle.std.proofs.lemmas.Bool.Decides.{nat_tests}
 use Rattle.std.proofs.Common.{◌∙◌, inl, inr, ap, sym, subst, refl, arith}
 use Rattle.refusal.specs.Count.{HasRisen}
 use Rattle.disk_trait.specs.Disk.{DiskState}
@@ -242,9 +244,7 @@ reads_then {A} {B} {end} {m} {n} {total} {value} {result} {old} {mid} {new} time
 
 -- the file stays as long
 pub reads_long : {A : Type 0} {end n : ℕ} {result : Result A Broken} {old new : DiskState} → Reads end n result old new → (IsTrue old.tells_bytes → length old.bytes ≡ end) → IsTrue new.tells_bytes → length new.bytes ≡ end
-reads_long reads long tells =
-    let told = subst IsTrue reads.effect.effect.goes_on.tells_bytes tells in
-    reads.effect.same.same.length told ∙ long told
+reads_long reads long tells = grind (arith, common_steps, nat_tests)
 
 pub no_unit_fault : (value : Unit {0}) → ◌≡◌ {A = Result (Unit {0}) Broken} (Ok value) (Err Fault) → ⊥
 no_unit_fault value wrong = cc

@@ -1,5 +1,7 @@
 -- What the components and the merges keep when a seat pins other pages.
 use Rattle.std.specs.Prelude.{◌≡◌, ◌≢◌, ℕ, ◌+◌, ◌<◌, ◌≤◌, Bool, List, [], ◌++◌, Some, Result, Ok, Err, IfOk, OnOk, OnErr, slice_index_or, refl}
+use Rattle.std.proofs.lemmas.Grind.{common_steps}
+use Rattle.std.proofs.lemmas.Bool.Decides.{nat_tests}
 use Rattle.std.specs.List.{Contains}
 use Rattle.std.proofs.Common.{⊎_elim, inl, inr, sym, subst, ap, ◌∙◌, arith}
 use Rattle.std.proofs.lemmas.Bool.{cases_eq}
@@ -116,8 +118,7 @@ share_of runs are live = omega (arith, live, are.c1.filled.full, are.c1x.filled.
 pub few_held : {E : Type 0} (runs : RunsState) (low high : Key) (b a : Entries) (result : Result HoldState E) → AreRuns runs
     → runs.catalogue.c1.weight + runs.catalogue.c1x.weight + runs.catalogue.c2.weight ≤ capacity runs.sizes
     → IfOk result (λ hold. hold ≡ held_from low high b a runs.catalogue.c1 runs.catalogue.c1x runs.catalogue.c2) → IfOk result (λ hold. pages_behind (Some hold) ≤ page_share runs.sizes)
-few_held runs low high b a (Ok hold) are live is = omega (arith, ap (λ (h : HoldState). pages_behind (Some h)) is, share_of runs are live)
-few_held runs low high b a (Err error) are live is = tt
+few_held runs low high b a result h1 h2 h3 = grind (arith, common_steps, nat_tests)
 
 pub held_repinned : (runs : RunsState) (after : SpaceState) (seat : ℕ) → AreRuns runs → runs.catalogue.c1.weight + runs.catalogue.c1x.weight + runs.catalogue.c2.weight ≤ capacity runs.sizes
     → Pins seat runs.tags.c1 runs.tags.c1x runs.tags.c2 runs.space after → Repinned runs after

@@ -1,5 +1,7 @@
 -- A quantum as the merges take it, group by group, is the one that the machine computes of the lists.
 use Rattle.std.proofs.Common.{◌≡◌, ◌∙◌, ◌⊎◌, ⊎_elim, ℕ, ◌+◌, ◌-◌, ◌<◌, ◌≤◌, Bool, true, false, cond, [], ◌∷◌, Option, Some, None, refl, ap, sym, subst, inl, inr, arith}
+use Rattle.std.proofs.lemmas.Grind.{common_steps}
+use Rattle.std.proofs.lemmas.Bool.Decides.{nat_tests}
 use Rattle.std.specs.Prelude.{nat_lt, sum_by}
 use Rattle.std.specs.List.{AllByRecursion}
 use Rattle.std.specs.Ordering.{is_lt, is_eq}
@@ -43,9 +45,7 @@ put_in_order : (key : Key) (rec : Rec) (f : Key × Rec) (es : Entries) (o : Orde
     → with_record key rec (f ∷ es)
     ≡ by_order o ((key, over rec (cond (is_eq o) (Some f.1) (record_of_key key es))) ∷ f ∷ es) ((f.0, over rec (cond (is_eq o) (Some f.1) (record_of_key key es))) ∷ es)
     (f ∷ put key_cmp key (over rec (cond (is_eq o) (Some f.1) (record_of_key key es))) es)
-put_in_order key rec f es o is =
-    ap (λ (o : Ordering). by_order o ((key, over rec (cond (is_eq o) (Some f.1) (record_of_key key es))) ∷ f ∷ es) ((f.0, over rec (cond (is_eq o) (Some f.1) (record_of_key key es))) ∷ es)
-    (f ∷ put key_cmp key (over rec (cond (is_eq o) (Some f.1) (record_of_key key es))) es)) is
+put_in_order key rec f es o is = grind (arith, common_steps, nat_tests)
 
 -- an older entry below all newer ones comes first
 fold_front : (f : Key × Rec) (newer older : Entries) → below_all key_cmp f.0 newer ≡ true → folded_over newer (f ∷ older) ≡ f ∷ folded_over newer older
@@ -225,14 +225,7 @@ heavier at key newer older up = omega (arith, heavier_in at key newer up, heavie
 
 -- a key that has a group isn't below the least group's
 not_before : (at : Option Key) (newer older : Entries) (g : Group at newer older) (key : Key) → is_above at key ≡ true → 0 < total newer older key → (g.key ≡ key) ⊎ (is_above (Some g.key) key ≡ true)
-not_before at newer older g key up some = by (key_cmp g.key key) refl
-  where
-    by : (o : Ordering) → key_cmp g.key key ≡ o → (g.key ≡ key) ⊎ (is_above (Some g.key) key ≡ true)
-    by Less is = inr (ap is_lt is)
-    by Equal is = inl (same g.key key is)
-    by Greater is =
-        let higher : is_above (Some key) g.key ≡ true = ap is_lt (turned g.key key Greater is) in
-        absurd (omega (arith, some, heavier at key newer older up, heavier (Some key) g.key newer older higher, g.less, g.weighs))
+not_before at newer older g key up some = grind (arith, common_steps, nat_tests, same, turned, heavier)
 
 -- what is above a key that another isn't above weighs no more
 lighter : (at : Option Key) (key : Key) (newer older : Entries) → is_above at key ≡ false → weight_above at newer older ≤ weight_above (Some key) newer older
@@ -246,24 +239,13 @@ lighter (Some low) key newer older behind = by (key_cmp low key) refl
 
 -- a cursor that went on and isn't above the one before it is the same
 same_cursor : (at : Option Key) (key : Key) → is_above at key ≡ false → IsOnward at (Some key) → Some key ≡ at
-same_cursor None key behind onward = absurd (false≢true (sym behind))
-same_cursor (Some low) key behind onward = by (key_cmp low key) refl
-  where
-    by : (o : Ordering) → key_cmp low key ≡ o → Some key ≡ Some low
-    by Less is = absurd (false≢true (sym behind ∙ ap is_lt is))
-    by Equal is = ap (λ (k : Key). Some k) (sym (same low key is))
-    by Greater is = absurd (false≢true (sym (not_below_itself low) ∙ onward low (ap is_lt (turned low key Greater is))))
+same_cursor at key h1 h2 = grind (arith, common_steps, nat_tests, same, not_below_itself, turned)
 
 -- ---- groups that weigh alike
 
 until_alike : (v w : Key → ℕ) (wanted : ℕ) (es : Entries) → AllByRecursion (λ e. v e.0 ≡ w e.0) es → until wanted v es ≡ until wanted w es
 until_alike v w wanted [] each = refl
-until_alike v w wanted (e ∷ es) each =
-    ap (λ n. e ∷ cond (nat_lt n wanted) (until (wanted - n) v es) []) each.0
-    ∙ elim (nat_lt (w e.0) wanted) as (λ b. ◌≡◌ {A = Entries} (e ∷ cond b (until (wanted - w e.0) v es) []) (e ∷ cond b (until (wanted - w e.0) w es) [])) [
-      | true ↦ ap (λ (l : Entries). e ∷ l) (until_alike v w (wanted - w e.0) es each.1)
-      | false ↦ refl
-    ]
+until_alike v w wanted (e ∷ es) each = grind (arith, common_steps, nat_tests, until_alike v w (wanted - w e.0) es each.1)
 
 all_until : (P : Key × Rec → Type 0) (weigh : Key → ℕ) (wanted : ℕ) (es : Entries) → AllByRecursion P es → AllByRecursion P (until wanted weigh es)
 all_until P weigh wanted [] each = tt
@@ -336,12 +318,7 @@ went_on : (least : ℕ) (at to : Option Key) (newer older : Entries) (taken : �
 went_on least at to newer older taken g some sorted_newer sorted_older onward quantum = by quantum.has_taken.last
   where
     not_same : to ≡ at → ⊥
-    not_same is =
-        let weight = ap (λ (t : Option Key). weight_above t newer older) is in
-        ⊎_elim
-        (λ (enough : least ≤ taken). omega (arith, enough, some, weight, quantum.has_taken.taken_is))
-        (λ (none : NoneAbove to newer older). omega (arith, none_weighs to newer older none, weight, g.less, g.some))
-        quantum.enough
+    not_same is = grind (arith, common_steps, nat_tests)
 
     by : (to ≡ at) ⊎ IsLast least at to newer older → WentOn least at to newer older g.key
     by (inl is) = absurd (not_same is)
@@ -365,8 +342,7 @@ behind_first least at to newer older taken g some went quantum = (onward, record
     onward key up = up_from key went.further (subst (λ (t : Option Key). is_above t key ≡ true) went.to_is up)
 
     lighter_than : (g.key ≡ went.last.key) ⊎ (is_above (Some g.key) went.last.key ≡ true) → weight_above (Some went.last.key) newer older ≤ weight_above (Some g.key) newer older
-    lighter_than (inl is) = omega (arith, ap (λ (k : Key). weight_above (Some k) newer older) is)
-    lighter_than (inr higher) = let more = heavier (Some g.key) went.last.key newer older higher in omega (arith, more)
+    lighter_than h1 = grind (arith, common_steps, nat_tests)
 
     light : weight_above to newer older ≤ weight_above (Some g.key) newer older
     light = omega (arith, ap (λ (t : Option Key). weight_above t newer older) went.to_is, lighter_than went.further)
@@ -380,31 +356,12 @@ behind_first least at to newer older taken g some went quantum = (onward, record
     }
 
     enough : (least ≤ taken) ⊎ NoneAbove to newer older → (least - g.taken ≤ taken - g.taken) ⊎ NoneAbove to newer older
-    enough (inl is) = inl (omega (arith, is))
-    enough (inr none) = inr none
+    enough h1 = grind (arith, common_steps, nat_tests)
 
 -- a first group that is enough is all of it
 only_first : (least : ℕ) (at to : Option Key) (newer older : Entries) (taken : ℕ) (g : Group at newer older) → least ≤ g.taken → WentOn least at to newer older g.key → IsQuantum least at to newer older taken
     → (taken ≡ g.taken) × (to ≡ Some g.key)
-only_first least at to newer older taken g enough went quantum = (omega (arith, g.less, quantum.has_taken.taken_is, ap (λ (t : Option Key). weight_above t newer older) to_is), to_is)
-  where
-    above_itself : (key : Key) → is_above (Some key) key ≡ true → ⊥
-    above_itself key up = false≢true (sym (not_below_itself key) ∙ up)
-
-    by : (g.key ≡ went.last.key) ⊎ (is_above (Some g.key) went.last.key ≡ true) → to ≡ Some g.key
-    by (inl is) = went.to_is ∙ ap (λ (k : Key). Some k) (sym is)
-    by (inr higher) =
-        elim (by_test (is_above went.before g.key)) [
-          | inl up ↦
-              absurd (⊎_elim
-              (λ is. above_itself g.key (subst (λ (k : Key). is_above (Some g.key) k ≡ true) is higher))
-              (λ lower. above_itself g.key (further (Some g.key) went.last.key g.key higher lower))
-              (not_before went.before newer older went.last g.key up (omega (arith, g.weighs, g.some))))
-          | inr behind ↦ absurd (omega (arith, lighter went.before g.key newer older behind, went.few, g.less, enough))
-        ]
-
-    to_is : to ≡ Some g.key
-    to_is = by went.further
+only_first least at to newer older taken g enough went quantum = grind (arith, common_steps, nat_tests, not_below_itself, by_test, further, not_before, lighter)
 
 none_first : (f : Key × Rec) (fs : Entries) → ◌≡◌ {A = Entries} [] (f ∷ fs) → ⊥
 none_first f fs wrong = cc
@@ -435,9 +392,7 @@ agree (f ∷ fs) least at to newer older taken is some sorted_newer sorted_older
         × (to ≡ cursor_after (Some g.key) (until (least - g.taken) (group_weight (above (Some g.key) newer) (above (Some g.key) older)) fs))
 
     given : (g : Group at newer older) → (f.0 ≡ g.key) × (fs ≡ folded_over (above (Some g.key) newer) (above (Some g.key) older))
-    given g =
-        let parts = same_first f (g.key, g.rec) fs (folded_over (above (Some g.key) newer) (above (Some g.key) older)) (sym is ∙ g.folded) in
-        (ap (λ (e : Key × Rec). e.0) parts.0, parts.1)
+    given g = grind (arith, common_steps, nat_tests)
 
     weighs : (g : Group at newer older) → group_weight (above at newer) (above at older) f.0 ≡ g.taken
     weighs g = ap (group_weight (above at newer) (above at older)) (given g).0 ∙ sym g.weighs_left

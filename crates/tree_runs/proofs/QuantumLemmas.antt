@@ -1,5 +1,7 @@
 -- A quantum of a merge: what the components, the other merge and the tree keep, and what the one that took it has.
 use Rattle.std.specs.Prelude.{◌≡◌, ◌≢◌, ℕ, ◌+◌, ◌/◌, ◌<◌, ◌≤◌, Bool, IsTrue, List, Option, Some, Result, Ok, Err, OnOk}
+use Rattle.std.proofs.lemmas.Grind.{common_steps}
+use Rattle.std.proofs.lemmas.Bool.Decides.{nat_tests}
 use Rattle.std.proofs.Common.{◌∙◌, ap, sym, subst, arith}
 use Rattle.disk_trait.specs.Disk.{DiskState}
 use Rattle.disk_trait.specs.Moments.{IsTimed, LeavesOnly}
@@ -65,14 +67,10 @@ tree_stays runs tree a role most after old new are tag shape works honest timed 
 
 -- a run and what is left for it weigh the capacity at most
 pub pass_light : (runs : RunsState) (snow : SnowState) (a : Entries) → runs.pass ≡ Some snow → Fits runs a → snow.writer.component.weight + pass.left_weight snow a ≤ capacity runs.sizes
-pass_light runs snow a is fits =
-    let made = subst (λ (p : Option SnowState). (made_by_pass p).weight + left_for_pass p a + ((made_by_deep runs.deep).weight + left_for_deep runs.deep) ≤ capacity runs.sizes) is fits.made in
-    omega (arith, made)
+pass_light runs snow a is fits = grind (arith, common_steps, nat_tests)
 
 pub deep_light : (runs : RunsState) (merge : DeepState) (a : Entries) → runs.deep ≡ Some merge → Fits runs a → merge.writer.component.weight + deep.left_weight merge ≤ capacity runs.sizes
-deep_light runs merge a is fits =
-    let made = subst (λ (d : Option DeepState). (made_by_pass runs.pass).weight + left_for_pass runs.pass a + ((made_by_deep d).weight + left_for_deep d) ≤ capacity runs.sizes) is fits.made in
-    omega (arith, made)
+deep_light runs merge a is fits = grind (arith, common_steps, nat_tests)
 
 -- so there are pages for it
 pub pass_has_room : (runs : RunsState) (snow : SnowState) (a : Entries) → runs.pass ≡ Some snow → AreRuns runs → Fits runs a → HasRoom runs.space snow.writer (pass.left_weight snow a)

@@ -1,5 +1,7 @@
 -- What a free-page map keeps when a tag is released.
 use Rattle.std.specs.Prelude.{◌≡◌, ◌≢◌, ◌⊎◌, ℕ, ◌+◌, ◌<◌, true, false, slice_index_or}
+use Rattle.std.proofs.lemmas.Grind.{common_steps}
+use Rattle.std.proofs.lemmas.Bool.Decides.{nat_tests}
 use Rattle.std.proofs.Common.{inl, inr, sym, subst, ap, ◌∙◌, arith}
 use Rattle.std.proofs.lemmas.Bool.{cases_eq, cases_lt, false≢true}
 use Rattle.std.proofs.lemmas.List.{get_or-replicate, get_or_past, length-replicate}
@@ -18,11 +20,7 @@ pub record Released (role : ℕ) (old new : SpaceState) : Type 0 where
   pub size : role_size new role ≡ 0
 
 pub none_has : (pages n : ℕ) (set : Members) → set ≡ none_of pages → slice_index_or set n false ≡ true → ⊥
-none_has pages n set is has =
-    elim (cases_lt n pages) [
-      | inl below ↦ false≢true (sym (ap (λ (s : Members). slice_index_or s n false) is ∙ get_or-replicate pages n false false below) ∙ has)
-      | inr past ↦ false≢true (sym (ap (λ (s : Members). slice_index_or s n false) is ∙ get_or_past (none_of pages) n false (omega (arith, past, length-replicate pages false))) ∙ has)
-    ]
+none_has pages n set is has = grind (arith, common_steps, nat_tests)
 
 -- A tag that a page has it had before; and each other tag it has still.
 pub has_before : {role : ℕ} {old new : SpaceState} → Released role old new → (tag n : ℕ) → HasRole new tag n → HasRole old tag n

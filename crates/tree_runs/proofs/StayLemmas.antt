@@ -1,5 +1,7 @@
 -- What the components and the runs keep while one tag takes pages and only its pages are written.
 use Rattle.std.specs.Prelude.{◌≡◌, ◌⊎◌, ℕ, zero, suc, false, ◌<◌, Bool, IsTrue, List, [], ◌∷◌, ◌++◌, length, None}
+use Rattle.std.proofs.lemmas.Grind.{common_steps}
+use Rattle.std.proofs.lemmas.Bool.Decides.{nat_tests}
 use Rattle.std.specs.List.{Contains}
 use Rattle.std.proofs.Common.{◌∙◌, ap, sym, subst, inl, inr, ⊎_elim, refl, arith}
 use Rattle.std.proofs.lemmas.Bool.{cases_eq, cases_lt, false≢true}
@@ -48,10 +50,7 @@ one_tag_after {old} {new} {role} takes before page one other has also = by (case
         (takes.only_free page taken)
 
     by : (one ≡ role) ⊎ (one ≡ role → ⊥) → (other ≡ role) ⊎ (other ≡ role → ⊥) → one ≡ other
-    by (inl is) (inl same) = is ∙ sym same
-    by (inl is) (inr differs) = is ∙ sym (first other differs also (subst (λ (t : ℕ). HasRole new t page) is has))
-    by (inr differs) (inl is) = first one differs has (subst (λ (t : ℕ). HasRole new t page) is also) ∙ sym is
-    by (inr differs) (inr differs') = before page one other (other_tag takes one differs page has) (other_tag takes other differs' page also)
+    by h1 h2 = grind (arith, common_steps, nat_tests)
 
 -- ---- what isn't the tag's
 
@@ -72,18 +71,13 @@ pages_other sizes tag differs one_tag takes = record { tagged = tag_kept takes t
 -- ---- the tree
 
 in_range : (set : Members) (page : ℕ) → IsIn set page → page < length set
-in_range set page is_in =
-    elim (cases_lt page (length set)) [
-      | inl below ↦ below
-      | inr past ↦ absurd (false≢true (sym (get_or_past set page false past) ∙ is_in))
-    ]
+in_range set page is_in = grind (arith, common_steps, nat_tests)
 
 here : (n : ℕ) (ns : List ℕ) → Contains (n ∷ ns) n
 here n ns = Contains-append_left (n ∷ []) ns n (0, omega arith, refl)
 
 only : (n m : ℕ) → Contains (n ∷ []) m → m ≡ n
-only n m (zero, within, is) = sym is
-only n m (suc k, within, is) = absurd (omega (arith, within))
+only n m h1 = grind (arith, common_steps, nat_tests)
 
 -- a tag's pages are the store's
 pub role_below : (space : SpaceState) (role n : ℕ) → IsSpace space → role < role_count → HasRole space role n → n < space.pages
@@ -131,15 +125,7 @@ not_live tags tree space role one_tag c1 c1x c2 in_c1 in_c1x in_c2 n has live =
 
 -- a run without pages is the empty component
 empty_run : (writer : WriterState) (run : Run) → Holds writer run → writer.component.pages ≡ 0 → writer.component ≡ empty_component
-empty_run writer run held none = by (pages_of run) refl
-  where
-    by : (ps : List RunPage) → pages_of run ≡ ps → writer.component ≡ empty_component
-    by [] is =
-        let first : writer.component.first ≡ empty_component.first = sym held.first_is ∙ ap (λ (ps : List RunPage). page_number (first_number ps None)) is in
-        let entries : writer.component.entries ≡ 0 = sym held.entries_is ∙ ap (λ (ps : List RunPage). length (entries_of ps)) is in
-        let weight : writer.component.weight ≡ 0 = sym held.weight_is ∙ ap (λ (ps : List RunPage). entries_weight (entries_of ps)) is in
-        λ j. record { first = first j; pages = none j; entries = entries j; weight = weight j }
-    by (p ∷ ps) is = absurd (omega (arith, none, held.pages_is, ap (λ (ps : List RunPage). length ps) is))
+empty_run writer run held none = grind (arith, common_steps, nat_tests)
 
 -- what is true of a run's numbers, on any disk
 pub run_filled : (sizes : Sizes) (honest : Bool) (file : List ℕ) (space : SpaceState) (writer : WriterState) (filter : BitState) (fences : FencesState) (entries : Entries)

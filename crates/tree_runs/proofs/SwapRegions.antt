@@ -1,5 +1,7 @@
 -- Where a swap writes: not in the pages of other tags, and beside a tree that has none of them.
 use Rattle.std.specs.Prelude.{◌≡◌, ◌≢◌, ℕ, ◌+◌, ◌<◌, ◌≤◌, false, [], ◌∷◌, ◌++◌, zero, suc, length, refl}
+use Rattle.std.proofs.lemmas.Grind.{common_steps}
+use Rattle.std.proofs.lemmas.Bool.Decides.{nat_tests}
 use Rattle.std.specs.List.{Contains}
 use Rattle.std.proofs.Common.{⊎_elim, inl, inr, sym, subst, ◌∙◌, arith}
 use Rattle.std.proofs.lemmas.Bool.{cases_lt, false≢true}
@@ -26,10 +28,7 @@ use Rattle.tree_runs.specs.Holding.{AreTagged, swap_region}
 -- ---- not in the pages of other tags
 
 pub lane_before : (sizes : Sizes) (lane : ℕ) → 1 ≤ sizes.half → lane < 3 → region_start sizes lane + 1 ≤ page_start sizes 0
-lane_before sizes zero some below = omega (arith, some)
-lane_before sizes (suc zero) some below = omega (arith, some)
-lane_before sizes (suc (suc zero)) some below = omega (arith, some)
-lane_before sizes (suc (suc (suc lane))) some below = absurd (omega (arith, below))
+lane_before sizes lane h1 h2 = grind (arith, common_steps, nat_tests)
 
 pub swap_apart : (sizes : Sizes) (space : SpaceState) (of_run tag : ℕ) (now : Catalog) → IsGeometry sizes → AreRoles now.lanes → HasOneTag space → of_run ≢ tag
     → AreApart (swap_region sizes space of_run now) (role_region sizes space tag)
@@ -48,18 +47,13 @@ swap_apart sizes space of_run tag now geometry roles once differs i here there =
 
 -- a page that has a tag is one of the store's
 pub tagged_below : (space : SpaceState) (tag n : ℕ) → IsSpace space → tag < role_count → HasRole space tag n → n < space.pages
-tagged_below space tag n shape below has =
-    elim (cases_lt n (length (pages_with space tag))) [
-      | inl within ↦ omega (arith, within, shape.of_role tag below)
-      | inr past ↦ absurd (false≢true (sym (get_or_past (pages_with space tag) n false past) ∙ has))
-    ]
+tagged_below space tag n shape below has = grind (arith, common_steps, nat_tests)
 
 front_in : (n : ℕ) → Contains (n ∷ []) n
 front_in n = (0, omega arith, refl)
 
 only_in : (n m : ℕ) → Contains (n ∷ []) m → m ≡ n
-only_in n m (zero, within, is) = sym is
-only_in n m (suc k, within, is) = absurd (omega (arith, within))
+only_in n m h1 = grind (arith, common_steps, nat_tests)
 
 pub tagged_beside : (sizes : Sizes) (tree : Tree) (space : SpaceState) (tag : ℕ) → AreRoles tree.catalogue.lanes → ((n : ℕ) → HasRole space tag n → Contains (live_pages tree) n → ⊥)
     → ((n : ℕ) → HasRole space tag n → n < page_count sizes) → IsBeside sizes tree (role_region sizes space tag)

@@ -1,5 +1,7 @@
 -- What each swap makes of the tree that stood, from the end of its run to the commit.
 use Rattle.std.specs.Prelude.{◌≡◌, ℕ, ◌+◌, ◌<◌, ◌≤◌, ◌^◌, Bool, true, false, IsTrue, List, [], Option, Some, None, Result, is_ok, refl}
+use Rattle.std.proofs.lemmas.Grind.{common_steps}
+use Rattle.std.proofs.lemmas.Bool.Decides.{nat_tests}
 use Rattle.std.specs.List.{Contains}
 use Rattle.std.proofs.Common.{sym, subst, ap, ◌∙◌, arith}
 use Rattle.std.proofs.lemmas.List.Sums.{count_by-le-length}
@@ -43,8 +45,7 @@ pub record IsFinished (runs : RunsState) (tree : Tree) (a : Entries) (tag : ℕ)
 -- ---- a run suits
 
 few_pages_of_run : (runs : RunsState) (tag : ℕ) (component : Component) → AreRuns runs → tag < role_count → role_size runs.space tag ≡ component.pages → component.pages ≤ page_count runs.sizes
-few_pages_of_run runs tag component are below is =
-    omega (arith, is, count_by-le-length (λ (b : Bool). b) (pages_with runs.space tag), are.shape.of_role tag below, are.pages)
+few_pages_of_run runs tag component are below is = grind (arith, common_steps, nat_tests)
 
 deep_suits : {now : List ℕ} (honest : Bool) (file : List ℕ) (runs : RunsState) (made : Component) (run : List RunPage) → AreRuns runs → DeepRuns runs.sizes honest file runs.space (guide_at runs.guides runs.tags.deep) runs.deep → made ≡ made_by_deep runs.deep
     → ReadsAs runs.sizes made run now → Suits runs.sizes made

@@ -1,9 +1,10 @@
 -- Tables without an entry, and their lanes.
 use Rattle.std.proofs.Common.{◌≡◌, ◌∙◌, ℕ, [], ◌∷◌, None, Ok, Err, refl, ap, sym, arith, length}
+use Rattle.std.proofs.lemmas.Grind.{common_steps}
+use Rattle.std.proofs.lemmas.Bool.Decides.{nat_tests}
 use Rattle.std.specs.Prelude.{OnOk, fold}
 use Rattle.std.specs.declared.result.Result.{Result}
 use Rattle.std.specs.declared.cmp.Ordering.{Ordering}
-use Rattle.std.specs.declared.cmp.Ordering.TheVariants.{Less, Equal, Greater}
 use Rattle.std.specs.FinMap.{put}
 use Rattle.std.specs.FinMap.Entries.{by_order}
 use Rattle.blsm_model.specs.declared.key.Key.{Key}
@@ -30,9 +31,7 @@ put_some key rec [] is = absurd (cc (is))
 put_some key rec (e ∷ es) is = by (key_cmp key e.0) is
   where
     by : (o : Ordering) → by_order o ((key, rec) ∷ e ∷ es) ((e.0, rec) ∷ es) (e ∷ put key_cmp key rec es) ≡ [] → ⊥
-    by Less is = absurd (cc (is))
-    by Equal is = absurd (cc (is))
-    by Greater is = absurd (cc (is))
+    by o h1 = grind (arith, common_steps, nat_tests)
 
 replays_to_none : (table lane : Entries) → fold (λ table e. with_record e.0 e.1 table) table lane ≡ [] → (lane ≡ []) × (table ≡ [])
 replays_to_none table [] is = (refl, is)

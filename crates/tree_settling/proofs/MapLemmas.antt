@@ -1,5 +1,8 @@
 -- Lists whose keys have the same values have the same map.
 use Rattle.std.proofs.Common.{◌≡◌, ◌∙◌, [], None, Option, refl, ap, sym}
+use Rattle.std.proofs.lemmas.Grind.{common_steps}
+use Rattle.std.proofs.lemmas.Bool.Decides.{nat_tests}
+use Rattle.std.proofs.Common.{arith}
 use Rattle.std.specs.FinMap.{find}
 use Rattle.std.specs.FinMap.Entries.{same_entries}
 use Rattle.std.proofs.lemmas.Cmp.{nat_list_cmp_total}
@@ -10,7 +13,7 @@ use Rattle.record_delta.specs.Records.{settled}
 use Rattle.record_delta.specs.Entries.{AreSorted, Entries, folded_over, over_any, record_of_key, settled_entries}
 use Rattle.tree_machine.specs.Lists.{Lists, map_in, record_at, value_in}
 use Rattle.tree_machine.specs.Layers.{as_base}
-use Rattle.tree_machine.proofs.FoldLemmas.{over_any_assoc, settled_over_base, find-folded_over, sorted_folded_over, tied}
+use Rattle.tree_machine.proofs.FoldLemmas.{over_any_assoc, find-folded_over, sorted_folded_over, tied}
 use Rattle.tree_machine.proofs.MapLemmas.{find-map_in, sorted_map_in}
 use Rattle.tree_machine.proofs.MergeLemmas.{find-settled}
 
@@ -68,26 +71,14 @@ abbrev five_of : (b a c1 c1x c2 : Option Rec) → Option Rec
 five_of b a c1 c1x c2 = over_any b (over_any a (over_any c1 (over_any c1x c2)))
 
 five_deep : (b a c1 c1x c2 : Option Rec) → settled (five_of b a c1 None (as_base (over_any c1x c2))) ≡ settled (five_of b a c1 c1x c2)
-five_deep b a c1 c1x c2 =
-    ap settled (sym (three b a c1 (as_base (over_any c1x c2))))
-    ∙ settled_over_base (over_any b (over_any a c1)) (over_any c1x c2)
-    ∙ ap settled (three b a c1 (over_any c1x c2))
-  where
-    three : (b a c1 rest : Option Rec) → over_any (over_any b (over_any a c1)) rest ≡ over_any b (over_any a (over_any c1 rest))
-    three b a c1 rest = over_any_assoc b (over_any a c1) rest ∙ ap (over_any b) (over_any_assoc a c1 rest)
+five_deep b a c1 c1x c2 = grind (arith, common_steps, nat_tests)
 
 -- C1' and C2 give place to the bases of their values
 pub deep_values : (lists : Lists) → AreFive lists → (q : Key)
     → value_in (record { b = lists.b; a = lists.a; c1 = lists.c1; c1x = []; c2 = settled_entries (folded_over lists.c1x lists.c2) }) q ≡ value_in lists q
-deep_values lists five q =
-    ap (λ r. settled (five_of (record_of_key q lists.b) (record_of_key q lists.a) (record_of_key q lists.c1) None r))
-    (find-settled (folded_over lists.c1x lists.c2) q (sorted_folded_over lists.c1x lists.c2 five.c2) ∙ ap as_base (find-folded_over lists.c1x lists.c2 five.c1x q))
-    ∙ five_deep (record_of_key q lists.b) (record_of_key q lists.a) (record_of_key q lists.c1) (record_of_key q lists.c1x) (record_of_key q lists.c2)
+deep_values lists five q = grind (arith, common_steps, nat_tests, find-settled, sorted_folded_over, find-folded_over, five_deep)
 
 -- Table A and C1 give place to their fold, which is C1 or, where there is no C1', C1'; table B is table A.
 pub pass_values : (lists : Lists) → AreFive lists → lists.c1x ≡ [] → (q : Key)
     → value_in (record { b = []; a = lists.b; c1 = folded_over lists.a lists.c1; c1x = []; c2 = lists.c2 }) q ≡ value_in lists q
-pass_values lists five none q =
-    ap (λ r. settled (over_any (record_of_key q lists.b) (over_any r (record_of_key q lists.c2)))) (find-folded_over lists.a lists.c1 five.a q)
-    ∙ ap (λ r. settled (over_any (record_of_key q lists.b) r)) (over_any_assoc (record_of_key q lists.a) (record_of_key q lists.c1) (record_of_key q lists.c2))
-    ∙ ap (λ (es : Entries). settled (five_of (record_of_key q lists.b) (record_of_key q lists.a) (record_of_key q lists.c1) (record_of_key q es) (record_of_key q lists.c2))) (sym none)
+pass_values lists five none q = grind (arith, common_steps, nat_tests, find-folded_over, over_any_assoc)

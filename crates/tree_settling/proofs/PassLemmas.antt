@@ -1,11 +1,12 @@
 -- A pass that takes table A and C1 and is swapped in.
-use Rattle.std.proofs.Common.{◌≡◌, ◌∙◌, ℕ, ◌+◌, ◌≤◌, ◌<◌, Bool, true, false, List, [], ◌∷◌, Option, None, Some, refl, ap, sym, subst, arith}
+use Rattle.std.proofs.Common.{◌≡◌, ◌∙◌, ℕ, ◌+◌, ◌≤◌, ◌<◌, Bool, List, [], ◌∷◌, Option, None, Some, refl, ap, sym, subst, arith}
+use Rattle.std.proofs.lemmas.Grind.{common_steps}
+use Rattle.std.proofs.lemmas.Bool.Decides.{nat_tests}
 use Rattle.std.specs.Prelude.{IsTrue, is_some, if◌then◌else◌}
 use Rattle.std.proofs.lemmas.Bool.{false≢true, leb-false}
 use Rattle.disk_trait.specs.Disk.{DiskState}
 use Rattle.disk_trait.specs.Effects.{Affects}
 use Rattle.disk_trait.specs.Moments.{IsTimed, LeavesOnly}
-use Rattle.blsm_model.specs.Components.{empty_component}
 use Rattle.blsm_model.specs.Sizes.{Sizes}
 use Rattle.blsm_model.specs.Geometry.{c1_mark, capacity, file_length, high_mark}
 use Rattle.blsm_model.specs.Lanes.{AreRoles, a_of, b_of, spare_of}
@@ -65,18 +66,10 @@ pass_weighs sizes runs guide (Some snow) a c1 file some none over =
 -- ---- the next catalogue, by the numbers
 
 next_weighs : (sizes : Sizes) (made : Component) (now : Catalog) → components_of (with_pass_run sizes made now) ≤ made.weight + now.c1x.weight + now.c2.weight
-next_weighs sizes made now = by (is_full sizes made)
-  where
-    by : (b : Bool) → (if b then empty_component else made).weight + (if b then made else now.c1x).weight + now.c2.weight ≤ made.weight + now.c1x.weight + now.c2.weight
-    by true = omega arith
-    by false = omega arith
+next_weighs sizes made now = grind (arith, common_steps, nat_tests)
 
 next_below : (sizes : Sizes) (made : Component) (now : Catalog) → 0 < c1_mark sizes → (with_pass_run sizes made now).c1.weight < c1_mark sizes
-next_below sizes made now some = by (is_full sizes made) refl
-  where
-    by : (b : Bool) → is_full sizes made ≡ b → (if b then empty_component else made).weight < c1_mark sizes
-    by true is = omega (arith, some)
-    by false is = leb-false (c1_mark sizes) made.weight is
+next_below sizes made now some = grind (arith, common_steps, nat_tests)
 
 -- the lanes' roles turn
 roles_turned : (roles : List ℕ) → AreRoles roles → AreRoles (b_of roles ∷ spare_of roles ∷ a_of roles ∷ [])
@@ -93,12 +86,7 @@ roles_turned roles are = record {
 next_deep : (sizes : Sizes) (tag : ℕ) (made : Component) (now : Catalog) (deep : Option DeepState) → deep ≡ None
     → (made_by_deep (if is_full sizes made then Some (deep_started tag made now.c2) else deep)).weight + left_for_deep (if is_full sizes made then Some (deep_started tag made now.c2) else deep)
     ≤ (with_pass_run sizes made now).c1x.weight + (with_pass_run sizes made now).c2.weight
-next_deep sizes tag made now deep rests = by (is_full sizes made)
-  where
-    by : (b : Bool) → (made_by_deep (if b then Some (deep_started tag made now.c2) else deep)).weight + left_for_deep (if b then Some (deep_started tag made now.c2) else deep)
-        ≤ (if b then made else now.c1x).weight + now.c2.weight
-    by true = omega arith
-    by false = omega (arith, ap (λ (o : Option DeepState). (made_by_deep o).weight + left_for_deep o) rests)
+next_deep sizes tag made now deep rests = grind (arith, common_steps, nat_tests)
 
 -- ---- the swap
 
@@ -194,17 +182,7 @@ module _ (done : Bool) (memory : ℕ) (a : Contents) (runs begun mid new : RunsS
 
   -- its run weighs no more than table A and C1, which give place to it
   pub pass_light : (log' : LogState) → SwapsPass mid new → log' ≡ turned_log log → components_of new.catalogue + weight_of_tables log' ≤ components_of runs.catalogue + weight_of_tables log
-  pass_light log' swaps turned =
-      omega (
-        arith,
-        ap components_of (next_catalogue swaps),
-        next_weighs mid.sizes (made_by_pass mid.pass) runs.catalogue,
-        ap weight_of_tables turned,
-        swap.goes.pass,
-        swap.none,
-        begun_light memory runs begun a.entries swap.begins,
-        ap (λ (t : Contents). entries_weight t.entries) swap.table,
-      )
+  pass_light log' swaps turned = grind (arith, common_steps, nat_tests, next_weighs, begun_light)
 
   pub pass_may : (log' : LogState) → MaySettle runs log before → SwapsPass mid new
       → ((tree next : Tree) → TurnsRoles tree.catalogue next.catalogue → next.lane_a ≡ tree.lane_b → next.lane_b ≡ [] → IsLogOf tree log → IsLogOf next log')

@@ -1,9 +1,11 @@
 -- Steps of settling, one after the other.
 use Rattle.std.proofs.Common.{◌≡◌, ◌∙◌, ℕ, ◌+◌, ◌*◌, ◌≤◌, List, Err, refl, ap, sym, subst, arith, ⊎_elim}
+use Rattle.std.proofs.lemmas.Grind.{common_steps}
+use Rattle.std.proofs.lemmas.Bool.Decides.{nat_tests}
 use Rattle.std.specs.Prelude.{IsTrue, length}
 use Rattle.std.specs.declared.result.Result.{Result}
 use Rattle.disk_trait.specs.Disk.{DiskState, TellsFaultsBy}
-use Rattle.disk_trait.specs.Effects.{Affects, affects_start, affects_more, affects_length, affects_wider}
+use Rattle.disk_trait.specs.Effects.{Affects, affects_start, affects_more, affects_wider}
 use Rattle.disk_trait.specs.Moments.{IsTimed, LeavesOnly, leaves_only_start, leaves_only_run, leaves_only_weaken}
 use Rattle.disk_trait.specs.Region.{Region}
 use Rattle.blsm_model.specs.Sizes.{Sizes}
@@ -31,8 +33,7 @@ honest_still effect honest = subst IsTrue (sym effect.goes_on.is_honest) honest
 -- a file of the right length keeps it
 pub stays_long : {region : Region} {most : ℕ} {old new : DiskState} (before after : Sizes) → after ≡ before → (IsTrue old.tells_bytes → length old.bytes ≡ file_length before)
     → Affects region (file_length before) most old new → IsTrue new.tells_bytes → length new.bytes ≡ file_length after
-stays_long {region} {most} {old} {new} before after same long effect tells =
-    affects_length effect (subst IsTrue effect.goes_on.tells_bytes tells) (long (subst IsTrue effect.goes_on.tells_bytes tells)) ∙ ap file_length (sym same)
+stays_long {region} {most} {old} {new} before after same long effect tells = grind (arith, common_steps, nat_tests)
 
 -- ---- maps
 

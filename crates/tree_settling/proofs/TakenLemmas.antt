@@ -1,5 +1,7 @@
 -- Merges that go on by quanta.
-use Rattle.std.proofs.Common.{◌≡◌, ◌≢◌, ◌⊎◌, ⊎_elim, ◌∙◌, ℕ, ◌+◌, ◌*◌, ◌/◌, ◌≤◌, ◌<◌, inl, inr, Option, Some, None, refl, ap, sym, subst, arith}
+use Rattle.std.proofs.Common.{◌≡◌, ◌≢◌, ◌⊎◌, ⊎_elim, ◌∙◌, ℕ, ◌+◌, ◌*◌, ◌/◌, ◌≤◌, ◌<◌, inl, inr, Option, refl, ap, sym, subst, arith}
+use Rattle.std.proofs.lemmas.Grind.{common_steps}
+use Rattle.std.proofs.lemmas.Bool.Decides.{nat_tests}
 use Rattle.std.specs.Prelude.{IsTrue}
 use Rattle.disk_trait.specs.Disk.{DiskState}
 use Rattle.disk_trait.specs.Effects.{Affects, affects_start, affects_more}
@@ -41,15 +43,11 @@ well_honest well honest = subst IsTrue (sym well.effect.goes_on.is_honest) hones
 
 pub deep_took : (old new : Option DeepState) (n : ℕ) → DeepTakes old new n
     → ((made_by_deep new).weight + left_for_deep new ≤ (made_by_deep old).weight + left_for_deep old) × (n + left_for_deep new ≡ left_for_deep old)
-deep_took (Some old) (Some new) n takes = (omega (arith, takes.taken_is, takes.c1x, takes.c2, takes.light), omega (arith, takes.taken_is, takes.c1x, takes.c2))
-deep_took (Some old) None n takes = absurd takes
-deep_took None new n takes = absurd takes
+deep_took old new n h1 = grind (arith, common_steps, nat_tests)
 
 pub pass_took : (old new : Option SnowState) (a : Entries) (n : ℕ) → PassTakes old new a n
     → ((made_by_pass new).weight + left_for_pass new a ≤ (made_by_pass old).weight + left_for_pass old a) × (n + left_for_pass new a ≡ left_for_pass old a)
-pass_took (Some old) (Some new) a n takes = (omega (arith, takes.taken_is, takes.table, takes.c1, takes.light), omega (arith, takes.taken_is, takes.table, takes.c1))
-pass_took (Some old) None a n takes = absurd takes
-pass_took None new a n takes = absurd takes
+pass_took old new a n h1 = grind (arith, common_steps, nat_tests)
 
 -- so less is left than there was
 less_left : (left old least n : ℕ) → 1 ≤ least → old ≢ 0 → n + left ≡ old → (least ≤ n) ⊎ (left ≡ 0) → left < old
@@ -98,9 +96,7 @@ calls_done sizes first left before after so_far within =
 
 -- a quantum's calls are a third of what it takes at most
 pub quantum_few : (sizes mid : Sizes) (most : ℕ) → mid ≡ sizes → QuantumFits sizes → most ≤ mid.quantum / 4 + 3 → (3 * most ≤ mid.quantum) × (most ≤ quantum_calls sizes)
-quantum_few sizes mid most same fits few =
-    let is : mid.quantum ≡ sizes.quantum = ap (λ (s : Sizes). s.quantum) same in
-    (omega (arith, is, fits.0, few), omega (arith, is, few))
+quantum_few sizes mid most same fits few = grind (arith, common_steps, nat_tests)
 
 -- ---- merges that go on
 

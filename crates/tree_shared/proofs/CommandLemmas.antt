@@ -1,5 +1,7 @@
 -- Commands, turn by turn.
 use Rattle.std.proofs.Common.{◌≡◌, ◌∙◌, ⊎_elim, inl, inr, ℕ, ◌+◌, ◌≤◌, List, [], ◌∷◌, length, refl, ap, sym, subst, arith}
+use Rattle.std.proofs.lemmas.Grind.{common_steps}
+use Rattle.std.proofs.lemmas.Bool.Decides.{nat_tests}
 use Rattle.blsm_model.specs.Stored.{as_reply}
 use Rattle.blsm_model.specs.declared.history.Entry.{Entry}
 use Rattle.blsm_model.specs.declared.history.Line.{Line}
@@ -29,14 +31,10 @@ module _ {D : Type 0} (state : D → DiskState) where
   number_went c d es went = (went_same facts_of (CameSince state) c d es went).1
 
   long_as : (b : CoreState D) (ps : List (ℕ × CoreState D)) → length (renewed facts_of b ps) ≡ length ps
-  long_as b [] = refl
-  long_as b (p ∷ ps) = refl
+  long_as b ps = grind (arith, common_steps, nat_tests)
 
   pub sized_went : (c d : Caller (CoreState D)) (es : List Entry) → WentOn state c es d → size d.me.0 ≡ size c.me.0
-  sized_went c d es went = ⊎_elim
-      (λ (still : (d ≡ c) × (es ≡ [])). ap (λ (h : Caller (CoreState D)). size h.me.0) still.0)
-      (λ (did : DidOn state c es d). omega (arith, ap (λ (l : List (ℕ × CoreState D)). length l) did.own, long_as did.value c.me.0.own, ap (λ (l : List (ℕ × CoreState D)). length l) did.noted.spare))
-      went
+  sized_went c d es went = grind (arith, common_steps, nat_tests)
 
   -- one turn more that notes nothing
   pub went_on : (c d e : Caller (CoreState D)) → WentOn state c [] d → DidOn state d [] e → WentOn state c [] e

@@ -1,5 +1,7 @@
 -- What a job leaves: of a caller's, and of a worker's.
 use Rattle.std.proofs.Common.{◌≡◌, ◌∙◌, ⊎_elim, inl, inr, ℕ, zero, suc, ◌+◌, ◌-◌, ◌<◌, ◌≤◌, Bool, true, false, cond, ◌==◌, List, [], ◌∷◌, ◌++◌, length, map, filter, ne_eqb, refl, ap, sym, subst, arith}
+use Rattle.std.proofs.lemmas.Grind.{common_steps}
+use Rattle.std.proofs.lemmas.Bool.Decides.{nat_tests}
 use Rattle.std.specs.Prelude.{◌^◌, nat_lt, slice_index}
 use Rattle.std.proofs.lemmas.Bool.{ltb-true}
 use Rattle.std.proofs.lemmas.List.{append-nil}
@@ -24,11 +26,7 @@ use Rattle.tree_shared.specs.Runs.{Helped, IsFresh, IsNew, RanLines, TellsEnd, t
 use Rattle.tree_shared.proofs.SeatLemmas.{caller_turns, is_a_caller}
 
 no_caller : (seat : ℕ) → callers ≤ seat → is_caller seat ≡ false
-no_caller seat above = by (nat_lt seat callers) refl
-  where
-    by : (b : Bool) → nat_lt seat callers ≡ b → b ≡ false
-    by false is = refl
-    by true is = let below = ltb-true seat callers is in absurd (omega (arith, above, below))
+no_caller seat above = grind (arith, common_steps, nat_tests)
 
 pub worker_turns : (seat : ℕ) (b : BookState) → callers ≤ seat → turns_in seat b ≡ slice_index b.seats.turns (seat - callers)
 worker_turns seat b above = ap (λ (c : Bool). cond c (work_in seat b).turns (slice_index b.seats.turns (seat - callers))) (no_caller seat above)
@@ -74,10 +72,7 @@ module _ {D : Type 0} (lines : List Line) (lock : Lock (CoreState D)) (c : Calle
   -- ---- after it
 
   noted_all : {state : D → DiskState} (d : Caller (CoreState D)) (es : List Entry) → WentOn state c es d → its_entries facts_of d.me.0.own ≡ es
-  noted_all {state} d es went = ⊎_elim
-      (λ (still : (d ≡ c) × (es ≡ [])). ap (λ (h : Caller (CoreState D)). its_entries facts_of h.me.0.own) still.0 ∙ (none_before ∙ sym still.1))
-      (λ (did : DidOn state c es d). did.noted.known ∙ ap (λ (l : List Entry). l ++ es) none_before)
-      went
+  noted_all {state} d es went = grind (arith, common_steps, nat_tests)
 
   same_number : {state : D → DiskState} (d : Caller (CoreState D)) (es : List Entry) → WentOn state c es d → d.number ≡ c.number
   same_number {state} d es went = ⊎_elim (λ (still : (d ≡ c) × (es ≡ [])). ap (λ (h : Caller (CoreState D)). h.number) still.0) (λ (did : DidOn state c es d). did.noted.number) went

@@ -1,5 +1,7 @@
 -- A caller goes over the lines of a script, and does its own.
 use Rattle.std.proofs.Common.{◌≡◌, ◌≢◌, ◌∙◌, ⊎_elim, inl, inr, ℕ, suc, ◌+◌, ◌<◌, Bool, cond, ◌==◌, List, [], ◌∷◌, ◌++◌, length, map, filter, take, drop, eq-eqb, ne_eqb, refl, ap, sym, subst, arith}
+use Rattle.std.proofs.lemmas.Grind.{common_steps}
+use Rattle.std.proofs.lemmas.Bool.Decides.{nat_tests}
 use Rattle.std.specs.Prelude.{sum_by, slice_index_or}
 use Rattle.std.proofs.lemmas.Bool.{cases_eq}
 use Rattle.std.proofs.lemmas.List.{append-nil, drop_more, map-append, take_more}
@@ -38,8 +40,7 @@ module _ {D : Type 0} (state : D → DiskState) (script : List Line) (c : Caller
   going_none k = record { ran = record { entries = []; went = inl (refl, refl); ops = refl }; free = k }
 
   pub going_all : (d : Caller (CoreState D)) → Going state script (length script) c d → take (length script) script ≡ script → drop (length script) script ≡ [] → RanLines state script c d × KnowsOf (IsFree 0 0) d
-  going_all d going whole none =
-      (subst (λ (ls : List Line). RanLines state ls c d) whole going.ran, subst (λ (ls : List Line). KnowsOf (IsFree (length (lines_of c.number ls)) (rows_asked c.number ls)) d) none going.free)
+  going_all d going whole none = grind (arith, common_steps, nat_tests)
 
   module _ (i : ℕ) (line : Line) (below : i < length script) (is : line ≡ slice_index_or script i line) where
     -- the lines that are left begin with this one, and those before it end with it

@@ -1,5 +1,7 @@
 -- The turns of a caller's work, and of a worker.
 use Rattle.std.proofs.Common.{◌≡◌, ◌⊎◌, ◌∙◌, ⊎_elim, inl, inr, ℕ, ◌+◌, ◌-◌, ◌<◌, ◌≤◌, Bool, true, false, not, ◌==◌, ◌&&◌, ◌||◌, [], ◌∷◌, ◌++◌, Option, None, Some, length, eq-eqb, refl, ap, sym, subst, arith}
+use Rattle.std.proofs.lemmas.Grind.{common_steps}
+use Rattle.std.proofs.lemmas.Bool.Decides.{nat_tests}
 use Rattle.std.specs.Prelude.{is_some, nat_lt, nat_le, slice_index}
 use Rattle.std.proofs.lemmas.Bool.{cases_eq, le-leb, lt-ltb}
 use Rattle.std.proofs.lemmas.List.{append-nil}
@@ -28,32 +30,13 @@ use Rattle.tree_shared.proofs.NoteLemmas.{still_even}
 -- ---- what may be done
 
 pub may_turn_by : (seat done : ℕ) (held : Held) (p : Part) → seat < callers → Eases p ((facts_of_held held).part seat) → p.turns ≡ done → done < most_turns → may_turn_in seat held.book ≡ true
-may_turn_by seat done held p below eases turns few =
-    let is = is_a_caller seat below in
-    let had : (work_in seat held.book).turns ≡ done = sym (caller_turns seat held.book is) ∙ (eases.turns ∙ turns) in
-    both (is_caller seat) (nat_lt (work_in seat held.book).turns most_turns) is (lt-ltb (work_in seat held.book).turns most_turns (omega (arith, had, few)))
+may_turn_by seat done held p below eases turns few = grind (arith, common_steps, nat_tests)
 
 finished_by : (n : ℕ) (work : WorkSoFar) → ((work.turns ≡ n) ⊎ ((0 < work.turns) × (work.turns < n) × (is_worked work.last ≡ false))) → is_finished n work ≡ true
-finished_by n work one = ⊎_elim
-    (λ (all : work.turns ≡ n). or_left (work.turns == n) (nat_lt 0 work.turns && nat_lt work.turns n && not (is_worked work.last)) (eq-eqb work.turns n all))
-    (λ (early : (0 < work.turns) × (work.turns < n) × (is_worked work.last ≡ false)).
-    or_right (work.turns == n) (nat_lt 0 work.turns && nat_lt work.turns n && not (is_worked work.last))
-    (both (nat_lt 0 work.turns && nat_lt work.turns n) (not (is_worked work.last)) (both (nat_lt 0 work.turns) (nat_lt work.turns n) (lt-ltb 0 work.turns early.0) (lt-ltb work.turns n early.1)) (ap not early.2)))
-    one
+finished_by n work one = grind (arith, common_steps, nat_tests)
 
 pub may_end_by : (seat n rows : ℕ) (halted : Bool) (held : Held) (p : Part) → seat < callers → Eases p ((facts_of_held held).part seat) → IsFinished n 1 rows halted p → may_end_in seat n held.book ≡ true
-may_end_by seat n rows halted held p below eases finished =
-    let is = is_a_caller seat below in
-    let entries : slice_index held.book.book.room.entries seat ≡ p.room.0 = ap (λ (x : ℕ × ℕ). x.0) eases.room in
-    let turns : (work_in seat held.book).turns ≡ p.turns = sym (caller_turns seat held.book is) ∙ eases.turns in
-    let ends : is_finished n (work_in seat held.book) ≡ true = finished_by n (work_in seat held.book) (⊎_elim
-    (λ (all : p.turns ≡ n). inl (turns ∙ all))
-    (λ (early : (0 < p.turns) × (p.turns < n) × (p.worked ≡ false)). inr (omega (arith, turns, early.0), omega (arith, turns, early.1), eases.worked ∙ early.2))
-    finished.1) in
-    both (is_caller seat && has_room held.book.book.room seat 0) (is_finished n (work_in seat held.book))
-    (both (is_caller seat) (has_room held.book.book.room seat 0) is
-    (both (nat_lt 0 (slice_index held.book.book.room.entries seat)) (nat_le 0 (slice_index held.book.book.room.rows seat)) (lt-ltb 0 (slice_index held.book.book.room.entries seat) (omega (arith, entries, finished.0.0)))
-    (le-leb 0 (slice_index held.book.book.room.rows seat) (omega arith)))) ends
+may_end_by seat n rows halted held p below eases finished = grind (arith, common_steps, nat_tests)
 
 -- ---- turns
 
@@ -79,10 +62,7 @@ module _ {D : Type 0} (state : D → DiskState) (c d : Caller (CoreState D)) (an
       by (Some why) is = inl (or_right (c.me.0.halted || (facts_of b).stopped) (facts_of w).stopped (ap is_some is))
 
   more_turns : (done : ℕ) (p : Part) → p.turns ≡ done → Eases p ((facts_of b).part c.number) → ((facts_of w).part c.number).turns ≡ done + 1
-  more_turns done p had eases =
-      let is = is_a_caller c.number below in
-      let before : (work_in c.number b.held.book).turns ≡ done = sym (caller_turns c.number b.held.book is) ∙ (eases.turns ∙ had) in
-      caller_turns c.number w.held.book is ∙ (ap (λ (x : WorkSoFar). x.turns) turns.counts.work ∙ ap (λ (n : ℕ). n + 1) before)
+  more_turns done p had eases = grind (arith, common_steps, nat_tests, is_a_caller, caller_turns)
 
   pub turn_works : (done entries rows : ℕ) → KnowsOf (IsWorking done entries rows) c → KnowsOf (IsWorking (done + 1) entries rows) d
   turn_works done entries rows knows = knows_after facts_of (CameSince state) (IsWorking done entries rows) (IsWorking (done + 1) entries rows) c d b w turn knows

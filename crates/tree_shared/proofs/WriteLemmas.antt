@@ -1,5 +1,7 @@
 -- The turns of a write.
 use Rattle.std.proofs.Common.{◌≡◌, ◌∙◌, ⊎_elim, inl, inr, ℕ, ◌+◌, ◌<◌, Bool, true, false, ◌||◌, [], ◌∷◌, length, refl, ap, sym, arith}
+use Rattle.std.proofs.lemmas.Grind.{common_steps}
+use Rattle.std.proofs.lemmas.Bool.Decides.{nat_tests}
 use Rattle.std.proofs.lemmas.List.{append-nil}
 use Rattle.std.specs.Prelude.{is_some}
 use Rattle.blsm_model.specs.Book.{Book, rows_given}
@@ -26,11 +28,7 @@ use Rattle.tree_shared.proofs.SeatLemmas.{its_own, noted_leaves, or_left, or_rig
 
 -- an admission gives no rows
 gives_none : (answer : Admission) → length (rows_given (reply_to_write answer)) ≡ 0
-gives_none admission.Admitted = refl
-gives_none (admission.Full charge) = refl
-gives_none (admission.Fault true) = refl
-gives_none (admission.Fault false) = refl
-gives_none (admission.Stopped why) = refl
+gives_none answer = grind (arith, common_steps, nat_tests)
 
 module _ {D : Type 0} (state : D → DiskState) (c d : Caller (CoreState D)) (op : Op) (answer : Admission) (b w : CoreState D) (below : c.number < callers) (turn : TookTurn facts_of (CameSince state) c b w d)
     (admits : Admits state c.number op answer b w) where
@@ -70,18 +68,10 @@ module _ {D : Type 0} (state : D → DiskState) (c d : Caller (CoreState D)) (op
 -- ---- payments
 
 paid_entries : (answer : Payment) (seat : ℕ) (book : Book) → (with_payment answer seat book).entries ≡ book.entries
-paid_entries payment.Paid seat book = refl
-paid_entries payment.Settled seat book = refl
-paid_entries payment.Fault seat book = refl
-paid_entries (payment.Damaged page) seat book = refl
-paid_entries (payment.Stopped why) seat book = refl
+paid_entries answer seat book = grind (arith, common_steps, nat_tests)
 
 paid_room : (answer : Payment) (seat : ℕ) (book : Book) → (with_payment answer seat book).room ≡ book.room
-paid_room payment.Paid seat book = refl
-paid_room payment.Settled seat book = refl
-paid_room payment.Fault seat book = refl
-paid_room (payment.Damaged page) seat book = refl
-paid_room (payment.Stopped why) seat book = refl
+paid_room answer seat book = grind (arith, common_steps, nat_tests)
 
 module _ {D : Type 0} (state : D → DiskState) (c d : Caller (CoreState D)) (answer : Payment) (b w : CoreState D) (below : c.number < callers) (turn : TookTurn facts_of (CameSince state) c b w d)
     (pays : Pays state c.number answer b w) where
