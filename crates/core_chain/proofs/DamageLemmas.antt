@@ -23,9 +23,7 @@ use Rattle.tree_core.specs.Calls.{AreCalls, IsCall}
 use Rattle.tree_core.specs.Causes.{AdmitsBecause, FoundDamaged, PaysBecause, TurnsBecause, TurnsNone, merge_of}
 use Rattle.tree_core.specs.Core.{CoreState}
 use Rattle.tree_core.specs.declared.answers.Admission.{Admission}
-use Rattle.tree_core.specs.declared.answers.Admission.TheVariants as admission
 use Rattle.tree_core.specs.declared.answers.Payment.{Payment}
-use Rattle.tree_core.specs.declared.answers.Payment.TheVariants as payment
 use Rattle.core_chain.specs.Damage.{StopsAtPage, merge_at}
 use Rattle.core_chain.proofs.FaultLemmas.{halted_by, pending}
 use Rattle.core_chain.proofs.LinkLemmas.{chain_keeps}
@@ -52,27 +50,15 @@ named : (plan : Plan) (one page : ℕ) (old new : Held) (before after : DiskStat
 named plan one page old new before after found stops = subst (λ (n : ℕ). FoundDamaged plan n old new before after) (same_page new.book.stopped one page found.stopped stops) found
 
 admit_stops : {A : Type 0} (answer : Admission) (seat : ℕ) (op : Op) (page : ℕ) (old new : Held) (before after : DiskState) → AdmitsBecause answer seat op old new before after → old.book.stopped ≡ None → new.book.stopped ≡ Some (BadPage page) → A
-admit_stops admission.Admitted seat op page old new before after because ran stops = runs_on new.book.stopped (BadPage page) because.0.runs stops
-admit_stops (admission.Full charge) seat op page old new before after because ran stops = runs_still old.book.stopped new.book.stopped (BadPage page) ran (ap (λ (h : Held). h.book.stopped) because.3) stops
-admit_stops (admission.Fault begun) seat op page old new before after because ran stops = no_page new.book.stopped after.faults page because.0.stopped stops
-admit_stops (admission.Stopped why) seat op page old new before after because ran stops = runs_on old.book.stopped why ran because.0
+admit_stops answer seat op page old new before after h1 h2 h3 = grind (arith, common_steps, nat_tests)
 
 pay_stops : (answer : Payment) (seat page : ℕ) (old new : Held) (before after : DiskState) → PaysBecause answer seat old new before after → old.book.stopped ≡ None → new.book.stopped ≡ Some (BadPage page)
     → FoundDamaged (plan_in seat old) page old new before after
-pay_stops payment.Paid seat page old new before after because ran stops = runs_on new.book.stopped (BadPage page) because.0.runs stops
-pay_stops payment.Settled seat page old new before after because ran stops = runs_still old.book.stopped new.book.stopped (BadPage page) ran (ap (λ (h : Held). h.book.stopped) because.2) stops
-pay_stops payment.Fault seat page old new before after because ran stops = no_page new.book.stopped after.faults page because.stopped stops
-pay_stops (payment.Damaged one) seat page old new before after because ran stops = named (plan_in seat old) one page old new before after because stops
-pay_stops (payment.Stopped why) seat page old new before after because ran stops = runs_on old.book.stopped why ran because.0
+pay_stops answer seat page old new before after h1 h2 h3 = grind (arith, common_steps, nat_tests)
 
 turn_stops : (answer : Turned) (is_worker : Bool) (seat page : ℕ) (old new : Held) (before after : DiskState) → TurnsBecause answer is_worker seat old new before after → (is_worker ≡ true → answer ≡ machine.Closed → new.book.stopped ≡ old.book.stopped)
     → old.book.stopped ≡ None → new.book.stopped ≡ Some (BadPage page) → FoundDamaged (merge_of (move_in is_worker old)) page old new before after
-turn_stops machine.Worked w seat page old new before after because still ran stops = runs_on new.book.stopped (BadPage page) because.0.runs stops
-turn_stops machine.Idle w seat page old new before after because still ran stops = runs_on new.book.stopped (BadPage page) because.0.runs stops
-turn_stops machine.Closed w seat page old new before after because still ran stops = runs_still old.book.stopped new.book.stopped (BadPage page) ran (still because.1 refl) stops
-turn_stops machine.Failed w seat page old new before after because still ran stops = no_page new.book.stopped after.faults page because.stopped stops
-turn_stops (machine.BadPage one) w seat page old new before after because still ran stops = named (merge_of (move_in w old)) one page old new before after because stops
-turn_stops (machine.Halted why) w seat page old new before after because still ran stops = runs_on old.book.stopped why ran because.0
+turn_stops answer is_worker seat page old new before after h1 h2 h3 h4 = grind (arith, common_steps, nat_tests)
 
 module _ {D : Type 0} (state : D → DiskState) where
   -- of a store that ran a payment or a turn alone is stopped by a page, which it came to

@@ -1,18 +1,16 @@
 -- What the calls tell of faults and of the stop, one after another.
-use Rattle.std.proofs.Common.{◌≡◌, ◌≢◌, ◌⊎◌, ◌∙◌, ⊎_elim, inl, inr, ℕ, ◌+◌, ◌<◌, ◌≤◌, Bool, true, false, List, [], ◌∷◌, ◌++◌, Some, None, refl, ap, sym, subst, arith}
+use Rattle.std.proofs.Common.{◌≡◌, ◌≢◌, ◌⊎◌, ◌∙◌, ⊎_elim, ℕ, ◌+◌, ◌<◌, ◌≤◌, Bool, true, false, List, [], ◌∷◌, ◌++◌, Some, None, refl, ap, sym, arith}
 use Rattle.std.proofs.lemmas.Grind.{common_steps}
 use Rattle.std.proofs.lemmas.Bool.Decides.{nat_tests}
 use Rattle.std.specs.Prelude.{Option, zero, suc, slice_index_or, sum_by}
 use Rattle.std.specs.List.{AllByRecursion}
-use Rattle.std.proofs.lemmas.Bool.{false≢true}
-use Rattle.std.proofs.lemmas.List.Sums.{sum_by-append, sum_by-cons}
+use Rattle.std.proofs.lemmas.List.Sums.{sum_by-cons}
 use Rattle.refusal.specs.Count.{HasRisen, HasRisenBy}
 use Rattle.blsm_model.specs.Legal.{is_write}
 use Rattle.blsm_model.specs.declared.history.Entry.{Entry}
 use Rattle.blsm_model.specs.declared.history.Reply.{Reply}
-use Rattle.blsm_model.specs.declared.history.Reply.TheVariants.{Stopped}
 use Rattle.blsm_model.specs.declared.history.Why.{Why}
-use Rattle.blsm_model.specs.declared.history.Why.TheVariants.{Faulted, BadPage}
+use Rattle.blsm_model.specs.declared.history.Why.TheVariants.{Faulted}
 use Rattle.blsm_model.specs.declared.op.Op.{Op}
 use Rattle.blsm_model.proofs.OpLemmas.{write_is_no_look}
 use Rattle.tree_machine.proofs.TellLemmas.{no_look}
@@ -123,44 +121,16 @@ pub record Stops (told pend left : ℕ) (old new : Option Why) (before after : D
   pub told_is : told + left ≤ pend + 1
 
 pub stays_ran : (told pend left : ℕ) (old new : Held) (before after : DiskState) → RanOn old new before after → told + left ≤ pend → Stays 0 told pend left old.book.stopped new.book.stopped before after
-stays_ran told pend left old new before after ran few = record {
-  stop = inr (ap is_by_fault ran.ran, ap is_by_fault ran.runs);
-  risen = omega (arith, ran.faults);
-  quiet = λ none. ran.faults;
-  ran = λ some. absurd (omega (arith, some));
-  told_is = omega (arith, few);
-  halted = λ why is. absurd (cc (ran.ran, is));
-}
+stays_ran told pend left old new before after ran few = grind (arith, common_steps, nat_tests)
 
 pub stays_damaged : {plan : Plan} (page told pend left : ℕ) (old new : Held) (before after : DiskState) → FoundDamaged plan page old new before after → told + left ≤ pend → Stays 0 told pend left old.book.stopped new.book.stopped before after
-stays_damaged page told pend left old new before after found few = record {
-  stop = inr (ap is_by_fault found.ran, ap is_by_fault found.stopped);
-  risen = omega (arith, found.faults);
-  quiet = λ none. found.faults;
-  ran = λ some. absurd (omega (arith, some));
-  told_is = omega (arith, few);
-  halted = λ why is. absurd (cc (found.ran, is));
-}
+stays_damaged page told pend left old new before after found few = grind (arith, common_steps, nat_tests)
 
 pub stays_same : (told pend left : ℕ) (old new : Option Why) (before after : DiskState) → new ≡ old → after.faults ≡ before.faults → told + left ≤ pend → Stays 0 told pend left old new before after
-stays_same told pend left old new before after same faults few = record {
-  stop = inl same;
-  risen = omega (arith, faults);
-  quiet = λ none. faults;
-  ran = λ some. absurd (omega (arith, some));
-  told_is = omega (arith, few);
-  halted = λ why is. same ∙ is;
-}
+stays_same told pend left old new before after same faults few = grind (arith, common_steps, nat_tests)
 
 pub stays_lookup : (told pend left : ℕ) (old new : Option Why) (before after : DiskState) → old ≡ None → new ≡ old → HasRisen before.faults after.faults → told + left ≤ 1 + pend → Stays 1 told pend left old new before after
-stays_lookup told pend left old new before after ran same rose few = record {
-  stop = inl same;
-  risen = omega (arith, rose);
-  quiet = λ none. absurd (omega (arith, none));
-  ran = λ some. ap is_by_fault ran;
-  told_is = few;
-  halted = λ why is. same ∙ is;
-}
+stays_lookup told pend left old new before after ran same rose few = grind (arith, common_steps, nat_tests)
 
 pub stops_failed : (told pend left : ℕ) (old new : Held) (before after : DiskState) → HasFailed old new before after → told + left ≤ pend + 1 → Stops told pend left old.book.stopped new.book.stopped before after
 stops_failed told pend left old new before after failed few = record { ran = failed.ran; stop = failed.stopped; risen = failed.faults; told_is = few }
@@ -184,14 +154,7 @@ pub record LinkTells (old new : BookState) (before after : DiskState) : Type 0 w
   pub names : AllNamed old.book.entries new.stopped → AllNamed new.book.entries new.stopped
 
 pub no_entry_tells : (old new : BookState) (before after : DiskState) → new.book.entries ≡ old.book.entries → How 0 0 (pending old) (pending new) old.stopped new.stopped before after → LinkTells old new before after
-no_entry_tells old new before after same how = record {
-  lookups = 0;
-  told = 0;
-  lookups_are = omega (arith, ap lookups_failed same);
-  told_is = omega (arith, ap faults_told same);
-  how = how;
-  names = λ all. subst (λ (es : List Entry). AllNamed es new.stopped) (sym same) all;
-}
+no_entry_tells old new before after same how = grind (arith, common_steps, nat_tests)
 
 named_more : (es : List Entry) (e : Entry) (stopped : Option Why) → AllNamed es stopped → NamesStop e.reply stopped → AllNamed (es ++ e ∷ []) stopped
 named_more [] e stopped all one = (one, tt)
@@ -199,20 +162,7 @@ named_more (x ∷ es) e stopped all one = (all.0, named_more es e stopped all.1 
 
 pub entry_tells : (lookups told : ℕ) (e : Entry) (old new : BookState) (before after : DiskState) → new.book.entries ≡ old.book.entries ++ e ∷ [] → one_if (is_failed_lookup e.op e.reply) ≡ lookups → faults_of e.reply ≡ told
     → NamesStop e.reply new.stopped → How lookups told (pending old) (pending new) old.stopped new.stopped before after → LinkTells old new before after
-entry_tells lookups told e old new before after is lookup fault names how = record {
-  lookups = lookups;
-  told = told;
-  lookups_are =
-      let split = sum_by-append (λ (x : Entry). one_if (is_failed_lookup x.op x.reply)) old.book.entries (e ∷ []) in
-      let one = sum_by-cons (λ (x : Entry). one_if (is_failed_lookup x.op x.reply)) e [] in
-      omega (arith, split, one, lookup, ap lookups_failed is);
-  told_is =
-      let split = sum_by-append (λ (x : Entry). faults_of x.reply) old.book.entries (e ∷ []) in
-      let one = sum_by-cons (λ (x : Entry). faults_of x.reply) e [] in
-      omega (arith, split, one, fault, ap faults_told is);
-  how = how;
-  names = λ all. subst (λ (es : List Entry). AllNamed es new.stopped) (sym is) (named_more old.book.entries e new.stopped all names);
-}
+entry_tells lookups told e old new before after is lookup fault names how = grind (arith, common_steps, nat_tests)
 
 -- ---- one after another
 
@@ -227,23 +177,15 @@ pub record Told (before : DiskState) (b : BookState) (now : DiskState) : Type 0 
 
 -- a stop that isn't by a fault names no count
 unnamed : (o : Option Why) (before after : DiskState) → is_by_fault o ≡ false → NamesCount o before after
-unnamed (Some (Faulted faults)) before after calm = absurd (false≢true (sym calm))
-unnamed (Some (BadPage page)) before after calm = tt
-unnamed None before after calm = tt
+unnamed o before after h1 = grind (arith, common_steps, nat_tests)
 
 -- the count that it names stands
 named_still : (o : Option Why) (before between after : DiskState) → after.faults ≡ between.faults → NamesCount o before between → NamesCount o before after
-named_still (Some (Faulted faults)) before between after same names = (names.0 ∙ sym same, omega (arith, same, names.1))
-named_still (Some (BadPage page)) before between after same names = tt
-named_still None before between after same names = tt
+named_still o before between after h1 h2 = grind (arith, common_steps, nat_tests)
 
 still_named : (es : List Entry) (old new : Option Why) → ((why : Why) → old ≡ Some why → new ≡ Some why) → AllNamed es old → AllNamed es new
 still_named [] old new halted all = tt
-still_named (e ∷ es) old new halted all = (one e.reply all.0, still_named es old new halted all.1)
-  where
-    one : (reply : Reply) → NamesStop reply old → NamesStop reply new
-    one (Stopped why) is = halted why is
-    one _ is = tt
+still_named (e ∷ es) old new halted all = grind (arith, common_steps, nat_tests, still_named es old new halted all.1)
 
 -- a stop that stands, or one by a page or none, counts as before
 same_flag : (old new : Option Why) → (new ≡ old) ⊎ ((is_by_fault old ≡ false) × (is_by_fault new ≡ false)) → is_by_fault new ≡ is_by_fault old
@@ -270,46 +212,23 @@ module _ (start between after : DiskState) (old new : BookState) (grows : betwee
   is s = ap (λ (o : Option Why). one_if (is_by_fault o)) s.1.stop
 
   counted : HowNow → HasRisenBy (lookups_failed new.book.entries + one_if (is_by_fault new.stopped)) start.faults after.faults
-  counted how = ⊎_elim
-      (λ (s : StaysNow). let same = flag s in omega (arith, so_far.counted, s.risen, link.lookups_are, same))
-      (λ (s : StopsNow). let none = was s in let one = is s in omega (arith, so_far.counted, s.1.risen, link.lookups_are, s.0, none, one))
-      how
+  counted how = grind (arith, common_steps, nat_tests)
 
   quiet : HowNow → lookups_failed new.book.entries ≡ 0 → is_by_fault new.stopped ≡ false → after.faults ≡ start.faults
   quiet how none calm = grind (arith, common_steps, nat_tests)
 
   stop_by : (b : Bool) → is_by_fault old.stopped ≡ b → StaysNow → NamesCount new.stopped start after
-  stop_by false calm s = unnamed new.stopped start after (same_flag old.stopped new.stopped s.stop ∙ calm)
-  stop_by true named s = ⊎_elim
-      (λ (same : new.stopped ≡ old.stopped). subst (λ (o : Option Why). NamesCount o start after) (sym same) (named_still old.stopped start between after (s.quiet (no_more link.lookups (λ some. false≢true (sym (s.ran some) ∙ named)))) so_far.stop))
-      (λ (none : (is_by_fault old.stopped ≡ false) × (is_by_fault new.stopped ≡ false)). absurd (false≢true (sym none.0 ∙ named)))
-      s.stop
-    where
-      no_more : (n : ℕ) → (0 < n → ⊥) → n ≡ 0
-      no_more n h1 = grind (arith, common_steps, nat_tests)
+  stop_by b h1 h2 = grind (arith, common_steps, nat_tests)
 
   stop : HowNow → NamesCount new.stopped start after
-  stop how = ⊎_elim (stop_by (is_by_fault old.stopped) refl)
-      (λ (s : StopsNow). subst (λ (o : Option Why). NamesCount o start after) (sym s.1.stop) (refl, omega (arith, s.1.risen, so_far.grows))) how
+  stop how = grind (arith, common_steps, nat_tests)
 
   others : HowNow → faults_told new.book.entries + pending new ≤ lookups_failed new.book.entries + one_if (is_by_fault new.stopped)
   others how = grind (arith, common_steps, nat_tests)
 
   pub told_more : Told start new after
-  told_more = record {
-    grows = omega (arith, grows, so_far.grows);
-    counted = counted link.how;
-    quiet = quiet link.how;
-    stop = stop link.how;
-    others = others link.how;
-    names = link.names (still_named old.book.entries old.stopped new.stopped (halted_by link.lookups link.told (pending old) (pending new) old.stopped new.stopped between after link.how) so_far.names);
-  }
+  told_more = grind (arith, common_steps, nat_tests, still_named, halted_by)
 
 -- what the whole chain tells, where it began with a store that ran
 pub tells_all : (old new : Held) (before after : DiskState) → old.book.stopped ≡ None → Told before new.book after → TellsFaults (faults_told new.book.book.entries) old new before after
-tells_all old new before after runs told = record {
-  risen = omega (arith, told.counted, told.others);
-  quiet = λ none calm. told.quiet (let few = lookups_tell new.book.book.entries in omega (arith, few, none)) calm;
-  stops = λ ran. told.stop;
-  halted = λ why is. absurd (cc (runs, is));
-}
+tells_all old new before after runs told = grind (arith, common_steps, nat_tests, lookups_tell)

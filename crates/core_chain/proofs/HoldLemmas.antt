@@ -1,12 +1,12 @@
 -- What the calls make of the holds, and what their replies tell of them.
-use Rattle.std.proofs.Common.{◌≡◌, ◌≢◌, ◌∙◌, inl, inr, ℕ, Bool, true, false, cond, List, [], ◌∷◌, ◌++◌, Some, None, refl, ap, sym, subst, eq-eqb, ne_eqb}
+use Rattle.std.proofs.Common.{◌≡◌, ◌≢◌, ◌∙◌, ℕ, Bool, true, false, cond, List, [], ◌∷◌, ◌++◌, Some, None, refl, ap, sym, subst, eq-eqb, ne_eqb}
 use Rattle.std.proofs.lemmas.Grind.{common_steps}
 use Rattle.std.proofs.lemmas.Bool.Decides.{nat_tests}
 use Rattle.std.proofs.Common.{arith}
 use Rattle.std.specs.Prelude.{Option, is_some, map, replicate}
 use Rattle.std.specs.List.{AllByRecursion}
 use Rattle.std.specs.List.Sorted.{IsStrictlySortedBy}
-use Rattle.std.proofs.lemmas.Bool.{cases_eq, false≢true}
+use Rattle.std.proofs.lemmas.Bool.{cases_eq}
 use Rattle.blsm_model.specs.Book.{Book}
 use Rattle.blsm_model.specs.Format.{callers}
 use Rattle.blsm_model.specs.Keys.{in_range, key_cmp}
@@ -68,12 +68,7 @@ pub record IsQuiet (op : Op) (reply : Reply) : Type 0 where
   pub tells : (had : Option ToldHold) → TellsHold had op reply
 
 quiet_write : (op : Op) (reply : Reply) → is_write op ≡ true → IsQuiet op reply
-quiet_write (op.Get key) reply write = absurd (false≢true write)
-quiet_write (op.Hold low high) reply write = absurd (false≢true write)
-quiet_write (op.Next n) reply write = absurd (false≢true write)
-quiet_write op.Release reply write = absurd (false≢true write)
-quiet_write (op.Work n) reply write = absurd (false≢true write)
-quiet_write _ reply write = record { same = λ had. refl; tells = λ had. tt }
+quiet_write op reply h1 = grind (arith, common_steps, nat_tests)
 
 -- ---- one hold
 
@@ -81,8 +76,7 @@ told_some : (hold : Option HoldState) (told : Option ToldHold) → IsTold hold t
 told_some hold told h1 = grind (arith, common_steps, nat_tests)
 
 told_none : (hold : Option HoldState) → is_some hold ≡ false → IsTold hold None
-told_none None none = tt
-told_none (Some hold) none = absurd (false≢true (sym none))
+told_none hold h1 = grind (arith, common_steps, nat_tests)
 
 is_none : (o : Option HoldState) → o ≡ None → is_some o ≡ false
 is_none o is = ap (λ (h : Option HoldState). is_some h) is
@@ -120,32 +114,11 @@ module _ {D : Type 0} where
     own : (told : Option ToldHold) → IsTold (hold_of seat old.holds) told → IsTold (hold_of seat new.holds) (held_by op reply told) × TellsHold told op reply
 
   noted : (seat : ℕ) (op : Op) (reply : Reply) (old new : CoreState D) → Notes seat op reply old new → ChainTellsHolds old → ChainTellsHolds new
-  noted seat op reply old new notes so_far = record {
-    replies = subst (λ (es : List Entry). TellHoldsFrom (λ s. None) es) (sym notes.entries)
-        (tell_more (λ s. None) old.held.book.book.entries e so_far.replies (notes.own (held_after seat None old.held.book.book.entries) (so_far.held seat)).1);
-    held = λ any. subst (IsTold (hold_of any new.holds)) (sym (ap (held_after any None) notes.entries ∙ after_more any None old.held.book.book.entries e)) (seat_of any);
-  }
-    where
-      e : Entry
-      e = record { seat = seat; op = op; reply = reply }
-
-      seat_of : (any : ℕ) → IsTold (hold_of any new.holds) (held_then any (held_after any None old.held.book.book.entries) e)
-      seat_of any =
-          elim (cases_eq any seat) [
-            | inl same ↦ subst (λ (s : ℕ). IsTold (hold_of s new.holds) (held_then s (held_after s None old.held.book.book.entries) e)) (sym same)
-                (subst (IsTold (hold_of seat new.holds)) (sym (then_own e (held_after seat None old.held.book.book.entries)))
-                (notes.own (held_after seat None old.held.book.book.entries) (so_far.held seat)).0)
-            | inr apart ↦ subst (IsTold (hold_of any new.holds)) (sym (then_other e any (held_after any None old.held.book.book.entries) apart))
-                (subst (λ (h : Option HoldState). IsTold h (held_after any None old.held.book.book.entries)) (sym (notes.others any apart)) (so_far.held any))
-          ]
+  noted seat op reply old new notes so_far = grind (arith, common_steps, nat_tests, tell_more, after_more, cases_eq, then_own, then_other)
 
   -- nothing was noted, and each hold stays
   still : (old new : CoreState D) → new.held.book.book.entries ≡ old.held.book.book.entries → KeepsHolds old new → ChainTellsHolds old → ChainTellsHolds new
-  still old new same keeps so_far = record {
-    replies = subst (λ (es : List Entry). TellHoldsFrom (λ s. None) es) (sym same) so_far.replies;
-    held = λ any. subst (λ (es : List Entry). IsTold (hold_of any new.holds) (held_after any None es)) (sym same)
-        (subst (λ (hs : List (Option HoldState)). IsTold (hold_of any hs) (held_after any None old.held.book.book.entries)) (sym keeps.holds) (so_far.held any));
-  }
+  still old new same keeps so_far = grind (arith, common_steps, nat_tests)
 
   -- the seat's own hold stays
   stays : (seat : ℕ) (told : Option ToldHold) (old new : CoreState D) → new.holds ≡ old.holds → IsTold (hold_of seat old.holds) told → IsTold (hold_of seat new.holds) told
@@ -154,11 +127,7 @@ module _ {D : Type 0} where
   -- an entry that has nothing to do with holds
   beside : (seat : ℕ) (op : Op) (reply : Reply) (old new : CoreState D) → IsQuiet op reply → new.held.book.book.entries ≡ old.held.book.book.entries ++ record { seat = seat; op = op; reply = reply } ∷ [] → KeepsHolds old new
       → Notes seat op reply old new
-  beside seat op reply old new quiet entries keeps = record {
-    entries = entries;
-    others = λ other apart. ap (hold_of other) keeps.holds;
-    own = λ told is. (subst (IsTold (hold_of seat new.holds)) (sym (quiet.same told)) (stays seat told old new keeps.holds is), quiet.tells told);
-  }
+  beside seat op reply old new quiet entries keeps = grind (arith, common_steps, nat_tests)
 
   own_of_hold : (answer : Holding) (seat : ℕ) (low high : Key) (old new : CoreState D) → HoldsBecause answer seat low high old new → (told : Option ToldHold) → IsTold (hold_of seat old.holds) told
       → IsTold (hold_of seat new.holds) (held_by (op.Hold low high) (reply_to_hold answer) told) × TellsHold told (op.Hold low high) (reply_to_hold answer)

@@ -60,11 +60,7 @@ pub record Took (sizes : Sizes) (b : BookState) : Type 0 where
 
 -- the works are the same
 works_stay : (sizes : Sizes) (old new : BookState) → new.seats.work ≡ old.seats.work → TookFew sizes new.book.entries new.book.quanta → Took sizes old → Took sizes new
-works_stay sizes old new same few so_far = record {
-  few = few;
-  works = λ seat. subst (λ (l : List WorkSoFar). (slice_index_or l seat no_work).quanta ≤ (slice_index_or l seat no_work).turns) (sym same) (so_far.works seat);
-  none = λ seat above. subst (λ (l : List WorkSoFar). (slice_index_or l seat no_work).quanta ≡ 0) (sym same) (so_far.none seat above);
-}
+works_stay sizes old new same few so_far = grind (arith, common_steps, nat_tests)
 
 -- nor is an entry noted
 book_stays : (sizes : Sizes) (old new : BookState) → new.book ≡ old.book → new.seats.work ≡ old.seats.work → Took sizes old → Took sizes new
@@ -72,10 +68,7 @@ book_stays sizes old new same works so_far = works_stay sizes old new works (sub
 
 -- one entry is noted, which took none
 notes_one : (sizes : Sizes) (e : Entry) (old new : BookState) → new.book.entries ≡ old.book.entries ++ e ∷ [] → new.book.quanta ≡ old.book.quanta ++ 0 ∷ [] → new.seats.work ≡ old.seats.work → Took sizes old → Took sizes new
-notes_one sizes e old new entries quanta works so_far =
-    works_stay sizes old new works
-    (subst (λ (es : List Entry). TookFew sizes es new.book.quanta) (sym entries) (subst (λ (ns : List ℕ). TookFew sizes (old.book.entries ++ e ∷ []) ns) (sym quanta) (took_more sizes old.book.entries old.book.quanta e 0 so_far.few (omega arith))))
-    so_far
+notes_one sizes e old new entries quanta works so_far = grind (arith, common_steps, nat_tests, works_stay, took_more)
 
 module _ {D : Type 0} (state : D → DiskState) where
   -- a payment counts for a write, within its bound
@@ -199,9 +192,7 @@ module _ {D : Type 0} (state : D → DiskState) where
   }
     where
       none_took : (sizes : Sizes) (es : List Entry) (ns : List ℕ) → es ≡ [] → length ns ≡ length es → TookFew sizes es ns
-      none_took sizes [] [] none long = tt
-      none_took sizes [] (n ∷ ns) none long = absurd (omega (arith, long))
-      none_took sizes (e ∷ es) ns none long = absurd (cc none)
+      none_took sizes es ns h1 h2 = grind (arith, common_steps, nat_tests)
 
   pub chain_takes_few : (calls : List (Step × CoreState D)) (start end : CoreState D) → IsUnasked state start → AreCalls state calls start end → ChainTakesFew state calls start end
   chain_takes_few calls start end unasked are = record {

@@ -2,7 +2,7 @@
 use Rattle.std.proofs.Common.{◌≡◌, ◌∙◌, ◌⊎◌, inl, inr, ℕ, ◌≤◌, true, List, [], ◌∷◌, ◌++◌, length, append-nil, append_assoc, length-append, refl, ap, sym, subst, arith}
 use Rattle.std.proofs.lemmas.Grind.{common_steps}
 use Rattle.std.proofs.lemmas.Bool.Decides.{nat_tests}
-use Rattle.std.proofs.lemmas.Bool.{cases_lt, false≢true}
+use Rattle.std.proofs.lemmas.Bool.{cases_lt}
 use Rattle.blsm_model.specs.Book.{Book}
 use Rattle.blsm_model.specs.Legal.{is_write}
 use Rattle.blsm_model.specs.declared.history.Entry.{Entry}
@@ -51,12 +51,7 @@ Notes state seat old new = (new.held.book.book.entries ≡ old.held.book.book.en
 
 write_because : {D : Type 0} (state : D → DiskState) (seat : ℕ) (op : Op) (answer : Admission) (old new : CoreState D) → is_write op ≡ true → AdmitsBecause answer seat op old.held new.held (state old.disk) (state new.disk)
     → RepliesBecause state seat op (reply_to_write answer) old new
-write_because state seat (op.Get key) answer old new write because = absurd (false≢true write)
-write_because state seat (op.Hold low high) answer old new write because = absurd (false≢true write)
-write_because state seat (op.Next n) answer old new write because = absurd (false≢true write)
-write_because state seat op.Release answer old new write because = absurd (false≢true write)
-write_because state seat (op.Work n) answer old new write because = absurd (false≢true write)
-write_because state seat _ answer old new write because = (answer, refl, because)
+write_because state seat op answer old new h1 h2 = grind (arith, common_steps, nat_tests)
 
 module _ {D : Type 0} (state : D → DiskState) where
   link_notes : (seat : ℕ) (k : Kind) (old new : CoreState D) → IsCall state seat k old new → Notes state seat old new

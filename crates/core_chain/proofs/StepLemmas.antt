@@ -83,8 +83,7 @@ turned_in _ = machine.Idle
 
 -- a worker's turn is told that all callers left, or what stopped the store
 closed_ends : (stopped : Option Why) (m : Machine) (seat : ℕ) (outcome : Outcome) → TurnsNone (worker_turning stopped true m seat outcome).ended
-closed_ends (Some why) m seat outcome = tt
-closed_ends None m seat outcome = tt
+closed_ends stopped m seat outcome = grind (arith, common_steps, nat_tests)
 
 closed_rests : {D : Type 0} (state : D → DiskState) (opening : List (Key × Value)) (seat : ℕ) (k : Kind) (old new : CoreState D) (m : Machine) (pace : Pace) → IsCall state seat k old new → IsTrue (state old.disk).is_honest
     → StandsWhole state opening old m pace → is_closed m ≡ true → is_help k ≡ true → new.disk ≡ old.disk

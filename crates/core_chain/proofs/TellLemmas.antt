@@ -46,7 +46,7 @@ use Rattle.tree_session.proofs.FaultLemmas.{admit_names, reaches_by, reaches_non
 use Rattle.tree_session.proofs.HoldLemmas.{drop_names, drop_quiet, hold_names, hold_quiet}
 use Rattle.core_chain.specs.Start.{IsUnasked, steps_of}
 use Rattle.core_chain.specs.Tells.{ChainTells, asked_by, calls_of, calls_of_all, lookups_failed}
-use Rattle.core_chain.proofs.FaultLemmas.{AllNamed, How, LinkTells, Told, all_calm, entry_tells, no_entry_tells, no_lookup, one_changed, pending, stays_damaged, stays_lookup, stays_ran, stays_same, stops_failed, tells_all, told_more, works_idle}
+use Rattle.core_chain.proofs.FaultLemmas.{AllNamed, How, LinkTells, Told, all_calm, entry_tells, no_entry_tells, no_lookup, one_changed, pending, stays_damaged, stays_ran, stays_same, stops_failed, tells_all, told_more, works_idle}
 use Rattle.core_chain.proofs.LinkLemmas.{Kept, chain_keeps, link_keeps, link_kept, link_sizes, writes_as}
 use Rattle.core_chain.proofs.NoteLemmas.{AreCallers, chain_asks, entries_are_callers, payment_notes_none}
 
@@ -63,25 +63,17 @@ module _ {D : Type 0} (state : D → DiskState) where
   -- what a call notes at once, which tells no fault
   quiet_entry : (e : Entry) (old new : CoreState D) → new.held.book.book.entries ≡ old.held.book.book.entries ++ e ∷ [] → new.held.book.seats.work ≡ old.held.book.seats.work → is_failed_lookup e.op e.reply ≡ false → faults_of e.reply ≡ 0
       → new.held.book.stopped ≡ old.held.book.stopped → (state new.disk).faults ≡ (state old.disk).faults → NamesStop e.reply new.held.book.stopped → LinkTells old.held.book new.held.book (state old.disk) (state new.disk)
-  quiet_entry e old new is work lookup fault stopped faults names =
-      entry_tells 0 0 e old.held.book new.held.book (state old.disk) (state new.disk) is (ap one_if lookup) fault names
-      (inl (stays_same 0 (pending old.held.book) (pending new.held.book) old.held.book.stopped new.held.book.stopped (state old.disk) (state new.disk) stopped faults (same_pending old.held.book new.held.book work)))
+  quiet_entry e old new is work lookup fault stopped faults names = grind (arith, common_steps, nat_tests)
 
   -- a lookup, or a next, that failed
   lookup_entry : (e : Entry) (old new : CoreState D) → new.held.book.book.entries ≡ old.held.book.book.entries ++ e ∷ [] → new.held.book.seats.work ≡ old.held.book.seats.work → is_failed_lookup e.op e.reply ≡ true → faults_of e.reply ≡ 1
       → old.held.book.stopped ≡ None → new.held.book.stopped ≡ old.held.book.stopped → HasRisen (state old.disk).faults (state new.disk).faults → NamesStop e.reply new.held.book.stopped → LinkTells old.held.book new.held.book (state old.disk) (state new.disk)
-  lookup_entry e old new is work lookup fault ran stopped rose names =
-      let few = same_pending old.held.book new.held.book work in
-      entry_tells 1 1 e old.held.book new.held.book (state old.disk) (state new.disk) is (ap one_if lookup) fault names
-      (inl (stays_lookup 1 (pending old.held.book) (pending new.held.book) old.held.book.stopped new.held.book.stopped (state old.disk) (state new.disk) ran stopped rose (omega (arith, few))))
+  lookup_entry e old new is work lookup fault ran stopped rose names = grind (arith, common_steps, nat_tests)
 
   -- a write whose admission failed
   failed_entry : (e : Entry) (old new : CoreState D) → new.held.book.book.entries ≡ old.held.book.book.entries ++ e ∷ [] → new.held.book.seats.work ≡ old.held.book.seats.work → is_failed_lookup e.op e.reply ≡ false → faults_of e.reply ≡ 1
       → HasFailed old.held new.held (state old.disk) (state new.disk) → NamesStop e.reply new.held.book.stopped → LinkTells old.held.book new.held.book (state old.disk) (state new.disk)
-  failed_entry e old new is work lookup fault failed names =
-      let few = same_pending old.held.book new.held.book work in
-      entry_tells 0 1 e old.held.book new.held.book (state old.disk) (state new.disk) is (ap one_if lookup) fault names
-      (inr (refl, stops_failed 1 (pending old.held.book) (pending new.held.book) old.held new.held (state old.disk) (state new.disk) failed (omega (arith, few))))
+  failed_entry e old new is work lookup fault failed names = grind (arith, common_steps, nat_tests)
 
   admit_link : (seat : ℕ) (op : Op) (answer : Admission) (old new : CoreState D) → is_write op ≡ true → Admits state seat op answer old new → LinkTells old.held.book new.held.book (state old.disk) (state new.disk)
   admit_link seat op admission.Admitted old new write call =
@@ -153,8 +145,7 @@ module _ {D : Type 0} (state : D → DiskState) where
   -- a command whose entry is noted in memory alone
   memory_link : (e : Entry) (old new : CoreState D) → is_failed_lookup e.op e.reply ≡ false → faults_of e.reply ≡ 0 → new.held.book ≡ noted_in e.seat e.op e.reply old.held.book → new.disk ≡ old.disk → NamesStop e.reply new.held.book.stopped
       → LinkTells old.held.book new.held.book (state old.disk) (state new.disk)
-  memory_link e old new lookup fault book disk names =
-      quiet_entry e old new (ap (λ (b : BookState). b.book.entries) book) (ap (λ (b : BookState). b.seats.work) book) lookup fault (ap (λ (b : BookState). b.stopped) book) (faults_same old new disk) names
+  memory_link e old new lookup fault book disk names = grind (arith, common_steps, nat_tests)
 
   -- of a caller's work the last turn alone is told, once it ends
   turn_link : (seat : ℕ) (answer : Turned) (old new : CoreState D) → TurnsOnce state seat answer old new → LinkTells old.held.book new.held.book (state old.disk) (state new.disk)
@@ -217,10 +208,7 @@ module _ {D : Type 0} (state : D → DiskState) where
 
   -- a caller that leaves
   leave_link : (seat : ℕ) (old new : CoreState D) → Leaves state seat old new → LinkTells old.held.book new.held.book (state old.disk) (state new.disk)
-  leave_link seat old new call =
-      no_entry_tells old.held.book new.held.book (state old.disk) (state new.disk) (ap (λ (h : Held). h.book.book.entries) call.held)
-      (inl (stays_same 0 (pending old.held.book) (pending new.held.book) old.held.book.stopped new.held.book.stopped (state old.disk) (state new.disk) (ap (λ (h : Held). h.book.stopped) call.held) (faults_same old new call.untouched)
-      (same_pending old.held.book new.held.book (ap (λ (h : Held). h.book.seats.work) call.held))))
+  leave_link seat old new call = grind (arith, common_steps, nat_tests, no_entry_tells, stays_same, pending, same_pending)
 
   pub link_tells : (seat : ℕ) (k : Kind) (old new : CoreState D) → IsCall state seat k old new → LinkTells old.held.book new.held.book (state old.disk) (state new.disk)
   link_tells seat (kind.Admit op) old new call = admit_link seat op call.0 old new (writes_as state seat old op call.1.goes.may).0 call.1

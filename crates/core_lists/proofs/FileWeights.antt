@@ -1,26 +1,23 @@
 -- What a file weighs that holds the tree, also within an admission.
-use Rattle.std.specs.Prelude.{nat_le, nat_lt}
 use Rattle.std.proofs.lemmas.Grind.{common_steps}
 use Rattle.std.proofs.lemmas.Bool.Decides.{nat_tests}
-use Rattle.std.proofs.Common.{◌≡◌, ◌∙◌, ℕ, ◌+◌, ◌≤◌, Bool, true, false, cond, not, ◌&&◌, ◌||◌, List, [], ◌∷◌, ◌++◌, refl, sym, subst, arith}
+use Rattle.std.proofs.Common.{◌≡◌, ◌∙◌, ℕ, ◌≤◌, true, cond, not, ◌||◌, List, [], ◌∷◌, ◌++◌, refl, sym, subst, arith}
 use Rattle.std.proofs.lemmas.List.Sums.{sum_by-append, sum_by-cons}
 use Rattle.blsm_model.specs.declared.key.Key.{Key}
 use Rattle.blsm_model.specs.declared.row.Value.{Value}
 use Rattle.blsm_model.specs.declared.op.Op.{Op}
 use Rattle.blsm_model.specs.declared.history.Entry.{Entry}
 use Rattle.blsm_model.specs.declared.history.Reply.{Reply}
-use Rattle.blsm_model.specs.Geometry.{c1_mark}
 use Rattle.blsm_model.specs.Histories.{writes_of}
 use Rattle.blsm_model.specs.Images.{is_unsure}
 use Rattle.blsm_model.specs.Legal.{is_running, is_stopped, is_stopping, total_weight}
 use Rattle.blsm_model.specs.Sizes.{Sizes}
-use Rattle.record_delta.specs.Entries.{entries_weight}
 use Rattle.pacing.specs.Kept.{IsPaced}
 use Rattle.pacing.specs.Pace.{Pace}
 use Rattle.pacing.specs.Steps.{deep_settled, ready_for as pace_ready_for}
 use Rattle.pacing.proofs.Admissions.{deep_settled_kept, ready_kept}
-use Rattle.tree_machine.specs.Machine.{Machine, in_pass, pass_done, deep_done}
-use Rattle.tree_machine.specs.Moves.{begin_pass, end_pass, output_of, rotate, swap_deep, swap_pass}
+use Rattle.tree_machine.specs.Machine.{Machine}
+use Rattle.tree_machine.specs.Moves.{swap_pass}
 use Rattle.tree_machine.specs.Steps.{deep_swapped, pass_begun_for, pass_swapped, ready_for, swapped}
 use Rattle.tree_machine.proofs.CarryLemmas.{deep_swapped_carries, ready_carries}
 use Rattle.tree_machine.proofs.FoldLemmas.{both_hold}
@@ -44,32 +41,16 @@ counts_back m later counts = record { charge = sym counts.charge; peak = sym cou
 
 -- no swap counts a quantum or a write
 pub deep_swapped_counts : (m : Machine) → CountsAs m (deep_swapped m)
-deep_swapped_counts m = by (deep_done m)
-  where
-    by : (b : Bool) → CountsAs m (cond b (swap_deep m) m)
-    by true = record { charge = refl; peak = refl; quanta = refl }
-    by false = counts_itself m
+deep_swapped_counts m = grind (arith, common_steps, nat_tests)
 
 swap_pass_counts : (m : Machine) → CountsAs m (swap_pass m)
-swap_pass_counts m = by (nat_le (c1_mark m.gears.sizes) (entries_weight (output_of m.merges.pass)))
-  where
-    by : (b : Bool) → CountsAs m (cond b (rotate (end_pass m)) (end_pass m))
-    by true = record { charge = refl; peak = refl; quanta = refl }
-    by false = record { charge = refl; peak = refl; quanta = refl }
+swap_pass_counts m = grind (arith, common_steps, nat_tests)
 
 pass_swapped_counts : (m : Machine) → CountsAs m (pass_swapped m)
-pass_swapped_counts m = by (pass_done m)
-  where
-    by : (b : Bool) → CountsAs m (cond b (swap_pass m) m)
-    by true = swap_pass_counts m
-    by false = counts_itself m
+pass_swapped_counts m = grind (arith, common_steps, nat_tests)
 
 begun_counts : (weight : ℕ) (m : Machine) → CountsAs m (pass_begun_for weight m)
-begun_counts weight m = by (not (in_pass m) && nat_lt m.gears.sizes.low (m.spring + weight))
-  where
-    by : (b : Bool) → CountsAs m (cond b (begin_pass m) m)
-    by true = record { charge = refl; peak = refl; quanta = refl }
-    by false = counts_itself m
+begun_counts weight m = grind (arith, common_steps, nat_tests)
 
 pub ready_counts : (weight : ℕ) (m : Machine) → CountsAs m (ready_for weight m)
 ready_counts weight m =
@@ -96,12 +77,7 @@ same_work m later sizes counts = grind (arith, common_steps, nat_tests)
 -- A file weighs no more for a later machine that counts the same, nor for a history with more in doubt.
 pub weighs_as : (m later : Machine) (history longer : List Entry) (file : List ℕ) → later.gears.sizes ≡ m.gears.sizes → CountsAs m later → doubted history ≤ doubted longer → WeighsWithin m history file
     → WeighsWithin later longer file
-weighs_as m later history longer file sizes counts more weighs = record {
-  tree = weighs.tree;
-  holds = subst (λ (s : Sizes). HoldsTree s weighs.tree file) (sym sizes) weighs.holds;
-  components = subst (λ (n : ℕ). components_weight weighs.tree ≤ n) (sym (same_work m later sizes counts)) weighs.components;
-  lanes = omega (arith, weighs.lanes, counts.peak, more);
-}
+weighs_as m later history longer file sizes counts more weighs = grind (arith, common_steps, nat_tests)
 
 -- ---- by the pace
 
@@ -113,12 +89,7 @@ paced_lanes m pace tree of_tree paced lists = grind (arith, common_steps, nat_te
 
 -- each file that holds the tree of a machine that is paced,
 pub paced_weighs : (m : Machine) (pace : Pace) (tree : Tree) (history : List Entry) (file : List ℕ) → IsPaceOf m pace → IsPaced pace → m.lists ≡ lists_of tree → HoldsTree m.gears.sizes tree file → WeighsWithin m history file
-paced_weighs m pace tree history file of_tree paced lists holds = record {
-  tree = tree;
-  holds = holds;
-  components = paced_components m pace tree of_tree paced lists;
-  lanes = omega (arith, paced_lanes m pace tree of_tree paced lists);
-}
+paced_weighs m pace tree history file of_tree paced lists holds = grind (arith, common_steps, nat_tests)
 
 -- the tree after the deep merge's swap,
 pub settled_weighs : (opening : List (Key × Value)) (m : Machine) (pace : Pace) (next : Tree) (history : List Entry) (file : List ℕ) → IsPacedTree opening m pace → (deep_swapped m).lists ≡ lists_of next

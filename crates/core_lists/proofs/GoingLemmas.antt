@@ -2,8 +2,8 @@
 use Rattle.std.specs.Prelude.{⊤}
 use Rattle.std.proofs.lemmas.Grind.{common_steps}
 use Rattle.std.proofs.lemmas.Bool.Decides.{nat_tests}
-use Rattle.std.proofs.Common.{◌≡◌, ◌∙◌, ℕ, ◌+◌, Bool, true, false, cond, List, Option, None, refl, ap, sym, subst, arith}
-use Rattle.std.specs.Prelude.{◌==◌, nat_lt}
+use Rattle.std.proofs.Common.{◌≡◌, ◌∙◌, ℕ, ◌+◌, Bool, true, false, cond, List, Option, None, ap, sym, subst, arith}
+use Rattle.std.specs.Prelude.{nat_lt}
 use Rattle.std.proofs.lemmas.Bool.{lt-ltb}
 use Rattle.blsm_model.specs.Sizes.{Sizes}
 use Rattle.blsm_model.specs.Geometry.{charge_limit}
@@ -11,8 +11,7 @@ use Rattle.blsm_model.specs.declared.key.Key.{Key}
 use Rattle.blsm_model.specs.declared.row.Row.{Row}
 use Rattle.blsm_model.specs.declared.row.Value.{Value}
 use Rattle.blsm_model.specs.declared.op.Op.{Op}
-use Rattle.blsm_model.specs.declared.history.Reply.TheVariants.{Full, FaultLost, FaultUnsure}
-use Rattle.blsm_model.specs.declared.history.Why.TheVariants.{Faulted}
+use Rattle.blsm_model.specs.declared.history.Reply.TheVariants.{Full}
 use Rattle.blsm_model.specs.declared.history.Why.{Why}
 use Rattle.blsm_model.specs.Histories.{writes_of}
 use Rattle.blsm_model.specs.Legal.{total_weight, is_del}
@@ -25,8 +24,8 @@ use Rattle.pacing.specs.Steps.{Move, Pay, Turn, turn_of, is_worker_seat}
 use Rattle.pacing.specs.Fronts.{Fronts, AreFronts, fronts_by}
 use Rattle.pacing.proofs.Fronts.{step_fronts}
 use Rattle.tree_machine.specs.Lists.{Lists}
-use Rattle.tree_machine.specs.Machine.{Machine, Failed, BadPage, charge, deep_done, pass_done, is_closed}
-use Rattle.tree_machine.specs.Moves.{note, stop, swap_deep, swap_pass, pass_quantum, deep_quantum}
+use Rattle.tree_machine.specs.Machine.{Machine, Failed, BadPage, charge, pass_done, is_closed}
+use Rattle.tree_machine.specs.Moves.{note, pass_quantum, deep_quantum}
 use Rattle.tree_machine.specs.Steps as machine
 use Rattle.tree_machine.specs.Steps.{Outcome, Well, FailedAfter, deep_swapped, one_if, ready_for, swaps_due, Broken, NoRoom, Answer, Paid, Settled, Choice, Stepped, replied, unless_stopped as machine_unless, admit_fitting, forgive, pay_running, pay_planned, do_pay, do_hold, do_next, chosen, ended_as, work_turning, worker_turning}
 use Rattle.tree_machine.specs.Plays.{may, stepped_as}
@@ -49,10 +48,8 @@ use Rattle.core_lists.specs.Shown.{HasFronts}
 use Rattle.core_lists.specs.Lists.{helped}
 use Rattle.core_lists.specs.Steps.{TurnsTree, choice_of, chosen_by}
 use Rattle.core_lists.specs.Going.{StandingIsSteady, FailuresAreTheMachines, AdmissionFits, AdmissionGoesOn, RefusalGoesOn, ClosedTurnGoesOn, PaymentGoesOn, TurnGoesOn, IsQuiet, QuietGoesOn, kind_of_turn, IsOpenTo}
-use Rattle.core_lists.proofs.ShownLemmas.{fronts_stay, fronts_turn}
-use Rattle.core_lists.proofs.ImageLemmas.{swapped_tables}
 use Rattle.core_lists.proofs.StepLands.{choices_agree}
-use Rattle.core_lists.proofs.AppendLemmas.{not_past, append_goes_on}
+use Rattle.core_lists.proofs.AppendLemmas.{append_goes_on}
 
 pub standing_is_steady : StandingIsSteady
 standing_is_steady opening held m pace fronts tree file is runs =
@@ -72,9 +69,7 @@ standing_is_steady opening held m pace fronts tree file is runs =
 -- ---- an admission
 
 pub admission_fits : AdmissionFits
-admission_fits m seat op outcome runs room =
-    ap (λ (o : Option Why). machine_unless o seat op m (cond (nat_lt (charge_limit m.gears.sizes (is_del op)) (charge m + total_weight (writes_of op))) (replied seat op (Full (charge m)) m) (admit_fitting m seat op (total_weight (writes_of op)) outcome))) runs
-    ∙ ap (λ (b : Bool). cond b (replied seat op (Full (charge m)) m) (admit_fitting m seat op (total_weight (writes_of op)) outcome)) (not_past (charge_limit m.gears.sizes (is_del op)) (charge m + total_weight (writes_of op)) room)
+admission_fits m seat op outcome runs room = grind (arith, common_steps, nat_tests)
 
 some_due : (deep pass : Bool) → deep ≡ true → nat_lt 0 (one_if deep + one_if pass) ≡ true
 some_due deep pass h1 = grind (arith, common_steps, nat_tests)
@@ -87,16 +82,7 @@ same_pass : (m : Machine) → pass_done (deep_swapped m) ≡ pass_done m
 same_pass m = grind (arith, common_steps, nat_tests)
 
 pub failures_are_the_machines : FailuresAreTheMachines
-failures_are_the_machines m seat op w faults = record {
-  deep = λ done. ap (λ (b : Bool). (cond b (replied seat op FaultLost (stop (Faulted faults) (cond (0 == 0) m (deep_swapped m)))) (replied seat op FaultUnsure (stop (Faulted faults) (ready_for w m)))).state) (some_due (deep_done m) (pass_done m) done);
-  pass = λ done.
-      ap (λ (b : Bool). (cond b (replied seat op FaultLost (stop (Faulted faults) (cond ((one_if (deep_done m)) == 0) m (deep_swapped m)))) (replied seat op FaultUnsure (stop (Faulted faults) (ready_for w m)))).state) (pass_due (deep_done m) (pass_done m) (sym (same_pass m) ∙ done))
-      ∙ ap (λ (s : Machine). note seat op FaultLost (stop (Faulted faults) s)) (committed_of (deep_done m));
-  append = ap (λ (b : Bool). (cond b (replied seat op FaultLost (stop (Faulted faults) (cond ((swaps_due m) == 0) m (deep_swapped m)))) (replied seat op FaultUnsure (stop (Faulted faults) (ready_for w m)))).state) (not_past (swaps_due m) (swaps_due m) (omega arith));
-}
-  where
-    committed_of : (b : Bool) → cond (one_if b == 0) m (cond b (swap_deep m) m) ≡ cond b (swap_deep m) m
-    committed_of b = grind (arith, common_steps, nat_tests)
+failures_are_the_machines m seat op w faults = grind (arith, common_steps, nat_tests)
 
 pub admission_goes_on : AdmissionGoesOn
 admission_goes_on opening m pace fronts seat op write begun tree is = append_goes_on opening m pace fronts seat op write begun tree is
@@ -186,17 +172,7 @@ turned_fronts c pace then fronts seat paced within same made =
 -- the lanes as the move leaves them
 turned_lanes : (mv : Move) (seat n : ℕ) (old moved : Held) (tree next : Tree) (m : Machine) (fronts : Fronts) → TurnsTree mv n old moved tree next → HasFronts tree m.lists fronts
     → HasFronts next (chosen (choice_of mv) seat m).lists (fronts_by (move_of (choice_of mv)) fronts)
-turned_lanes pacing.SwapDeep seat n old moved tree next m fronts trees lanes = fronts_stay tree next m.lists (machine.chosen machine.SwapDeep seat m).lists fronts trees.lane_a trees.lane_b refl refl lanes
-turned_lanes pacing.SwapPass seat n old moved tree next m fronts trees lanes =
-    let tables = swapped_tables m in
-    fronts_turn tree next m.lists (swap_pass m).lists fronts trees.0.lane_a trees.0.lane_b tables.0 tables.1 lanes
-turned_lanes pacing.TakeDeep seat n old moved tree next m fronts trees lanes =
-    subst (λ (l : Lists). HasFronts next l fronts) (sym (deep_quantum_lists seat m)) (subst (λ (t : Tree). HasFronts t m.lists fronts) (sym trees.0) lanes)
-turned_lanes pacing.TakeSnow seat n old moved tree next m fronts trees lanes =
-    subst (λ (l : Lists). HasFronts next l fronts) (sym (pass_quantum_lists seat m)) (subst (λ (t : Tree). HasFronts t m.lists fronts) (sym trees.0) lanes)
-turned_lanes pacing.Begin seat n old moved tree next m fronts trees lanes = subst (λ (t : Tree). HasFronts t m.lists fronts) (sym trees) lanes
-turned_lanes pacing.Rotate seat n old moved tree next m fronts trees lanes = fronts_stay tree next m.lists (machine.chosen machine.Rotate seat m).lists fronts trees.lane_a trees.lane_b refl refl lanes
-turned_lanes pacing.Idle seat n old moved tree next m fronts trees lanes = subst (λ (t : Tree). HasFronts t m.lists fronts) (sym trees) lanes
+turned_lanes mv seat n old moved tree next m fronts h1 h2 = grind (arith, common_steps, nat_tests)
 
 -- a turn that runs is the one chosen
 turn_state : (is_worker : Bool) (m : Machine) (seat : ℕ) → m.stopped ≡ None → IsOpenTo is_worker m → (stepped_as m seat (kind_of_turn is_worker) Well).state.lists ≡ (chosen (chosen_by is_worker m) seat m).lists

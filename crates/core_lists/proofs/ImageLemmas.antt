@@ -1,5 +1,5 @@
 -- What the images show of each swap and rotation.
-use Rattle.std.proofs.Common.{◌≡◌, ◌∙◌, ℕ, ◌+◌, ◌≤◌, Bool, true, false, cond, ◌&&◌, List, [], Option, None, ⊎_elim, refl, ap, sym, subst, arith}
+use Rattle.std.proofs.Common.{◌≡◌, ◌∙◌, ℕ, ◌+◌, Bool, true, false, cond, ◌&&◌, List, [], Option, None, ⊎_elim, refl, ap, sym, subst, arith}
 use Rattle.std.proofs.lemmas.Grind.{common_steps}
 use Rattle.std.proofs.lemmas.Bool.Decides.{nat_tests}
 use Rattle.std.proofs.lemmas.Bool.{false≢true}
@@ -32,14 +32,13 @@ use Rattle.core_moves.specs.declared.held.Held.{Held}
 use Rattle.core_moves.specs.Held.{IsPassDone, is_run_full}
 use Rattle.core_lists.specs.Standing.{IsPassAt, IsDeepAt}
 use Rattle.core_lists.specs.Lists.{Agrees}
-use Rattle.core_lists.specs.Shown.{HasFronts, ShowsWhole, WeighsWithin, lanes_weight, most_worked}
+use Rattle.core_lists.specs.Shown.{HasFronts, ShowsWhole, WeighsWithin, lanes_weight}
 use Rattle.core_lists.specs.Admissions.{DeepSettlesTree}
 use Rattle.core_lists.specs.Images.{SettledIn, DeepSwapImages, PassSwapImages, RotationImages, SettledFronts, ReadyFronts}
 use Rattle.core_lists.proofs.SwapLands.{deep_swap_has_lists, pass_swap_has_lists, rotation_has_lists}
 use Rattle.core_lists.proofs.TestLemmas.{tests_agree_with_lists}
 use Rattle.core_lists.proofs.ShownLemmas.{steps_show, shown_fits, fronts_stay, fronts_turn}
 use Rattle.core_lists.proofs.ShowingLemmas.{whole_of, standing_shows, settled_shows, swapped_shows}
-use Rattle.core_lists.proofs.FileWeights.{paced_components, paced_lanes}
 
 -- ---- the deep merge
 
@@ -173,9 +172,4 @@ rotation_images opening held m pace fronts tree next file image is rests unmerge
     lanes_weigh = ap (λ (es : Entries). entries_weight (replayed es) + entries_weight (replayed next.lane_b)) rotated.lane_a ∙ ap (λ (es : Entries). entries_weight (replayed tree.lane_a) + entries_weight (replayed es)) rotated.lane_b
 
     weighs_within : HoldsTree m.gears.sizes next image → WeighsWithin m m.book.entries image
-    weighs_within holds = record {
-      tree = next;
-      holds = holds;
-      components = subst (λ (n : ℕ). n ≤ most_worked m) (sym same_weight) (paced_components m pace tree is.paced.of_tree is.paced.paced is.at.holds.lists);
-      lanes = omega (arith, lanes_weigh, paced_lanes m pace tree is.paced.of_tree is.paced.paced is.at.holds.lists);
-    }
+    weighs_within holds = grind (arith, common_steps, nat_tests)

@@ -1,13 +1,11 @@
 -- A store that was opened stands at the machine's first state.
-use Rattle.std.proofs.Common.{◌≡◌, ◌∙◌, ℕ, ◌+◌, List, [], Option, None, length, refl, ap, sym, subst, arith}
+use Rattle.std.proofs.Common.{◌≡◌, ◌∙◌, ℕ, ◌+◌, List, [], Option, refl, ap, sym, subst, arith}
 use Rattle.std.proofs.lemmas.Grind.{common_steps}
 use Rattle.std.proofs.lemmas.Bool.Decides.{nat_tests}
 use Rattle.blsm_model.specs.Book.{Book}
 use Rattle.catalog_swap.specs.declared.catalog.Catalog.{Catalog}
 use Rattle.record_delta.specs.Entries.{Entries, entries_weight, replayed}
 use Rattle.page_file.specs.Component.{entries_of}
-use Rattle.gated_log.specs.Lane.{blocks}
-use Rattle.snow_merge.specs.Pass.{SnowState}
 use Rattle.deep_merge.specs.Merge.{DeepState}
 use Rattle.gear_sched.specs.Gears.{GearState}
 use Rattle.pacing.specs.Pace.{opened as pace_opened}
@@ -15,7 +13,6 @@ use Rattle.pacing.specs.Laws.{IsOpening}
 use Rattle.pacing.proofs.Fronts.{opening_fronts}
 use Rattle.tree_machine.specs.Lists.{Lists, map_in}
 use Rattle.tree_machine.specs.Machine.{Machine, opened}
-use Rattle.seat_book.specs.State.{opened_in}
 use Rattle.paced_tree.specs.Kept.{AreComponents, IsPacedTree}
 use Rattle.paced_tree.specs.Lanes.{IsLane}
 use Rattle.paced_tree.proofs.LaneLemmas.{empty_lane}
@@ -26,7 +23,7 @@ use Rattle.tree_log.specs.Log.{IsLogOf}
 use Rattle.tree_runs.specs.Runs.{guide_at}
 use Rattle.tree_runs.specs.Holding.{AreOf, IsDeepOver}
 use Rattle.core_moves.specs.declared.held.Held.{Held}
-use Rattle.core_lists.specs.Standing.{HoldsMachine, IsPassAt, IsDeepAt, catalogue_of}
+use Rattle.core_lists.specs.Standing.{HoldsMachine, catalogue_of}
 use Rattle.core_pace.specs.Opening.{IsOpened}
 use Rattle.core_lists.specs.Opening.{OpeningStands}
 use Rattle.core_lists.proofs.SwapLands.{same_lists}
@@ -57,27 +54,10 @@ module _ (annals : Book) (faults : ℕ) (held : Held) (tree : Tree) (file : List
   lists = same_lists first.lists (lists_of tree) (ap replayed (sym lane_b)) (ap replayed (sym lane_a)) refl (ap entries_of (sym no_c1x)) refl
 
   of_log : IsLogOf tree held.log
-  of_log = record {
-    roles = roles ∙ sym (ap (λ (k : Catalog). k.lanes) of.catalogue);
-    end_a = is.end_a ∙ ap (λ (es : Entries). length (blocks es)) (sym lane_a);
-    end_b = is.end_b ∙ ap (λ (es : Entries). length (blocks es)) (sym lane_b);
-    a = is.a ∙ ap replayed (sym lane_a);
-    b = is.b ∙ ap replayed (sym lane_b);
-  }
+  of_log = grind (arith, common_steps, nat_tests)
 
   holds : HoldsMachine held tree first
-  holds = record {
-    lists = lists;
-    of_log = of_log;
-    pass = subst (λ (o : Option SnowState). IsPassAt None o) (sym is.pass) tt;
-    deep = subst (λ (o : Option DeepState). IsDeepAt None o) (sym is.deep) tt;
-    gears = sym is.gears;
-    spring = sym is.spring;
-    catalogue = refl;
-    book = ap (λ (n : ℕ). opened_in (record { entries = []; quanta = []; room = annals.room }) n faults) charge_is
-        ∙ ap (λ (b : Book). opened_in b (held.runs.catalogue.c1.weight + held.runs.catalogue.c2.weight) faults) annals_are
-        ∙ sym is.book;
-  }
+  holds = grind (arith, common_steps, nat_tests)
 
   are : AreComponents held.runs.sizes (entries_of tree.c1) (entries_of tree.c2)
   are =

@@ -1,31 +1,28 @@
 -- A quantum of either merge, over lists.
 use Rattle.std.proofs.Common.{◌≡◌, ◌∙◌, ℕ, ◌<◌, true, Option, Some, None, refl, ap, sym, subst}
+use Rattle.std.proofs.lemmas.Grind.{common_steps}
+use Rattle.std.proofs.lemmas.Bool.Decides.{nat_tests}
+use Rattle.std.proofs.Common.{arith}
 use Rattle.blsm_model.specs.Sizes.{Sizes}
 use Rattle.blsm_model.specs.declared.key.Key.{Key}
 use Rattle.record_delta.specs.Entries.{Entries, is_above}
 use Rattle.page_file.specs.Component.{entries_of}
-use Rattle.gear_sched.specs.Gears.{GearState, took_first, took_second}
+use Rattle.gear_sched.specs.Gears.{GearState}
 use Rattle.merge_ends.specs.Quantum.{IsQuantum}
 use Rattle.snow_merge.specs.Pass.{SnowState}
 use Rattle.deep_merge.specs.Merge.{DeepState}
 use Rattle.tree_machine.specs.Merges.{Merge, cursor_after, quantum_of}
 use Rattle.tree_machine.specs.Moves.{pass_quantum_of, deep_quantum_of}
-use Rattle.seat_book.specs.State.{quantum_counted_in}
-use Rattle.tree_log.specs.Log.{IsLogOf}
 use Rattle.tree_runs.specs.Holding.{PassTakes, PassTook, DeepTakes, DeepTook}
 use Rattle.tree_runs.specs.Laws.{IsOnward, QuantaAgree}
-use Rattle.core_lists.specs.Standing.{HoldsMachine, IsPassAt, IsDeepAt, catalogue_of}
+use Rattle.core_lists.specs.Standing.{HoldsMachine, IsPassAt, IsDeepAt}
 use Rattle.core_lists.specs.Lists.{PassQuantumLands, DeepQuantumLands}
 use Rattle.core_lists.proofs.WeighLemmas.{table_a, list_c1, list_c1x, list_c2}
 
 -- a quantum over the same numbers, cursor and lists
 same_quantum : (least least2 : ℕ) (from from2 to : Option Key) (newer newer2 older older2 : Entries) (n : ℕ) → least ≡ least2 → from ≡ from2 → newer ≡ newer2 → older ≡ older2
     → IsQuantum least from to newer older n → IsQuantum least2 from2 to newer2 older2 n
-same_quantum least least2 from from2 to newer newer2 older older2 n l f a b is =
-    subst (λ (k : ℕ). IsQuantum k from2 to newer2 older2 n) l
-    (subst (λ (k : Option Key). IsQuantum least k to newer2 older2 n) f
-    (subst (λ (es : Entries). IsQuantum least from to es older2 n) a
-    (subst (λ (es : Entries). IsQuantum least from to newer es n) b is)))
+same_quantum least least2 from from2 to newer newer2 older older2 n l f a b is = grind (arith, common_steps, nat_tests)
 
 pub pass_quantum_lands : QuantaAgree → PassQuantumLands
 pass_quantum_lands quanta_agree seat n old new tree m file after at sound sizes positive moves took are_of =
@@ -36,16 +33,7 @@ pass_quantum_lands quanta_agree seat n old new tree m file after at sound sizes 
 
     moved : (pass : Merge) (snow next : SnowState) → new.runs.pass ≡ Some next → next.at ≡ cursor_after pass.cursor (quantum_of m.gears.sizes.quantum pass m.lists.a m.lists.c1).groups
         → n ≡ (quantum_of m.gears.sizes.quantum pass m.lists.a m.lists.c1).weight → HoldsMachine new tree (pass_quantum_of (Some pass) seat m)
-    moved pass snow next is comes weighs = record {
-      lists = at.holds.lists;
-      of_log = subst (λ l. IsLogOf tree l) (sym moves.log) at.holds.of_log;
-      pass = subst (λ (p : Option SnowState). IsPassAt (pass_quantum_of (Some pass) seat m).merges.pass p) (sym is) (sym comes);
-      deep = subst (λ (p : Option DeepState). IsDeepAt m.merges.deep p) (sym moves.others.deep) at.holds.deep;
-      gears = ap (λ (g : GearState). took_first g seat (quantum_of m.gears.sizes.quantum pass m.lists.a m.lists.c1).weight) at.holds.gears ∙ ap (λ (k : ℕ). took_first old.gears seat k) (sym weighs) ∙ sym moves.gears;
-      spring = at.holds.spring ∙ sym moves.spring;
-      catalogue = at.holds.catalogue ∙ ap catalogue_of (sym moves.others.catalogue);
-      book = ap (λ b. quantum_counted_in seat b) at.holds.book ∙ sym moves.book;
-    }
+    moved pass snow next is comes weighs = grind (arith, common_steps, nat_tests)
 
     by : (p : Option Merge) (o q : Option SnowState) → new.runs.pass ≡ q → IsPassAt p o → PassTakes o q old.log.a.entries n → PassTook old.runs.sizes.quantum o q old.log.a.entries (entries_of tree.c1) n
         → HoldsMachine new tree (pass_quantum_of p seat m)
@@ -72,16 +60,7 @@ deep_quantum_lands quanta_agree seat n old new tree m file after at sound sizes 
 
     moved : (deep : Merge) (merge next : DeepState) → new.runs.deep ≡ Some next → next.at ≡ cursor_after deep.cursor (quantum_of m.gears.sizes.quantum deep m.lists.c1x m.lists.c2).groups
         → n ≡ (quantum_of m.gears.sizes.quantum deep m.lists.c1x m.lists.c2).weight → HoldsMachine new tree (deep_quantum_of (Some deep) seat m)
-    moved deep merge next is comes weighs = record {
-      lists = at.holds.lists;
-      of_log = subst (λ l. IsLogOf tree l) (sym moves.log) at.holds.of_log;
-      pass = subst (λ (p : Option SnowState). IsPassAt m.merges.pass p) (sym moves.others.pass) at.holds.pass;
-      deep = subst (λ (p : Option DeepState). IsDeepAt (deep_quantum_of (Some deep) seat m).merges.deep p) (sym is) (sym comes);
-      gears = ap (λ (g : GearState). took_second g seat (quantum_of m.gears.sizes.quantum deep m.lists.c1x m.lists.c2).weight) at.holds.gears ∙ ap (λ (k : ℕ). took_second old.gears seat k) (sym weighs) ∙ sym moves.gears;
-      spring = at.holds.spring ∙ sym moves.spring;
-      catalogue = at.holds.catalogue ∙ ap catalogue_of (sym moves.others.catalogue);
-      book = ap (λ b. quantum_counted_in seat b) at.holds.book ∙ sym moves.book;
-    }
+    moved deep merge next is comes weighs = grind (arith, common_steps, nat_tests)
 
     by : (p : Option Merge) (o q : Option DeepState) → new.runs.deep ≡ q → IsDeepAt p o → DeepTakes o q n → DeepTook old.runs.sizes.quantum o q (entries_of tree.c1x) (entries_of tree.c2) n
         → HoldsMachine new tree (deep_quantum_of p seat m)

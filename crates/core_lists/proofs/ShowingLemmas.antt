@@ -1,7 +1,7 @@
 -- What a file shows of a history, in the words of what an image may show.
 use Rattle.std.proofs.lemmas.Grind.{common_steps}
 use Rattle.std.proofs.lemmas.Bool.Decides.{nat_tests}
-use Rattle.std.proofs.Common.{◌≡◌, ◌∙◌, ℕ, ◌≤◌, Bool, true, false, cond, not, ◌&&◌, ◌||◌, List, [], ◌∷◌, ◌++◌, flat_map, length, ⊎_elim, refl, ap, sym, subst, append_assoc, append-nil, length-append, arith}
+use Rattle.std.proofs.Common.{◌≡◌, ◌∙◌, ℕ, ◌≤◌, Bool, true, false, cond, not, ◌||◌, List, [], ◌∷◌, ◌++◌, flat_map, length, refl, ap, sym, subst, append_assoc, append-nil, length-append, arith}
 use Rattle.std.proofs.lemmas.List.{flat_map_more}
 use mathlib.Core.List.{IsPrefix}
 use Rattle.blsm_model.specs.declared.key.Key.{Key}
@@ -10,10 +10,9 @@ use Rattle.blsm_model.specs.declared.op.Op.{Op}
 use Rattle.blsm_model.specs.declared.op.Write.{Write}
 use Rattle.blsm_model.specs.declared.history.Entry.{Entry}
 use Rattle.blsm_model.specs.declared.history.Reply.{Reply}
-use Rattle.blsm_model.specs.Book.{Book}
 use Rattle.blsm_model.specs.Sizes.{Sizes}
 use Rattle.blsm_model.specs.Histories.{is_done, writes_of, counted, counted_writes, written}
-use Rattle.blsm_model.specs.Images.{counted_with, is_unsure}
+use Rattle.blsm_model.specs.Images.{counted_with}
 use Rattle.blsm_model.specs.Legal.{is_running, is_stopping, is_stopped}
 use Rattle.blsm_model.specs.Rows.{map_of, puts_of}
 use Rattle.pacing.specs.Pace.{Pace}
@@ -72,21 +71,14 @@ prefix_whole front history begins long = grind (arith, common_steps, nat_tests)
 -- the map after all of the history
 pub shows_by : (unsure : Bool) (sizes : Sizes) (opening : List (Key × Value)) (history : List Entry) (writes : List Write) (n : ℕ) (file : List ℕ) → n ≤ length history
     → writes ≡ puts_of opening ++ flat_map (counted_with unsure) history → ReadsAsMap sizes (map_of writes) file → ShowsHistory sizes opening history n file
-shows_by unsure sizes opening history writes n file few same reads = (
-  map_of writes,
-  record { front = history; unsure = unsure; begins = prefix_self history; enough = few; map = ap map_of same },
-  reads,
-)
+shows_by unsure sizes opening history writes n file few same reads = grind (arith, common_steps, nat_tests)
 
 -- the map of the machine's history
 abbrev pub ReadsHistory : List (Key × Value) → Machine → List ℕ → Type 0
 ReadsHistory opening m file = ReadsAsMap m.gears.sizes (map_of (written opening m.book.entries)) file
 
 pub whole_of : (opening : List (Key × Value)) (m : Machine) (file : List ℕ) → ReadsHistory opening m file → WeighsWithin m m.book.entries file → ShowsWhole opening m file
-whole_of opening m file reads weighs = (
-  shows_by false m.gears.sizes opening m.book.entries (written opening m.book.entries) (length m.book.entries) file (omega arith) (ap (λ ws. puts_of opening ++ ws) (sym (sure_writes m.book.entries))) reads,
-  weighs,
-)
+whole_of opening m file reads weighs = grind (arith, common_steps, nat_tests)
 
 pub standing_reads : (opening : List (Key × Value)) (m : Machine) (pace : Pace) (fronts : Fronts) (tree : Tree) (file : List ℕ) → IsPacedTree opening m pace → AreFronts pace fronts → m.lists ≡ lists_of tree
     → HasFronts tree m.lists fronts → HoldsTree m.gears.sizes tree file → ReadsHistory opening m file
@@ -95,9 +87,7 @@ standing_reads opening m pace fronts tree file paced within lists lanes holds =
 
 -- a later machine of the same sizes and history reads as the same
 reads_as : (opening : List (Key × Value)) (m later : Machine) (file : List ℕ) → later.gears.sizes ≡ m.gears.sizes → later.book ≡ m.book → ReadsHistory opening later file → ReadsHistory opening m file
-reads_as opening m later file sizes book reads =
-    subst (λ (b : Book). ReadsAsMap m.gears.sizes (map_of (written opening b.entries)) file) book
-    (subst (λ (s : Sizes). ReadsAsMap s (map_of (written opening later.book.entries)) file) sizes reads)
+reads_as opening m later file sizes book reads = grind (arith, common_steps, nat_tests)
 
 -- a pass that begins leaves the lists
 pub begun_lists : (w : ℕ) (m : Machine) → (ready_for w m).lists ≡ (swapped m).lists
@@ -132,21 +122,10 @@ swapped_shows opening m pace fronts next file paced within lists lanes holds =
 -- ---- as the history grows
 
 pub showing_is_kept : ShowingIsKept
-showing_is_kept sizes opening history longer n fewer file begins few shows =
-    let is = shows.1 in (
-      shows.0,
-      record { front = is.front; unsure = is.unsure; begins = prefix_then is.front history longer is.begins begins; enough = omega (arith, few, is.enough); map = is.map },
-      shows.2,
-    )
+showing_is_kept sizes opening history longer n fewer file begins few shows = grind (arith, common_steps, nat_tests)
 
 pub quiet_entry_counts_none : QuietEntryCountsNone
-quiet_entry_counts_none entry quiet unsure = ⊎_elim (λ none. by_writes (is_done entry.reply || (unsure && is_unsure entry.reply)) none) (λ refused. by_reply unsure (is_done entry.reply) (is_unsure entry.reply) refused.0 refused.1) quiet
-  where
-    by_writes : (b : Bool) → writes_of entry.op ≡ [] → cond b (writes_of entry.op) [] ≡ []
-    by_writes b h1 = grind (arith, common_steps, nat_tests)
-
-    by_reply : (b done doubt : Bool) → done ≡ false → doubt ≡ false → cond (done || (b && doubt)) (writes_of entry.op) [] ≡ []
-    by_reply b done doubt h1 h2 = grind (arith, common_steps, nat_tests)
+quiet_entry_counts_none entry quiet unsure = grind (arith, common_steps, nat_tests)
 
 pub quiet_entry_shows : QuietEntryShows
 quiet_entry_shows sizes opening history entry file none shows =

@@ -1,11 +1,10 @@
 -- A payment, and a turn of work or of a worker, over lists.
-use Rattle.std.proofs.Common.{◌≡◌, ◌∙◌, ℕ, ◌+◌, Bool, true, false, cond, not, ◌&&◌, ◌||◌, List, Option, None, refl, ap, sym, subst}
+use Rattle.std.proofs.Common.{◌≡◌, ◌∙◌, ℕ, Bool, true, false, cond, not, ◌&&◌, ◌||◌, List, Option, None, refl, ap, sym, subst}
 use Rattle.std.proofs.lemmas.Grind.{common_steps}
 use Rattle.std.proofs.lemmas.Bool.Decides.{nat_tests}
 use Rattle.std.proofs.Common.{arith}
 use Rattle.std.specs.Prelude.{⊤, is_some, slice_index_or, ◌==◌, nat_lt}
 use Rattle.std.proofs.lemmas.Bool.{eqb-true, eq-eqb}
-use Rattle.blsm_model.specs.Geometry.{high_mark}
 use Rattle.blsm_model.specs.Sizes.{Sizes}
 use Rattle.blsm_model.specs.declared.history.Why.{Why}
 use Rattle.record_delta.specs.Entries.{entries_weight}
@@ -16,12 +15,12 @@ use Rattle.pacing.specs.Steps as pacing
 use Rattle.pacing.specs.Steps.{Move}
 use Rattle.tree_machine.specs.Lists.{memory_weight}
 use Rattle.tree_machine.specs.Layers.{Carries}
-use Rattle.tree_machine.specs.Machine.{Machine, Turned, charge, WorkSoFar, in_pass, in_deep, is_closed, pass_done, deep_done, work_of, no_work}
+use Rattle.tree_machine.specs.Machine.{Machine, Turned, WorkSoFar, in_pass, in_deep, is_closed, pass_done, deep_done, work_of, no_work}
 use Rattle.tree_machine.specs.Moves.{begin_pass, pass_quantum, deep_quantum}
 use Rattle.tree_machine.specs.Steps as machine
 use Rattle.tree_machine.specs.Steps.{Choice, Well, Turning, choice, chosen, ended_as, quanta_of, forgive, pay, pay_running, pay_planned, work_turn, worker_turn, work_turning, worker_turning, work_noted, with_turn}
 use Rattle.tree_machine.proofs.CarryLemmas.{chosen_carries}
-use Rattle.seat_book.specs.State.{BookState, is_closed_in, may_end_in, may_note_in, may_turn_in, paid_in, helped_in, totals_in, turned_in, work_in}
+use Rattle.seat_book.specs.State.{paid_in, helped_in, turned_in}
 use Rattle.paced_tree.specs.Booking.{quanta_of_move}
 use Rattle.paced_tree.proofs.Payments.{sound_forgiven}
 use Rattle.tree_file.specs.Tree.{Tree}
@@ -45,28 +44,13 @@ use Rattle.core_lists.proofs.TestLemmas.{tests_agree_with_lists, forgiving_lands
 -- ---- the book
 
 pub books_agree : BooksAgree
-books_agree held tree m seat holds = record {
-  note = λ rows. ap (λ (b : BookState). may_note_in seat rows b) holds.book;
-  turn = ap (λ (b : BookState). may_turn_in seat b) holds.book;
-  end = λ n. ap (λ (b : BookState). may_end_in seat n b) holds.book;
-  even = λ settled.
-      let owes_none : nat_lt 0 (first_debt m.gears seat + second_debt m.gears seat) ≡ false =
-      ap (λ (g : GearState). nat_lt 0 (first_debt g seat + second_debt g seat)) holds.gears ∙ ap (λ (n : ℕ). nat_lt 0 n) settled in
-      ap (λ (b : Bool). not b || is_some m.stopped) owes_none;
-  work = ap (λ (b : BookState). work_in seat b) holds.book;
-  closed = ap is_closed_in holds.book;
-  stopped = ap (λ (b : BookState). b.stopped) holds.book;
-  history = ap (λ (b : BookState). b.book) holds.book;
-}
+books_agree held tree m seat holds = grind (arith, common_steps, nat_tests)
 
 pub sizes_agree : SizesAgree
 sizes_agree held tree m holds one = ap (λ (g : GearState). g.sizes) holds.gears ∙ one
 
 pub totals_agree : TotalsAgree
-totals_agree held tree m file numbers at sound has one =
-    ap (λ (b : BookState). totals_in (high_mark m.gears.sizes) (charge m) b) at.holds.book
-    ∙ ap (λ (s : Sizes). totals_in (high_mark s) (charge m) held.book) (ap (λ (g : GearState). g.sizes) at.holds.gears ∙ one)
-    ∙ ap (λ (n : ℕ). totals_in (high_mark held.runs.sizes) n held.book) (tests_agree_with_lists held tree m file numbers at sound has).charge_is
+totals_agree held tree m file numbers at sound has one = grind (arith, common_steps, nat_tests)
 
 -- ---- a payment
 
@@ -165,16 +149,7 @@ IsDue machine.SwapPass m = pass_done m ≡ true
 IsDue _ m = ⊤
 
 due_choice : (begins rotates : Bool) (m : Machine) → IsDue (choice begins rotates m) m
-due_choice begins rotates m = by (deep_done m) (pass_done m) (in_deep m && (not (in_pass m) || deep_is_behind m.gears)) (in_pass m) begins rotates refl refl
-  where
-    by : (b1 b2 b3 b4 b5 b6 : Bool) → deep_done m ≡ b1 → pass_done m ≡ b2 → IsDue (machine_choice b1 b2 b3 b4 b5 b6) m
-    by true b2 b3 b4 b5 b6 done over = done
-    by false true b3 b4 b5 b6 done over = over
-    by false false true b4 b5 b6 done over = tt
-    by false false false true b5 b6 done over = tt
-    by false false false false true b6 done over = tt
-    by false false false false false true done over = tt
-    by false false false false false false done over = tt
+due_choice begins rotates m = grind (arith, common_steps, nat_tests)
 
 is_due : (is_worker : Bool) (m : Machine) → IsDue (chosen_by is_worker m) m
 is_due true m = due_choice (nat_lt m.gears.sizes.low m.spring) false m

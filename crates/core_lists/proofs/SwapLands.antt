@@ -1,5 +1,5 @@
 -- Swaps, rotations and begins, over lists.
-use Rattle.std.proofs.Common.{◌≡◌, ◌∙◌, ℕ, ◌+◌, Bool, true, false, cond, [], ◌∷◌, List, length, Option, Some, None, refl, ap, sym, subst}
+use Rattle.std.proofs.Common.{◌≡◌, ◌∙◌, ℕ, ◌+◌, Bool, true, false, cond, [], List, Option, Some, None, refl, ap, sym, subst}
 use Rattle.std.proofs.lemmas.Grind.{common_steps}
 use Rattle.std.proofs.lemmas.Bool.Decides.{nat_tests}
 use Rattle.std.proofs.Common.{arith}
@@ -7,9 +7,8 @@ use Rattle.std.specs.Prelude.{nat_le}
 use Rattle.std.proofs.lemmas.Bool.{false≢true}
 use Rattle.blsm_model.specs.declared.key.Key.{Key}
 use Rattle.blsm_model.specs.Geometry.{c1_mark}
-use Rattle.blsm_model.specs.Lanes.{a_of, b_of, spare_of}
 use Rattle.catalog_swap.specs.declared.catalog.Catalog.{Catalog}
-use Rattle.record_delta.specs.Entries.{Entries, above, entries_weight, folded_over, settled_entries, replayed, up_to}
+use Rattle.record_delta.specs.Entries.{Entries, above, entries_weight, folded_over, settled_entries, up_to}
 use Rattle.page_file.specs.Component.{entries_of}
 use Rattle.gear_sched.specs.Gears.{GearState, deep_ended, pass_ended, passing, rotated}
 use Rattle.deep_merge.specs.Merge.{started as deep_started}
@@ -18,12 +17,11 @@ use Rattle.tree_machine.specs.Lists.{Lists, memory_weight}
 use Rattle.tree_machine.specs.Merges.{Merge, begun, is_empty}
 use Rattle.tree_machine.specs.Layers.{IsSound}
 use Rattle.tree_machine.specs.Machine.{Machine, Catalogue, pass_done, deep_done, pass_is_done}
-use Rattle.tree_machine.specs.Moves.{begin_pass, swap_deep, end_pass, rotate, committed, turned, output_of}
+use Rattle.tree_machine.specs.Moves.{begin_pass, end_pass, rotate, committed, turned, output_of}
 use Rattle.merge_ends.proofs.GroupLemmas.{all_up_to}
 use Rattle.tree_machine.proofs.FoldLemmas.{both_hold}
 use Rattle.tree_machine.proofs.WeightLemmas.{pass_output, deep_output}
 use Rattle.seat_book.specs.State.{deep_counted_in, pass_counted_in}
-use Rattle.gated_log.specs.Lane.{blocks}
 use Rattle.tree_file.specs.Tree.{Tree, lists_of}
 use Rattle.tree_file.specs.Places.{TurnsRoles}
 use Rattle.tree_log.specs.Log.{LogState, IsLogOf}
@@ -57,24 +55,12 @@ pass_wrote m sound done = grind (arith, common_steps, nat_tests, pass_output)
 
 pub log_stays : (tree next : Tree) (log after : LogState) → after ≡ log → next.catalogue.lanes ≡ tree.catalogue.lanes → next.lane_a ≡ tree.lane_a → next.lane_b ≡ tree.lane_b
     → IsLogOf tree log → IsLogOf next after
-log_stays tree next log after same roles lane_a lane_b is = subst (λ (l : LogState). IsLogOf next l) (sym same) (record {
-  roles = is.roles ∙ sym roles;
-  end_a = is.end_a ∙ ap (λ (es : Entries). length (blocks es)) (sym lane_a);
-  end_b = is.end_b ∙ ap (λ (es : Entries). length (blocks es)) (sym lane_b);
-  a = is.a ∙ ap replayed (sym lane_a);
-  b = is.b ∙ ap replayed (sym lane_b);
-})
+log_stays tree next log after same roles lane_a lane_b is = grind (arith, common_steps, nat_tests)
 
 -- ---- the deep merge
 
 pub deep_swap_has_lists : DeepSwapHasLists
-deep_swap_has_lists held tree next m holds sound done swapped =
-    same_lists (swap_deep m).lists (lists_of next)
-    (ap (λ (l : Lists). l.b) holds.lists ∙ ap replayed (sym swapped.lane_b))
-    (ap (λ (l : Lists). l.a) holds.lists ∙ ap replayed (sym swapped.lane_a))
-    (ap (λ (l : Lists). l.c1) holds.lists ∙ ap entries_of (sym swapped.c1))
-    (ap entries_of (sym swapped.c1x))
-    (deep_wrote m sound done ∙ ap (λ (l : Lists). settled_entries (folded_over l.c1x l.c2)) holds.lists ∙ sym swapped.c2)
+deep_swap_has_lists held tree next m holds sound done swapped = grind (arith, common_steps, nat_tests, same_lists, deep_wrote)
 
 pub deep_swap_lands : DeepSwapLands
 deep_swap_lands old new tree next m file after at sound done moves swapped are_of =
@@ -136,16 +122,12 @@ made_of_done held tree m file at sound done =
         ∙ ap (λ (es : Entries). entries_weight (folded_over held.log.a.entries es)) of_c1
 
 pub pass_swap_has_lists : PassSwapHasLists
-pass_swap_has_lists held tree next m file at sound done sizes swapped =
-    subst (λ (b : Bool). (cond b (rotate (end_pass m)) (end_pass m)).lists ≡ lists_of next) (same_full held tree m at.holds sizes (made_of_done held tree m file at sound done))
-    (ended_lists (is_run_full held) held tree next m at.holds sound done swapped)
+pass_swap_has_lists held tree next m file at sound done sizes swapped = grind (arith, common_steps, nat_tests, same_full, made_of_done, ended_lists)
 
 module _ (old new : Held) (tree next : Tree) (m : Machine) (file after : List ℕ) (at : IsAt old tree m file) (sound : IsSound m) (done : pass_done m ≡ true)
     (moves : SwapsPassIn old new) (turns : TurnsLog old.log new.log) (are_of : AreOf new.runs next new.log.a.entries after) where
   roles : TurnsRoles tree.catalogue next.catalogue
-  roles =
-      ap (λ (k : Catalog). k.lanes) (are_of.catalogue ∙ moves.runs.catalogue)
-      ∙ ap (λ (k : Catalog). b_of k.lanes ∷ spare_of k.lanes ∷ a_of k.lanes ∷ []) (sym at.are_of.catalogue)
+  roles = grind (arith, common_steps, nat_tests)
 
   passed : (b : Bool) → (made_by_pass old.runs.pass).weight ≡ entries_weight (output_of m.merges.pass) → new.runs.deep ≡ cond b (Some (deep_started old.runs.tags.deep (made_by_pass old.runs.pass) old.runs.catalogue.c2)) old.runs.deep
       → IsPassSwapped b old.log.a.entries tree next → new.gears ≡ cond b (rotated (pass_ended old.gears) ((made_by_pass old.runs.pass).weight + old.runs.catalogue.c2.weight)) (pass_ended old.gears)
@@ -186,13 +168,7 @@ pass_swap_lands old new tree next m file after at sound done sizes moves swapped
 -- ---- C1 by itself
 
 pub rotation_has_lists : RotationHasLists
-rotation_has_lists held tree next m holds swapped =
-    same_lists (rotate m).lists (lists_of next)
-    (ap (λ (l : Lists). l.b) holds.lists ∙ ap replayed (sym swapped.lane_b))
-    (ap (λ (l : Lists). l.a) holds.lists ∙ ap replayed (sym swapped.lane_a))
-    (ap entries_of (sym swapped.c1))
-    (ap (λ (l : Lists). l.c1) holds.lists ∙ ap entries_of (sym swapped.c1x))
-    (ap (λ (l : Lists). l.c2) holds.lists ∙ ap entries_of (sym swapped.c2))
+rotation_has_lists held tree next m holds swapped = grind (arith, common_steps, nat_tests)
 
 pub rotation_lands : RotationLands
 rotation_lands old new tree next m file after at moves swapped are_of =

@@ -1,14 +1,13 @@
 -- What the calls of an admission and of a payment require and find.
-use Rattle.std.proofs.Common.{◌≡◌, ◌∙◌, ⊎_elim, ◌+◌, ◌≤◌, Option, refl, ap, sym, subst, arith}
-use Rattle.std.specs.Prelude.{is_some}
-use Rattle.std.proofs.lemmas.Bool.{false≢true}
+use Rattle.std.proofs.Common.{◌≡◌, ◌+◌, refl, ap, sym, subst, arith}
+use Rattle.std.proofs.lemmas.Grind.{common_steps}
+use Rattle.std.proofs.lemmas.Bool.Decides.{nat_tests}
 use Rattle.blsm_model.specs.Legal.{is_del}
 use Rattle.disk_trait.specs.Disk.{DiskState}
 use Rattle.record_delta.specs.Records.{weight}
 use Rattle.record_delta.specs.Entries.{entries_weight, with_record}
-use Rattle.gear_sched.specs.Gears.{GearState, Owes, first_debt, second_debt, plan_for, forgives_first, forgives_second}
-use Rattle.gear_sched.specs.declared.Plan.{Plan}
-use Rattle.gear_sched.specs.declared.Plan.TheVariants.{Snow, Deep, Nothing}
+use Rattle.gear_sched.specs.Gears.{GearState, first_debt, second_debt, plan_for}
+use Rattle.gear_sched.specs.declared.Plan.TheVariants.{Nothing}
 use Rattle.pacing.specs.Pace.{Pace}
 use Rattle.pacing.specs.Kept.{IsPaced}
 use Rattle.pacing.specs.Steps.{Lands, ready_for}
@@ -18,13 +17,12 @@ use Rattle.pacing.proofs.Counts.{pay}
 use Rattle.pacing.proofs.Forgiven.{falls_at}
 use Rattle.pacing.proofs.Payments.{snow_owed, deep_owed}
 use Rattle.paced_tree.specs.After.{no_quantum}
-use Rattle.deep_merge.specs.Merge.{DeepState}
 use Rattle.tree_log.specs.Log.{table_for}
 use Rattle.core_moves.specs.declared.held.Held.{Held}
-use Rattle.core_moves.specs.Held.{IsDeepDone, is_pass_over, is_deep_over, goes_ahead}
+use Rattle.core_moves.specs.Held.{goes_ahead}
 use Rattle.core_moves.specs.Needs.{IsOn, IsReady}
-use Rattle.core_moves.specs.Moves.{SwapsDeepIn, begun_in, with_debts_forgiven}
-use Rattle.core_pace.specs.Events.{IsBetween, plan_in}
+use Rattle.core_moves.specs.Moves.{begun_in}
+use Rattle.core_pace.specs.Events.{IsBetween}
 use Rattle.core_pace.specs.Calls.{PacedIsBetween, BetweenFits, SettledIsNotDone, MovesKeepBook, AdmissionFits, PlanAgrees, PayersOwe, SettlingIsPaced}
 use Rattle.core_pace.proofs.TestLemmas.{forgiving_has_pace}
 use Rattle.core_pace.proofs.WriteLemmas.{lands_by}
@@ -36,11 +34,7 @@ pub paced_is_between : PacedIsBetween
 paced_is_between held pace k = record { numbers = k.numbers; told = k.told; one = k.one; version = k.version }
 
 pub between_fits : BetweenFits
-between_fits held pace between = record {
-  fits = pages_fit held pace between.numbers between.one between.told.paced.within;
-  small = counts_are_small held pace between.numbers between.one between.told between.version;
-  lanes = between.one.apart;
-}
+between_fits held pace between = grind (arith, common_steps, nat_tests, pages_fit, counts_are_small)
 
 -- so on a disk where its merges are in order each of them may be made
 pub between_is_ready : (held : Held) (pace : Pace) (d : DiskState) → IsBetween held pace → IsOn held d → IsReady held d
@@ -49,10 +43,7 @@ between_is_ready held pace d between on = let calls = between_fits held pace bet
 -- ---- an admission
 
 pub settled_is_not_done : SettledIsNotDone
-settled_is_not_done old settled settles over = ⊎_elim
-    (λ (done : IsDeepDone old × SwapsDeepIn old settled). false≢true (sym (ap (λ (d : Option DeepState). is_some d) done.1.runs.deep) ∙ over.0))
-    (λ (still : (IsDeepDone old → ⊥) × (settled ≡ old)). still.0 (subst (λ (h : Held). IsDeepDone h) still.1 over))
-    settles
+settled_is_not_done old settled settles over = grind (arith, common_steps, nat_tests)
 
 pub moves_keep_book : MovesKeepBook
 moves_keep_book old settled ready w deep pass = (deep_keeps old settled deep, ready_keeps old settled ready w deep pass)
@@ -82,18 +73,7 @@ pub plan_agrees : PlanAgrees
 plan_agrees seat held pace p = sym (ap (λ (g : GearState). plan_for (first_debt g seat) (second_debt g seat)) (forgiving_has_pace seat held pace p).gears)
 
 pub payers_owe : PayersOwe
-payers_owe seat held owes = by (plan_in seat held) refl
-  where
-    first_falls : first_debt (with_debts_forgiven seat held).gears seat ≤ first_debt held.gears seat
-    first_falls = falls_at held.gears.first_debts seat seat (forgives_first held.gears (is_pass_over held) (first_debt held.gears seat))
-
-    second_falls : second_debt (with_debts_forgiven seat held).gears seat ≤ second_debt held.gears seat
-    second_falls = falls_at held.gears.second_debts seat seat (forgives_second held.gears (is_deep_over held) (second_debt held.gears seat))
-
-    by : (plan : Plan) → plan_in seat held ≡ plan → Owes held.gears seat
-    by Nothing is = absurd (owes is)
-    by Snow is = let some = snow_owed (first_debt (with_debts_forgiven seat held).gears seat) (second_debt (with_debts_forgiven seat held).gears seat) is in omega (arith, some, first_falls)
-    by Deep is = let some = deep_owed (first_debt (with_debts_forgiven seat held).gears seat) (second_debt (with_debts_forgiven seat held).gears seat) is in omega (arith, some, second_falls)
+payers_owe seat held owes = grind (arith, common_steps, nat_tests, falls_at, snow_owed, deep_owed)
 
 pub settling_is_paced : SettlingIsPaced
 settling_is_paced seat held pace caller k =

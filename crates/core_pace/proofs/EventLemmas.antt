@@ -4,11 +4,10 @@ use Rattle.std.proofs.lemmas.Grind.{common_steps}
 use Rattle.std.proofs.lemmas.Bool.Decides.{nat_tests}
 use Rattle.std.specs.Prelude.{is_some, nat_le, nat_lt, slice_index, slice_set, sum}
 use Rattle.blsm_model.specs.Format.{most_entries}
-use Rattle.blsm_model.specs.Geometry.{c1_mark, charge_limit}
+use Rattle.blsm_model.specs.Geometry.{c1_mark}
 use Rattle.blsm_model.specs.Book.{Book, noted, HasRoom}
 use Rattle.blsm_model.specs.Histories.{writes_of}
 use Rattle.blsm_model.specs.Legal.{is_write, total_weight, is_del}
-use Rattle.blsm_model.specs.Sizes.{Sizes}
 use Rattle.blsm_model.specs.declared.key.Key.{Key}
 use Rattle.blsm_model.specs.declared.op.Op.{Op}
 use Rattle.blsm_model.specs.declared.history.Entry.{Entry}
@@ -16,7 +15,7 @@ use Rattle.blsm_model.specs.declared.history.Reply.TheVariants.{Done}
 use Rattle.catalog_swap.specs.declared.catalog.Catalog.{Catalog}
 use Rattle.record_delta.specs.declared.record.Rec.{Rec}
 use Rattle.record_delta.specs.Records.{weight}
-use Rattle.gear_sched.specs.Gears.{GearState, first_debt, second_debt}
+use Rattle.gear_sched.specs.Gears.{GearState}
 use Rattle.pacing.specs.Pace.{Pace, with_deep_swapped, with_pass_swapped, with_swap_and_rotation, with_rotation, with_pass, with_write, deep_done, pass_done, charge}
 use Rattle.pacing.specs.Kept.{IsPaced}
 use Rattle.pacing.specs.Counts.{AreFew, IsCounted}
@@ -40,7 +39,7 @@ use Rattle.core_pace.specs.Laws.{weighs_after}
 use Rattle.core_pace.specs.Events.{MayWrite, Admits, IsBetween, MovesAreTold, AdmissionIsPaced, ForgivingIsPaced, EntryIsTold, StopIsTold, done_entry}
 use Rattle.core_pace.specs.Calls.{KeepsBook, SettledIsBetween}
 use Rattle.core_pace.proofs.TestLemmas.{each_test_agrees, forgiving_has_pace}
-use Rattle.core_pace.proofs.SwapLemmas.{deep_swap_has_pace, pass_swap_has_pace, begin_has_pace}
+use Rattle.core_pace.proofs.SwapLemmas.{pass_swap_has_pace, begin_has_pace}
 use Rattle.core_pace.proofs.WriteLemmas.{write_has_pace}
 use Rattle.core_pace.proofs.OneLemmas.{each_move_keeps_one}
 use Rattle.core_pace.proofs.BookLemmas.{rebooked, one_rebooked}
@@ -58,11 +57,7 @@ pub moved_on : (old new : Held) (pace : Pace) → new ≡ old → Stands old pac
 moved_on old new pace same s = subst (λ (h : Held). Stands h pace) (sym same) s
 
 pub deep_swapped : (old new : Held) (pace : Pace) → Stands old pace → SwapsDeepIn old new → Stands new (with_deep_swapped pace)
-deep_swapped old new pace s m = record {
-  numbers = deep_swap_has_pace old new pace s.numbers m;
-  one = (each_move_keeps_one old new s.one).deep_swap m;
-  version = omega (arith, s.version, ap (λ (c : Catalog). c.version) m.runs.catalogue);
-}
+deep_swapped old new pace s m = grind (arith, common_steps, nat_tests)
 
 pub pass_swapped : (old new : Held) (pace : Pace) → Stands old pace → SwapsPassIn old new → Stands new (with_swap_and_rotation pace)
 pass_swapped old new pace s m = record {
@@ -112,25 +107,13 @@ stands held pace k = record { numbers = k.numbers; one = k.one; version = k.vers
 -- ---- what is told
 
 told_at : (b c : BookState) (pace next : Pace) → KeepsBook b c → IsRunBook b pace → IsBookOf b.book b.seats next → IsPaced next → AreFew next → IsSpent next → IsRunBook c next
-told_at b c pace next keeps told booked paced few spent = record {
-  booked = subst (λ (k : Book). IsBookOf k c.seats next) (sym keeps.book) (subst (λ (s : Seats). IsBookOf b.book s next) (sym keeps.seats) booked);
-  paced = paced;
-  few = few;
-  spent = spent;
-  entries = subst (λ (k : Book). length k.entries + sum k.room.entries ≤ most_entries) (sym keeps.book) told.entries;
-}
+told_at b c pace next keeps told booked paced few spent = grind (arith, common_steps, nat_tests)
 
 pub deep_keeps : (old new : Held) → SettlesDeep old new → KeepsBook old.book new.book
-deep_keeps old new settles = ⊎_elim
-    (λ (done : IsDeepDone old × SwapsDeepIn old new). record { book = ap (λ (b : BookState). b.book) done.1.book; seats = ap (λ (b : BookState). b.seats) done.1.book; stopped = ap (λ (b : BookState). b.stopped) done.1.book })
-    (λ (still : (IsDeepDone old → ⊥) × (new ≡ old)). record { book = ap (λ (h : Held). h.book.book) still.1; seats = ap (λ (h : Held). h.book.seats) still.1; stopped = ap (λ (h : Held). h.book.stopped) still.1 })
-    settles
+deep_keeps old new settles = grind (arith, common_steps, nat_tests)
 
 pass_keeps : (old new : Held) → SettlesPass old new → KeepsBook old.book new.book
-pass_keeps old new settles = ⊎_elim
-    (λ (done : IsPassDone old × SwapsPassIn old new). record { book = ap (λ (b : BookState). b.book) done.1.book; seats = ap (λ (b : BookState). b.seats) done.1.book; stopped = ap (λ (b : BookState). b.stopped) done.1.book })
-    (λ (still : (IsPassDone old → ⊥) × (new ≡ old)). record { book = ap (λ (h : Held). h.book.book) still.1; seats = ap (λ (h : Held). h.book.seats) still.1; stopped = ap (λ (h : Held). h.book.stopped) still.1 })
-    settles
+pass_keeps old new settles = grind (arith, common_steps, nat_tests)
 
 begun_book : (w : ℕ) (held : Held) → (begun_in w held).book ≡ held.book
 begun_book w held = grind (arith, common_steps, nat_tests)
@@ -190,18 +173,7 @@ charge_is held pace p = cc (p.c1, p.c1x, p.c2, p.gears, p.a, p.b)
 
 -- a write that may be is an admission that may be, wherever it lands
 pub may_admit_of : (seat w : ℕ) (op : Op) (held : Held) (pace : Pace) (ahead : Bool) (after : ℕ) → IsPacedHeld held pace → MayWrite seat w op held → Lands (ready_for pace w) w ahead after → MayAdmit pace seat w (is_del op) ahead after
-may_admit_of seat w op held pace ahead after k may lands = record {
-  caller = may.caller;
-  settled = subst (λ (g : GearState). first_debt g seat + second_debt g seat ≡ 0) (sym k.numbers.gears) may.settled;
-  light = may.light;
-  heavy = may.heavy;
-  room = subst (λ (s : Sizes). charge pace + w ≤ charge_limit s (is_del op)) (sym sizes)
-      (subst (λ (n : ℕ). n + w ≤ charge_limit held.runs.sizes (is_del op)) (sym (charge_is held pace k.numbers)) may.room);
-  lands = lands;
-}
-  where
-    sizes : pace.gears.sizes ≡ held.runs.sizes
-    sizes = ap (λ (g : GearState). g.sizes) k.numbers.gears ∙ k.one.gears
+may_admit_of seat w op held pace ahead after k may lands = grind (arith, common_steps, nat_tests)
 
 module _ (seat : ℕ) (op : Op) (key : Key) (rec : Rec) (old settled ready written new : Held) (pace : Pace) (writing : is_write op ≡ true) (weighs : total_weight (writes_of op) ≡ weight key rec)
     (k : IsPacedHeld old pace) (may : MayWrite seat (weight key rec) op old) (room : HasRoom ready.book.book.room (done_entry seat op)) (admits : Admits seat op key rec old settled ready written new) where

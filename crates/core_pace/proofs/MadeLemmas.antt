@@ -1,5 +1,8 @@
 -- What a step that was refused, or that failed, makes of the numbers and tells.
 use Rattle.std.proofs.Common.{◌≡◌, ⊎_elim, inl, inr, ℕ, length, refl, ap, sym, subst}
+use Rattle.std.proofs.lemmas.Grind.{common_steps}
+use Rattle.std.proofs.lemmas.Bool.Decides.{nat_tests}
+use Rattle.std.proofs.Common.{arith}
 use Rattle.std.proofs.lemmas.Bool.{false≢true}
 use Rattle.blsm_model.specs.Format.{callers}
 use Rattle.blsm_model.specs.Book.{Book, HasRoom}
@@ -25,9 +28,7 @@ entry_is_paced seat op reply held pace is room k = book_is_paced held (noted_in 
 -- the stop and the entry of a lost write
 lost_at : (seat : ℕ) (op : Op) (why : Why) (b c : BookState) (pace : Pace) → KeepsBook b c → HasRoom b.book.room (record { seat = seat; op = op; reply = FaultLost }) → IsRunBook c pace
     → IsRunBook (noted_in seat op FaultLost (stopped_in why c)) pace
-lost_at seat op why b c pace keeps room told =
-    entry_is_told (stopped_in why c) pace seat op FaultLost (λ done. absurd (false≢true done)) (subst (λ (k : Book). HasRoom k.room (record { seat = seat; op = op; reply = FaultLost })) (sym keeps.book) room)
-    (stop_is_told c pace why told)
+lost_at seat op why b c pace keeps room told = grind (arith, common_steps, nat_tests, entry_is_told, stop_is_told)
 
 pub lost_is_told : LostIsTold
 lost_is_told seat op why old left pace k cases room = ⊎_elim

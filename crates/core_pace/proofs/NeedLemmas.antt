@@ -4,14 +4,12 @@ use Rattle.std.proofs.lemmas.Grind.{common_steps}
 use Rattle.std.proofs.lemmas.Bool.Decides.{nat_tests}
 use Rattle.std.specs.Prelude.{is_some}
 use Rattle.std.proofs.lemmas.Bool.{leb-true}
-use Rattle.blsm_model.specs.Geometry.{capacity}
 use Rattle.blsm_model.specs.Sizes.{Sizes}
 use Rattle.record_delta.specs.Records.{weight}
 use Rattle.record_delta.specs.Entries.{Entries, entries_weight, with_record}
 use Rattle.gear_sched.specs.Gears.{GearState}
 use Rattle.pacing.specs.Pace.{Pace}
 use Rattle.pacing.specs.Steps.{Lands}
-use Rattle.pacing.specs.Laws.{Fits}
 use Rattle.pacing.proofs.Promises.{all_fits}
 use Rattle.pacing.proofs.Runs.{deep_in_time, bounded}
 use Rattle.snow_merge.specs.Pass.{SnowState}
@@ -40,22 +38,7 @@ sizes_are : (held : Held) (pace : Pace) → HasPace held pace → IsOne held →
 sizes_are held pace p one = ap (λ (g : GearState). g.sizes) p.gears ∙ one.gears
 
 pub pages_fit : PagesFit
-pages_fit held pace p one within = record {
-  live = omega (arith, f.live, room, p.c1, p.c1x, p.c2);
-  made = omega (arith, f.runs, room, pass, deep, p.made1, p.made2);
-}
-  where
-    f : Fits pace
-    f = all_fits pace within
-
-    room : capacity pace.gears.sizes ≡ capacity held.runs.sizes
-    room = ap (λ (s : Sizes). capacity s) (sizes_are held pace p one)
-
-    pass : pace.made1 + left_for_pass held.runs.pass held.log.a.entries ≤ cond pace.gears.pass (pace.made1 + (pace.a + pace.c1 - pace.gears.pass_taken)) 0
-    pass = grind (arith, common_steps, nat_tests)
-
-    deep : pace.made2 + left_for_deep held.runs.deep ≤ cond pace.gears.deep (pace.made2 + (pace.c1x + pace.c2 - pace.gears.deep_taken)) 0
-    deep = grind (arith, common_steps, nat_tests)
+pages_fit held pace p one within = grind (arith, common_steps, nat_tests)
 
 -- ---- the way of a swap
 

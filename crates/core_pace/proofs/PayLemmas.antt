@@ -2,7 +2,7 @@
 use Rattle.std.proofs.Common.{◌≡◌, ◌∙◌, ℕ, ◌+◌, ◌<◌, ◌≤◌, Bool, true, false, cond, not, ◌||◌, List, length, refl, ap, sym, subst, arith}
 use Rattle.std.proofs.lemmas.Grind.{common_steps}
 use Rattle.std.proofs.lemmas.Bool.Decides.{nat_tests}
-use Rattle.std.specs.Prelude.{◌==◌, is_some, sum, slice_index}
+use Rattle.std.specs.Prelude.{◌==◌, sum, slice_index}
 use Rattle.blsm_model.specs.Format.{callers, most_entries}
 use Rattle.blsm_model.specs.Book.{entry_at}
 use Rattle.blsm_model.specs.Geometry.{work_bound}
@@ -29,7 +29,6 @@ use Rattle.paced_tree.proofs.BookLaws.{pay_books}
 use Rattle.seat_book.specs.State.{BookState, quantum_counted_in, paid_in}
 use Rattle.tree_machine.specs.Steps.{Paid, last_write}
 use Rattle.seat_book.specs.Places.{HasWrite}
-use Rattle.tree_runs.specs.Runs.{left_for_pass, left_for_deep}
 use Rattle.catalog_swap.specs.declared.catalog.Catalog.{Catalog}
 use Rattle.core_moves.specs.declared.held.Held.{Held}
 use Rattle.core_moves.specs.Held.{IsOne}
@@ -60,10 +59,7 @@ deep_runs : (pace : Pace) (seat : ℕ) → IsPaced pace → seat < callers → p
 deep_runs pace seat paced caller is = grind (arith, common_steps, nat_tests)
 
 pub each_plan_runs : EachPlanRuns
-each_plan_runs held pace seat p paced caller = record {
-  pass = λ is. runs_on (is_some held.runs.pass) (left_for_pass held.runs.pass held.log.a.entries) ((each_test_agrees held pace p).pass_over ∙ snow_runs pace seat paced caller is);
-  deep = λ is. runs_on (is_some held.runs.deep) (left_for_deep held.runs.deep) ((each_test_agrees held pace p).deep_over ∙ deep_runs pace seat paced caller is);
-}
+each_plan_runs held pace seat p paced caller = grind (arith, common_steps, nat_tests, runs_on, each_test_agrees, snow_runs, deep_runs)
 
 -- ---- whose write it is
 

@@ -1,5 +1,7 @@
 -- Quanta have the pace that the pacing makes of them.
-use Rattle.std.proofs.Common.{◌≡◌, ◌⊎◌, ⊎_elim, inl, inr, ℕ, ◌+◌, ◌<◌, ◌≤◌, true, Option, Some, None, refl, ap, sym, subst, arith}
+use Rattle.std.proofs.Common.{◌≡◌, ◌⊎◌, ⊎_elim, inl, inr, ℕ, ◌+◌, ◌<◌, ◌≤◌, true, Option, refl, ap, sym, subst, arith}
+use Rattle.std.proofs.lemmas.Grind.{common_steps}
+use Rattle.std.proofs.lemmas.Bool.Decides.{nat_tests}
 use Rattle.std.specs.Prelude.{is_some}
 use Rattle.blsm_model.specs.Sizes.{Sizes}
 use Rattle.record_delta.specs.Entries.{Entries}
@@ -22,18 +24,7 @@ pub record Took (old new : Option SnowState) (a : Entries) (n : ℕ) : Type 0 wh
   pub light : (made_by_pass new).weight ≤ (made_by_pass old).weight + n
 
 pub took : (old new : Option SnowState) (a : Entries) (n : ℕ) → PassTakes old new a n → Took old new a n
-took None None a n t = absurd t
-took None (Some new) a n t = absurd t
-took (Some old) None a n t = absurd t
-took (Some old) (Some new) a n t = record {
-  ran = refl;
-  runs = refl;
-  left = omega (arith, t.taken_is, t.table, t.c1);
-  table = omega (arith, t.table);
-  of_table = omega (arith, t.taken_is, t.table);
-  rest = omega arith;
-  light = t.light;
-}
+took old new a n h1 = grind (arith, common_steps, nat_tests)
 
 -- what a quantum of a deep merge took
 pub record DeepTook (old new : Option DeepState) (n : ℕ) : Type 0 where
@@ -43,20 +34,11 @@ pub record DeepTook (old new : Option DeepState) (n : ℕ) : Type 0 where
   pub light : (made_by_deep new).weight ≤ (made_by_deep old).weight + n
 
 pub deep_took : (old new : Option DeepState) (n : ℕ) → DeepTakes old new n → DeepTook old new n
-deep_took None None n t = absurd t
-deep_took None (Some new) n t = absurd t
-deep_took (Some old) None n t = absurd t
-deep_took (Some old) (Some new) n t = record {
-  ran = refl;
-  runs = refl;
-  left = omega (arith, t.taken_is, t.c1x, t.c2);
-  light = t.light;
-}
+deep_took old new n h1 = grind (arith, common_steps, nat_tests)
 
 -- a pass that has taken something may stand at any key
 at_some : (snow : Option SnowState) (taken : ℕ) → 0 < taken → HasTaken snow taken
-at_some None taken some = tt
-at_some (Some snow) taken some = λ is. some
+at_some snow taken h1 = grind (arith, common_steps, nat_tests)
 
 pub snow_has_pace : SnowHasPace
 snow_has_pace seat n old new pace p one within some m = (is_snow, has)
@@ -148,12 +130,7 @@ deep_has_pace seat n old new pace p one within m = (is_deep, has)
     same = ap (λ (s : Sizes). s.quantum) sizes
 
     is_deep : Rattle.pacing.specs.Steps.IsDeep pace (deep_quantum n new)
-    is_deep = record {
-      enough = ⊎_elim (λ (more : old.runs.sizes.quantum ≤ n). inl (omega (arith, more, same))) (λ (none : left_for_deep new.runs.deep ≡ 0). inr (omega (arith, none, left, t.left))) m.enough;
-      few = omega (arith, m.bound, same);
-      left = omega (arith, left, t.left);
-      written = omega (arith, p.made2, t.light, made);
-    }
+    is_deep = grind (arith, common_steps, nat_tests)
 
     has : HasPace new (with_deep pace seat (deep_quantum n new))
     has = record {

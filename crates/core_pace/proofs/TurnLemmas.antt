@@ -22,7 +22,6 @@ use Rattle.paced_tree.specs.After.{no_quantum}
 use Rattle.paced_tree.specs.Numbers.{IsBooked}
 use Rattle.paced_tree.specs.Booking.{IsBookOf, quanta_of_move}
 use Rattle.paced_tree.specs.Made.{IsTurnedBy}
-use Rattle.paced_tree.proofs.Books.{idle_booked}
 use Rattle.paced_tree.proofs.BookLaws.{turn_books, help_books, end_books}
 use Rattle.tree_machine.specs.Machine.{WorkSoFar, no_work}
 use Rattle.tree_machine.specs.Steps.{Turn, work_reply}
@@ -90,13 +89,7 @@ none_left runs left is = let parts = and_parts runs (left == 0) is in (parts.0, 
 may_move_by : (held : Held) (b1 b2 b3 b4 b5 b6 : Bool) → (b1 ≡ true → MayMove SwapDeep held) → (b1 ≡ false → b2 ≡ true → MayMove SwapPass held) → (b3 ≡ true → MayMove TakeDeep held)
     → (b2 ≡ false → b4 ≡ true → MayMove TakeSnow held) → (b4 ≡ false → b3 ≡ false → MayMove Rotate held)
     → MayMove (cond b1 SwapDeep (cond b2 SwapPass (cond b3 TakeDeep (cond b4 TakeSnow (cond b5 Begin (cond b6 Rotate Idle)))))) held
-may_move_by held true b2 b3 b4 b5 b6 deep pass taken left rests = deep refl
-may_move_by held false true b3 b4 b5 b6 deep pass taken left rests = pass refl refl
-may_move_by held false false true b4 b5 b6 deep pass taken left rests = taken refl
-may_move_by held false false false true b5 b6 deep pass taken left rests = left refl refl
-may_move_by held false false false false true b6 deep pass taken left rests = (rests refl refl).0
-may_move_by held false false false false false true deep pass taken left rests = rests refl refl
-may_move_by held false false false false false false deep pass taken left rests = tt
+may_move_by held b1 b2 b3 b4 b5 b6 h1 h2 h3 h4 h5 = grind (arith, common_steps, nat_tests)
 
 pub turn_may_move : TurnMayMove
 turn_may_move is_worker held pace k =
@@ -169,27 +162,13 @@ none_more : (xs : List ℕ) (i : ℕ) → xs ≡ slice_set xs i (slice_index xs 
 none_more xs i = let none : slice_index xs i + 0 ≡ slice_index xs i = omega arith in sym (ap (λ (n : ℕ). slice_set xs i n) none ∙ set-get_or xs i 0)
 
 counted_none : (old moved : BookState) (seat : ℕ) → moved.book ≡ old.book → moved.seats ≡ old.seats → Counted old moved seat 0
-counted_none old moved seat book seats = record {
-  book = book;
-  work = ap (λ s. s.work) seats;
-  quanta = ap (λ s. s.quanta) seats ∙ none_more old.seats.quanta seat;
-}
+counted_none old moved seat book seats = grind (arith, common_steps, nat_tests, none_more)
 
 counted_one : (old moved : BookState) (seat : ℕ) → moved ≡ Rattle.seat_book.specs.State.quantum_counted_in seat old → Counted old moved seat 1
-counted_one old moved seat is = record {
-  book = ap (λ (b : BookState). b.book) is;
-  work = ap (λ (b : BookState). b.seats.work) is;
-  quanta = ap (λ (b : BookState). b.seats.quanta) is;
-}
+counted_one old moved seat is = grind (arith, common_steps, nat_tests)
 
 counted_by : (move : Move) (seat n : ℕ) (old moved : Held) → TurnsBy move seat n old moved → Counted old.book moved.book seat (quanta_of_move move)
-counted_by SwapDeep seat n old moved m = counted_none old.book moved.book seat (ap (λ (b : BookState). b.book) m.book) (ap (λ (b : BookState). b.seats) m.book)
-counted_by SwapPass seat n old moved m = counted_none old.book moved.book seat (ap (λ (b : BookState). b.book) m.book) (ap (λ (b : BookState). b.seats) m.book)
-counted_by TakeDeep seat n old moved m = counted_one old.book moved.book seat m.book
-counted_by TakeSnow seat n old moved m = counted_one old.book moved.book seat m.book
-counted_by Begin seat n old moved m = counted_none old.book moved.book seat (ap (λ (h : Held). h.book.book) m) (ap (λ (h : Held). h.book.seats) m)
-counted_by Rotate seat n old moved m = counted_none old.book moved.book seat (ap (λ (b : BookState). b.book) m.book) (ap (λ (b : BookState). b.seats) m.book)
-counted_by Idle seat n old moved m = counted_none old.book moved.book seat (ap (λ (h : Held). h.book.book) m) (ap (λ (h : Held). h.book.seats) m)
+counted_by move seat n old moved h1 = grind (arith, common_steps, nat_tests, counted_none, counted_one)
 
 -- ---- a turn
 
@@ -328,16 +307,7 @@ help_is_paced seat n old moved new pace k may helps = (
 -- ---- the book alone
 
 pub turn_is_told : TurnIsTold
-turn_is_told b pace seat ended caller works told = record {
-  booked = idle_booked pace.gears.sizes b.book b.seats.quanta b.seats.work pace.work pace.admitted pace.writes pace.weights pace.quanta seat (with_ended (work_in seat b) ended 0) caller works none told.booked;
-  paced = told.paced;
-  few = told.few;
-  spent = told.spent;
-  entries = told.entries;
-}
-  where
-    none : (work_in seat b).quanta + 0 ≡ (work_in seat b).quanta
-    none = omega arith
+turn_is_told b pace seat ended caller works told = grind (arith, common_steps, nat_tests)
 
 pub help_is_told : HelpIsTold
 help_is_told b pace seat told = record { booked = told.booked; paced = told.paced; few = told.few; spent = told.spent; entries = told.entries }

@@ -1,5 +1,7 @@
 -- An admission, as one call of the core.
 use Rattle.std.specs.Prelude.{◌≡◌, ℕ, ◌+◌, ◌<◌, ◌≤◌, ◌^◌, Bool, true, false, List, [], ◌∷◌, None, Some, IsTrue}
+use Rattle.std.proofs.lemmas.Grind.{common_steps}
+use Rattle.std.proofs.lemmas.Bool.Decides.{nat_tests}
 use Rattle.std.proofs.Common.{◌∙◌, cond, refl, sym, subst, arith}
 use Rattle.refusal.specs.Count.{HasRisen}
 use Rattle.blsm_model.specs.Book.{HasRoom}
@@ -56,8 +58,7 @@ use Rattle.tree_core.proofs.NotingLemmas.{notes_at_once, notes_by, notes_stopped
 
 -- there is room for the entry of a write that fails, either way
 pub room_for : (b : BookState) (seat : ℕ) (op : Op) → IsTrue (may_note_in seat 0 b) → (begun : Bool) → HasRoom b.book.room (record { seat = seat; op = op; reply = cond begun FaultUnsure FaultLost })
-room_for b seat op may true = note_has_room b seat 0 op FaultUnsure may (omega arith)
-room_for b seat op may false = note_has_room b seat 0 op FaultLost may (omega arith)
+room_for b seat op h1 begun = grind (arith, common_steps, nat_tests)
 
 module _ {D : Type 0} (state : D → DiskState) (seat : ℕ) (op : Op) (old : CoreState D) (core : IsCore old.held (state old.disk)) (timed : IsTimed (state old.disk)) (can : may_in old.held seat (kind.Admit op) ≡ true)
     (room : may_note_in seat 0 old.held.book ≡ true) (fits : WritesFit (kind.Admit op)) where

@@ -2,8 +2,7 @@
 use Rattle.std.specs.Prelude.{is_some, slice_index, slice_set, nat_lt}
 use Rattle.std.proofs.lemmas.Grind.{common_steps}
 use Rattle.std.proofs.lemmas.Bool.Decides.{nat_tests}
-use Rattle.std.proofs.Common.{◌≡◌, ◌≢◌, ⊎_elim, ℕ, ◌+◌, ◌≤◌, Bool, true, false, cond, not, ◌&&◌, List, replicate, refl, sym, subst, arith}
-use Rattle.std.proofs.lemmas.List.{get_or-set_other}
+use Rattle.std.proofs.Common.{◌≡◌, ◌≢◌, ⊎_elim, ℕ, ◌+◌, ◌≤◌, Bool, true, false, cond, not, ◌&&◌, List, replicate, sym, subst, arith}
 use Rattle.blsm_model.specs.Facts.{Follows}
 use Rattle.blsm_model.specs.Format.{callers}
 use Rattle.blsm_model.specs.declared.key.Key.{Key}
@@ -16,9 +15,8 @@ use Rattle.gear_sched.specs.Gears.{GearState, first_debt, second_debt, entered, 
 use Rattle.record_delta.specs.declared.record.Rec.{Rec}
 use Rattle.seat_book.specs.State.{BookState, noted_in, stopped_in}
 use Rattle.seat_book.specs.Seats.{KeepsSeats}
-use Rattle.seat_book.proofs.KeepLemmas.{keeps_itself, keeps_both, keeps_less, note_keeps, stop_keeps, peak_keeps, pass_keeps, deep_keeps, holds_follow}
+use Rattle.seat_book.proofs.KeepLemmas.{keeps_itself, keeps_both, keeps_less, note_keeps, peak_keeps, pass_keeps, holds_follow}
 use Rattle.tree_machine.proofs.PlayLemmas.{of_replicate}
-use Rattle.tree_log.specs.Log.{weight_of_tables}
 use Rattle.tree_runs.specs.Runs.{made_by_pass}
 use Rattle.core_moves.specs.declared.held.Held.{Held}
 use Rattle.core_moves.specs.Held.{is_run_full}
@@ -71,25 +69,15 @@ same_or_set : (b : Bool) (xs : List ℕ) (seat other n : ℕ) → other ≢ seat
 same_or_set b xs seat other n h1 = grind (arith, common_steps, nat_tests)
 
 entry_eases : (seat w : ℕ) (gears : GearState) → Eases seat gears (entered gears seat w)
-entry_eases seat w gears = record {
-  first = λ other apart. same_or_set gears.pass gears.first_debts seat other _ apart;
-  second = λ other apart. same_or_set gears.deep gears.second_debts seat other _ apart;
-}
+entry_eases seat w gears = grind (arith, common_steps, nat_tests)
 
 leaves_by : (seat : ℕ) (old new : Held) (gears : GearState) (book : BookState) → new.gears ≡ gears → new.book ≡ book → Eases seat old.gears gears → KeepsSeats seat 0 0 old.book book → LeavesOthers seat old new
-leaves_by seat old new gears book same_gears same_book eases keeps = record {
-  first = λ other apart. subst (λ (g : GearState). first_debt g other ≤ first_debt old.gears other) (sym same_gears) (eases.first other apart);
-  second = λ other apart. subst (λ (g : GearState). second_debt g other ≤ second_debt old.gears other) (sym same_gears) (eases.second other apart);
-  book = subst (λ (b : BookState). KeepsSeats seat 0 0 old.book b) (sym same_book) keeps;
-}
+leaves_by seat old new gears book same_gears same_book eases keeps = grind (arith, common_steps, nat_tests)
 
 -- ---- the moves
 
 deep_leaves : (seat : ℕ) (old new : Held) → SettlesDeep old new → LeavesOthers seat old new
-deep_leaves seat old new settles = ⊎_elim
-    (λ done. leaves_by seat old new (deep_ended old.gears) _ done.1.gears done.1.book (deep_end_eases seat old.gears) (deep_keeps seat old.book))
-    (λ rests. same_leaves seat old new rests.1)
-    settles
+deep_leaves seat old new settles = grind (arith, common_steps, nat_tests)
 
 pass_leaves : (seat : ℕ) (old new : Held) → SettlesPass old new → LeavesOthers seat old new
 pass_leaves seat old new settles = ⊎_elim
@@ -105,8 +93,7 @@ begin_leaves : (seat w : ℕ) (held : Held) → LeavesOthers seat held (begun_in
 begin_leaves seat w held = by (not (is_some held.runs.pass) && nat_lt held.runs.sizes.low (held.spring + w))
   where
     by : (b : Bool) → LeavesOthers seat held (cond b (with_pass_begun held) held)
-    by true = leaves_by seat held (with_pass_begun held) _ held.book refl refl (begin_eases seat held.runs.catalogue.c1.weight (weight_of_tables held.log) held.gears) (keeps_itself seat held.book)
-    by false = leaves_itself seat held
+    by b = grind (arith, common_steps, nat_tests)
 
 readied_leaves : (seat w : ℕ) (old new : Held) → IsReadied w old new → LeavesOthers seat old new
 readied_leaves seat w old new is =
@@ -130,8 +117,7 @@ quiet_follows seat op reply held = follows_by seat held held (noted_in seat op r
 
 stopped_follows : (seat : ℕ) (op : Op) (reply : Reply) (why : Why) (old left : Held) → LeavesOthers seat old left
     → Follows seat (facts_of_held old) (facts_of_held (with_book (noted_in seat op reply (stopped_in why left.book)) left))
-stopped_follows seat op reply why old left leaves = follows_by seat old left (noted_in seat op reply (stopped_in why left.book)) leaves
-    (keeps_both seat 0 1 0 0 left.book (stopped_in why left.book) (noted_in seat op reply (stopped_in why left.book)) (stop_keeps seat why left.book) (note_keeps seat op reply (stopped_in why left.book)))
+stopped_follows seat op reply why old left leaves = grind (arith, common_steps, nat_tests)
 
 -- a call failed
 pub failed_follows : (begun : Bool) (seat : ℕ) (op : Op) (reply : Reply) (why : Why) (key : Key) (rec : Rec) (old left : Held) (after : DiskState) → Takes (Failed begun) seat key rec old left after

@@ -4,7 +4,7 @@ use Rattle.std.proofs.lemmas.Grind.{common_steps}
 use Rattle.std.proofs.lemmas.Bool.Decides.{nat_tests}
 use Rattle.std.proofs.Common.{arith}
 use Rattle.std.proofs.Common.{◌≡◌, ◌∙◌, ⊎_elim, inl, inr, ℕ, ◌+◌, ◌≤◌, Bool, true, false, cond, [], ◌∷◌, None, Some, Option, refl, ap, sym, subst}
-use Rattle.std.proofs.lemmas.Bool.{false≢true, cases_lt}
+use Rattle.std.proofs.lemmas.Bool.{false≢true}
 use Rattle.std.proofs.lemmas.Option.{none-some}
 use Rattle.blsm_model.specs.Geometry.{charge_limit}
 use Rattle.blsm_model.specs.Sizes.{Sizes}
@@ -27,7 +27,6 @@ use Rattle.pacing.specs.Pace.{Pace, charge}
 use Rattle.pacing.specs.Steps.{deep_settled, ready_for}
 use Rattle.seat_book.specs.State.{BookState, noted_in, stopped_in}
 use Rattle.paced_tree.specs.Made.{IsAdmission, IsReplied}
-use Rattle.tree_machine.specs.Machine.{Counts}
 use Rattle.tree_machine.specs.Steps.{Replied}
 use Rattle.tree_machine.specs.declared.step.Kind.TheVariants as kind
 use Rattle.core_moves.specs.declared.held.Held.{Held}
@@ -51,13 +50,7 @@ charge_of held pace p = cc (p.c1, p.c1x, p.c2, p.gears, p.a, p.b)
 -- ---- what is told, with another book
 
 told_of : (held : Held) (b : BookState) (pace : Pace) → IsBetween held pace → b.counts ≡ held.book.counts → IsRunBook b pace → IsTold (with_book b held) pace
-told_of held b pace between same told = record {
-  told = told;
-  peak = between.numbers.peak ∙ ap (λ (k : Counts). k.peak) (sym same);
-  opening = between.numbers.opening ∙ ap (λ (k : Counts). k.charge) (sym same);
-  charge_is = charge_of held pace between.numbers;
-  sizes = ap (λ (g : GearState). g.sizes) between.numbers.gears ∙ between.one.gears;
-}
+told_of held b pace between same told = grind (arith, common_steps, nat_tests)
 
 -- an entry that is no write that was done
 pub quiet_holds : (seat : ℕ) (op : Op) (reply : Reply) (held : Held) (pace : Pace) (d : DiskState) → (is_done reply ≡ true → is_write op ≡ false)

@@ -1,10 +1,10 @@
 -- An admission is one step of the machine, on an honest disk.
-use Rattle.std.specs.Prelude.{is_some, IsSome, nat_lt, ◌==◌, ◌^◌, ◌<◌}
+use Rattle.std.specs.Prelude.{is_some, IsSome, nat_lt, ◌^◌, ◌<◌}
 use Rattle.std.proofs.lemmas.Grind.{common_steps}
 use Rattle.std.proofs.lemmas.Bool.Decides.{nat_tests}
 use Rattle.std.specs.List.{AllByRecursion}
 use Rattle.std.proofs.Common.{◌≡◌, ◌∙◌, ⊎_elim, inr, ℕ, ◌+◌, ◌≤◌, Bool, true, false, cond, not, ◌&&◌, IsTrue, None, Some, Option, List, [], ◌∷◌, ◌++◌, length, length-append, refl, ap, sym, subst, arith}
-use Rattle.std.proofs.lemmas.Bool.{false≢true, lt-ltb}
+use Rattle.std.proofs.lemmas.Bool.{lt-ltb}
 use Rattle.std.proofs.lemmas.Option.{none-some}
 use Rattle.refusal.specs.Count.{HasRisen}
 use Rattle.blsm_model.specs.Sizes.{Sizes}
@@ -33,9 +33,8 @@ use Rattle.paced_tree.proofs.Promises.{has_way, step_is_paced}
 use Rattle.seat_book.specs.State.{BookState, noted_in, stopped_in}
 use Rattle.tree_machine.specs.declared.step.Kind.{Kind}
 use Rattle.tree_machine.specs.declared.step.Kind.TheVariants as kind
-use Rattle.tree_machine.specs.Machine.{Machine, charge, deep_done, pass_done, pass_is_done}
-use Rattle.tree_machine.specs.Merges.{Merge}
-use Rattle.tree_machine.specs.Moves.{note, stop, swap_deep, with_peak}
+use Rattle.tree_machine.specs.Machine.{Machine, charge, deep_done, pass_done}
+use Rattle.tree_machine.specs.Moves.{note, stop, with_peak}
 use Rattle.tree_machine.specs.Outcomes.{IsPossible, calls, is_broken}
 use Rattle.tree_machine.specs.Plays.{may}
 use Rattle.tree_machine.specs.Stands.{FitsFormat, WritesFit}
@@ -102,8 +101,7 @@ module _ (opening : List (Key × Value)) (seat : ℕ) (op : Op) (m : Machine) wh
   images_after : (reply : Reply) (later : Machine) (before after : DiskState) → later.book ≡ m.book
       → LeavesOnly before after (ShowsHistory m.gears.sizes opening (history_with seat op reply m) (length m.book.entries))
       → LeavesOnly before after (ShowsHistory m.gears.sizes opening (later.book.entries ++ entry reply ∷ []) (length m.book.entries))
-  images_after reply later before after book images =
-      subst (λ (b : Book). LeavesOnly before after (ShowsHistory m.gears.sizes opening (b.entries ++ entry reply ∷ []) (length m.book.entries))) (sym book) images
+  images_after reply later before after book images = grind (arith, common_steps, nat_tests)
 
 -- ---- what is in memory then
 
@@ -112,12 +110,7 @@ noted_tells seat op reply held m tells = record { sizes = tells.sizes; gears = t
 
 stopped_tells : (seat : ℕ) (op : Op) (reply : Reply) (why : Why) (held : Held) (m : Machine) → TellsOf held m
     → TellsOf (with_book (noted_in seat op reply (stopped_in why held.book)) held) (note seat op reply (stop why m))
-stopped_tells seat op reply why held m tells = record {
-  sizes = tells.sizes;
-  gears = tells.gears;
-  book = ap (λ (b : BookState). noted_in seat op reply (stopped_in why b)) tells.book;
-  charge_is = tells.charge_is;
-}
+stopped_tells seat op reply why held m tells = grind (arith, common_steps, nat_tests)
 
 standing_tells : (opening : List (Key × Value)) (held : Held) (m : Machine) (pace : Pace) (d : DiskState) → StandsFor opening held m pace d → TellsOf held m
 standing_tells opening held m pace d stands = record { sizes = stands.sizes; gears = stands.gears; book = stands.book; charge_is = stands.charge_is }
@@ -262,9 +255,7 @@ module _ (opening : List (Key × Value)) (seat : ℕ) (op : Op) (held : Held) (m
       room_here = subst (λ (n : ℕ). n + w ≤ limit) (sym is.stands.charge_is) (subst (λ (z : Sizes). charge_in held + w ≤ charge_limit z (is_del op)) (sym is.stands.sizes) room)
 
       calls_here : IsTrue (not (is_some m.stopped) && calls m seat asked)
-      calls_here =
-          ap (λ (o : Option Why). not (is_some o) && not (nat_lt limit (charge m + w))) runs
-          ∙ ap (λ (b : Bool). not b) (not_past limit (charge m + w) room_here)
+      calls_here = grind (arith, common_steps, nat_tests, not_past)
 
       -- a call failed, after so many swaps, and the store stops
       module _ (after : DiskState) (order : d.faults ≤ after.faults) (small : after.faults < 2 ^ 64) (risen : HasRisen d.faults after.faults) (left : Held) where

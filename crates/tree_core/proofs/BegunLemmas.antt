@@ -1,26 +1,23 @@
 -- A write that failed has committed the swaps that were due, or fewer. They are those of the machine.
-use Rattle.std.specs.Prelude.{◌≡◌, ◌⊎◌, ℕ, ◌+◌, ◌<◌, ◌≤◌, Bool, true, false, not, ◌&&◌, ◌==◌, nat_lt, is_some, List, None, Option}
+use Rattle.std.specs.Prelude.{◌≡◌, ◌⊎◌, ℕ, ◌+◌, ◌<◌, ◌≤◌, Bool, true, false, ◌==◌, is_some, List, None}
 use Rattle.std.proofs.lemmas.Grind.{common_steps}
 use Rattle.std.proofs.lemmas.Bool.Decides.{nat_tests}
-use Rattle.std.proofs.Common.{◌∙◌, ⊎_elim, cond, refl, ap, sym, arith}
-use Rattle.std.proofs.lemmas.Bool.{eqb-true, eq-eqb, false≢true}
-use Rattle.catalog_swap.specs.declared.catalog.Catalog.{Catalog}
+use Rattle.std.proofs.Common.{◌∙◌, ap, arith}
+use Rattle.std.proofs.lemmas.Bool.{eqb-true, eq-eqb}
 use Rattle.blsm_model.specs.declared.key.Key.{Key}
 use Rattle.blsm_model.specs.declared.row.Value.{Value}
 use Rattle.disk_trait.specs.Disk.{DiskState}
 use Rattle.record_delta.specs.declared.record.Rec.{Rec}
 use Rattle.record_delta.specs.Records.{weight}
 use Rattle.pacing.specs.Pace.{Pace}
-use Rattle.snow_merge.specs.Pass.{SnowState}
 use Rattle.seat_book.specs.State.{BookState}
-use Rattle.tree_log.specs.Log.{LogState}
 use Rattle.tree_machine.specs.Machine.{Machine, deep_done, pass_done}
 use Rattle.tree_machine.specs.Steps.{one_if, swaps_due}
 use Rattle.tree_machine.proofs.FoldLemmas.{both, both_hold}
 use Rattle.tree_runs.specs.Runs.{left_for_pass, left_for_deep}
 use Rattle.core_moves.specs.declared.held.Held.{Held}
 use Rattle.core_moves.specs.Held.{IsPassDone, IsDeepDone}
-use Rattle.core_moves.specs.Moves.{SettlesDeep, SettlesPass, SwapsDeepIn, SwapsPassIn, begun_in, with_book, with_pass_begun}
+use Rattle.core_moves.specs.Moves.{SettlesDeep, SettlesPass, begun_in, with_book}
 use Rattle.core_lists.specs.Lists.{Agrees}
 use Rattle.core_lists.proofs.TestLemmas.{tests_agree_with_lists}
 use Rattle.tree_core.specs.declared.answers.Admission.TheVariants as admission

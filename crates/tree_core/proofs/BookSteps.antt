@@ -1,9 +1,8 @@
 -- A leave and the end of a work: steps that only write in the book.
-use Rattle.std.specs.Prelude.{◌≡◌, ℕ, ◌<◌, ◌≤◌, ◌&&◌, true, false, List, Option, None, Some, IsTrue, length, nat_lt, nat_le, option_map, slice_index, unwrap_or}
+use Rattle.std.specs.Prelude.{◌≡◌, ℕ, ◌<◌, ◌≤◌, true, false, List, Option, IsTrue, length}
 use Rattle.std.proofs.lemmas.Grind.{common_steps}
 use Rattle.std.proofs.lemmas.Bool.Decides.{nat_tests}
 use Rattle.std.proofs.Common.{◌∙◌, inl, inr, refl, ap, sym, subst, arith}
-use Rattle.std.proofs.lemmas.Bool.{ltb-true}
 use Rattle.std.proofs.lemmas.List.{get_or-set_same}
 use Rattle.blsm_model.specs.Format.{callers}
 use Rattle.blsm_model.specs.declared.key.Key.{Key}
@@ -12,7 +11,6 @@ use Rattle.blsm_model.specs.declared.op.Op.TheVariants.{Work}
 use Rattle.blsm_model.specs.declared.history.Entry.{Entry}
 use Rattle.blsm_model.specs.declared.history.Why.{Why}
 use Rattle.blsm_model.specs.declared.history.Reply.{Reply}
-use Rattle.blsm_model.specs.declared.history.Reply.TheVariants.{Stopped, Did}
 use Rattle.blsm_model.specs.Book.{HasRoom, rows_given}
 use Rattle.blsm_model.specs.Facts.{Follows}
 use Rattle.disk_trait.specs.Disk.{DiskState}
@@ -23,13 +21,11 @@ use Rattle.seat_book.specs.State.{BookState, book_of, ended_in, left_in, work_in
 use Rattle.seat_book.specs.Seats.{KeepsSeats}
 use Rattle.seat_book.proofs.KeepLemmas.{leave_keeps, ending_keeps, keeps_less, holds_follow}
 use Rattle.seat_book.proofs.WordLemmas.{steps_book}
-use Rattle.tree_machine.specs.Machine as machine
-use Rattle.tree_machine.specs.Machine.{Machine, Turned, WorkSoFar, is_caller}
-use Rattle.tree_machine.specs.Steps.{Answer, Well, Left, Replied, leave, reply_by, work_end, work_reply}
-use Rattle.tree_machine.specs.Plays.{has_room, is_finished, may}
+use Rattle.tree_machine.specs.Machine.{Machine, WorkSoFar}
+use Rattle.tree_machine.specs.Steps.{Answer, Well, Left, Replied, leave, work_end, work_reply}
+use Rattle.tree_machine.specs.Plays.{may}
 use Rattle.tree_machine.specs.declared.step.Kind.{Kind}
 use Rattle.tree_machine.specs.declared.step.Kind.TheVariants as kind
-use Rattle.tree_machine.proofs.FoldLemmas.{both_hold}
 use Rattle.paced_tree.specs.Made.{IsMadeBy}
 use Rattle.core_moves.specs.declared.held.Held.{Held}
 use Rattle.core_moves.specs.Moves.{with_book}
@@ -84,11 +80,7 @@ leave_does {D} state seat old b core timed caller places is = subst (λ (x : Boo
 -- ---- the end of a work
 
 pub end_has_room : (seat n : ℕ) (b : BookState) (reply : Reply) → length (rows_given reply) ≡ 0 → may_end_in seat n b ≡ true → HasRoom b.book.room (record { seat = seat; op = Work n; reply = reply })
-end_has_room seat n b reply none can =
-    let both = both_hold (is_caller seat && has_room b.book.room seat 0) (is_finished n (work_in seat b)) can in
-    let caller = both_hold (is_caller seat) (has_room b.book.room seat 0) both.0 in
-    let each = both_hold (nat_lt 0 (slice_index b.book.room.entries seat)) (nat_le 0 (slice_index b.book.room.rows seat)) caller.1 in
-    record { seat = ltb-true seat callers caller.0; entries = ltb-true 0 (slice_index b.book.room.entries seat) each.0; rows = omega (arith, none) }
+end_has_room seat n b reply none can = grind (arith, common_steps, nat_tests)
 
 -- a work gives no rows
 no_rows : (work : WorkSoFar) (stopped : Option Why) → length (rows_given (work_reply work stopped)) ≡ 0

@@ -1,5 +1,8 @@
 -- A hold, the reading on in it and its drop, each with all that the core says of it.
 use Rattle.std.specs.Prelude.{◌≡◌, ◌≢◌, ℕ, ◌<◌, ◌≤◌, ◌^◌, true, List, Option, Some, IsTrue}
+use Rattle.std.proofs.lemmas.Grind.{common_steps}
+use Rattle.std.proofs.lemmas.Bool.Decides.{nat_tests}
+use Rattle.std.proofs.Common.{arith}
 use Rattle.std.proofs.Common.{◌∙◌, refl, subst, sym}
 use Rattle.blsm_model.specs.Book.{HasRoom}
 use Rattle.blsm_model.specs.Format.{most_rows}
@@ -34,7 +37,6 @@ use Rattle.core_moves.specs.Needs.{IsOn}
 use Rattle.tree_core.specs.declared.answers.Holding.{Holding}
 use Rattle.tree_core.specs.declared.answers.Holding.TheVariants as holding
 use Rattle.tree_core.specs.declared.answers.Release.{Release}
-use Rattle.tree_core.specs.declared.answers.Release.TheVariants as release
 use Rattle.tree_core.specs.Answers.{reply_to_drop, reply_to_hold, reply_to_next}
 use Rattle.tree_core.specs.Calls.{GoesOnAs, HoldsRange, LetsGo, ReadsOn}
 use Rattle.tree_core.specs.Causes.{DropsBecause, HoldsBecause, ScansBecause, ScansNone}
@@ -54,23 +56,15 @@ use Rattle.tree_core.proofs.QuietLemmas.{reads_on}
 
 hold_cause : {D : Type 0} (mid : Held) (after : List (Option HoldState)) (answer : Holding) (seat : ℕ) (low high : Key) (old : CoreState D) (disk : D) (b : BookState) → HoldsBecause answer seat low high (undisked old.held old.holds) (undisked mid after)
     → HoldsBecause answer seat low high old (record { disk = disk; held = with_book b mid; holds = after })
-hold_cause mid after holding.Held seat low high old disk b because = because
-hold_cause mid after holding.NoMemory seat low high old disk b because = because
-hold_cause mid after (holding.Stopped why) seat low high old disk b because = because
+hold_cause mid after answer seat low high old disk b h1 = grind (arith, common_steps, nat_tests)
 
 next_cause : {D : Type 0} (mid : Held) (after : List (Option HoldState)) (answer : Scanned) (seat n : ℕ) (old : CoreState D) (disk : D) (b : BookState) (d d2 : DiskState) → ScansBecause answer seat n (undisked old.held old.holds) (undisked mid after) d d2
     → ScansBecause answer seat n old (record { disk = disk; held = with_book b mid; holds = after }) d d2
-next_cause mid after (scanned.Rows rows) seat n old disk b d d2 because = because
-next_cause mid after scanned.NoHold seat n old disk b d d2 because = because
-next_cause mid after scanned.Fault seat n old disk b d d2 because = because
-next_cause mid after (scanned.Damaged page) seat n old disk b d d2 because = because
-next_cause mid after (scanned.Stopped why) seat n old disk b d d2 because = because
+next_cause mid after answer seat n old disk b d d2 h1 = grind (arith, common_steps, nat_tests)
 
 drop_cause : {D : Type 0} (mid : Held) (after : List (Option HoldState)) (answer : Release) (seat : ℕ) (old : CoreState D) (disk : D) (b : BookState) → DropsBecause answer seat (undisked old.held old.holds) (undisked mid after)
     → DropsBecause answer seat old (record { disk = disk; held = with_book b mid; holds = after })
-drop_cause mid after release.Done seat old disk b because = because
-drop_cause mid after release.NoHold seat old disk b because = because
-drop_cause mid after (release.Stopped why) seat old disk b because = because
+drop_cause mid after answer seat old disk b h1 = grind (arith, common_steps, nat_tests)
 
 -- ---- the calls
 

@@ -3,7 +3,7 @@ use Rattle.std.specs.Prelude.{◌≡◌, ℕ, ◌<◌, true, false, List, [], �
 use Rattle.std.proofs.lemmas.Grind.{common_steps}
 use Rattle.std.proofs.lemmas.Bool.Decides.{nat_tests}
 use Rattle.std.proofs.Common.{◌∙◌, inl, inr, refl, ap, sym, subst, arith}
-use Rattle.std.proofs.lemmas.Bool.{cases_eq, false≢true}
+use Rattle.std.proofs.lemmas.Bool.{cases_eq}
 use Rattle.std.proofs.lemmas.List.{get_or-set_same, get_or-set_other}
 use Rattle.blsm_model.specs.Book.{HasRoom}
 use Rattle.blsm_model.specs.Facts.{Follows}
@@ -31,7 +31,6 @@ use Rattle.scan_view.specs.Holds.{hold_of}
 use Rattle.scan_view.specs.Pins.{HasHeld}
 use Rattle.scan_view.proofs.StayLemmas.{held_by_others}
 use Rattle.seat_book.specs.State.{BookState, book_of, noted_in}
-use Rattle.seat_book.proofs.KeepLemmas.{note_keeps}
 use Rattle.tree_machine.specs.Machine.{Machine, Counts, held_by}
 use Rattle.tree_machine.specs.Moves.{note}
 use Rattle.tree_machine.specs.Outcomes.{IsPossible, is_broken}
@@ -47,7 +46,6 @@ use Rattle.paced_tree.proofs.Promises.{step_is_paced}
 use Rattle.tree_file.specs.Tree.{Tree}
 use Rattle.tree_file.proofs.StandLemmas.{stands_read}
 use Rattle.tree_runs.specs.Holding.{AreOf}
-use Rattle.tree_runs.specs.Runs.{RunsState}
 use Rattle.core_moves.specs.declared.held.Held.{Held}
 use Rattle.core_moves.specs.Moves.{with_book}
 use Rattle.core_moves.specs.Needs.{IsOn}
@@ -60,7 +58,6 @@ use Rattle.tree_core.specs.Holds.{HoldRows, StandsWhole, LeavesOthers}
 use Rattle.tree_core.specs.HoldMoves.{MovesHold, mapped}
 use Rattle.tree_core.specs.Standing.{StandsFor}
 use Rattle.tree_core.specs.Steps.{MovesPace, IsStep, IsWholeStep}
-use Rattle.tree_core.proofs.BookSteps.{book_follows}
 use Rattle.tree_core.proofs.QuietLemmas.{shows_now, shows_entry, leaves_longer}
 
 -- what the three kinds of steps have in common
@@ -84,29 +81,7 @@ release_kind seat = record { writes = refl; none = refl; fits = tt; paced = λ m
 
 -- The numbers don't speak of the map, nor of the book but for its counts.
 mapped_numbers : (held : Held) (space : SpaceState) (b : BookState) (pace : Pace) → b.counts ≡ held.book.counts → HasPace held pace → HasPace (with_book b (mapped space held)) pace
-mapped_numbers held space b pace counts n = record {
-  gears = n.gears;
-  a = n.a;
-  taken = n.taken;
-  b = n.b;
-  c1 = n.c1;
-  c1x = n.c1x;
-  c2 = n.c2;
-  made1 = n.made1;
-  made2 = n.made2;
-  spring = n.spring;
-  lane_a = n.lane_a;
-  lane_b = n.lane_b;
-  opening = n.opening ∙ ap (λ (c : Counts). c.charge) (sym counts);
-  peak = n.peak ∙ ap (λ (c : Counts). c.peak) (sym counts);
-  passes = n.passes ∙ ap (λ (c : Counts). c.passes) (sym counts);
-  deeps = n.deeps ∙ ap (λ (c : Counts). c.deeps) (sym counts);
-  in_pass = n.in_pass;
-  in_deep = n.in_deep;
-  pass_left = n.pass_left;
-  deep_left = n.deep_left;
-  started = n.started;
-}
+mapped_numbers held space b pace counts n = grind (arith, common_steps, nat_tests)
 
 mapped_holds : (held : Held) (space : SpaceState) (b : BookState) (pace : Pace) (d d2 : DiskState) → HoldsPace held pace d → b.counts ≡ held.book.counts → b.stopped ≡ held.book.stopped → IsRunBook b pace
     → (IsOn held d → IsOn (mapped space held) d2) → HoldsPace (with_book b (mapped space held)) pace d2
@@ -162,9 +137,7 @@ hold_moves r pace is moves on room holds = record { next = pace; made = is.made 
 
 pub hold_follows : {seat : ℕ} {old mid : Held} {before after : List (Option HoldState)} (command : Op) (r : Reply) → MovesHold seat old mid before after
     → Follows seat (facts_of_held old) (facts_of_held (with_book (noted_in seat command r old.book) mid))
-hold_follows {seat} {old} {mid} command r moves =
-    let b = noted_in seat command r old.book in
-    subst (λ (held : Held). Follows seat (facts_of_held old) (facts_of_held (with_book b held))) (sym moves.rest) (book_follows seat 1 old b (omega arith) (note_keeps seat command r old.book))
+hold_follows {seat} {old} {mid} command r moves = grind (arith, common_steps, nat_tests)
 
 pub leaves_others : {D : Type 0} {seat : ℕ} {mid : Held} {after : List (Option HoldState)} (old : CoreState D) (disk : D) (b : BookState) → MovesHold seat old.held mid old.holds after
     → LeavesOthers seat old (record { disk = disk; held = with_book b mid; holds = after })
@@ -287,10 +260,7 @@ seat_rows seat old mid before after m now d d2 moves below places bytes has rows
 
 -- where nothing was moved, all have
 pub same_rows : (old mid : Held) (before after : List (Option HoldState)) (m : Machine) (d d2 : DiskState) → mid.runs ≡ old.runs → after ≡ before → d2.bytes ≡ d.bytes → HoldRows old before m d → HoldRows mid after m d2
-same_rows old mid before after m d d2 runs holds bytes rows = λ other within.
-    subst (λ (r : RunsState). HasHeld r.sizes r.space.pins other (hold_of other after) (held_by other m) d2.bytes) (sym runs)
-    (subst (λ (hs : List (Option HoldState)). HasHeld old.runs.sizes old.runs.space.pins other (hold_of other hs) (held_by other m) d2.bytes) (sym holds)
-    (subst (λ (file : List ℕ). HasHeld old.runs.sizes old.runs.space.pins other (hold_of other before) (held_by other m) file) (sym bytes) (rows other within)))
+same_rows old mid before after m d d2 runs holds bytes rows = grind (arith, common_steps, nat_tests)
 
 -- a seat's hold has rows just where it is one
 pub none_held : (sizes : Sizes) (pins : List Members) (seat : ℕ) (file : List ℕ) (hold : Option HoldState) (rows : Option (List Row)) → hold ≡ None → HasHeld sizes pins seat hold rows file → rows ≡ None

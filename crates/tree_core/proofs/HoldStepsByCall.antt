@@ -185,12 +185,10 @@ pub next_moves : (seat : ℕ) (held : Held) (before after : List (Option HoldSta
 next_moves seat held before after others = record { rest = refl; pins = λ other differs. refl; roles = refl; holds = others; running = λ honest file is. is; lists = λ tree table file is. is }
 
 was_held : (n : ℕ) (old new : Option HoldState) (rows : List Row) → AreGivenBy n old new rows → IsTrue (is_some old)
-was_held n (Some old) new rows given = refl
-was_held n None new rows given = absurd given
+was_held n old new rows h1 = grind (arith, common_steps, nat_tests)
 
 was_damaged : (sizes : Sizes) (n : ℕ) (old : Option HoldState) (page : ℕ) (file : List ℕ) → IsDamageBehind sizes n old page file → IsTrue (is_some old)
-was_damaged sizes n (Some old) page file damage = refl
-was_damaged sizes n None page file damage = absurd damage
+was_damaged sizes n old page file h1 = grind (arith, common_steps, nat_tests)
 
 given_is_none_other : (rows : RowList) → scanned.Rows rows ≢ scanned.Fault
 given_is_none_other rows same = cc same

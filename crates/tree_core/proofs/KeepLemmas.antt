@@ -1,10 +1,9 @@
 -- Steps that are none of a hold leave the callers' holds as they are, those of the machine and those of the core.
-use Rattle.std.specs.Prelude.{◌≢◌, ◌≤◌, nat_le, nat_lt, not, ◌&&◌, ◌==◌, replicate, slice_index_or, IsErr, IfOk, Ok, Err}
+use Rattle.std.specs.Prelude.{◌≢◌, ◌≤◌, nat_le, nat_lt, not, ◌==◌, replicate, IsErr, IfOk}
 use Rattle.std.proofs.lemmas.Grind.{common_steps}
 use Rattle.std.proofs.lemmas.Bool.Decides.{nat_tests}
 use Rattle.std.specs.declared.result.Result.{Result}
-use Rattle.std.proofs.Common.{◌≡◌, ◌∙◌, ⊎_elim, inl, inr, ℕ, ◌+◌, Bool, true, false, cond, List, [], ◌∷◌, Option, None, Some, refl, ap, sym, subst, arith}
-use Rattle.std.proofs.lemmas.Bool.{cases_eq, false≢true}
+use Rattle.std.proofs.Common.{◌≡◌, ◌∙◌, ⊎_elim, ℕ, ◌+◌, Bool, true, false, cond, List, Option, None, Some, refl, ap, sym, subst, arith}
 use Rattle.std.proofs.lemmas.Option.{none-some}
 use Rattle.blsm_model.specs.Format.{callers}
 use Rattle.blsm_model.specs.Geometry.{c1_mark, charge_limit}
@@ -12,7 +11,6 @@ use Rattle.blsm_model.specs.Histories.{writes_of}
 use Rattle.blsm_model.specs.Legal.{total_weight, is_del}
 use Rattle.blsm_model.specs.Sizes.{Sizes}
 use Rattle.blsm_model.specs.declared.key.Key.{Key}
-use Rattle.blsm_model.specs.declared.row.Row.{Row}
 use Rattle.blsm_model.specs.declared.row.Value.{Value}
 use Rattle.blsm_model.specs.declared.op.Op.{Op}
 use Rattle.blsm_model.specs.declared.op.Write.{Write}
@@ -21,34 +19,29 @@ use Rattle.disk_trait.specs.Disk.{DiskState}
 use Rattle.disk_trait.specs.Effects.{Affects, affects_wider}
 use Rattle.disk_trait.specs.Reads.{OnlyReads}
 use Rattle.disk_trait.specs.Region.{Region, IsSameOutside}
-use Rattle.gear_sched.specs.Gears.{first_debt, second_debt, plan_for}
 use Rattle.gear_sched.specs.declared.Plan.{Plan}
-use Rattle.gear_sched.specs.declared.Plan.TheVariants.{Snow, Deep, Nothing}
 use Rattle.pacing.specs.Pace.{Pace}
-use Rattle.pacing.specs.Steps as pacing
 use Rattle.pacing.specs.Steps.{Move}
 use Rattle.page_file.specs.declared.file.Broken.{Broken}
-use Rattle.page_space.specs.PageSet.{Members}
 use Rattle.record_delta.specs.Entries.{entries_weight}
 use Rattle.record_delta.specs.declared.record.Rec.{Rec}
 use Rattle.scan_view.specs.Hold.{HoldState}
 use Rattle.scan_view.specs.Holds.{hold_of, pages_behind}
-use Rattle.scan_view.specs.Pins.{HasHeld, beside_pins}
+use Rattle.scan_view.specs.Pins.{beside_pins}
 use Rattle.scan_view.proofs.StayLemmas.{held_beside}
 use Rattle.seat_book.specs.State.{BookState}
 use Rattle.tree_machine.specs.declared.step.Kind.{Kind}
 use Rattle.tree_machine.specs.declared.step.Kind.TheVariants as kind
 use Rattle.tree_machine.specs.Lists.{memory_weight}
-use Rattle.tree_machine.specs.Machine.{Machine, charge, deep_done, held_by, in_pass, is_closed, pass_done}
+use Rattle.tree_machine.specs.Machine.{Machine, charge, deep_done}
 use Rattle.tree_machine.specs.Merges.{Merge}
-use Rattle.tree_machine.specs.Moves.{begin_pass, deep_quantum, deep_quantum_of, end_pass, output_of, pass_quantum, pass_quantum_of, rotate, swap_deep, swap_pass}
+use Rattle.tree_machine.specs.Moves.{deep_quantum_of, end_pass, output_of, pass_quantum_of, rotate, swap_deep, swap_pass}
 use Rattle.tree_machine.specs.Plays.{stepped_as}
-use Rattle.tree_machine.specs.Steps.{Answer, Broken as AtPage, Choice, SwapDeep, SwapPass, DeepQuantum, PassQuantum, Begin, Rotate, Rest, FailedAfter, NoRoom, Outcome, Well, Stepped, admit, admit_fitting, choice, chosen, deep_swapped, do_pay, do_turn, forgive, pass_swapped, pay, pay_planned, pay_running, ready_for, swaps_due, taken_once, unless_stopped, work_turning, worker_turning}
+use Rattle.tree_machine.specs.Steps.{Answer, Broken as AtPage, Choice, FailedAfter, NoRoom, Outcome, Well, Stepped, admit, admit_fitting, choice, chosen, deep_swapped, do_turn, pay, ready_for, swaps_due, taken_once, unless_stopped, work_turning, worker_turning}
 use Rattle.tree_machine.proofs.FrameLemmas.{step_stays}
-use Rattle.tree_machine.proofs.PlayLemmas.{of_replicate}
 use Rattle.tree_runs.specs.Runs.{page_share}
 use Rattle.core_moves.specs.declared.held.Held.{Held}
-use Rattle.core_moves.specs.Moves.{KeepsAllButMerges, SettlesDeep, SettlesPass, begun_in, with_debts_forgiven, with_pass_begun}
+use Rattle.core_moves.specs.Moves.{KeepsAllButMerges, SettlesDeep, SettlesPass, begun_in, with_debts_forgiven}
 use Rattle.core_pace.specs.Events.{TakesByPlan}
 use Rattle.core_pace.specs.Turns.{TurnsBy}
 use Rattle.tree_core.specs.declared.admission.Taking.{Taking}
@@ -72,8 +65,7 @@ record Keeps (old new : Machine) : Type 0 where
   holds : new.holds ≡ old.holds
 
 either : (b : Bool) (m one other : Machine) → Keeps m one → Keeps m other → Keeps m (cond b one other)
-either true m one other p q = p
-either false m one other p q = q
+either b m one other h1 h2 = grind (arith, common_steps, nat_tests)
 
 both : (a b c : Machine) → Keeps a b → Keeps b c → Keeps a c
 both a b c p q = record { holds = q.holds ∙ p.holds }
@@ -82,12 +74,10 @@ itself : (m : Machine) → Keeps m m
 itself m = record { holds = refl }
 
 either_stepped : (b : Bool) (m : Machine) (one other : Stepped) → Keeps m one.state → Keeps m other.state → Keeps m (cond b one other).state
-either_stepped true m one other p q = p
-either_stepped false m one other p q = q
+either_stepped b m one other h1 h2 = grind (arith, common_steps, nat_tests)
 
 unless : (o : Option Why) (seat : ℕ) (op : Op) (m : Machine) (otherwise : Stepped) → Keeps m otherwise.state → Keeps m (unless_stopped o seat op m otherwise).state
-unless (Some why) seat op m otherwise keeps = record { holds = refl }
-unless None seat op m otherwise keeps = keeps
+unless o seat op m otherwise h1 = grind (arith, common_steps, nat_tests)
 
 deep_swap_keeps : (m : Machine) → Keeps m (deep_swapped m)
 deep_swap_keeps m = either (deep_done m) m (swap_deep m) m (record { holds = refl }) (itself m)
@@ -96,16 +86,10 @@ pass_keeps : (m : Machine) → Keeps m (swap_pass m)
 pass_keeps m = either (nat_le (c1_mark m.gears.sizes) (entries_weight (output_of m.merges.pass))) m (rotate (end_pass m)) (end_pass m) (record { holds = refl }) (record { holds = refl })
 
 ready_keeps : (w : ℕ) (m : Machine) → Keeps m (ready_for w m)
-ready_keeps w m =
-    let deep = deep_swapped m in
-    let done = pass_swapped deep in
-    both m deep (ready_for w m) (deep_swap_keeps m)
-    (both deep done (ready_for w m) (either (pass_done deep) deep (swap_pass deep) deep (pass_keeps deep) (itself deep))
-    (either (not (in_pass done) && nat_lt done.gears.sizes.low (done.spring + w)) done (begin_pass done) done (record { holds = refl }) (itself done)))
+ready_keeps w m = grind (arith, common_steps, nat_tests)
 
 taking_keeps : (seat : ℕ) (ws : List Write) (m : Machine) → Keeps m (taken_once seat ws m)
-taking_keeps seat [] m = itself m
-taking_keeps seat (w ∷ ws) m = record { holds = refl }
+taking_keeps seat ws m = grind (arith, common_steps, nat_tests)
 
 admission_keeps : (m : Machine) (seat : ℕ) (op : Op) (outcome : Outcome) → Keeps m (admit m seat op outcome).state
 admission_keeps m seat op outcome =
@@ -128,54 +112,26 @@ admission_keeps m seat op outcome =
     by NoRoom = record { holds = done.holds }
 
 pass_quantum_keeps : (p : Option Merge) (seat : ℕ) (m : Machine) → Keeps m (pass_quantum_of p seat m)
-pass_quantum_keeps None seat m = itself m
-pass_quantum_keeps (Some merge) seat m = record { holds = refl }
+pass_quantum_keeps p seat m = grind (arith, common_steps, nat_tests)
 
 deep_quantum_keeps : (p : Option Merge) (seat : ℕ) (m : Machine) → Keeps m (deep_quantum_of p seat m)
-deep_quantum_keeps None seat m = itself m
-deep_quantum_keeps (Some merge) seat m = record { holds = refl }
+deep_quantum_keeps p seat m = grind (arith, common_steps, nat_tests)
 
 payment_keeps : (m : Machine) (seat : ℕ) (outcome : Outcome) → Keeps m (pay m seat outcome).state
-payment_keeps m seat outcome = by m.stopped
-  where
-    quantum : (make : Machine → Machine) (o : Outcome) → Keeps m (make (forgive seat m)) → Keeps m (do_pay (forgive seat m) make seat o).state
-    quantum make (FailedAfter commits faults) keeps = record { holds = refl }
-    quantum make (AtPage page) keeps = record { holds = refl }
-    quantum make Well keeps = record { holds = keeps.holds }
-    quantum make NoRoom keeps = record { holds = keeps.holds }
-
-    planned : (p : Plan) → Keeps m (pay_planned p (forgive seat m) seat outcome).state
-    planned Snow = quantum (pass_quantum seat) outcome (record { holds = (pass_quantum_keeps (forgive seat m).merges.pass seat (forgive seat m)).holds })
-    planned Deep = quantum (deep_quantum seat) outcome (record { holds = (deep_quantum_keeps (forgive seat m).merges.deep seat (forgive seat m)).holds })
-    planned Nothing = record { holds = refl }
-
-    by : (o : Option Why) → Keeps m (pay_running o m seat outcome).state
-    by (Some why) = itself m
-    by None = planned (plan_for (first_debt (forgive seat m).gears seat) (second_debt (forgive seat m).gears seat))
+payment_keeps m seat outcome = grind (arith, common_steps, nat_tests)
 
 chosen_keeps : (c : Choice) (seat : ℕ) (m : Machine) → Keeps m (chosen c seat m)
-chosen_keeps SwapDeep seat m = record { holds = refl }
-chosen_keeps SwapPass seat m = pass_keeps m
-chosen_keeps DeepQuantum seat m = deep_quantum_keeps m.merges.deep seat m
-chosen_keeps PassQuantum seat m = pass_quantum_keeps m.merges.pass seat m
-chosen_keeps Begin seat m = record { holds = refl }
-chosen_keeps Rotate seat m = record { holds = refl }
-chosen_keeps Rest seat m = itself m
+chosen_keeps c seat m = grind (arith, common_steps, nat_tests)
 
 turn_keeps : (c : Choice) (o : Outcome) (seat : ℕ) (m : Machine) → Keeps m (do_turn c o seat m).state
-turn_keeps c (FailedAfter commits faults) seat m = record { holds = refl }
-turn_keeps c (AtPage page) seat m = record { holds = refl }
-turn_keeps c Well seat m = chosen_keeps c seat m
-turn_keeps c NoRoom seat m = chosen_keeps c seat m
+turn_keeps c o seat m = grind (arith, common_steps, nat_tests)
 
 work_keeps : (o : Option Why) (m : Machine) (seat : ℕ) (outcome : Outcome) → Keeps m (work_turning o m seat outcome).state
 work_keeps (Some why) m seat outcome = itself m
 work_keeps None m seat outcome = turn_keeps (choice (not (memory_weight m.lists == 0)) (not (entries_weight m.lists.c1 == 0)) m) outcome seat m
 
 worker_keeps : (o : Option Why) (closed : Bool) (m : Machine) (seat : ℕ) (outcome : Outcome) → Keeps m (worker_turning o closed m seat outcome).state
-worker_keeps (Some why) closed m seat outcome = itself m
-worker_keeps None true m seat outcome = itself m
-worker_keeps None false m seat outcome = turn_keeps (choice (nat_lt m.gears.sizes.low m.spring) false m) outcome seat m
+worker_keeps o closed m seat outcome = grind (arith, common_steps, nat_tests)
 
 pub step_keeps_holds : (m : Machine) (seat : ℕ) (k : Kind) (outcome : Outcome) → is_held k ≡ false → (stepped_as m seat k outcome).state.holds ≡ m.holds
 step_keeps_holds m seat k outcome h1 = grind (arith, common_steps, nat_tests, admission_keeps, payment_keeps, unless, work_keeps, worker_keeps)
@@ -185,34 +141,19 @@ step_keeps_holds m seat k outcome h1 = grind (arith, common_steps, nat_tests, ad
 -- the rows to come stay where nothing that is pinned is written
 pub rows_stay : (old new : Held) (holds holds' : List (Option HoldState)) (m after : Machine) (d d2 : DiskState) → holds' ≡ holds → new.runs.space.pins ≡ old.runs.space.pins → new.runs.sizes ≡ old.runs.sizes
     → after.holds ≡ m.holds → IsSameOutside (beside_pins old.runs.sizes old.runs.space.pins) d.bytes d2.bytes → HoldRows old holds m d → HoldRows new holds' after d2
-rows_stay old new holds holds' m after d d2 same pins sizes same_rows beside rows = λ seat below.
-    subst (λ (s : Sizes). HasHeld s new.runs.space.pins seat (hold_of seat holds') (held_by seat after) d2.bytes) (sym sizes)
-    (subst (λ (ps : List Members). HasHeld old.runs.sizes ps seat (hold_of seat holds') (held_by seat after) d2.bytes) (sym pins)
-    (subst (λ (hs : List (Option HoldState)). HasHeld old.runs.sizes old.runs.space.pins seat (hold_of seat hs) (held_by seat after) d2.bytes) (sym same)
-    (subst (λ (rs : List (Option (List Row))). HasHeld old.runs.sizes old.runs.space.pins seat (hold_of seat holds) (slice_index_or rs seat None) d2.bytes) (sym same_rows)
-    (held_beside old.runs.sizes old.runs.space.pins seat (hold_of seat holds) (held_by seat m) d.bytes d2.bytes beside (rows seat below)))))
+rows_stay old new holds holds' m after d d2 same pins sizes same_rows beside rows = grind (arith, common_steps, nat_tests, held_beside)
 
 -- at the opening there are none
 pub none_held : (held : Held) (holds : List (Option HoldState)) (m : Machine) (d : DiskState) → holds ≡ replicate callers None → m.holds ≡ replicate callers None → HoldRows held holds m d
-none_held held holds m d none none_too = λ seat below.
-    subst (λ (hs : List (Option HoldState)). HasHeld held.runs.sizes held.runs.space.pins seat (hold_of seat hs) (held_by seat m) d.bytes) (sym none)
-    (subst (λ (h : Option HoldState). HasHeld held.runs.sizes held.runs.space.pins seat h (held_by seat m) d.bytes) (sym (of_replicate callers seat None))
-    (subst (λ (rs : List (Option (List Row))). HasHeld held.runs.sizes held.runs.space.pins seat None (slice_index_or rs seat None) d.bytes) (sym none_too)
-    (subst (λ (h : Option (List Row)). HasHeld held.runs.sizes held.runs.space.pins seat None h d.bytes) (sym (of_replicate callers seat None)) tt)))
+none_held held holds m d none none_too = grind (arith, common_steps, nat_tests)
 
 pub few_at_first : (sizes : Sizes) (holds : List (Option HoldState)) → holds ≡ replicate callers None → AreFew sizes holds
-few_at_first sizes holds none = λ seat.
-    subst (λ (hs : List (Option HoldState)). pages_behind (hold_of seat hs) ≤ page_share sizes) (sym none)
-    (subst (λ (h : Option HoldState). pages_behind h ≤ page_share sizes) (sym (of_replicate callers seat None)) (omega arith))
+few_at_first sizes holds none = grind (arith, common_steps, nat_tests)
 
 -- where one seat's hold alone is another, and has no more pages than it may
 pub few_by : (sizes : Sizes) (seat : ℕ) (old new : List (Option HoldState)) → ((other : ℕ) → other ≢ seat → hold_of other new ≡ hold_of other old) → pages_behind (hold_of seat new) ≤ page_share sizes
     → AreFew sizes old → AreFew sizes new
-few_by sizes seat old new others bound few = λ other.
-    elim (cases_eq other seat) [
-      | inl same ↦ subst (λ (s : ℕ). pages_behind (hold_of s new) ≤ page_share sizes) (sym same) bound
-      | inr differs ↦ subst (λ (h : Option HoldState). pages_behind h ≤ page_share sizes) (sym (others other differs)) (few other)
-    ]
+few_by sizes seat old new others bound few = grind (arith, common_steps, nat_tests)
 
 -- a store that runs after a step ran before it
 pub ran_before : (opening : List (Key × Value)) (seat : ℕ) (k : Kind) (answer : Answer) (old new : Held) (before after : DiskState) (m : Machine) (pace : Pace) → StandsFor opening old m pace before
@@ -258,11 +199,7 @@ pub pass_keeps_pins : (old new : Held) → SettlesPass old new → KeepsPins old
 pass_keeps_pins old new settles = ⊎_elim (λ done. record { pins = done.1.runs.pins; sizes = done.1.runs.sizes }) (λ rests. same_pins old new rests.1) settles
 
 pub begin_keeps_pins : (w : ℕ) (held : Held) → KeepsPins held (begun_in w held)
-begin_keeps_pins w held = by _
-  where
-    by : (b : Bool) → KeepsPins held (cond b (with_pass_begun held) held)
-    by true = record { pins = refl; sizes = refl }
-    by false = pins_themselves held
+begin_keeps_pins w held = grind (arith, common_steps, nat_tests)
 
 readied_keeps_pins : (w : ℕ) (old new : Held) → IsReadied w old new → KeepsPins old new
 readied_keeps_pins w old new is =
@@ -277,27 +214,17 @@ taking_keeps_pins (Failed false) seat key rec old new after is = ⊎_elim (λ st
 
 -- a payment's quantum
 planned_keeps_pins : (p : Plan) (seat n : ℕ) (old new : Held) → TakesByPlan p seat n old new → KeepsPins old new
-planned_keeps_pins Snow seat n old new takes = record { pins = takes.others.takes.pins; sizes = takes.others.sizes }
-planned_keeps_pins Deep seat n old new takes = record { pins = takes.others.takes.pins; sizes = takes.others.sizes }
-planned_keeps_pins Nothing seat n old new takes = absurd takes
+planned_keeps_pins p seat n old new h1 = grind (arith, common_steps, nat_tests)
 
 pub quantum_keeps_pins : (p : Plan) (result : Result ℕ Broken) (seat : ℕ) (old new : Held) → IfOk result (λ n. TakesByPlan p seat n old new) → KeepsAllButMerges (IsErr result) old new → KeepsPins old new
-quantum_keeps_pins p (Ok n) seat old new takes kept = planned_keeps_pins p seat n old new takes
-quantum_keeps_pins p (Err broken) seat old new takes kept = record { pins = kept.pins refl; sizes = kept.sizes refl }
+quantum_keeps_pins p result seat old new h1 h2 = grind (arith, common_steps, nat_tests)
 
 -- a turn's move
 moved_keeps_pins : (mv : Move) (seat n : ℕ) (old new : Held) → TurnsBy mv seat n old new → KeepsPins old new
-moved_keeps_pins pacing.SwapDeep seat n old new moves = record { pins = moves.runs.pins; sizes = moves.runs.sizes }
-moved_keeps_pins pacing.SwapPass seat n old new moves = record { pins = moves.runs.pins; sizes = moves.runs.sizes }
-moved_keeps_pins pacing.TakeDeep seat n old new moves = record { pins = moves.others.takes.pins; sizes = moves.others.sizes }
-moved_keeps_pins pacing.TakeSnow seat n old new moves = record { pins = moves.others.takes.pins; sizes = moves.others.sizes }
-moved_keeps_pins pacing.Begin seat n old new moves = subst (λ (h : Held). KeepsPins old h) (sym moves) (record { pins = refl; sizes = refl })
-moved_keeps_pins pacing.Rotate seat n old new moves = record { pins = moves.runs.pins; sizes = moves.runs.sizes }
-moved_keeps_pins pacing.Idle seat n old new moves = same_pins old new moves
+moved_keeps_pins mv seat n old new h1 = grind (arith, common_steps, nat_tests)
 
 pub move_keeps_pins : (mv : Move) (result : Result ℕ Broken) (seat : ℕ) (old new : Held) → IfOk result (λ n. TurnsBy mv seat n old new) → KeepsAllButMerges (IsErr result) old new → KeepsPins old new
-move_keeps_pins mv (Ok n) seat old new moves kept = moved_keeps_pins mv seat n old new moves
-move_keeps_pins mv (Err broken) seat old new moves kept = record { pins = kept.pins refl; sizes = kept.sizes refl }
+move_keeps_pins mv result seat old new h1 h2 = grind (arith, common_steps, nat_tests)
 
 -- with the debts that may be forgiven
 pub forgiven_keeps_pins : (seat : ℕ) (old new : Held) → new ≡ with_debts_forgiven seat old → KeepsPins old new

@@ -1,5 +1,5 @@
 -- What lasts from a start on, over each call.
-use Rattle.std.specs.Prelude.{◌≡◌, ℕ, ◌+◌, ◌<◌, ◌≤◌, Bool, true, false, not, ◌&&◌, ◌||◌, nat_le, nat_lt, is_some, List, [], ◌∷◌, ◌++◌, Option, None, Some, IsTrue}
+use Rattle.std.specs.Prelude.{◌≡◌, ℕ, ◌+◌, ◌<◌, ◌≤◌, true, false, ◌&&◌, nat_le, nat_lt, List, [], ◌∷◌, ◌++◌, Option, None, IsTrue}
 use Rattle.std.proofs.lemmas.Grind.{common_steps}
 use Rattle.std.proofs.lemmas.Bool.Decides.{nat_tests}
 use Rattle.std.proofs.Common.{◌∙◌, refl, ap, sym, subst, arith}
@@ -18,7 +18,6 @@ use Rattle.disk_trait.specs.Moments.{IsTimed, goes_on_start, goes_on_run}
 use Rattle.pacing.specs.Pace.{Pace}
 use Rattle.blsm_model.specs.Legal.{is_write}
 use Rattle.blsm_model.specs.declared.op.Op.{Op}
-use Rattle.blsm_model.specs.declared.history.Why.{Why}
 use Rattle.gear_sched.specs.Gears.{first_debt, second_debt}
 use Rattle.seat_book.specs.State.{may_note_in, may_turn_in}
 use Rattle.tree_machine.proofs.FoldLemmas.{both}

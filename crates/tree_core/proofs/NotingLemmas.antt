@@ -1,31 +1,26 @@
 -- What a call leaves of the annals, of the callers' open works, and of its own seat's debts.
-use Rattle.std.specs.Prelude.{IfOk, IsErr, length, slice_index, slice_index_or, slice_set, nat_lt, ◌==◌}
+use Rattle.std.specs.Prelude.{IfOk, IsErr, length, slice_index, slice_set}
 use Rattle.std.proofs.lemmas.Grind.{common_steps}
 use Rattle.std.proofs.lemmas.Bool.Decides.{nat_tests}
 use Rattle.std.specs.declared.result.Result.{Result}
 use Rattle.std.proofs.Common.{◌≡◌, ◌∙◌, ℕ, ◌+◌, ◌-◌, ◌≤◌, ◌<◌, Bool, true, false, cond, List, Some, Ok, Err, replicate, refl, ap, sym, subst, arith}
-use Rattle.std.proofs.lemmas.Bool.{eqb-true, ltb-true, ltb-false}
-use Rattle.std.proofs.lemmas.List.{get_or-set_same, get_or-set_other, set_past}
-use Rattle.blsm_model.specs.Book.{Book, noted, counted_up}
+use Rattle.blsm_model.specs.Book.{counted_up}
 use Rattle.blsm_model.specs.Format.{callers}
 use Rattle.blsm_model.specs.declared.op.Op.{Op}
-use Rattle.blsm_model.specs.declared.history.Entry.{Entry}
 use Rattle.blsm_model.specs.declared.history.Reply.{Reply}
 use Rattle.blsm_model.specs.declared.history.Why.{Why}
 use Rattle.disk_trait.specs.Disk.{DiskState}
 use Rattle.gear_sched.specs.Gears.{GearState, first_debt, second_debt, pass_ended, plan_for, rotated}
 use Rattle.gear_sched.specs.declared.Plan.{Plan}
-use Rattle.gear_sched.specs.declared.Plan.TheVariants.{Snow, Deep, Nothing}
+use Rattle.gear_sched.specs.declared.Plan.TheVariants.{Nothing}
 use Rattle.page_file.specs.declared.file.Broken.{Broken}
-use Rattle.page_file.specs.declared.file.Broken.TheVariants.{Fault, Damaged}
 use Rattle.pacing.specs.Steps as pacing
 use Rattle.pacing.specs.Steps.{Move}
 use Rattle.paced_tree.specs.Booking.{quanta_of_move}
-use Rattle.tree_machine.specs.Machine.{Seats, Turned, WorkSoFar, is_caller, no_work, seats, turn_more}
+use Rattle.tree_machine.specs.Machine.{Turned, is_caller, seats}
 use Rattle.tree_machine.specs.Steps.{last_write}
 use Rattle.tree_machine.proofs.PlayLemmas.{of_replicate}
-use Rattle.seat_book.specs.Seats.{turns_in}
-use Rattle.seat_book.specs.State.{BookState, helped_in, noted_in, paid_in, stopped_in, turned_in, with_ended, work_in}
+use Rattle.seat_book.specs.State.{BookState, helped_in, noted_in, paid_in, stopped_in, turned_in}
 use Rattle.core_moves.specs.declared.held.Held.{Held}
 use Rattle.core_moves.specs.Held.{is_run_full}
 use Rattle.core_moves.specs.Moves.{KeepsAllButMerges, with_book, with_debts_forgiven}
@@ -34,30 +29,20 @@ use Rattle.core_pace.specs.Turns.{TurnsBy, end_of_move, move_in}
 use Rattle.tree_core.specs.Notes.{NotesOne, NotesNone, CountsPayment, CountsTurn, HelpsOnce, OwesNothing, quanta_of_turn}
 use Rattle.tree_core.specs.Quanta.{ended_by, quanta_by, stopped_by}
 use Rattle.tree_core.specs.declared.answers.Payment.TheVariants as payment
-use Rattle.tree_core.proofs.PaymentLemmas.{Took, FailedToTake, book_taken, book_stopped}
-use Rattle.tree_core.proofs.TurnLemmas.{Ends, moved_open}
+use Rattle.tree_core.proofs.PaymentLemmas.{Took, FailedToTake, book_taken}
+use Rattle.tree_core.proofs.TurnLemmas.{Ends}
 
 -- ---- an entry
 
 pub notes_by : (seat : ℕ) (op : Op) (reply : Reply) (old between new : BookState) → KeepsBook old between → new ≡ noted_in seat op reply between → NotesOne seat op reply old new
-notes_by seat op reply old between new keeps is =
-    let entry : Entry = record { seat = seat; op = op; reply = reply } in
-    record {
-      annals = ap (λ (b : BookState). b.book) is ∙ ap (λ (b : Book). noted b entry) keeps.book;
-      work = ap (λ (b : BookState). b.seats.work) is ∙ ap (λ (s : Seats). s.work) keeps.seats;
-    }
+notes_by seat op reply old between new keeps is = grind (arith, common_steps, nat_tests)
 
 pub notes_at_once : (seat : ℕ) (op : Op) (reply : Reply) (old new : BookState) → new ≡ noted_in seat op reply old → NotesOne seat op reply old new
 notes_at_once seat op reply old new is = notes_by seat op reply old old new (record { book = refl; seats = refl; stopped = refl }) is
 
 -- a stop before it changes neither
 pub notes_stopped : (seat : ℕ) (op : Op) (reply : Reply) (why : Why) (old between new : BookState) → KeepsBook old between → new ≡ noted_in seat op reply (stopped_in why between) → NotesOne seat op reply old new
-notes_stopped seat op reply why old between new keeps is =
-    let entry : Entry = record { seat = seat; op = op; reply = reply } in
-    record {
-      annals = ap (λ (b : BookState). b.book) is ∙ ap (λ (b : Book). noted b entry) keeps.book;
-      work = ap (λ (b : BookState). b.seats.work) is ∙ ap (λ (s : Seats). s.work) keeps.seats;
-    }
+notes_stopped seat op reply why old between new keeps is = grind (arith, common_steps, nat_tests)
 
 -- ---- a payment
 
@@ -73,9 +58,7 @@ pub settling_counts : (seat : ℕ) (old forgiven : Held) → forgiven ≡ with_d
 settling_counts seat old forgiven is = record { annals = ap (λ (h : Held). h.book.book) is; work = ap (λ (h : Held). h.book.seats.work) is }
 
 pub failed_payment_counts : (seat : ℕ) (plan : Plan) (why : Why) (old forgiven failed : Held) (b : BookState) → FailedToTake seat plan why old forgiven failed b → NotesNone old.book b
-failed_payment_counts seat plan why old forgiven failed b f =
-    let is = book_stopped seat plan why old forgiven failed b f in
-    record { annals = ap (λ (x : BookState). x.book) is; work = ap (λ (x : BookState). x.seats.work) is }
+failed_payment_counts seat plan why old forgiven failed b f = grind (arith, common_steps, nat_tests)
 
 -- where nothing is planned, nothing is owed
 pub plans_nothing : (first second : ℕ) → plan_for first second ≡ Nothing → first + second ≡ 0
@@ -91,27 +74,19 @@ ended_quanta mv made = grind (arith, common_steps, nat_tests)
 
 -- the move, and the stop where it failed, leave the annals and the works
 stopped_notes : (made : Result ℕ Broken) (faults : ℕ) (b : BookState) → NotesNone b (stopped_by made faults b)
-stopped_notes (Ok n) faults b = record { annals = refl; work = refl }
-stopped_notes (Err Fault) faults b = record { annals = refl; work = refl }
-stopped_notes (Err (Damaged page)) faults b = record { annals = refl; work = refl }
+stopped_notes made faults b = grind (arith, common_steps, nat_tests)
 
 moved_notes : (mv : Move) (seat : ℕ) (made : Result ℕ Broken) (old moved : Held) → IfOk made (λ n. TurnsBy mv seat n old moved) → KeepsAllButMerges (IsErr made) old moved → NotesNone old.book moved.book
-moved_notes mv seat (Ok n) old moved moves kept = let open_still = moved_open mv seat n old moved moves in record { annals = open_still.entries; work = open_still.work }
-moved_notes mv seat (Err broken) old moved moves kept = let same = kept.book refl in record { annals = ap (λ (b : BookState). b.book) same; work = ap (λ (b : BookState). b.seats.work) same }
+moved_notes mv seat made old moved h1 h2 = grind (arith, common_steps, nat_tests)
 
 ended_notes : (w : Bool) (seat : ℕ) (mv : Move) (made : Result ℕ Broken) (faults : ℕ) (old moved : Held) (ended : Turned) (b : BookState) (before after : DiskState) → Ends w seat mv made faults old moved ended b before after
     → NotesNone old.book (stopped_by made faults moved.book)
-ended_notes w seat mv made faults old moved ended b before after e =
-    let one = moved_notes mv seat made old moved e.moves e.kept in
-    let two = stopped_notes made faults moved.book in
-    record { annals = two.annals ∙ one.annals; work = two.work ∙ one.work }
+ended_notes w seat mv made faults old moved ended b before after e = grind (arith, common_steps, nat_tests)
 
 -- a worker's
 pub help_notes : (seat : ℕ) (mv : Move) (made : Result ℕ Broken) (faults : ℕ) (old moved : Held) (ended : Turned) (b : BookState) (before after : DiskState) → Ends true seat mv made faults old moved ended b before after
     → NotesNone old.book b
-help_notes seat mv made faults old moved ended b before after e =
-    let notes = ended_notes true seat mv made faults old moved ended b before after e in
-    record { annals = ap (λ (x : BookState). x.book) e.counts ∙ notes.annals; work = ap (λ (x : BookState). x.seats.work) e.counts ∙ notes.work }
+help_notes seat mv made faults old moved ended b before after e = grind (arith, common_steps, nat_tests)
 
 pub helped_notes : (seat : ℕ) (old b : BookState) → b ≡ helped_in seat old → NotesNone old b
 helped_notes seat old b is = record { annals = ap (λ (x : BookState). x.book) is; work = ap (λ (x : BookState). x.seats.work) is }
@@ -119,21 +94,7 @@ helped_notes seat old b is = record { annals = ap (λ (x : BookState). x.book) i
 -- a turn of a caller's work, as it is counted over annals and works that stand
 pub turned_counts : (seat quanta : ℕ) (ended : Turned) (old between new : Held) → seat < callers → length old.book.seats.work ≡ callers → NotesNone old.book between.book
     → ((why : Why) → old.book.stopped ≡ Some why → between.book.stopped ≡ Some why) → new.book ≡ turned_in seat ended quanta between.book → quanta ≡ quanta_of_turn ended (move_in false old) → CountsTurn seat ended old new
-turned_counts seat quanta ended old between new caller places notes stays is same = record {
-  annals = ap (λ (x : BookState). x.book) is ∙ notes.annals;
-  work = of_seat ∙ ap (λ (n : ℕ). with_ended (work_in seat old.book) ended n) same;
-  others = λ other apart. of_works other ∙ get_or-set_other old.book.seats.work seat other (with_ended (work_in seat old.book) ended quanta) no_work apart;
-  halted = λ why was. ap (λ (x : BookState). x.stopped) is ∙ stays why was;
-}
-  where
-    works : new.book.seats.work ≡ slice_set old.book.seats.work seat (with_ended (work_in seat old.book) ended quanta)
-    works = ap (λ (x : BookState). x.seats.work) is ∙ ap (λ (l : List WorkSoFar). slice_set l seat (with_ended (slice_index_or l seat no_work) ended quanta)) notes.work
-
-    of_works : (any : ℕ) → work_in any new.book ≡ slice_index_or (slice_set old.book.seats.work seat (with_ended (work_in seat old.book) ended quanta)) any no_work
-    of_works any = ap (λ (l : List WorkSoFar). slice_index_or l any no_work) works
-
-    of_seat : work_in seat new.book ≡ with_ended (work_in seat old.book) ended quanta
-    of_seat = of_works seat ∙ get_or-set_same old.book.seats.work seat (with_ended (work_in seat old.book) ended quanta) no_work (omega arith)
+turned_counts seat quanta ended old between new caller places notes stays is same = grind (arith, common_steps, nat_tests)
 
 pub turn_counts : (seat : ℕ) (mv : Move) (made : Result ℕ Broken) (faults : ℕ) (old moved : Held) (ended : Turned) (b : BookState) (before after : DiskState) → Ends false seat mv made faults old moved ended b before after
     → CountsTurn seat ended old (with_book b moved)
@@ -155,8 +116,7 @@ none_left : (seat debt : ℕ) → slice_index (replicate callers 0) seat ≤ deb
 none_left seat debt = let none : slice_index (replicate callers 0) seat ≡ 0 = of_replicate {A = ℕ} 16 seat 0 in omega (arith, none)
 
 pass_ended_owes : (seat input : ℕ) (gears : GearState) (full : Bool) → OwesNoMore seat gears (cond full (rotated (pass_ended gears) input) (pass_ended gears))
-pass_ended_owes seat input gears true = record { first = none_left seat (first_debt gears seat); second = none_left seat (second_debt gears seat) }
-pass_ended_owes seat input gears false = record { first = none_left seat (first_debt gears seat); second = omega arith }
+pass_ended_owes seat input gears full = grind (arith, common_steps, nat_tests)
 
 moved_owes : (mv : Move) (seat n : ℕ) (old moved : Held) → TurnsBy mv seat n old moved → OwesNoMore seat old.gears moved.gears
 moved_owes pacing.SwapDeep seat n old moved moves = subst (λ (g : GearState). OwesNoMore seat old.gears g) (sym moves.gears) (record { first = omega arith; second = none_left seat (second_debt old.gears seat) })
@@ -173,12 +133,7 @@ ended_owes mv seat (Err broken) old moved moves kept = subst (λ (g : GearState)
 
 pub turn_owes : (seat : ℕ) (mv : Move) (made : Result ℕ Broken) (faults : ℕ) (old moved : Held) (ended : Turned) (b : BookState) (before after : DiskState) → Ends false seat mv made faults old moved ended b before after
     → OwesNothing seat (with_book b moved)
-turn_owes seat mv made faults old moved ended b before after e =
-    let less = ended_owes mv seat made old moved e.moves e.kept in
-    let even : first_debt old.gears seat + second_debt old.gears seat ≡ 0 = e.turns.even in
-    let first : first_debt moved.gears seat ≤ first_debt old.gears seat = less.first in
-    let second : second_debt moved.gears seat ≤ second_debt old.gears seat = less.second in
-    omega (arith, even, first, second)
+turn_owes seat mv made faults old moved ended b before after e = grind (arith, common_steps, nat_tests, ended_owes)
 
 -- ---- a worker's turn counts
 
@@ -192,14 +147,7 @@ no_caller : (seat : ℕ) → callers ≤ seat → is_caller seat ≡ false
 no_caller seat above = grind (arith, common_steps, nat_tests)
 
 pub helps_once : (seat : ℕ) (old between b : BookState) → callers ≤ seat → seat < seats → length old.seats.turns ≡ seats - callers → between.seats.turns ≡ old.seats.turns → b ≡ helped_in seat between → HelpsOnce seat old b
-helps_once seat old between b above below places same is =
-    let none = no_caller seat above in
-    let of : (x : BookState) → turns_in seat x ≡ slice_index x.seats.turns (seat - callers) = λ x. ap (λ (c : Bool). cond c (work_in seat x).turns (slice_index x.seats.turns (seat - callers))) none in
-    let more = turn_more (slice_index between.seats.turns (seat - callers)) in
-    let there : seat - callers < length between.seats.turns = omega (arith, above, below, places, ap (λ (l : List ℕ). length l) same) in
-    of b ∙ (ap (λ (x : BookState). slice_index x.seats.turns (seat - callers)) is
-    ∙ (get_or-set_same between.seats.turns (seat - callers) more 0 there
-    ∙ (ap (λ (l : List ℕ). turn_more (slice_index l (seat - callers))) same ∙ ap (λ (n : ℕ). turn_more n) (sym (of old)))))
+helps_once seat old between b above below places same is = grind (arith, common_steps, nat_tests)
 
 pub turn_helps : (seat : ℕ) (mv : Move) (made : Result ℕ Broken) (faults : ℕ) (old moved : Held) (ended : Turned) (b : BookState) (before after : DiskState) → callers ≤ seat → seat < seats
     → length old.book.seats.turns ≡ seats - callers → Ends true seat mv made faults old moved ended b before after → HelpsOnce seat old.book b

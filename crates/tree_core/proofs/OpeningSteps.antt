@@ -1,11 +1,13 @@
 -- The core of a store that was opened and settled.
 use Rattle.std.specs.Prelude.{◌≡◌, ◌+◌, List, [], None, Option, is_some, replicate}
+use Rattle.std.proofs.lemmas.Grind.{common_steps}
+use Rattle.std.proofs.lemmas.Bool.Decides.{nat_tests}
+use Rattle.std.proofs.Common.{arith}
 use Rattle.std.proofs.Common.{◌∙◌, refl, ap, sym, subst}
 use Rattle.std.proofs.lemmas.Bool.{false≢true}
 use Rattle.blsm_model.specs.Book.{Book}
 use Rattle.blsm_model.specs.Components.{empty_component}
 use Rattle.blsm_model.specs.Format.{callers}
-use Rattle.blsm_model.specs.declared.component.Component.{Component}
 use Rattle.deep_merge.specs.Merge.{DeepState}
 use Rattle.disk_trait.specs.Disk.{DiskState}
 use Rattle.disk_trait.specs.Moments.{IsTimed}
@@ -13,7 +15,6 @@ use Rattle.gear_sched.specs.Gears.{GearState, at_rest}
 use Rattle.page_file.specs.Component.{entries_of}
 use Rattle.pacing.specs.Pace.{Pace, opened as pace_opened}
 use Rattle.pacing.specs.Fronts.{no_fronts}
-use Rattle.record_delta.specs.Entries.{AreSorted}
 use Rattle.scan_view.specs.Hold.{HoldState}
 use Rattle.seat_book.specs.State.{BookState, opened_in}
 use Rattle.tree_file.specs.Tree.{Tree, map_of_tree}
@@ -53,32 +54,10 @@ module _ {D : Type 0} (state : D → DiskState) (disk : D) (runs : RunsState) (l
   empty_c1x = subst (λ (deep : Option DeepState). RestsEmpty deep runs.catalogue.c1x) settled.deep settled.running.in_order.rests
 
   is_opened : IsOpened annals d.faults held
-  is_opened = record {
-    pass = settled.pass;
-    deep = settled.deep;
-    c1x = ap (λ (c : Component). c.weight) empty_c1x;
-    a = settled.a;
-    b = settled.b;
-    end_a = settled.end_a;
-    end_b = settled.end_b;
-    gears = at;
-    spring = refl;
-    book = fresh;
-    entries = settled.entries;
-    quanta = settled.quanta;
-  }
+  is_opened = grind (arith, common_steps, nat_tests)
 
   one : IsOne held
-  one = record {
-    gears = ap (λ (s : GearState). s.sizes) at;
-    lanes = settled.lanes;
-    roles = settled.lane_roles;
-    apart = settled.roles;
-    reserved_a = settled.reserved_a;
-    reserved_b = settled.reserved_b;
-    sorted_a = subst AreSorted (sym settled.a) refl;
-    sorted_b = subst AreSorted (sym settled.b) refl;
-  }
+  one = grind (arith, common_steps, nat_tests)
 
   paced : Rattle.core_pace.specs.Pacing.IsPacedHeld held pace
   paced = opening_is_paced annals d.faults held is_opened settled.components one settled.room settled.version

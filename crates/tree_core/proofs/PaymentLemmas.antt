@@ -1,5 +1,5 @@
 -- A payment: what was planned, what its quantum requires, and the numbers that it leaves.
-use Rattle.std.proofs.Common.{◌≡◌, ◌∙◌, ⊎_elim, ℕ, ◌+◌, ◌-◌, ◌^◌, ◌<◌, ◌≤◌, List, None, refl, ap, sym, subst, arith}
+use Rattle.std.proofs.Common.{◌≡◌, ◌∙◌, ℕ, ◌+◌, ◌-◌, ◌^◌, ◌<◌, ◌≤◌, List, None, refl, ap, sym, subst, arith}
 use Rattle.std.proofs.lemmas.Grind.{common_steps}
 use Rattle.std.proofs.lemmas.Bool.Decides.{nat_tests}
 use Rattle.std.specs.Prelude.{⊤, length, slice_index, slice_set, sum}
@@ -23,7 +23,7 @@ use Rattle.tree_machine.specs.Steps.{Answer, Paid, Settled}
 use Rattle.seat_book.specs.Places.{HasWrite}
 use Rattle.seat_book.specs.State.{BookState, paid_in, stopped_in, quantum_counted_in}
 use Rattle.seat_book.specs.Seats.{KeepsSeats}
-use Rattle.seat_book.proofs.KeepLemmas.{keeps_itself, keeps_both, quantum_keeps, payment_keeps, stop_keeps}
+use Rattle.seat_book.proofs.KeepLemmas.{keeps_both, quantum_keeps, payment_keeps, stop_keeps}
 use Rattle.core_moves.specs.declared.held.Held.{Held}
 use Rattle.core_moves.specs.Held.{is_pass_over, is_deep_over}
 use Rattle.core_moves.specs.Needs.{IsOn, IsReady}
@@ -38,7 +38,7 @@ use Rattle.core_pace.proofs.PayLemmas.{each_plan_runs, payers_wrote, payment_is_
 use Rattle.tree_core.specs.Core.{HoldsPace, facts_of_held}
 use Rattle.tree_core.specs.Quanta.{MayTake}
 use Rattle.tree_core.specs.Steps.{MovesPace}
-use Rattle.tree_core.proofs.QuantumLemmas.{holds_running, holds_stopped, on_rebooked, told_after_failure, LeavesDebts, debts_both, debts_forgiven, debts_first, debts_second, follows_by}
+use Rattle.tree_core.proofs.QuantumLemmas.{holds_running, holds_stopped, on_rebooked, told_after_failure, LeavesDebts, debts_both, debts_forgiven, follows_by}
 
 -- A caller's payment in a store that runs: what may be forgiven is, and something is owed still.
 pub record Plans (seat : ℕ) (plan : Plan) (old forgiven : Held) : Type 0 where
@@ -50,13 +50,7 @@ pub record Plans (seat : ℕ) (plan : Plan) (old forgiven : Held) : Type 0 where
 
 pub plans_by : (seat : ℕ) (plan : Plan) (old forgiven : Held) → seat < callers → None ≡ old.book.stopped → forgiven ≡ with_debts_forgiven seat old → plan ≡ plan_for (first_debt forgiven.gears seat) (second_debt forgiven.gears seat)
     → (plan ≡ Nothing → ⊥) → Plans seat plan old forgiven
-plans_by seat plan old forgiven caller ran is plan_is owes = record {
-  caller = caller;
-  ran = sym ran;
-  is = is;
-  plan_is = plan_is ∙ ap (λ (h : Held). plan_for (first_debt h.gears seat) (second_debt h.gears seat)) is;
-  owes = owes;
-}
+plans_by seat plan old forgiven caller ran is plan_is owes = grind (arith, common_steps, nat_tests)
 
 pub nothing_planned : (seat : ℕ) (plan : Plan) (old forgiven : Held) → forgiven ≡ with_debts_forgiven seat old → plan ≡ plan_for (first_debt forgiven.gears seat) (second_debt forgiven.gears seat) → plan ≡ Nothing → plan_in seat old ≡ Nothing
 nothing_planned seat plan old forgiven is plan_is none = sym (ap (λ (h : Held). plan_for (first_debt h.gears seat) (second_debt h.gears seat)) is) ∙ sym plan_is ∙ none
@@ -83,9 +77,7 @@ taken_book : (plan : Plan) (seat n : ℕ) (old taken : Held) → TakesByPlan pla
 taken_book plan seat n old taken h1 = grind (arith, common_steps, nat_tests)
 
 taken_debts : (plan : Plan) (seat n : ℕ) (old taken : Held) → TakesByPlan plan seat n old taken → LeavesDebts seat old.gears taken.gears
-taken_debts Snow seat n old taken takes = subst (λ (g : GearState). LeavesDebts seat old.gears g) (sym takes.gears) (debts_first seat n old.gears)
-taken_debts Deep seat n old taken takes = subst (λ (g : GearState). LeavesDebts seat old.gears g) (sym takes.gears) (debts_second seat n old.gears)
-taken_debts Nothing seat n old taken takes = absurd takes
+taken_debts plan seat n old taken h1 = grind (arith, common_steps, nat_tests)
 
 -- The quantum was taken, and its book is the old one with a quantum more.
 pub record Took (seat n : ℕ) (plan : Plan) (old forgiven taken : Held) : Type 0 where
@@ -93,9 +85,7 @@ pub record Took (seat n : ℕ) (plan : Plan) (old forgiven taken : Held) : Type 
   pub takes : TakesByPlan plan seat n forgiven taken
 
 pub takes_in : (seat n : ℕ) (plan : Plan) (old forgiven taken : Held) → Took seat n plan old forgiven taken → TakesByPlan (plan_in seat old) seat n (with_debts_forgiven seat old) taken
-takes_in seat n plan old forgiven taken took =
-    subst (λ (p : Plan). TakesByPlan p seat n (with_debts_forgiven seat old) taken) took.plans.plan_is
-    (subst (λ (h : Held). TakesByPlan plan seat n h taken) took.plans.is took.takes)
+takes_in seat n plan old forgiven taken took = grind (arith, common_steps, nat_tests)
 
 pub book_taken : (seat n : ℕ) (plan : Plan) (old forgiven taken : Held) → Took seat n plan old forgiven taken → taken.book ≡ quantum_counted_in seat old.book
 book_taken seat n plan old forgiven taken took = taken_book (plan_in seat old) seat n (with_debts_forgiven seat old) taken (takes_in seat n plan old forgiven taken took)
@@ -197,9 +187,7 @@ settling_moves seat old forgiven pace d caller ran holds is =
     (record { next = with_forgiven pace seat; made = refl; holds = holds_running (with_debts_forgiven seat old) (with_forgiven pace seat) d (settling_is_paced seat old pace caller live.paced) on })
 
 pub settling_follows : (seat : ℕ) (old forgiven : Held) → forgiven ≡ with_debts_forgiven seat old → Follows seat (facts_of_held old) (facts_of_held forgiven)
-settling_follows seat old forgiven is =
-    subst (λ (h : Held). Follows seat (facts_of_held old) (facts_of_held h)) (sym is)
-    (follows_by seat 0 0 old (with_debts_forgiven seat old) (omega arith) (omega arith) (keeps_itself seat old.book) (debts_forgiven seat old.gears (is_pass_over old) (is_deep_over old)))
+settling_follows seat old forgiven is = grind (arith, common_steps, nat_tests)
 
 -- ---- its quantum failed
 

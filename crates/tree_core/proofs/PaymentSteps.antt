@@ -1,10 +1,9 @@
 -- On an honest disk a payment is the machine's own step.
-use Rattle.std.proofs.Common.{◌≡◌, ◌∙◌, ℕ, zero, suc, ◌+◌, true, not, ◌&&◌, List, Some, None, Option, Ok, Err, refl, ap, sym, subst, arith}
+use Rattle.std.proofs.Common.{◌≡◌, ◌∙◌, ℕ, ◌+◌, true, not, ◌&&◌, List, Some, None, Option, Ok, Err, refl, ap, sym, subst, arith}
 use Rattle.std.proofs.lemmas.Grind.{common_steps}
 use Rattle.std.proofs.lemmas.Bool.Decides.{nat_tests}
 use Rattle.std.specs.Prelude.{IsTrue, is_some, nat_lt}
 use Rattle.std.specs.declared.result.Result.{Result}
-use Rattle.std.proofs.lemmas.Bool.{lt-ltb}
 use Rattle.blsm_model.specs.declared.key.Key.{Key}
 use Rattle.blsm_model.specs.declared.row.Value.{Value}
 use Rattle.blsm_model.specs.declared.history.Why.{Why}
@@ -13,7 +12,7 @@ use Rattle.disk_trait.specs.Disk.{DiskState}
 use Rattle.disk_trait.specs.Moments.{IsTimed, leaves_only_start}
 use Rattle.gear_sched.specs.Gears.{GearState, first_debt, second_debt, plan_for}
 use Rattle.gear_sched.specs.declared.Plan.{Plan}
-use Rattle.gear_sched.specs.declared.Plan.TheVariants.{Snow, Deep, Nothing}
+use Rattle.gear_sched.specs.declared.Plan.TheVariants.{Nothing}
 use Rattle.page_file.specs.declared.file.Broken.{Broken}
 use Rattle.page_file.specs.declared.file.Broken.TheVariants.{Damaged}
 use Rattle.pacing.specs.Pace.{Pace, with_forgiven}
@@ -48,7 +47,7 @@ use Rattle.tree_core.specs.Steps.{IsStep}
 use Rattle.tree_core.proofs.QuantumLemmas.{charge_kept}
 use Rattle.tree_core.proofs.QuantumSteps.{RunsAt, stands_running, running_at, steady_at, shows_at, leaves_same, step_by}
 use Rattle.tree_core.proofs.VersionLemmas.{one_commits, version_of}
-use Rattle.tree_core.proofs.PaymentLemmas.{Took, FailedToTake, book_taken, book_stopped, kept_of, takes_in, payment_runs}
+use Rattle.tree_core.proofs.PaymentLemmas.{Took, FailedToTake, book_stopped, kept_of, takes_in, payment_runs}
 
 -- ---- a store that is stopped
 

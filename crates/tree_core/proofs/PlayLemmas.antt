@@ -1,36 +1,29 @@
 -- Lists of steps: each step is the machine's, or is passed over.
-use Rattle.std.specs.Prelude.{◌≡◌, ◌↔◌, IsTrue, ℕ, ◌+◌, ◌<◌, ◌≤◌, Bool, true, false, not, ◌&&◌, ◌||◌, nat_le, nat_lt, List, [], ◌∷◌, ◌++◌, Option, None, Some, is_some, length, map}
+use Rattle.std.specs.Prelude.{◌≡◌, ◌↔◌, IsTrue, ℕ, ◌+◌, ◌≤◌, Bool, true, false, ◌&&◌, List, [], ◌∷◌, ◌++◌, None, length, map}
 use Rattle.std.proofs.lemmas.Grind.{common_steps}
 use Rattle.std.proofs.lemmas.Bool.Decides.{nat_tests}
-use Rattle.std.proofs.Common.{◌∙◌, ⊎_elim, cond, inl, inr, length-append, refl, ap, sym, subst, arith}
+use Rattle.std.proofs.Common.{◌∙◌, ⊎_elim, cond, length-append, refl, ap, sym, subst, arith}
 use Rattle.std.proofs.lemmas.List.{map-append}
 use Rattle.std.proofs.lemmas.List.Sums.{fold-append}
-use Rattle.std.proofs.lemmas.Bool.{cases_lt, false≢true, le-leb, leb-true, lt-ltb}
 use mathlib.Core.List.{IsPrefix}
-use Rattle.std.specs.Cmp.Derive.{both_true}
-use Rattle.blsm_model.specs.Format.{most_rows, most_tail}
-use Rattle.blsm_model.specs.Legal.{TailsFit, is_write}
+use Rattle.blsm_model.specs.Legal.{TailsFit}
 use Rattle.blsm_model.specs.declared.op.Op.{Op}
-use Rattle.blsm_model.specs.declared.op.Op.TheVariants as ops
-use Rattle.blsm_model.specs.declared.op.Op.TheVariants.{Tail}
 use Rattle.blsm_model.specs.declared.key.Key.{Key}
 use Rattle.blsm_model.specs.declared.row.Value.{Value}
 use Rattle.blsm_model.specs.declared.history.Entry.{Entry}
-use Rattle.blsm_model.specs.declared.history.Why.{Why}
 use Rattle.blsm_model.specs.Sizes.{Sizes}
 use Rattle.disk_trait.specs.Disk.{DiskState, GoesOn}
 use Rattle.disk_trait.specs.Moments.{IsTimed, LeavesOnly, goes_on_start, leaves_only_run, leaves_only_weaken}
-use Rattle.gear_sched.specs.Gears.{GearState, first_debt, second_debt}
+use Rattle.gear_sched.specs.Gears.{first_debt, second_debt}
 use Rattle.pacing.specs.Pace.{Pace}
-use Rattle.seat_book.specs.State.{BookState, book_of, may_note_in, may_turn_in, may_end_in}
+use Rattle.seat_book.specs.State.{BookState, book_of, may_note_in}
 use Rattle.seat_book.proofs.WordLemmas.{reads_book}
 use Rattle.tree_machine.specs.declared.step.Kind.{Kind}
-use Rattle.tree_machine.specs.declared.step.Kind.TheVariants as kind
 use Rattle.tree_machine.specs.declared.step.Step.{Step}
 use Rattle.tree_machine.specs.Machine.{Machine}
-use Rattle.tree_machine.specs.Outcomes.{AreTold, IsPossible, NoneBroken, Rose, last_count}
+use Rattle.tree_machine.specs.Outcomes.{AreTold, IsPossible, NoneBroken, Rose}
 use Rattle.tree_machine.specs.Plays.{is_even, may, may_note, played, played_one, stepped_as}
-use Rattle.tree_machine.specs.Steps.{Outcome, Answer, Well, FailedAfter, Broken, NoRoom}
+use Rattle.tree_machine.specs.Steps.{Outcome, Answer, Well}
 use Rattle.tree_machine.proofs.FrameLemmas.{step_fixed, step_follows}
 use Rattle.paced_tree.specs.After.{pace_after}
 use Rattle.core_moves.specs.declared.held.Held.{Held}
@@ -68,17 +61,7 @@ same_truth a b h1 h2 = grind (arith, common_steps, nat_tests)
 
 -- what is tested is what is asked for
 pub tails_fit : (op : Op) → is_fit op ≡ true → TailsFit op
-tails_fit (Tail key tail) is =
-    let two = both_are (nat_le 1 (length tail)) (nat_le (length tail) most_tail) is in
-    ((leb-true 1 (length tail) two.0, leb-true (length tail) most_tail two.1), tt)
-tails_fit (ops.Put key value) is = (tt, tt)
-tails_fit (ops.Add key count) is = (tt, tt)
-tails_fit (ops.Del key) is = (tt, tt)
-tails_fit (ops.Get key) is = tt
-tails_fit (ops.Hold low high) is = tt
-tails_fit (ops.Next n) is = tt
-tails_fit ops.Release is = tt
-tails_fit (ops.Work n) is = tt
+tails_fit op h1 = grind (arith, common_steps, nat_tests)
 
 are_fit : (op : Op) → TailsFit op → is_fit op ≡ true
 are_fit op h1 = grind (arith, common_steps, nat_tests)
@@ -133,10 +116,7 @@ made_is_played state opening step answer old new m pace can grows is =
 pub played_by : {D : Type 0} (state : D → DiskState) (opening : List (Key × Value)) (step : Step) (k : Kind) (answer : Answer) (old new : CoreState D) (m : Machine) (pace : Pace) → step.kind ≡ k
     → may_in old.held step.seat step.kind ≡ true → GoesOn (state old.disk) (state new.disk) → StandsWhole state opening old m pace
     → (may m step.seat k ≡ true → IsWholeStep state opening step.seat k answer old new m pace) → IsPlayed state opening (step ∷ []) old new m pace
-played_by state opening step k answer old new m pace is can goes whole by =
-    let may_k : may m step.seat k ≡ true = may_agrees step.seat k old.held m whole.stands.book whole.stands.gears ∙ ap (λ (x : Kind). may_in old.held step.seat x) (sym is) ∙ can in
-    made_is_played state opening step answer old new m pace (ap (λ (x : Kind). may m step.seat x) is ∙ may_k) goes.faults
-    (subst (λ (x : Kind). IsWholeStep state opening step.seat x answer old new m pace) (sym is) (by may_k))
+played_by state opening step k answer old new m pace is can goes whole by = grind (arith, common_steps, nat_tests, may_agrees, made_is_played)
 
 -- one that is passed over
 pub passed_is_played : {D : Type 0} (state : D → DiskState) (opening : List (Key × Value)) (step : Step) (core : CoreState D) (m : Machine) (pace : Pace) → IsTimed (state core.disk)
@@ -164,14 +144,10 @@ goes_still {D} state {old} {new} same = subst (λ (d : D). GoesOn (state old) (s
 
 -- a count that rose from here rose from before, too
 rose_before : (old mid new : ℕ) → old ≤ mid → Rose mid new → Rose old new
-rose_before old mid new le rose = ⊎_elim (λ (below : mid < new). inl (omega (arith, le, below)))
-    (λ (last : (mid ≡ last_count) × (new ≡ last_count)). ⊎_elim (λ (below : old < last_count). inl (omega (arith, below, last.1))) (λ (at : last_count ≤ old). inr (omega (arith, at, le, last.0), last.1)) (cases_lt old last_count)) rose
+rose_before old mid new le rose = grind (arith, common_steps, nat_tests)
 
 sooner : (m : Machine) (seat : ℕ) (k : Kind) (outcome : Outcome) (old mid new : ℕ) → old ≤ mid → IsPossible m seat k outcome mid new → IsPossible m seat k outcome old new
-sooner m seat k Well old mid new le is = tt
-sooner m seat k (FailedAfter commits faults) old mid new le is = (is.0, is.1, rose_before old mid new le is.2, is.3)
-sooner m seat k (Broken page) old mid new le is = is
-sooner m seat k NoRoom old mid new le is = is
+sooner m seat k outcome old mid new h1 h2 = grind (arith, common_steps, nat_tests)
 
 pub prefix_length : (a b : List Entry) → IsPrefix a b → length a ≤ length b
 prefix_length a b begins = omega (arith, ap (λ (es : List Entry). length es) begins.1, length-append a begins.0)

@@ -1,5 +1,5 @@
 -- What a payment and a turn leave, of the numbers, of the other seats, and of what is told.
-use Rattle.std.proofs.Common.{◌≡◌, ◌≢◌, ◌∙◌, ℕ, ◌≤◌, Bool, Some, ap, sym, arith}
+use Rattle.std.proofs.Common.{◌≡◌, ◌≢◌, ℕ, ◌≤◌, Bool, Some, arith}
 use Rattle.std.proofs.lemmas.Grind.{common_steps}
 use Rattle.std.proofs.lemmas.Bool.Decides.{nat_tests}
 use Rattle.std.specs.Prelude.{⊤}
@@ -9,7 +9,6 @@ use Rattle.blsm_model.specs.declared.history.Why.{Why}
 use Rattle.disk_trait.specs.Disk.{DiskState}
 use Rattle.gear_sched.specs.Gears.{GearState, first_debt, second_debt, forgiven, took_first, took_second}
 use Rattle.pacing.specs.Pace.{Pace, charge}
-use Rattle.tree_machine.specs.Machine.{Counts}
 use Rattle.seat_book.specs.State.{BookState}
 use Rattle.seat_book.specs.Seats.{KeepsSeats}
 use Rattle.seat_book.proofs.KeepLemmas.{keeps_less, holds_follow}
@@ -26,13 +25,7 @@ same_charge : (held : Held) (pace : Pace) → HasPace held pace → charge pace 
 same_charge held pace p = cc (p.c1, p.c1x, p.c2, p.gears, p.a, p.b)
 
 pub told_by : (held : Held) (pace : Pace) → HasPace held pace → IsOne held → IsRunBook held.book pace → IsTold held pace
-told_by held pace has one told = record {
-  told = told;
-  peak = has.peak;
-  opening = has.opening;
-  charge_is = same_charge held pace has;
-  sizes = ap (λ (g : GearState). g.sizes) has.gears ∙ one.gears;
-}
+told_by held pace has one told = grind (arith, common_steps, nat_tests)
 
 -- a store that runs on
 pub holds_running : (held : Held) (pace : Pace) (d : DiskState) → IsPacedHeld held pace → IsOn held d → HoldsPace held pace d
@@ -51,27 +44,10 @@ charge_kept old failed kept = grind (arith, common_steps, nat_tests)
 
 -- What failed has the charge, the counts and the geometry that it had; its book is told otherwise.
 pub told_after_failure : (old failed : Held) (b : BookState) (pace : Pace) → KeepsAllButMerges ⊤ old failed → HasPace old pace → IsOne old → b.counts ≡ old.book.counts → IsRunBook b pace → IsTold (with_book b failed) pace
-told_after_failure old failed b pace kept has one counts told =
-    record {
-      told = told;
-      peak = has.peak ∙ sym (ap (λ (n : Counts). n.peak) counts);
-      opening = has.opening ∙ sym (ap (λ (n : Counts). n.charge) counts);
-      charge_is = same_charge old pace has ∙ sym (charge_kept old failed kept);
-      sizes = ap (λ (g : GearState). g.sizes) has.gears ∙ one.gears ∙ sym (kept.sizes tt);
-    }
+told_after_failure old failed b pace kept has one counts told = grind (arith, common_steps, nat_tests)
 
 pub kept_once : {failed : Type 0} (old new : Held) → failed → KeepsAllButMerges failed old new → KeepsAllButMerges ⊤ old new
-kept_once old new is kept = record {
-  sizes = λ any. kept.sizes is;
-  catalogue = λ any. kept.catalogue is;
-  pass = λ any. kept.pass is;
-  deep = λ any. kept.deep is;
-  log = λ any. kept.log is;
-  gears = λ any. kept.gears is;
-  spring = λ any. kept.spring is;
-  book = λ any. kept.book is;
-  pins = λ any. kept.pins is;
-}
+kept_once old new is kept = grind (arith, common_steps, nat_tests)
 
 -- ---- the other seats
 
@@ -84,19 +60,13 @@ pub debts_stay : (seat : ℕ) (gears : GearState) → LeavesDebts seat gears gea
 debts_stay seat gears = record { first = λ other apart. omega arith; second = λ other apart. omega arith }
 
 pub debts_both : (seat : ℕ) (old mid new : GearState) → LeavesDebts seat old mid → LeavesDebts seat mid new → LeavesDebts seat old new
-debts_both seat old mid new one two = record {
-  first = λ other apart. omega (arith, one.first other apart, two.first other apart);
-  second = λ other apart. omega (arith, one.second other apart, two.second other apart);
-}
+debts_both seat old mid new one two = grind (arith, common_steps, nat_tests)
 
 of_equal : {x y : ℕ} → x ≡ y → x ≤ y
 of_equal same = omega arith
 
 pub debts_forgiven : (seat : ℕ) (gears : GearState) (pass deep : Bool) → LeavesDebts seat gears (forgiven gears seat pass deep)
-debts_forgiven seat gears pass deep = record {
-  first = λ other apart. of_equal (get_or-set_other gears.first_debts seat other _ 0 apart);
-  second = λ other apart. of_equal (get_or-set_other gears.second_debts seat other _ 0 apart);
-}
+debts_forgiven seat gears pass deep = grind (arith, common_steps, nat_tests)
 
 pub debts_first : (seat n : ℕ) (gears : GearState) → LeavesDebts seat gears (took_first gears seat n)
 debts_first seat n gears = record { first = λ other apart. of_equal (get_or-set_other gears.first_debts seat other _ 0 apart); second = λ other apart. omega arith }

@@ -1,5 +1,8 @@
 -- On an honest disk: what a step of the core leaves of its lists, by what its moves left.
 use Rattle.std.proofs.Common.{◌≡◌, ◌∙◌, ℕ, false, List, length, None, ap, sym, subst}
+use Rattle.std.proofs.lemmas.Grind.{common_steps}
+use Rattle.std.proofs.lemmas.Bool.Decides.{nat_tests}
+use Rattle.std.proofs.Common.{arith}
 use Rattle.std.specs.Prelude.{IsSome, is_some}
 use Rattle.std.proofs.lemmas.Bool.{false≢true}
 use Rattle.blsm_model.specs.declared.key.Key.{Key}
@@ -99,11 +102,4 @@ pub step_by : (opening : List (Key × Value)) (seat : ℕ) (kind : Kind) (answer
     → stepped_as m seat kind outcome ≡ s → pace_after m pace seat kind outcome ≡ p → IsPossible m seat kind outcome before.faults after.faults → is_broken outcome ≡ false
     → StandsFor opening new s.state p after → answer ≡ s.answer → LeavesOnly before after (ShowsHistory m.gears.sizes opening s.state.book.entries (length m.book.entries))
     → IsStep opening seat kind answer new before after m pace
-step_by opening seat kind answer new before after m pace outcome s p same same_pace possible whole stands answers images = record {
-  outcome = outcome;
-  possible = possible;
-  whole = whole;
-  stands = subst (λ (x : Stepped). StandsFor opening new x.state (pace_after m pace seat kind outcome) after) (sym same) (subst (λ (q : Pace). StandsFor opening new s.state q after) (sym same_pace) stands);
-  answers = answers ∙ sym (ap (λ (x : Stepped). x.answer) same);
-  images = subst (λ (x : Stepped). LeavesOnly before after (ShowsHistory m.gears.sizes opening x.state.book.entries (length m.book.entries))) (sym same) images;
-}
+step_by opening seat kind answer new before after m pace outcome s p same same_pace possible whole stands answers images = grind (arith, common_steps, nat_tests)

@@ -1,5 +1,5 @@
 -- Steps that change the book alone: a lookup, the end of a work, a leave, and whatever is asked of a tree that has stopped.
-use Rattle.std.specs.Prelude.{◌≡◌, ◌⊎◌, ℕ, ◌+◌, ◌≤◌, Bool, false, true, List, [], ◌∷◌, ◌++◌, Option, Some, None, IsSome, IsTrue, length}
+use Rattle.std.specs.Prelude.{◌≡◌, ◌⊎◌, ℕ, ◌+◌, ◌≤◌, Bool, false, true, List, [], ◌∷◌, ◌++◌, Option, None, IsSome, IsTrue, length}
 use Rattle.std.proofs.lemmas.Grind.{common_steps}
 use Rattle.std.proofs.lemmas.Bool.Decides.{nat_tests}
 use Rattle.std.proofs.Common.{◌∙◌, ⊎_elim, inl, inr, refl, ap, sym, subst, arith}
@@ -12,12 +12,11 @@ use Rattle.blsm_model.specs.Sizes.{Sizes}
 use Rattle.blsm_model.specs.Images.{counted_with}
 use Rattle.disk_trait.specs.Disk.{DiskState}
 use Rattle.disk_trait.specs.Reads.{OnlyReads, only_reads_each}
-use Rattle.disk_trait.specs.Region.{outside, same_file}
 use Rattle.disk_trait.specs.Moments.{IsTimed, LeavesOnly, leaves_only_start, leaves_only_weaken}
 use Rattle.gear_sched.specs.Gears.{GearState}
 use Rattle.pacing.specs.Pace.{Pace}
 use Rattle.tree_machine.specs.Lists.{Lists}
-use Rattle.tree_machine.specs.Machine.{Machine, Counts, Merges, charge}
+use Rattle.tree_machine.specs.Machine.{Machine, charge}
 use Rattle.tree_machine.specs.Outcomes.{IsPossible, is_broken}
 use Rattle.tree_machine.specs.Plays.{may, stepped_as}
 use Rattle.tree_machine.specs.Stands.{WritesFit}
@@ -27,14 +26,13 @@ use Rattle.seat_book.specs.State.{BookState, book_of}
 use Rattle.tree_file.specs.Tree.{Tree, HoldsTree}
 use Rattle.tree_file.proofs.StandLemmas.{stands_read}
 use Rattle.tree_runs.specs.Holding.{AreOf, StandOver}
-use Rattle.tree_runs.specs.Laws.{RunsStay, IsBesideRuns, used_region}
-use Rattle.tree_runs.specs.Runs.{AreRunning}
+use Rattle.tree_runs.specs.Laws.{RunsStay}
 use Rattle.core_moves.specs.declared.held.Held.{Held}
 use Rattle.core_moves.specs.Moves.{with_book}
 use Rattle.core_moves.specs.Needs.{IsOn}
 use Rattle.core_pace.specs.Pacing.{IsRunBook}
 use Rattle.core_pace.proofs.TurnLemmas.{book_is_paced}
-use Rattle.core_lists.specs.Standing.{HoldsMachine, IsPassAt, IsDeepAt}
+use Rattle.core_lists.specs.Standing.{HoldsMachine}
 use Rattle.core_lists.specs.Shown.{CountsAs, ShowsHistory, ShowsWhole, doubted}
 use Rattle.core_lists.proofs.FileWeights.{doubt_grows, weighs_as}
 use Rattle.core_lists.proofs.ShowingLemmas.{prefix_self, standing_shows, showing_is_kept, quiet_entry_shows}
@@ -49,13 +47,7 @@ use Rattle.tree_core.proofs.VersionLemmas.{commits_still, one_commits, version_o
 -- ---- by numbers
 
 pub rebooked_told : (held : Held) (b : BookState) (pace : Pace) → IsTold held pace → b.counts ≡ held.book.counts → IsRunBook b pace → IsTold (with_book b held) pace
-rebooked_told held b pace t counts told = record {
-  told = told;
-  peak = t.peak ∙ ap (λ (c : Counts). c.peak) (sym counts);
-  opening = t.opening ∙ ap (λ (c : Counts). c.charge) (sym counts);
-  charge_is = t.charge_is;
-  sizes = t.sizes;
-}
+rebooked_told held b pace t counts told = grind (arith, common_steps, nat_tests)
 
 -- a disk that is only read, or isn't called
 pub read_holds : (held : Held) (b : BookState) (pace : Pace) (d d2 : DiskState) → HoldsPace held pace d → b.counts ≡ held.book.counts → b.stopped ≡ held.book.stopped → IsRunBook b pace
@@ -69,12 +61,7 @@ read_holds held b pace d d2 holds counts stopped told on = record {
 }
 
 pub reads_on : {end most : ℕ} {d d2 : DiskState} (held : Held) → RunsStay → OnlyReads end most d d2 → IsOn held d → IsOn held d2
-reads_on {end} {most} {d} {d2} held stay reads on = record {
-  running = subst (λ (h : Bool). AreRunning h d2.bytes held.runs) (sym reads.effect.goes_on.is_honest)
-      (stay held.runs d.is_honest d.bytes d2.bytes
-      (λ honest. subst (λ (file : List ℕ). IsBesideRuns held.runs d.bytes file) (sym (reads.same.same.bytes honest)) (same_file (outside (used_region held.runs.sizes held.runs.space)) d.bytes)) on.running);
-  long = λ tells. let told = subst IsTrue reads.effect.goes_on.tells_bytes tells in reads.same.same.length told ∙ on.long told;
-}
+reads_on {end} {most} {d} {d2} held stay reads on = grind (arith, common_steps, nat_tests)
 
 -- ---- by lists
 
@@ -106,16 +93,7 @@ pub same_charge : (m after : Machine) → SameTree m after → charge after ≡ 
 same_charge m after same = cc (same.lists, same.gears, same.merges)
 
 pub same_machine : (held : Held) (b : BookState) (tree : Tree) (m after : Machine) → HoldsMachine held tree m → SameTree m after → book_of after ≡ b → HoldsMachine (with_book b held) tree after
-same_machine held b tree m after holds same book = record {
-  lists = same.lists ∙ holds.lists;
-  of_log = holds.of_log;
-  pass = subst (λ (x : Merges). IsPassAt x.pass held.runs.pass) (sym same.merges) holds.pass;
-  deep = subst (λ (x : Merges). IsDeepAt x.deep held.runs.deep) (sym same.merges) holds.deep;
-  gears = same.gears ∙ holds.gears;
-  spring = same.spring ∙ holds.spring;
-  catalogue = same.catalogue ∙ holds.catalogue;
-  book = book;
-}
+same_machine held b tree m after holds same book = grind (arith, common_steps, nat_tests)
 
 -- Where the book alone changes, on a disk that still stands, the core stands for the machine's state with that book.
 pub quiet_stands : (opening : List (Key × Value)) (held : Held) (b : BookState) (m after : Machine) (pace : Pace) (d d2 : DiskState) → StandsFor opening held m pace d → SameTree m after → book_of after ≡ b
@@ -176,11 +154,7 @@ shows_same opening m after d shown gears catalogue counts noted = record {
 }
   where
     same : (file : List ℕ) → ShowsWhole opening m file → ShowsWhole opening after file
-    same file shows = (
-      subst (λ (g : GearState). ShowsHistory g.sizes opening after.book.entries (length after.book.entries) file) (sym gears)
-          (subst (λ (es : List Entry). ShowsHistory m.gears.sizes opening es (length es) file) (sym noted) shows.0),
-      weighs_as m after m.book.entries after.book.entries file (ap (λ (g : GearState). g.sizes) gears) counts (subst (λ (es : List Entry). doubted m.book.entries ≤ doubted es) (sym noted) (omega arith)) shows.1,
-    )
+    same file shows = grind (arith, common_steps, nat_tests)
 
 -- What showed the history before a step shows the longer one after it, with all entries from before.
 pub leaves_longer : (opening : List (Key × Value)) (m : Machine) (longer : List Entry) (before after : DiskState) → IsPrefix m.book.entries longer → LeavesOnly before after (ShowsWhole opening m)

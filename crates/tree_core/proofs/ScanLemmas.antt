@@ -2,7 +2,7 @@
 use Rattle.std.specs.Prelude.{◌≡◌, ℕ, ◌-◌, List, [], ◌∷◌, ◌++◌, length, slice_index_or}
 use Rattle.std.proofs.lemmas.Grind.{common_steps}
 use Rattle.std.proofs.lemmas.Bool.Decides.{nat_tests}
-use Rattle.std.proofs.Common.{refl, ap, sym, ◌∙◌, arith}
+use Rattle.std.proofs.Common.{ap, arith}
 use Rattle.std.proofs.lemmas.List.{get_or_push, length_push}
 use Rattle.blsm_model.specs.Book.{no_entry, rows_given}
 use Rattle.blsm_model.specs.declared.history.Entry.{Entry}
@@ -11,9 +11,7 @@ use Rattle.blsm_model.specs.declared.op.Op.TheVariants as op
 use Rattle.blsm_model.specs.declared.row.Row.{Row}
 use Rattle.seat_book.specs.State.{BookState, noted_in}
 use Rattle.tree_core.specs.declared.answers.Scan.{Scan}
-use Rattle.tree_core.specs.declared.answers.Scan.TheVariants as scan
 use Rattle.tree_core.specs.Answers.{reply_to_next}
-use Rattle.tree_core.specs.Scanned as scanned
 use Rattle.tree_core.specs.Scanned.{Counts, rows_noted, scanned_by, scanned_in}
 
 last_entry : (entries : List Entry) (e : Entry) → slice_index_or (entries ++ e ∷ []) (length (entries ++ e ∷ []) - 1) no_entry ≡ e
@@ -28,8 +26,4 @@ told_by_entry answer rows seat n b = grind (arith, common_steps, nat_tests)
 
 -- and so many
 pub counts_entry : (answer : Scan) (rows : List Row) (seat n : ℕ) (b : BookState) → Counts answer rows → Counts answer (rows_noted (noted_in seat (op.Next n) (reply_to_next (scanned_by answer rows)) b).book)
-counts_entry (scan.Rows count) rows seat n b counts = counts ∙ ap (λ (rs : List Row). length rs) (sym (rows_last rows seat n b))
-counts_entry scan.NoHold rows seat n b counts = tt
-counts_entry scan.Fault rows seat n b counts = tt
-counts_entry (scan.Damaged page) rows seat n b counts = tt
-counts_entry (scan.Stopped why) rows seat n b counts = tt
+counts_entry answer rows seat n b h1 = grind (arith, common_steps, nat_tests)

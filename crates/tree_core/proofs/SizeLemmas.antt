@@ -1,5 +1,5 @@
 -- No step of the pacing changes the geometry.
-use Rattle.std.specs.Prelude.{◌≡◌, ℕ, ◌+◌, Bool, true, false, nat_le, nat_lt, not, ◌&&◌}
+use Rattle.std.specs.Prelude.{◌≡◌, ℕ, ◌+◌, Bool, nat_le, nat_lt, not, ◌&&◌}
 use Rattle.std.proofs.lemmas.Grind.{common_steps}
 use Rattle.std.proofs.lemmas.Bool.Decides.{nat_tests}
 use Rattle.std.proofs.Common.{arith}
@@ -11,12 +11,10 @@ use Rattle.blsm_model.specs.declared.history.Reply.{Reply}
 use Rattle.blsm_model.specs.declared.history.Reply.TheVariants as reply
 use Rattle.blsm_model.specs.declared.op.Op.{Op}
 use Rattle.gear_sched.specs.declared.Plan.{Plan}
-use Rattle.gear_sched.specs.declared.Plan.TheVariants.{Snow, Deep, Nothing}
 use Rattle.pacing.specs.Pace.{Pace, Quantum, with_rotation, with_pass, with_pass_swapped, with_deep_swapped, with_forgiven, deep_done, pass_done}
-use Rattle.pacing.specs.Steps.{Admit, Pay, Turn, Move, SwapDeep, SwapPass, TakeDeep, TakeSnow, Begin, Rotate, Idle, deep_settled, pass_settled, begun_for, ready_for, after, paid_by, plan_of, turned_by, turn_of, is_worker_seat}
+use Rattle.pacing.specs.Steps.{Admit, Turn, Move, deep_settled, pass_settled, begun_for, ready_for, after, paid_by, turned_by, turn_of, is_worker_seat}
 use Rattle.paced_tree.specs.Made.{IsMadeBy, IsReplied, IsPaidBy, IsTurnedBy}
 use Rattle.tree_machine.specs.declared.step.Kind.{Kind}
-use Rattle.tree_machine.specs.declared.step.Kind.TheVariants as kind
 use Rattle.tree_machine.specs.Machine as machine
 use Rattle.tree_machine.specs.Machine.{Turned}
 use Rattle.tree_machine.specs.Steps as steps

@@ -1,9 +1,8 @@
 -- What the moves of an admission require and leave, on every disk.
-use Rattle.std.specs.Prelude.{is_ok, is_err, OnOk, OnErr, Result, Ok, Err}
+use Rattle.std.specs.Prelude.{is_ok, is_err, OnOk, OnErr, Result}
 use Rattle.std.proofs.lemmas.Grind.{common_steps}
 use Rattle.std.proofs.lemmas.Bool.Decides.{nat_tests}
-use Rattle.std.proofs.Common.{◌≡◌, ◌∙◌, ℕ, ◌+◌, ◌≤◌, Bool, List, [], ◌∷◌, true, false, cond, refl, ap, sym, subst, arith}
-use Rattle.std.proofs.lemmas.Bool.{false≢true}
+use Rattle.std.proofs.Common.{◌≡◌, ◌∙◌, ℕ, ◌+◌, ◌≤◌, List, [], ◌∷◌, true, false, ap, sym, subst, arith}
 use Rattle.refusal.specs.Count.{HasRisen}
 use Rattle.disk_trait.specs.Disk.{DiskState, TellsFaults}
 use Rattle.disk_trait.specs.Effects.{Affects, affects_more}
@@ -26,7 +25,7 @@ use Rattle.record_delta.specs.declared.record.Rec.{Rec}
 use Rattle.tree_runs.specs.Runs.{AreRunning}
 use Rattle.core_moves.specs.declared.held.Held.{Held}
 use Rattle.core_moves.specs.Needs.{IsOn, WriteFits}
-use Rattle.core_moves.specs.Moves.{with_pass_begun, begun_in}
+use Rattle.core_moves.specs.Moves.{begun_in}
 use Rattle.tree_core.proofs.KeepLemmas.{KeepsPins}
 
 -- ---- what a result tells
@@ -35,19 +34,16 @@ pub is_ok_of : {T E : Type 0} (r : Result T E) → is_err r ≡ false → is_ok 
 is_ok_of r h1 = grind (arith, common_steps, nat_tests)
 
 pub ok_of : {T E P : Type 0} (r : Result T E) → is_err r ≡ false → OnOk r P → P
-ok_of (Ok value) is holds = holds
-ok_of (Err error) is holds = absurd (false≢true (sym is))
+ok_of r h1 h2 = grind (arith, common_steps, nat_tests)
 
 pub err_of : {T E P : Type 0} (r : Result T E) → is_err r ≡ true → OnErr r P → P
-err_of (Ok value) is holds = absurd (false≢true is)
-err_of (Err error) is holds = holds
+err_of r h1 h2 = grind (arith, common_steps, nat_tests)
 
 pub calm_of : {T E : Type 0} (r : Result T E) (old new : DiskState) → is_err r ≡ false → TellsFaults r old new → new.faults ≡ old.faults
 calm_of r old new h1 h2 = grind (arith, common_steps, nat_tests)
 
 pub risen_of : {T E : Type 0} (r : Result T E) (old new : DiskState) → is_err r ≡ true → TellsFaults r old new → HasRisen old.faults new.faults
-risen_of (Ok value) old new is tells = absurd (false≢true is)
-risen_of (Err error) old new is tells = tells
+risen_of r old new h1 h2 = grind (arith, common_steps, nat_tests)
 
 -- ---- a begin
 
@@ -58,24 +54,16 @@ pub record BegunKeeps (old new : Held) : Type 0 where
   pub book : new.book ≡ old.book
 
 pub begun_keeps : (w : ℕ) (held : Held) → BegunKeeps held (begun_in w held)
-begun_keeps w held = by _
-  where
-    by : (b : Bool) → BegunKeeps held (cond b (with_pass_begun held) held)
-    by true = record { sizes = refl; log = refl; book = refl }
-    by false = record { sizes = refl; log = refl; book = refl }
+begun_keeps w held = grind (arith, common_steps, nat_tests)
 
 -- and the merges are in order on the disk still
 pub begun_on : (w : ℕ) (held begun : Held) (d : DiskState) → begun ≡ begun_in w held → IsOn held d → AreRunning d.is_honest d.bytes begun.runs → IsOn begun d
-begun_on w held begun d is on running = record {
-  running = running;
-  long = λ tells. on.long tells ∙ ap file_length (sym (ap (λ (h : Held). h.runs.sizes) is ∙ (begun_keeps w held).sizes));
-}
+begun_on w held begun d is on running = grind (arith, common_steps, nat_tests)
 
 -- ---- the write
 
 pub fits_as : (key key' : Key) (rec rec' : Rec) (held held' : Held) → key' ≡ key → rec' ≡ rec → held' ≡ held → WriteFits key rec held → WriteFits key' rec' held'
-fits_as key key' rec rec' held held' same_key same_rec same fits =
-    subst (λ (k : Key). WriteFits k rec' held') (sym same_key) (subst (λ (r : Rec). WriteFits key r held') (sym same_rec) (subst (λ (h : Held). WriteFits key rec h) (sym same) fits))
+fits_as key key' rec rec' held held' same_key same_rec same fits = grind (arith, common_steps, nat_tests)
 
 -- a write weighs as its record does
 pub weighs : (op : Op) (write : Write) → writes_of op ≡ write ∷ [] → total_weight (writes_of op) ≡ weight (key_of write) (record_of write)

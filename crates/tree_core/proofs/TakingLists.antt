@@ -1,5 +1,7 @@
 -- What the images show of a write that is taken, on an honest disk.
 use Rattle.std.specs.Prelude.{false, is_ok, is_err, OnOk, Result}
+use Rattle.std.proofs.lemmas.Grind.{common_steps}
+use Rattle.std.proofs.lemmas.Bool.Decides.{nat_tests}
 use Rattle.std.proofs.Common.{◌≡◌, ◌∙◌, ◌⊎◌, inl, inr, ⊎_elim, ℕ, ◌+◌, ◌≤◌, Bool, true, None, IsTrue, List, [], ◌∷◌, length, refl, ap, sym, subst, arith}
 use Rattle.blsm_model.specs.Sizes.{Sizes}
 use Rattle.blsm_model.specs.declared.key.Key.{Key}
@@ -18,7 +20,6 @@ use Rattle.disk_trait.specs.Moments.{LeavesOnly, leaves_only_run, leaves_only_we
 use Rattle.record_delta.specs.declared.record.Rec.{Rec}
 use Rattle.record_delta.specs.Records.{record_of}
 use Rattle.record_delta.specs.Entries.{Entries}
-use Rattle.gear_sched.specs.Gears.{GearState}
 use Rattle.pacing.specs.Pace.{Pace}
 use Rattle.pacing.specs.Fronts.{Fronts}
 use Rattle.pacing.specs.Steps.{deep_settled, ready_for as pace_ready_for}
@@ -98,12 +99,7 @@ one_tree sizes tree next image same either = ⊎_elim (λ holds. holds) (λ hold
 
 -- the core stands at this state of the machine
 pub tells_of : (held : Held) (tree : Tree) (m : Machine) (file : List ℕ) (numbers : Pace) → IsAt held tree m file → IsSound m → HasPace held numbers → held.gears.sizes ≡ held.runs.sizes → TellsOf held m
-tells_of held tree m file numbers at sound has one = record {
-  sizes = ap (λ (g : GearState). g.sizes) at.holds.gears ∙ one;
-  gears = at.holds.gears;
-  book = at.holds.book;
-  charge_is = (tests_agree_with_lists held tree m file numbers at sound has).charge_is;
-}
+tells_of held tree m file numbers at sound has one = grind (arith, common_steps, nat_tests)
 
 module _ (opening : List (Key × Value)) (old : Held) (m : Machine) (pace : Pace) (d : DiskState) (is : Begins opening old m pace d) where
   abbrev tree : Tree

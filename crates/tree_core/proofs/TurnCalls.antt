@@ -1,5 +1,5 @@
 -- A turn of a caller's work or of a worker, as one call of the core.
-use Rattle.std.specs.Prelude.{◌≡◌, ◌&&◌, ℕ, ◌+◌, ◌/◌, ◌≤◌, ◌<◌, ◌-◌, ◌^◌, Bool, true, false, None, Some, Ok, Err, IsErr, IsTrue, length}
+use Rattle.std.specs.Prelude.{◌≡◌, ◌&&◌, ℕ, ◌+◌, ◌/◌, ◌≤◌, ◌<◌, ◌-◌, ◌^◌, Bool, true, false, None, Some, Err, IsErr, IsTrue, length}
 use Rattle.std.proofs.lemmas.Grind.{common_steps}
 use Rattle.std.proofs.lemmas.Bool.Decides.{nat_tests}
 use Rattle.std.proofs.Common.{arith}
@@ -13,8 +13,7 @@ use Rattle.disk_trait.specs.Disk.{DiskState}
 use Rattle.disk_trait.specs.Effects.{Affects, affects_start}
 use Rattle.disk_trait.specs.Moments.{IsTimed}
 use Rattle.page_file.specs.declared.file.Broken.{Broken}
-use Rattle.page_file.specs.declared.file.Broken.TheVariants.{Fault, Damaged}
-use Rattle.pacing.specs.Steps as pacing
+use Rattle.page_file.specs.declared.file.Broken.TheVariants.{Damaged}
 use Rattle.pacing.specs.Steps.{Move}
 use Rattle.scan_view.specs.Pins.{beside_pins}
 use Rattle.seat_book.specs.Places.{HasPlaces}

@@ -1,8 +1,8 @@
 -- A turn of a caller's work or of a worker: what its move requires, and the numbers that it leaves.
-use Rattle.std.proofs.Common.{◌≡◌, ◌∙◌, ℕ, ◌≤◌, ◌<◌, ◌&&◌, Bool, true, false, List, Some, None, Ok, Err, refl, ap, sym, subst, arith}
+use Rattle.std.proofs.Common.{◌≡◌, ◌∙◌, ℕ, ◌≤◌, ◌<◌, Bool, true, false, Some, None, Ok, Err, refl, ap, sym, subst, arith}
 use Rattle.std.proofs.lemmas.Grind.{common_steps}
 use Rattle.std.proofs.lemmas.Bool.Decides.{nat_tests}
-use Rattle.std.specs.Prelude.{⊤, IfOk, OnOk, IsErr, IsTrue, length, nat_lt, replicate, slice_index, slice_index_or, if◌then◌else◌}
+use Rattle.std.specs.Prelude.{⊤, IfOk, OnOk, IsErr, IsTrue, length, nat_lt, replicate, slice_index, if◌then◌else◌}
 use Rattle.std.specs.declared.result.Result.{Result}
 use Rattle.std.proofs.lemmas.Bool.{ltb-true}
 use Rattle.tree_machine.proofs.FoldLemmas.{both_hold}
@@ -25,10 +25,10 @@ use Rattle.tree_machine.specs.Machine.{Turned, WorkSoFar, is_caller, no_work, se
 use Rattle.tree_machine.specs.Plays.{most_turns}
 use Rattle.tree_machine.proofs.PlayLemmas.{of_replicate}
 use Rattle.tree_machine.specs.Steps.{Turn}
-use Rattle.seat_book.specs.State.{BookState, deep_counted_in, helped_in, may_turn_in, pass_counted_in, stopped_in, turned_in, work_in}
+use Rattle.seat_book.specs.State.{BookState, helped_in, may_turn_in, stopped_in, turned_in, work_in}
 use Rattle.seat_book.specs.Places.{HasPlaces}
 use Rattle.seat_book.specs.Seats.{KeepsSeats}
-use Rattle.seat_book.proofs.KeepLemmas.{keeps_itself, keeps_both, keeps_less, deep_keeps, pass_keeps, quantum_keeps, stop_keeps, turn_keeps, worker_keeps}
+use Rattle.seat_book.proofs.KeepLemmas.{keeps_both}
 use Rattle.core_moves.specs.declared.held.Held.{Held}
 use Rattle.core_moves.specs.Held.{is_run_full}
 use Rattle.core_moves.specs.Needs.{IsOn, IsReady}
@@ -70,14 +70,7 @@ turn_ready w seat mv old pace d t holds = let live = holds.live t.ran in between
 -- ---- the book of a move that went well
 
 moved_book : (mv : Move) (seat n : ℕ) (old moved : Held) → TurnsBy mv seat n old moved → KeepsSeats seat 0 1 old.book moved.book
-moved_book pacing.SwapDeep seat n old moved moves = subst (λ (b : BookState). KeepsSeats seat 0 1 old.book b) (sym moves.book) (keeps_less seat 0 0 0 1 old.book (deep_counted_in old.book) (omega arith) (omega arith) (deep_keeps seat old.book))
-moved_book pacing.SwapPass seat n old moved moves = subst (λ (b : BookState). KeepsSeats seat 0 1 old.book b) (sym moves.book) (keeps_less seat 0 0 0 1 old.book (pass_counted_in old.book) (omega arith) (omega arith) (pass_keeps seat old.book))
-moved_book pacing.TakeDeep seat n old moved moves = subst (λ (b : BookState). KeepsSeats seat 0 1 old.book b) (sym moves.book) (quantum_keeps seat old.book)
-moved_book pacing.TakeSnow seat n old moved moves = subst (λ (b : BookState). KeepsSeats seat 0 1 old.book b) (sym moves.book) (quantum_keeps seat old.book)
-moved_book pacing.Begin seat n old moved moves =
-    subst (λ (h : Held). KeepsSeats seat 0 1 old.book h.book) (sym moves) (keeps_less seat 0 0 0 1 old.book old.book (omega arith) (omega arith) (keeps_itself seat old.book))
-moved_book pacing.Rotate seat n old moved moves = subst (λ (b : BookState). KeepsSeats seat 0 1 old.book b) (sym moves.book) (keeps_less seat 0 0 0 1 old.book old.book (omega arith) (omega arith) (keeps_itself seat old.book))
-moved_book pacing.Idle seat n old moved moves = subst (λ (h : Held). KeepsSeats seat 0 1 old.book h.book) (sym moves) (keeps_less seat 0 0 0 1 old.book old.book (omega arith) (omega arith) (keeps_itself seat old.book))
+moved_book mv seat n old moved h1 = grind (arith, common_steps, nat_tests)
 
 -- no entry, no stop, and no turn
 pub record KeepsOpen (old new : BookState) : Type 0 where
@@ -87,13 +80,7 @@ pub record KeepsOpen (old new : BookState) : Type 0 where
   pub turns : new.seats.turns ≡ old.seats.turns
 
 pub moved_open : (mv : Move) (seat n : ℕ) (old moved : Held) → TurnsBy mv seat n old moved → KeepsOpen old.book moved.book
-moved_open pacing.SwapDeep seat n old moved moves = subst (λ (b : BookState). KeepsOpen old.book b) (sym moves.book) (record { stopped = refl; work = refl; entries = refl; turns = refl })
-moved_open pacing.SwapPass seat n old moved moves = subst (λ (b : BookState). KeepsOpen old.book b) (sym moves.book) (record { stopped = refl; work = refl; entries = refl; turns = refl })
-moved_open pacing.TakeDeep seat n old moved moves = subst (λ (b : BookState). KeepsOpen old.book b) (sym moves.book) (record { stopped = refl; work = refl; entries = refl; turns = refl })
-moved_open pacing.TakeSnow seat n old moved moves = subst (λ (b : BookState). KeepsOpen old.book b) (sym moves.book) (record { stopped = refl; work = refl; entries = refl; turns = refl })
-moved_open pacing.Begin seat n old moved moves = subst (λ (h : Held). KeepsOpen old.book h.book) (sym moves) (record { stopped = refl; work = refl; entries = refl; turns = refl })
-moved_open pacing.Rotate seat n old moved moves = subst (λ (b : BookState). KeepsOpen old.book b) (sym moves.book) (record { stopped = refl; work = refl; entries = refl; turns = refl })
-moved_open pacing.Idle seat n old moved moves = subst (λ (h : Held). KeepsOpen old.book h.book) (sym moves) (record { stopped = refl; work = refl; entries = refl; turns = refl })
+moved_open mv seat n old moved h1 = grind (arith, common_steps, nat_tests)
 
 -- ---- its debts
 
@@ -113,8 +100,7 @@ debts_passing : (seat c1 memory : ℕ) (gears : GearState) → LeavesDebts seat 
 debts_passing seat c1 memory gears = record { first = λ other apart. none_owed other (first_debt gears other); second = λ other apart. omega arith }
 
 debts_after_pass : (seat input : ℕ) (gears : GearState) (full : Bool) → LeavesDebts seat gears (if full then rotated (pass_ended gears) input else pass_ended gears)
-debts_after_pass seat input gears true = record { first = λ other apart. none_owed other (first_debt gears other); second = λ other apart. none_owed other (second_debt gears other) }
-debts_after_pass seat input gears false = debts_pass_ended seat gears
+debts_after_pass seat input gears full = grind (arith, common_steps, nat_tests)
 
 moved_debts : (mv : Move) (seat n : ℕ) (old moved : Held) → TurnsBy mv seat n old moved → LeavesDebts seat old.gears moved.gears
 moved_debts pacing.SwapDeep seat n old moved moves = subst (λ (g : GearState). LeavesDebts seat old.gears g) (sym moves.gears) (debts_deep_ended seat old.gears)
@@ -128,8 +114,7 @@ moved_debts pacing.Idle seat n old moved moves = subst (λ (h : Held). LeavesDeb
 -- ---- what its count leaves
 
 counted_keeps : (w : Bool) (seat : ℕ) (ended : Turned) (quanta : ℕ) (b c : BookState) → IsSeat w seat b → KeepsSeats seat 0 0 c (counted_by w seat ended quanta c)
-counted_keeps true seat ended quanta b c is = worker_keeps seat c is.0
-counted_keeps false seat ended quanta b c is = turn_keeps seat ended quanta c
+counted_keeps w seat ended quanta b c h1 = grind (arith, common_steps, nat_tests)
 
 pub counted_stops : (w : Bool) (seat : ℕ) (ended : Turned) (quanta : ℕ) (b : BookState) → (counted_by w seat ended quanta b).stopped ≡ b.stopped
 counted_stops w seat ended quanta b = grind (arith, common_steps, nat_tests)
@@ -148,28 +133,10 @@ counted_told false seat ended b pace is told = turn_is_told b pace seat ended is
 
 pub halted_moves : (w : Bool) (seat : ℕ) (why : Why) (old : Held) (b : BookState) (pace : Pace) (d : DiskState) → old.book.stopped ≡ Some why → IsSeat w seat old.book → HoldsPace old pace d
     → b ≡ counted_by w seat (machine.Halted why) 0 old.book → MovesPace seat (kind_of_turn w) (Turn (machine.Halted why)) (with_book b old) d pace
-halted_moves w seat why old b pace d stopped is holds counts = record {
-  next = pace;
-  made = made_at w;
-  holds = holds_stopped (with_book b old) pace d why (ap (λ (x : BookState). x.stopped) counts ∙ counted_stops w seat (machine.Halted why) 0 old.book ∙ stopped) (record {
-    told = subst (λ (x : BookState). IsRunBook x pace) (sym counts) (counted_told w seat (machine.Halted why) old.book pace is holds.told.told);
-    peak = holds.told.peak ∙ sym (ap (λ (n : machine.Counts). n.peak) same);
-    opening = holds.told.opening ∙ sym (ap (λ (n : machine.Counts). n.charge) same);
-    charge_is = holds.told.charge_is;
-    sizes = holds.told.sizes;
-  });
-}
-  where
-    same : b.counts ≡ old.book.counts
-    same = ap (λ (x : BookState). x.counts) counts ∙ counted_counts w seat (machine.Halted why) 0 old.book
-
-    made_at : (x : Bool) → IsMadeBy seat (kind_of_turn x) (Turn (machine.Halted why)) pace pace
-    made_at true = refl
-    made_at false = refl
+halted_moves w seat why old b pace d stopped is holds counts = grind (arith, common_steps, nat_tests, holds_stopped, counted_stops, counted_told, counted_counts)
 
 pub halted_follows : (w : Bool) (seat : ℕ) (ended : Turned) (old : Held) (b : BookState) → IsSeat w seat old.book → b ≡ counted_by w seat ended 0 old.book → Follows seat (facts_of_held old) (facts_of_held (with_book b old))
-halted_follows w seat ended old b is counts =
-    follows_by seat 0 0 old (with_book b old) (omega arith) (omega arith) (subst (λ (x : BookState). KeepsSeats seat 0 0 old.book x) (sym counts) (counted_keeps w seat ended 0 old.book old.book is)) (debts_stay seat old.gears)
+halted_follows w seat ended old b is counts = grind (arith, common_steps, nat_tests)
 
 pub closed_moves : (seat : ℕ) (old : Held) (b : BookState) (pace : Pace) (d : DiskState) → old.book.stopped ≡ None → HoldsPace old pace d → b ≡ helped_in seat old.book → MovesPace seat (kind_of_turn true) (Turn machine.Closed) (with_book b old) d pace
 closed_moves seat old b pace d ran holds counts =
@@ -220,12 +187,10 @@ failed_moves w seat why ended old failed pace before after ran is holds kept mad
     }
 
 stays_made : (w : Bool) (seat : ℕ) (pace : Pace) → IsMadeBy seat (kind_of_turn w) (Turn machine.Failed) pace pace
-stays_made true seat pace = refl
-stays_made false seat pace = refl
+stays_made w seat pace = grind (arith, common_steps, nat_tests)
 
 stays_by_page : (w : Bool) (seat page : ℕ) (pace : Pace) → IsMadeBy seat (kind_of_turn w) (Turn (machine.BadPage page)) pace pace
-stays_by_page true seat page pace = refl
-stays_by_page false seat page pace = refl
+stays_by_page w seat page pace = grind (arith, common_steps, nat_tests)
 
 pub ended_moves : (w : Bool) (seat : ℕ) (made : Result ℕ Broken) (faults : ℕ) (old moved : Held) (pace : Pace) (before after : DiskState) → Turns w seat (move_in w old) old → IfOk made (λ n. TurnsBy (move_in w old) seat n old moved)
     → OnOk made (IsOn moved after) → KeepsAllButMerges (IsErr made) old moved → HoldsPace old pace before
@@ -258,26 +223,17 @@ moved_work mv seat made old moved h1 h2 = grind (arith, common_steps, nat_tests)
 
 turn_open : (mv : Move) (seat : ℕ) (made : Result ℕ Broken) (faults : ℕ) (old moved : Held) (b : BookState) → IfOk made (λ n. TurnsBy mv seat n old moved) → KeepsAllButMerges (IsErr made) old moved → b ≡ stopped_by made faults moved.book
     → IsTrue (may_turn_in seat old.book) → IsTrue (may_turn_in seat b)
-turn_open mv seat made faults old moved b moves kept is ok =
-    subst (λ (works : List WorkSoFar). IsTrue (is_caller seat && nat_lt (slice_index_or works seat no_work).turns most_turns))
-    (sym (ap (λ (x : BookState). x.seats.work) is ∙ stopped_work made faults moved.book ∙ moved_work mv seat made old moved moves kept)) ok
+turn_open mv seat made faults old moved b moves kept is ok = grind (arith, common_steps, nat_tests)
 
 -- whoever might take the turn may count it
 pub count_open : (w : Bool) (mv : Move) (seat : ℕ) (made : Result ℕ Broken) (faults : ℕ) (old moved : Held) (b : BookState) → IfOk made (λ n. TurnsBy mv seat n old moved) → KeepsAllButMerges (IsErr made) old moved → b ≡ stopped_by made faults moved.book
     → MayCount w seat old.book → MayCount w seat b
-count_open true mv seat made faults old moved b moves kept is may = may
-count_open false mv seat made faults old moved b moves kept is may = turn_open mv seat made faults old moved b moves kept is may
+count_open w mv seat made faults old moved b h1 h2 h3 h4 = grind (arith, common_steps, nat_tests)
 
 -- ---- what it leaves to the other seats
 
 ended_keeps : (mv : Move) (seat : ℕ) (made : Result ℕ Broken) (faults : ℕ) (old moved : Held) → IfOk made (λ n. TurnsBy mv seat n old moved) → KeepsAllButMerges (IsErr made) old moved → KeepsSeats seat 0 1 old.book (stopped_by made faults moved.book)
-ended_keeps mv seat (Ok n) faults old moved moves kept = moved_book mv seat n old moved moves
-ended_keeps mv seat (Err Fault) faults old moved moves kept =
-    subst (λ (x : BookState). KeepsSeats seat 0 1 old.book (stopped_in (why.Faulted faults) x)) (sym (kept.book refl))
-    (keeps_less seat 0 0 0 1 old.book (stopped_in (why.Faulted faults) old.book) (omega arith) (omega arith) (stop_keeps seat (why.Faulted faults) old.book))
-ended_keeps mv seat (Err (Damaged page)) faults old moved moves kept =
-    subst (λ (x : BookState). KeepsSeats seat 0 1 old.book (stopped_in (why.BadPage page) x)) (sym (kept.book refl))
-    (keeps_less seat 0 0 0 1 old.book (stopped_in (why.BadPage page) old.book) (omega arith) (omega arith) (stop_keeps seat (why.BadPage page) old.book))
+ended_keeps mv seat made faults old moved h1 h2 = grind (arith, common_steps, nat_tests)
 
 ended_debts : (mv : Move) (seat : ℕ) (made : Result ℕ Broken) (old moved : Held) → IfOk made (λ n. TurnsBy mv seat n old moved) → KeepsAllButMerges (IsErr made) old moved → LeavesDebts seat old.gears moved.gears
 ended_debts mv seat (Ok n) old moved moves kept = moved_debts mv seat n old moved moves
@@ -296,28 +252,16 @@ turn_follows w seat mv made faults old moved ended b before after e =
 -- ---- why it ends so
 
 well_because : (mv : Move) (w : Bool) (seat : ℕ) (old new : Held) (before after : DiskState) → mv ≡ move_in w old → RanOn old new before after → TurnsBecause (end_of_move mv) w seat old new before after
-well_because pacing.SwapDeep w seat old new before after is ran = (ran, λ idle. cc (is, idle))
-well_because pacing.SwapPass w seat old new before after is ran = (ran, λ idle. cc (is, idle))
-well_because pacing.TakeDeep w seat old new before after is ran = (ran, λ idle. cc (is, idle))
-well_because pacing.TakeSnow w seat old new before after is ran = (ran, λ idle. cc (is, idle))
-well_because pacing.Begin w seat old new before after is ran = (ran, λ idle. cc (is, idle))
-well_because pacing.Rotate w seat old new before after is ran = (ran, λ idle. cc (is, idle))
-well_because pacing.Idle w seat old new before after is ran = (ran, sym is)
+well_because mv w seat old new before after h1 h2 = grind (arith, common_steps, nat_tests)
 
 ended_because : (w : Bool) (seat : ℕ) (mv : Move) (made : Result ℕ Broken) (faults : ℕ) (old moved : Held) (b : BookState) (before after : DiskState) → old.book.stopped ≡ None → mv ≡ move_in w old → IfOk made (λ n. TurnsBy mv seat n old moved)
     → TellsFaultsBy (Err Fault) made before after → ((n : ℕ) → made ≡ Err (Damaged n) → IsTrue before.tells_bytes → IsDamageAhead (merge_of mv) moved.runs n after.bytes)
     → b.stopped ≡ (stopped_by made faults moved.book).stopped → faults ≡ after.faults → TurnsBecause (ended_by made mv) w seat old (with_book b moved) before after
-ended_because w seat mv (Ok n) faults old moved b before after ran is moves told ahead stops counted =
-    well_because mv w seat old (with_book b moved) before after is (record { ran = ran; runs = stops ∙ (moved_open mv seat n old moved moves).stopped ∙ ran; faults = told.stands (λ same. cc same) })
-ended_because w seat mv (Err Fault) faults old moved b before after ran is moves told ahead stops counted = record { ran = ran; faults = told.failed refl; stopped = stops ∙ ap (λ (n : ℕ). Some (why.Faulted n)) counted }
-ended_because w seat mv (Err (Damaged page)) faults old moved b before after ran is moves told ahead stops counted = record { ran = ran; faults = told.stands (λ same. cc same); stopped = stops; ahead = λ tells. subst (λ (m : Move). IsDamageAhead (merge_of m) moved.runs page after.bytes) is (ahead page refl tells) }
+ended_because w seat mv made faults old moved b before after h1 h2 h3 h4 h5 h6 h7 = grind (arith, common_steps, nat_tests)
 
 pub turn_because : (w : Bool) (seat : ℕ) (mv : Move) (made : Result ℕ Broken) (faults : ℕ) (old moved : Held) (ended : Turned) (b : BookState) (before after : DiskState) → Ends w seat mv made faults old moved ended b before after
     → ((n : ℕ) → made ≡ Err (Damaged n) → IsTrue before.tells_bytes → IsDamageAhead (merge_of mv) moved.runs n after.bytes) → faults ≡ after.faults → TurnsBecause ended w seat old (with_book b moved) before after
-turn_because w seat mv made faults old moved ended b before after e ahead counted =
-    subst (λ (t : Turned). TurnsBecause t w seat old (with_book b moved) before after) (sym e.ended_is)
-    (ended_because w seat mv made faults old moved b before after e.turns.ran e.turns.is e.moves e.told ahead
-    (ap (λ (x : BookState). x.stopped) e.counts ∙ counted_stops w seat ended (quanta_by made mv) (stopped_by made faults moved.book)) counted)
+turn_because w seat mv made faults old moved ended b before after e ahead counted = grind (arith, common_steps, nat_tests)
 
 -- ---- what a caller's turn begins with
 
@@ -330,8 +274,7 @@ counts_as w seat ended quanta n b c d is same_n same = is ∙ ap (λ (k : ℕ). 
 -- ---- a turn, as its conditions are told
 
 seat_is : (w : Bool) (seat : ℕ) (b : BookState) → MayCount w seat b → HasPlaces b → IsSeat w seat b
-seat_is true seat b may places = may
-seat_is false seat b may places = (working_caller seat b may, places.work)
+seat_is w seat b h1 h2 = grind (arith, common_steps, nat_tests)
 
 pub turns_at : (w : Bool) (seat : ℕ) (mv : Move) (held : Held) → MayCount w seat held.book → (held.book.stopped ≡ None → IsEven w seat held) → HasPlaces held.book → None ≡ held.book.stopped → mv ≡ move_in w held → Turns w seat mv held
 turns_at w seat mv held may even places ran is = record { ran = sym ran; is_seat = seat_is w seat held.book may places; even = even (sym ran); is = is }

@@ -5,7 +5,6 @@ use Rattle.std.proofs.lemmas.Bool.Decides.{nat_tests}
 use Rattle.std.proofs.Common.{arith}
 use Rattle.std.specs.Prelude.{IfOk, OnOk, OnErr, IsErr, is_ok}
 use Rattle.std.specs.declared.result.Result.{Result}
-use Rattle.std.proofs.lemmas.Bool.{false≢true}
 use Rattle.blsm_model.specs.Geometry.{file_length}
 use Rattle.disk_trait.specs.Disk.{DiskState, TellsFaults, TellsFaultsBy}
 use Rattle.disk_trait.specs.Moments.{IsTimed, LeavesOnly, leaves_only_start, leaves_only_weaken}
@@ -26,12 +25,10 @@ use Rattle.tree_core.specs.Quanta.{MakesTree, LeavesMoved, as_moved}
 -- ---- a swap or a rotation
 
 on_ok : {T E : Type 0} (r : Result T E) (P Q : Type 0) → (P → Q) → OnOk r P → OnOk r Q
-on_ok (Ok done) P Q so p = so p
-on_ok (Err failed) P Q so p = tt
+on_ok r P Q h1 h2 = grind (arith, common_steps, nat_tests)
 
 pub on_both : {T E : Type 0} (r : Result T E) (P Q : Type 0) → P → (P → Q) → OnOk r Q
-on_both (Ok done) P Q p so = so p
-on_both (Err failed) P Q p so = tt
+on_both r P Q h1 h2 = grind (arith, common_steps, nat_tests)
 
 pub on_pair : {T E : Type 0} (r : Result T E) (P Q : Type 0) → P → OnOk r Q → OnOk r (P × Q)
 on_pair r P Q h1 h2 = grind (arith, common_steps, nat_tests)
@@ -47,8 +44,7 @@ swap_left r made mv old new tree next before after is makes leaves trees =
     subst (λ (x : Result ℕ Broken). LeavesMoved mv x old new tree next before after) (sym is) (swap_leaves r mv old new tree next before after makes leaves trees)
 
 moved_by : {T E : Type 0} (r : Result T E) (P : Type 0) (Q : ℕ → Type 0) → (P → Q 0) → OnOk r P → IfOk (as_moved r) Q
-moved_by (Ok done) P Q so p = so p
-moved_by (Err failed) P Q so p = tt
+moved_by r P Q h1 h2 = grind (arith, common_steps, nat_tests)
 
 pub swap_moved : {T E : Type 0} (r : Result T E) (made : Result ℕ Broken) (P : Type 0) (Q : ℕ → Type 0) → made ≡ as_moved r → (P → Q 0) → OnOk r P → IfOk made Q
 swap_moved r made P Q is so p = subst (λ (x : Result ℕ Broken). IfOk x Q) (sym is) (moved_by r P Q so p)
@@ -61,26 +57,13 @@ pub swap_not_named : {T E : Type 0} (r : Result T E) (made : Result ℕ Broken) 
 swap_not_named r made n is named = not_named r n (sym is ∙ named)
 
 kept_by : {T E : Type 0} (r : Result T E) (old new : Held) → OnErr r (new ≡ old) → KeepsAllButMerges (IsErr (as_moved r)) old new
-kept_by (Ok done) old new same = record {
-  sizes = λ failed. absurd (false≢true failed);
-  catalogue = λ failed. absurd (false≢true failed);
-  pass = λ failed. absurd (false≢true failed);
-  deep = λ failed. absurd (false≢true failed);
-  log = λ failed. absurd (false≢true failed);
-  gears = λ failed. absurd (false≢true failed);
-  spring = λ failed. absurd (false≢true failed);
-  book = λ failed. absurd (false≢true failed);
-  pins = λ failed. absurd (false≢true failed);
-}
-kept_by {T} {E} (Err e) old new same = subst (λ (h : Held). KeepsAllButMerges (IsErr (as_moved {T = T} {E = E} (Err e))) old h) (sym same)
-    (record { sizes = λ failed. refl; catalogue = λ failed. refl; pass = λ failed. refl; deep = λ failed. refl; log = λ failed. refl; gears = λ failed. refl; spring = λ failed. refl; book = λ failed. refl; pins = λ failed. refl })
+kept_by r old new h1 = grind (arith, common_steps, nat_tests)
 
 pub swap_kept : {T E : Type 0} (r : Result T E) (made : Result ℕ Broken) (old new : Held) → made ≡ as_moved r → OnErr r (new ≡ old) → KeepsAllButMerges (IsErr made) old new
 swap_kept r made old new is same = subst (λ (x : Result ℕ Broken). KeepsAllButMerges (IsErr x) old new) (sym is) (kept_by r old new same)
 
 told_by : {T E : Type 0} (r : Result T E) (before after : DiskState) → TellsFaults r before after → TellsFaultsBy (Err Fault) (as_moved r) before after
-told_by (Ok done) before after tells = record { stands = λ differs. tells; failed = λ same. absurd (cc same) }
-told_by (Err e) before after tells = record { stands = λ differs. absurd (differs refl); failed = λ same. tells }
+told_by r before after h1 = grind (arith, common_steps, nat_tests)
 
 pub swap_told : {T E : Type 0} (r : Result T E) (made : Result ℕ Broken) (before after : DiskState) → made ≡ as_moved r → TellsFaults r before after → TellsFaultsBy (Err Fault) made before after
 swap_told r made before after is tells = subst (λ (x : Result ℕ Broken). TellsFaultsBy (Err Fault) x before after) (sym is) (told_by r before after tells)

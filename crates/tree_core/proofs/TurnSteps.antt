@@ -2,9 +2,8 @@
 use Rattle.std.proofs.Common.{◌≡◌, ◌∙◌, ⊎_elim, ℕ, Bool, true, false, cond, not, ◌&&◌, List, Some, None, Option, Ok, Err, refl, ap, sym, subst, arith}
 use Rattle.std.proofs.lemmas.Grind.{common_steps}
 use Rattle.std.proofs.lemmas.Bool.Decides.{nat_tests}
-use Rattle.std.specs.Prelude.{⊤, IfOk, OnOk, IsErr, IsTrue, is_some, ◌==◌}
+use Rattle.std.specs.Prelude.{⊤, IfOk, OnOk, IsErr, IsTrue, is_some}
 use Rattle.std.specs.declared.result.Result.{Result}
-use Rattle.std.proofs.lemmas.Bool.{false≢true, eq-eqb}
 use Rattle.blsm_model.specs.declared.key.Key.{Key}
 use Rattle.blsm_model.specs.declared.row.Value.{Value}
 use Rattle.blsm_model.specs.declared.history.Why.{Why}
@@ -28,15 +27,13 @@ use Rattle.tree_machine.specs.Steps as steps
 use Rattle.tree_machine.specs.Steps.{Stepped, Answer, Outcome, Well, FailedAfter, Turn, ended_as, deep_swapped, work_turning, worker_turning, work_turn, worker_turn}
 use Rattle.tree_machine.specs.Plays.{may, stepped_as}
 use Rattle.tree_machine.specs.Outcomes.{Rose, IsPossible, calls_disk}
-use Rattle.tree_machine.proofs.FoldLemmas.{both}
-use Rattle.paced_tree.specs.After.{pace_after, unless_stopped, after_turn}
+use Rattle.paced_tree.specs.After.{pace_after}
 use Rattle.paced_tree.specs.Kept.{IsPacedTree}
 use Rattle.paced_tree.specs.Booking.{quanta_of_move}
 use Rattle.paced_tree.proofs.Promises.{has_way, step_is_paced}
 use Rattle.seat_book.specs.State.{BookState, book_of, is_closed_in, stopped_in}
 use Rattle.tree_file.specs.Tree.{Tree, HoldsTree}
 use Rattle.tree_file.specs.Places.{HoldsEither}
-use Rattle.tree_runs.specs.Runs.{left_for_deep}
 use Rattle.tree_runs.specs.Holding.{AreOf, StandOver}
 use Rattle.core_moves.specs.declared.held.Held.{Held}
 use Rattle.core_moves.specs.Held.{IsDeepDone}

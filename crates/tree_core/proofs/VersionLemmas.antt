@@ -9,7 +9,6 @@ use Rattle.catalog_swap.specs.declared.catalog.Catalog.{Catalog}
 use Rattle.disk_trait.specs.Disk.{DiskState}
 use Rattle.record_delta.specs.Entries.{Entries}
 use Rattle.gear_sched.specs.Gears.{GearState}
-use Rattle.pacing.specs.Steps as pacing
 use Rattle.pacing.specs.Steps.{Move}
 use Rattle.tree_machine.specs.Machine.{Machine, Catalogue}
 use Rattle.tree_file.specs.Tree.{Tree}

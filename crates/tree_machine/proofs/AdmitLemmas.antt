@@ -1,14 +1,13 @@
 -- Admission: what the machine stands for before it stands for afterwards, with the write counted, lost or unsure, or refused.
-use Rattle.std.proofs.Common.{◌≡◌, ℕ, ◌+◌, ◌<◌, ◌≤◌, Bool, cond, true, false, List, [], ◌∷◌, ◌++◌, length, Some, None, Option, refl, ap, sym, subst, ◌∙◌, arith}
+use Rattle.std.proofs.Common.{◌≡◌, ℕ, ◌+◌, ◌<◌, ◌≤◌, Bool, cond, true, false, List, [], ◌∷◌, ◌++◌, Some, None, Option, refl, ap, sym, subst, ◌∙◌, arith}
 use Rattle.std.proofs.lemmas.Grind.{common_steps}
 use Rattle.std.proofs.lemmas.Bool.Decides.{nat_tests}
-use Rattle.std.specs.Prelude.{◌==◌, nat_lt, slice_index_or}
+use Rattle.std.specs.Prelude.{◌==◌, nat_lt}
 use Rattle.std.specs.List.{AllByRecursion}
 use Rattle.std.proofs.lemmas.Bool.{ltb-true}
 use Rattle.std.proofs.lemmas.List.Sums.{sum_by-append}
 use Rattle.blsm_model.specs.declared.key.Key.{Key}
 use Rattle.blsm_model.specs.declared.row.Value.{Value}
-use Rattle.blsm_model.specs.declared.row.Row.{Row}
 use Rattle.blsm_model.specs.declared.op.Write.{Write}
 use Rattle.blsm_model.specs.declared.op.Op.{Op}
 use Rattle.blsm_model.specs.declared.history.Why.{Why}
@@ -16,24 +15,23 @@ use Rattle.blsm_model.specs.declared.history.Why.TheVariants.{Faulted}
 use Rattle.blsm_model.specs.declared.history.Reply.{Reply}
 use Rattle.blsm_model.specs.declared.history.Reply.TheVariants.{Done, Full, FaultLost, FaultUnsure}
 use Rattle.blsm_model.specs.declared.history.Entry.{Entry}
-use Rattle.blsm_model.specs.Book.{Book}
 use Rattle.blsm_model.specs.Sizes.{Sizes}
 use Rattle.blsm_model.specs.Geometry.{limits_of, charge_limit}
 use Rattle.blsm_model.specs.Values.{key_of, value_at, weight_of}
 use Rattle.blsm_model.specs.Histories.{after, object_after, counted, counted_writes, written, writes_of, is_refusal}
-use Rattle.blsm_model.specs.Legal.{IsLegal, MayReply, NamesNoOther, limit_for, is_running, is_write, total_weight, is_del}
+use Rattle.blsm_model.specs.Legal.{MayReply, NamesNoOther, limit_for, is_running, is_write, total_weight, is_del}
 use Rattle.blsm_model.proofs.HoldLemmas.{held-refusal, held-still}
 use Rattle.blsm_model.proofs.OpLemmas.{writes_one, write_is_done, write_leaves_rows}
 use Rattle.record_delta.specs.declared.record.Rec.{Rec}
 use Rattle.record_delta.specs.Records.{weight, record_of}
-use Rattle.record_delta.specs.Entries.{AreSorted, entries_weight, is_above, up_to, with_record}
+use Rattle.record_delta.specs.Entries.{AreSorted, entries_weight, with_record}
 use Rattle.tree_machine.specs.Lists.{Lists, memory_weight}
 use Rattle.tree_machine.specs.Layers.{IsPassCounted, IsDeepCounted, Carries, HasWay}
 use Rattle.tree_machine.specs.Merges.{Merge}
 use Rattle.tree_machine.specs.Machine.{Machine, in_pass, charge, memory_charge}
 use Rattle.tree_machine.specs.Moves.{goes_to_a, with_write, take_write, with_peak, note, stop}
 use Rattle.tree_machine.specs.Steps.{Outcome, Well, FailedAfter, Broken, NoRoom, replied, deep_swapped, swaps_due, ready_for, taken_once, admit, admit_fitting}
-use Rattle.tree_machine.specs.Stands.{FitsFormat, IsTold, AreWorks, Stands}
+use Rattle.tree_machine.specs.Stands.{FitsFormat, IsTold, Stands}
 use Rattle.tree_machine.proofs.CarryLemmas.{carries_itself, deep_swapped_carries, ready_carries}
 use Rattle.tree_machine.proofs.LightLemmas.{light_write}
 use Rattle.tree_machine.proofs.WriteLemmas.{write_layered, value_in-write, behind_kept}
@@ -44,25 +42,10 @@ use Rattle.tree_machine.proofs.StandLemmas.{entry_of, IsReadyFor, note_stands, q
 -- ---- moves of the merges
 
 told_carries : (opening : List (Key × Value)) (m n : Machine) → IsTold opening m → Carries m n → IsTold opening n
-told_carries opening m n told c = record {
-  legal = subst (λ (b : Book). IsLegal (limits_of n.gears.sizes n.counts.charge) opening b.entries) (sym c.book)
-      (subst (λ (s : Sizes). IsLegal (limits_of s n.counts.charge) opening m.book.entries) (sym c.sizes)
-      (subst (λ k. IsLegal (limits_of m.gears.sizes k) opening m.book.entries) (sym c.opening) told.legal));
-  running = λ none. subst (λ (b : Book). is_running b.entries ≡ true) (sym c.book) (told.running (sym c.stopped ∙ none));
-  one_why = λ why is. subst (λ (b : Book). AllByRecursion (λ e. NamesNoOther why e.reply) b.entries) (sym c.book) (told.one_why why (sym c.stopped ∙ is));
-  works = subst (λ (b : Book). AreWorks n.seats.work n.stopped b.entries) (sym c.book)
-      (subst (λ s. AreWorks n.seats.work s m.book.entries) (sym c.stopped) (subst (λ w. AreWorks w m.stopped m.book.entries) (sym c.work) told.works));
-}
+told_carries opening m n told c = grind (arith, common_steps, nat_tests)
 
 pub carries_stands : (opening : List (Key × Value)) (m n : Machine) → Stands opening m → Carries m n → Stands opening n
-carries_stands opening m n stands c = record {
-  sound = c.sound;
-  values = λ q. c.values q ∙ stands.values q ∙ ap (λ (b : Book). value_at (written opening b.entries) q) (sym c.book);
-  places = ap (λ (h : List (Option (List Row))). length h) c.holds ∙ stands.places;
-  held = λ s within. ap (λ h. slice_index_or h s None) c.holds ∙ stands.held s within ∙ ap (λ (b : Book). (object_after opening b.entries).held s) (sym c.book);
-  weighs = omega (arith, c.charge, stands.weighs, c.opening, ap (λ (b : Book). total_weight (counted_writes b.entries)) c.book);
-  told = told_carries opening m n stands.told c;
-}
+carries_stands opening m n stands c = grind (arith, common_steps, nat_tests)
 
 -- ---- a write that failed
 
@@ -86,11 +69,7 @@ failed_stands opening m seat op reply faults stands none refused uncounted named
     (λ s failing. absurd (none_fails opening m stands.told none s failing)))
   where
     names : (why : Why) → Some (Faulted faults) ≡ Some why → NamesNoOther why reply
-    names why is = subst (λ w. NamesNoOther w reply) (ap (λ r. cause r) is) named
-      where
-        cause : Option Why → Why
-        cause None = Faulted faults
-        cause (Some w) = w
+    names why is = grind (arith, common_steps, nat_tests)
 
 -- ---- a write that is done
 
@@ -111,26 +90,14 @@ components_stay key rec lists b = grind (arith, common_steps, nat_tests)
 -- a write ahead of the cursor leaves what is behind it
 pass_counted : (key : Key) (rec : Rec) (lists : Lists) (running : Bool) (input memory admitted taken w : ℕ) (p : Option Merge) → AreSorted lists.a → IsPassCounted lists.a lists.c1 running input memory admitted taken p
     → IsPassCounted (with_write p key rec lists).a (with_write p key rec lists).c1 running input memory (cond running (admitted + w) admitted) taken p
-pass_counted key rec lists running input memory admitted taken w None sorted counted = (counted.0, counted.1, counted.2, ap (λ b. cond b (admitted + w) admitted) counted.0 ∙ counted.3, counted.4)
-pass_counted key rec lists running input memory admitted taken w (Some pass) sorted counted = by (is_above pass.cursor key) refl
-  where
-    by : (b : Bool) → is_above pass.cursor key ≡ b
-        → (let new : Lists = cond b
-        (record { b = lists.b; a = with_record key rec lists.a; c1 = lists.c1; c1x = lists.c1x; c2 = lists.c2 })
-        (record { b = with_record key rec lists.b; a = lists.a; c1 = lists.c1; c1x = lists.c1x; c2 = lists.c2 }) in
-        (running ≡ true) × (input ≡ entries_weight new.c1) × (taken ≡ entries_weight (up_to pass.cursor new.a) + entries_weight (up_to pass.cursor new.c1)))
-    by true past = (counted.0, counted.1, omega (arith, counted.2, ap entries_weight (behind_kept pass.cursor key rec lists.a past sorted)))
-    by false here = counted
+pass_counted key rec lists running input memory admitted taken w p h1 h2 = grind (arith, common_steps, nat_tests, taken, behind_kept)
 
 deep_counted : (key : Key) (rec : Rec) (lists : Lists) (running : Bool) (input admitted taken w : ℕ) (b : Bool) (p : Option Merge) → IsDeepCounted lists.c1x lists.c2 running input admitted taken p
     → (let new : Lists = cond b
     (record { b = lists.b; a = with_record key rec lists.a; c1 = lists.c1; c1x = lists.c1x; c2 = lists.c2 })
     (record { b = with_record key rec lists.b; a = lists.a; c1 = lists.c1; c1x = lists.c1x; c2 = lists.c2 }) in
     IsDeepCounted new.c1x new.c2 running input (cond running (admitted + w) admitted) taken p)
-deep_counted key rec lists running input admitted taken w true None counted = (counted.0, counted.1, ap (λ b. cond b (admitted + w) admitted) counted.0 ∙ counted.2, counted.3)
-deep_counted key rec lists running input admitted taken w false None counted = (counted.0, counted.1, ap (λ b. cond b (admitted + w) admitted) counted.0 ∙ counted.2, counted.3)
-deep_counted key rec lists running input admitted taken w true (Some deep) counted = counted
-deep_counted key rec lists running input admitted taken w false (Some deep) counted = counted
+deep_counted key rec lists running input admitted taken w b p h1 = grind (arith, common_steps, nat_tests)
 
 taken : Machine → ℕ → Write → Machine
 taken m seat w = with_peak (take_write seat w m)

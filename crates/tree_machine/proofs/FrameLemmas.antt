@@ -1,9 +1,8 @@
 -- What each part of a step leaves to the other seats.
-use Rattle.std.proofs.Common.{◌≡◌, ◌≢◌, ℕ, zero, suc, ◌+◌, ◌-◌, ◌*◌, ◌≤◌, ◌⊎◌, Bool, cond, true, false, not, ◌&&◌, List, [], ◌∷◌, length, take, drop, replicate, Some, None, Option, refl, ap, sym, ◌∙◌, arith}
+use Rattle.std.proofs.Common.{◌≡◌, ◌≢◌, ℕ, zero, suc, ◌+◌, ◌-◌, ◌≤◌, ◌⊎◌, Bool, cond, true, false, not, List, [], ◌∷◌, replicate, Some, None, Option, refl, ap, ◌∙◌, arith}
 use Rattle.std.proofs.lemmas.Grind.{common_steps}
 use Rattle.std.proofs.lemmas.Bool.Decides.{nat_tests}
-use Rattle.std.specs.Prelude.{◌==◌, sum, nat_lt, nat_le, slice_index, slice_index_or, slice_set, is_some}
-use Rattle.std.proofs.lemmas.Bool.{false≢true}
+use Rattle.std.specs.Prelude.{◌==◌, sum, nat_lt, slice_index, slice_index_or, slice_set, is_some}
 use Rattle.std.proofs.lemmas.List.{get_or-set_other}
 use Rattle.std.proofs.lemmas.List.Sums.{sum_by-cons}
 use Rattle.blsm_model.specs.declared.key.Key.{Key}
@@ -13,8 +12,8 @@ use Rattle.blsm_model.specs.declared.op.Write.{Write}
 use Rattle.blsm_model.specs.declared.history.Why.{Why}
 use Rattle.blsm_model.specs.declared.history.Why.TheVariants as why
 use Rattle.blsm_model.specs.declared.history.Why.TheVariants.{Faulted}
-use Rattle.blsm_model.specs.declared.op.Op.TheVariants.{Get, Hold, Next, Release, Work}
-use Rattle.blsm_model.specs.declared.history.Reply.TheVariants.{Done, Held, Rows, NoHold, Full, NoMemory, FaultLost, FaultUnsure, Fault, Damaged, Stopped}
+use Rattle.blsm_model.specs.declared.op.Op.TheVariants.{Get, Hold, Release}
+use Rattle.blsm_model.specs.declared.history.Reply.TheVariants.{Done, Held, Full, FaultLost, FaultUnsure}
 use Rattle.blsm_model.specs.Format.{callers}
 use Rattle.blsm_model.specs.Book.{counted_up}
 use Rattle.blsm_model.specs.Histories.{writes_of, answer_to_get, answer_to_release}
@@ -22,17 +21,15 @@ use Rattle.blsm_model.specs.Legal.{total_weight, is_del}
 use Rattle.tree_machine.specs.declared.step.Kind.{Kind}
 use Rattle.tree_machine.specs.declared.step.Kind.TheVariants as kind
 use Rattle.blsm_model.specs.declared.history.Reply.{Reply}
-use Rattle.blsm_model.specs.Geometry.{c1_mark, first_gear, second_gear, charge_limit}
-use Rattle.blsm_model.specs.Values.{weight_of}
+use Rattle.blsm_model.specs.Geometry.{charge_limit}
 use Rattle.record_delta.specs.Entries.{entries_weight}
 use Rattle.tree_machine.specs.Lists.{memory_weight, value_in, rows_in}
-use Rattle.tree_machine.specs.Merges.{Merge, quantum_of}
 use Rattle.gear_sched.specs.Gears.{plan_for, first_debt, second_debt}
 use Rattle.gear_sched.specs.declared.Plan.{Plan}
 use Rattle.gear_sched.specs.declared.Plan.TheVariants.{Snow, Deep, Nothing}
-use Rattle.tree_machine.specs.Machine.{Machine, WorkSoFar, is_worked, no_work, in_pass, in_deep, pass_done, deep_done, is_closed, all_true, charge, held_by, work_of, turn_more}
-use Rattle.tree_machine.specs.Moves.{begin_pass, rotate, rotate_alone, swap_pass, swap_deep, end_pass, output_of, pass_quantum, deep_quantum, pass_quantum_of, deep_quantum_of, take_write, with_peak, note, stop}
-use Rattle.tree_machine.specs.Steps.{Choice, SwapDeep, SwapPass, DeepQuantum, PassQuantum, Begin, Rotate, Rest, chosen, deep_swapped, pass_swapped, swapped, pass_begun_for, ready_for, taken_once, forgive, count_for_write, holding, work_noted, Outcome, Well, FailedAfter, Broken, NoRoom, Stepped, replied, unless_stopped, swaps_due, admit, admit_fitting, do_pay, pay_planned, pay, pay_running, reply_unless, hold, do_hold, next_rows, do_next, choice, do_turn, work_turning, worker_turning, with_turn, work_turn, worker_turn, work_reply, work_end, leave}
+use Rattle.tree_machine.specs.Machine.{Machine, WorkSoFar, is_worked, is_closed, all_true, charge, held_by, work_of, turn_more}
+use Rattle.tree_machine.specs.Moves.{begin_pass, rotate, rotate_alone, swap_pass, swap_deep, end_pass, pass_quantum, deep_quantum, take_write, with_peak, note, stop}
+use Rattle.tree_machine.specs.Steps.{Choice, SwapDeep, SwapPass, DeepQuantum, PassQuantum, Begin, Rotate, Rest, chosen, deep_swapped, pass_swapped, swapped, pass_begun_for, ready_for, taken_once, forgive, count_for_write, holding, work_noted, Outcome, Well, FailedAfter, Broken, NoRoom, Stepped, replied, unless_stopped, swaps_due, admit, admit_fitting, do_pay, pay_planned, pay, pay_running, reply_unless, hold, do_hold, next_rows, choice, do_turn, work_turning, worker_turning, with_turn, work_turn, worker_turn, work_end, leave}
 use Rattle.tree_machine.specs.Plays.{stepped_as, may, is_help}
 use Rattle.tree_machine.proofs.FoldLemmas.{both_hold, both}
 use Rattle.blsm_model.specs.Facts.{Follows}
@@ -84,145 +81,43 @@ record IsAlike (old new : Machine) : Type 0 where
 
 same_apart : (seat : ℕ) (m n : Machine) → IsAlike m n → ((other : ℕ) → other ≢ seat → slice_index n.gears.first_debts other ≤ slice_index m.gears.first_debts other)
     → ((other : ℕ) → other ≢ seat → slice_index n.gears.second_debts other ≤ slice_index m.gears.second_debts other) → Apart seat 0 m n
-same_apart seat m n same first second = record {
-  fixed = same.fixed;
-  peak = same.peak;
-  stopped = λ why is. same.stopped ∙ is;
-  closed = λ is. ap (λ s. all_true s.left) same.seats ∙ is;
-  kept = omega (arith, ap (λ s. sum s.quanta) same.seats);
-  quanta = omega (arith, ap (λ s. sum s.quanta) same.seats);
-  its = omega (arith, ap (λ s. slice_index s.quanta seat) same.seats);
-  counts = λ other apart. ap (λ s. slice_index s.quanta other) same.seats;
-  held = λ other apart. ap (λ held. slice_index_or held other None) same.holds;
-  work = λ other apart. ap (λ s. slice_index_or s.work other no_work) same.seats;
-  turns = λ other worker apart. ap (λ s. slice_index s.turns (other - callers)) same.seats;
-  left = λ other apart. ap (λ s. slice_index_or s.left other false) same.seats;
-  entries_room = λ other apart. ap (λ r. slice_index r.entries other) same.room;
-  rows_room = λ other apart. ap (λ r. slice_index r.rows other) same.room;
-  first = first;
-  second = second;
-}
+same_apart seat m n same first second = grind (arith, common_steps, nat_tests)
 
 pub apart_itself : (seat : ℕ) (m : Machine) → Apart seat 0 m m
 apart_itself seat m = same_apart seat m m (record { fixed = (refl, refl, refl); peak = omega arith; stopped = refl; seats = refl; holds = refl; room = refl }) (λ other apart. omega arith) (λ other apart. omega arith)
 
 pub apart_on : {a b c : Machine} (seat j k : ℕ) → Apart seat j a b → Apart seat k b c → Apart seat (j + k) a c
-apart_on {a} {b} {c} seat j k p q = record {
-  fixed = (q.fixed.0 ∙ p.fixed.0, q.fixed.1 ∙ p.fixed.1, q.fixed.2 ∙ p.fixed.2);
-  peak = omega (arith, p.peak, q.peak);
-  stopped = λ why is. q.stopped why (p.stopped why is);
-  closed = λ is. q.closed (p.closed is);
-  kept = omega (arith, p.kept, q.kept);
-  quanta = omega (arith, p.quanta, q.quanta);
-  its = omega (arith, p.its, q.its);
-  counts = λ other apart. q.counts other apart ∙ p.counts other apart;
-  held = λ other apart. q.held other apart ∙ p.held other apart;
-  work = λ other apart. q.work other apart ∙ p.work other apart;
-  turns = λ other worker apart. q.turns other worker apart ∙ p.turns other worker apart;
-  left = λ other apart. q.left other apart ∙ p.left other apart;
-  entries_room = λ other apart. q.entries_room other apart ∙ p.entries_room other apart;
-  rows_room = λ other apart. q.rows_room other apart ∙ p.rows_room other apart;
-  first = λ other apart. omega (arith, p.first other apart, q.first other apart);
-  second = λ other apart. omega (arith, p.second other apart, q.second other apart);
-}
+apart_on {a} {b} {c} seat j k p q = grind (arith, common_steps, nat_tests)
 
 -- with more quanta allowed
 pub apart_more : {a b : Machine} (seat j k : ℕ) → j ≤ k → Apart seat j a b → Apart seat k a b
-apart_more {a} {b} seat j k le p = record {
-  fixed = p.fixed;
-  peak = p.peak;
-  stopped = p.stopped;
-  closed = p.closed;
-  kept = p.kept;
-  quanta = omega (arith, p.quanta, le);
-  its = omega (arith, p.its, le);
-  counts = p.counts;
-  held = p.held;
-  work = p.work;
-  turns = p.turns;
-  left = p.left;
-  entries_room = p.entries_room;
-  rows_room = p.rows_room;
-  first = p.first;
-  second = p.second;
-}
+apart_more {a} {b} seat j k le p = grind (arith, common_steps, nat_tests)
 
 -- ---- the merges
 
 begin_apart : (seat : ℕ) (m : Machine) → Apart seat 0 m (begin_pass m)
-begin_apart seat m =
-    same_apart seat m (begin_pass m) (record { fixed = (refl, refl, refl); peak = omega arith; stopped = refl; seats = refl; holds = refl; room = refl }) (λ other apart. omega (arith, none_owed other)) (λ other apart. omega arith)
+begin_apart seat m = grind (arith, common_steps, nat_tests)
 
 rotate_apart : (seat : ℕ) (m : Machine) → Apart seat 0 m (rotate m)
-rotate_apart seat m =
-    same_apart seat m (rotate m) (record { fixed = (refl, refl, refl); peak = omega arith; stopped = refl; seats = refl; holds = refl; room = refl }) (λ other apart. omega arith) (λ other apart. omega (arith, none_owed other))
+rotate_apart seat m = grind (arith, common_steps, nat_tests)
 
 rotate_alone_apart : (seat : ℕ) (m : Machine) → Apart seat 0 m (rotate_alone m)
-rotate_alone_apart seat m =
-    same_apart seat m (rotate_alone m) (record { fixed = (refl, refl, refl); peak = omega arith; stopped = refl; seats = refl; holds = refl; room = refl }) (λ other apart. omega arith) (λ other apart. omega (arith, none_owed other))
+rotate_alone_apart seat m = grind (arith, common_steps, nat_tests)
 
 swap_deep_apart : (seat : ℕ) (m : Machine) → Apart seat 0 m (swap_deep m)
-swap_deep_apart seat m =
-    same_apart seat m (swap_deep m) (record { fixed = (refl, refl, refl); peak = omega arith; stopped = refl; seats = refl; holds = refl; room = refl }) (λ other apart. omega arith) (λ other apart. omega (arith, none_owed other))
+swap_deep_apart seat m = grind (arith, common_steps, nat_tests)
 
 end_pass_apart : (seat : ℕ) (m : Machine) → Apart seat 0 m (end_pass m)
-end_pass_apart seat m =
-    same_apart seat m (end_pass m) (record { fixed = (refl, refl, refl); peak = omega arith; stopped = refl; seats = refl; holds = refl; room = refl }) (λ other apart. omega (arith, none_owed other)) (λ other apart. omega arith)
+end_pass_apart seat m = grind (arith, common_steps, nat_tests)
 
 swap_pass_apart : (seat : ℕ) (m : Machine) → Apart seat 0 m (swap_pass m)
-swap_pass_apart seat m = by (nat_le (c1_mark m.gears.sizes) (entries_weight (output_of m.merges.pass)))
-  where
-    by : (b : Bool) → Apart seat 0 m (cond b (rotate (end_pass m)) (end_pass m))
-    by true = apart_on seat 0 0 (end_pass_apart seat m) (rotate_apart seat (end_pass m))
-    by false = end_pass_apart seat m
+swap_pass_apart seat m = grind (arith, common_steps, nat_tests)
 
 pub pass_quantum_apart : (seat : ℕ) (m : Machine) → Apart seat 1 m (pass_quantum seat m)
-pass_quantum_apart seat m = by m.merges.pass
-  where
-    by : (p : Option Merge) → Apart seat 1 m (pass_quantum_of p seat m)
-    by None = apart_more seat 0 1 (omega arith) (apart_itself seat m)
-    by (Some pass) = record {
-      fixed = (refl, refl, refl);
-      peak = omega arith;
-      stopped = λ why is. is;
-      closed = λ is. is;
-      kept = (raised m.seats.quanta seat).0;
-      quanta = (raised m.seats.quanta seat).1;
-      its = raised_once m.seats.quanta seat;
-      counts = λ other apart. get_or-set_other m.seats.quanta seat other (slice_index m.seats.quanta seat + 1) 0 apart;
-      held = λ other apart. refl;
-      work = λ other apart. refl;
-      turns = λ other worker apart. refl;
-      left = λ other apart. refl;
-      entries_room = λ other apart. refl;
-      rows_room = λ other apart. refl;
-      first = λ other apart. omega (arith, get_or-set_other m.gears.first_debts seat other (slice_index m.gears.first_debts seat - (quantum_of m.gears.sizes.quantum pass m.lists.a m.lists.c1).weight) 0 apart);
-      second = λ other apart. omega arith;
-    }
+pass_quantum_apart seat m = grind (arith, common_steps, nat_tests)
 
 pub deep_quantum_apart : (seat : ℕ) (m : Machine) → Apart seat 1 m (deep_quantum seat m)
-deep_quantum_apart seat m = by m.merges.deep
-  where
-    by : (p : Option Merge) → Apart seat 1 m (deep_quantum_of p seat m)
-    by None = apart_more seat 0 1 (omega arith) (apart_itself seat m)
-    by (Some deep) = record {
-      fixed = (refl, refl, refl);
-      peak = omega arith;
-      stopped = λ why is. is;
-      closed = λ is. is;
-      kept = (raised m.seats.quanta seat).0;
-      quanta = (raised m.seats.quanta seat).1;
-      its = raised_once m.seats.quanta seat;
-      counts = λ other apart. get_or-set_other m.seats.quanta seat other (slice_index m.seats.quanta seat + 1) 0 apart;
-      held = λ other apart. refl;
-      work = λ other apart. refl;
-      turns = λ other worker apart. refl;
-      left = λ other apart. refl;
-      entries_room = λ other apart. refl;
-      rows_room = λ other apart. refl;
-      first = λ other apart. omega arith;
-      second = λ other apart. omega (arith, get_or-set_other m.gears.second_debts seat other (slice_index m.gears.second_debts seat - (quantum_of m.gears.sizes.quantum deep m.lists.c1x m.lists.c2).weight) 0 apart);
-    }
+deep_quantum_apart seat m = grind (arith, common_steps, nat_tests)
 
 pub chosen_apart : (c : Choice) (seat : ℕ) (m : Machine) → Apart seat 1 m (chosen c seat m)
 chosen_apart SwapDeep seat m = apart_more seat 0 1 (omega arith) (swap_deep_apart seat m)
@@ -234,25 +129,13 @@ chosen_apart Rotate seat m = apart_more seat 0 1 (omega arith) (rotate_alone_apa
 chosen_apart Rest seat m = apart_more seat 0 1 (omega arith) (apart_itself seat m)
 
 pub deep_swapped_apart : (seat : ℕ) (m : Machine) → Apart seat 0 m (deep_swapped m)
-deep_swapped_apart seat m = by (deep_done m)
-  where
-    by : (b : Bool) → Apart seat 0 m (cond b (swap_deep m) m)
-    by true = swap_deep_apart seat m
-    by false = apart_itself seat m
+deep_swapped_apart seat m = grind (arith, common_steps, nat_tests)
 
 pass_swapped_apart : (seat : ℕ) (m : Machine) → Apart seat 0 m (pass_swapped m)
-pass_swapped_apart seat m = by (pass_done m)
-  where
-    by : (b : Bool) → Apart seat 0 m (cond b (swap_pass m) m)
-    by true = swap_pass_apart seat m
-    by false = apart_itself seat m
+pass_swapped_apart seat m = grind (arith, common_steps, nat_tests)
 
 begun_apart : (seat weight : ℕ) (m : Machine) → Apart seat 0 m (pass_begun_for weight m)
-begun_apart seat weight m = by (not (in_pass m) && nat_lt m.gears.sizes.low (m.spring + weight))
-  where
-    by : (b : Bool) → Apart seat 0 m (cond b (begin_pass m) m)
-    by true = begin_apart seat m
-    by false = apart_itself seat m
+begun_apart seat weight m = grind (arith, common_steps, nat_tests)
 
 pub ready_apart : (seat weight : ℕ) (m : Machine) → Apart seat 0 m (ready_for weight m)
 ready_apart seat weight m =
@@ -261,44 +144,10 @@ ready_apart seat weight m =
 -- ---- the rest of a step
 
 pub note_apart : (seat : ℕ) (op : Op) (reply : Reply) (m : Machine) → Apart seat 0 m (note seat op reply m)
-note_apart seat op reply m = record {
-  fixed = (refl, refl, refl);
-  peak = omega arith;
-  stopped = λ why is. is;
-  closed = λ is. is;
-  kept = omega arith;
-  quanta = omega arith;
-  its = omega arith;
-  counts = λ other apart. refl;
-  held = λ other apart. refl;
-  work = λ other apart. refl;
-  turns = λ other worker apart. refl;
-  left = λ other apart. refl;
-  entries_room = λ other apart. get_or-set_other m.book.room.entries seat other _ 0 apart;
-  rows_room = λ other apart. get_or-set_other m.book.room.rows seat other _ 0 apart;
-  first = λ other apart. omega arith;
-  second = λ other apart. omega arith;
-}
+note_apart seat op reply m = grind (arith, common_steps, nat_tests)
 
 pub stop_apart : (seat : ℕ) (cause : Why) (m : Machine) → m.stopped ≡ None → Apart seat 0 m (stop cause m)
-stop_apart seat cause m none = record {
-  fixed = (refl, refl, refl);
-  peak = omega arith;
-  stopped = λ why is. absurd (false≢true (sym (ap is_some none) ∙ ap is_some is));
-  closed = λ is. is;
-  kept = omega arith;
-  quanta = omega arith;
-  its = omega arith;
-  counts = λ other apart. refl;
-  held = λ other apart. refl;
-  work = λ other apart. refl;
-  turns = λ other worker apart. refl;
-  left = λ other apart. refl;
-  entries_room = λ other apart. refl;
-  rows_room = λ other apart. refl;
-  first = λ other apart. omega arith;
-  second = λ other apart. omega arith;
-}
+stop_apart seat cause m none = grind (arith, common_steps, nat_tests)
 
 either : (b : Bool) (x y z : ℕ) → x ≤ z → y ≤ z → cond b x y ≤ z
 either b x y z h1 h2 = grind (arith, common_steps, nat_tests)
@@ -307,58 +156,19 @@ same_or_set : (b : Bool) (xs : List ℕ) (seat other n : ℕ) → other ≢ seat
 same_or_set b xs seat other n h1 = grind (arith, common_steps, nat_tests)
 
 pub take_apart : (seat : ℕ) (w : Write) (m : Machine) → Apart seat 0 m (with_peak (take_write seat w m))
-take_apart seat w m =
-    same_apart seat m (with_peak (take_write seat w m)) (record { fixed = (refl, refl, refl); peak = omega arith; stopped = refl; seats = refl; holds = refl; room = refl }) (λ other apart. same_or_set (in_pass m) m.gears.first_debts seat other (slice_index m.gears.first_debts seat + first_gear m.gears.sizes * weight_of w) apart) (λ other apart. same_or_set (in_deep m) m.gears.second_debts seat other (slice_index m.gears.second_debts seat + second_gear m.gears.sizes * weight_of w) apart)
+take_apart seat w m = grind (arith, common_steps, nat_tests)
 
 pub forgive_apart : (seat : ℕ) (m : Machine) → Apart seat 0 m (forgive seat m)
-forgive_apart seat m =
-    same_apart seat m (forgive seat m) (record { fixed = (refl, refl, refl); peak = omega arith; stopped = refl; seats = refl; holds = refl; room = refl }) (λ other apart. of_equal (get_or-set_other m.gears.first_debts seat other _ 0 apart)) (λ other apart. of_equal (get_or-set_other m.gears.second_debts seat other _ 0 apart))
-  where
-    of_equal : {x y : ℕ} → x ≡ y → x ≤ y
-    of_equal e = omega (arith, e)
+forgive_apart seat m = grind (arith, common_steps, nat_tests)
 
 pub count_apart : (seat : ℕ) (m : Machine) → Apart seat 0 m (count_for_write seat m)
 count_apart seat m = same_apart seat m (count_for_write seat m) (record { fixed = (refl, refl, refl); peak = omega arith; stopped = refl; seats = refl; holds = refl; room = refl }) (λ other apart. omega arith) (λ other apart. omega arith)
 
 pub holding_apart : (seat : ℕ) (rows : Option (List Row)) (m : Machine) → Apart seat 0 m (holding seat rows m)
-holding_apart seat rows m = record {
-  fixed = (refl, refl, refl);
-  peak = omega arith;
-  stopped = λ why is. is;
-  closed = λ is. is;
-  kept = omega arith;
-  quanta = omega arith;
-  its = omega arith;
-  counts = λ other apart. refl;
-  held = λ other apart. get_or-set_other m.holds seat other _ None apart;
-  work = λ other apart. refl;
-  turns = λ other worker apart. refl;
-  left = λ other apart. refl;
-  entries_room = λ other apart. refl;
-  rows_room = λ other apart. refl;
-  first = λ other apart. omega arith;
-  second = λ other apart. omega arith;
-}
+holding_apart seat rows m = grind (arith, common_steps, nat_tests)
 
 pub work_apart : (seat : ℕ) (work : WorkSoFar) (m : Machine) → Apart seat 0 m (work_noted seat work m)
-work_apart seat work m = record {
-  fixed = (refl, refl, refl);
-  peak = omega arith;
-  stopped = λ why is. is;
-  closed = λ is. is;
-  kept = omega arith;
-  quanta = omega arith;
-  its = omega arith;
-  counts = λ other apart. refl;
-  held = λ other apart. refl;
-  work = λ other apart. get_or-set_other m.seats.work seat other _ no_work apart;
-  turns = λ other worker apart. refl;
-  left = λ other apart. refl;
-  entries_room = λ other apart. refl;
-  rows_room = λ other apart. refl;
-  first = λ other apart. omega arith;
-  second = λ other apart. omega arith;
-}
+work_apart seat work m = grind (arith, common_steps, nat_tests)
 
 -- a record whose other parts only are changed
 recounted_apart : (seat place quanta : ℕ) (m : Machine) → Apart seat 0 m (record m { book = counted_up m.book place quanta })
@@ -378,18 +188,13 @@ noted_apart seat op reply m n p = apart_on seat 0 0 p (note_apart seat op reply 
 
 -- a step of a stopped tree, and else another
 unless_apart : (seat : ℕ) (op : Op) (m : Machine) (otherwise : Stepped) → (m.stopped ≡ None → Apart seat 0 m otherwise.state) → Apart seat 0 m (unless_stopped m.stopped seat op m otherwise).state
-unless_apart seat op m otherwise runs = by m.stopped refl
-  where
-    by : (o : Option Why) → m.stopped ≡ o → Apart seat 0 m (unless_stopped o seat op m otherwise).state
-    by (Some why) is = note_apart seat op (Stopped why) m
-    by None is = runs is
+unless_apart seat op m otherwise runs = grind (arith, common_steps, nat_tests)
 
 peak_apart : (seat : ℕ) (m : Machine) → Apart seat 0 m (with_peak m)
 peak_apart seat m = same_apart seat m (with_peak m) (record { fixed = (refl, refl, refl); peak = omega arith; stopped = refl; seats = refl; holds = refl; room = refl }) (λ other apart. omega arith) (λ other apart. omega arith)
 
 taken_apart : (seat : ℕ) (ws : List Write) (m : Machine) → Apart seat 0 m (with_peak (taken_once seat ws m))
-taken_apart seat [] m = peak_apart seat m
-taken_apart seat (w ∷ ws) m = take_apart seat w m
+taken_apart seat ws m = grind (arith, common_steps, nat_tests)
 
 admit_apart : (m : Machine) (seat : ℕ) (op : Op) (outcome : Outcome) → Apart seat 0 m (admit m seat op outcome).state
 admit_apart m seat op outcome =
@@ -398,8 +203,7 @@ admit_apart m seat op outcome =
     (λ none. by none (nat_lt (charge_limit m.gears.sizes (is_del op)) (charge m + total_weight (writes_of op))))
   where
     lost : m.stopped ≡ None → (faults : ℕ) (b : Bool) → Apart seat 0 m (stop (Faulted faults) (cond b m (deep_swapped m)))
-    lost none faults true = stop_apart seat (Faulted faults) m none
-    lost none faults false = apart_on seat 0 0 (deep_swapped_apart seat m) (stop_apart seat (Faulted faults) (deep_swapped m) (deep_swapped_runs m none))
+    lost h1 faults b = grind (arith, common_steps, nat_tests)
 
     failed : m.stopped ≡ None → (commits faults : ℕ) (b : Bool)
         → Apart seat 0 m (cond b (replied seat op FaultLost (stop (Faulted faults) (cond (commits == 0) m (deep_swapped m)))) (replied seat op FaultUnsure (stop (Faulted faults) (ready_for (total_weight (writes_of op)) m)))).state
@@ -446,29 +250,13 @@ hold_apart m seat low high outcome = unless_apart seat (Hold low high) m (do_hol
     held = noted_apart seat (Hold low high) Held m (holding seat (Some (rows_in m.lists low high)) m) (holding_apart seat (Some (rows_in m.lists low high)) m)
 
     by : (o : Outcome) → Apart seat 0 m (do_hold m seat low high o).state
-    by NoRoom = note_apart seat (Hold low high) NoMemory m
-    by Well = held
-    by (FailedAfter commits faults) = held
-    by (Broken page) = held
+    by o = grind (arith, common_steps, nat_tests)
 
 next_apart : (m : Machine) (seat n : ℕ) (outcome : Outcome) → Apart seat 0 m (next_rows m seat n outcome).state
-next_apart m seat n outcome = unless_apart seat (Next n) m (do_next m seat n outcome (held_by seat m)) (λ none. by outcome (held_by seat m))
-  where
-    given : (rows : List Row) → Apart seat 0 m (note seat (Next n) (Rows (take n rows)) (holding seat (Some (drop n rows)) m))
-    given rows = noted_apart seat (Next n) (Rows (take n rows)) m (holding seat (Some (drop n rows)) m) (holding_apart seat (Some (drop n rows)) m)
-
-    by : (o : Outcome) (held : Option (List Row)) → Apart seat 0 m (do_next m seat n o held).state
-    by o None = note_apart seat (Next n) NoHold m
-    by (FailedAfter commits faults) (Some rows) = note_apart seat (Next n) Fault m
-    by (Broken page) (Some rows) = note_apart seat (Next n) (Damaged page) m
-    by Well (Some rows) = given rows
-    by NoRoom (Some rows) = given rows
+next_apart m seat n outcome = grind (arith, common_steps, nat_tests)
 
 turn_apart : (c : Choice) (outcome : Outcome) (seat : ℕ) (m : Machine) → m.stopped ≡ None → Apart seat 1 m (do_turn c outcome seat m).state
-turn_apart c (FailedAfter commits faults) seat m none = apart_more seat 0 1 (omega arith) (stop_apart seat (Faulted faults) m none)
-turn_apart c (Broken page) seat m none = apart_more seat 0 1 (omega arith) (stop_apart seat (why.BadPage page) m none)
-turn_apart c Well seat m none = chosen_apart c seat m
-turn_apart c NoRoom seat m none = chosen_apart c seat m
+turn_apart c outcome seat m h1 = grind (arith, common_steps, nat_tests, apart_more, stop_apart, chosen_apart)
 
 work_turn_apart : (m : Machine) (seat : ℕ) (outcome : Outcome) → Apart seat 1 m (work_turn m seat outcome).state
 work_turn_apart m seat outcome =
@@ -483,24 +271,7 @@ worker_turn_apart : (m : Machine) (seat : ℕ) (outcome : Outcome) → callers �
 worker_turn_apart m seat outcome worker = counted (worker_turning m.stopped (is_closed m) m seat outcome).state (by m.stopped refl (is_closed m))
   where
     counted : (n : Machine) → Apart seat 1 m n → Apart seat 1 m (record n { seats = record n.seats { turns = slice_set n.seats.turns (seat - callers) (turn_more (slice_index n.seats.turns (seat - callers))) } })
-    counted n p = record {
-      fixed = p.fixed;
-      peak = p.peak;
-      stopped = p.stopped;
-      closed = p.closed;
-      kept = p.kept;
-      quanta = p.quanta;
-      its = p.its;
-      counts = p.counts;
-      held = p.held;
-      work = p.work;
-      turns = λ other here apart. get_or-set_other n.seats.turns (seat - callers) (other - callers) (turn_more (slice_index n.seats.turns (seat - callers))) 0 (λ same. apart (omega (arith, worker, here, same))) ∙ p.turns other here apart;
-      left = p.left;
-      entries_room = p.entries_room;
-      rows_room = p.rows_room;
-      first = p.first;
-      second = p.second;
-    }
+    counted n p = grind (arith, common_steps, nat_tests)
 
     by : (o : Option Why) → m.stopped ≡ o → (b : Bool) → Apart seat 1 m (worker_turning o b m seat outcome).state
     by (Some cause) is b = apart_more seat 0 1 (omega arith) (apart_itself seat m)
@@ -508,11 +279,7 @@ worker_turn_apart m seat outcome worker = counted (worker_turning m.stopped (is_
     by None is false = turn_apart (choice (nat_lt m.gears.sizes.low m.spring) false m) outcome seat m is
 
 work_end_apart : (m : Machine) (seat n : ℕ) → Apart seat 0 m (work_end m seat n).state
-work_end_apart m seat n =
-    let reply = work_reply (work_of seat m) m.stopped in
-    apart_on seat 0 0 (note_apart seat (Work n) reply m)
-    (apart_on seat 0 0 (recounted_apart seat (length m.book.entries) (work_of seat m).quanta (note seat (Work n) reply m))
-    (work_apart seat no_work (record (note seat (Work n) reply m) { book = counted_up (note seat (Work n) reply m).book (length m.book.entries) (work_of seat m).quanta })))
+work_end_apart m seat n = grind (arith, common_steps, nat_tests)
 
 still_all : (bs : List Bool) (seat : ℕ) → all_true bs ≡ true → all_true (slice_set bs seat true) ≡ true
 still_all [] seat all = all
@@ -521,24 +288,7 @@ still_all (b ∷ bs) (suc seat) all =
     let parts = both_hold b (all_true bs) all in both b (all_true (slice_set bs seat true)) parts.0 (still_all bs seat parts.1)
 
 leave_apart : (m : Machine) (seat : ℕ) → Apart seat 0 m (leave m seat).state
-leave_apart m seat = record {
-  fixed = (refl, refl, refl);
-  peak = omega arith;
-  stopped = λ why is. is;
-  closed = λ is. still_all m.seats.left seat is;
-  kept = omega arith;
-  quanta = omega arith;
-  its = omega arith;
-  counts = λ other apart. refl;
-  held = λ other apart. refl;
-  work = λ other apart. refl;
-  turns = λ other worker apart. refl;
-  left = λ other apart. get_or-set_other m.seats.left seat other true false apart;
-  entries_room = λ other apart. refl;
-  rows_room = λ other apart. refl;
-  first = λ other apart. omega arith;
-  second = λ other apart. omega arith;
-}
+leave_apart m seat = grind (arith, common_steps, nat_tests, still_all, get_or-set_other)
 
 -- whatever the step and its outcome, where a worker's turn is a worker's
 pub step_apart : (m : Machine) (seat : ℕ) (k : Kind) (outcome : Outcome) → (is_help k ≡ true → callers ≤ seat) → Apart seat 1 m (stepped_as m seat k outcome).state

@@ -1,5 +1,5 @@
 -- A step notes one entry of its seat, or none.
-use Rattle.std.proofs.Common.{◌≡◌, ◌<◌, ◌⊎◌, ℕ, ◌+◌, ◌-◌, length, arith, inl, inr, Bool, cond, true, false, ◌&&◌, List, [], ◌∷◌, ◌++◌, take, drop, Some, None, Option, refl, ap, ◌∙◌}
+use Rattle.std.proofs.Common.{◌≡◌, ◌<◌, ◌⊎◌, ℕ, ◌+◌, ◌-◌, length, arith, inl, inr, Bool, cond, true, false, ◌&&◌, List, [], ◌∷◌, ◌++◌, None, Option, refl, ap, ◌∙◌}
 use Rattle.std.proofs.lemmas.Grind.{common_steps}
 use Rattle.std.proofs.lemmas.Bool.Decides.{nat_tests}
 use Rattle.std.specs.Prelude.{◌==◌, nat_lt, nat_le, sum, slice_index, slice_set}
@@ -14,23 +14,19 @@ use Rattle.blsm_model.specs.declared.key.Key.{Key}
 use Rattle.blsm_model.specs.declared.row.Row.{Row}
 use Rattle.blsm_model.specs.declared.op.Op.{Op}
 use Rattle.blsm_model.specs.declared.op.Op.TheVariants.{Get, Hold, Next, Release, Work}
-use Rattle.blsm_model.specs.declared.history.Why.{Why}
 use Rattle.blsm_model.specs.declared.history.Why.TheVariants.{Faulted}
 use Rattle.blsm_model.specs.declared.history.Reply.{Reply}
-use Rattle.blsm_model.specs.declared.history.Reply.TheVariants.{Done, Held, Rows, NoHold, Full, NoMemory, FaultLost, FaultUnsure, Fault, Damaged, Stopped}
+use Rattle.blsm_model.specs.declared.history.Reply.TheVariants.{Done, Full, FaultLost, FaultUnsure}
 use Rattle.blsm_model.specs.Book.{Book, room_after}
 use Rattle.blsm_model.specs.Geometry.{charge_limit}
 use Rattle.blsm_model.specs.Histories.{writes_of, answer_to_get, answer_to_release}
 use Rattle.blsm_model.specs.Legal.{total_weight}
 use Rattle.tree_machine.specs.declared.step.Kind.{Kind}
 use Rattle.tree_machine.specs.declared.step.Kind.TheVariants as kind
-use Rattle.gear_sched.specs.Gears.{plan_for, first_debt, second_debt}
-use Rattle.gear_sched.specs.declared.Plan.{Plan}
-use Rattle.gear_sched.specs.declared.Plan.TheVariants.{Snow, Deep, Nothing}
-use Rattle.tree_machine.specs.Lists.{value_in, rows_in}
+use Rattle.tree_machine.specs.Lists.{value_in}
 use Rattle.tree_machine.specs.Machine.{Machine, is_caller, is_closed, charge, held_by, work_of}
 use Rattle.tree_machine.specs.Moves.{swap_pass, pass_quantum, deep_quantum, with_peak, note, stop}
-use Rattle.tree_machine.specs.Steps.{Choice, chosen, deep_swapped, ready_for, taken_once, forgive, holding, Outcome, Well, FailedAfter, Broken, NoRoom, Stepped, replied, unless_stopped, swaps_due, admit, admit_fitting, do_pay, pay_planned, pay, pay_running, reply_unless, do_hold, do_next, do_turn, work_turning, worker_turning, work_reply}
+use Rattle.tree_machine.specs.Steps.{Choice, chosen, deep_swapped, ready_for, taken_once, holding, Outcome, Well, FailedAfter, Broken, NoRoom, Stepped, replied, unless_stopped, swaps_due, admit, admit_fitting, pay, reply_unless, do_hold, do_next, do_turn, work_turning, worker_turning, work_reply}
 use Rattle.tree_machine.specs.Plays.{stepped_as}
 use Rattle.blsm_model.specs.Facts.{Notes}
 use Rattle.blsm_model.specs.declared.op.Write.{Write}
@@ -66,8 +62,7 @@ abbrev pub Grows : ℕ → Machine → Machine → Type 0
 Grows seat old new = Keeps old new ⊎ ((entry : Entry) × (entry.seat ≡ seat) × (new.book.entries ≡ old.book.entries ++ entry ∷ []) × (new.book.room ≡ room_after old.book.room entry))
 
 pub notes : (seat : ℕ) (old new : Machine) → Grows seat old new → Notes seat old.book.entries new.book.entries
-notes seat old new (inl same) = inl same.0
-notes seat old new (inr noted) = inr (noted.0, noted.1, noted.2)
+notes seat old new h1 = grind (arith, common_steps, nat_tests)
 
 noted_grows : (seat : ℕ) (op : Op) (reply : Reply) (m n : Machine) → n.book ≡ m.book → Grows seat m (note seat op reply n)
 noted_grows seat op reply m n same = inr (record { seat = seat; op = op; reply = reply }, refl, ap (λ (b : Book). b.entries ++ record { seat = seat; op = op; reply = reply } ∷ []) same, ap (λ (b : Book). room_after b.room (record { seat = seat; op = op; reply = reply })) same)
@@ -76,11 +71,7 @@ keeps : (m n : Machine) → n.book ≡ m.book → Keeps m n
 keeps m n same = (ap (λ (b : Book). b.entries) same, ap (λ (b : Book). b.room) same)
 
 unless_grows : (seat : ℕ) (op : Op) (m : Machine) (otherwise : Stepped) → Grows seat m otherwise.state → Grows seat m (unless_stopped m.stopped seat op m otherwise).state
-unless_grows seat op m otherwise grows = by m.stopped
-  where
-    by : (o : Option Why) → Grows seat m (unless_stopped o seat op m otherwise).state
-    by (Some why) = noted_grows seat op (Stopped why) m m refl
-    by None = grows
+unless_grows seat op m otherwise grows = grind (arith, common_steps, nat_tests)
 
 pub taken_book : (seat : ℕ) (ws : List Write) (m : Machine) → (taken_once seat ws m).book ≡ m.book
 taken_book seat ws m = grind (arith, common_steps, nat_tests)
@@ -114,35 +105,13 @@ admit_grows m seat op outcome =
     by false = fitting outcome
 
 pub pay_keeps : (m : Machine) (seat : ℕ) (outcome : Outcome) → Keeps m (pay m seat outcome).state
-pay_keeps m seat outcome = by m.stopped
-  where
-    owing : (quantum : Machine → Machine) → (quantum (forgive seat m)).book ≡ m.book → (o : Outcome) → Keeps m (do_pay (forgive seat m) quantum seat o).state
-    owing quantum same (FailedAfter commits faults) = (refl, refl)
-    owing quantum same (Broken page) = (refl, refl)
-    owing quantum same Well = (ap (λ (b : Book). b.entries) same, ap (λ (b : Book). b.room) same)
-    owing quantum same NoRoom = (ap (λ (b : Book). b.entries) same, ap (λ (b : Book). b.room) same)
-
-    planned : (plan : Plan) → Keeps m (pay_planned plan (forgive seat m) seat outcome).state
-    planned Snow = owing (pass_quantum seat) (pass_quantum_book seat (forgive seat m)) outcome
-    planned Deep = owing (deep_quantum seat) (deep_quantum_book seat (forgive seat m)) outcome
-    planned Nothing = (refl, refl)
-
-    by : (o : Option Why) → Keeps m (pay_running o m seat outcome).state
-    by (Some cause) = (refl, refl)
-    by None = planned (plan_for (first_debt (forgive seat m).gears seat) (second_debt (forgive seat m).gears seat))
+pay_keeps m seat outcome = grind (arith, common_steps, nat_tests)
 
 hold_grows : (m : Machine) (seat : ℕ) (low high : Key) (outcome : Outcome) → Grows seat m (do_hold m seat low high outcome).state
-hold_grows m seat low high NoRoom = noted_grows seat (Hold low high) NoMemory m m refl
-hold_grows m seat low high Well = noted_grows seat (Hold low high) Held m (holding seat (Some (rows_in m.lists low high)) m) refl
-hold_grows m seat low high (FailedAfter commits faults) = noted_grows seat (Hold low high) Held m (holding seat (Some (rows_in m.lists low high)) m) refl
-hold_grows m seat low high (Broken page) = noted_grows seat (Hold low high) Held m (holding seat (Some (rows_in m.lists low high)) m) refl
+hold_grows m seat low high outcome = grind (arith, common_steps, nat_tests)
 
 next_grows : (m : Machine) (seat n : ℕ) (outcome : Outcome) (held : Option (List Row)) → Grows seat m (do_next m seat n outcome held).state
-next_grows m seat n outcome None = noted_grows seat (Next n) NoHold m m refl
-next_grows m seat n (FailedAfter commits faults) (Some rows) = noted_grows seat (Next n) Fault m m refl
-next_grows m seat n (Broken page) (Some rows) = noted_grows seat (Next n) (Damaged page) m m refl
-next_grows m seat n Well (Some rows) = noted_grows seat (Next n) (Rows (take n rows)) m (holding seat (Some (drop n rows)) m) refl
-next_grows m seat n NoRoom (Some rows) = noted_grows seat (Next n) (Rows (take n rows)) m (holding seat (Some (drop n rows)) m) refl
+next_grows m seat n outcome held = grind (arith, common_steps, nat_tests)
 
 pub turn_book : (c : Choice) (outcome : Outcome) (seat : ℕ) (m : Machine) → (do_turn c outcome seat m).state.book ≡ m.book
 turn_book c outcome seat m = grind (arith, common_steps, nat_tests)

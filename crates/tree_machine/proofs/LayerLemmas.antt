@@ -1,14 +1,14 @@
 -- What the moves of the merges keep: the order of the lists, and the value of every key.
-use Rattle.std.proofs.Common.{◌≡◌, ℕ, true, [], Some, None, Option, refl, ap, sym, subst, ◌∙◌}
+use Rattle.std.proofs.Common.{◌≡◌, ℕ, true, [], Some, None, Option, refl, ap, ◌∙◌}
 use Rattle.std.proofs.lemmas.Grind.{common_steps}
 use Rattle.std.proofs.lemmas.Bool.Decides.{nat_tests}
 use Rattle.std.proofs.Common.{arith}
 use Rattle.std.proofs.lemmas.Bool.{false≢true}
 use Rattle.record_delta.specs.declared.record.Rec.{Rec}
 use Rattle.record_delta.specs.Records.{settled}
-use Rattle.record_delta.specs.Entries.{Entries, over_any, record_of_key, settled_entries}
+use Rattle.record_delta.specs.Entries.{over_any, record_of_key, settled_entries}
 use Rattle.tree_machine.specs.Merges.{Merge, quantum_of}
-use Rattle.tree_machine.specs.Layers.{IsBehind, IsPassOver, IsDeepOver, AreLayered, as_base, as_it_is, Keeps}
+use Rattle.tree_machine.specs.Layers.{IsPassOver, IsDeepOver, AreLayered, as_base, as_it_is, Keeps}
 use Rattle.tree_machine.specs.Machine.{Machine, pass_is_done, deep_is_done, pass_done, deep_done}
 use Rattle.tree_machine.specs.Moves.{begin_pass, rotate, swap_deep, end_pass, output_of, pass_quantum, deep_quantum, pass_quantum_of, deep_quantum_of}
 use Rattle.tree_machine.proofs.FoldLemmas.{over_any_assoc}
@@ -31,21 +31,7 @@ five_deep b a c1 c1x c2 = grind (arith, common_steps, nat_tests)
 -- ---- begins
 
 pub begin_keeps : (m : Machine) → AreLayered m.lists m.merges → m.merges.pass ≡ None → Keeps m (begin_pass m)
-begin_keeps m layered none = record {
-  layered = record {
-    sorted_b = layered.sorted_b;
-    sorted_a = layered.sorted_a;
-    sorted_c1 = layered.sorted_c1;
-    sorted_c1x = layered.sorted_c1x;
-    sorted_c2 = layered.sorted_c2;
-    pass = (subst (λ (es : Entries). IsBehind None es) (sym empty) tt, record { folds = λ q. refl; sorted = refl; behind = tt });
-    deep = layered.deep;
-  };
-  values = λ q. refl;
-}
-  where
-    empty : m.lists.b ≡ []
-    empty = subst (λ p. IsPassOver m.lists p) none layered.pass
+begin_keeps m layered none = grind (arith, common_steps, nat_tests)
 
 -- ---- quanta
 
@@ -141,21 +127,4 @@ end_pass_keeps m layered done = by m.merges.pass layered.pass done
     }
 
 pub rotate_keeps : (m : Machine) → AreLayered m.lists m.merges → m.merges.pass ≡ None → m.merges.deep ≡ None → Keeps m (rotate m)
-rotate_keeps m layered no_pass no_deep = record {
-  layered = record {
-    sorted_b = layered.sorted_b;
-    sorted_a = layered.sorted_a;
-    sorted_c1 = refl;
-    sorted_c1x = layered.sorted_c1;
-    sorted_c2 = layered.sorted_c2;
-    pass = subst (λ p. IsPassOver (rotate m).lists p) (sym no_pass) empty_b;
-    deep = record { folds = λ q. refl; sorted = refl; behind = tt };
-  };
-  values = λ q. ap (λ (es : Entries). settled (five (record_of_key q m.lists.b) (record_of_key q m.lists.a) (record_of_key q m.lists.c1) (record_of_key q es) (record_of_key q m.lists.c2))) (sym empty_c1x);
-}
-  where
-    empty_b : m.lists.b ≡ []
-    empty_b = subst (λ p. IsPassOver m.lists p) no_pass layered.pass
-
-    empty_c1x : m.lists.c1x ≡ []
-    empty_c1x = subst (λ p. IsDeepOver m.lists p) no_deep layered.deep
+rotate_keeps m layered no_pass no_deep = grind (arith, common_steps, nat_tests)

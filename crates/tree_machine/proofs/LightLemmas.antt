@@ -1,14 +1,9 @@
 -- The records of the lists are within the format's lengths, so none weighs more than the heaviest entry.
-use Rattle.std.proofs.Common.{◌≡◌, ℕ, length, ◌^◌, ◌<◌, ◌-◌, ◌≤◌, Bool, cond, true, false, [], ◌∷◌, ◌++◌, Some, refl, sym, subst, arith}
+use Rattle.std.proofs.Common.{ℕ, length, ◌^◌, ◌<◌, ◌-◌, ◌≤◌, [], ◌∷◌, ◌++◌, arith}
 use Rattle.std.proofs.lemmas.Grind.{common_steps}
 use Rattle.std.proofs.lemmas.Bool.Decides.{nat_tests}
-use Rattle.std.specs.Prelude.{nat_lt}
 use Rattle.std.specs.List.{AllByRecursion}
-use Rattle.std.specs.Ordering.{eq_by_cmp}
-use Rattle.std.specs.declared.cmp.Ordering.{Ordering}
-use Rattle.std.specs.declared.cmp.Ordering.TheVariants.{Less, Equal, Greater}
 use Rattle.std.specs.FinMap.{put}
-use Rattle.std.specs.FinMap.Entries.{by_order}
 use Rattle.blsm_model.specs.Format.{most_key, most_text, most_weight}
 use Rattle.blsm_model.specs.declared.key.Key.{Key}
 use Rattle.blsm_model.specs.declared.op.Write.{Write}
@@ -16,18 +11,16 @@ use Rattle.blsm_model.specs.Tails.{TailFits}
 use Rattle.blsm_model.specs.Keys.{key_cmp}
 use Rattle.blsm_model.specs.Values.{added_count, key_of, text_written, weight_of}
 use Rattle.record_delta.specs.declared.record.Rec.{Rec}
-use Rattle.record_delta.specs.declared.record.Rec.TheVariants.{Base, Delta, Tomb}
 use Rattle.record_delta.specs.Records.{record_of, text_limit, text_of, weight, settle, IsWithin}
 use Rattle.record_delta.specs.Folding.{over}
-use Rattle.record_delta.proofs.FoldingLemmas.{fold_within, within_is_light}
-use Rattle.record_delta.specs.Entries.{Entries, above, folded_over, record_of_key, settled_base, settled_entries, with_record}
+use Rattle.record_delta.proofs.FoldingLemmas.{within_is_light}
+use Rattle.record_delta.specs.Entries.{Entries, folded_over, record_of_key, settled_base, settled_entries, with_record}
 use Rattle.tree_machine.specs.Lists.{Lists}
 use Rattle.tree_machine.specs.Merges.{Merge, until, quantum_of}
 use Rattle.tree_machine.specs.Machine.{Merges}
-use Rattle.tree_machine.specs.Moves.{goes_to_a, with_write}
+use Rattle.tree_machine.specs.Moves.{with_write}
 use Rattle.tree_machine.specs.Layers.{AreLight, AllLight}
 use Rattle.tree_machine.specs.Stands.{FitsFormat}
-use Rattle.tree_machine.proofs.FoldLemmas.{tied, equal_of}
 use Rattle.tree_machine.proofs.QuantumLemmas.{all_ahead}
 use Rattle.tree_machine.proofs.WeightLemmas.{weight_of_record}
 
@@ -45,32 +38,18 @@ text_within : (write : Write) → length (text_written write) ≤ most_text → 
 text_within write h1 h2 = grind (arith, common_steps, nat_tests)
 
 pub fits_format : (write : Write) → added_count write < 2 ^ 64 → (1 ≤ length (key_of write)) × (length (key_of write) ≤ most_key) → length (text_written write) ≤ most_text → TailFits write → FitsFormat write
-fits_format write count key text tail = record {
-  counts = count;
-  within = record { key_most = key.1; text_most = text_within write text tail };
-  tail = tail;
-  least = omega (arith, key.0);
-}
+fits_format write count key text tail = grind (arith, common_steps, nat_tests)
 
 -- ---- lists that are made of others
 
 light_put : (key : Key) (rec : Rec) (es : Entries) → IsWithin key rec → AreLight es → AreLight (put key_cmp key rec es)
 light_put key rec [] here light = (here, tt)
-light_put key rec (e ∷ es) here light = by (key_cmp key e.0) refl (light_put key rec es here light.1)
-  where
-    by : (o : Ordering) → key_cmp key e.0 ≡ o → AreLight (put key_cmp key rec es) → AreLight (by_order o ((key, rec) ∷ e ∷ es) ((e.0, rec) ∷ es) (e ∷ put key_cmp key rec es))
-    by Less is rest = (here, light)
-    by Equal is rest = (subst (λ (k : Key). IsWithin k rec) (tied key e.0 is) here, light.1)
-    by Greater is rest = (light.0, rest)
+light_put key rec (e ∷ es) here light = grind (arith, common_steps, nat_tests, light_put key rec es here light.1)
 
 -- a record over the one that the list has of its key, if it has one
 light_over : (key : Key) (rec : Rec) (es : Entries) → IsWithin key rec → AreLight es → IsWithin key (over rec (record_of_key key es))
 light_over key rec [] here light = here
-light_over key rec (e ∷ es) here light = by (eq_by_cmp key_cmp key e.0) refl (light_over key rec es here light.1)
-  where
-    by : (b : Bool) → eq_by_cmp key_cmp key e.0 ≡ b → IsWithin key (over rec (record_of_key key es)) → IsWithin key (over rec (cond b (Some e.1) (record_of_key key es)))
-    by true same rest = fold_within key rec e.1 here (subst (λ (k : Key). IsWithin k e.1) (sym (tied key e.0 (equal_of (key_cmp key e.0) same))) light.0)
-    by false apart rest = rest
+light_over key rec (e ∷ es) here light = grind (arith, common_steps, nat_tests, light_over key rec es here light.1)
 
 pub light_with : (key : Key) (rec : Rec) (es : Entries) → IsWithin key rec → AreLight es → AreLight (with_record key rec es)
 light_with key rec es here light = light_put key (over rec (record_of_key key es)) es (light_over key rec es here light) light
@@ -81,36 +60,21 @@ light_folded (e ∷ newer) older new old = light_with e.0 e.1 (folded_over newer
 
 light_until : (weigh : Key → ℕ) (wanted : ℕ) (es : Entries) → AreLight es → AreLight (until wanted weigh es)
 light_until weigh wanted [] light = tt
-light_until weigh wanted (e ∷ es) light = (light.0, by (nat_lt (weigh e.0) wanted) (light_until weigh (wanted - weigh e.0) es light.1))
-  where
-    by : (b : Bool) → AreLight (until (wanted - weigh e.0) weigh es) → AreLight (cond b (until (wanted - weigh e.0) weigh es) [])
-    by true rest = rest
-    by false rest = tt
+light_until weigh wanted (e ∷ es) light = grind (arith, common_steps, nat_tests, light_until weigh (wanted - weigh e.0) es light.1)
 
 pub light_append : (xs ys : Entries) → AreLight xs → AreLight ys → AreLight (xs ++ ys)
 light_append [] ys p q = q
 light_append (x ∷ xs) ys p q = (p.0, light_append xs ys p.1 q)
 
 light_base : (key : Key) (rec : Rec) (es : Entries) → IsWithin key rec → AreLight es → AreLight (settled_base key (settle rec) es)
-light_base key (Base v) es here light = (here, light)
-light_base key (Delta d) es here light = (record { key_most = here.key_most; text_most = omega (arith, here.text_most) }, light)
-light_base key Tomb es here light = light
+light_base key rec es h1 h2 = grind (arith, common_steps, nat_tests)
 
 pub light_settled : (es : Entries) → AreLight es → AreLight (settled_entries es)
 light_settled [] light = tt
 light_settled (e ∷ es) light = light_base e.0 e.1 (settled_entries es) light.0 (light_settled es light.1)
 
 pub light_groups : (quantum : ℕ) (merge : Merge) (newer older : Entries) → AreLight newer → AreLight older → AreLight (quantum_of quantum merge newer older).groups
-light_groups quantum merge newer older new old =
-    light_until _ quantum (folded_over (above merge.cursor newer) (above merge.cursor older))
-    (light_folded (above merge.cursor newer) (above merge.cursor older) (all_ahead (λ e. IsWithin e.0 e.1) merge.cursor newer new)
-    (all_ahead (λ e. IsWithin e.0 e.1) merge.cursor older old))
+light_groups quantum merge newer older new old = grind (arith, common_steps, nat_tests, light_until, light_folded, all_ahead)
 
 pub light_write : (key : Key) (rec : Rec) (lists : Lists) (merges : Merges) → IsWithin key rec → AllLight lists merges → AllLight (with_write merges.pass key rec lists) merges
-light_write key rec lists merges here light = by (goes_to_a merges.pass key)
-  where
-    by : (b : Bool) → AllLight (cond b
-        (record { b = lists.b; a = with_record key rec lists.a; c1 = lists.c1; c1x = lists.c1x; c2 = lists.c2 })
-        (record { b = with_record key rec lists.b; a = lists.a; c1 = lists.c1; c1x = lists.c1x; c2 = lists.c2 })) merges
-    by true = record { b = light.b; a = light_with key rec lists.a here light.a; c1 = light.c1; c1x = light.c1x; c2 = light.c2; pass = light.pass; deep = light.deep }
-    by false = record { b = light_with key rec lists.b here light.b; a = light.a; c1 = light.c1; c1x = light.c1x; c2 = light.c2; pass = light.pass; deep = light.deep }
+light_write key rec lists merges here light = grind (arith, common_steps, nat_tests, light_with)

@@ -1,15 +1,13 @@
 -- What a quantum of a merge keeps: what was written is the fold of the inputs up to the cursor. A merge that is done has
 -- written the fold of its whole inputs.
-use Rattle.std.proofs.Common.{◌≡◌, ℕ, ◌-◌, inl, inr, Bool, cond, true, false, [], ◌∷◌, ◌++◌, Some, None, Option, refl, ap, sym, ◌∙◌}
+use Rattle.std.proofs.Common.{◌≡◌, ℕ, ◌-◌, Bool, cond, true, false, [], ◌∷◌, ◌++◌, Some, None, Option, refl, ap, sym, ◌∙◌}
 use Rattle.std.proofs.lemmas.Grind.{common_steps}
 use Rattle.std.proofs.lemmas.Bool.Decides.{nat_tests}
 use Rattle.std.proofs.Common.{arith}
-use Rattle.std.specs.Prelude.{nat_lt}
 use Rattle.std.specs.List.{AllByRecursion}
 use Rattle.std.specs.Ordering.{is_lt, eq_by_cmp}
-use Rattle.std.specs.declared.cmp.Ordering.TheVariants.{Less, Equal, Greater}
 use Rattle.std.specs.FinMap.{is_sorted, put}
-use Rattle.std.specs.FinMap.Entries.{below_all, by_order}
+use Rattle.std.specs.FinMap.Entries.{below_all}
 use Rattle.std.proofs.lemmas.Bool.{false≢true}
 use Rattle.blsm_model.specs.declared.key.Key.{Key}
 use Rattle.blsm_model.specs.declared.row.Value.{Value}
@@ -31,20 +29,11 @@ AllAhead cursor es = AllByRecursion (λ e. is_above cursor e.0 ≡ true) es
 
 ahead_of : (cursor : Option Key) (es : Entries) → AllAhead cursor (above cursor es)
 ahead_of cursor [] = tt
-ahead_of cursor (e ∷ es) = by (is_above cursor e.0) refl (ahead_of cursor es)
-  where
-    by : (b : Bool) → is_above cursor e.0 ≡ b → AllAhead cursor (above cursor es) → AllAhead cursor (cond b (e ∷ above cursor es) (above cursor es))
-    by true is rest = (is, rest)
-    by false is rest = rest
+ahead_of cursor (e ∷ es) = grind (arith, common_steps, nat_tests, ahead_of cursor es)
 
 ahead_put : (cursor : Option Key) (key : Key) (rec : Rec) (es : Entries) → is_above cursor key ≡ true → AllAhead cursor es → AllAhead cursor (put key_cmp key rec es)
 ahead_put cursor key rec [] here all = (here, tt)
-ahead_put cursor key rec (e ∷ es) here all =
-    elim (key_cmp key e.0) as (λ o. AllAhead cursor (by_order o ((key, rec) ∷ e ∷ es) ((e.0, rec) ∷ es) (e ∷ put key_cmp key rec es))) [
-      | Less ↦ (here, all)
-      | Equal ↦ all
-      | Greater ↦ (all.0, ahead_put cursor key rec es here all.1)
-    ]
+ahead_put cursor key rec (e ∷ es) here all = grind (arith, common_steps, nat_tests, ahead_put cursor key rec es here all.1)
 
 ahead_folded : (cursor : Option Key) (newer older : Entries) → AllAhead cursor newer → AllAhead cursor older → AllAhead cursor (folded_over newer older)
 ahead_folded cursor [] older new old = old
@@ -53,10 +42,7 @@ ahead_folded cursor (e ∷ newer) older new old =
 
 ahead_until : (cursor : Option Key) (wanted : ℕ) (weigh : Key → ℕ) (es : Entries) → AllAhead cursor es → AllAhead cursor (until wanted weigh es)
 ahead_until cursor wanted weigh [] all = tt
-ahead_until cursor wanted weigh (e ∷ es) all = (
-  all.0,
-  elim (nat_lt (weigh e.0) wanted) as (λ b. AllAhead cursor (cond b (until (wanted - weigh e.0) weigh es) [])) [ true ↦ ahead_until cursor (wanted - weigh e.0) weigh es all.1 | false ↦ tt ],
-)
+ahead_until cursor wanted weigh (e ∷ es) all = grind (arith, common_steps, nat_tests, ahead_until cursor (wanted - weigh e.0) weigh es all.1)
 
 -- ---- behind the next cursor
 
@@ -68,13 +54,7 @@ behind_cursor cursor (e ∷ groups) sorted =
 
 pub still_behind : (cursor : Option Key) (groups es : Entries) → is_sorted key_cmp groups ≡ true → AllAhead cursor groups → IsBehind cursor es → IsBehind (cursor_after cursor groups) es
 still_behind cursor groups [] sorted all behind = tt
-still_behind cursor groups (e ∷ es) sorted all behind = (
-  elim (by_test (is_above (cursor_after cursor groups) e.0)) [
-    | inl past ↦ absurd (false≢true (sym behind.0 ∙ still_ahead cursor groups e.0 sorted all past))
-    | inr here ↦ here
-  ],
-  still_behind cursor groups es sorted all behind.1,
-)
+still_behind cursor groups (e ∷ es) sorted all behind = grind (arith, common_steps, nat_tests, still_behind cursor groups es sorted all behind.1, by_test, still_ahead)
 
 behind_append : (cursor : Option Key) (xs ys : Entries) → IsBehind cursor xs → IsBehind cursor ys → IsBehind cursor (xs ++ ys)
 behind_append cursor [] ys p q = q
@@ -134,11 +114,7 @@ settled_sorted (e ∷ es) h =
 
 settled_all : (P : Key → Type 0) (es : Entries) → AllByRecursion (λ e. P e.0) es → AllByRecursion (λ e. P e.0) (settled_entries es)
 settled_all P [] all = tt
-settled_all P (e ∷ es) all = by (settle e.1) all.0 (settled_all P es all.1)
-  where
-    by : (v : Option Value) → P e.0 → AllByRecursion (λ f. P f.0) (settled_entries es) → AllByRecursion (λ f. P f.0) (settled_base e.0 v (settled_entries es))
-    by None p q = q
-    by (Some v) p q = (p, q)
+settled_all P (e ∷ es) all = grind (arith, common_steps, nat_tests, settled_all P es all.1)
 
 abbrev based : Option Value → Option Rec
 based None = None

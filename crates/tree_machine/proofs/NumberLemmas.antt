@@ -1,5 +1,5 @@
 -- The gears' numbers are those of the lists: when a merge is done, and what it wrote.
-use Rattle.std.proofs.Common.{◌≡◌, ◌+◌, ◌≤◌, Bool, cond, true, not, ◌||◌, T, None, Option, ap, sym, subst, ◌∙◌, arith}
+use Rattle.std.proofs.Common.{◌≡◌, ◌+◌, ◌≤◌, Bool, cond, true, not, T, None, Option, ap, sym, subst, ◌∙◌, arith}
 use Rattle.std.proofs.lemmas.Grind.{common_steps}
 use Rattle.std.proofs.lemmas.Bool.Decides.{nat_tests}
 use Rattle.std.specs.FinMap.{is_sorted}
@@ -87,8 +87,4 @@ deep_runs m sound done = grind (arith, common_steps, nat_tests)
 -- no deep merge is cut off where the numbers say so
 pub way_by_numbers : (m : Machine) → IsSound m → (in_pass m ≡ true → m.gears.pass_taken ≡ entries_weight m.lists.a + entries_weight m.lists.c1 → c1_mark m.gears.sizes ≤ entries_weight (output_of m.merges.pass)
     → in_deep m ≡ true → m.gears.deep_taken ≡ m.gears.deep_input) → HasWay m
-way_by_numbers m sound in_time done heavy =
-    by (in_deep m) (deep_done m) (λ runs. deep_done_when_taken m sound runs (in_time (pass_runs m sound done) (pass_taken_when_done m sound done) heavy runs))
-  where
-    by : (b c : Bool) → (b ≡ true → c ≡ true) → (not b || c) ≡ true
-    by b c h1 = grind (arith, common_steps, nat_tests)
+way_by_numbers m sound in_time done heavy = grind (arith, common_steps, nat_tests, deep_done_when_taken, pass_runs, pass_taken_when_done, common_steps, nat_tests)

@@ -210,11 +210,7 @@ light_any most (e ∷ es) all key = by (eq_by_cmp key_cmp key e.0) refl (light_a
 
 pub all_ahead : (P : Key × Rec → Type 0) (cursor : Option Key) (es : Entries) → AllByRecursion P es → AllByRecursion P (above cursor es)
 all_ahead P cursor [] all = tt
-all_ahead P cursor (e ∷ es) all = by (is_above cursor e.0) (all_ahead P cursor es all.1)
-  where
-    by : (b : Bool) → AllByRecursion P (above cursor es) → AllByRecursion P (cond b (e ∷ above cursor es) (above cursor es))
-    by true rest = (all.0, rest)
-    by false rest = rest
+all_ahead P cursor (e ∷ es) all = grind (arith, common_steps, nat_tests, all_ahead P cursor es all.1)
 
 pub quantum_few : (quantum most : ℕ) (merge : Merge) (newer older : Entries) → 1 ≤ quantum → AllByRecursion (λ e. weight e.0 e.1 ≤ most) newer → AllByRecursion (λ e. weight e.0 e.1 ≤ most) older
     → (quantum_of quantum merge newer older).weight ≤ quantum - 1 + 2 * most

@@ -1,97 +1,61 @@
 -- C2 keeps bases only, and C1' isn't empty while a deep merge runs.
-use Rattle.std.proofs.Common.{◌≡◌, ◌≢◌, ◌<◌, refl, ap, sym, subst, ◌∙◌, ℕ, ◌+◌, Bool, cond, true, false, not, ◌&&◌, ◌||◌, List, [], ◌∷◌, Option, Some, None, arith}
+use Rattle.std.proofs.Common.{◌≡◌, ◌≢◌, ◌<◌, refl, sym, subst, ℕ, ◌+◌, Bool, cond, true, false, not, ◌&&◌, ◌||◌, List, [], ◌∷◌, Option, Some, None, arith}
 use Rattle.std.proofs.lemmas.Grind.{common_steps}
 use Rattle.std.proofs.lemmas.Bool.Decides.{nat_tests}
-use Rattle.std.specs.Prelude.{◌==◌, nat_lt, nat_le}
-use Rattle.std.proofs.lemmas.Bool.{false≢true, leb-true}
+use Rattle.std.specs.Prelude.{◌==◌, nat_lt}
+use Rattle.std.proofs.lemmas.Bool.{false≢true}
 use Rattle.blsm_model.specs.declared.key.Key.{Key}
 use Rattle.blsm_model.specs.declared.row.Row.{Row}
-use Rattle.blsm_model.specs.declared.row.Value.{Value}
 use Rattle.blsm_model.specs.declared.op.Op.{Op}
 use Rattle.blsm_model.specs.declared.op.Op.TheVariants.{Get, Hold, Next, Release}
-use Rattle.blsm_model.specs.declared.op.Write.{Write}
 use Rattle.blsm_model.specs.declared.history.Reply.{Reply}
-use Rattle.blsm_model.specs.Values.{key_of}
 use Rattle.blsm_model.specs.declared.history.Why.{Why}
-use Rattle.blsm_model.specs.declared.history.Why.TheVariants as why
 use Rattle.blsm_model.specs.declared.history.Why.TheVariants.{Faulted}
-use Rattle.blsm_model.specs.declared.history.Reply.TheVariants.{Done, Full, FaultLost, FaultUnsure, Stopped}
+use Rattle.blsm_model.specs.declared.history.Reply.TheVariants.{Done, Full, FaultLost, FaultUnsure}
 use Rattle.blsm_model.specs.Geometry.{c1_mark, charge_limit}
 use Rattle.blsm_model.specs.Histories.{writes_of, answer_to_get, answer_to_release}
 use Rattle.blsm_model.specs.Legal.{total_weight, is_del}
 use Rattle.record_delta.specs.declared.record.Rec.{Rec}
-use Rattle.record_delta.specs.Records.{settle, record_of}
-use Rattle.record_delta.specs.Entries.{Entries, entries_weight, settled_base, settled_entries, folded_over}
+use Rattle.record_delta.specs.Entries.{Entries, entries_weight, settled_entries}
 use Rattle.gear_sched.specs.Gears.{plan_for, first_debt, second_debt, deep_is_behind}
 use Rattle.gear_sched.specs.declared.Plan.{Plan}
-use Rattle.gear_sched.specs.declared.Plan.TheVariants.{Snow, Deep, Nothing}
 use Rattle.tree_machine.specs.declared.step.Kind.{Kind}
 use Rattle.tree_machine.specs.declared.step.Kind.TheVariants as kind
-use Rattle.tree_machine.specs.Lists.{Lists, memory_weight, value_in}
-use Rattle.tree_machine.specs.Merges.{Merge, is_empty, is_done}
-use Rattle.tree_machine.specs.Machine.{Machine, in_pass, in_deep, pass_done, deep_is_done, deep_done, is_closed, charge, held_by}
-use Rattle.tree_machine.specs.Moves.{begin_pass, rotate, swap_pass, swap_deep, end_pass, output_of, pass_quantum, deep_quantum, pass_quantum_of, deep_quantum_of, with_write, take_write, with_peak, note, stop}
-use Rattle.tree_machine.specs.Steps.{Outcome, Well, FailedAfter, Broken, NoRoom, Stepped, SwapDeep, SwapPass, DeepQuantum, PassQuantum, Begin, Rotate, Rest, choice, chosen, replied, unless_stopped, swaps_due, admit, admit_fitting, deep_swapped, swapped, ready_for, taken_once, reply_unless, do_hold, do_next, holding, forgive, pay, pay_running, pay_planned, do_pay, do_turn, work_turning, worker_turning, work_turn, worker_turn}
+use Rattle.tree_machine.specs.Lists.{Lists, value_in}
+use Rattle.tree_machine.specs.Merges.{Merge, is_empty}
+use Rattle.tree_machine.specs.Machine.{Machine, in_pass, in_deep, pass_done, deep_done, is_closed, charge, held_by}
+use Rattle.tree_machine.specs.Moves.{begin_pass, rotate, swap_pass, swap_deep, pass_quantum, deep_quantum, with_write, with_peak, note, stop}
+use Rattle.tree_machine.specs.Steps.{Outcome, Well, FailedAfter, Broken, NoRoom, Stepped, SwapDeep, SwapPass, DeepQuantum, PassQuantum, Begin, Rotate, Rest, choice, chosen, replied, unless_stopped, swaps_due, admit, admit_fitting, deep_swapped, swapped, ready_for, taken_once, reply_unless, do_hold, do_next, holding, forgive, pay, pay_running, pay_planned, do_pay, do_turn, worker_turning, work_turn, worker_turn}
 use Rattle.tree_machine.specs.Plays.{stepped_as}
-use Rattle.tree_machine.specs.Layers.{IsSound, AreBases, AreSettled, IsDeepOver}
+use Rattle.tree_machine.specs.Layers.{IsSound, AreBases, AreSettled}
 use Rattle.tree_machine.proofs.WeightLemmas.{deep_output}
 
 -- ---- the lists
 
 settled_bases : (es : Entries) → AreBases (settled_entries es)
 settled_bases [] = tt
-settled_bases (e ∷ es) = by (settle e.1) (settled_bases es)
-  where
-    by : (v : Option Value) → AreBases (settled_entries es) → AreBases (settled_base e.0 v (settled_entries es))
-    by None rest = rest
-    by (Some value) rest = (tt, rest)
+settled_bases (e ∷ es) = grind (arith, common_steps, nat_tests, settled_bases es)
 
 -- what weighs something isn't empty
 some_there : (es : Entries) → entries_weight es ≢ 0 → is_empty es ≡ false
 some_there es h1 = grind (arith, common_steps, nat_tests)
 
 settled_on : (m n : Machine) → n.lists.c2 ≡ m.lists.c2 → n.lists.c1x ≡ m.lists.c1x → in_deep n ≡ in_deep m → AreSettled m → AreSettled n
-settled_on m n c2 c1x deep s = record {
-  bases = subst (λ es. AreBases es) (sym c2) s.bases;
-  merging = λ runs. ap is_empty c1x ∙ s.merging (sym deep ∙ runs);
-}
+settled_on m n c2 c1x deep s = grind (arith, common_steps, nat_tests)
 
 -- ---- the merges' moves
 
 swap_deep_settles : (m : Machine) → IsSound m → deep_done m ≡ true → AreSettled m → AreSettled (swap_deep m)
-swap_deep_settles m sound done s = record {
-  bases = by m.merges.deep sound.layered.deep done;
-  merging = λ runs. absurd (false≢true runs);
-}
-  where
-    by : (p : Option Merge) → IsDeepOver m.lists p → deep_is_done p m.lists ≡ true → AreBases (output_of p)
-    by None over done = tt
-    by (Some deep) over done = subst (λ es. AreBases es) (sym (deep_output_is deep over done)) (settled_bases (folded_over m.lists.c1x m.lists.c2))
-      where
-        deep_output_is : (deep : Merge) → IsDeepOver m.lists (Some deep) → is_done deep m.lists.c1x m.lists.c2 ≡ true → deep.output ≡ settled_entries (folded_over m.lists.c1x m.lists.c2)
-        deep_output_is deep over done = deep_output m.lists.c1x m.lists.c2 deep sound.layered.sorted_c1x sound.layered.sorted_c2 over done
+swap_deep_settles m sound done s = grind (arith, common_steps, nat_tests, settled_bases, deep_output)
 
 rotate_settles : (m : Machine) → is_empty m.lists.c1 ≡ false → AreSettled m → AreSettled (rotate m)
 rotate_settles m some s = record { bases = s.bases; merging = λ runs. some }
 
 swap_pass_settles : (m : Machine) → 0 < c1_mark m.gears.sizes → AreSettled m → AreSettled (swap_pass m)
-swap_pass_settles m mark s = by (nat_le (c1_mark m.gears.sizes) (entries_weight (output_of m.merges.pass))) refl
-  where
-    ended : AreSettled (end_pass m)
-    ended = record { bases = s.bases; merging = s.merging }
-
-    by : (b : Bool) → nat_le (c1_mark m.gears.sizes) (entries_weight (output_of m.merges.pass)) ≡ b → AreSettled (cond b (rotate (end_pass m)) (end_pass m))
-    by true is =
-        let heavy = leb-true (c1_mark m.gears.sizes) (entries_weight (output_of m.merges.pass)) is in
-        rotate_settles (end_pass m) (some_there (output_of m.merges.pass) (λ none. absurd (omega (arith, heavy, none, mark)))) ended
-    by false is = ended
+swap_pass_settles m mark s = grind (arith, common_steps, nat_tests)
 
 deep_swapped_settles : (m : Machine) → IsSound m → AreSettled m → AreSettled (deep_swapped m)
-deep_swapped_settles m sound s = by (deep_done m) refl
-  where
-    by : (b : Bool) → deep_done m ≡ b → AreSettled (cond b (swap_deep m) m)
-    by true is = swap_deep_settles m sound is s
-    by false is = s
+deep_swapped_settles m sound s = grind (arith, common_steps, nat_tests, swap_deep_settles)
 
 same_sizes : (m : Machine) → (deep_swapped m).gears.sizes ≡ m.gears.sizes
 same_sizes m = grind (arith, common_steps, nat_tests)
@@ -102,12 +66,10 @@ ready_settles weight m sound mark s =
     (swaps (deep_swapped m) (pass_done (deep_swapped m)) (subst (λ sizes. 0 < c1_mark sizes) (sym (same_sizes m)) mark) (deep_swapped_settles m sound s))
   where
     begins : (n : Machine) (b : Bool) → AreSettled n → AreSettled (cond b (begin_pass n) n)
-    begins n true s = record { bases = s.bases; merging = s.merging }
-    begins n false s = s
+    begins n b h1 = grind (arith, common_steps, nat_tests)
 
     swaps : (n : Machine) (b : Bool) → 0 < c1_mark n.gears.sizes → AreSettled n → AreSettled (cond b (swap_pass n) n)
-    swaps n true mark s = swap_pass_settles n mark s
-    swaps n false mark s = s
+    swaps n b h1 h2 = grind (arith, common_steps, nat_tests)
 
 -- ---- an admission
 
@@ -115,13 +77,7 @@ write_keeps : (pass : Option Merge) (key : Key) (rec : Rec) (lists : Lists) → 
 write_keeps pass key rec lists = grind (arith, common_steps, nat_tests)
 
 taken_settles : (seat : ℕ) (op : Op) (n : Machine) → AreSettled n → AreSettled (with_peak (taken_once seat (writes_of op) n))
-taken_settles seat op n s = by (writes_of op)
-  where
-    by : (ws : List Write) → AreSettled (with_peak (taken_once seat ws n))
-    by [] = record { bases = s.bases; merging = s.merging }
-    by (w ∷ ws) =
-        let kept = write_keeps n.merges.pass (key_of w) (record_of w) n.lists in
-        settled_on n (with_peak (take_write seat w n)) kept.0 kept.1 refl s
+taken_settles seat op n s = grind (arith, common_steps, nat_tests)
 
 -- a note or a stop keeps it
 noted : (seat : ℕ) (op : Op) (reply : Reply) (n : Machine) → AreSettled n → AreSettled (note seat op reply n)
@@ -131,8 +87,7 @@ stopped : (cause : Why) (n : Machine) → AreSettled n → AreSettled (stop caus
 stopped cause n s = record { bases = s.bases; merging = s.merging }
 
 unless_settles : (seat : ℕ) (op : Op) (m : Machine) (o : Option Why) (otherwise : Stepped) → AreSettled m → AreSettled otherwise.state → AreSettled (unless_stopped o seat op m otherwise).state
-unless_settles seat op m (Some cause) otherwise s t = noted seat op (Stopped cause) m s
-unless_settles seat op m None otherwise s t = t
+unless_settles seat op m o otherwise h1 h2 = grind (arith, common_steps, nat_tests)
 
 admit_settles : (m : Machine) (seat : ℕ) (op : Op) (outcome : Outcome) → IsSound m → 0 < c1_mark m.gears.sizes → AreSettled m → AreSettled (admit m seat op outcome).state
 admit_settles m seat op outcome sound mark s =
@@ -168,18 +123,10 @@ admit_settles m seat op outcome sound mark s =
 -- ---- payments and turns
 
 pass_quantum_settles : (seat : ℕ) (m : Machine) → AreSettled m → AreSettled (pass_quantum seat m)
-pass_quantum_settles seat m s = by m.merges.pass
-  where
-    by : (p : Option Merge) → AreSettled (pass_quantum_of p seat m)
-    by None = s
-    by (Some pass) = record { bases = s.bases; merging = s.merging }
+pass_quantum_settles seat m s = grind (arith, common_steps, nat_tests)
 
 deep_quantum_settles : (seat : ℕ) (m : Machine) → AreSettled m → AreSettled (deep_quantum seat m)
-deep_quantum_settles seat m s = by m.merges.deep
-  where
-    by : (p : Option Merge) → AreSettled (deep_quantum_of p seat m)
-    by None = s
-    by (Some deep) = record { bases = s.bases; merging = s.merging }
+deep_quantum_settles seat m s = grind (arith, common_steps, nat_tests)
 
 pay_settles : (m : Machine) (seat : ℕ) (outcome : Outcome) → AreSettled m → AreSettled (pay m seat outcome).state
 pay_settles m seat outcome s = by m.stopped
@@ -188,15 +135,10 @@ pay_settles m seat outcome s = by m.stopped
     forgave = record { bases = s.bases; merging = s.merging }
 
     owing : (quantum : Machine → Machine) → AreSettled (quantum (forgive seat m)) → (e : Outcome) → AreSettled (do_pay (forgive seat m) quantum seat e).state
-    owing quantum t (FailedAfter commits faults) = stopped (why.Faulted faults) (forgive seat m) forgave
-    owing quantum t (Broken page) = stopped (why.BadPage page) (forgive seat m) forgave
-    owing quantum t Well = record { bases = t.bases; merging = t.merging }
-    owing quantum t NoRoom = record { bases = t.bases; merging = t.merging }
+    owing quantum h1 e = grind (arith, common_steps, nat_tests)
 
     planned : (plan : Plan) → AreSettled (pay_planned plan (forgive seat m) seat outcome).state
-    planned Snow = owing (pass_quantum seat) (pass_quantum_settles seat (forgive seat m) forgave) outcome
-    planned Deep = owing (deep_quantum seat) (deep_quantum_settles seat (forgive seat m) forgave) outcome
-    planned Nothing = forgave
+    planned plan = grind (arith, common_steps, nat_tests)
 
     by : (o : Option Why) → AreSettled (pay_running o m seat outcome).state
     by (Some cause) = s
@@ -207,19 +149,14 @@ chosen_settles : (may_begin may_rotate : Bool) (seat : ℕ) (m : Machine) → Is
 chosen_settles may_begin may_rotate seat m sound mark some s = by_deep (deep_done m) refl
   where
     by_rest : (b c : Bool) → (c ≡ true → is_empty m.lists.c1 ≡ false) → AreSettled (chosen (cond b Begin (cond c Rotate Rest)) seat m)
-    by_rest true c some = record { bases = s.bases; merging = s.merging }
-    by_rest false true some = record { bases = s.bases; merging = λ runs. some refl }
-    by_rest false false some = s
+    by_rest b c h1 = grind (arith, common_steps, nat_tests)
 
     by_quantum : (a p : Bool) → AreSettled (chosen (cond a DeepQuantum (cond p PassQuantum (cond may_begin Begin (cond may_rotate Rotate Rest)))) seat m)
-    by_quantum true p = deep_quantum_settles seat m s
-    by_quantum false true = pass_quantum_settles seat m s
-    by_quantum false false = by_rest may_begin may_rotate some
+    by_quantum a p = grind (arith, common_steps, nat_tests)
 
     by_pass : (b : Bool)
         → AreSettled (chosen (cond b SwapPass (cond (in_deep m && (not (in_pass m) || deep_is_behind m.gears)) DeepQuantum (cond (in_pass m) PassQuantum (cond may_begin Begin (cond may_rotate Rotate Rest))))) seat m)
-    by_pass true = swap_pass_settles m mark s
-    by_pass false = by_quantum (in_deep m && (not (in_pass m) || deep_is_behind m.gears)) (in_pass m)
+    by_pass b = grind (arith, common_steps, nat_tests)
 
     by_deep : (b : Bool) → deep_done m ≡ b
         → AreSettled (chosen (cond b SwapDeep (cond (pass_done m) SwapPass (cond (in_deep m && (not (in_pass m) || deep_is_behind m.gears)) DeepQuantum
@@ -229,20 +166,10 @@ chosen_settles may_begin may_rotate seat m sound mark some s = by_deep (deep_don
 
 turn_settles : (may_begin may_rotate : Bool) (m : Machine) (seat : ℕ) (outcome : Outcome) → IsSound m → 0 < c1_mark m.gears.sizes → (may_rotate ≡ true → is_empty m.lists.c1 ≡ false) → AreSettled m
     → AreSettled (do_turn (choice may_begin may_rotate m) outcome seat m).state
-turn_settles may_begin may_rotate m seat (FailedAfter commits faults) sound mark some s = stopped (why.Faulted faults) m s
-turn_settles may_begin may_rotate m seat (Broken page) sound mark some s = stopped (why.BadPage page) m s
-turn_settles may_begin may_rotate m seat Well sound mark some s = chosen_settles may_begin may_rotate seat m sound mark some s
-turn_settles may_begin may_rotate m seat NoRoom sound mark some s = chosen_settles may_begin may_rotate seat m sound mark some s
+turn_settles may_begin may_rotate m seat outcome h1 h2 h3 h4 = grind (arith, common_steps, nat_tests, stopped, chosen_settles)
 
 work_turn_settles : (m : Machine) (seat : ℕ) (outcome : Outcome) → IsSound m → 0 < c1_mark m.gears.sizes → AreSettled m → AreSettled (work_turn m seat outcome).state
-work_turn_settles m seat outcome sound mark s = let t = by m.stopped in record { bases = t.bases; merging = t.merging }
-  where
-    some : (b : Bool) → (entries_weight m.lists.c1 == 0) ≡ b → not b ≡ true → is_empty m.lists.c1 ≡ false
-    some b h1 h2 = grind (arith, common_steps, nat_tests)
-
-    by : (o : Option Why) → AreSettled (work_turning o m seat outcome).state
-    by (Some cause) = s
-    by None = turn_settles (not (memory_weight m.lists == 0)) (not (entries_weight m.lists.c1 == 0)) m seat outcome sound mark (λ may. some (entries_weight m.lists.c1 == 0) refl may) s
+work_turn_settles m seat outcome sound mark s = grind (arith, common_steps, nat_tests, common_steps, nat_tests, turn_settles)
 
 worker_turn_settles : (m : Machine) (seat : ℕ) (outcome : Outcome) → IsSound m → 0 < c1_mark m.gears.sizes → AreSettled m → AreSettled (worker_turn m seat outcome).state
 worker_turn_settles m seat outcome sound mark s = let t = by m.stopped (is_closed m) in record { bases = t.bases; merging = t.merging }
@@ -255,17 +182,10 @@ worker_turn_settles m seat outcome sound mark s = let t = by m.stopped (is_close
 -- ---- any step
 
 hold_settles : (m : Machine) (seat : ℕ) (low high : Key) (outcome : Outcome) → AreSettled m → AreSettled (do_hold m seat low high outcome).state
-hold_settles m seat low high NoRoom s = record { bases = s.bases; merging = s.merging }
-hold_settles m seat low high Well s = record { bases = s.bases; merging = s.merging }
-hold_settles m seat low high (FailedAfter commits faults) s = record { bases = s.bases; merging = s.merging }
-hold_settles m seat low high (Broken page) s = record { bases = s.bases; merging = s.merging }
+hold_settles m seat low high outcome h1 = grind (arith, common_steps, nat_tests)
 
 next_settles : (m : Machine) (seat n : ℕ) (outcome : Outcome) (held : Option (List Row)) → AreSettled m → AreSettled (do_next m seat n outcome held).state
-next_settles m seat n outcome None s = record { bases = s.bases; merging = s.merging }
-next_settles m seat n (FailedAfter commits faults) (Some rows) s = record { bases = s.bases; merging = s.merging }
-next_settles m seat n (Broken page) (Some rows) s = record { bases = s.bases; merging = s.merging }
-next_settles m seat n Well (Some rows) s = record { bases = s.bases; merging = s.merging }
-next_settles m seat n NoRoom (Some rows) s = record { bases = s.bases; merging = s.merging }
+next_settles m seat n outcome held h1 = grind (arith, common_steps, nat_tests)
 
 pub step_settles : (m : Machine) (seat : ℕ) (k : Kind) (outcome : Outcome) → IsSound m → 0 < c1_mark m.gears.sizes → AreSettled m → AreSettled (stepped_as m seat k outcome).state
 step_settles m seat (kind.Admit op) outcome sound mark s = admit_settles m seat op outcome sound mark s

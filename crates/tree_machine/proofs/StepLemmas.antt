@@ -3,7 +3,7 @@ use Rattle.std.proofs.Common.{◌≡◌, ℕ, ◌<◌, ◌≤◌, true, ◌&&◌
 use Rattle.std.proofs.lemmas.Grind.{common_steps}
 use Rattle.std.proofs.lemmas.Bool.Decides.{nat_tests}
 use Rattle.std.specs.Prelude.{nat_lt, nat_le, slice_set, option_map, unwrap_or}
-use Rattle.std.proofs.lemmas.Bool.{false≢true, ltb-true}
+use Rattle.std.proofs.lemmas.Bool.{ltb-true}
 use Rattle.blsm_model.specs.Format.{callers, most_rows}
 use Rattle.blsm_model.specs.declared.key.Key.{Key}
 use Rattle.blsm_model.specs.declared.row.Value.{Value}
@@ -28,19 +28,12 @@ use Rattle.tree_machine.proofs.FoldLemmas.{both_hold}
 use Rattle.tree_machine.proofs.ToldLemmas.{none_is_some, note_told}
 use Rattle.tree_machine.proofs.StandLemmas.{entry_of, note_stands, quiet_ready, running_told, stopped_stands, get_stands, hold_stands, next_stands, drop_stands}
 use Rattle.tree_machine.proofs.AdmitLemmas.{admit_stands}
-use Rattle.tree_machine.proofs.TurnLemmas.{works_on, pay_stands, work_turn_stands, worker_turn_stands}
+use Rattle.tree_machine.proofs.TurnLemmas.{pay_stands, work_turn_stands, worker_turn_stands}
 
 -- ---- the end of a work
 
 recounted : (opening : List (Key × Value)) (m : Machine) (place quanta : ℕ) → Stands opening m → Stands opening (record m { book = counted_up m.book place quanta })
-recounted opening m place quanta s = record {
-  sound = record { layered = s.sound.layered; light = s.sound.light; charged = s.sound.charged; pass = s.sound.pass; deep = s.sound.deep };
-  values = s.values;
-  places = s.places;
-  held = s.held;
-  weighs = s.weighs;
-  told = record { legal = s.told.legal; running = s.told.running; one_why = s.told.one_why; works = s.told.works };
-}
+recounted opening m place quanta s = grind (arith, common_steps, nat_tests)
 
 finished_few : (n : ℕ) (work : WorkSoFar) → is_finished n work ≡ true → work.turns ≤ n
 finished_few n work is = grind (arith, common_steps, nat_tests)
@@ -51,18 +44,10 @@ work_end_stands opening m seat n stands within finished =
     (by (work_of seat m).last refl)
   where
     works : AreWorks (slice_set m.seats.work seat no_work) m.stopped m.book.entries
-    works = works_on m.seats.work m.stopped m.book.entries seat no_work within stands.told.works.places stands.told.works.few (omega arith)
-        (λ s fails other. let f = stands.told.works.first s fails in (refl, f.0, f.1)) stands.told.works.one (λ is. absurd (false≢true is))
+    works = grind (arith, common_steps, nat_tests)
 
     reset : Stands opening (work_noted seat no_work m)
-    reset = record {
-      sound = record { layered = stands.sound.layered; light = stands.sound.light; charged = stands.sound.charged; pass = stands.sound.pass; deep = stands.sound.deep };
-      values = stands.values;
-      places = stands.places;
-      held = stands.held;
-      weighs = stands.weighs;
-      told = record { legal = stands.told.legal; running = stands.told.running; one_why = stands.told.one_why; works = works };
-    }
+    reset = grind (arith, common_steps, nat_tests)
 
     -- where this work failed, no other did
     alone : is_failing (work_of seat m).last ≡ true → (s : ℕ) → is_failing (work_at s (slice_set m.seats.work seat no_work)).last ≡ true → ⊥
@@ -96,14 +81,7 @@ work_end_stands opening m seat n stands within finished =
     by _ is = unfailed m.stopped refl
 
 pub leave_stands : (opening : List (Key × Value)) (m : Machine) (seat : ℕ) → Stands opening m → Stands opening (leave m seat).state
-leave_stands opening m seat s = record {
-  sound = record { layered = s.sound.layered; light = s.sound.light; charged = s.sound.charged; pass = s.sound.pass; deep = s.sound.deep };
-  values = s.values;
-  places = s.places;
-  held = s.held;
-  weighs = s.weighs;
-  told = record { legal = s.told.legal; running = s.told.running; one_why = s.told.one_why; works = s.told.works };
-}
+leave_stands opening m seat s = grind (arith, common_steps, nat_tests)
 
 -- ---- any step
 

@@ -1,18 +1,17 @@
 -- What a list of steps tells of the disk's faults and pages.
-use Rattle.std.proofs.Common.{◌≡◌, ◌⊎◌, inl, inr, refl, ap, sym, subst, ◌∙◌, ℕ, ◌+◌, ◌≤◌, Bool, cond, true, false, not, List, [], ◌∷◌, ◌++◌, take, drop, Option, Some, None, arith}
+use Rattle.std.proofs.Common.{◌≡◌, ◌⊎◌, inl, inr, refl, ap, sym, subst, ◌∙◌, ℕ, ◌+◌, ◌≤◌, Bool, cond, true, false, not, List, [], ◌∷◌, ◌++◌, Option, Some, None, arith}
 use Rattle.std.proofs.lemmas.Grind.{common_steps}
 use Rattle.std.proofs.lemmas.Bool.Decides.{nat_tests}
 use Rattle.std.specs.Prelude.{◌==◌, nat_lt, sum_by, unwrap_or, slice_set, slice_index_or}
 use Rattle.std.specs.List.{AllByRecursion}
-use Rattle.std.proofs.lemmas.Bool.{false≢true, ltb-true, ltb-false}
 use Rattle.blsm_model.specs.declared.key.Key.{Key}
 use Rattle.blsm_model.specs.declared.row.Row.{Row}
 use Rattle.blsm_model.specs.declared.op.Op.{Op}
-use Rattle.blsm_model.specs.declared.op.Op.TheVariants.{Get, Hold, Next, Release, Work}
+use Rattle.blsm_model.specs.declared.op.Op.TheVariants.{Get, Hold, Next, Release}
 use Rattle.blsm_model.specs.declared.history.Why.{Why}
 use Rattle.blsm_model.specs.declared.history.Why.TheVariants as why
 use Rattle.blsm_model.specs.declared.history.Reply.{Reply}
-use Rattle.blsm_model.specs.declared.history.Reply.TheVariants.{Done, Held, Rows, NoHold, Full, NoMemory, FaultLost, FaultUnsure, Fault, Damaged, Stopped}
+use Rattle.blsm_model.specs.declared.history.Reply.TheVariants.{Done, Full, FaultLost, FaultUnsure, Stopped}
 use Rattle.blsm_model.specs.declared.history.Entry.{Entry}
 use Rattle.blsm_model.specs.Book.{Book}
 use Rattle.blsm_model.specs.declared.op.Write.{Write}
@@ -27,14 +26,14 @@ use Rattle.gear_sched.specs.declared.Plan.TheVariants.{Snow, Deep, Nothing}
 use Rattle.tree_machine.specs.declared.step.Kind.{Kind}
 use Rattle.tree_machine.specs.declared.step.Kind.TheVariants as kind
 use Rattle.tree_machine.specs.declared.step.Step.{Step}
-use Rattle.tree_machine.specs.Lists.{memory_weight, value_in, rows_in}
-use Rattle.tree_machine.specs.Machine.{Machine, WorkSoFar, Turned, no_work, is_closed, charge, held_by, work_of}
+use Rattle.tree_machine.specs.Lists.{memory_weight, value_in}
+use Rattle.tree_machine.specs.Machine.{Machine, WorkSoFar, no_work, is_closed, charge, held_by, work_of}
 use Rattle.tree_machine.specs.Moves.{pass_quantum, deep_quantum, with_peak, note, stop}
-use Rattle.tree_machine.specs.Steps.{Outcome, Well, FailedAfter, Broken, NoRoom, Stepped, Choice, DeepQuantum, PassQuantum, choice, chosen, ended_as, replied, unless_stopped, swaps_due, one_if, admit, admit_fitting, deep_swapped, ready_for, taken_once, reply_unless, do_hold, do_next, holding, forgive, count_for_write, pay, pay_running, pay_planned, do_pay, do_turn, work_turning, worker_turning, with_turn, work_turn, worker_turn, work_reply, work_end, leave}
+use Rattle.tree_machine.specs.Steps.{Outcome, Well, FailedAfter, Broken, NoRoom, Stepped, Choice, DeepQuantum, PassQuantum, choice, chosen, ended_as, replied, unless_stopped, swaps_due, one_if, admit, admit_fitting, deep_swapped, ready_for, taken_once, reply_unless, do_hold, do_next, holding, forgive, pay, pay_running, pay_planned, do_pay, do_turn, work_turning, worker_turning, with_turn, work_turn, worker_turn, work_end, leave}
 use Rattle.tree_machine.specs.Plays.{may_step, stepped, stepped_as, played, played_one}
 use Rattle.tree_machine.specs.Outcomes.{Rose, last_count, IsPossible, AreTold, is_failed_lookup, is_faulted, faults_told, is_damaged, is_bad_page, is_by_page, is_broken, FindsNone, FaultsAreCounted, StopsNameMore, NoneDamaged, ReachesOnBy}
 use Rattle.tree_machine.proofs.ToldLemmas.{some_or_none}
-use Rattle.tree_machine.proofs.GrowLemmas.{taken_book, ready_book, turn_book, pass_quantum_book, deep_quantum_book}
+use Rattle.tree_machine.proofs.GrowLemmas.{taken_book, ready_book, pass_quantum_book, deep_quantum_book}
 
 abbrev is_failed : Outcome → Bool
 is_failed (FailedAfter commits faults) = true
@@ -83,21 +82,14 @@ taken_stop seat op m = grind (arith, common_steps, nat_tests)
 -- a reply that tells of neither
 plain : (m : Machine) (seat : ℕ) (outcome : Outcome) (op : Op) (reply : Reply) (n : Machine) → is_failed_lookup op reply ≡ false → is_damaged reply ≡ false → n.stopped ≡ m.stopped → n.book.entries ≡ m.book.entries
     → Tells m seat outcome (note seat op reply n)
-plain m seat outcome op reply n lookup damaged stopped entries = inl (record {
-  stopped = stopped;
-  entries = inr (record { seat = seat; op = op; reply = reply }, λ is. absurd (false≢true (sym lookup ∙ is)), λ is. absurd (false≢true (sym damaged ∙ is)), ap (λ es. es ++ record { seat = seat; op = op; reply = reply } ∷ []) entries);
-})
+plain m seat outcome op reply n lookup damaged stopped entries = grind (arith, common_steps, nat_tests)
 
 still : (m : Machine) (seat : ℕ) (outcome : Outcome) (n : Machine) → n.stopped ≡ m.stopped → n.book.entries ≡ m.book.entries → Tells m seat outcome n
 still m seat outcome n stopped entries = inl (record { stopped = stopped; entries = inl entries })
 
 unless_tells : (m : Machine) (seat : ℕ) (outcome : Outcome) (op : Op) (otherwise : Stepped) → ((why : Why) → is_failed_lookup op (Stopped why) ≡ false) → (m.stopped ≡ None → Tells m seat outcome otherwise.state)
     → Tells m seat outcome (unless_stopped m.stopped seat op m otherwise).state
-unless_tells m seat outcome op otherwise no_lookup runs = by m.stopped refl
-  where
-    by : (o : Option Why) → m.stopped ≡ o → Tells m seat outcome (unless_stopped o seat op m otherwise).state
-    by (Some cause) is = plain m seat outcome op (Stopped cause) m (no_lookup cause) refl refl refl
-    by None is = runs is
+unless_tells m seat outcome op otherwise no_lookup runs = grind (arith, common_steps, nat_tests)
 
 admit_tells : (m : Machine) (seat : ℕ) (op : Op) (outcome : Outcome) → Tells m seat outcome (admit m seat op outcome).state
 admit_tells m seat op outcome =
@@ -126,9 +118,7 @@ admit_tells m seat op outcome =
     }
 
     done : (e : Outcome) → Tells m seat e (note seat op Done (with_peak (taken_once seat (writes_of op) (ready_for (total_weight (writes_of op)) m))))
-    done e = plain m seat e op Done (with_peak (taken_once seat (writes_of op) (ready_for (total_weight (writes_of op)) m))) refl refl
-        (taken_stop seat op (ready_for (total_weight (writes_of op)) m) ∙ ready_stop (total_weight (writes_of op)) m)
-        (ap (λ (b : Book). b.entries) (taken_book seat (writes_of op) (ready_for (total_weight (writes_of op)) m) ∙ ready_book (total_weight (writes_of op)) m))
+    done e = grind (arith, common_steps, nat_tests, plain, taken_stop, ready_stop, taken_book, ready_book)
 
     fitting : m.stopped ≡ None → (e : Outcome) → Tells m seat e (admit_fitting m seat op (total_weight (writes_of op)) e).state
     fitting none (FailedAfter commits faults) = inr (failed none commits faults (nat_lt commits (swaps_due m)))
@@ -144,10 +134,7 @@ pay_tells : (m : Machine) (seat : ℕ) (outcome : Outcome) → Tells m seat outc
 pay_tells m seat outcome = by m.stopped refl
   where
     owing : (quantum : Machine → Machine) → (quantum (forgive seat m)).stopped ≡ m.stopped → (quantum (forgive seat m)).book ≡ m.book → m.stopped ≡ None → (e : Outcome) → Tells m seat e (do_pay (forgive seat m) quantum seat e).state
-    owing quantum stopped book none (FailedAfter commits faults) = inr (record { cause = why.Faulted faults; is_cause = refl; was = none; stopped = refl; entries = inl refl })
-    owing quantum stopped book none (Broken page) = inr (record { cause = why.BadPage page; is_cause = refl; was = none; stopped = refl; entries = inl refl })
-    owing quantum stopped book none Well = still m seat Well (count_for_write seat (quantum (forgive seat m))) stopped (ap (λ (b : Book). b.entries) book)
-    owing quantum stopped book none NoRoom = still m seat NoRoom (count_for_write seat (quantum (forgive seat m))) stopped (ap (λ (b : Book). b.entries) book)
+    owing quantum h1 h2 h3 e = grind (arith, common_steps, nat_tests)
 
     planned : m.stopped ≡ None → (plan : Plan) → Tells m seat outcome (pay_planned plan (forgive seat m) seat outcome).state
     planned none Snow = owing (pass_quantum seat) (chosen_stop PassQuantum seat (forgive seat m)) (pass_quantum_book seat (forgive seat m)) none outcome
@@ -160,90 +147,36 @@ pay_tells m seat outcome = by m.stopped refl
 
 -- a get tells what its outcome does
 get_tells : (m : Machine) (seat : ℕ) (key : Key) (value : Option Value) (outcome : Outcome) → Tells m seat outcome (note seat (Get key) (reply_unless outcome (answer_to_get value)) m)
-get_tells m seat key value (FailedAfter commits faults) = inl (record {
-  stopped = refl;
-  entries = inr (record { seat = seat; op = Get key; reply = Fault }, λ is. refl, λ is. absurd (false≢true is), refl);
-})
-get_tells m seat key value (Broken page) = inl (record {
-  stopped = refl;
-  entries = inr (record { seat = seat; op = Get key; reply = Damaged page }, λ is. absurd (false≢true is), λ is. inl refl, refl);
-})
-get_tells m seat key None Well = plain m seat Well (Get key) (answer_to_get None) m refl refl refl refl
-get_tells m seat key (Some value) Well = plain m seat Well (Get key) (answer_to_get (Some value)) m refl refl refl refl
-get_tells m seat key None NoRoom = plain m seat NoRoom (Get key) (answer_to_get None) m refl refl refl refl
-get_tells m seat key (Some value) NoRoom = plain m seat NoRoom (Get key) (answer_to_get (Some value)) m refl refl refl refl
+get_tells m seat key value outcome = grind (arith, common_steps, nat_tests)
 
 hold_tells : (m : Machine) (seat : ℕ) (low high : Key) (outcome : Outcome) → Tells m seat outcome (do_hold m seat low high outcome).state
-hold_tells m seat low high NoRoom = plain m seat NoRoom (Hold low high) NoMemory m refl refl refl refl
-hold_tells m seat low high Well = plain m seat Well (Hold low high) Held (holding seat (Some (rows_in m.lists low high)) m) refl refl refl refl
-hold_tells m seat low high (FailedAfter commits faults) = plain m seat (FailedAfter commits faults) (Hold low high) Held (holding seat (Some (rows_in m.lists low high)) m) refl refl refl refl
-hold_tells m seat low high (Broken page) = plain m seat (Broken page) (Hold low high) Held (holding seat (Some (rows_in m.lists low high)) m) refl refl refl refl
+hold_tells m seat low high outcome = grind (arith, common_steps, nat_tests)
 
 next_tells : (m : Machine) (seat n : ℕ) (outcome : Outcome) (held : Option (List Row)) → Tells m seat outcome (do_next m seat n outcome held).state
-next_tells m seat n outcome None = plain m seat outcome (Next n) NoHold m refl refl refl refl
-next_tells m seat n (FailedAfter commits faults) (Some rows) = inl (record {
-  stopped = refl;
-  entries = inr (record { seat = seat; op = Next n; reply = Fault }, λ is. refl, λ is. absurd (false≢true is), refl);
-})
-next_tells m seat n (Broken page) (Some rows) = inl (record {
-  stopped = refl;
-  entries = inr (record { seat = seat; op = Next n; reply = Damaged page }, λ is. absurd (false≢true is), λ is. inl refl, refl);
-})
-next_tells m seat n Well (Some rows) = plain m seat Well (Next n) (Rows (take n rows)) (holding seat (Some (drop n rows)) m) refl refl refl refl
-next_tells m seat n NoRoom (Some rows) = plain m seat NoRoom (Next n) (Rows (take n rows)) (holding seat (Some (drop n rows)) m) refl refl refl refl
+next_tells m seat n outcome held = grind (arith, common_steps, nat_tests)
 
 drop_tells : (m : Machine) (seat : ℕ) (outcome : Outcome) (held : Option (List Row)) → Tells m seat outcome (note seat Release (answer_to_release held) (holding seat None m))
-drop_tells m seat outcome None = plain m seat outcome Release NoHold (holding seat None m) refl refl refl refl
-drop_tells m seat outcome (Some rows) = plain m seat outcome Release Done (holding seat None m) refl refl refl refl
+drop_tells m seat outcome held = grind (arith, common_steps, nat_tests)
 
 -- a state that differs in neither
 tells_on : (m : Machine) (seat : ℕ) (outcome : Outcome) (n k : Machine) → k.stopped ≡ n.stopped → k.book.entries ≡ n.book.entries → Tells m seat outcome n → Tells m seat outcome k
-tells_on m seat outcome n k stopped entries (inl q) = inl (record { stopped = stopped ∙ q.stopped; entries = of q.entries })
-  where
-    of : ((n.book.entries ≡ m.book.entries) ⊎ ((entry : Entry) × (is_failed_lookup entry.op entry.reply ≡ true → is_failed outcome ≡ true) × (is_damaged entry.reply ≡ true → (is_broken outcome ≡ true) ⊎ (is_bad_page (work_of seat m).last ≡ true))
-        × (n.book.entries ≡ m.book.entries ++ entry ∷ [])))
-        → ((k.book.entries ≡ m.book.entries) ⊎ ((entry : Entry) × (is_failed_lookup entry.op entry.reply ≡ true → is_failed outcome ≡ true) × (is_damaged entry.reply ≡ true → (is_broken outcome ≡ true) ⊎ (is_bad_page (work_of seat m).last ≡ true))
-        × (k.book.entries ≡ m.book.entries ++ entry ∷ [])))
-    of h1 = grind (arith, common_steps, nat_tests)
-tells_on m seat outcome n k stopped entries (inr s) = inr (record { cause = s.cause; is_cause = s.is_cause; was = s.was; stopped = stopped ∙ s.stopped; entries = of s.entries })
-  where
-    of : ((n.book.entries ≡ m.book.entries) ⊎ ((entry : Entry) × (is_failed_lookup entry.op entry.reply ≡ false) × (is_damaged entry.reply ≡ false) × (n.book.entries ≡ m.book.entries ++ entry ∷ [])))
-        → ((k.book.entries ≡ m.book.entries) ⊎ ((entry : Entry) × (is_failed_lookup entry.op entry.reply ≡ false) × (is_damaged entry.reply ≡ false) × (k.book.entries ≡ m.book.entries ++ entry ∷ [])))
-    of h1 = grind (arith, common_steps, nat_tests)
+tells_on m seat outcome n k h1 h2 h3 = grind (arith, common_steps, nat_tests)
 
 turn_tells : (c : Choice) (m : Machine) (seat : ℕ) (outcome : Outcome) → m.stopped ≡ None → Tells m seat outcome (do_turn c outcome seat m).state
-turn_tells c m seat (FailedAfter commits faults) none = inr (record { cause = why.Faulted faults; is_cause = refl; was = none; stopped = refl; entries = inl refl })
-turn_tells c m seat (Broken page) none = inr (record { cause = why.BadPage page; is_cause = refl; was = none; stopped = refl; entries = inl refl })
-turn_tells c m seat Well none = still m seat Well (chosen c seat m) (chosen_stop c seat m) (ap (λ (b : Book). b.entries) (turn_book c Well seat m))
-turn_tells c m seat NoRoom none = still m seat NoRoom (chosen c seat m) (chosen_stop c seat m) (ap (λ (b : Book). b.entries) (turn_book c Well seat m))
+turn_tells c m seat outcome h1 = grind (arith, common_steps, nat_tests)
 
 work_turn_tells : (m : Machine) (seat : ℕ) (outcome : Outcome) → Tells m seat outcome (work_turn m seat outcome).state
-work_turn_tells m seat outcome = tells_on m seat outcome (work_turning m.stopped m seat outcome).state (work_turn m seat outcome).state refl refl (by m.stopped refl)
-  where
-    by : (o : Option Why) → m.stopped ≡ o → Tells m seat outcome (work_turning o m seat outcome).state
-    by (Some cause) is = still m seat outcome m refl refl
-    by None is = turn_tells (choice (not (memory_weight m.lists == 0)) (not (entries_weight m.lists.c1 == 0)) m) m seat outcome is
+work_turn_tells m seat outcome = grind (arith, common_steps, nat_tests, tells_on, still, turn_tells)
 
 worker_turn_tells : (m : Machine) (seat : ℕ) (outcome : Outcome) → Tells m seat outcome (worker_turn m seat outcome).state
-worker_turn_tells m seat outcome = tells_on m seat outcome (worker_turning m.stopped (is_closed m) m seat outcome).state (worker_turn m seat outcome).state refl refl (by m.stopped refl (is_closed m))
-  where
-    by : (o : Option Why) → m.stopped ≡ o → (b : Bool) → Tells m seat outcome (worker_turning o b m seat outcome).state
-    by (Some cause) is b = still m seat outcome m refl refl
-    by None is true = still m seat outcome m refl refl
-    by None is false = turn_tells (choice (nat_lt m.gears.sizes.low m.spring) false m) m seat outcome is
+worker_turn_tells m seat outcome = grind (arith, common_steps, nat_tests)
 
 -- a command that doesn't only look is no lookup that failed
 pub no_look : (op : Op) (reply : Reply) → may_look op ≡ false → is_failed_lookup op reply ≡ false
 no_look op reply h1 = grind (arith, common_steps, nat_tests)
 
 work_end_tells : (m : Machine) (seat n : ℕ) (outcome : Outcome) → Tells m seat outcome (work_end m seat n).state
-work_end_tells m seat n outcome = inl (record {
-  stopped = refl;
-  entries = inr (record { seat = seat; op = Work n; reply = work_reply (work_of seat m) m.stopped }, λ is. absurd (false≢true (sym (no_look (Work n) (work_reply (work_of seat m) m.stopped) refl) ∙ is)), damage (work_of seat m).last m.stopped, refl);
-})
-  where
-    damage : (last : Turned) (o : Option Why) → is_damaged (work_reply (record (work_of seat m) { last = last }) o) ≡ true → (is_broken outcome ≡ true) ⊎ (is_bad_page last ≡ true)
-    damage last o h1 = grind (arith, common_steps, nat_tests)
+work_end_tells m seat n outcome = grind (arith, common_steps, nat_tests, no_look, common_steps, nat_tests)
 
 step_tells : (m : Machine) (seat : ℕ) (k : Kind) (outcome : Outcome) → Tells m seat outcome (stepped_as m seat k outcome).state
 step_tells m seat (kind.Admit op) outcome = admit_tells m seat op outcome
@@ -311,12 +244,7 @@ faults_are_counted m old new (made ∷ steps) within told = both_parts (one_faul
 -- ---- stops
 
 rose_on : (old mid faults : ℕ) → old ≤ mid → Rose mid faults → Rose old faults
-rose_on old mid faults le (inl less) = inl (omega (arith, le, less))
-rose_on old mid faults le (inr last) = by (nat_lt old last_count) refl
-  where
-    by : (b : Bool) → nat_lt old last_count ≡ b → Rose old faults
-    by true less = inl (omega (arith, last.1, ltb-true old last_count less))
-    by false at = inr (omega (arith, ltb-false old last_count at, le, last.0), last.1)
+rose_on old mid faults h1 h2 = grind (arith, common_steps, nat_tests)
 
 -- ---- damage
 
@@ -440,11 +368,7 @@ step_finds m seat k outcome whole f = by (step_tells m seat k outcome)
             neither h1 = grind (arith, common_steps, nat_tests)
 
     stops : Stops m outcome (stepped_as m seat k outcome).state → FindsNone (stepped_as m seat k outcome).state
-    stops s = record { entries = of s.entries; stopped = ap is_by_page s.stopped ∙ cause_sound outcome s.cause whole s.is_cause; works = works_sound m seat k outcome whole f.works }
-      where
-        of : ((stepped_as m seat k outcome).state.book.entries ≡ m.book.entries) ⊎ ((entry : Entry) × (is_failed_lookup entry.op entry.reply ≡ false) × (is_damaged entry.reply ≡ false) × ((stepped_as m seat k outcome).state.book.entries ≡ m.book.entries ++ entry ∷ []))
-            → AllByRecursion (λ e. is_damaged e.reply ≡ false) (stepped_as m seat k outcome).state.book.entries
-        of h1 = grind (arith, common_steps, nat_tests)
+    stops s = grind (arith, common_steps, nat_tests, cause_sound, works_sound, common_steps, nat_tests)
 
     by : Tells m seat outcome (stepped_as m seat k outcome).state → FindsNone (stepped_as m seat k outcome).state
     by (inl q) = quiet q
@@ -461,10 +385,7 @@ none_damaged m (made ∷ steps) f whole = none_damaged (played_one m made) steps
 -- ---- states that are reached so
 
 possible_from : (m : Machine) (seat : ℕ) (k : Kind) (outcome : Outcome) (old mid new : ℕ) → old ≤ mid → IsPossible m seat k outcome mid new → IsPossible m seat k outcome old new
-possible_from m seat k Well old mid new le is = is
-possible_from m seat k NoRoom old mid new le is = is
-possible_from m seat k (Broken page) old mid new le is = is
-possible_from m seat k (FailedAfter commits faults) old mid new le is = (is.0, is.1, rose_on old mid new le is.2, is.3)
+possible_from m seat k outcome old mid new h1 h2 = grind (arith, common_steps, nat_tests)
 
 told_on : (m : Machine) (old mid new : ℕ) (steps : List (Step × Outcome)) (made : Step × Outcome) → AreTold m old steps mid → mid ≤ new
     → (may_step (played m steps) made.0 ≡ true → IsPossible (played m steps) made.0.seat made.0.kind made.1 mid new) → AreTold m old (steps ++ made ∷ []) new
@@ -500,10 +421,7 @@ stops_name_more m old new faults [] told none is = absurd (some_or_none m.stoppe
 stops_name_more m old new faults (made ∷ steps) told none is = by (may_step m made.0) refl (λ none_then. rose_on old told.0 faults told.1 (stops_name_more (played_one m made) told.0 new faults steps told.3 none_then is))
   where
     named : (outcome : Outcome) (cause : Why) → IsPossible m made.0.seat made.0.kind outcome old told.0 → IsCause outcome cause → cause ≡ why.Faulted faults → Rose old faults
-    named (FailedAfter commits n) cause possible is_cause same = subst (λ k. Rose old k) (sym possible.3 ∙ ap (λ w. count_of (Some w)) (sym is_cause ∙ same)) possible.2
-    named (Broken page) cause possible is_cause same = absurd (false≢true (ap (λ w. is_faulted (Some w)) (sym is_cause ∙ same)))
-    named Well cause possible is_cause same = absurd is_cause
-    named NoRoom cause possible is_cause same = absurd is_cause
+    named outcome cause h1 h2 h3 = grind (arith, common_steps, nat_tests)
 
     by : (b : Bool) → may_step m made.0 ≡ b → ((cond b (stepped m made.0 made.1).state m).stopped ≡ None → Rose old faults) → Rose old faults
     by false same rest = rest none

@@ -4,7 +4,6 @@ use Rattle.std.proofs.lemmas.Grind.{common_steps}
 use Rattle.std.proofs.lemmas.Bool.Decides.{nat_tests}
 use Rattle.std.specs.Prelude.{◌==◌, nat_lt, IsSome, slice_set}
 use Rattle.std.proofs.lemmas.Bool.{false≢true}
-use Rattle.std.proofs.lemmas.List.{length-set}
 use Rattle.blsm_model.specs.Format.{callers}
 use Rattle.blsm_model.specs.declared.key.Key.{Key}
 use Rattle.blsm_model.specs.declared.row.Value.{Value}
@@ -41,24 +40,10 @@ stop_stands opening m cause stands none = record {
 -- ---- payments
 
 forgive_stands : (opening : List (Key × Value)) (m : Machine) (seat : ℕ) → Stands opening m → Stands opening (forgive seat m)
-forgive_stands opening m seat stands = record {
-  sound = record { layered = stands.sound.layered; light = stands.sound.light; charged = stands.sound.charged; pass = stands.sound.pass; deep = stands.sound.deep };
-  values = stands.values;
-  places = stands.places;
-  held = stands.held;
-  weighs = stands.weighs;
-  told = record { legal = stands.told.legal; running = stands.told.running; one_why = stands.told.one_why; works = stands.told.works };
-}
+forgive_stands opening m seat stands = grind (arith, common_steps, nat_tests)
 
 counted_stands : (opening : List (Key × Value)) (m : Machine) (seat : ℕ) → Stands opening m → Stands opening (count_for_write seat m)
-counted_stands opening m seat stands = record {
-  sound = record { layered = stands.sound.layered; light = stands.sound.light; charged = stands.sound.charged; pass = stands.sound.pass; deep = stands.sound.deep };
-  values = stands.values;
-  places = stands.places;
-  held = stands.held;
-  weighs = stands.weighs;
-  told = record { legal = stands.told.legal; running = stands.told.running; one_why = stands.told.one_why; works = stands.told.works };
-}
+counted_stands opening m seat stands = grind (arith, common_steps, nat_tests)
 
 do_pay_stands : (opening : List (Key × Value)) (m : Machine) (quantum : Machine → Machine) (seat : ℕ) (outcome : Outcome) → Stands opening m → m.stopped ≡ None
     → Carries m (quantum m) → Stands opening (do_pay m quantum seat outcome).state
@@ -95,24 +80,7 @@ pub works_on : (works : List WorkSoFar) (stopped : Option Why) (history : List E
     → ((s t : ℕ) → is_failing (work_at s works).last ≡ true → is_failing (work_at t works).last ≡ true → s ≡ t)
     → (is_failing work.last ≡ true → IsSome stopped × (none_stopping history ≡ true))
     → AreWorks (slice_set works seat work) stopped history
-works_on works stopped history seat work within places few light others one now = record {
-  places = length-set works seat work ∙ places;
-  few = λ s. subst (λ (w : WorkSoFar). w.worked ≤ w.turns) (sym (work_set works seat s work (subst (λ n. seat < n) (sym places) within))) (few_of s (s == seat));
-  first = λ s failing. first_of s (s == seat) refl (subst (λ (w : WorkSoFar). is_failing w.last ≡ true) (work_set works seat s work (subst (λ n. seat < n) (sym places) within)) failing);
-  one = λ s t fails fails_too. one_of s t (s == seat) refl (t == seat) refl
-      (subst (λ (w : WorkSoFar). is_failing w.last ≡ true) (work_set works seat s work (subst (λ n. seat < n) (sym places) within)) fails)
-      (subst (λ (w : WorkSoFar). is_failing w.last ≡ true) (work_set works seat t work (subst (λ n. seat < n) (sym places) within)) fails_too);
-}
-  where
-    few_of : (s : ℕ) (b : Bool) → (cond b work (work_at s works)).worked ≤ (cond b work (work_at s works)).turns
-    few_of s b = grind (arith, common_steps, nat_tests)
-
-    first_of : (s : ℕ) (b : Bool) → (s == seat) ≡ b → is_failing (cond (s == seat) work (work_at s works)).last ≡ true → IsSome stopped × (none_stopping history ≡ true)
-    first_of s b h1 h2 = grind (arith, common_steps, nat_tests)
-
-    one_of : (s t : ℕ) (b : Bool) → (s == seat) ≡ b → (c : Bool) → (t == seat) ≡ c → is_failing (cond (s == seat) work (work_at s works)).last ≡ true
-        → is_failing (cond (t == seat) work (work_at t works)).last ≡ true → s ≡ t
-    one_of s t b h1 c h2 h3 h4 = grind (arith, common_steps, nat_tests)
+works_on works stopped history seat work within places few light others one now = grind (arith, common_steps, nat_tests)
 
 running_none : (before : List Entry) → is_running before ≡ true → none_stopping before ≡ true
 running_none [] running = refl
@@ -194,14 +162,7 @@ worker_turn_stands opening m seat outcome stands way =
 -- with another work noted at the seat
 work_noted_stands : (opening : List (Key × Value)) (m : Machine) (seat : ℕ) (work : WorkSoFar) → Stands opening m → AreWorks (slice_set m.seats.work seat work) m.stopped m.book.entries
     → Stands opening (work_noted seat work m)
-work_noted_stands opening m seat work s works = record {
-  sound = record { layered = s.sound.layered; light = s.sound.light; charged = s.sound.charged; pass = s.sound.pass; deep = s.sound.deep };
-  values = s.values;
-  places = s.places;
-  held = s.held;
-  weighs = s.weighs;
-  told = record { legal = s.told.legal; running = s.told.running; one_why = s.told.one_why; works = works };
-}
+work_noted_stands opening m seat work s works = grind (arith, common_steps, nat_tests)
 
 counted_worked : (b : Bool) (worked turns : ℕ) → worked ≤ turns → cond b worked (worked + 1) ≤ turns + 1
 counted_worked b worked turns h1 = grind (arith, common_steps, nat_tests)

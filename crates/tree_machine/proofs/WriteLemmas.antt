@@ -5,16 +5,14 @@ use Rattle.std.proofs.lemmas.Grind.{common_steps}
 use Rattle.std.proofs.lemmas.Bool.Decides.{nat_tests}
 use Rattle.std.proofs.Common.{arith}
 use Rattle.std.specs.Ordering.{eq_by_cmp}
-use Rattle.std.specs.declared.cmp.Ordering.TheVariants.{Less, Equal, Greater}
 use Rattle.std.specs.Cmp.{nat_eq_equiv}
 use Rattle.std.specs.Cmp.Lexicographic.{texts_ties, lists_equiv}
 use Rattle.std.specs.FinMap.{put, is_sorted}
-use Rattle.std.specs.FinMap.Entries.{by_order, find-where_key, is_sorted-where_key, same_entries}
+use Rattle.std.specs.FinMap.Entries.{find-where_key, is_sorted-where_key, same_entries}
 use Rattle.std.proofs.lemmas.Cmp.{nat_list_cmp_total}
 use Rattle.std.proofs.lemmas.Bool.{false≢true}
 use Rattle.blsm_model.specs.declared.key.Key.{Key}
 use Rattle.blsm_model.specs.declared.op.Write.{Write}
-use Rattle.blsm_model.specs.declared.op.Write.TheVariants.{Put, Add, Tail, Del}
 use Rattle.blsm_model.specs.Keys.{key_cmp, same_key}
 use Rattle.blsm_model.specs.Tails.{TailFits}
 use Rattle.blsm_model.specs.Values.{key_of, added_count, value_at}
@@ -43,12 +41,7 @@ none_behind cursor key (e ∷ es) behind past =
 
 behind_put : (cursor : Option Key) (key : Key) (rec : Rec) (es : Entries) → is_above cursor key ≡ false → IsBehind cursor es → IsBehind cursor (put key_cmp key rec es)
 behind_put cursor key rec [] here behind = (here, tt)
-behind_put cursor key rec (e ∷ es) here behind =
-    elim (key_cmp key e.0) as (λ o. IsBehind cursor (by_order o ((key, rec) ∷ e ∷ es) ((e.0, rec) ∷ es) (e ∷ put key_cmp key rec es))) [
-      | Less ↦ (here, behind)
-      | Equal ↦ behind
-      | Greater ↦ (behind.0, behind_put cursor key rec es here behind.1)
-    ]
+behind_put cursor key rec (e ∷ es) here behind = grind (arith, common_steps, nat_tests, behind_put cursor key rec es here behind.1)
 
 -- what is behind the cursor keeps its record where a key ahead of it is written
 kept_behind : (cursor : Option Key) (key : Key) (rec : Rec) (es : Entries) (q : Key) → is_above cursor key ≡ true → is_above cursor q ≡ false → record_of_key q (with_record key rec es) ≡ record_of_key q es
@@ -80,47 +73,10 @@ abbrev to_b : Key → Rec → Lists → Lists
 to_b key rec lists = record { b = with_record key rec lists.b; a = lists.a; c1 = lists.c1; c1x = lists.c1x; c2 = lists.c2 }
 
 pass_over_write : (key : Key) (rec : Rec) (lists : Lists) (pass : Option Merge) → IsPassOver lists pass → IsPassOver (with_write pass key rec lists) pass
-pass_over_write key rec lists None over = over
-pass_over_write key rec lists (Some pass) over = by (is_above pass.cursor key) refl
-  where
-    by : (b : Bool) → is_above pass.cursor key ≡ b → IsPassOver (cond b (to_a key rec lists) (to_b key rec lists)) (Some pass)
-    by true past = (
-      over.0,
-      record {
-        folds = λ q. over.1.folds q ∙ elim (by_test (is_above pass.cursor q)) [
-          | inl ahead ↦ ap (λ b. cond b None (over_any (record_of_key q lists.a) (record_of_key q lists.c1))) ahead
-              ∙ ap (λ b. cond b None (over_any (record_of_key q (with_record key rec lists.a)) (record_of_key q lists.c1))) (sym ahead)
-          | inr behind ↦ ap (λ r. cond (is_above pass.cursor q) None (over_any r (record_of_key q lists.c1))) (sym (kept_behind pass.cursor key rec lists.a q past behind))
-        ];
-        sorted = over.1.sorted;
-        behind = over.1.behind;
-      },
-    )
-    by false here = (behind_put pass.cursor key (rec_over rec (record_of_key key lists.b)) lists.b here over.0, over.1)
+pass_over_write key rec lists pass h1 = grind (arith, common_steps, nat_tests, by_test, kept_behind, behind_put)
 
 pub write_layered : (key : Key) (rec : Rec) (lists : Lists) (merges : Merges) → AreLayered lists merges → AreLayered (with_write merges.pass key rec lists) merges
-write_layered key rec lists merges layered = by (goes_to_a merges.pass key) refl (pass_over_write key rec lists merges.pass layered.pass)
-  where
-    by : (b : Bool) → goes_to_a merges.pass key ≡ b → IsPassOver (cond (goes_to_a merges.pass key) (to_a key rec lists) (to_b key rec lists)) merges.pass
-        → AreLayered (cond (goes_to_a merges.pass key) (to_a key rec lists) (to_b key rec lists)) merges
-    by true is over = subst (λ c. AreLayered (cond c (to_a key rec lists) (to_b key rec lists)) merges) (sym is) (record {
-      sorted_b = layered.sorted_b;
-      sorted_a = sorted_with_record key rec lists.a layered.sorted_a;
-      sorted_c1 = layered.sorted_c1;
-      sorted_c1x = layered.sorted_c1x;
-      sorted_c2 = layered.sorted_c2;
-      pass = subst (λ c. IsPassOver (cond c (to_a key rec lists) (to_b key rec lists)) merges.pass) is over;
-      deep = layered.deep;
-    })
-    by false is over = subst (λ c. AreLayered (cond c (to_a key rec lists) (to_b key rec lists)) merges) (sym is) (record {
-      sorted_b = sorted_with_record key rec lists.b layered.sorted_b;
-      sorted_a = layered.sorted_a;
-      sorted_c1 = layered.sorted_c1;
-      sorted_c1x = layered.sorted_c1x;
-      sorted_c2 = layered.sorted_c2;
-      pass = subst (λ c. IsPassOver (cond c (to_a key rec lists) (to_b key rec lists)) merges.pass) is over;
-      deep = layered.deep;
-    })
+write_layered key rec lists merges layered = grind (arith, common_steps, nat_tests, pass_over_write, sorted_with_record)
 
 -- ---- the records after it
 
@@ -163,10 +119,7 @@ same_as_tie : (q key : Key) → same_key key q ≡ eq_by_cmp key_cmp q key
 same_as_tie q key = sym (sym (texts_ties q key) ∙ (lists_equiv nat_eq_equiv).symm q key)
 
 pub stands_write : (write : Write) → added_count write < 2 ^ 64 → TailFits write → StandsForMore write (record_of write)
-stands_write (Put key value) fits tail = stands_put key value
-stands_write (Add key count) fits tail = stands_add key count fits
-stands_write (Tail key tail) fits is = stands_tail key tail is
-stands_write (Del key) fits tail = stands_del key
+stands_write write h1 h2 = grind (arith, common_steps, nat_tests, stands_put, stands_add, stands_tail, stands_del)
 
 over_as_kept : (b : Bool) (rec : Rec) (kept : Option Rec) → over_any (cond b (Some rec) None) kept ≡ cond b (Some (rec_over rec kept)) kept
 over_as_kept b rec kept = grind (arith, common_steps, nat_tests)

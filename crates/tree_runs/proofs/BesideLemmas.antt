@@ -1,13 +1,14 @@
 -- What the components and the runs keep where no byte of their pages changes.
 use Rattle.std.specs.Prelude.{◌≡◌, ℕ, Bool, true, IsTrue, List, Option, Some, None}
+use Rattle.std.proofs.lemmas.Grind.{common_steps}
+use Rattle.std.proofs.lemmas.Bool.Decides.{nat_tests}
 use Rattle.std.proofs.Common.{◌∙◌, sym, subst, ap, refl, arith}
 use Rattle.disk_trait.specs.Region.{outside}
-use Rattle.record_delta.specs.Entries.{Entries, entries_weight, up_to, with_record, folded_over}
+use Rattle.record_delta.specs.Entries.{Entries, entries_weight, up_to, with_record}
 use Rattle.blsm_model.specs.Sizes.{Sizes}
 use Rattle.page_space.specs.Space.{SpaceState}
-use Rattle.page_file.specs.Component.{RunPage, entries_of}
+use Rattle.page_file.specs.Component.{RunPage}
 use Rattle.page_file.proofs.PageLemmas.{before_apart}
-use Rattle.run_writer.specs.Writer.{HasPushed}
 use Rattle.merge_step.proofs.MergedLemmas.{ahead as grown_ahead}
 use Rattle.snow_merge.specs.Pass.{SnowState}
 use Rattle.deep_merge.specs.Merge.{DeepState}
@@ -44,25 +45,19 @@ tag_of_pass None = 0
 tag_of_pass (Some snow) = snow.writer.role
 
 pub pass_has_it : (snow : Option SnowState) → PassHasTag (tag_of_pass snow) snow
-pass_has_it None = tt
-pass_has_it (Some snow) = refl
+pass_has_it snow = grind (arith, common_steps, nat_tests)
 
 abbrev pub tag_of_deep : Option DeepState → ℕ
 tag_of_deep None = 0
 tag_of_deep (Some merge) = merge.writer.role
 
 pub deep_has_it : (merge : Option DeepState) → DeepHasTag (tag_of_deep merge) merge
-deep_has_it None = tt
-deep_has_it (Some merge) = refl
+deep_has_it merge = grind (arith, common_steps, nat_tests)
 
 -- a pass over a table that grew ahead of its cursor
 grown_over : (sizes : Sizes) (file : List ℕ) (space : SpaceState) (guide : GuideState) (snow : Option SnowState) (a grown : Entries) (c1 : List RunPage) → up_to (cursor_of_pass snow) grown ≡ up_to (cursor_of_pass snow) a
     → IsPassOver sizes file space guide snow a c1 → IsPassOver sizes file space guide snow grown c1
-grown_over sizes file space guide None a grown c1 behind over = tt
-grown_over sizes file space guide (Some snow) a grown c1 behind over = record {
-  older = over.older;
-  pushed = subst (λ (es : Entries). HasPushed sizes true file space snow.writer guide.filter guide.fences (folded_over es (up_to snow.at (entries_of c1)))) (sym behind) over.pushed;
-}
+grown_over sizes file space guide snow a grown c1 h1 h2 = grind (arith, common_steps, nat_tests)
 
 -- over the tree's lists and this table, where the file holds a tree of the same components
 over_tree : KeepsPushed → KeepsAhead → (runs : RunsState) (tree next : Tree) (a grown : Entries) (old new : List ℕ) → IsBesideRuns runs old new

@@ -1,6 +1,8 @@
 -- The next catalogue is one that a slot may have: each of its components is empty, or within the store's pages.
-use Rattle.std.specs.Prelude.{◌≡◌, ◌⊎◌, ℕ, ◌+◌, ◌<◌, ◌≤◌, ◌^◌, List, [], ◌∷◌, length, refl, Option, None}
-use Rattle.std.proofs.Common.{⊎_elim, inl, inr, sym, subst, ap, ◌∙◌, arith, length-append}
+use Rattle.std.specs.Prelude.{◌≡◌, ◌⊎◌, ℕ, ◌+◌, ◌<◌, ◌≤◌, ◌^◌, List, [], ◌∷◌, length, Option}
+use Rattle.std.proofs.lemmas.Grind.{common_steps}
+use Rattle.std.proofs.lemmas.Bool.Decides.{nat_tests}
+use Rattle.std.proofs.Common.{⊎_elim, sym, subst, ap, ◌∙◌, arith, length-append}
 use Rattle.blsm_model.specs.declared.component.Component.{Component}
 use Rattle.blsm_model.specs.Components.{no_page, empty_component}
 use Rattle.blsm_model.specs.Sizes.{Sizes, IsGeometry}
@@ -11,8 +13,7 @@ use Rattle.catalog_swap.specs.Text.{AreNumbers, IsEmpty, IsInRange, IsComponent,
 use Rattle.catalog_swap.specs.Swap.{IsNext}
 use Rattle.record_delta.specs.Entries.{Entries, entries_weight}
 use Rattle.page_file.specs.Page.{IsPageOf}
-use Rattle.page_file.specs.File.{page_at}
-use Rattle.page_file.specs.Component.{RunPage, ReadsAs, entries_of, first_number}
+use Rattle.page_file.specs.Component.{RunPage, ReadsAs}
 use Rattle.page_file.proofs.EntryLemmas.{few_entries}
 use Rattle.page_file.proofs.ComponentLemmas.{weight_join, weight_is_length}
 use Rattle.page_file.proofs.PageLemmas.{few_pages}
@@ -25,10 +26,7 @@ pub record Suits (sizes : Sizes) (component : Component) : Type 0 where
   pub is : IsComponent (page_count sizes) component
 
 pub empty_suits : (sizes : Sizes) → Suits sizes empty_component
-empty_suits sizes = record {
-  numbers = record { first = omega arith; pages = omega arith; entries = omega arith; weight = omega arith };
-  is = inl (record { first = refl; pages = refl; entries = refl; weight = refl });
-}
+empty_suits sizes = grind (arith, common_steps, nat_tests)
 
 -- those of a catalogue do
 pub c1_suits : {sizes : Sizes} {catalog : Catalog} → IsCatalog sizes catalog → Suits sizes catalog.c1
@@ -48,17 +46,7 @@ page_weighs sizes next entries bytes is =
     (omega (arith, few_entries entries is.content.each, is.content.head.some, weight_is_length entries), is.content.head.some)
 
 pub run_in_range : (sizes : Sizes) (component : Component) (run : List RunPage) (file : List ℕ) → ReadsAs sizes component run file → component.pages ≤ page_count sizes → IsComponent (page_count sizes) component
-run_in_range sizes component [] file reads few =
-    inl (record { first = sym reads.first_is; pages = sym reads.pages_is; entries = sym reads.entries_is; weight = sym reads.weight_is })
-run_in_range sizes component (p ∷ ps) file reads few =
-    let weighs = page_weighs sizes (first_number ps None) p.entries (page_at sizes p.number file) reads.chained.1 in
-    inr (record {
-      first = subst (λ (n : ℕ). n < page_count sizes) reads.first_is reads.chained.0;
-      some_page = omega (arith, reads.pages_is);
-      no_more_pages = few;
-      some_entry = omega (arith, reads.entries_is, weighs.1, length-append p.entries (entries_of ps));
-      some_weight = omega (arith, reads.weight_is, weighs.0, weight_join p.entries (entries_of ps));
-    })
+run_in_range sizes component run file h1 h2 = grind (arith, common_steps, nat_tests, page_weighs, length-append, weight_join)
 
 -- the numbers of a run fit their fields
 pub run_suits : (sizes : Sizes) (writer : WriterState) (component : Component) (run : List RunPage) (file : List ℕ) → IsGeometry sizes → IsCounted writer → component ≡ writer.component → ReadsAs sizes component run file
@@ -82,14 +70,7 @@ run_suits sizes writer component run file geometry counted is reads few = record
 -- ---- the next catalogue
 
 pub roles_turned : (roles : List ℕ) → AreRoles roles → AreRoles (b_of roles ∷ spare_of roles ∷ a_of roles ∷ [])
-roles_turned roles are = record {
-  a_below = are.b_below;
-  b_below = are.spare_below;
-  spare_below = are.a_below;
-  a_not_b = are.b_not_spare;
-  a_not_spare = λ is. are.a_not_b (sym is);
-  b_not_spare = λ is. are.a_not_spare (sym is);
-}
+roles_turned roles are = grind (arith, common_steps, nat_tests)
 
 pub may_be_next : (sizes : Sizes) (now next : Catalog) → IsCatalog sizes now → next.version ≡ now.version + 1 → now.version + 1 < 2 ^ 64 → KeepsRoles now next ⊎ TurnsRoles now next
     → Suits sizes next.c1 → Suits sizes next.c1x → Suits sizes next.c2 → IsNext sizes now next

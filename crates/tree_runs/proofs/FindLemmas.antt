@@ -6,7 +6,7 @@ use Rattle.std.proofs.Common.{◌∙◌, inl, inr, ap, sym, subst, refl, arith}
 use Rattle.refusal.specs.Count.{HasRisen}
 use Rattle.disk_trait.specs.Disk.{DiskState}
 use Rattle.disk_trait.specs.Moments.{IsTimed}
-use Rattle.disk_trait.specs.Reads.{OnlyReads, only_reads_more, only_reads_start, only_reads_wider, only_reads_same}
+use Rattle.disk_trait.specs.Reads.{only_reads_more, only_reads_wider, only_reads_same}
 use Rattle.blsm_model.specs.declared.component.Component.{Component}
 use Rattle.blsm_model.specs.declared.key.Key.{Key}
 use Rattle.blsm_model.specs.Sizes.{Sizes}
@@ -22,7 +22,7 @@ use Rattle.bloom_bits.specs.Filter.{MayHave}
 use Rattle.catalog_swap.specs.declared.catalog.Catalog.{Catalog}
 use Rattle.tree_machine.proofs.FoldLemmas.{over_any_assoc}
 use Rattle.tree_file.specs.Tree.{Tree, HoldsTree}
-use Rattle.tree_runs.specs.Lookups.{AreAsked, CountsAsked, CountsYes, HidesOlder}
+use Rattle.tree_runs.specs.Lookups.{CountsAsked, CountsYes, HidesOlder}
 use Rattle.tree_runs.specs.Runs.{GuideState, Tags, guide_at}
 use Rattle.tree_runs.specs.Holding.{AreGuided, IsGuidedBy}
 
@@ -43,10 +43,7 @@ pub looks_in : {newer : Option Rec} {result : Result (Option Rec) Broken} {old n
     → ((pages : List RunPage) → IsTrue old.is_honest → ReadsAs sizes component pages old.bytes → IsGuidedBy guide pages → result ≢ Err Fault
     → result ≡ Ok (over_any newer (record_of_key key (entries_of pages))))
     → Reads (file_length sizes) calls result old new → Looks sizes calls (IsRecordIn sizes component guide key) newer result old new
-looks_in {newer} {result} sizes calls component guide key list reads = record {
-  list = λ older honest has other. subst (λ (o : Option Rec). result ≡ Ok (over_any newer o)) (sym has.3) (list has.0 honest has.1 has.2 other);
-  reads = reads;
-}
+looks_in {newer} {result} sizes calls component guide key list reads = grind (arith, common_steps, nat_tests)
 
 pub no_fault : (found : Option Rec) → ◌≡◌ {A = Result (Option Rec) Broken} (Ok found) (Err Fault) → ⊥
 no_fault found wrong = cc
@@ -178,12 +175,7 @@ found_second {found} {file} {after} newer above sizes was now guides before tags
 
 -- it is asked once at most, and where its filter says no not at all
 pub asked : {A : Type 0} {end : ℕ} {result : Result A Broken} {old new : DiskState} → IsTimed old → (n : ℕ) → (1 ≤ n) ⊎ (new ≡ old) → Reads end 1 result old new → Reads end n result old new
-asked timed n (inl some) reads = record { effect = only_reads_wider (omega arith) some reads.effect; stands = reads.stands; failed = reads.failed }
-asked {A} {end} {result} {old} {new} timed n (inr same) reads = record {
-  effect = subst (λ (d : DiskState). OnlyReads end n old d) (sym same) (only_reads_start old timed);
-  stands = reads.stands;
-  failed = reads.failed;
-}
+asked h1 n h2 h3 = grind (arith, common_steps, nat_tests)
 
 -- nor where what is newer hides it
 pub asked_below : {A : Type 0} {end : ℕ} {result : Result A Broken} {old new : DiskState} (newer : Option Rec) (filter : BitState) (key : Key) (n : ℕ) → IsTimed old

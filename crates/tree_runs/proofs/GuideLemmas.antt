@@ -1,14 +1,14 @@
 -- Filters and fences by tag, when those of one tag are written.
 use Rattle.std.specs.Prelude.{◌≡◌, ◌≢◌, ℕ, ◌<◌, ◌≤◌, List, slice_set}
-use Rattle.std.proofs.Common.{◌∙◌, inl, inr, sym, subst, ap, arith}
-use Rattle.std.proofs.lemmas.Bool.{cases_eq}
-use Rattle.std.proofs.lemmas.List.{get_or-set_same, get_or-set_other, length-set}
+use Rattle.std.proofs.lemmas.Grind.{common_steps}
+use Rattle.std.proofs.lemmas.Bool.Decides.{nat_tests}
+use Rattle.std.proofs.Common.{sym, subst, arith}
 use Rattle.blsm_model.specs.Sizes.{Sizes}
 use Rattle.page_space.specs.Space.{role_count}
 use Rattle.page_file.specs.Component.{RunPage}
 use Rattle.merge_ends.specs.Output.{most_pages}
 use Rattle.tree_file.specs.Tree.{Tree}
-use Rattle.tree_runs.specs.Runs.{GuideState, AreGuides, IsReserved, Tags, no_guide, guide_at}
+use Rattle.tree_runs.specs.Runs.{GuideState, AreGuides, Tags, guide_at}
 use Rattle.tree_runs.specs.Holding.{AreGuided, IsGuidedBy, KeepsOtherGuides}
 
 -- ---- room
@@ -26,25 +26,7 @@ pub record WritesGuide (sizes : Sizes) (tag : ℕ) (old new : List GuideState) (
 pub writes_guide : (sizes : Sizes) (tag : ℕ) (guides : List GuideState) (guide : GuideState) → AreGuides sizes guides → tag < role_count
     → guide.filter.reserved ≡ (guide_at guides tag).filter.reserved → guide.fences.reserved ≡ (guide_at guides tag).fences.reserved
     → WritesGuide sizes tag guides (slice_set guides tag guide) guide
-writes_guide sizes tag guides guide are below bits pages = record {
-  here = here;
-  others = others;
-  reserved = record {
-    five = length-set guides tag guide ∙ are.five;
-    each = λ other in_range.
-        elim (cases_eq other tag) [
-          | inl same ↦ subst (λ (g : GuideState). IsReserved sizes g) (sym (ap (λ (t : ℕ). guide_at (slice_set guides tag guide) t) same ∙ here))
-              (record { bits = bits ∙ (are.each tag below).bits; pages = pages ∙ (are.each tag below).pages })
-          | inr differs ↦ subst (λ (g : GuideState). IsReserved sizes g) (sym (others other differs)) (are.each other in_range)
-        ];
-  };
-}
-  where
-    here : guide_at (slice_set guides tag guide) tag ≡ guide
-    here = get_or-set_same guides tag guide no_guide (omega (arith, are.five, below))
-
-    others : KeepsOtherGuides tag guides (slice_set guides tag guide)
-    others other differs = get_or-set_other guides tag other guide no_guide differs
+writes_guide sizes tag guides guide are below bits pages = grind (arith, common_steps, nat_tests)
 
 -- ---- what the components' are of
 

@@ -22,7 +22,6 @@ use Rattle.tree_file.specs.Tree.{Tree, live_pages}
 use Rattle.tree_runs.specs.Runs.{RunsState, AreRuns, AreRunning, guide_at, page_share}
 use Rattle.tree_runs.specs.Holding.{AreOf}
 use Rattle.tree_runs.proofs.KeptMerges.{KeepsRun, KeepsPages, KeepsPushed, KeepsAhead, pass_runs_still, deep_runs_still, pass_over_still, deep_over_still}
-use Rattle.tree_runs.proofs.ReleasedTags.{none_has}
 use Rattle.tree_runs.proofs.BesideLemmas.{tag_of_pass, tag_of_deep, pass_has_it, deep_has_it}
 
 -- The same pages have each tag; no run that is written has a pinned one, and no seat pins more than its share.
@@ -175,12 +174,7 @@ pub record Unpins (seat : ℕ) (old new : SpaceState) : Type 0 where
   pub size : pin_size new seat ≡ 0
 
 unpinned_without : (old new : SpaceState) (seat tag : ℕ) → Unpins seat old new → IsUnpinned old tag → IsUnpinned new tag
-unpinned_without old new seat tag drops free other page pinned has =
-    let had : HasRole old tag page = subst (λ (sets : List Members). IsIn (slice_index_or sets tag []) page) drops.roles has in
-    elim (cases_eq other seat) [
-      | inl same ↦ none_has old.pages page (pins_of new other) (ap {B = Members} (λ (s : ℕ). pins_of new s) same ∙ drops.this) pinned
-      | inr differs ↦ free other page (subst (λ (set : Members). IsIn set page) (drops.others other differs) pinned) had
-    ]
+unpinned_without old new seat tag drops free other page pinned has = grind (arith, common_steps, nat_tests)
 
 pub dropped_repinned : (runs : RunsState) (after : SpaceState) (seat : ℕ) → AreRuns runs → Unpins seat runs.space after → Repinned runs after
 dropped_repinned runs after seat are drops = record {

@@ -1,5 +1,7 @@
 -- What the components and merges keep when a run becomes a component.
 use Rattle.std.specs.Prelude.{◌≡◌, ◌≢◌, ℕ, List, Option, Some, None, refl}
+use Rattle.std.proofs.lemmas.Grind.{common_steps}
+use Rattle.std.proofs.lemmas.Bool.Decides.{nat_tests}
 use Rattle.std.proofs.Common.{sym, subst, ap, ◌∙◌, arith}
 use Rattle.blsm_model.specs.Components.{empty_component}
 use Rattle.blsm_model.specs.declared.component.Component.{Component}
@@ -20,61 +22,13 @@ pub record HasParts (next : Catalog) (c1 c1x c2 : Component) : Type 0 where
 -- ---- which tags are which
 
 tags_for_deep : (tags : Tags) → AreTags tags → AreTags (record tags { c2 = tags.deep; deep = tags.c2 })
-tags_for_deep tags are = record {
-  c1_below = are.c1_below;
-  c1x_below = are.c1x_below;
-  c2_below = are.deep_below;
-  pass_below = are.pass_below;
-  deep_below = are.c2_below;
-  c1_c1x = are.c1_c1x;
-  c1_c2 = are.c1_deep;
-  c1_pass = are.c1_pass;
-  c1_deep = are.c1_c2;
-  c1x_c2 = are.c1x_deep;
-  c1x_pass = are.c1x_pass;
-  c1x_deep = are.c1x_c2;
-  c2_pass = λ is. are.pass_deep (sym is);
-  c2_deep = λ is. are.c2_deep (sym is);
-  pass_deep = λ is. are.c2_pass (sym is);
-}
+tags_for_deep tags are = grind (arith, common_steps, nat_tests)
 
 tags_for_pass : (tags : Tags) → AreTags tags → AreTags (record tags { c1 = tags.pass; pass = tags.c1 })
-tags_for_pass tags are = record {
-  c1_below = are.pass_below;
-  c1x_below = are.c1x_below;
-  c2_below = are.c2_below;
-  pass_below = are.c1_below;
-  deep_below = are.deep_below;
-  c1_c1x = λ is. are.c1x_pass (sym is);
-  c1_c2 = λ is. are.c2_pass (sym is);
-  c1_pass = λ is. are.c1_pass (sym is);
-  c1_deep = are.pass_deep;
-  c1x_c2 = are.c1x_c2;
-  c1x_pass = λ is. are.c1_c1x (sym is);
-  c1x_deep = are.c1x_deep;
-  c2_pass = λ is. are.c1_c2 (sym is);
-  c2_deep = are.c2_deep;
-  pass_deep = are.c1_deep;
-}
+tags_for_pass tags are = grind (arith, common_steps, nat_tests)
 
 tags_for_rotation : (tags : Tags) → AreTags tags → AreTags (record tags { c1 = tags.c1x; c1x = tags.c1 })
-tags_for_rotation tags are = record {
-  c1_below = are.c1x_below;
-  c1x_below = are.c1_below;
-  c2_below = are.c2_below;
-  pass_below = are.pass_below;
-  deep_below = are.deep_below;
-  c1_c1x = λ is. are.c1_c1x (sym is);
-  c1_c2 = are.c1x_c2;
-  c1_pass = are.c1x_pass;
-  c1_deep = are.c1x_deep;
-  c1x_c2 = are.c1_c2;
-  c1x_pass = are.c1_pass;
-  c1x_deep = are.c1_deep;
-  c2_pass = are.c2_pass;
-  c2_deep = are.c2_deep;
-  pass_deep = are.pass_deep;
-}
+tags_for_rotation tags are = grind (arith, common_steps, nat_tests)
 
 -- C1 gets the tag of C1', C1' that of the pass, and the pass that of C1
 tags_for_rotated : (tags : Tags) → AreTags tags → AreTags (record tags { c1 = tags.c1x; c1x = tags.pass; pass = tags.c1 })
@@ -246,42 +200,4 @@ pub runs_for_rotation : (old : RunsState) (next : Catalog) (guides : List GuideS
       deep = Some (deep_started old.tags.deep next.c1x next.c2);
       guides = guides;
     })
-runs_for_rotation old next guides are parts rests reserved = record {
-  geometry = are.geometry;
-  pages = are.pages;
-  shape = are.shape;
-  tags = tags_for_rotation tags are.tags;
-  one_tag = are.one_tag;
-  c1 = subst (λ (k : Component). IsHeld old.space tags.c1x k) (sym parts.c1_is) (nothing_held old.space tags.c1x (are.c1x.size ∙ none));
-  c1x = subst (λ (k : Component). IsHeld old.space tags.c1 k) (sym parts.c1x_is) are.c1;
-  c2 = subst (λ (k : Component). IsHeld old.space tags.c2 k) (sym parts.c2_is) are.c2;
-  pass = are.pass;
-  deep = nothing_held old.space tags.deep (are.deep.size ∙ no_run);
-  pass_tag = are.pass_tag;
-  deep_tag = refl;
-  rests = tt;
-  pass_unpinned = are.pass_unpinned;
-  deep_unpinned = are.deep_unpinned;
-  within = record {
-    roles = omega (
-      arith,
-      are.within.roles,
-      none,
-      no_run,
-      ap (λ (k : Component). k.pages) parts.c1_is,
-      ap (λ (k : Component). k.pages) parts.c1x_is,
-      ap (λ (k : Component). k.pages) parts.c2_is,
-    );
-    seats = are.within.seats;
-  };
-  guides = reserved;
-}
-  where
-    tags : Tags
-    tags = old.tags
-
-    none : old.catalogue.c1x.pages ≡ 0
-    none = ap (λ (k : Component). k.pages) (c1x_empty old are rests)
-
-    no_run : (made_by_deep old.deep).pages ≡ 0
-    no_run = ap (λ (d : Option DeepState). (made_by_deep d).pages) rests
+runs_for_rotation old next guides are parts rests reserved = grind (arith, common_steps, nat_tests)

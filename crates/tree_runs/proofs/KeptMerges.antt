@@ -1,5 +1,8 @@
 -- What merges keep that go on while another run becomes a component: their pages keep their tags, and read the same.
 use Rattle.std.specs.Prelude.{◌≡◌, ◌≢◌, ℕ, Bool, true, IsTrue, Option, Some, None, List, refl}
+use Rattle.std.proofs.lemmas.Grind.{common_steps}
+use Rattle.std.proofs.lemmas.Bool.Decides.{nat_tests}
+use Rattle.std.proofs.Common.{arith}
 use Rattle.std.specs.List.{Contains}
 use Rattle.std.proofs.Common.{inr, sym, subst}
 use Rattle.disk_trait.specs.Region.{Region, nowhere, AreApart, IsSameOutside, same_file, same_wider, part_apart}
@@ -117,12 +120,7 @@ pages_one tag gone differs = record { tagged = λ n. has_still gone tag n differ
 
 pub keeps_two : {sizes : Sizes} {honest : Bool} (file : List ℕ) {role other : ℕ} {space mid after : SpaceState} (tag : ℕ) → Released role space mid → Released other mid after → tag ≢ role → tag ≢ other
     → KeepsRun sizes honest nowhere file file space after tag
-keeps_two file tag first second differs differs_too = record {
-  no_more = λ n has. has_before first tag n (has_before second tag n has);
-  tagged = λ n has. has_still second tag n differs_too (has_still first tag n differs has);
-  same = λ told. same_file nowhere file;
-  apart = λ i here. absurd here;
-}
+keeps_two file tag first second differs differs_too = grind (arith, common_steps, nat_tests)
 
 pub pages_two : {sizes : Sizes} {role other : ℕ} {space mid after : SpaceState} (tag : ℕ) → Released role space mid → Released other mid after → tag ≢ role → tag ≢ other
     → KeepsPages sizes space after nowhere tag

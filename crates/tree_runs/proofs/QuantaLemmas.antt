@@ -1,5 +1,5 @@
 -- A quantum as the merges take it, group by group, is the one that the machine computes of the lists.
-use Rattle.std.proofs.Common.{◌≡◌, ◌∙◌, ◌⊎◌, ⊎_elim, ℕ, ◌+◌, ◌-◌, ◌<◌, ◌≤◌, Bool, true, false, cond, [], ◌∷◌, Option, Some, None, refl, ap, sym, subst, inl, inr, arith}
+use Rattle.std.proofs.Common.{◌≡◌, ◌∙◌, ◌⊎◌, ℕ, ◌+◌, ◌-◌, ◌<◌, ◌≤◌, Bool, true, false, cond, [], ◌∷◌, Option, Some, None, refl, ap, sym, subst, inl, inr, arith}
 use Rattle.std.proofs.lemmas.Grind.{common_steps}
 use Rattle.std.proofs.lemmas.Bool.Decides.{nat_tests}
 use Rattle.std.specs.Prelude.{nat_lt, sum_by}
@@ -98,31 +98,11 @@ record Front (newer older : Entries) : Type 0 where
 
 front_newer : (e : Key × Rec) (newer older : Entries) → below_all key_cmp e.0 newer ≡ true → below_all key_cmp e.0 older ≡ true
     → group_of (Some e) (first_of older) ≡ Some (e.0, e.1, weight e.0 e.1) → Front (e ∷ newer) older
-front_newer e newer older below beyond group = record {
-  key = e.0;
-  rec = e.1;
-  taken = weight e.0 e.1;
-  group = group;
-  folded = put_front e.0 e.1 (folded_over newer older) (below_folded e.0 newer older below beyond)
-      ∙ ap (λ (l : Entries). e ∷ folded_over l older) (sym (rest_left e newer below))
-      ∙ ap (λ (l : Entries). e ∷ folded_over (above (Some e.0) (e ∷ newer)) l) (sym (all_left e.0 older beyond));
-  weighs = omega (arith, ap (weight_of_any e.0) (find_first e newer), ap (weight_of_any e.0) (below_none e.0 older beyond));
-  some = omega arith;
-}
+front_newer e newer older below beyond group = grind (arith, common_steps, nat_tests, put_front, below_folded, rest_left, all_left, find_first, below_none)
 
 front_older : (f : Key × Rec) (newer older : Entries) → below_all key_cmp f.0 newer ≡ true → below_all key_cmp f.0 older ≡ true
     → group_of (first_of newer) (Some f) ≡ Some (f.0, f.1, weight f.0 f.1) → Front newer (f ∷ older)
-front_older f newer older beyond below group = record {
-  key = f.0;
-  rec = f.1;
-  taken = weight f.0 f.1;
-  group = group;
-  folded = fold_front f newer older beyond
-      ∙ ap (λ (l : Entries). f ∷ folded_over l older) (sym (all_left f.0 newer beyond))
-      ∙ ap (λ (l : Entries). f ∷ folded_over (above (Some f.0) newer) l) (sym (rest_left f older below));
-  weighs = omega (arith, ap (weight_of_any f.0) (find_first f older), ap (weight_of_any f.0) (below_none f.0 newer beyond));
-  some = omega arith;
-}
+front_older f newer older beyond below group = grind (arith, common_steps, nat_tests, fold_front, all_left, rest_left, find_first, below_none)
 
 front_both : (key : Key) (rec less : Rec) (newer older : Entries) → below_all key_cmp key newer ≡ true → below_all key_cmp key older ≡ true → Front ((key, rec) ∷ newer) ((key, less) ∷ older)
 front_both key rec less newer older below beyond = record {
@@ -249,10 +229,7 @@ until_alike v w wanted (e ∷ es) each = grind (arith, common_steps, nat_tests, 
 
 all_until : (P : Key × Rec → Type 0) (weigh : Key → ℕ) (wanted : ℕ) (es : Entries) → AllByRecursion P es → AllByRecursion P (until wanted weigh es)
 all_until P weigh wanted [] each = tt
-all_until P weigh wanted (e ∷ es) each = (
-  each.0,
-  elim (nat_lt (weigh e.0) wanted) as (λ b. AllByRecursion P (cond b (until (wanted - weigh e.0) weigh es) [])) [ true ↦ all_until P weigh (wanted - weigh e.0) es each.1 | false ↦ tt ],
-)
+all_until P weigh wanted (e ∷ es) each = grind (arith, common_steps, nat_tests, all_until P weigh (wanted - weigh e.0) es each.1)
 
 sum_alike : (v w : Key → ℕ) (es : Entries) → AllByRecursion (λ e. v e.0 ≡ w e.0) es → sum_by (λ e. v e.0) es ≡ sum_by (λ e. w e.0) es
 sum_alike v w [] each = refl
@@ -348,12 +325,7 @@ behind_first least at to newer older taken g some went quantum = (onward, record
     light = omega (arith, ap (λ (t : Option Key). weight_above t newer older) went.to_is, lighter_than went.further)
 
     last : IsLast (least - g.taken) (Some g.key) to newer older
-    last = record {
-      before = went.before;
-      group = went.last.taken;
-      few = omega (arith, went.few, g.less, some);
-      next = (went.last.key, went.last.rec, went.last.group, went.to_is);
-    }
+    last = grind (arith, common_steps, nat_tests)
 
     enough : (least ≤ taken) ⊎ NoneAbove to newer older → (least - g.taken ≤ taken - g.taken) ⊎ NoneAbove to newer older
     enough h1 = grind (arith, common_steps, nat_tests)

@@ -22,7 +22,7 @@ use Rattle.tree_file.specs.Tree.{Tree, HoldsTree}
 use Rattle.tree_file.specs.Places.{StandsOn}
 use Rattle.tree_file.proofs.StandLemmas.{stands_beside}
 use Rattle.scan_view.proofs.StayLemmas.{unpinned_on}
-use Rattle.tree_runs.specs.Runs.{GuideState, RunsState, Tags, AreGuides, AreRuns, AreRunning, Fits, HasOneTag, IsFilled, PassRuns, DeepRuns, PassHasTag, DeepHasTag, guide_at, left_for_pass, left_for_deep, made_by_pass, made_by_deep, pages_in_use, page_share}
+use Rattle.tree_runs.specs.Runs.{GuideState, RunsState, Tags, AreGuides, AreRuns, AreRunning, Fits, HasOneTag, IsFilled, PassRuns, DeepRuns, PassHasTag, DeepHasTag, guide_at, made_by_pass, made_by_deep, pages_in_use, page_share}
 use Rattle.tree_runs.specs.Holding.{IsPassOver, IsDeepOver, StandOver, KeepsAllButPass, KeepsAllButDeep, PassTook, DeepTook}
 use Rattle.tree_runs.proofs.CountLemmas.{within_more, other_size}
 use Rattle.tree_runs.proofs.GuideLemmas.{WritesGuide, all_guided_still}
@@ -32,8 +32,7 @@ use Rattle.tree_runs.proofs.StayLemmas.{one_tag_after, tag_kept, keeps_other, pa
 -- ---- results
 
 pub both_ok : {T E P Q R : Type 0} (result : Result T E) → OnOk result P → OnOk result Q → (P → Q → R) → OnOk result R
-both_ok (Ok value) p q so = so p q
-both_ok (Err error) p q so = tt
+both_ok result h1 h2 h3 = grind (arith, common_steps, nat_tests)
 
 -- ---- the tree
 
@@ -74,26 +73,10 @@ deep_light runs merge a is fits = grind (arith, common_steps, nat_tests)
 
 -- so there are pages for it
 pub pass_has_room : (runs : RunsState) (snow : SnowState) (a : Entries) → runs.pass ≡ Some snow → AreRuns runs → Fits runs a → HasRoom runs.space snow.writer (pass.left_weight snow a)
-pass_has_room runs snow a is are fits =
-    let made = subst (λ (p : Option SnowState). (made_by_pass p).weight + left_for_pass p a + ((made_by_deep runs.deep).weight + left_for_deep runs.deep) ≤ capacity runs.sizes) is fits.made in
-    let pages = ap (λ (p : Option SnowState). (made_by_pass p).pages) is in
-    record {
-      live = pages_in_use runs;
-      share = page_share runs.sizes;
-      within = are.within;
-      room = omega (arith, fits.live, made, pages, are.pages, are.c1.filled.full, are.c1x.filled.full, are.c2.filled.full, are.deep.filled.full);
-    }
+pass_has_room runs snow a is are fits = grind (arith, common_steps, nat_tests)
 
 pub deep_has_room : (runs : RunsState) (merge : DeepState) (a : Entries) → runs.deep ≡ Some merge → AreRuns runs → Fits runs a → HasRoom runs.space merge.writer (deep.left_weight merge)
-deep_has_room runs merge a is are fits =
-    let made = subst (λ (d : Option DeepState). (made_by_pass runs.pass).weight + left_for_pass runs.pass a + ((made_by_deep d).weight + left_for_deep d) ≤ capacity runs.sizes) is fits.made in
-    let pages = ap (λ (d : Option DeepState). (made_by_deep d).pages) is in
-    record {
-      live = pages_in_use runs;
-      share = page_share runs.sizes;
-      within = are.within;
-      room = omega (arith, fits.live, made, pages, are.pages, are.c1.filled.full, are.c1x.filled.full, are.c2.filled.full, are.pass.filled.full);
-    }
+deep_has_room runs merge a is are fits = grind (arith, common_steps, nat_tests)
 
 -- ---- the pass
 
@@ -118,8 +101,7 @@ pass_role runs snow is are = subst (λ (p : Option SnowState). PassHasTag runs.t
 
 pub pass_works : (runs : RunsState) (after : SpaceState) (guide guide_after : GuideState) (snow next : SnowState) (a : Entries) (result : Result ℕ Broken) (old new : DiskState) → runs.pass ≡ Some snow → AreRuns runs
     → PassQuantum runs.sizes runs.space after guide guide_after snow next a result old new → Works runs.sizes runs.tags.pass (runs.sizes.quantum / 7 + 2) runs.space after old new
-pass_works runs after guide guide_after snow next a result old new is are quantum =
-    subst (λ (r : ℕ). Works runs.sizes r (runs.sizes.quantum / 7 + 2) runs.space after old new) (pass_role runs snow is are) quantum.works
+pass_works runs after guide guide_after snow next a result old new is are quantum = grind (arith, common_steps, nat_tests)
 
 pass_in_order : (runs : RunsState) (after : SpaceState) (guides : List GuideState) (snow next : SnowState) → runs.pass ≡ Some snow → AreRuns runs → IsSpace after
     → TakesPages runs.tags.pass runs.space after → role_size after runs.tags.pass + snow.writer.component.pages ≡ role_size runs.space runs.tags.pass + next.writer.component.pages
@@ -228,8 +210,7 @@ deep_role runs merge is are = subst (λ (d : Option DeepState). DeepHasTag runs.
 
 pub deep_works : (runs : RunsState) (after : SpaceState) (guide guide_after : GuideState) (merge next : DeepState) (result : Result ℕ Broken) (old new : DiskState) → runs.deep ≡ Some merge → AreRuns runs
     → DeepQuantum runs.sizes runs.space after guide guide_after merge next result old new → Works runs.sizes runs.tags.deep (runs.sizes.quantum / 4 + 3) runs.space after old new
-deep_works runs after guide guide_after merge next result old new is are quantum =
-    subst (λ (r : ℕ). Works runs.sizes r (runs.sizes.quantum / 4 + 3) runs.space after old new) (deep_role runs merge is are) quantum.works
+deep_works runs after guide guide_after merge next result old new is are quantum = grind (arith, common_steps, nat_tests)
 
 deep_in_order : (runs : RunsState) (after : SpaceState) (guides : List GuideState) (merge next : DeepState) → runs.deep ≡ Some merge → AreRuns runs → IsSpace after → TakesPages runs.tags.deep runs.space after
     → role_size after runs.tags.deep + merge.writer.component.pages ≡ role_size runs.space runs.tags.deep + next.writer.component.pages

@@ -2,9 +2,7 @@
 use Rattle.std.specs.Prelude.{◌≡◌, ◌≢◌, ◌⊎◌, ℕ, ◌+◌, ◌<◌, true, false, slice_index_or}
 use Rattle.std.proofs.lemmas.Grind.{common_steps}
 use Rattle.std.proofs.lemmas.Bool.Decides.{nat_tests}
-use Rattle.std.proofs.Common.{inl, inr, sym, subst, ap, ◌∙◌, arith}
-use Rattle.std.proofs.lemmas.Bool.{cases_eq, cases_lt, false≢true}
-use Rattle.std.proofs.lemmas.List.{get_or-replicate, get_or_past, length-replicate}
+use Rattle.std.proofs.Common.{sym, subst, ap, arith}
 use Rattle.tree_runs.proofs.CountLemmas.{all_but_one}
 use Rattle.page_space.specs.PageSet.{Members, IsIn, none_of, size}
 use Rattle.page_space.specs.Space.{SpaceState, HasRole, IsFree, IsSpace, KeepsOtherRoles, pages_with, role_size}
@@ -24,11 +22,7 @@ none_has pages n set is has = grind (arith, common_steps, nat_tests)
 
 -- A tag that a page has it had before; and each other tag it has still.
 pub has_before : {role : ℕ} {old new : SpaceState} → Released role old new → (tag n : ℕ) → HasRole new tag n → HasRole old tag n
-has_before {role} {old} {new} is tag n has =
-    elim (cases_eq tag role) [
-      | inl same ↦ absurd (none_has old.pages n (pages_with new tag) (ap (λ (r : ℕ). pages_with new r) same ∙ is.this) has)
-      | inr differs ↦ subst (λ (set : Members). IsIn set n) (is.others tag differs) has
-    ]
+has_before {role} {old} {new} is tag n has = grind (arith, common_steps, nat_tests)
 
 pub has_still : {role : ℕ} {old new : SpaceState} → Released role old new → (tag n : ℕ) → tag ≢ role → HasRole old tag n → HasRole new tag n
 has_still {role} {old} {new} is tag n differs has = subst (λ (set : Members). IsIn set n) (sym (is.others tag differs)) has

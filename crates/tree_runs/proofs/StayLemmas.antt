@@ -1,11 +1,10 @@
 -- What the components and the runs keep while one tag takes pages and only its pages are written.
-use Rattle.std.specs.Prelude.{◌≡◌, ◌⊎◌, ℕ, zero, suc, false, ◌<◌, Bool, IsTrue, List, [], ◌∷◌, ◌++◌, length, None}
+use Rattle.std.specs.Prelude.{◌≡◌, ◌⊎◌, ℕ, ◌<◌, Bool, IsTrue, List, [], ◌∷◌, ◌++◌, length}
 use Rattle.std.proofs.lemmas.Grind.{common_steps}
 use Rattle.std.proofs.lemmas.Bool.Decides.{nat_tests}
 use Rattle.std.specs.List.{Contains}
-use Rattle.std.proofs.Common.{◌∙◌, ap, sym, subst, inl, inr, ⊎_elim, refl, arith}
-use Rattle.std.proofs.lemmas.Bool.{cases_eq, cases_lt, false≢true}
-use Rattle.std.proofs.lemmas.List.{get_or_past}
+use Rattle.std.proofs.Common.{sym, subst, inl, inr, ⊎_elim, refl, arith}
+use Rattle.std.proofs.lemmas.Bool.{cases_eq}
 use Rattle.std.proofs.lemmas.List.Elements.{Contains-append_left, Contains-append_cases}
 use Rattle.disk_trait.specs.Region.{AreApart, IsSameOutside}
 use Rattle.blsm_model.specs.Components.{empty_component}
@@ -13,15 +12,13 @@ use Rattle.blsm_model.specs.Sizes.{Sizes}
 use Rattle.blsm_model.specs.Geometry.{page_count}
 use Rattle.bloom_bits.specs.BitSet.{BitState}
 use Rattle.bloom_bits.specs.Fences.{FencesState}
-use Rattle.record_delta.specs.Entries.{Entries, entries_weight}
+use Rattle.record_delta.specs.Entries.{Entries}
 use Rattle.page_space.specs.Space.{SpaceState, IsSpace, IsFree, HasRole, pages_with, role_count}
 use Rattle.page_space.specs.PageSet.{Members, IsIn}
 use Rattle.page_file.specs.File.{page_region, pages_region}
-use Rattle.page_file.specs.Component.{RunPage, numbers_of, entries_of, first_number}
-use Rattle.page_file.specs.Page.{page_number}
-use Rattle.page_file.proofs.PageLemmas.{others_apart}
+use Rattle.page_file.specs.Component.{numbers_of}
 use Rattle.run_writer.specs.Writer.{WriterState, Holds, HasPushed, role_region}
-use Rattle.run_writer.specs.Run.{Run, pages_of}
+use Rattle.run_writer.specs.Run.{Run}
 use Rattle.merge_ends.specs.Output.{TakesPages}
 use Rattle.tree_file.specs.Tree.{Tree, HoldsTree, live_pages}
 use Rattle.tree_file.specs.Places.{IsBeside}
@@ -55,10 +52,7 @@ one_tag_after {old} {new} {role} takes before page one other has also = by (case
 -- ---- what isn't the tag's
 
 other_pages_apart : (sizes : Sizes) {space after : SpaceState} {role tag : ℕ} → (tag ≡ role → ⊥) → HasOneTag after → TakesPages role space after → AreApart (role_region sizes after role) (role_region sizes space tag)
-other_pages_apart sizes {space} {after} {role} {tag} differs one_tag takes i here there =
-    others_apart sizes here.0 there.0
-    (λ same. differs (one_tag there.0 tag role (tag_kept takes tag differs there.0 there.1) (subst (λ (n : ℕ). HasRole after role n) same here.1)))
-    i here.2 there.2
+other_pages_apart sizes {space} {after} {role} {tag} differs one_tag takes i here there = grind (arith, common_steps, nat_tests)
 
 -- a run of another tag stays, and so do the pages of another one
 pub keeps_other : (sizes : Sizes) {honest : Bool} {old new : List ℕ} {space after : SpaceState} {role : ℕ} (tag : ℕ) → (tag ≡ role → ⊥) → HasOneTag after → TakesPages role space after

@@ -1,15 +1,15 @@
 -- What a swap leaves of the tree that stood.
-use Rattle.std.specs.Prelude.{◌≡◌, ◌≢◌, ℕ, ◌<◌, Bool, IsTrue, List, [], ◌∷◌, Option, Some, None}
+use Rattle.std.specs.Prelude.{◌≡◌, ◌≢◌, ℕ, ◌<◌, Bool, IsTrue, List, [], ◌∷◌}
+use Rattle.std.proofs.lemmas.Grind.{common_steps}
+use Rattle.std.proofs.lemmas.Bool.Decides.{nat_tests}
 use Rattle.std.specs.List.{Contains}
 use Rattle.std.proofs.Common.{inl, inr, sym, arith}
 use Rattle.std.proofs.lemmas.List.{append-nil}
 use Rattle.disk_trait.specs.Disk.{DiskState}
 use Rattle.disk_trait.specs.Effects.{Affects, affects_wider, affects_more}
 use Rattle.disk_trait.specs.Moments.{IsTimed, LeavesOnly, leaves_only_weaken}
-use Rattle.blsm_model.specs.declared.row.Value.{Value}
 use Rattle.blsm_model.specs.Lanes.{AreRoles}
-use Rattle.record_delta.specs.Records.{settle}
-use Rattle.record_delta.specs.Entries.{Entries, settled_base, settled_entries}
+use Rattle.record_delta.specs.Entries.{Entries, settled_entries}
 use Rattle.page_space.specs.Space.{HasRole, role_count}
 use Rattle.page_file.specs.Component.{RunPage, entries_of}
 use Rattle.run_writer.specs.Writer.{role_region}
@@ -94,11 +94,7 @@ swap_pages runs of_run tag are roles differs = record { tagged = λ n has. has; 
 
 pub settled_bases : (es : Entries) → AreBases (settled_entries es)
 settled_bases [] = tt
-settled_bases (e ∷ es) = by (settle e.1) (settled_bases es)
-  where
-    by : (v : Option Value) → AreBases (settled_entries es) → AreBases (settled_base e.0 v (settled_entries es))
-    by None rest = rest
-    by (Some value) rest = (tt, rest)
+settled_bases (e ∷ es) = grind (arith, common_steps, nat_tests, settled_bases es)
 
 -- a list on one page, for a swap that wrote none
 pub one_page : Entries → List RunPage

@@ -1,23 +1,18 @@
 -- Where a swap writes: not in the pages of other tags, and beside a tree that has none of them.
-use Rattle.std.specs.Prelude.{◌≡◌, ◌≢◌, ℕ, ◌+◌, ◌<◌, ◌≤◌, false, [], ◌∷◌, ◌++◌, zero, suc, length, refl}
+use Rattle.std.specs.Prelude.{◌≡◌, ◌≢◌, ℕ, ◌+◌, ◌<◌, ◌≤◌, [], ◌∷◌, ◌++◌, refl}
 use Rattle.std.proofs.lemmas.Grind.{common_steps}
 use Rattle.std.proofs.lemmas.Bool.Decides.{nat_tests}
 use Rattle.std.specs.List.{Contains}
-use Rattle.std.proofs.Common.{⊎_elim, inl, inr, sym, subst, ◌∙◌, arith}
-use Rattle.std.proofs.lemmas.Bool.{cases_lt, false≢true}
-use Rattle.std.proofs.lemmas.List.{get_or_past}
+use Rattle.std.proofs.Common.{⊎_elim, sym, subst, arith}
 use Rattle.std.proofs.lemmas.List.Elements.{Contains-append_cases}
-use Rattle.disk_trait.specs.Region.{AreApart, span}
+use Rattle.disk_trait.specs.Region.{AreApart}
 use Rattle.blsm_model.specs.Sizes.{Sizes, IsGeometry}
 use Rattle.blsm_model.specs.Geometry.{page_count}
-use Rattle.blsm_model.specs.Lanes.{AreRoles, spare_of, region_start}
+use Rattle.blsm_model.specs.Lanes.{AreRoles, region_start}
 use Rattle.catalog_swap.specs.declared.catalog.Catalog.{Catalog}
-use Rattle.catalog_swap.specs.Slots.{slot_of, slot_length, other_slot}
-use Rattle.catalog_swap.specs.Swap.{spare_start}
-use Rattle.page_space.specs.Space.{SpaceState, HasRole, IsSpace, role_count, pages_with}
+use Rattle.page_space.specs.Space.{SpaceState, HasRole, IsSpace, role_count}
 use Rattle.page_file.specs.Component.{numbers_of}
 use Rattle.page_file.specs.File.{page_start, pages_region}
-use Rattle.page_file.proofs.PageLemmas.{others_apart, before_apart}
 use Rattle.run_writer.specs.Writer.{role_region}
 use Rattle.tree_file.specs.Tree.{Tree, live_pages}
 use Rattle.tree_file.specs.Places.{IsBeside}
@@ -32,16 +27,7 @@ lane_before sizes lane h1 h2 = grind (arith, common_steps, nat_tests)
 
 pub swap_apart : (sizes : Sizes) (space : SpaceState) (of_run tag : ℕ) (now : Catalog) → IsGeometry sizes → AreRoles now.lanes → HasOneTag space → of_run ≢ tag
     → AreApart (swap_region sizes space of_run now) (role_region sizes space tag)
-swap_apart sizes space of_run tag now geometry roles once differs i here there =
-    ⊎_elim
-    (λ (run : role_region sizes space of_run i).
-    others_apart sizes run.0 there.0 (λ same. differs (once there.0 of_run tag (subst (λ (n : ℕ). HasRole space of_run n) same run.1) there.1)) i run.2 there.2)
-    (⊎_elim
-    (⊎_elim
-    (λ (gate : span (other_slot now.version) 1 i). before_apart sizes there.0 (other_slot now.version) 1 (omega arith) i there.2 gate)
-    (λ (gate : span (spare_start sizes now) 1 i). let half = geometry.half.0 in before_apart sizes there.0 (spare_start sizes now) 1 (lane_before sizes (spare_of now.lanes) (omega (arith, half)) roles.spare_below) i there.2 gate))
-    (λ (slot : span (slot_of (now.version + 1)) slot_length i). before_apart sizes there.0 (slot_of (now.version + 1)) slot_length (omega arith) i there.2 slot))
-    here
+swap_apart sizes space of_run tag now geometry roles once differs i here there = grind (arith, common_steps, nat_tests)
 
 -- ---- beside a tree
 

@@ -4,7 +4,6 @@ use Rattle.std.proofs.lemmas.Grind.{common_steps}
 use Rattle.std.proofs.lemmas.Bool.Decides.{nat_tests}
 use Rattle.std.specs.List.{Contains}
 use Rattle.std.proofs.Common.{sym, subst, ap, ◌∙◌, arith}
-use Rattle.std.proofs.lemmas.List.Sums.{count_by-le-length}
 use Rattle.disk_trait.specs.Disk.{DiskState}
 use Rattle.disk_trait.specs.Effects.{Affects}
 use Rattle.disk_trait.specs.Moments.{IsTimed, LeavesOnly}
@@ -13,7 +12,7 @@ use Rattle.blsm_model.specs.Sizes.{Sizes}
 use Rattle.blsm_model.specs.Geometry.{page_count}
 use Rattle.catalog_swap.specs.declared.catalog.Catalog.{Catalog}
 use Rattle.record_delta.specs.Entries.{Entries, folded_over, settled_entries}
-use Rattle.page_space.specs.Space.{role_count, role_size, pages_with}
+use Rattle.page_space.specs.Space.{role_count, role_size}
 use Rattle.page_file.specs.Component.{RunPage, ReadsAs, HasList, entries_of, numbers_of}
 use Rattle.run_writer.specs.Writer.{role_region}
 use Rattle.snow_merge.specs.Pass.{SnowState}
@@ -134,8 +133,7 @@ pass_becomes {T} {E} {result} {a} {old} {mid} {new} runs tree made next b full i
 
 pub pass_swapped : (b : Bool) (a : Entries) (tree : Tree) (next : Catalog) (run : List RunPage) → entries_of run ≡ folded_over a (entries_of tree.c1) → next.version ≡ tree.catalogue.version + 1
     → IsPassSwapped b a tree (pass_tree b next run tree)
-pass_swapped true a tree next run is version = record { version = version; c1 = refl; c1x = is; c2 = refl; lane_a = refl; lane_b = refl }
-pass_swapped false a tree next run is version = record { version = version; c1 = is; c1x = refl; c2 = refl; lane_a = refl; lane_b = refl }
+pass_swapped b a tree next run h1 h2 = grind (arith, common_steps, nat_tests)
 
 pub rotation_becomes : {T E : Type 0} {result : Result T E} {a : Entries} {old new : DiskState} (runs : RunsState) (tree : Tree) (next : Catalog) → StandOver runs tree a old → IsTrue old.is_honest
     → runs.catalogue.version + 1 < 2 ^ 64 → next ≡ with_rotation runs.catalogue → Switches runs.sizes runs.catalogue next result old new

@@ -1,8 +1,11 @@
 -- What a lookup tells of the pages that it asks, in one component after the other.
 use Rattle.std.specs.Prelude.{◌≡◌, ℕ, List, [], ◌∷◌, IsTrue, Option, None, Some, Result, Ok, Err, IfOk}
-use Rattle.std.proofs.Common.{◌∙◌, ap, inl, inr, sym, subst, refl}
+use Rattle.std.proofs.lemmas.Grind.{common_steps}
+use Rattle.std.proofs.lemmas.Bool.Decides.{nat_tests}
+use Rattle.std.proofs.Common.{arith}
+use Rattle.std.proofs.Common.{◌∙◌, ap, inl, sym, subst}
 use Rattle.disk_trait.specs.Disk.{DiskState}
-use Rattle.disk_trait.specs.Reads.{OnlyReads, only_reads_same}
+use Rattle.disk_trait.specs.Reads.{OnlyReads}
 use Rattle.blsm_model.specs.declared.component.Component.{Component}
 use Rattle.blsm_model.specs.declared.key.Key.{Key}
 use Rattle.blsm_model.specs.Sizes.{Sizes}
@@ -25,8 +28,7 @@ pub record TellsOne (sizes : Sizes) (key : Key) (c : Component × GuideState) (n
 -- nothing is newer
 pub told_alone : (H : Type 0) (sizes : Sizes) (key : Key) (file : List ℕ) (c : Component × GuideState) (calls : ℕ) (result : Result (Option Rec) Broken)
     → IfOk result (λ found. H → IsFoundBy sizes c.0 c.1.filter c.1.fences key found calls file) → IfOk result (λ found. H → IsToldBy sizes key file c None found)
-told_alone H sizes key file c calls (Ok found) told = λ honest. inr ((λ hides. hides), found, calls, told honest, refl)
-told_alone H sizes key file c calls (Err broken) told = tt
+told_alone H sizes key file c calls result h1 = grind (arith, common_steps, nat_tests)
 
 -- a record that was folded over an older one, or stands alone
 pub over_found : (newer older record_now : Rec) (found : Option Rec) → found ≡ Some older → record_now ≡ fold newer older → Some record_now ≡ over_any (Some newer) found
@@ -43,8 +45,7 @@ pub record Tells (sizes : Sizes) (key : Key) (cs : List (Component × GuideState
 
 told_last : (H : Type 0) (sizes : Sizes) (key : Key) (file : List ℕ) (c : Component × GuideState) (newer : Option Rec) (result : Result (Option Rec) Broken)
     → IfOk result (λ found. H → IsToldBy sizes key file c newer found) → IfOk result (λ found. H → AreToldBy sizes key file (c ∷ []) newer found)
-told_last H sizes key file c newer (Ok found) told = λ honest. (found, told honest, refl)
-told_last H sizes key file c newer (Err broken) told = tt
+told_last H sizes key file c newer result h1 = grind (arith, common_steps, nat_tests)
 
 -- the last one
 pub tells_last : {newer : Option Rec} {result : Result (Option Rec) Broken} {old : DiskState} (sizes : Sizes) (key : Key) (c : Component × GuideState) → TellsOne sizes key c newer result old → Tells sizes key (c ∷ []) newer result old
@@ -63,16 +64,9 @@ tells_failed {newer} {broken} {result} {old} sizes key c cs one is = record {
 
 told_behind : (sizes : Sizes) (key : Key) (c : Component × GuideState) (cs : List (Component × GuideState)) (newer found : Option Rec) (result : Result (Option Rec) Broken) (H H2 : Type 0) (file file2 : List ℕ)
     → (H → H2 × (file2 ≡ file)) → (H → IsToldBy sizes key file c newer found) → IfOk result (λ last. H2 → AreToldBy sizes key file2 cs found last) → IfOk result (λ last. H → AreToldBy sizes key file (c ∷ cs) newer last)
-told_behind sizes key c cs newer found (Ok last) H H2 file file2 still one told = λ honest. (found, one honest, subst (λ (f : List ℕ). AreToldBy sizes key f cs found last) (still honest).1 (told (still honest).0))
-told_behind sizes key c cs newer found (Err broken) H H2 file file2 still one told = tt
+told_behind sizes key c cs newer found result H H2 file file2 h1 h2 h3 = grind (arith, common_steps, nat_tests)
 
 -- one before others
 pub tells_behind : {newer found : Option Rec} {result : Result (Option Rec) Broken} {end most : ℕ} {old mid : DiskState} (sizes : Sizes) (key : Key) (c : Component × GuideState) (cs : List (Component × GuideState))
     → TellsOne sizes key c newer (Ok found) old → OnlyReads end most old mid → Tells sizes key cs found result mid → Tells sizes key (c ∷ cs) newer result old
-tells_behind {newer} {found} {result} {end} {most} {old} {mid} sizes key c cs one reads rest = record {
-  told = told_behind sizes key c cs newer found result (IsTrue old.is_honest) (IsTrue mid.is_honest) old.bytes mid.bytes still one.told rest.told;
-  damaged = λ n named honest. inr (found, one.told honest, subst (λ (f : List ℕ). IsDamageBelow sizes key f cs found n) (still honest).1 (rest.damaged n named (still honest).0));
-}
-  where
-    still : IsTrue old.is_honest → IsTrue mid.is_honest × (mid.bytes ≡ old.bytes)
-    still honest = (subst IsTrue (sym reads.effect.goes_on.is_honest) honest, only_reads_same reads honest)
+tells_behind {newer} {found} {result} {end} {most} {old} {mid} sizes key c cs one reads rest = grind (arith, common_steps, nat_tests)

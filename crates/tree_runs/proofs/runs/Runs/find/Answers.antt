@@ -1,4 +1,4 @@
-use Rattle.std.proofs.Common.{rules, ◌≡◌, ◌∙◌, ◌+◌, Err, IsTrue, List, [], ◌∷◌, Option, None, ℕ, inl, inr, ap, sym, subst, refl, arith}
+use Rattle.std.proofs.Common.{rules, ◌≡◌, ◌∙◌, ◌+◌, Err, IsTrue, [], ◌∷◌, Option, None, inl, inr, ap, sym, subst, refl, arith}
 use Rattle.disk_trait.specs.Reads.{only_reads_same}
 use Rattle.std.proofs.lemmas.Result.{err_from_is_err_and}
 use Rattle.blsm_model.specs.declared.component.Component.{Component}
