@@ -227,6 +227,13 @@ class Built(unittest.TestCase):
         self.assertEqual(rows, [Row(key, place, "") for place, key in enumerate(keys)])
         self.assertEqual((run.callers_quanta, run.passes), (0, 0))
 
+    def test_a_tail_is_refused_as_full_as_a_put_is(self) -> None:
+        store = Store.make(self.path, half=17408, ratio=2, low=16384)
+        heaviest = [Put(f"{i:064}", 1, "x" * 435) for i in range(238)]  # of weight 512 each: half a spring below the capacity
+        run = store.run({1: [*heaviest, Put("a", 1), Add("a", 1), Tail("a", "t"), Del("a"), Put("a", 1), Tail("a", "t")]})
+        self.assertEqual(run.replies(1)[len(heaviest) :], [Full(121_856), Full(121_856), Full(121_856), Done(), Full(121_870), Full(121_870)])
+        self.assertEqual(len(list(store.rows())), len(heaviest))
+
     def test_refusals(self) -> None:
         with self.assertRaises(blsm.DiskFault):
             Store.open(self.path)
