@@ -76,9 +76,6 @@ set_at_most [] seat n = omega arith
 set_at_most (d ∷ debts) zero n = omega arith
 set_at_most (d ∷ debts) (suc seat) n = set_at_most debts seat n
 
-left_at_most : (b : Bool) (debt : ℕ) → left_of b debt ≤ debt
-left_at_most b debt = grind (arith, common_steps, nat_tests)
-
 -- what is left of a debt was not forgiven
 not_forgiven : (b : Bool) (debts : List ℕ) (seat debt : ℕ) → 0 < slice_index (slice_set debts seat (left_of b debt)) seat → b ≡ false
 not_forgiven b debts seat debt h1 = grind (arith, common_steps, nat_tests)

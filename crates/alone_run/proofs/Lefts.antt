@@ -29,29 +29,11 @@ if_left l b x y = grind (arith, common_steps, nat_tests)
 
 -- ---- moves
 
-swap_pass_left : (l : List Bool) (m : Machine) → swap_pass (with_left l m) ≡ with_left l (swap_pass m)
-swap_pass_left l m = if_left l (nat_le (c1_mark m.gears.sizes) (entries_weight (output_of m.merges.pass))) (rotate (end_pass m)) (end_pass m)
-
-deep_swapped_left : (l : List Bool) (m : Machine) → deep_swapped (with_left l m) ≡ with_left l (deep_swapped m)
-deep_swapped_left l m = if_left l (deep_done m) (swap_deep m) m
-
-pass_swapped_left : (l : List Bool) (m : Machine) → pass_swapped (with_left l m) ≡ with_left l (pass_swapped m)
-pass_swapped_left l m = ap (λ n. cond (pass_done m) n (with_left l m)) (swap_pass_left l m) ∙ if_left l (pass_done m) (swap_pass m) m
-
-begun_left : (weight : ℕ) (l : List Bool) (m : Machine) → pass_begun_for weight (with_left l m) ≡ with_left l (pass_begun_for weight m)
-begun_left weight l m = if_left l (not (in_pass m) && nat_lt m.gears.sizes.low (m.spring + weight)) (begin_pass m) m
-
 ready_left : (weight : ℕ) (l : List Bool) (m : Machine) → ready_for weight (with_left l m) ≡ with_left l (ready_for weight m)
 ready_left weight l m = grind (arith, common_steps, nat_tests)
 
 taken_left : (seat : ℕ) (ws : List Write) (l : List Bool) (m : Machine) → taken_once seat ws (with_left l m) ≡ with_left l (taken_once seat ws m)
 taken_left seat ws l m = grind (arith, common_steps, nat_tests)
-
-pass_quantum_left : (seat : ℕ) (l : List Bool) (m : Machine) → pass_quantum seat (with_left l m) ≡ with_left l (pass_quantum seat m)
-pass_quantum_left seat l m = grind (arith, common_steps, nat_tests)
-
-deep_quantum_left : (seat : ℕ) (l : List Bool) (m : Machine) → deep_quantum seat (with_left l m) ≡ with_left l (deep_quantum seat m)
-deep_quantum_left seat l m = grind (arith, common_steps, nat_tests)
 
 chosen_left : (c : Choice) (seat : ℕ) (l : List Bool) (m : Machine) → chosen c seat (with_left l m) ≡ with_left l (chosen c seat m)
 chosen_left c seat l m = grind (arith, common_steps, nat_tests)

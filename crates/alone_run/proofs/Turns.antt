@@ -149,10 +149,6 @@ module _ (m : Machine) (seat : ℕ) (none : m.stopped ≡ None) (within : seat <
 
 -- ---- a turn after one that rested changes the number of turns alone, which the end of the work doesn't tell
 
--- a work that ended with this reply and these quanta
-abbrev ended_with : ℕ → ℕ → Reply → ℕ → List WorkSoFar → Machine → Machine
-ended_with seat n reply quanta works m = record m { book = counted_up (noted m.book (entry_of seat (Work n) reply)) (length m.book.entries) quanta; seats = record m.seats { work = works } }
-
 end_again : (m : Machine) (seat n : ℕ) → seat < length m.seats.work → (work_of seat m).last ≡ Idle → (work_end (turn_of Rest seat m) seat n).state ≡ (work_end m seat n).state
 end_again m seat n within idle = grind (arith, common_steps, nat_tests, get_or-set_same, option_map, set-set)
 

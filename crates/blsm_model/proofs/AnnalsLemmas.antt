@@ -1,4 +1,5 @@
 -- Rows that are added leave what was noted before.
+use Rattle.std.proofs.lemmas.Bool.Decides.{nat_tests}
 use Rattle.std.proofs.Common.{◌≡◌, ℕ, zero, suc, ◌+◌, ◌-◌, ◌<◌, ◌≤◌, ◌++◌, List, [], ◌∷◌, refl, ap, ◌∙◌, map, length, sum, arith, slice_index, slice_set, slice_range, length-append}
 use Rattle.std.specs.List.{AllByRecursion}
 use Rattle.std.proofs.lemmas.List.{take-append-le, drop-append-le, map-append, set-get_or}
@@ -20,8 +21,7 @@ same_range : (rows more : List Row) (first end : ℕ) → end ≤ length rows �
 same_range rows more first end fits = grind (arith, common_steps, take-append-le, drop-append-le)
 
 same_reply : (rows more : List Row) (reply : StoredReply) → FitsRows rows reply → stored_reply (rows ++ more) reply ≡ stored_reply rows reply
-same_reply rows more (stored.Rows first end) fits = ap Rows (same_range rows more first end fits.1)
-same_reply rows more _ fits = refl
+same_reply rows more reply zh1 = grind (arith, common_steps, nat_tests)
 
 same_entries : (rows more : List Row) (entries : List StoredEntry) → AllByRecursion (λ e. FitsRows rows e.reply) entries → map (stored_entry (rows ++ more)) entries ≡ map (stored_entry rows) entries
 same_entries rows more [] within = refl
@@ -29,8 +29,7 @@ same_entries rows more (e ∷ es) within =
     λ i. record { seat = e.seat; op = e.op; reply = same_reply rows more e.reply within.0 i } ∷ same_entries rows more es within.1 i
 
 fits_more : (rows more : List Row) (reply : StoredReply) → FitsRows rows reply → FitsRows (rows ++ more) reply
-fits_more rows more (stored.Rows first end) fits = (fits.0, omega (arith, fits.1, length-append rows more), fits.2)
-fits_more rows more _ fits = tt
+fits_more rows more reply zh1 = grind (arith, common_steps, nat_tests)
 
 within_push : (rows more : List Row) (entries : List StoredEntry) (e : StoredEntry) → AllByRecursion (λ k. FitsRows rows k.reply) entries → FitsRows (rows ++ more) e.reply → AllByRecursion (λ k. FitsRows (rows ++ more) k.reply) (entries ++ e ∷ [])
 within_push rows more [] e within fits = (fits, tt)
@@ -40,49 +39,23 @@ within_push rows more (k ∷ ks) e within fits = (fits_more rows more k.reply wi
 sum_lowered : (xs : List ℕ) (i n : ℕ) → n ≤ slice_index xs i → sum (slice_set xs i (slice_index xs i - n)) + n ≡ sum xs
 sum_lowered [] i n fits = omega arith
 sum_lowered (x ∷ xs) zero n fits = omega (arith, sum_by-cons (λ y. y) (x - n) xs, sum_by-cons (λ y. y) x xs)
-sum_lowered (x ∷ xs) (suc i) n fits =
-    omega (arith, sum_lowered xs i n fits, sum_by-cons (λ y. y) x (slice_set xs i (slice_index xs i - n)), sum_by-cons (λ y. y) x xs)
+sum_lowered (x ∷ xs) (suc i) n fits = grind (arith, common_steps, nat_tests, sum_lowered xs i n fits)
 
 -- the fields agree after an entry more
 pub stored_push : (entries : List StoredEntry) (rows : List Row) (quanta : List ℕ) (room : Room) (entries_capacity rows_capacity quanta_capacity : ℕ) (e : StoredEntry) (given : List Row) (seat : ℕ) →
     IsStored entries rows quanta room entries_capacity rows_capacity quanta_capacity → 0 < slice_index room.entries seat → length given ≤ slice_index room.rows seat → FitsRows (rows ++ given) e.reply →
     IsStored (entries ++ e ∷ []) (rows ++ given) (quanta ++ 0 ∷ [])
     (record { entries = slice_set room.entries seat (slice_index room.entries seat - 1); rows = slice_set room.rows seat (slice_index room.rows seat - length given) }) entries_capacity rows_capacity quanta_capacity
-stored_push entries rows quanta room entries_capacity rows_capacity quanta_capacity e given seat kept one fits within =
-    let entry : sum (slice_set room.entries seat (slice_index room.entries seat - 1)) + 1 ≡ sum room.entries = sum_lowered room.entries seat 1 one in
-    let row : sum (slice_set room.rows seat (slice_index room.rows seat - length given)) + length given ≡ sum room.rows = sum_lowered room.rows seat (length given) fits in
-    record {
-      within = within_push rows given entries e kept.within within;
-      as_long = omega (arith, kept.as_long, length-append quanta (0 ∷ []), length-append entries (e ∷ []));
-      few = omega (arith, kept.few, length-append entries (e ∷ []));
-      entries_room = omega (arith, kept.entries_room, length-append entries (e ∷ []));
-      rows_room = omega (arith, kept.rows_room, length-append rows given);
-      quanta_room = omega (arith, kept.quanta_room, length-append quanta (0 ∷ []));
-    }
+stored_push entries rows quanta room entries_capacity rows_capacity quanta_capacity e given seat kept one fits within = grind (arith, common_steps, nat_tests, sum_lowered, within_push)
 
 -- and the entries are those before, and this one
 pub entries_push : (rows given : List Row) (entries : List StoredEntry) (e : StoredEntry) (reply : Reply) → AllByRecursion (λ k. FitsRows rows k.reply) entries → stored_reply (rows ++ given) e.reply ≡ reply →
     map (stored_entry (rows ++ given)) (entries ++ e ∷ []) ≡ map (stored_entry rows) entries ++ (record { seat = e.seat; op = e.op; reply = reply }) ∷ []
-entries_push rows given entries e reply within is =
-    map-append (stored_entry (rows ++ given)) entries (e ∷ [])
-    ∙ ap (λ es. es ++ stored_entry (rows ++ given) e ∷ []) (same_entries rows given entries within)
-    ∙ ap (λ r. map (stored_entry rows) entries ++ (record { seat = e.seat; op = e.op; reply = r }) ∷ []) is
+entries_push rows given entries e reply within is = grind (arith, common_steps, nat_tests, same_entries)
 
 -- a short reply gives no rows
 pub no_rows : (reply : ShortReply) → rows_given (as_reply reply) ≡ []
-no_rows short.Done = refl
-no_rows (short.Is value) = refl
-no_rows short.Absent = refl
-no_rows short.Held = refl
-no_rows short.NoHold = refl
-no_rows (short.Did turns) = refl
-no_rows (short.Full charge) = refl
-no_rows short.NoMemory = refl
-no_rows short.FaultLost = refl
-no_rows short.FaultUnsure = refl
-no_rows short.Fault = refl
-no_rows (short.Damaged page) = refl
-no_rows (short.Stopped why) = refl
+no_rows reply = grind (arith, common_steps, nat_tests)
 
 -- so that the room for rows stays
 pub same_room : (room : List ℕ) (seat n : ℕ) → n ≡ 0 → slice_set room seat (slice_index room seat - n) ≡ room

@@ -1,4 +1,6 @@
 -- Products of a store's sizes stay small.
+use Rattle.std.proofs.lemmas.Bool.Decides.{nat_tests}
+use Rattle.std.proofs.lemmas.Grind.{common_steps}
 use Rattle.std.proofs.Common.{ℕ, ◌*◌, ◌/◌, ◌^◌, ◌<◌, ◌≤◌, arith}
 use Rattle.std.proofs.Math.Nat.{mul-le-mul, div-le_of_le-mul}
 
@@ -21,16 +23,10 @@ pub ruleset bounds = (by_half, by_ratio, half_below)
 
 -- a gear times a weight
 pub by_gear : (gear weight : ℕ) → gear ≤ 36 → weight < 2 ^ 64 → gear * weight ≤ 2 ^ 70
-by_gear gear weight p q =
-    let below : gear * weight ≤ 36 * 2 ^ 64 = product_below gear weight 36 (2 ^ 64) p (omega arith) in
-    omega arith
+by_gear gear weight p q = grind (arith, common_steps, nat_tests)
 
 -- and the quanta that it takes
 pub few_quanta : (gear weight quantum : ℕ) → gear ≤ 36 → weight < 2 ^ 64 → 1024 ≤ quantum → gear * weight / quantum ≤ 2 ^ 60
-few_quanta gear weight quantum p q r =
-    let enough : 1024 * 2 ^ 60 ≤ quantum * 2 ^ 60 = product_below 1024 (2 ^ 60) quantum (2 ^ 60) r (omega arith) in
-    let below : gear * weight ≤ 2 ^ 70 = by_gear gear weight p q in
-    let whole : gear * weight ≤ quantum * 2 ^ 60 = omega arith in
-    div-le_of_le-mul quantum whole
+few_quanta gear weight quantum p q r = grind (arith, common_steps, nat_tests)
 
 pub ruleset quanta = (by_gear, few_quanta)

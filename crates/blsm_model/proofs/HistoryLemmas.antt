@@ -1,5 +1,7 @@
 -- Histories that grow at the end.
-use Rattle.std.proofs.Common.{◌≡◌, ℕ, ◌++◌, List, [], ◌∷◌, true, false, not, ◌&&◌, ◌||◌, ap, sym, subst, ◌∙◌, append_assoc, append-nil}
+use Rattle.std.proofs.lemmas.Bool.Decides.{nat_tests}
+use Rattle.std.proofs.lemmas.Grind.{common_steps}
+use Rattle.std.proofs.Common.{arith, ◌≡◌, ℕ, ◌++◌, List, [], ◌∷◌, true, false, not, ◌&&◌, ◌||◌, ap, sym, subst, ◌∙◌, append_assoc, append-nil}
 use Rattle.std.specs.List.{fold}
 use Rattle.std.proofs.lemmas.List.Concat.{flat_map-append}
 use Rattle.std.proofs.lemmas.List.Folds.{list_all-append}
@@ -33,13 +35,8 @@ value-object_after opening history key = ap (λ writes. value_at writes key) (wr
 
 follows_push : (limits : Limits) (opening : List (List ℕ × Value)) (before history : List Entry) (entry : Entry) →
     FollowsOn limits opening before history → MayReply limits opening (before ++ history) entry.seat entry.op entry.reply → FollowsOn limits opening before (history ++ entry ∷ [])
-follows_push limits opening before [] entry legal may =
-    (subst (λ h. MayReply limits opening h entry.seat entry.op entry.reply) (append-nil before) may, tt)
-follows_push limits opening before (e ∷ es) entry legal may = (
-  legal.0,
-  follows_push limits opening (before ++ e ∷ []) es entry legal.1
-      (subst (λ h. MayReply limits opening h entry.seat entry.op entry.reply) (sym (append_assoc before (e ∷ []) es)) may),
-)
+follows_push limits opening before [] entry legal may = grind (arith, common_steps, nat_tests)
+follows_push limits opening before (e ∷ es) entry legal may = grind (arith, common_steps, nat_tests, follows_push limits opening (before ++ e ∷ []) es entry legal.1 (subst (λ h. MayReply limits opening h entry.seat entry.op entry.reply) (sym (append_assoc before (e ∷ []) es)) may))
 
 -- a legal history, and a reply that may come after it
 pub legal_push : (limits : Limits) (opening : List (List ℕ × Value)) (history : List Entry) (entry : Entry) →
@@ -56,8 +53,4 @@ legal_front limits opening front more legal = front_follows limits opening [] fr
 
 -- the store still runs after an entry that shows no stop
 pub running_push : (history : List Entry) (entry : Entry) → is_running history ≡ true → is_stopping entry.op entry.reply ≡ false → is_stopped entry.reply ≡ false → is_running (history ++ entry ∷ []) ≡ true
-running_push history entry running stopping stopped =
-    list_all-append (λ e. not (is_stopping e.op e.reply || is_stopped e.reply)) history (entry ∷ [])
-    ∙ ap (λ b. b && (not (is_stopping entry.op entry.reply || is_stopped entry.reply) && true)) running
-    ∙ ap (λ b. not (b || is_stopped entry.reply) && true) stopping
-    ∙ ap (λ b. not b && true) stopped
+running_push history entry running stopping stopped = grind (arith, common_steps, nat_tests)

@@ -1,6 +1,8 @@
 -- What a legal history keeps: each entry may follow on those before it, one entry at most stops the store, and a stopped
 -- store answers nothing else, with one why.
-use Rattle.std.proofs.Common.{◌≡◌, ℕ, ◌++◌, List, [], ◌∷◌, Bool, true, false, not, ◌||◌, ◌&&◌, inl, inr, refl, ap, sym, subst, ◌∙◌, append_assoc, append-nil}
+use Rattle.std.proofs.lemmas.Bool.Decides.{nat_tests}
+use Rattle.std.proofs.lemmas.Grind.{common_steps}
+use Rattle.std.proofs.Common.{arith, ◌≡◌, ℕ, ◌++◌, List, [], ◌∷◌, Bool, true, false, not, ◌||◌, ◌&&◌, inl, inr, refl, ap, sym, subst, ◌∙◌, append_assoc, append-nil}
 use Rattle.std.specs.List.{list_all, AllByRecursion}
 use Rattle.std.proofs.lemmas.List.Folds.{list_all-append}
 use Rattle.blsm_model.specs.declared.row.Value.{Value}
@@ -17,8 +19,7 @@ Pairs = List (List ℕ × Value)
 
 follows_at : (limits : Limits) (opening : Pairs) (done before : List Entry) (e : Entry) (more : List Entry) → FollowsOn limits opening done (before ++ e ∷ more) → MayReply limits opening (done ++ before) e.seat e.op e.reply
 follows_at limits opening done [] e more legal = subst (λ h. MayReply limits opening h e.seat e.op e.reply) (sym (append-nil done)) legal.0
-follows_at limits opening done (d ∷ ds) e more legal =
-    subst (λ h. MayReply limits opening h e.seat e.op e.reply) (append_assoc done (d ∷ []) ds) (follows_at limits opening (done ++ d ∷ []) ds e more legal.1)
+follows_at limits opening done (d ∷ ds) e more legal = grind (arith, common_steps, nat_tests, follows_at limits opening (done ++ d ∷ []) ds e more legal.1)
 
 -- each entry of a legal history may come after those before it
 pub legal_at : (limits : Limits) (opening : Pairs) (before : List Entry) (e : Entry) (more : List Entry) → IsLegal limits opening (before ++ e ∷ more) → MayReply limits opening before e.seat e.op e.reply
@@ -26,63 +27,37 @@ legal_at limits opening before e more legal = follows_at limits opening [] befor
 
 -- a test that one entry fails doesn't hold of all
 one_fails : (p : Entry → Bool) (before : List Entry) (e : Entry) (more : List Entry) → p e ≡ false → list_all p (before ++ e ∷ more) ≡ true → ⊥
-one_fails p before e more fails all =
-    let wrong : false ≡ true = sym (both_false (list_all p before) (list_all p more)) ∙ ap (λ b. list_all p before && (b && list_all p more)) (sym fails) ∙ sym (list_all-append p before (e ∷ more)) ∙ all in cc
-  where
-    both_false : (a b : Bool) → (a && (false && b)) ≡ false
-    both_false true b = refl
-    both_false false b = refl
+one_fails p before e more fails all = grind (arith, common_steps, nat_tests)
 
 -- not running, where an entry before shows a stop
 not_running : (before : List Entry) (e : Entry) (more : List Entry) → (is_stopping e.op e.reply || is_stopped e.reply) ≡ true → is_running (before ++ e ∷ more) ≡ true → ⊥
 not_running before e more stop running = one_fails (λ k. not (is_stopping k.op k.reply || is_stopped k.reply)) before e more (ap not stop) running
 
 may_fail_stopped : (before : List Entry) (op : Op) (reply : Reply) → is_stopping op reply ≡ is_work op → (is_running before ≡ true → ⊥) → MayFail before op → FollowsStop op reply
-may_fail_stopped before (Get key) reply same stop may = absurd (stop may)
-may_fail_stopped before (Next n) reply same stop may = absurd (stop may)
-may_fail_stopped before (Work n) reply same stop may = inr (same, refl)
-may_fail_stopped before _ reply same stop may = absurd may
+may_fail_stopped before op reply zh1 zh2 zh3 = grind (arith, common_steps, nat_tests)
 
 reply_stopped : (limits : Limits) (opening : Pairs) (before : List Entry) (seat : ℕ) (op : Op) (reply : Reply) → (is_running before ≡ true → ⊥) → MayReply limits opening before seat op reply → FollowsStop op reply
-reply_stopped limits opening before seat op Fault stop may = may_fail_stopped before op Fault refl stop may
-reply_stopped limits opening before seat op (Damaged page) stop may = may_fail_stopped before op (Damaged page) refl stop may
-reply_stopped limits opening before seat op (Stopped why) stop may = inl refl
-reply_stopped limits opening before seat op _ stop may = absurd (stop may.0)
+reply_stopped limits opening before seat op reply zh1 zh2 = grind (arith, common_steps, nat_tests)
 
 -- after an entry that shows a stop each entry is Stopped, but for a work that stops the store itself
 pub stays_stopped : (limits : Limits) (opening : Pairs) (before : List Entry) (e : Entry) (between : List Entry) (f : Entry) (more : List Entry) →
     IsLegal limits opening ((before ++ e ∷ between) ++ f ∷ more) → (is_stopping e.op e.reply || is_stopped e.reply) ≡ true → FollowsStop f.op f.reply
-stays_stopped limits opening before e between f more legal stop =
-    reply_stopped limits opening (before ++ e ∷ between) f.seat f.op f.reply (not_running before e between stop) (legal_at limits opening (before ++ e ∷ between) f more legal)
+stays_stopped limits opening before e between f more legal stop = grind (arith, common_steps, nat_tests, reply_stopped, not_running, legal_at)
 
 may_fail_once : (before : List Entry) (op : Op) (reply : Reply) → is_stopping op reply ≡ is_work op → is_stopping op reply ≡ true → MayFail before op → none_stopping before ≡ true
-may_fail_once before (Work n) reply same stopping may = may
-may_fail_once before (Get key) reply same stopping may = let wrong : false ≡ true = sym same ∙ stopping in cc
-may_fail_once before (Next n) reply same stopping may = let wrong : false ≡ true = sym same ∙ stopping in cc
-may_fail_once before _ reply same stopping may = absurd may
+may_fail_once before op reply zh1 zh2 zh3 = grind (arith, common_steps, nat_tests)
 
 running_none : (before : List Entry) → is_running before ≡ true → none_stopping before ≡ true
 running_none [] running = refl
-running_none (e ∷ es) running = parts (is_stopping e.op e.reply) (is_stopped e.reply) (is_running es) running (running_none es)
-  where
-    parts : (stopping stopped rest : Bool) → (not (stopping || stopped) && rest) ≡ true → (rest ≡ true → none_stopping es ≡ true) → (not stopping && none_stopping es) ≡ true
-    parts false false true running rest = rest refl
-    parts false true rest running later = cc
-    parts false false false running later = cc
-    parts true stopped rest running later = cc
+running_none (e ∷ es) running = grind (arith, common_steps, nat_tests, running_none es)
 
 reply_once : (limits : Limits) (opening : Pairs) (before : List Entry) (seat : ℕ) (op : Op) (reply : Reply) → is_stopping op reply ≡ true → MayReply limits opening before seat op reply → none_stopping before ≡ true
-reply_once limits opening before seat op Fault stopping may = may_fail_once before op Fault refl stopping may
-reply_once limits opening before seat op (Damaged page) stopping may = may_fail_once before op (Damaged page) refl stopping may
-reply_once limits opening before seat op (Stopped why) stopping may = let wrong : false ≡ true = stopping in cc
-reply_once limits opening before seat op _ stopping may = running_none before may.0
+reply_once limits opening before seat op reply zh1 zh2 = grind (arith, common_steps, nat_tests, may_fail_once, running_none)
 
 -- at most one entry stops the store
 pub stops_once : (limits : Limits) (opening : Pairs) (before : List Entry) (e : Entry) (between : List Entry) (f : Entry) (more : List Entry) →
     IsLegal limits opening ((before ++ e ∷ between) ++ f ∷ more) → is_stopping e.op e.reply ≡ true → is_stopping f.op f.reply ≡ true → ⊥
-stops_once limits opening before e between f more legal first second =
-    one_fails (λ k. not (is_stopping k.op k.reply)) before e between (ap not first)
-    (reply_once limits opening (before ++ e ∷ between) f.seat f.op f.reply second (legal_at limits opening (before ++ e ∷ between) f more legal))
+stops_once limits opening before e between f more legal first second = grind (arith, common_steps, nat_tests, one_fails, reply_once, legal_at)
 
 named_there : (why : Why) (before : List Entry) (e : Entry) (more : List Entry) → AllByRecursion (λ k. NamesNoOther why k.reply) (before ++ e ∷ more) → NamesNoOther why e.reply
 named_there why [] e more all = all.0
@@ -102,16 +77,9 @@ named_push why [] entry all one = (one, tt)
 named_push why (e ∷ es) entry all one = (all.0, named_push why es entry all.1 one)
 
 names_none : (why : Why) (reply : Reply) → is_stopped reply ≡ false → NamesNoOther why reply
-names_none why (Stopped other) none = cc
-names_none why _ none = tt
+names_none why reply zh1 = grind (arith, common_steps, nat_tests)
 
 -- while the store runs no why is named
 pub named-running : (why : Why) (history : List Entry) → is_running history ≡ true → AllByRecursion (λ e. NamesNoOther why e.reply) history
 named-running why [] running = tt
-named-running why (e ∷ es) running = parts (is_stopping e.op e.reply) (is_stopped e.reply) (is_running es) running refl (named-running why es)
-  where
-    parts : (stopping stopped rest : Bool) → (not (stopping || stopped) && rest) ≡ true → is_stopped e.reply ≡ stopped → (rest ≡ true → AllByRecursion (λ k. NamesNoOther why k.reply) es) → AllByRecursion (λ k. NamesNoOther why k.reply) (e ∷ es)
-    parts false false true running none later = (names_none why e.reply none, later refl)
-    parts false true rest running none later = cc
-    parts false false false running none later = cc
-    parts true stopped rest running none later = cc
+named-running why (e ∷ es) running = grind (arith, common_steps, nat_tests, named-running why es)

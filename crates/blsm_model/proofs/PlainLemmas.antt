@@ -1,4 +1,6 @@
 -- The plain store keeps a legal history.
+use Rattle.std.proofs.lemmas.Bool.Decides.{nat_tests}
+use Rattle.std.proofs.lemmas.Grind.{common_steps}
 use Rattle.std.proofs.Common.{◌≡◌, ℕ, ◌+◌, ◌<◌, ◌≤◌, ◌++◌, ◌&&◌, Bool, cond, List, [], ◌∷◌, Option, Some, None, true, false, refl, ap, sym, subst, ◌∙◌, append-nil, arith, ◌⊎◌, inl, inr}
 use Rattle.std.specs.List.{list_all}
 use Rattle.std.proofs.lemmas.Bool.{false≢true}
@@ -22,17 +24,10 @@ abbrev by : ℕ → Op → Reply → Entry
 by seat op reply = record { seat = seat; op = op; reply = reply }
 
 same_limit : (kept : Kept) (charge : ℕ) (op : Op) → limit_for (plain_limits kept charge) op ≡ kept.limit
-same_limit kept charge op = by (is_del op)
-  where
-    by : (b : Bool) → cond b kept.limit kept.limit ≡ kept.limit
-    by true = refl
-    by false = refl
+same_limit kept charge op = grind (arith, common_steps, nat_tests)
 
 charge_push : (at c : ℕ) (history : List Entry) (entry : Entry) → c ≡ at + total_weight (counted_writes history) → c + total_weight (counted entry) ≡ at + total_weight (counted_writes (history ++ entry ∷ []))
-charge_push at c history entry is =
-    let more : total_weight (counted_writes (history ++ entry ∷ [])) ≡ total_weight (counted_writes history) + total_weight (counted entry) =
-    ap total_weight (counted_writes_push history entry) ∙ sum_by-append weight_of (counted_writes history) (counted entry) in
-    omega arith
+charge_push at c history entry is = grind (arith, common_steps, nat_tests)
 
 -- after a write that is done
 stands_done : (old : Kept) (opening : List (List ℕ × Value)) (at : ℕ) (history : List Entry) (seat : ℕ) (op : Op) → is_write op ≡ true → StandsAfter old opening at history →
@@ -57,9 +52,7 @@ stands_same old opening at history entry s none may running = record {
 
 stands_full : (old : Kept) (opening : List (List ℕ × Value)) (at : ℕ) (history : List Entry) (seat : ℕ) (op : Op) → is_write op ≡ true → old.limit < old.charge + total_weight (writes_of op) → StandsAfter old opening at history →
     StandsAfter old opening at (history ++ by seat op (Full old.charge) ∷ [])
-stands_full old opening at history seat op w past s =
-    let l : limit_for (plain_limits old at) op ≡ old.limit = same_limit old at op in
-    stands_same old opening at history (by seat op (Full old.charge)) s refl (s.running, record { write = w; past = omega arith; made = omega (arith, s.charge) }) (running_push history (by seat op (Full old.charge)) s.running refl refl)
+stands_full old opening at history seat op w past s = grind (arith, common_steps, nat_tests, same_limit, stands_same)
 
 stands_get : (old : Kept) (opening : List (List ℕ × Value)) (at : ℕ) (history : List Entry) (seat : ℕ) (key : List ℕ) (found : Option Value) → value_at old.writes key ≡ found → StandsAfter old opening at history →
     StandsAfter old opening at (history ++ by seat (Get key) (answer_to_get found) ∷ [])
@@ -76,16 +69,10 @@ stands_get old opening at history seat key found is s =
 write_answers : (old new : Kept) (op : Op) (reply : Reply) → is_write op ≡ true → IsPlainStep old op new reply →
     ((reply ≡ Done) × (old.charge + total_weight (writes_of op) ≤ old.limit) × (new ≡ record { writes = old.writes ++ writes_of op; charge = old.charge + total_weight (writes_of op); limit = old.limit }))
     ⊎ ((reply ≡ Full old.charge) × (old.limit < old.charge + total_weight (writes_of op)) × (new ≡ old))
-write_answers old new (Get key) reply w a = absurd (false≢true w)
-write_answers old new op (Full charge) w a = inr (ap Full a.1, a.2, a.3)
-write_answers old new op _ w a = inl (a.1, a.2, a.3)
+write_answers old new op reply zh1 zh2 = grind (arith, common_steps, nat_tests)
 
 stands_write : (old new : Kept) (opening : List (List ℕ × Value)) (at : ℕ) (history : List Entry) (seat : ℕ) (op : Op) (reply : Reply) → is_write op ≡ true → IsPlainStep old op new reply → StandsAfter old opening at history → StandsAfter new opening at (history ++ by seat op reply ∷ [])
-stands_write old new opening at history seat op reply w a s =
-    elim (write_answers old new op reply w a) [
-      | inl d ↦ subst (λ r. StandsAfter new opening at (history ++ by seat op r ∷ [])) (sym d.0) (subst (λ k. StandsAfter k opening at (history ++ by seat op Done ∷ [])) (sym d.2) (stands_done old opening at history seat op w s))
-      | inr f ↦ subst (λ r. StandsAfter new opening at (history ++ by seat op r ∷ [])) (sym f.0) (subst (λ k. StandsAfter k opening at (history ++ by seat op (Full old.charge) ∷ [])) (sym f.2) (stands_full old opening at history seat op w f.1 s))
-    ]
+stands_write old new opening at history seat op reply w a s = grind (arith, common_steps, nat_tests, write_answers, stands_done, stands_full)
 
 -- after any answer of the plain store
 pub stands_push : (old new : Kept) (opening : List (List ℕ × Value)) (at : ℕ) (history : List Entry) (seat : ℕ) (op : Op) (reply : Reply) → IsPlainStep old op new reply → StandsAfter old opening at history → StandsAfter new opening at (history ++ by seat op reply ∷ [])
@@ -97,37 +84,27 @@ stands_push old new opening at history seat op reply a s = stands_write old new 
 limit_by : (old new : Kept) (op : Op) (reply : Reply) →
     ((reply ≡ Done) × (old.charge + total_weight (writes_of op) ≤ old.limit) × (new ≡ record { writes = old.writes ++ writes_of op; charge = old.charge + total_weight (writes_of op); limit = old.limit }))
     ⊎ ((reply ≡ Full old.charge) × (old.limit < old.charge + total_weight (writes_of op)) × (new ≡ old)) → new.limit ≡ old.limit
-limit_by old new op reply (inl d) = ap (λ k. k.limit) d.2
-limit_by old new op reply (inr f) = ap (λ k. k.limit) f.2
+limit_by old new op reply zh1 = grind (arith, common_steps, nat_tests)
 
 -- no answer changes the limit
 pub limit_kept : (old new : Kept) (op : Op) (reply : Reply) → IsPlainStep old op new reply → new.limit ≡ old.limit
-limit_kept old new (Get key) reply a = ap (λ k. k.limit) a.1
-limit_kept old new op (Full charge) a = limit_by old new op (Full charge) (write_answers old new op (Full charge) a.0 a)
-limit_kept old new op reply a = limit_by old new op reply (write_answers old new op reply a.0 a)
+limit_kept old new op reply zh1 = grind (arith, common_steps, nat_tests)
 
 charge_by : (old new : Kept) (op : Op) (reply : Reply) →
     ((reply ≡ Done) × (old.charge + total_weight (writes_of op) ≤ old.limit) × (new ≡ record { writes = old.writes ++ writes_of op; charge = old.charge + total_weight (writes_of op); limit = old.limit }))
     ⊎ ((reply ≡ Full old.charge) × (old.limit < old.charge + total_weight (writes_of op)) × (new ≡ old)) → old.charge ≤ old.limit → new.charge ≤ new.limit
-charge_by old new op reply (inl d) fits = let charge = ap (λ (k : Kept). k.charge) d.2 in let limit = ap (λ (k : Kept). k.limit) d.2 in omega (arith, d.1)
-charge_by old new op reply (inr f) fits = let charge = ap (λ (k : Kept). k.charge) f.2 in let limit = ap (λ (k : Kept). k.limit) f.2 in omega arith
+charge_by old new op reply zh1 zh2 = grind (arith, common_steps, nat_tests)
 
 -- the charge stays within the limit
 pub charge_kept : (old new : Kept) (op : Op) (reply : Reply) → IsPlainStep old op new reply → old.charge ≤ old.limit → new.charge ≤ new.limit
-charge_kept old new (Get key) reply a fits = let charge = ap (λ (k : Kept). k.charge) a.1 in let limit = ap (λ (k : Kept). k.limit) a.1 in omega arith
-charge_kept old new op (Full charge) a fits = charge_by old new op (Full charge) (write_answers old new op (Full charge) a.0 a) fits
-charge_kept old new op reply a fits = charge_by old new op reply (write_answers old new op reply a.0 a) fits
+charge_kept old new op reply zh1 zh2 = grind (arith, common_steps, nat_tests)
 
 got_plain : (found : Option Value) → is_plain_reply (answer_to_get found) ≡ true
-got_plain None = refl
-got_plain (Some value) = refl
+got_plain found = grind (arith, common_steps, nat_tests)
 
 -- each reply is one of those that the plain store gives
 pub answered : (old new : Kept) (op : Op) (reply : Reply) → IsPlainStep old op new reply → is_plain_reply reply ≡ true
-answered old new (Get key) reply a = ap is_plain_reply a.0 ∙ got_plain (value_at old.writes key)
-answered old new op (Full charge) a = refl
-answered old new op reply a = ap is_plain_reply a.1
+answered old new op reply zh1 = grind (arith, common_steps, nat_tests)
 
 pub answered_push : (history : List Entry) (entry : Entry) → list_all (λ e. is_plain_reply e.reply) history ≡ true → is_plain_reply entry.reply ≡ true → list_all (λ e. is_plain_reply e.reply) (history ++ entry ∷ []) ≡ true
-answered_push history entry before now =
-    list_all-append (λ e. is_plain_reply e.reply) history (entry ∷ []) ∙ ap (λ b. b && (is_plain_reply entry.reply && true)) before ∙ ap (λ b. b && true) now
+answered_push history entry before now = grind (arith, common_steps, nat_tests)

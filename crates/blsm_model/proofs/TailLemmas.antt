@@ -1,20 +1,19 @@
 -- A tail behind a tail, and how long a text with a tail is.
+use Rattle.std.proofs.lemmas.Bool.Decides.{nat_tests}
+use Rattle.std.proofs.lemmas.Grind.{common_steps}
 use Rattle.std.proofs.Common.{◌≡◌, ℕ, ◌+◌, ◌-◌, ◌<◌, ◌≤◌, ◌++◌, ◌⊎◌, inl, inr, List, [], ◌∷◌, refl, ap, sym, ◌∙◌, length, drop, append-nil, append_assoc, length-append, length-drop, arith}
 use Rattle.std.proofs.lemmas.List.{drop-drop, drop-append-le, drop_at}
 use Rattle.blsm_model.specs.Format.{most_tail, most_text}
 use Rattle.blsm_model.specs.Tails.{last_of, with_tail}
 
 some_tail : (text tail : List ℕ) → 1 ≤ length tail → with_tail text tail ≡ last_of most_tail (text ++ tail)
-some_tail text [] some = absurd (omega (arith, some))
-some_tail text (byte ∷ tail) some = refl
+some_tail text tail zh1 = grind (arith, common_steps, nat_tests)
 
 last_all : (n : ℕ) (xs : List ℕ) → length xs ≤ n → last_of n xs ≡ xs
 last_all n xs few = let none : length xs - n ≡ 0 = omega (arith, few) in ap (λ k. drop k xs) none
 
 last_drop : (n k : ℕ) (xs : List ℕ) → k ≤ length xs - n → last_of n (drop k xs) ≡ last_of n xs
-last_drop n k xs le =
-    let left : k + (length (drop k xs) - n) ≡ length xs - n = omega (arith, length-drop k xs, le) in
-    drop-drop (length (drop k xs) - n) k xs ∙ ap (λ j. drop j xs) left
+last_drop n k xs le = grind (arith, common_steps, nat_tests)
 
 -- what was before the last bytes of the first part makes no difference
 last_of_last : (n : ℕ) (xs ys : List ℕ) → last_of n (last_of n xs ++ ys) ≡ last_of n (xs ++ ys)
@@ -53,26 +52,20 @@ tails_join text tail (byte ∷ more) =
 
 -- a tail of nothing is itself, where it is no longer than tails are
 pub tail_alone : (tail : List ℕ) → length tail ≤ most_tail → with_tail [] tail ≡ tail
-tail_alone [] few = refl
-tail_alone (byte ∷ tail) few = last_all most_tail (byte ∷ tail) few
+tail_alone tail zh1 = grind (arith, common_steps, nat_tests)
 
 pub tail_at_most : (text tail : List ℕ) → length (with_tail text tail) ≤ length text + length tail
-tail_at_most text [] = omega arith
-tail_at_most text (byte ∷ tail) = omega (arith, length-drop (length (text ++ byte ∷ tail) - most_tail) (text ++ byte ∷ tail), length-append text (byte ∷ tail))
+tail_at_most text tail = grind (arith, common_steps, nat_tests)
 
 pub tail_at_least : (text tail : List ℕ) → length tail ≤ most_tail → length tail ≤ length (with_tail text tail)
-tail_at_least text [] few = omega arith
-tail_at_least text (byte ∷ tail) few = omega (arith, few, length-drop (length (text ++ byte ∷ tail) - most_tail) (text ++ byte ∷ tail), length-append text (byte ∷ tail))
+tail_at_least text tail zh1 = grind (arith, common_steps, nat_tests)
 
 pub tail_within : (limit : ℕ) (text tail : List ℕ) → most_tail ≤ limit → length text ≤ limit → length (with_tail text tail) ≤ limit
-tail_within limit text [] wide few = few
-tail_within limit text (byte ∷ tail) wide few = omega (arith, wide, length-drop (length (text ++ byte ∷ tail) - most_tail) (text ++ byte ∷ tail))
+tail_within limit text tail zh1 zh2 = grind (arith, common_steps, nat_tests)
 
 -- the two ways in which a program puts it together
 pub front_and_tail : (text tail : List ℕ) (out : ℕ) → 1 ≤ length tail → out ≡ (length text + length tail) - most_tail → out ≤ length text → drop out text ++ tail ≡ with_tail text tail
-front_and_tail text tail out some is le =
-    let same : out ≡ length (text ++ tail) - most_tail = omega (arith, is, length-append text tail) in
-    sym (drop-append-le out text tail le) ∙ ap (λ k. drop k (text ++ tail)) same ∙ sym (some_tail text tail some)
+front_and_tail text tail out some is le = grind (arith, common_steps, nat_tests)
 
 pub end_of_tail : (text tail : List ℕ) (out : ℕ) → 1 ≤ length tail → out ≡ (length text + length tail) - most_tail → length text ≤ out → drop (out - length text) tail ≡ with_tail text tail
 end_of_tail text tail out some is le =

@@ -1,4 +1,6 @@
 -- One more node in a tree of keys.
+use Rattle.std.proofs.lemmas.Bool.Decides.{nat_tests}
+use Rattle.std.proofs.lemmas.Grind.{common_steps}
 use Rattle.std.proofs.Common.{◌≡◌, ◌≢◌, ℕ, ◌+◌, ◌<◌, ◌≤◌, max, inl, inr, List, [], ◌∷◌, ◌++◌, length, refl, ap, sym, subst, ◌∙◌, arith}
 use Rattle.std.specs.List.{AllByRecursion}
 use Rattle.std.specs.declared.cmp.Ordering.TheVariants.{Less, Equal, Greater}
@@ -22,13 +24,7 @@ use Rattle.mem_table.proofs.WayLemmas.{entries_fork, all_parts, IsForked, entrie
 
 pub put_before : (k : Key) (v : Rec) (es : Entries) (e : Key × Rec) (fs : Entries) → key_cmp k e.0 ≡ Less → put key_cmp k v es ++ e ∷ fs ≡ put key_cmp k v (es ++ e ∷ fs)
 put_before k v [] e fs less = sym (ap (λ o. by_order o ((k, v) ∷ e ∷ fs) ((e.0, v) ∷ fs) (e ∷ put key_cmp k v fs)) less)
-put_before k v (x ∷ es) e fs less =
-    elim (key_cmp k x.0) as (λ o. by_order o ((k, v) ∷ x ∷ es) ((x.0, v) ∷ es) (x ∷ put key_cmp k v es) ++ e ∷ fs
-    ≡ by_order o ((k, v) ∷ x ∷ (es ++ e ∷ fs)) ((x.0, v) ∷ (es ++ e ∷ fs)) (x ∷ put key_cmp k v (es ++ e ∷ fs))) [
-      | Less ↦ refl
-      | Equal ↦ refl
-      | Greater ↦ ap (λ (l : Entries). x ∷ l) (put_before k v es e fs less)
-    ]
+put_before k v (x ∷ es) e fs less = grind (arith, common_steps, nat_tests, put_before k v es e fs less)
 
 pub put_behind : (k : Key) (v : Rec) (es : Entries) (e : Key × Rec) (fs : Entries) → AllByRecursion (λ x. key_cmp x.0 e.0 ≡ Less) es → key_cmp k e.0 ≡ Greater
     → es ++ e ∷ put key_cmp k v fs ≡ put key_cmp k v (es ++ e ∷ fs)
@@ -116,10 +112,7 @@ module _ (nodes : List Node) (slots : Entries) (root left right new : ℕ) (fork
       heights_left = (stored mid below (tree_at mid below) may_left.few added.holds, stored mid right (tree_at nodes right) may_left.few held_right)
 
       pub differ_left : DifferByAtMost 2 (height_of mid below) (height_of mid right)
-      differ_left =
-          let sides = (balanced_sides balanced).0 in
-          let hs = heights_left in
-          (omega (arith, hs.0, hs.1, sides.0, sides.1, added.one_higher, added.not_lower), omega (arith, hs.0, hs.1, sides.0, sides.1, added.one_higher, added.not_lower))
+      differ_left = grind (arith, common_steps, nat_tests, balanced_sides, heights_left)
 
       pub low_left : (n : ℕ) → height (tree_at nodes root) + 1 < n → max (height_of mid below) (height_of mid right) + 1 < n
       low_left n low = omega (arith, heights_left.0, heights_left.1, added.one_higher, height_split nodes slots root left right fork)
@@ -171,11 +164,7 @@ module _ (nodes : List Node) (slots : Entries) (root left right new : ℕ) (fork
           }
         where
           higher : (l r l2 r2 h h2 : ℕ) → h ≡ max l r + 1 → l ≤ r + 1 → r ≤ l + 1 → r2 ≡ r → l ≤ l2 → l2 ≤ l + 1 → max l2 r2 ≤ h2 → (l2 ≤ r2 + 1 → r2 ≤ l2 + 1 → h2 ≡ max l2 r2 + 1) → h ≤ h2
-          higher l r l2 r2 h h2 is a b same c d e as_high =
-              elim (cases_lt (r2 + 1) l2) [
-                | inl lt ↦ omega arith
-                | inr le ↦ let fits : h2 ≡ max l2 r2 + 1 = as_high (omega arith) (omega arith) in omega arith
-              ]
+          higher l r l2 r2 h h2 is a b same c d e as_high = grind (arith, common_steps, nat_tests)
 
     -- the node on the right
     module _ (added : IsAdded nodes mid slots right new below) where
@@ -208,10 +197,7 @@ module _ (nodes : List Node) (slots : Entries) (root left right new : ℕ) (fork
       heights_right = (stored mid left (tree_at nodes left) may_right.few held_left, stored mid below (tree_at mid below) may_right.few added.holds)
 
       pub differ_right : DifferByAtMost 2 (height_of mid left) (height_of mid below)
-      differ_right =
-          let sides = (balanced_sides balanced).0 in
-          let hs = heights_right in
-          (omega (arith, hs.0, hs.1, sides.0, sides.1, added.one_higher, added.not_lower), omega (arith, hs.0, hs.1, sides.0, sides.1, added.one_higher, added.not_lower))
+      differ_right = grind (arith, common_steps, nat_tests, balanced_sides, heights_right)
 
       pub low_right : (n : ℕ) → height (tree_at nodes root) + 1 < n → max (height_of mid left) (height_of mid below) + 1 < n
       low_right n low = omega (arith, heights_right.0, heights_right.1, added.one_higher, height_split nodes slots root left right fork)
@@ -263,8 +249,4 @@ module _ (nodes : List Node) (slots : Entries) (root left right new : ℕ) (fork
           }
         where
           higher : (l r l2 r2 h h2 : ℕ) → h ≡ max l r + 1 → l ≤ r + 1 → r ≤ l + 1 → l2 ≡ l → r ≤ r2 → r2 ≤ r + 1 → max l2 r2 ≤ h2 → (l2 ≤ r2 + 1 → r2 ≤ l2 + 1 → h2 ≡ max l2 r2 + 1) → h ≤ h2
-          higher l r l2 r2 h h2 is a b same c d e as_high =
-              elim (cases_lt (l2 + 1) r2) [
-                | inl lt ↦ omega arith
-                | inr le ↦ let fits : h2 ≡ max l2 r2 + 1 = as_high (omega arith) (omega arith) in omega arith
-              ]
+          higher l r l2 r2 h h2 is a b same c d e as_high = grind (arith, common_steps, nat_tests)

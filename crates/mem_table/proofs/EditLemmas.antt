@@ -1,4 +1,6 @@
 -- What folding a record into sorted entries does to them and to their weight.
+use Rattle.std.proofs.lemmas.Bool.Decides.{nat_tests}
+use Rattle.std.proofs.lemmas.Grind.{common_steps}
 use Rattle.std.proofs.Common.{◌≡◌, ◌≢◌, ℕ, ◌+◌, ◌-◌, ◌*◌, ◌<◌, ◌≤◌, Bool, true, false, cond, T, List, [], ◌∷◌, ◌++◌, length, get_or, set, Some, refl, ap, sym, subst, ◌∙◌, ◌⊎◌, inl, inr, arith}
 use Rattle.std.specs.List.{insert, remove, AllByRecursion}
 use Rattle.std.specs.Ordering.{is_eq, eq_by_cmp}
@@ -38,8 +40,7 @@ with_record_apart es key rec i gap =
     ap (λ r. put key_cmp key (over rec r) es) (absent_at es key i gap) ∙ put_apart key_cmp nat_list_cmp_total es key i rec gap.in_range (parts_of_gap es key i gap)
 
 test_holds : (b : Bool) → T b → b ≡ true
-test_holds true h = refl
-test_holds false h = absurd h
+test_holds b zh1 = grind (arith, common_steps, nat_tests)
 
 pub sorted_with_record : (es : Entries) (key : Key) (rec : Rec) → AreSorted es → AreSorted (with_record key rec es)
 sorted_with_record es key rec sorted =
@@ -47,12 +48,7 @@ sorted_with_record es key rec sorted =
 
 pub keys_put : (es : Entries) (key : Key) (rec : Rec) → 1 ≤ length key → AllByRecursion (λ e. 1 ≤ length e.0) es → AllByRecursion (λ e. 1 ≤ length e.0) (put key_cmp key rec es)
 keys_put [] key rec key_least keys = (key_least, tt)
-keys_put (e ∷ es) key rec key_least keys =
-    elim (key_cmp key e.0) as (λ o. AllByRecursion (λ e. 1 ≤ length e.0) (by_order o ((key, rec) ∷ e ∷ es) ((e.0, rec) ∷ es) (e ∷ put key_cmp key rec es))) [
-      | Less ↦ (key_least, keys)
-      | Equal ↦ keys
-      | Greater ↦ (keys.0, keys_put es key rec key_least keys.1)
-    ]
+keys_put (e ∷ es) key rec key_least keys = grind (arith, common_steps, nat_tests, keys_put es key rec key_least keys.1)
 
 -- ---- their weight
 
@@ -69,10 +65,7 @@ total_apart es key rec i gap = ap entries_weight (with_record_apart es key rec i
 
 -- an entry weighs no more than all
 pub weight_at_le : (es : Entries) (key : Key) (i : ℕ) (d : Key × Rec) → IsAt es key i → weight key (get_or es i d).1 ≤ entries_weight es
-weight_at_le es key i d at =
-    let all : entries_weight (remove es i) + weight (get_or es i d).0 (get_or es i d).1 ≡ entries_weight es = sum_by-remove (λ e. weight e.0 e.1) es i d at.in_range in
-    let key_is : (get_or es i d).0 ≡ key = at.has_key d in
-    subst (λ (k : Key). weight k (get_or es i d).1 ≤ entries_weight es) key_is (omega (arith, all))
+weight_at_le es key i d at = grind (arith, common_steps, nat_tests)
 
 -- each entry weighs 14 at least
 pub least_total : (es : Entries) → AllByRecursion (λ e. 1 ≤ length e.0) es → 14 * length es ≤ entries_weight es
@@ -91,13 +84,10 @@ weight_more es key rec sorted =
 -- ---- what it stands for
 
 by_test : (b : Bool) → (b ≡ true) ⊎ (b ≡ false)
-by_test true = inl refl
-by_test false = inr refl
+by_test b = grind (arith, common_steps, nat_tests)
 
 test_of_tie : (o : Ordering) → is_eq o ≡ true → o ≡ Equal
-test_of_tie Less e = absurd (false≢true e)
-test_of_tie Equal e = refl
-test_of_tie Greater e = absurd (false≢true e)
+test_of_tie o zh1 = grind (arith, common_steps, nat_tests)
 
 ties : (q key : Key) → same_key key q ≡ eq_by_cmp key_cmp q key
 ties q key = sym (sym (texts_ties q key) ∙ (lists_equiv nat_eq_equiv).symm q key)
@@ -141,17 +131,7 @@ pub table_at : (es : Entries) (kept reserved places : ℕ) (key : Key) (rec : Re
     → IsTable es kept reserved places → IsAt es key i → 1 ≤ length key → entries_weight (with_record key rec es) ≤ reserved
     → before ≡ weight key (get_or es i d).1 → after ≡ weight key (fold rec (get_or es i d).1)
     → IsTable (with_record key rec es) (kept - before + after) reserved places
-table_at es kept reserved places key rec i d before after t at key_least fits before_is after_is =
-    let kept_is = t.weight_is in
-    let total : kept - before + after ≡ entries_weight (with_record key rec es) =
-    omega (arith, total_at es key rec i d t.sorted at, weight_at_le es key i d at) in
-    record {
-      sorted = sorted_with_record es key rec t.sorted;
-      weight_is = total;
-      fits = omega arith;
-      keys = keys_put es key (over rec (record_of_key key es)) key_least t.keys;
-      room = t.room;
-    }
+table_at es kept reserved places key rec i d before after t at key_least fits before_is after_is = grind (arith, common_steps, nat_tests, total_at, weight_at_le, sorted_with_record, keys_put)
 
 pub table_apart : (es : Entries) (kept reserved places more : ℕ) (key : Key) (rec : Rec) (i after : ℕ)
     → IsTable es kept reserved places → IsGapFor es key i → 1 ≤ length key → entries_weight (with_record key rec es) ≤ reserved

@@ -1,4 +1,6 @@
 -- Trees of numbered nodes: how they are read, and what a changed node leaves of them.
+use Rattle.std.proofs.lemmas.Bool.Decides.{nat_tests}
+use Rattle.std.proofs.lemmas.Grind.{common_steps}
 use Rattle.std.proofs.Common.{◌≡◌, ◌≢◌, ℕ, zero, suc, ◌+◌, ◌<◌, ◌≤◌, max, List, [], ◌∷◌, ◌++◌, length, cond, refl, ap, sym, subst, ◌∙◌, arith, add-one}
 use Rattle.std.proofs.lemmas.List.{length-set, get_or-set_same, get_or-set_other, get_or_past}
 use Rattle.std.proofs.lemmas.Bool.{eq-eqb, ne_eqb}
@@ -35,14 +37,9 @@ stored nodes p (Fork l q r) few h = h.2
 pub read_to : (nodes : List Node) (p : ℕ) (t : Tree) (depth : ℕ) → length nodes ≤ no_node → Holds nodes p t → height t ≤ depth → tree_to depth nodes p ≡ t
 unfolding tree_to
 read_to nodes p Leaf zero few h low = refl
-read_to nodes p Leaf (suc depth) few h low =
-    ap (λ n. fork_for n (tree_to depth nodes (node_at nodes p).left) p (tree_to depth nodes (node_at nodes p).right)) (no_height nodes p h few)
+read_to nodes p Leaf (suc depth) few h low = grind (arith, common_steps, nat_tests)
 read_to nodes p (Fork l q r) zero few h low = absurd (omega arith)
-read_to nodes p (Fork l q r) (suc depth) few h low =
-    ap (λ n. fork_for n (tree_to depth nodes (node_at nodes p).left) p (tree_to depth nodes (node_at nodes p).right)) (h.2 ∙ add-one (max (height l) (height r)))
-    ∙ ap (λ k. Fork k p (tree_to depth nodes (node_at nodes p).right)) (read_to nodes (node_at nodes p).left l depth few h.3 (omega arith))
-    ∙ ap (λ k. Fork l p k) (read_to nodes (node_at nodes p).right r depth few h.4 (omega arith))
-    ∙ ap (λ k. Fork l k r) h.0
+read_to nodes p (Fork l q r) (suc depth) few h low = grind (arith, common_steps, nat_tests, read_to nodes (node_at nodes p).left l depth few h.3 (omega arith), read_to nodes (node_at nodes p).right r depth few h.4 (omega arith))
 
 pub read : (nodes : List Node) (p : ℕ) (t : Tree) → length nodes ≤ no_node → Holds nodes p t → tree_at nodes p ≡ t
 unfolding tree_at
@@ -53,16 +50,7 @@ read nodes p t few h = read_to nodes p t (height_of nodes p) few h (omega (arith
 -- a tree stays where none of its nodes changes
 pub stays : (old new : List Node) (p : ℕ) (t : Tree) → length old ≤ length new → ((q : ℕ) → 1 ≤ times q (places t) → node_at new q ≡ node_at old q) → Holds old p t → Holds new p t
 stays old new p Leaf len same h = h
-stays old new p (Fork l q r) len same h =
-    let here : node_at new p ≡ node_at old p = same p (omega (arith, times_fork p (places l) (places r) q, one_if_same p q h.0)) in (
-      h.0,
-      omega (arith, h.1),
-      ap (λ (n : Node). n.height) here ∙ h.2,
-      subst (λ (n : Node). Holds new n.left l) (sym here)
-          (stays old new (node_at old p).left l len (λ k one. same k (omega (arith, times_fork k (places l) (places r) q))) h.3),
-      subst (λ (n : Node). Holds new n.right r) (sym here)
-          (stays old new (node_at old p).right r len (λ k one. same k (omega (arith, times_fork k (places l) (places r) q))) h.4),
-    )
+stays old new p (Fork l q r) len same h = grind (arith, common_steps, nat_tests, stays old new (node_at old p).left l len (λ k one. same k (omega (arith, times_fork k (places l) (places r) q))) h.3, stays old new (node_at old p).right r len (λ k one. same k (omega (arith, times_fork k (places l) (places r) q))) h.4, times_fork, one_if_same)
 
 pub joined_other : (nodes : List Node) (at left right q : ℕ) → q ≢ at → node_at (joined nodes at left right) q ≡ node_at nodes q
 joined_other nodes at left right q differs = get_or-set_other nodes at q _ _ differs
@@ -71,18 +59,8 @@ pub length-joined : (nodes : List Node) (at left right : ℕ) → length (joined
 length-joined nodes at left right = length-set nodes at _
 
 pub keep : (nodes : List Node) (at left right p : ℕ) (t : Tree) → times at (places t) ≡ 0 → Holds nodes p t → Holds (joined nodes at left right) p t
-keep nodes at left right p t apart h =
-    stays nodes (joined nodes at left right) p t (omega (arith, length-joined nodes at left right))
-    (λ q one. joined_other nodes at left right q (λ is. absurd (omega (arith, subst (λ k. times k (places t) ≡ 0) (sym is) apart)))) h
+keep nodes at left right p t apart h = grind (arith, common_steps, nat_tests, stays, length-joined, joined_other)
 
 pub hang : (nodes : List Node) (at left right : ℕ) (l r : Tree) → length nodes ≤ no_node → at < length nodes → times at (places l) ≡ 0 → times at (places r) ≡ 0
     → Holds nodes left l → Holds nodes right r → Holds (joined nodes at left right) at (Fork l at r)
-hang nodes at left right l r few within apart_l apart_r hl hr =
-    let here : node_at (joined nodes at left right) at ≡ record { left = left; right = right; height = max (height_of nodes left) (height_of nodes right) + 1 } =
-    get_or-set_same nodes at _ _ within in (
-      refl,
-      omega (arith, length-joined nodes at left right),
-      ap (λ (n : Node). n.height) here ∙ ap (λ n. max n (height_of nodes right) + 1) (stored nodes left l few hl) ∙ ap (λ n. max (height l) n + 1) (stored nodes right r few hr),
-      subst (λ (n : Node). Holds (joined nodes at left right) n.left l) (sym here) (keep nodes at left right left l apart_l hl),
-      subst (λ (n : Node). Holds (joined nodes at left right) n.right r) (sym here) (keep nodes at left right right r apart_r hr),
-    )
+hang nodes at left right l r few within apart_l apart_r hl hr = grind (arith, common_steps, nat_tests, length-joined, stored, keep)

@@ -1,4 +1,6 @@
 -- Where the entries above a key begin.
+use Rattle.std.proofs.lemmas.Bool.Decides.{nat_tests}
+use Rattle.std.proofs.lemmas.Grind.{common_steps}
 use Rattle.std.proofs.Common.{◌≡◌, ℕ, zero, suc, ◌+◌, ◌<◌, ◌≤◌, inl, inr, true, false, cond, [], ◌∷◌, length, get_or, drop, Option, Some, None, refl, ap, subst, ◌∙◌, arith}
 use Rattle.std.specs.List.{AllWithin}
 use Rattle.std.specs.Ordering.{is_lt}
@@ -47,12 +49,7 @@ split_at es key i sorted at = record { in_range = omega (arith, at.in_range); be
     after k d low high = ap is_lt (subst (λ (q : Key). key_cmp q (get_or es k d).0 ≡ Less) (at.has_key d) (rise i k d (omega arith) high))
 
 pub split_gap : (es : Entries) (key : Key) (i : ℕ) → IsGapFor es key i → IsSplit es (Some key) i
-split_gap es key i gap =
-    record {
-      in_range = gap.in_range;
-      before = λ k d low high. not_above_if_less key (get_or es k d).0 (gap.before k d low high);
-      after = λ k d low high. above_if_greater key (get_or es k d).0 (gap.after k d low high);
-    }
+split_gap es key i gap = grind (arith, common_steps, nat_tests, not_above_if_less, above_if_greater)
 
 -- ---- what they are
 

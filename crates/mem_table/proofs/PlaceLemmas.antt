@@ -1,4 +1,6 @@
 -- What a search among a table's entries finds.
+use Rattle.std.proofs.lemmas.Bool.Decides.{nat_tests}
+use Rattle.std.proofs.lemmas.Grind.{common_steps}
 use Rattle.std.proofs.Common.{◌≡◌, ℕ, zero, suc, ◌+◌, ◌⊎◌, inl, inr, T, [], ◌∷◌, length, get_or, Some, None, Result, Ok, Err, IfOk, IfErr, refl, ap, sym, subst, ◌∙◌, arith}
 use Rattle.std.specs.List.{AllWithin}
 use Rattle.std.specs.List.Sorted.{IsSearchInRange, IsBinarySearchResult, IsNonDecreasingBy, IsSortedBy}
@@ -57,15 +59,7 @@ at_later : (e : Key × Rec) (es : Entries) (key : Key) (i : ℕ) → IsAt es key
 at_later e es key i at = record { in_range = omega (arith, at.in_range); has_key = at.has_key }
 
 gap_later : (e : Key × Rec) (es : Entries) (key : Key) (i : ℕ) → key_cmp e.0 key ≡ Less → IsGapFor es key i → IsGapFor (e ∷ es) key (suc i)
-gap_later e es key i less gap = record { in_range = omega (arith, gap.in_range); before = before; after = after }
-  where
-    before : AllWithin (λ f. key_cmp f.0 key ≡ Less) (e ∷ es) 0 (suc i)
-    before zero d low high = less
-    before (suc k) d low high = gap.before k d (omega arith) (omega arith)
-
-    after : AllWithin (λ f. key_cmp f.0 key ≡ Greater) (e ∷ es) (suc i) (length (e ∷ es))
-    after zero d low high = absurd (omega arith)
-    after (suc k) d low high = gap.after k d (omega arith) (omega arith)
+gap_later e es key i less gap = grind (arith, common_steps, nat_tests)
 
 gap_first : (e : Key × Rec) (es : Entries) (key : Key) → T (is_sorted key_cmp (e ∷ es)) → key_cmp e.0 key ≡ Greater → IsGapFor (e ∷ es) key 0
 gap_first e es key sorted greater = record { in_range = omega arith; before = λ k d low high. absurd (omega arith); after = after }

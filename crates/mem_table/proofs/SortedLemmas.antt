@@ -1,4 +1,6 @@
 -- Sorted lists of keys and values: what stands at a place, and what `put` does there. Over any total order.
+use Rattle.std.proofs.lemmas.Bool.Decides.{nat_tests}
+use Rattle.std.proofs.lemmas.Grind.{common_steps}
 use Rattle.std.proofs.Common.{◌≡◌, ℕ, zero, suc, ◌<◌, ◌≤◌, Bool, true, false, cond, ◌&&◌, T, List, [], ◌∷◌, length, get_or, set, Some, None, refl, ap, ◌∙◌, arith}
 use Rattle.std.specs.List.{insert}
 use Rattle.std.specs.Ordering.{is_lt, is_eq, ordering_reverse}
@@ -9,13 +11,10 @@ use Rattle.std.specs.FinMap.{find, put, is_sorted}
 use Rattle.std.specs.FinMap.Entries.{below_all, by_order}
 
 pub both_hold : (a b : Bool) → T (a && b) → T a × T b
-both_hold true b h = (tt, h)
-both_hold false b h = absurd h
+both_hold a b zh1 = grind (arith, common_steps, nat_tests)
 
 pub less_from_test : (o : Ordering) → T (is_lt o) → o ≡ Less
-less_from_test Less h = refl
-less_from_test Equal h = absurd h
-less_from_test Greater h = absurd h
+less_from_test o zh1 = grind (arith, common_steps, nat_tests)
 
 pub turned : {K : Type 0} (R : K → K → Ordering) → IsTotalOrder R → (x y : K) (r : Ordering) → R x y ≡ r → R y x ≡ ordering_reverse r
 turned R o x y r is = o.antisymm y x ∙ ap ordering_reverse is

@@ -1,4 +1,6 @@
 -- How high a balanced tree is.
+use Rattle.std.proofs.lemmas.Bool.Decides.{nat_tests}
+use Rattle.std.proofs.lemmas.Grind.{common_steps}
 use Rattle.std.proofs.Common.{◌≡◌, ℕ, suc, ◌+◌, ◌-◌, ◌*◌, ◌^◌, ◌≤◌, max, inl, inr, ◌∷◌, ◌++◌, length, refl, ap, ◌∙◌, arith}
 use Rattle.std.proofs.Math.Nat.{pow-le-pow_right, mul_assoc, mul_comm}
 use Rattle.std.proofs.lemmas.Nat.{mul-le, pow-add}
@@ -10,9 +12,7 @@ square_le : (a b : ℕ) → a ≤ b → a * a ≤ b * b
 square_le a b le = mul-le a a b b le le
 
 twice_squared : (a : ℕ) → (2 * a) * (2 * a) ≡ 4 * (a * a)
-twice_squared a =
-    let inner : a * (2 * a) ≡ 2 * (a * a) = mul_comm a (2 * a) ∙ mul_assoc 2 a a in
-    omega (arith, mul_assoc 2 a (2 * a), inner)
+twice_squared a = grind (arith, common_steps, nat_tests)
 
 power_le : (i j : ℕ) → i ≤ j → 2 ^ i ≤ 2 ^ j
 power_le i j le = pow-le-pow_right (omega arith) le
@@ -56,10 +56,7 @@ bare_leaf Leaf none = refl
 bare_leaf (Fork l p r) none = absurd (omega (arith, length-append (places l) (p ∷ places r)))
 
 pub few : (t : Tree) (s n : ℕ) → IsBalanced t → length (places t) ≡ n → s ≤ height t → 1 ≤ n → 2 ^ s ≤ 4 * n * n
-few t s n balanced is low some =
-    let most : 2 ^ height t ≤ 4 * (length (places t) * length (places t)) = height_squared t balanced (no_leaf t (omega arith)) in
-    let square : length (places t) * length (places t) ≡ n * n = ap (λ k. k * k) is in
-    omega (arith, power_le s (height t) low, mul_assoc 4 n n)
+few t s n balanced is low some = grind (arith, common_steps, nat_tests, height_squared, no_leaf, power_le)
 
 pub none_taken : (t : Tree) (s n : ℕ) → length (places t) ≡ n → s ≤ height t → n ≡ 0 → s ≡ 0
 none_taken t s n is low none = omega (arith, bare_leaf t (omega arith))

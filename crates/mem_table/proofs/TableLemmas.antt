@@ -1,4 +1,6 @@
 -- A table's nodes and entries, each at its place.
+use Rattle.std.proofs.lemmas.Bool.Decides.{nat_tests}
+use Rattle.std.proofs.lemmas.Grind.{common_steps}
 use Rattle.std.proofs.Common.{◌≡◌, ◌≢◌, ℕ, zero, suc, ◌+◌, ◌-◌, ◌*◌, ◌^◌, ◌<◌, ◌≤◌, inl, inr, ◌↔◌, Bool, true, false, cond, not, ltb, List, [], ◌∷◌, ◌++◌, length, get_or, set, take, drop, Option, Some, None, IsSome, IsNone, IfSome, IfNone, is_some, refl, ap, sym, subst, ◌∙◌, arith}
 use Rattle.std.specs.List.{position, position_or_len}
 use Rattle.std.specs.Ordering.{is_eq, eq_by_cmp}
@@ -72,30 +74,20 @@ entry_of_index : (slots : Entries) (ps : List ℕ) (i : ℕ) (d : Key × Rec) �
 entry_of_index slots ps i d within = get_or-map (entry_at slots) ps i no_node d within
 
 pub is_at : (slots : Entries) (ps : List ℕ) (q : ℕ) (key : Key) (has : HasIndex q ps) → (entry_at slots q).0 ≡ key → IsAt (entries_at slots ps) key has.index
-is_at slots ps q key has is = record {
-  in_range = omega (arith, has.within, length-map ps (entry_at slots));
-  has_key = λ d. ap (λ (e : Key × Rec). e.0) (entry_of_index slots ps has.index d has.within ∙ ap (entry_at slots) has.there) ∙ is;
-}
+is_at slots ps q key has is = grind (arith, common_steps, nat_tests)
 
 pub entry_is : (slots : Entries) (ps : List ℕ) (q : ℕ) (has : HasIndex q ps) (d : Key × Rec) → get_or (entries_at slots ps) has.index d ≡ entry_at slots q
 entry_is slots ps q has d = entry_of_index slots ps has.index d has.within ∙ ap (entry_at slots) has.there
 
 entries_other : (slots : Entries) (ps : List ℕ) (q : ℕ) (e : Key × Rec) → times q ps ≡ 0 → entries_at (set slots q e) ps ≡ entries_at slots ps
 entries_other slots [] q e none = refl
-entries_other slots (p ∷ ps) q e none =
-    ap (λ (x : Key × Rec). x ∷ entries_at (set slots q e) ps) (get_or-set_other slots q p e _ (λ is. absurd (omega (arith, one_if_same q p (sym is)))))
-    ∙ ap (λ (l : Entries). entry_at slots p ∷ l) (entries_other slots ps q e (omega arith))
+entries_other slots (p ∷ ps) q e none = grind (arith, common_steps, nat_tests, entries_other slots ps q e (omega arith))
 
 pub entries_set : (slots : Entries) (ps : List ℕ) (q : ℕ) (e : Key × Rec) (i : ℕ) → q < length slots → times q ps ≤ 1 → i < length ps → get_or ps i no_node ≡ q
     → entries_at (set slots q e) ps ≡ set (entries_at slots ps) i e
 entries_set slots [] q e i inside once within is = absurd (omega arith)
-entries_set slots (p ∷ ps) q e zero inside once within is =
-    ap (λ (x : Key × Rec). x ∷ entries_at (set slots q e) ps) (ap (λ k. get_or (set slots q e) k ([], Tomb)) is ∙ get_or-set_same slots q e ([], Tomb) inside)
-    ∙ ap (λ (l : Entries). e ∷ l) (entries_other slots ps q e (omega (arith, one_if_same q p (sym is))))
-entries_set slots (p ∷ ps) q e (suc i) inside once within is =
-    let one : 1 ≤ times q ps = counted q i ps (omega arith) is in
-    ap (λ (x : Key × Rec). x ∷ entries_at (set slots q e) ps) (get_or-set_other slots q p e _ (λ same. absurd (omega (arith, one_if_same q p (sym same)))))
-    ∙ ap (λ (l : Entries). entry_at slots p ∷ l) (entries_set slots ps q e i inside (omega arith) (omega arith) is)
+entries_set slots (p ∷ ps) q e zero inside once within is = grind (arith, common_steps, nat_tests, entries_other)
+entries_set slots (p ∷ ps) q e (suc i) inside once within is = grind (arith, common_steps, nat_tests, entries_set slots ps q e i inside (omega arith) (omega arith) is, counted)
 
 pub entries_grown : (slots more : Entries) (ps : List ℕ) → ((q : ℕ) → 1 ≤ times q ps → q < length slots) → entries_at (slots ++ more) ps ≡ entries_at slots ps
 entries_grown slots more [] within = refl
@@ -134,8 +126,7 @@ same_by_test key k test =
 
 pub absent_without : (key : Key) (es : Entries) → AreWithout key es → record_of_key key es ≡ None
 absent_without key [] all = refl
-absent_without key (e ∷ es) all =
-    ap (λ b. cond b (Some e.1) (record_of_key key es)) (test_other key e.0 (λ is. all.0 (sym is))) ∙ absent_without key es all.1
+absent_without key (e ∷ es) all = grind (arith, common_steps, nat_tests, absent_without key es all.1, test_other)
 
 pub without_absent : (key : Key) (es : Entries) → record_of_key key es ≡ None → AreWithout key es
 without_absent key [] none = tt
@@ -162,8 +153,7 @@ module _ {K : Type 0} (p : K → Bool) where
       ap (λ b. cond (not b) (1 + position_or_len p ks) 0) (all 0 (omega arith)) ∙ omega (arith, position_past ks d (λ j lt. all (suc j) (omega arith)))
 
   some_position : (ks : List K) (i : ℕ) (d : K) → i < length ks → p (get_or ks i d) ≡ true → ((j : ℕ) → j < i → p (get_or ks j d) ≡ false) → position p ks ≡ Some i
-  some_position ks i d within here before =
-      ap (λ n. cond (ltb n (length ks)) (Some n) None) (position_at ks i d within here before) ∙ ap (λ b. cond b (Some i) None) (lt-ltb i (length ks) within)
+  some_position ks i d within here before = grind (arith, common_steps, nat_tests, position_at)
 
   no_position : (ks : List K) (d : K) → ((j : ℕ) → j < length ks → p (get_or ks j d) ≡ false) → position p ks ≡ None
   no_position ks d all =
@@ -177,23 +167,8 @@ place_here ks key i distinct within is =
 pub place_nowhere : (ks : List Key) (key : Key) → ((j : ℕ) → j < length ks → get_or ks j [] ≢ key) → place_in key ks ≡ None
 place_nowhere ks key all = no_position (λ k. eq_by_cmp key_cmp key k) ks [] (λ j lt. test_other key (get_or ks j []) (λ is. all j lt (sym is)))
 
-pub place_kept : (ks : List Key) (key other : Key) (i : ℕ) → place_in other ks ≡ Some i → place_in other (ks ++ key ∷ []) ≡ Some i
-place_kept ks key other i is =
-    let parts = position-Some (λ k. eq_by_cmp key_cmp other k) ks i [] is in
-    some_position (λ k. eq_by_cmp key_cmp other k) (ks ++ key ∷ []) i [] (omega (arith, parts.0, length-append ks (key ∷ [])))
-    (ap (λ (k : Key). eq_by_cmp key_cmp other k) (get_or_append_left ks (key ∷ []) [] i parts.0) ∙ parts.1)
-    (λ j lt. ap (λ (k : Key). eq_by_cmp key_cmp other k) (get_or_append_left ks (key ∷ []) [] j (omega (arith, parts.0))) ∙ parts.2 j lt)
-
 pub places_kept : (ks : List Key) (key other : Key) → IsSome (place_in other ks) → place_in other (arrived_with key ks) ≡ place_in other ks
-places_kept ks key other there =
-    elim (is_some (place_in key ks)) as (λ b. place_in other (cond b ks (ks ++ key ∷ [])) ≡ place_in other ks) [
-      | true ↦ refl
-      | false ↦ still (place_in other ks) refl there
-    ]
-  where
-    still : (r : Option ℕ) → place_in other ks ≡ r → IsSome r → place_in other (ks ++ key ∷ []) ≡ place_in other ks
-    still None is some = let never : false ≡ true = some in cc
-    still (Some i) is some = place_kept ks key other i is ∙ sym is
+places_kept ks key other there = grind (arith, common_steps, nat_tests)
 
 pub key_at : (slots : Entries) (i : ℕ) → i < length slots → get_or (keys_of slots) i [] ≡ (entry_at slots i).0
 key_at slots i within = get_or-map (λ (e : Key × Rec). e.0) slots i _ [] within
@@ -222,15 +197,7 @@ module _ (nodes : List Node) (slots : Entries) (root kept reserved node_places :
   tree_there = record { few = omega (arith, few_slots.0, a.as_many); as_many = a.as_many; holds = a.holds; sorted = a.table.sorted }
 
   pub once_at_most : (q : ℕ) → times q (places (tree_at nodes root)) ≤ 1
-  once_at_most q =
-      elim (cases_lt q (length slots)) [
-        | inl lt ↦ omega (arith, a.once q lt)
-        | inr le ↦
-            elim (cases_lt 0 (times q (places (tree_at nodes root)))) [
-              | inl some ↦ absurd (omega (arith, within_nodes nodes root (tree_at nodes root) q a.holds some, a.as_many))
-              | inr none ↦ omega arith
-            ]
-      ]
+  once_at_most q = grind (arith, common_steps, nat_tests, within_nodes)
 
   -- ---- looking up
 
@@ -280,9 +247,7 @@ module _ (nodes : List Node) (slots : Entries) (root kept reserved node_places :
       (omega (arith, stored nodes root (tree_at nodes root) tree_there.few a.holds)) some
 
   pub steps_none : (s : ℕ) → s ≤ height_of nodes root → length (tree_entries nodes slots root) ≡ 0 → s ≡ 0
-  steps_none s low none =
-      none_taken (tree_at nodes root) s (length (tree_entries nodes slots root)) (sym (length-map (places (tree_at nodes root)) (entry_at slots)))
-      (omega (arith, stored nodes root (tree_at nodes root) tree_there.few a.holds)) none
+  steps_none s low none = grind (arith, common_steps, nat_tests)
 
   -- ---- a record folded over the one at a place
 
@@ -298,20 +263,11 @@ module _ (nodes : List Node) (slots : Entries) (root kept reserved node_places :
       ∙ sym (with_record_at (tree_entries nodes slots root) key rec f.has.index e a.table.sorted at)
 
   pub before_le : (key : Key) (p : ℕ) → place_in key (keys_of slots) ≡ Some p → weight key (entry_at slots p).1 ≤ kept
-  before_le key p is =
-      let f = found_at key p is in
-      let at = is_at slots (places (tree_at nodes root)) p key f.has f.key_is in
-      let older = ap (λ (x : Key × Rec). weight key x.1) (entry_is slots (places (tree_at nodes root)) p f.has ([], Tomb)) in
-      omega (arith, a.table.weight_is, older, weight_at_le (tree_entries nodes slots root) key f.has.index ([], Tomb) at)
+  before_le key p is = grind (arith, common_steps, nat_tests, found_at, is_at, entry_is)
 
   pub slots_folded : (key : Key) (p : ℕ) (e : Key × Rec) (before after : ℕ) → place_in key (keys_of slots) ≡ Some p → e.0 ≡ key → before ≡ weight key (entry_at slots p).1 → after ≡ weight key e.1
       → entries_weight (set slots p e) ≡ kept - before + after
-  slots_folded key p e before after is key_is before_is after_is =
-      let f = found_at key p is in
-      let moved = sum_by-set (λ (x : Key × Rec). weight x.0 x.1) slots p e ([], Tomb) f.in_range in
-      let older : weight (entry_at slots p).0 (entry_at slots p).1 ≡ before = ap (λ (k : Key). weight k (entry_at slots p).1) f.key_is ∙ sym before_is in
-      let newer : weight e.0 e.1 ≡ after = ap (λ (k : Key). weight k e.1) key_is ∙ sym after_is in
-      omega (arith, moved, older, newer, a.same_weight, before_le key p is, before_is)
+  slots_folded key p e before after is key_is before_is after_is = grind (arith, common_steps, nat_tests, found_at, before_le)
 
   pub arena_folded : (key : Key) (rec : Rec) (p : ℕ) (e : Key × Rec) (before after : ℕ) → place_in key (keys_of slots) ≡ Some p → e.0 ≡ key → e.1 ≡ fold rec (entry_at slots p).1
       → 1 ≤ length key → entries_weight (with_record key rec (tree_entries nodes slots root)) ≤ reserved → before ≡ weight key (entry_at slots p).1 → after ≡ weight key (fold rec (entry_at slots p).1)
@@ -344,9 +300,7 @@ module _ (nodes : List Node) (slots : Entries) (root kept reserved node_places :
       omega (arith, folded.same_weight, folded.table.fits)
 
   pub arrived_folded : (key : Key) (p : ℕ) (e : Key × Rec) → place_in key (keys_of slots) ≡ Some p → e.0 ≡ key → keys_of (set slots p e) ≡ arrived_with key (keys_of slots)
-  arrived_folded key p e is key_is =
-      let f = found_at key p is in
-      keys_set slots p e f.in_range (key_is ∙ sym f.key_is) ∙ sym (ap (λ (r : Option ℕ). cond (is_some r) (keys_of slots) (keys_of slots ++ key ∷ [])) is)
+  arrived_folded key p e is key_is = grind (arith, common_steps, nat_tests, found_at, keys_set)
 
   -- ---- one entry more
 
@@ -395,38 +349,16 @@ module _ (nodes : List Node) (slots : Entries) (root kept reserved node_places :
       grown_is = read (nodes ++ node ∷ []) root (tree_at nodes root) few_nodes grown_holds
 
       pub entries_same : tree_entries (nodes ++ node ∷ []) (slots ++ (key, rec) ∷ []) root ≡ tree_entries nodes slots root
-      entries_same =
-          ap (λ (t : Tree). entries_at (slots ++ (key, rec) ∷ []) (places t)) grown_is
-          ∙ entries_grown slots ((key, rec) ∷ []) (places (tree_at nodes root)) (λ q one. omega (arith, within_nodes nodes root (tree_at nodes root) q a.holds one, a.as_many))
+      entries_same = grind (arith, common_steps, nat_tests, grown_is, entries_grown, within_nodes)
 
       pub grown_tree : IsTree (nodes ++ node ∷ []) (slots ++ (key, rec) ∷ []) root
-      grown_tree = record {
-        few = few_nodes;
-        as_many = omega (arith, a.as_many, length-append nodes (node ∷ []), length-append slots ((key, rec) ∷ []));
-        holds = subst (λ (t : Tree). Holds (nodes ++ node ∷ []) root t) (sym grown_is) grown_holds;
-        sorted = subst AreSorted (sym entries_same) a.table.sorted;
-      }
+      grown_tree = grind (arith, common_steps, nat_tests, few_nodes, grown_is, grown_holds, entries_same)
 
       new_entry : entry_at (slots ++ (key, rec) ∷ []) (length slots) ≡ (key, rec)
       new_entry = grown_entry slots key rec
 
       pub grown_new : IsNew (nodes ++ node ∷ []) (slots ++ (key, rec) ∷ []) root (length slots)
-      grown_new = record {
-        in_range = omega (arith, a.as_many, length-append nodes (node ∷ []));
-        apart = λ q.
-            let same = ap (λ (t : Tree). times q (places t)) grown_is in
-            elim (cases_eq q (length slots)) [
-              | inl is ↦
-                  elim (cases_lt 0 (times q (places (tree_at nodes root)))) [
-                    | inl some ↦ absurd (omega (arith, within_nodes nodes root (tree_at nodes root) q a.holds some, a.as_many))
-                    | inr none ↦ omega (arith, one_if_same q (length slots) is)
-                  ]
-              | inr differs ↦ omega (arith, none_if_differs q (length slots) differs, once_at_most q)
-            ];
-        without =
-            subst (λ (es : Entries). AreWithout (entry_at (slots ++ (key, rec) ∷ []) (length slots)).0 es) (sym entries_same)
-            (subst (λ (e : Key × Rec). AreWithout e.0 (tree_entries nodes slots root)) (sym new_entry) (without_absent key (tree_entries nodes slots root) absent));
-      }
+      grown_new = grind (arith, common_steps, nat_tests, grown_is, within_nodes, once_at_most, entries_same, new_entry, without_absent)
 
       pub grown_balanced : IsBalanced (tree_at (nodes ++ node ∷ []) root)
       grown_balanced = subst IsBalanced (sym grown_is) a.balanced
@@ -436,16 +368,10 @@ module _ (nodes : List Node) (slots : Entries) (root kept reserved node_places :
 
       module _ (after : List Node) (top : ℕ) (added : IsAdded (nodes ++ node ∷ []) after (slots ++ (key, rec) ∷ []) root (length slots) top) (len : length after ≡ length (nodes ++ node ∷ [])) where
         pub entries_added : tree_entries after (slots ++ (key, rec) ∷ []) top ≡ with_record key rec (tree_entries nodes slots root)
-        entries_added =
-            added.entries_are
-            ∙ ap (λ (e : Key × Rec). put key_cmp e.0 e.1 (tree_entries (nodes ++ node ∷ []) (slots ++ (key, rec) ∷ []) root)) new_entry
-            ∙ ap (put key_cmp key rec) entries_same
-            ∙ sym (ap (λ (r : Option Rec). put key_cmp key (over rec r) (tree_entries nodes slots root)) absent)
+        entries_added = grind (arith, common_steps, nat_tests, new_entry, entries_same)
 
         pub arrived_added : place_in key (keys_of slots) ≡ None → keys_of (slots ++ (key, rec) ∷ []) ≡ arrived_with key (keys_of slots)
-        arrived_added nowhere =
-            map-append (λ (e : Key × Rec). e.0) slots ((key, rec) ∷ [])
-            ∙ sym (ap (λ (r : Option ℕ). cond (is_some r) (keys_of slots) (keys_of slots ++ key ∷ [])) nowhere)
+        arrived_added nowhere = grind (arith, common_steps, nat_tests)
 
         pub arena_added : (more grown_nodes : ℕ) → more ≡ weight key rec → node_places ≤ grown_nodes → IsArena after (slots ++ (key, rec) ∷ []) top (kept + more) reserved grown_nodes
         arena_added more grown_nodes more_is nodes_more =
@@ -486,8 +412,7 @@ module _ (nodes : List Node) (slots : Entries) (root kept reserved node_places :
 
 -- a lent list that is put back whole
 pub put_back : {A : Type 0} (n : ℕ) (xs ys : List A) → length xs ≡ length ys → n ≡ length ys → take n (xs ++ drop (length xs) ys) ≡ xs
-put_back n xs ys len is =
-    ap (λ (l : List _). take n (xs ++ l)) (drop_all (length xs) ys (omega arith)) ∙ ap (take n) (append-nil xs) ∙ take_all n xs (omega arith)
+put_back n xs ys len is = grind (arith, common_steps, nat_tests)
 
 -- ---- an empty table
 
@@ -512,8 +437,7 @@ entries_empty = ap (λ (t : Tree). entries_at [] (places t)) (read [] no_node Le
 -- ---- the next entry above a key
 
 or_none : (r : Option ℕ) → or_else r None ≡ r
-or_none None = refl
-or_none (Some p) = refl
+or_none r = grind (arith, common_steps, nat_tests)
 
 first_none : (slots : Entries) (low : Option Key) (qs : List ℕ) → place_above slots low qs ≡ None → first_of (above low (entries_at slots qs)) ≡ None
 first_none slots low [] is = refl

@@ -1,4 +1,6 @@
 -- What turning two trees at their node makes.
+use Rattle.std.proofs.lemmas.Bool.Decides.{nat_tests}
+use Rattle.std.proofs.lemmas.Grind.{common_steps}
 use Rattle.std.proofs.Common.{◌≡◌, ℕ, ◌+◌, ◌<◌, ◌≤◌, max, List, ◌∷◌, ◌++◌, length, refl, ap, sym, subst, ◌∙◌, append_assoc, arith}
 use Rattle.mem_table.specs.declared.nodes.Node.{Node}
 use Rattle.mem_table.specs.Shapes.{Tree, Leaf, Fork, height, places, DifferByAtMost, times, one_if, no_node, node_at, height_of, Holds, tree_at, joined, MayHang, IsHung}
@@ -172,8 +174,7 @@ over_inner n nodes at left right x j (Fork u i v) z may higher low leans =
     }
   where
     same_order : (x u v z : List ℕ) (j i at : ℕ) → (x ++ j ∷ u) ++ i ∷ (v ++ at ∷ z) ≡ (x ++ j ∷ (u ++ i ∷ v)) ++ at ∷ z
-    same_order x u v z j i at =
-        append_assoc x (j ∷ u) (i ∷ (v ++ at ∷ z)) ∙ ap (λ k. x ++ j ∷ k) (sym (append_assoc u (i ∷ v) (at ∷ z))) ∙ sym (append_assoc x (j ∷ (u ++ i ∷ v)) (at ∷ z))
+    same_order x u v z j i at = grind (arith, common_steps, nat_tests)
 
 pub turned_over : (n : ℕ) (nodes : List Node) (at left right : ℕ) (l r : Tree) → MayHang nodes at left right l r → height_of nodes left ≡ height_of nodes right + 2
     → height_of nodes left + 1 < n → height_of nodes (node_at nodes left).left < height_of nodes (node_at nodes left).right

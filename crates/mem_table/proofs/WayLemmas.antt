@@ -1,4 +1,6 @@
 -- Trees of keys: how a tree's entries part at its node, and what a search and one more node make of them.
+use Rattle.std.proofs.lemmas.Bool.Decides.{nat_tests}
+use Rattle.std.proofs.lemmas.Grind.{common_steps}
 use Rattle.std.proofs.Common.{◌≡◌, ◌≢◌, ℕ, suc, ◌+◌, ◌<◌, ◌≤◌, max, Bool, true, false, cond, ◌&&◌, T, List, [], ◌∷◌, ◌++◌, length, get_or, Option, Some, None, IfSome, IfNone, refl, ap, sym, subst, ◌∙◌, arith}
 use Rattle.std.specs.List.{AllByRecursion}
 use Rattle.std.specs.Ordering.{is_lt}
@@ -38,17 +40,13 @@ pub record Parts (P : Key × Rec → Type 0) (es : Entries) (e : Key × Rec) (fs
 
 pub all_parts : (P : Key × Rec → Type 0) (es : Entries) (e : Key × Rec) (fs : Entries) → AllByRecursion P (es ++ e ∷ fs) → Parts P es e fs
 all_parts P [] e fs all = record { before = tt; here = all.0; after = all.1 }
-all_parts P (x ∷ es) e fs all =
-    let rest = all_parts P es e fs all.1 in
-    record { before = (all.0, rest.before); here = rest.here; after = rest.after }
+all_parts P (x ∷ es) e fs all = grind (arith, common_steps, nat_tests, all_parts P es e fs all.1)
 
 both_true : (a b : Bool) → T a → T b → T (a && b)
-both_true true b x y = y
-both_true false b x y = absurd x
+both_true a b zh1 zh2 = grind (arith, common_steps, nat_tests)
 
 test_true : (b : Bool) → T b → b ≡ true
-test_true true h = refl
-test_true false h = absurd h
+test_true b zh1 = grind (arith, common_steps, nat_tests)
 
 below_seam : (k : Key) (es : Entries) (e : Key × Rec) (fs : Entries) → T (below_all key_cmp k (es ++ e ∷ fs)) → T (below_all key_cmp k es) × (key_cmp k e.0 ≡ Less)
 below_seam k [] e fs h = (tt, less_from_test _ (both_hold _ _ h).0)
@@ -166,24 +164,7 @@ pub record IsAnswer (nodes : List Node) (slots : Entries) (root : ℕ) (key : Ke
 
 module _ (nodes : List Node) (slots : Entries) (root left right : ℕ) (key : Key) (fork : IsForked nodes slots root left right) where
   pub answer_left : (r : Option ℕ) → key_cmp key (entry_at slots root).0 ≡ Less → IsAnswer nodes slots left key r → IsAnswer nodes slots root key r
-  answer_left None less a = record {
-    found = tt;
-    absent =
-        subst (AreWithout key) (sym (entries_split nodes slots root left right fork))
-        (all_fork _ (tree_entries nodes slots left) (entry_at slots root) (tree_entries nodes slots right) a.absent (less_differs key (entry_at slots root).0 less)
-        (all_beyond_differ key (entry_at slots root).0 (tree_entries nodes slots right) less fork.beyond));
-  }
-  answer_left (Some p) less a = record {
-    found =
-        subst (λ (t : Tree). IsPlaced slots (places t) key p) (sym fork.tree_is) (record {
-          index = a.found.index;
-          within = omega (arith, a.found.within, length-append (places (tree_at nodes left)) (root ∷ places (tree_at nodes right)));
-          there = get_or_append_left (places (tree_at nodes left)) (root ∷ places (tree_at nodes right)) no_node a.found.index a.found.within ∙ a.found.there;
-          in_range = a.found.in_range;
-          key_is = a.found.key_is;
-        });
-    absent = tt;
-  }
+  answer_left r zh1 zh2 = grind (arith, common_steps, nat_tests, entries_split, all_fork, less_differs, all_beyond_differ)
 
   pub answer_right : (r : Option ℕ) → key_cmp key (entry_at slots root).0 ≡ Greater → IsAnswer nodes slots right key r → IsAnswer nodes slots root key r
   answer_right None greater a =
@@ -221,8 +202,7 @@ module _ (nodes : List Node) (slots : Entries) (root left right : ℕ) (key : Ke
   }
 
 pub answer_none : (nodes : List Node) (slots : Entries) (root : ℕ) (key : Key) → length nodes ≤ no_node → root ≡ no_node → IsAnswer nodes slots root key None
-answer_none nodes slots root key few is =
-    record { found = tt; absent = subst (λ (t : Tree). AreWithout key (entries_at slots (places t))) (sym (bare nodes root few is)) tt }
+answer_none nodes slots root key few is = grind (arith, common_steps, nat_tests, bare)
 
 pub place_there : (p : ℕ) → p ≢ no_node → place_of p ≡ Some p
 place_there p there = ap (λ b. cond b None (Some p)) (ne_eqb p no_node there)
@@ -247,31 +227,21 @@ not_above_below (Some k) a b is less =
 above_left : (slots : Entries) (low : Option Key) (ps : List ℕ) (p : ℕ) (qs : List ℕ) (before : Option ℕ) → is_above low (entry_at slots p).0 ≡ true
     → or_else (place_above slots low (ps ++ p ∷ qs)) before ≡ or_else (place_above slots low ps) (Some p)
 above_left slots low [] p qs before is = ap (λ b. or_else (cond b (Some p) (place_above slots low qs)) before) is
-above_left slots low (x ∷ ps) p qs before is =
-    elim (is_above low (entry_at slots x).0) as (λ b. or_else (cond b (Some x) (place_above slots low (ps ++ p ∷ qs))) before ≡ or_else (cond b (Some x) (place_above slots low ps)) (Some p)) [
-      | true ↦ refl
-      | false ↦ above_left slots low ps p qs before is
-    ]
+above_left slots low (x ∷ ps) p qs before is = grind (arith, common_steps, nat_tests, above_left slots low ps p qs before is)
 
 above_right : (slots : Entries) (low : Option Key) (ps : List ℕ) (p : ℕ) (qs : List ℕ) → AllByRecursion (λ x. key_cmp x.0 (entry_at slots p).0 ≡ Less) (entries_at slots ps)
     → is_above low (entry_at slots p).0 ≡ false → place_above slots low (ps ++ p ∷ qs) ≡ place_above slots low qs
 above_right slots low [] p qs below is = ap (λ b. cond b (Some p) (place_above slots low qs)) is
-above_right slots low (x ∷ ps) p qs below is =
-    ap (λ b. cond b (Some x) (place_above slots low (ps ++ p ∷ qs))) (not_above_below low (entry_at slots x).0 (entry_at slots p).0 is below.0)
-    ∙ above_right slots low ps p qs below.1 is
+above_right slots low (x ∷ ps) p qs below is = grind (arith, common_steps, nat_tests, above_right slots low ps p qs below.1 is, not_above_below)
 
 module _ (nodes : List Node) (slots : Entries) (root left right : ℕ) (fork : IsForked nodes slots root left right) where
   pub next_left : (low : Option Key) (before : Option ℕ) → is_above low (entry_at slots root).0 ≡ true
       → or_else (place_above slots low (places (tree_at nodes left))) (Some root) ≡ or_else (place_above slots low (places (tree_at nodes root))) before
-  next_left low before is =
-      sym (ap (λ (t : Tree). or_else (place_above slots low (places t)) before) fork.tree_is
-      ∙ above_left slots low (places (tree_at nodes left)) root (places (tree_at nodes right)) before is)
+  next_left low before is = grind (arith, common_steps, nat_tests, above_left)
 
   pub next_right : (low : Option Key) (before : Option ℕ) → is_above low (entry_at slots root).0 ≡ false
       → or_else (place_above slots low (places (tree_at nodes right))) before ≡ or_else (place_above slots low (places (tree_at nodes root))) before
-  next_right low before is =
-      sym (ap (λ (t : Tree). or_else (place_above slots low (places t)) before) fork.tree_is
-      ∙ ap (λ r. or_else r before) (above_right slots low (places (tree_at nodes left)) root (places (tree_at nodes right)) fork.below is))
+  next_right low before is = grind (arith, common_steps, nat_tests, above_right)
 
 pub next_none : (nodes : List Node) (slots : Entries) (root : ℕ) (low : Option Key) (before : Option ℕ) → length nodes ≤ no_node → root ≡ no_node
     → before ≡ or_else (place_above slots low (places (tree_at nodes root))) before

@@ -59,10 +59,6 @@ up_to_none : (at : Option Key) (es : Entries) → AllAbove at es → up_to at es
 up_to_none at [] all = refl
 up_to_none at (e ∷ es) all = ap (λ b. cond (not b) (e ∷ up_to at es) (up_to at es)) all.0 ∙ up_to_none at es all.1
 
-head_of : Entries → Option (Key × Rec)
-head_of [] = None
-head_of (e ∷ es) = Some e
-
 -- the first of those above a key is above it
 pub first_above : (at : Option Key) (es more : Entries) (e : Key × Rec) → above at es ≡ e ∷ more → is_above at e.0 ≡ true
 first_above at [] more e is = absurd (not_empty is)

@@ -144,11 +144,6 @@ pub record OnPage (sizes : Sizes) (key : Key) (n : ℕ) (pages : List RunPage) (
   pub valid : IsPageOf (page_count sizes) next entries (page_at sizes n file)
   pub same : find_in key_cmp key (entries_of pages) ≡ find_in key_cmp key entries
 
--- each key of one list is below those of another, behind which it rises
-front_part : {X : Type 0} (P : X → Type 0) (xs ys : List X) → AllByRecursion P (xs ++ ys) → AllByRecursion P xs
-front_part P [] ys all = tt
-front_part P (x ∷ xs) ys all = (all.0, front_part P xs ys all.1)
-
 back_part : {X : Type 0} (P : X → Type 0) (xs ys : List X) → AllByRecursion P (xs ++ ys) → AllByRecursion P ys
 back_part P [] ys all = all
 back_part P (x ∷ xs) ys all = back_part P xs ys all.1

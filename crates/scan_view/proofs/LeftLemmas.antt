@@ -93,9 +93,6 @@ left_further sizes file at key cursor entries key_above has = record {
 
 -- ---- counts
 
-at_most_one : (b : Bool) → cond b 1 0 ≤ 1
-at_most_one b = grind (arith, common_steps, nat_tests)
-
 -- what a call of `advance` says of counts
 abbrev pub Falls : CursorState → CursorState → Option (Key × Rec) → Type 0
 Falls old new head = IfSome head (λ e. (old.entries ≡ new.entries + 1) × (old.weight ≡ weight e.0 e.1 + new.weight))
@@ -153,9 +150,6 @@ first_ahead at es = some_of (first_of (above at es)) (λ e is. by_list (above at
     by_list : (rest : Entries) → above at es ≡ rest → (e : Key × Rec) → first_of rest ≡ Some e → is_above at e.0 ≡ true
     by_list [] left_is e is = absurd (cc)
     by_list (x ∷ more) left_is e is = let same : x ≡ e = cc in subst (λ (f : Key × Rec). is_above at f.0 ≡ true) same (first_above at es more x left_is)
-
-pub from_key : (newer older entry : Option (Key × Rec)) (key : Key) → IsFromOne newer older entry → key_of entry ≡ Some key → (key_of newer ≡ Some key) ⊎ (key_of older ≡ Some key)
-from_key newer older entry key h1 h2 = grind (arith, common_steps, nat_tests)
 
 count_by : (at : Option Key) (key : Key) (head : Option (Key × Rec)) → is_above at key ≡ true → cond (head_above (Some key) head) 1 0 ≤ cond (head_above at head) 1 0
 count_by at key head h1 = grind (arith, common_steps, nat_tests, further)

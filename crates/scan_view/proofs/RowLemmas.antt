@@ -147,17 +147,6 @@ rows_behind low high (Some key) es past sorted = by_list (above (Some key) es) r
 pub first_rows : (n : ℕ) (all rows rest : List Row) → all ≡ rows ++ rest → length rows ≡ n → (rows ≡ take n all) × (rest ≡ drop n all)
 first_rows n all rows rest is long = grind (arith, common_steps, nat_tests)
 
-few_rows : (n : ℕ) (rows : List Row) → length rows ≤ n → (take n rows ≡ rows) × (drop n rows ≡ [])
-few_rows n [] few = (none_of_none n, none_left n)
-  where
-    none_of_none : (k : ℕ) → take {A = Row} k [] ≡ []
-    none_of_none k = grind (arith, common_steps, nat_tests)
-
-    none_left : (k : ℕ) → drop {A = Row} k [] ≡ []
-    none_left k = grind (arith, common_steps, nat_tests)
-few_rows zero (r ∷ rows) few = absurd (omega (arith, few))
-few_rows (suc n) (r ∷ rows) few = let rest = few_rows n rows (omega (arith, few)) in (ap (λ (l : List Row). r ∷ l) rest.0, rest.1)
-
 pub last_rows : (n : ℕ) (all rows rest : List Row) → all ≡ rows ++ rest → rest ≡ [] → length rows ≤ n → (rows ≡ take n all) × (rest ≡ drop n all)
 last_rows n all rows rest is ended few = grind (arith, common_steps, nat_tests)
 

@@ -10,10 +10,6 @@ use Rattle.blsm_model.proofs.HistoryLemmas.{counted_writes_push}
 use Rattle.script_text.proofs.PrintLemmas.{as_long}
 use Rattle.script_text.specs.Summary.{made_bound, most_quanta, quanta_of_write}
 
--- the heaviest write that is made is a put of 218 bytes: 13, a key of 6 and a text of 199
-bound_of_made : work_bound default_sizes (13 + 6 + 199) ≡ made_bound
-bound_of_made = refl
-
 max_none : (a : ℕ) → max a 0 ≡ max 0 a
 max_none a = omega arith
 

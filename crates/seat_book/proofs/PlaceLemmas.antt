@@ -13,12 +13,6 @@ use Rattle.tree_machine.specs.Steps.{is_write_by, last_write}
 use Rattle.seat_book.specs.Places.{HasWrite}
 use Rattle.seat_book.specs.State.{BookState, noted_in}
 
-suffix_push : (p : Entry → Bool) (es : List Entry) (e : Entry) → suffix_len p (es ++ e ∷ []) ≡ cond (p e) (1 + suffix_len p es) 0
-suffix_push p es e = ap (λ xs. prefix_len p xs) (reverse-append es (e ∷ []))
-
-place_is : (seat : ℕ) (es : List Entry) → last_write seat es ≡ length es - suffix_len (λ x. not (is_write_by seat x)) es - 1
-place_is seat es = length-take-le (length es - suffix_len (λ x. not (is_write_by seat x)) es - 1) es (omega arith)
-
 -- an entry that is such a write is the last, and after any other the place stays
 pub last_after : (seat : ℕ) (es : List Entry) (e : Entry) → last_write seat (es ++ e ∷ []) ≡ cond (is_write_by seat e) (length es) (last_write seat es)
 last_after seat es e = grind (arith, common_steps, nat_tests)

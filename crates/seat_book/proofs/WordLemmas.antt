@@ -33,15 +33,6 @@ reads_book m = record {
 
 -- ---- moves
 
-pass_swapped : (m : Machine) → book_of (swap_pass m) ≡ pass_counted_in (book_of m)
-pass_swapped m = grind (arith, common_steps, nat_tests)
-
-pass_taken : (seat : ℕ) (m : Machine) (pass : Option Merge) → IsTrue (is_some pass) → book_of (pass_quantum_of pass seat m) ≡ quantum_counted_in seat (book_of m)
-pass_taken seat m pass h1 = grind (arith, common_steps, nat_tests)
-
-deep_taken : (seat : ℕ) (m : Machine) (deep : Option Merge) → IsTrue (is_some deep) → book_of (deep_quantum_of deep seat m) ≡ quantum_counted_in seat (book_of m)
-deep_taken seat m deep h1 = grind (arith, common_steps, nat_tests)
-
 turn_is : (seat : ℕ) (m : Machine) (c : Choice) → Runs c m → book_of (chosen c seat m) ≡ chosen_in c seat (book_of m)
 turn_is seat m c h1 = grind (arith, common_steps, nat_tests)
 
@@ -66,10 +57,6 @@ moves_book m = record {
 }
 
 -- ---- steps
-
--- no turn changes a work
-chosen_works : (seat : ℕ) (c : Choice) (m : Machine) → (chosen c seat m).seats.work ≡ m.seats.work
-chosen_works seat c m = grind (arith, common_steps, nat_tests)
 
 turn_works : (c : Choice) (outcome : Outcome) (seat : ℕ) (m : Machine) → (do_turn c outcome seat m).state.seats.work ≡ m.seats.work
 turn_works c outcome seat m = grind (arith, common_steps, nat_tests)

@@ -14,10 +14,6 @@ use Rattle.tree_machine.specs.Layers.{AreLayered}
 use Rattle.tree_machine.proofs.FoldLemmas.{find-folded_over, sorted_folded_over}
 use Rattle.tree_machine.proofs.MapLemmas.{find-map_in}
 
--- each of the five lists is sorted
-abbrev pub AreAllSorted : Lists → Type 0
-AreAllSorted lists = AreSorted lists.b × AreSorted lists.a × AreSorted lists.c1 × AreSorted lists.c1x × AreSorted lists.c2
-
 -- a list by itself, as C2 of a tree that has nothing else
 alone : Entries → Lists
 alone es = record { b = []; a = []; c1 = []; c1x = []; c2 = es }
@@ -32,9 +28,5 @@ alone_layered es sorted = record { sorted_b = refl; sorted_a = refl; sorted_c1 =
 find-pairs : (es : Entries) → AreSorted es → (key : Key) → find key_cmp key (settled_pairs es) ≡ settled (record_of_key key es)
 unfolding alone no_merges
 find-pairs es sorted key = find-map_in (alone es) no_merges (alone_layered es sorted) key
-
--- the map of sorted lists has the value of each key
-find-map : (lists : Lists) → AreAllSorted lists → (key : Key) → find key_cmp key (map_in lists) ≡ value_in lists key
-find-map lists sorted key = grind (arith, common_steps, nat_tests, find-pairs, sorted_folded_over, find-folded_over)
 
 -- ---- the swaps, over lists alone

@@ -41,9 +41,6 @@ use Rattle.tree_machine.proofs.StandLemmas.{entry_of, IsReadyFor, note_stands, q
 
 -- ---- moves of the merges
 
-told_carries : (opening : List (Key × Value)) (m n : Machine) → IsTold opening m → Carries m n → IsTold opening n
-told_carries opening m n told c = grind (arith, common_steps, nat_tests)
-
 pub carries_stands : (opening : List (Key × Value)) (m n : Machine) → Stands opening m → Carries m n → Stands opening n
 carries_stands opening m n stands c = grind (arith, common_steps, nat_tests)
 

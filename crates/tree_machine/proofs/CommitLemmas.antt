@@ -25,21 +25,6 @@ use Rattle.tree_machine.specs.Laws.{IsVersion}
 
 -- ---- the merges' moves
 
-swap_deep_commits : (first : ℕ) (m : Machine) → in_deep m ≡ true → IsVersion first m → IsVersion first (swap_deep m)
-swap_deep_commits first m runs v = omega (arith, v, ap one_if runs)
-
-end_pass_commits : (first : ℕ) (m : Machine) → IsVersion first m → IsVersion first (end_pass m)
-end_pass_commits first m v = omega (arith, v)
-
-rotate_commits : (first : ℕ) (m : Machine) → IsVersion first m → IsVersion first (rotate m)
-rotate_commits first m v = grind (arith, common_steps, nat_tests)
-
-swap_pass_commits : (first : ℕ) (m : Machine) → IsVersion first m → IsVersion first (swap_pass m)
-swap_pass_commits first m v = grind (arith, common_steps, nat_tests)
-
-deep_swapped_commits : (first : ℕ) (m : Machine) → IsSound m → IsVersion first m → IsVersion first (deep_swapped m)
-deep_swapped_commits first m sound v = grind (arith, common_steps, nat_tests)
-
 ready_commits : (first weight : ℕ) (m : Machine) → IsSound m → IsVersion first m → IsVersion first (ready_for weight m)
 ready_commits first weight m sound v = grind (arith, common_steps, nat_tests)
 
@@ -83,20 +68,8 @@ admit_commits first m seat op outcome sound v =
 
 -- ---- payments and turns
 
-pass_quantum_commits : (first seat : ℕ) (m : Machine) → IsVersion first m → IsVersion first (pass_quantum seat m)
-pass_quantum_commits first seat m v = grind (arith, common_steps, nat_tests)
-
-deep_quantum_commits : (first seat : ℕ) (m : Machine) → IsVersion first m → IsVersion first (deep_quantum seat m)
-deep_quantum_commits first seat m v = grind (arith, common_steps, nat_tests)
-
 pay_commits : (first : ℕ) (m : Machine) (seat : ℕ) (outcome : Outcome) → IsVersion first m → IsVersion first (pay m seat outcome).state
 pay_commits first m seat outcome v = grind (arith, common_steps, nat_tests)
-
-chosen_commits : (may_begin may_rotate : Bool) (first seat : ℕ) (m : Machine) → IsSound m → IsVersion first m → IsVersion first (chosen (choice may_begin may_rotate m) seat m)
-chosen_commits may_begin may_rotate first seat m sound v = grind (arith, common_steps, nat_tests)
-
-turn_commits : (may_begin may_rotate : Bool) (first : ℕ) (m : Machine) (seat : ℕ) (outcome : Outcome) → IsSound m → IsVersion first m → IsVersion first (do_turn (choice may_begin may_rotate m) outcome seat m).state
-turn_commits may_begin may_rotate first m seat outcome h1 h2 = grind (arith, common_steps, nat_tests)
 
 work_turn_commits : (first : ℕ) (m : Machine) (seat : ℕ) (outcome : Outcome) → IsSound m → IsVersion first m → IsVersion first (work_turn m seat outcome).state
 work_turn_commits first m seat outcome sound v = grind (arith, common_steps, nat_tests)

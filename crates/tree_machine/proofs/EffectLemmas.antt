@@ -42,12 +42,6 @@ hold_leaves m seat low high outcome = grind (arith, common_steps, nat_tests)
 next_leaves : (m : Machine) (seat n : ℕ) (outcome : Outcome) → LeavesAll m seat (Next n) (next_rows m seat n outcome)
 next_leaves m seat n outcome = grind (arith, common_steps, nat_tests)
 
--- a place that has none is set to none
-none_again : (holds : List (Option (List Row))) (seat : ℕ) → slice_index_or holds seat None ≡ None → slice_set holds seat None ≡ holds
-none_again [] seat none = refl
-none_again (held ∷ holds) zero none = ap (λ h. h ∷ holds) (sym none)
-none_again (held ∷ holds) (suc seat) none = ap (λ hs. held ∷ hs) (none_again holds seat none)
-
 drop_leaves : (m : Machine) (seat : ℕ) → LeavesAll m seat Release (drop_hold m seat)
 drop_leaves m seat = grind (arith, common_steps, nat_tests)
 
@@ -65,15 +59,6 @@ quiet seat m n quanta merges = inl (record { quanta = quanta; pass = inl (ap (λ
 
 -- ---- what is made ready
 
-pass_still : (m : Machine) → (pass_done (deep_swapped m) ≡ pass_done m) × ((deep_swapped m).merges.pass ≡ m.merges.pass)
-pass_still m = grind (arith, common_steps, nat_tests)
-
-pass_after_swap : (n : Machine) → (pass_swapped n).merges.pass ≡ cond (pass_done n) None n.merges.pass
-pass_after_swap n = grind (arith, common_steps, nat_tests)
-
-pass_after_begin : (weight : ℕ) (n : Machine) → IsSound n → ((pass_begun_for weight n).merges.pass ≡ n.merges.pass) ⊎ ((n.merges.pass ≡ None) × ((pass_begun_for weight n).merges.pass ≡ Some begun))
-pass_after_begin weight n sound = grind (arith, common_steps, nat_tests)
-
 pass_stands : (weight : ℕ) (m : Machine) → IsSound m → HasWay m → MergeStands (pass_done m) m.merges.pass (ready_for weight m).merges.pass
 pass_stands weight m sound way = grind (arith, common_steps, nat_tests)
 
@@ -86,9 +71,6 @@ ready_quanta weight m = grind (arith, common_steps, nat_tests)
 
 ready_rests : (weight : ℕ) (m : Machine) → IsSound m → HasWay m → Rests m (ready_for weight m)
 ready_rests weight m sound way = record { quanta = ready_quanta weight m; pass = pass_stands weight m sound way; deep = deep_stands weight m sound way }
-
-deep_swapped_rests : (m : Machine) → Rests m (deep_swapped m)
-deep_swapped_rests m = grind (arith, common_steps, nat_tests)
 
 rests_on : (m n k : Machine) → k.seats.quanta ≡ n.seats.quanta → k.merges ≡ n.merges → Rests m n → Rests m k
 rests_on m n k quanta merges r = grind (arith, common_steps, nat_tests)
@@ -135,19 +117,10 @@ admit_works m seat op outcome sound way = unless m.stopped
 
 -- ---- a payment
 
-pass_quantum_works : (seat : ℕ) (m : Machine) → Works seat m (pass_quantum seat (forgive seat m))
-pass_quantum_works seat m = grind (arith, common_steps, nat_tests)
-
-deep_quantum_works : (seat : ℕ) (m : Machine) → Works seat m (deep_quantum seat (forgive seat m))
-deep_quantum_works seat m = grind (arith, common_steps, nat_tests)
-
 pay_works : (m : Machine) (seat : ℕ) (outcome : Outcome) → Works seat m (pay m seat outcome).state
 pay_works m seat outcome = grind (arith, common_steps, nat_tests)
 
 -- ---- a turn
-
-swap_pass_rests : (m : Machine) → pass_done m ≡ true → (c1_mark m.gears.sizes ≤ entries_weight (output_of m.merges.pass) → (deep_done m ≡ true) ⊎ (m.merges.deep ≡ None)) → Rests m (swap_pass m)
-swap_pass_rests m done free = grind (arith, common_steps, nat_tests)
 
 chosen_works : (may_begin may_rotate : Bool) (seat : ℕ) (m : Machine) → IsSound m → HasWay m → Works seat m (chosen (choice may_begin may_rotate m) seat m)
 chosen_works may_begin may_rotate seat m sound way = grind (arith, common_steps, nat_tests)

@@ -50,10 +50,6 @@ over_any_assoc (Some x) None z = refl
 over_any_assoc (Some x) (Some y) None = refl
 over_any_assoc (Some x) (Some y) (Some z) = ap (λ r. Some r) (fold_associative x y z)
 
--- over a settled base the value is that over the record itself
-pub settled_over_base : (x y : Option Rec) → settled (over_any x (as_base y)) ≡ settled (over_any x y)
-settled_over_base x y = grind (arith, common_steps, nat_tests)
-
 -- ---- a key below all of a list
 
 pub below_none : (key : Key) (es : Entries) → below_all key_cmp key es ≡ true → record_of_key key es ≡ None

@@ -56,20 +56,6 @@ pub record Apart (seat more : ℕ) (old new : Machine) : Type 0 where
   pub first : (other : ℕ) → other ≢ seat → slice_index new.gears.first_debts other ≤ slice_index old.gears.first_debts other
   pub second : (other : ℕ) → other ≢ seat → slice_index new.gears.second_debts other ≤ slice_index old.gears.second_debts other
 
-none_owed : (seat : ℕ) → slice_index (replicate callers 0) seat ≡ 0
-none_owed seat = of_replicate 16 seat 0
-
--- one number of a list is raised by one
-raised : (xs : List ℕ) (i : ℕ) → (sum xs ≤ sum (slice_set xs i (slice_index xs i + 1))) × (sum (slice_set xs i (slice_index xs i + 1)) ≤ sum xs + 1)
-raised [] i = (omega arith, omega arith)
-raised (x ∷ xs) zero = (omega (arith, sum_by-cons (λ n. n) x xs, sum_by-cons (λ n. n) (x + 1) xs), omega (arith, sum_by-cons (λ n. n) x xs, sum_by-cons (λ n. n) (x + 1) xs))
-raised (x ∷ xs) (suc i) = grind (arith, common_steps, nat_tests, raised xs i)
-
-raised_once : (xs : List ℕ) (i : ℕ) → slice_index (slice_set xs i (slice_index xs i + 1)) i ≤ slice_index xs i + 1
-raised_once [] i = omega arith
-raised_once (x ∷ xs) zero = omega arith
-raised_once (x ∷ xs) (suc i) = raised_once xs i
-
 -- A move that changes nothing of the seats, of what they hold and of their room, stops nothing, and raises no debt of the others.
 record IsAlike (old new : Machine) : Type 0 where
   pub fixed : (new.gears.sizes ≡ old.gears.sizes) × (new.counts.charge ≡ old.counts.charge) × (new.counts.faults ≡ old.counts.faults)
@@ -98,17 +84,11 @@ apart_more {a} {b} seat j k le p = grind (arith, common_steps, nat_tests)
 begin_apart : (seat : ℕ) (m : Machine) → Apart seat 0 m (begin_pass m)
 begin_apart seat m = grind (arith, common_steps, nat_tests)
 
-rotate_apart : (seat : ℕ) (m : Machine) → Apart seat 0 m (rotate m)
-rotate_apart seat m = grind (arith, common_steps, nat_tests)
-
 rotate_alone_apart : (seat : ℕ) (m : Machine) → Apart seat 0 m (rotate_alone m)
 rotate_alone_apart seat m = grind (arith, common_steps, nat_tests)
 
 swap_deep_apart : (seat : ℕ) (m : Machine) → Apart seat 0 m (swap_deep m)
 swap_deep_apart seat m = grind (arith, common_steps, nat_tests)
-
-end_pass_apart : (seat : ℕ) (m : Machine) → Apart seat 0 m (end_pass m)
-end_pass_apart seat m = grind (arith, common_steps, nat_tests)
 
 swap_pass_apart : (seat : ℕ) (m : Machine) → Apart seat 0 m (swap_pass m)
 swap_pass_apart seat m = grind (arith, common_steps, nat_tests)
@@ -149,15 +129,6 @@ note_apart seat op reply m = grind (arith, common_steps, nat_tests)
 pub stop_apart : (seat : ℕ) (cause : Why) (m : Machine) → m.stopped ≡ None → Apart seat 0 m (stop cause m)
 stop_apart seat cause m none = grind (arith, common_steps, nat_tests)
 
-either : (b : Bool) (x y z : ℕ) → x ≤ z → y ≤ z → cond b x y ≤ z
-either b x y z h1 h2 = grind (arith, common_steps, nat_tests)
-
-same_or_set : (b : Bool) (xs : List ℕ) (seat other n : ℕ) → other ≢ seat → slice_index (cond b (slice_set xs seat n) xs) other ≤ slice_index xs other
-same_or_set b xs seat other n h1 = grind (arith, common_steps, nat_tests)
-
-pub take_apart : (seat : ℕ) (w : Write) (m : Machine) → Apart seat 0 m (with_peak (take_write seat w m))
-take_apart seat w m = grind (arith, common_steps, nat_tests)
-
 pub forgive_apart : (seat : ℕ) (m : Machine) → Apart seat 0 m (forgive seat m)
 forgive_apart seat m = grind (arith, common_steps, nat_tests)
 
@@ -170,14 +141,6 @@ holding_apart seat rows m = grind (arith, common_steps, nat_tests)
 pub work_apart : (seat : ℕ) (work : WorkSoFar) (m : Machine) → Apart seat 0 m (work_noted seat work m)
 work_apart seat work m = grind (arith, common_steps, nat_tests)
 
--- a record whose other parts only are changed
-recounted_apart : (seat place quanta : ℕ) (m : Machine) → Apart seat 0 m (record m { book = counted_up m.book place quanta })
-recounted_apart seat place quanta m = same_apart seat m (record m { book = counted_up m.book place quanta }) (record { fixed = (refl, refl, refl); peak = omega arith; stopped = refl; seats = refl; holds = refl; room = refl }) (λ other apart. omega arith) (λ other apart. omega arith)
-
--- the swaps and the begin stop nothing
-deep_swapped_runs : (m : Machine) → m.stopped ≡ None → (deep_swapped m).stopped ≡ None
-deep_swapped_runs m none = grind (arith, common_steps, nat_tests)
-
 ready_runs : (weight : ℕ) (m : Machine) → m.stopped ≡ None → (ready_for weight m).stopped ≡ None
 ready_runs weight m none = grind (arith, common_steps, nat_tests)
 
@@ -189,9 +152,6 @@ noted_apart seat op reply m n p = apart_on seat 0 0 p (note_apart seat op reply 
 -- a step of a stopped tree, and else another
 unless_apart : (seat : ℕ) (op : Op) (m : Machine) (otherwise : Stepped) → (m.stopped ≡ None → Apart seat 0 m otherwise.state) → Apart seat 0 m (unless_stopped m.stopped seat op m otherwise).state
 unless_apart seat op m otherwise runs = grind (arith, common_steps, nat_tests)
-
-peak_apart : (seat : ℕ) (m : Machine) → Apart seat 0 m (with_peak m)
-peak_apart seat m = same_apart seat m (with_peak m) (record { fixed = (refl, refl, refl); peak = omega arith; stopped = refl; seats = refl; holds = refl; room = refl }) (λ other apart. omega arith) (λ other apart. omega arith)
 
 taken_apart : (seat : ℕ) (ws : List Write) (m : Machine) → Apart seat 0 m (with_peak (taken_once seat ws m))
 taken_apart seat ws m = grind (arith, common_steps, nat_tests)

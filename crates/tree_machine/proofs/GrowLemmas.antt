@@ -33,12 +33,6 @@ use Rattle.blsm_model.specs.declared.op.Write.{Write}
 
 -- ---- the merges note nothing
 
-swap_pass_book : (m : Machine) → (swap_pass m).book ≡ m.book
-swap_pass_book m = grind (arith, common_steps, nat_tests)
-
-pub deep_swapped_book : (m : Machine) → (deep_swapped m).book ≡ m.book
-deep_swapped_book m = grind (arith, common_steps, nat_tests)
-
 pub ready_book : (weight : ℕ) (m : Machine) → (ready_for weight m).book ≡ m.book
 ready_book weight m = grind (arith, common_steps, nat_tests)
 
@@ -47,9 +41,6 @@ pass_quantum_book seat m = grind (arith, common_steps, nat_tests)
 
 pub deep_quantum_book : (seat : ℕ) (m : Machine) → (deep_quantum seat m).book ≡ m.book
 deep_quantum_book seat m = grind (arith, common_steps, nat_tests)
-
-chosen_book : (c : Choice) (seat : ℕ) (m : Machine) → (chosen c seat m).book ≡ m.book
-chosen_book c seat m = grind (arith, common_steps, nat_tests)
 
 -- ---- each step
 
@@ -139,9 +130,6 @@ step_grows m seat kind.WorkerTurn outcome = inl (keeps m (worker_turning m.stopp
 step_grows m seat kind.Leave outcome = inl (refl, refl)
 
 -- ---- room
-
-lowered : (xs : List ℕ) (seat : ℕ) → 0 < slice_index xs seat → sum (slice_set xs seat (slice_index xs seat - 1)) + 1 ≡ sum xs
-lowered xs seat some = grind (arith, common_steps, nat_tests)
 
 grown : (seat : ℕ) (m n : Machine) → 0 < slice_index m.book.room.entries seat → Grows seat m n → length n.book.entries + sum n.book.room.entries ≡ length m.book.entries + sum m.book.room.entries
 grown seat m n h1 h2 = grind (arith, common_steps, nat_tests)

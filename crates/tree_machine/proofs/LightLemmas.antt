@@ -33,10 +33,6 @@ light_weighs (e ∷ es) light = (within_is_light e.0 e.1 light.0, light_weighs e
 pub write_is_light : (write : Write) → FitsFormat write → weight_of write ≤ most_weight
 write_is_light write fits = omega (arith, within_is_light (key_of write) (record_of write) fits.within, weight_of_record write)
 
--- a write of these lengths fits the format
-text_within : (write : Write) → length (text_written write) ≤ most_text → TailFits write → length (text_of (record_of write)) ≤ text_limit (record_of write)
-text_within write h1 h2 = grind (arith, common_steps, nat_tests)
-
 pub fits_format : (write : Write) → added_count write < 2 ^ 64 → (1 ≤ length (key_of write)) × (length (key_of write) ≤ most_key) → length (text_written write) ≤ most_text → TailFits write → FitsFormat write
 fits_format write count key text tail = grind (arith, common_steps, nat_tests)
 

@@ -36,23 +36,10 @@ settled_bases : (es : Entries) → AreBases (settled_entries es)
 settled_bases [] = tt
 settled_bases (e ∷ es) = grind (arith, common_steps, nat_tests, settled_bases es)
 
--- what weighs something isn't empty
-some_there : (es : Entries) → entries_weight es ≢ 0 → is_empty es ≡ false
-some_there es h1 = grind (arith, common_steps, nat_tests)
-
-settled_on : (m n : Machine) → n.lists.c2 ≡ m.lists.c2 → n.lists.c1x ≡ m.lists.c1x → in_deep n ≡ in_deep m → AreSettled m → AreSettled n
-settled_on m n c2 c1x deep s = grind (arith, common_steps, nat_tests)
-
 -- ---- the merges' moves
 
 swap_deep_settles : (m : Machine) → IsSound m → deep_done m ≡ true → AreSettled m → AreSettled (swap_deep m)
 swap_deep_settles m sound done s = grind (arith, common_steps, nat_tests, settled_bases, deep_output)
-
-rotate_settles : (m : Machine) → is_empty m.lists.c1 ≡ false → AreSettled m → AreSettled (rotate m)
-rotate_settles m some s = record { bases = s.bases; merging = λ runs. some }
-
-swap_pass_settles : (m : Machine) → 0 < c1_mark m.gears.sizes → AreSettled m → AreSettled (swap_pass m)
-swap_pass_settles m mark s = grind (arith, common_steps, nat_tests)
 
 deep_swapped_settles : (m : Machine) → IsSound m → AreSettled m → AreSettled (deep_swapped m)
 deep_swapped_settles m sound s = grind (arith, common_steps, nat_tests, swap_deep_settles)
@@ -72,9 +59,6 @@ ready_settles weight m sound mark s =
     swaps n b h1 h2 = grind (arith, common_steps, nat_tests)
 
 -- ---- an admission
-
-write_keeps : (pass : Option Merge) (key : Key) (rec : Rec) (lists : Lists) → ((with_write pass key rec lists).c2 ≡ lists.c2) × ((with_write pass key rec lists).c1x ≡ lists.c1x)
-write_keeps pass key rec lists = grind (arith, common_steps, nat_tests)
 
 taken_settles : (seat : ℕ) (op : Op) (n : Machine) → AreSettled n → AreSettled (with_peak (taken_once seat (writes_of op) n))
 taken_settles seat op n s = grind (arith, common_steps, nat_tests)
@@ -121,12 +105,6 @@ admit_settles m seat op outcome sound mark s =
     full false = fitting outcome
 
 -- ---- payments and turns
-
-pass_quantum_settles : (seat : ℕ) (m : Machine) → AreSettled m → AreSettled (pass_quantum seat m)
-pass_quantum_settles seat m s = grind (arith, common_steps, nat_tests)
-
-deep_quantum_settles : (seat : ℕ) (m : Machine) → AreSettled m → AreSettled (deep_quantum seat m)
-deep_quantum_settles seat m s = grind (arith, common_steps, nat_tests)
 
 pay_settles : (m : Machine) (seat : ℕ) (outcome : Outcome) → AreSettled m → AreSettled (pay m seat outcome).state
 pay_settles m seat outcome s = by m.stopped

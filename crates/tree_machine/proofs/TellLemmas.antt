@@ -65,9 +65,6 @@ Tells m seat outcome new = Quiet m seat outcome new ⊎ Stops m outcome new
 
 -- ---- what the merges' moves leave
 
-deep_swapped_stop : (m : Machine) → (deep_swapped m).stopped ≡ m.stopped
-deep_swapped_stop m = grind (arith, common_steps, nat_tests)
-
 ready_stop : (weight : ℕ) (m : Machine) → (ready_for weight m).stopped ≡ m.stopped
 ready_stop weight m = grind (arith, common_steps, nat_tests)
 
@@ -194,22 +191,6 @@ step_tells m seat kind.Leave outcome = still m seat outcome (leave m seat).state
 
 -- ---- faults
 
-abbrev lookups : List Entry → ℕ
-lookups entries = sum_by (λ e. one_if (is_failed_lookup e.op e.reply)) entries
-
-lookups_push : (es : List Entry) (e : Entry) → lookups (es ++ e ∷ []) ≡ lookups es + one_if (is_failed_lookup e.op e.reply)
-lookups_push es e = grind (arith, common_steps, nat_tests)
-
-one_at_most : (b : Bool) → one_if b ≤ 1
-one_at_most b = grind (arith, common_steps, nat_tests)
-
-one_where : (b c : Bool) → (b ≡ true → c ≡ true) → one_if b ≤ one_if c
-one_where b c h1 = grind (arith, common_steps, nat_tests)
-
--- a stop by a failed call
-cause_failed : (outcome : Outcome) (cause : Why) → IsCause outcome cause → one_if (is_faulted (Some cause)) ≤ one_if (is_failed outcome)
-cause_failed outcome cause h1 = grind (arith, common_steps, nat_tests)
-
 step_faults : (m : Machine) (seat : ℕ) (k : Kind) (outcome : Outcome) → faults_told (stepped_as m seat k outcome).state ≤ faults_told m + one_if (is_failed outcome)
 step_faults m seat k outcome = grind (arith, common_steps, nat_tests, step_tells, common_steps, nat_tests)
 
@@ -276,15 +257,8 @@ work_set : (works : List WorkSoFar) (seat : ℕ) (now : WorkSoFar) → is_bad_pa
     → (s : ℕ) → is_bad_page (slice_index_or (slice_set works seat now) s no_work).last ≡ false
 work_set works seat now sound were s = grind (arith, common_steps, nat_tests)
 
--- the works are a caller's, and only its turns and its end touch them
-deep_swapped_work : (m : Machine) → (deep_swapped m).seats.work ≡ m.seats.work
-deep_swapped_work m = grind (arith, common_steps, nat_tests)
-
 ready_work : (weight : ℕ) (m : Machine) → (ready_for weight m).seats.work ≡ m.seats.work
 ready_work weight m = grind (arith, common_steps, nat_tests)
-
-chosen_work : (c : Choice) (seat : ℕ) (m : Machine) → (chosen c seat m).seats.work ≡ m.seats.work
-chosen_work c seat m = grind (arith, common_steps, nat_tests)
 
 turn_work : (c : Choice) (outcome : Outcome) (seat : ℕ) (m : Machine) → (do_turn c outcome seat m).state.seats.work ≡ m.seats.work
 turn_work c outcome seat m = grind (arith, common_steps, nat_tests)
@@ -411,10 +385,6 @@ played_stays m (made ∷ steps) cause is = played_stays (played_one m made) step
   where
     by : (b : Bool) → (cond b (stepped m made.0 made.1).state m).stopped ≡ Some cause
     by b = grind (arith, common_steps, nat_tests)
-
-abbrev count_of : Option Why → ℕ
-count_of (Some (why.Faulted faults)) = faults
-count_of _ = 0
 
 pub stops_name_more : StopsNameMore
 stops_name_more m old new faults [] told none is = absurd (some_or_none m.stopped (why.Faulted faults) is none)

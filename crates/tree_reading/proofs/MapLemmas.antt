@@ -14,9 +14,6 @@ use Rattle.tree_reading.proofs.WalkLemmas.{same_or_not}
 pub none_has : (pages k : ℕ) → IsIn (none_of pages) k → ⊥
 none_has pages k has = grind (arith, common_steps, nat_tests)
 
-nothing_has : (k : ℕ) → IsIn [] k → ⊥
-nothing_has k has = false≢true has
-
 some_none : (n pages i k : ℕ) → IsIn (slice_index_or (replicate n (none_of pages)) i []) k → ⊥
 some_none n pages i k has = grind (arith, common_steps, nat_tests)
 

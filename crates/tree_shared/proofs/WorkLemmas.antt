@@ -32,9 +32,6 @@ use Rattle.tree_shared.proofs.NoteLemmas.{still_even}
 pub may_turn_by : (seat done : ℕ) (held : Held) (p : Part) → seat < callers → Eases p ((facts_of_held held).part seat) → p.turns ≡ done → done < most_turns → may_turn_in seat held.book ≡ true
 may_turn_by seat done held p below eases turns few = grind (arith, common_steps, nat_tests)
 
-finished_by : (n : ℕ) (work : WorkSoFar) → ((work.turns ≡ n) ⊎ ((0 < work.turns) × (work.turns < n) × (is_worked work.last ≡ false))) → is_finished n work ≡ true
-finished_by n work one = grind (arith, common_steps, nat_tests)
-
 pub may_end_by : (seat n rows : ℕ) (halted : Bool) (held : Held) (p : Part) → seat < callers → Eases p ((facts_of_held held).part seat) → IsFinished n 1 rows halted p → may_end_in seat n held.book ≡ true
 may_end_by seat n rows halted held p below eases finished = grind (arith, common_steps, nat_tests)
 
