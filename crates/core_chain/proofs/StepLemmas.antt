@@ -56,12 +56,12 @@ link_steps state opening seat k old new m pace call honest whole =
     let goes = (goes_of state seat k old new call).1 in
     let is = goes.steps opening m pace honest whole in
     record {
-      outcome = is.step.outcome;
-      may = may_agrees seat k old.held m whole.stands.book whole.stands.gears ∙ goes.may;
-      possible = is.step.possible;
-      whole = is.step.whole;
-      stands = record { stands = is.step.stands; rows = is.rows };
-      images = is.step.images;
+      outcome = is.outcome;
+      may = may_agrees seat k old.held m whole.book whole.gears ∙ goes.may;
+      possible = is.possible;
+      whole = is.whole;
+      stands = is.stands;
+      images = is.images;
     }
 
 -- ---- how it calls the disk
@@ -70,11 +70,11 @@ link_steps state opening seat k old new m pace call honest whole =
 few_calls : {D : Type 0} (state : D → DiskState) (opening : List (Key × Value)) (seat : ℕ) (k : Kind) (old new : CoreState D) (m : Machine) (pace : Pace) → IsCall state seat k old new → IsCore old.held (state old.disk) → IsTrue (state old.disk).is_honest
     → StandsWhole state opening old m pace → (state new.disk).clock ≤ (state old.disk).clock + calls_of m.gears.sizes (swaps_due m) k
 few_calls {D} state opening seat k old new m pace call keeps honest whole =
-    subst (λ (s : Sizes). (state new.disk).clock ≤ (state old.disk).clock + calls_of s (swaps_due m) k) (sym whole.stands.sizes) (by old.held.book.stopped refl)
+    subst (λ (s : Sizes). (state new.disk).clock ≤ (state old.disk).clock + calls_of s (swaps_due m) k) (sym whole.sizes) (by old.held.book.stopped refl)
   where
     by : (o : Option Why) → old.held.book.stopped ≡ o → (state new.disk).clock ≤ (state old.disk).clock + calls_of old.held.runs.sizes (swaps_due m) k
     by None runs =
-        subst (λ (n : ℕ). (state new.disk).clock ≤ (state old.disk).clock + calls_of old.held.runs.sizes n k) (sym (due_agree opening old.held m pace (state old.disk) whole.stands keeps runs)) (link_reaches state seat k old new call).calls
+        subst (λ (n : ℕ). (state new.disk).clock ≤ (state old.disk).clock + calls_of old.held.runs.sizes n k) (sym (due_agree opening old.held m pace (state old.disk) whole keeps runs)) (link_reaches state seat k old new call).calls
     by (Some why) is = let same = ap (λ (d : D). (state d).clock) (link_rests state seat k old new call (subst (λ (o : Option Why). IsSome o) (sym is) refl)) in omega (arith, same)
 
 abbrev turned_in : Answer → Turned
@@ -88,7 +88,7 @@ closed_ends stopped m seat outcome = grind (arith, common_steps, nat_tests)
 closed_rests : {D : Type 0} (state : D → DiskState) (opening : List (Key × Value)) (seat : ℕ) (k : Kind) (old new : CoreState D) (m : Machine) (pace : Pace) → IsCall state seat k old new → IsTrue (state old.disk).is_honest
     → StandsWhole state opening old m pace → is_closed m ≡ true → is_help k ≡ true → new.disk ≡ old.disk
 closed_rests state opening seat kind.WorkerTurn old new m pace call honest whole closed helps =
-    let step = (call.1.goes.steps opening m pace honest whole).step in
+    let step = call.1.goes.steps opening m pace honest whole in
     let ended : call.0 ≡ (worker_turning m.stopped (is_closed m) m seat step.outcome).ended = ap turned_in step.answers in
     call.1.untouched (subst (λ (t : Turned). TurnsNone t) (sym ended) (subst (λ (b : Bool). TurnsNone (worker_turning m.stopped b m seat step.outcome).ended) (sym closed) (closed_ends m.stopped m seat step.outcome)))
 closed_rests state opening seat (kind.Admit op) old new m pace call honest whole closed helps = absurd (false≢true helps)
@@ -129,7 +129,7 @@ module _ {D : Type 0} (state : D → DiskState) (opening : List (Key × Value)) 
     images = shows;
     moments = λ k t c late left.
         subst (λ (es : List Entry). ShowsHistory m.gears.sizes opening start.held.book.book.entries (length es) c) (sym (same k))
-        (subst (λ (es : List Entry). ShowsHistory m.gears.sizes opening es (length m.book.entries) c) (ap (λ (b : BookState). b.book.entries) whole.stands.book)
+        (subst (λ (es : List Entry). ShowsHistory m.gears.sizes opening es (length m.book.entries) c) (ap (λ (b : BookState). b.book.entries) whole.book)
         (shows.each c (timed.since_earlier (state start.disk).clock t c (early k late) left)));
   }
     where
@@ -192,7 +192,7 @@ module _ {D : Type 0} (state : D → DiskState) (opening : List (Key × Value)) 
 
   -- the history in the end is the core's
   entries_are : (played next (outcomes_in rest.made)).book.entries ≡ end.held.book.book.entries
-  entries_are = ap (λ (b : BookState). b.book.entries) rest.stands.stands.book
+  entries_are = ap (λ (b : BookState). b.book.entries) rest.stands.book
 
   images_all : LeavesOnly (state start.disk) (state end.disk) (ShowsHistory m.gears.sizes opening (played next (outcomes_in rest.made)).book.entries (length m.book.entries))
   images_all =

@@ -1,10 +1,11 @@
 -- What a crash leaves while a script is run: a front of its history, which has the entries of the steps that had ended.
-use Rattle.std.proofs.Common.{◌≡◌, ◌∙◌, ℕ, List, [], ◌++◌, inl, inr, ⊎_elim, take, length, refl, ap, sym, subst, arith}
+use Rattle.std.proofs.Common.{◌≡◌, ◌∙◌, ℕ, Option, List, [], ◌++◌, inl, inr, ⊎_elim, take, length, refl, ap, sym, subst, arith}
 use mathlib.Core.List.{IsPrefix}
 use Rattle.blsm_model.specs.Images.{Shows}
 use Rattle.blsm_model.specs.Sizes.{Sizes}
 use Rattle.blsm_model.specs.declared.history.Entry.{Entry}
 use Rattle.blsm_model.specs.declared.key.Key.{Key}
+use Rattle.blsm_model.specs.declared.row.Row.{Row}
 use Rattle.blsm_model.specs.declared.row.Value.{Value}
 use Rattle.disk_trait.specs.Disk.{DiskState}
 use Rattle.disk_trait.specs.Moments.{IsOldOr, IsTimed, LeavesOnly, LeavesOnlyOnceSynced, SyncsLater, leaves_only_run, leaves_only_weaken, once_synced_more, once_synced_weaken}
@@ -36,7 +37,7 @@ record ShowsAll (sizes : Sizes) (opening : List (Key × Value)) (history : List 
   each : (c : List ℕ) → d.images c → ShowsHistory sizes opening history (length history) c
 
 -- a core that stands for a state of the machine shows the whole of what it noted
-shows_all : (sizes : Sizes) (opening : List (Key × Value)) (held : Held) (m : Machine) (pace : Pace) (d : DiskState) → held.runs.sizes ≡ sizes → StandsFor opening held m pace d
+shows_all : {Rows : List (Option (List Row)) → Type 0} (sizes : Sizes) (opening : List (Key × Value)) (held : Held) (m : Machine) (pace : Pace) (d : DiskState) → held.runs.sizes ≡ sizes → StandsFor Rows opening held m pace d
     → ShowsAll sizes opening held.book.book.entries d
 shows_all sizes opening held m pace d same s =
     let shown = shows_now opening held m pace d s in
@@ -66,24 +67,24 @@ module _ {D : Type 0} (state : D → DiskState) (timed : (d : D) → IsTimed (st
   entries = new.held.book.book.entries
 
   end : ShowsAll sizes opening entries (state new.disk)
-  end = shows_all sizes opening new.held (played m (outcomes_in steps.made)) (paced_all m pace (outcomes_in steps.made)) (state new.disk) sizes_stand steps.stands.stands
+  end = shows_all sizes opening new.held (played m (outcomes_in steps.made)) (paced_all m pace (outcomes_in steps.made)) (state new.disk) sizes_stand steps.stands
 
   noted : (played m (outcomes_in steps.made)).book.entries ≡ entries
-  noted = ap (λ (b : BookState). b.book.entries) steps.stands.stands.book
+  noted = ap (λ (b : BookState). b.book.entries) steps.stands.book
 
   none_before : length m.book.entries ≡ 0
-  none_before = ap (λ (b : BookState). length b.book.entries) whole.stands.book ∙ ap (λ (es : List Entry). length es) none
+  none_before = ap (λ (b : BookState). length b.book.entries) whole.book ∙ ap (λ (es : List Entry). length es) none
 
   any : LeavesOnly (state old.disk) (state new.disk) (ShowsHistory sizes opening entries 0)
   any =
-      subst (λ (z : Sizes). LeavesOnly (state old.disk) (state new.disk) (ShowsHistory z opening entries 0)) whole.stands.sizes
+      subst (λ (z : Sizes). LeavesOnly (state old.disk) (state new.disk) (ShowsHistory z opening entries 0)) whole.sizes
       (subst (λ (n : ℕ). LeavesOnly (state old.disk) (state new.disk) (ShowsHistory m.gears.sizes opening entries n)) none_before
       (subst (λ (es : List Entry). LeavesOnly (state old.disk) (state new.disk) (ShowsHistory m.gears.sizes opening es (length m.book.entries))) noted steps.images))
 
   -- a file that reads as the map of the opening
   from_opening : (c : List ℕ) → ReadsAsMap sizes opening c → ShowsHistory sizes opening entries 0 c
   from_opening c reads =
-      let shows = shows_all sizes opening old.held m pace (state old.disk) refl whole.stands in
+      let shows = shows_all sizes opening old.held m pace (state old.disk) refl whole in
       let grows : IsPrefix old.held.book.book.entries entries = (entries, ap (λ (es : List Entry). es ++ entries) none) in
       shows_opening sizes opening entries 0 (state old.disk).bytes c
       (showing_is_kept sizes opening old.held.book.book.entries entries (length old.held.book.book.entries) 0 (state old.disk).bytes grows (omega arith) shows.reads) keeps.reads reads
@@ -96,7 +97,7 @@ module _ {D : Type 0} (state : D → DiskState) (timed : (d : D) → IsTimed (st
     timed = steps.timed;
     rests = steps.rests;
     shows = λ n t c late left.
-        subst (λ (z : Sizes). ShowsHistory z opening run.entries (length (played m (take n (outcomes_in steps.made))).book.entries) c) whole.stands.sizes
+        subst (λ (z : Sizes). ShowsHistory z opening run.entries (length (played m (take n (outcomes_in steps.made))).book.entries) c) whole.sizes
         (subst (λ (es : List Entry). ShowsHistory m.gears.sizes opening es (length (played m (take n (outcomes_in steps.made))).book.entries) c) (sym is) (steps.moments n t c late left));
   }
 

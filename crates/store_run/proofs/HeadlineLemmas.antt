@@ -35,9 +35,9 @@ use Rattle.seat_book.specs.Seats.{turns_in}
 use Rattle.seat_book.specs.State.{BookState, book_of, totals_in}
 use Rattle.tree_core.specs.Core.{CoreState}
 use Rattle.tree_core.specs.Holds.{StandsWhole}
-use Rattle.tree_core.specs.Standing.{RunsOver, StandsFor}
+use Rattle.tree_core.specs.Standing.{AnyRows, RunsOver, StandsFor}
 use Rattle.tree_core.specs.Steps.{IsPlayed}
-use Rattle.tree_core.proofs.QuietLemmas.{shows_now}
+use Rattle.tree_core.proofs.QuietLemmas.{shows_now, with_rows}
 use Rattle.tree_file.specs.Tree.{HoldsTree, components_weight}
 use Rattle.tree_machine.specs.declared.step.Step.{Step}
 use Rattle.tree_machine.specs.Laws.{StepKeepsOpening}
@@ -91,7 +91,7 @@ opened_finds_none sizes c1 c2 catalogue faults room = record {
 
 -- The core stands for this state of the machine in the end, which was reached from the opening; and no page was found damaged on the way.
 pub record Ends (opening : List (Key × Value)) (held : Held) (first : Machine) (m : Machine) (pace : Pace) (d : DiskState) : Type 0 where
-  pub stands : StandsFor opening held m pace d
+  pub stands : StandsFor AnyRows opening held m pace d
   pub kept : KeepsOpening first m
   pub none : FindsNone m
 
@@ -145,7 +145,7 @@ ends_of : StepKeepsOpening → NoneDamaged → {D : Type 0} (state : D → DiskS
     → (play : IsPlayed state opening steps old new (opened sizes c1 c2 catalogue faults room) pace)
     → Ends opening new.held (opened sizes c1 c2 catalogue faults room) (played (opened sizes c1 c2 catalogue faults room) play.made) (paced_all (opened sizes c1 c2 catalogue faults room) pace play.made) (state new.disk)
 ends_of keeps damaged state opening sizes c1 c2 catalogue faults room pace steps old new play = record {
-  stands = play.stands.stands;
+  stands = with_rows opening new.held _ _ _ (λ runs. tt) play.stands;
   kept = played_keeps keeps (opened sizes c1 c2 catalogue faults room) play.made;
   none = damaged (opened sizes c1 c2 catalogue faults room) play.made (opened_finds_none sizes c1 c2 catalogue faults room) play.whole;
 }
@@ -169,7 +169,7 @@ state_in held m pace d sizes same over = record {
 }
 
 reached_of : {D : Type 0} (state : D → DiskState) (sizes : Sizes) (opening : List (Key × Value)) (c1 c2 : Entries) (catalogue : Catalogue) (faults : ℕ) (room : Room) (pace : Pace) (steps : List Step) (old new : CoreState D)
-    → old.held.runs.sizes ≡ sizes → old.held.book.stopped ≡ None → StandsFor opening old.held (opened sizes c1 c2 catalogue faults room) pace (state old.disk) → faults ≡ (state old.disk).faults
+    → old.held.runs.sizes ≡ sizes → old.held.book.stopped ≡ None → StandsWhole state opening old (opened sizes c1 c2 catalogue faults room) pace → faults ≡ (state old.disk).faults
     → (play : IsPlayed state opening steps old new (opened sizes c1 c2 catalogue faults room) pace)
     → IsReached sizes opening (run_at (charge_in old.held) new.held) room (state old.disk).bytes faults (state new.disk).faults
 reached_of state sizes opening c1 c2 catalogue faults room pace steps old new of_sizes ran stands same play =
@@ -186,9 +186,9 @@ reached_of state sizes opening c1 c2 catalogue faults room pace steps old new of
       told = subst (λ (n : ℕ). AreTold first n play.made (state new.disk).faults) (sym same) play.told;
       end = played first play.made;
       leads = refl;
-      entries = ap (λ (b : BookState). b.book.entries) play.stands.stands.book;
-      quanta = ap (λ (b : BookState). b.book.quanta) play.stands.stands.book;
-      totals_are = totals_of new.held (played first play.made) play.stands.stands.sizes play.stands.stands.charge_is play.stands.stands.book;
+      entries = ap (λ (b : BookState). b.book.entries) play.stands.book;
+      quanta = ap (λ (b : BookState). b.book.quanta) play.stands.book;
+      totals_are = totals_of new.held (played first play.made) play.stands.sizes play.stands.charge_is play.stands.book;
     }
 
 -- what stands in the end, if the store runs
@@ -213,7 +213,7 @@ served_from keeps damaged {D} state room lines first old new c1 c2 catalogue pac
     let machine = machine_of state room old c1 c2 catalogue in
     let since = session.run.since in
     let ends = ends_of keeps damaged state opens.pairs sizes c1 c2 catalogue before.faults room pace steps old new play in
-    let weigh = opened_charge sizes c1 c2 catalogue before.faults room old.held whole.stands.charge_is in
+    let weigh = opened_charge sizes c1 c2 catalogue before.faults room old.held whole.charge_is in
     record {
       opening = opens.pairs;
       found = record { reads = opens.reads; image = opens.image; holds = opens.holds; taken = opens.taken };
@@ -225,7 +225,7 @@ served_from keeps damaged {D} state room lines first old new c1 c2 catalogue pac
       calls = session.calls;
       goes_on = since.goes_on;
       calm = session.calm;
-      reached = reached_of state sizes opens.pairs c1 c2 catalogue before.faults room pace steps old new refl session.ran whole.stands refl play;
+      reached = reached_of state sizes opens.pairs c1 c2 catalogue before.faults room pace steps old new refl session.ran whole refl play;
       within = ended_of opens.pairs new.held machine _ _ after sizes (charge_in old.held) since.sizes weigh ends;
       commits = committed_of opens.pairs new.held machine _ _ after sizes since.sizes ends;
       stands = λ runs. stands_of opens.pairs new.held machine _ _ after sizes since.sizes ends runs;
@@ -274,7 +274,7 @@ its_steps (one ∷ made) = ap (λ (ss : List Step). one.0 ∷ ss) (its_steps mad
 
 -- how they ended is told of the machine as of the core
 ended_as : {D : Type 0} (state : D → DiskState) (opening : List (Key × Value)) (lines : List Line) (workers turns : ℕ) (old new : CoreState D) (m : Machine) (pace : Pace)
-    → RunsAll state lines workers turns old new → StandsFor opening new.held m pace (state new.disk) → HaveEnded workers turns m.gears (book_of m)
+    → RunsAll state lines workers turns old new → StandsWhole state opening new m pace → HaveEnded workers turns m.gears (book_of m)
 ended_as state opening lines workers turns old new m pace runs stands =
     subst (λ (g : GearState). HaveEnded workers turns g (book_of m)) (sym stands.gears)
     (subst (λ (b : BookState). HaveEnded workers turns new.held.gears b) (sym stands.book) (came_to_end state lines workers turns old new runs))
@@ -293,7 +293,7 @@ headline_from keeps damaged law {D} state timed room lines workers turns first o
     let machine = machine_of state room old c1 c2 catalogue in
     let play = as_played state opens.pairs runs.came.calls old new machine pace steps in
     let served = served_from keeps damaged state room lines first old new c1 c2 catalogue pace session whole (map (λ one. one.0) (outcomes_in steps.made)) play in
-    let ended = ended_as state opens.pairs lines workers turns old new _ _ runs steps.stands.stands in
+    let ended = ended_as state opens.pairs lines workers turns old new _ _ runs steps.stands in
     record {
       served = served;
       ended = ended;

@@ -41,7 +41,7 @@ use Rattle.tree_core.specs.Answers.{reply_to_write}
 use Rattle.tree_core.specs.Calls.{Admits}
 use Rattle.tree_core.specs.Causes.{AdmitsBecause, HasBegun, calls_to_admit}
 use Rattle.tree_core.specs.Core.{CoreState, HoldsPace, IsCore}
-use Rattle.tree_core.specs.Standing.{StandsFor}
+use Rattle.tree_core.specs.Standing.{AnyRows, StandsFor}
 use Rattle.tree_core.specs.Steps.{IsStep, may_in}
 use Rattle.tree_core.specs.Taking.{Takes, TakesOver}
 use Rattle.tree_core.specs.declared.admission.Taking.{Taking}
@@ -62,7 +62,7 @@ room_for b seat op h1 begun = grind (arith, common_steps, nat_tests)
 
 module _ {D : Type 0} (state : D → DiskState) (seat : ℕ) (op : Op) (old : CoreState D) (core : IsCore old.held (state old.disk)) (timed : IsTimed (state old.disk)) (can : may_in old.held seat (kind.Admit op) ≡ true)
     (room : may_note_in seat 0 old.held.book ≡ true) (fits : WritesFit (kind.Admit op)) where
-  asked_by : (opening : List (Key × Value)) (m : Machine) (pace : Pace) → IsTrue (state old.disk).is_honest → StandsFor opening old.held m pace (state old.disk) → may m seat (kind.Admit op) ≡ true → IsAsked opening seat op old.held m pace (state old.disk)
+  asked_by : (opening : List (Key × Value)) (m : Machine) (pace : Pace) → IsTrue (state old.disk).is_honest → StandsFor AnyRows opening old.held m pace (state old.disk) → may m seat (kind.Admit op) ≡ true → IsAsked opening seat op old.held m pace (state old.disk)
   asked_by opening m pace honest s ok = record { honest = honest; timed = timed; stands = s; may = ok; fits = fits }
 
   -- ---- only an entry is noted
@@ -71,7 +71,7 @@ module _ {D : Type 0} (state : D → DiskState) (seat : ℕ) (op : Op) (old : Co
       → AdmitsBecause answer seat op old.held (with_book (noted_in seat op (reply_to_write answer) old.held.book) old.held) (state old.disk) (state old.disk)
       → HasBegun answer old.held (with_book (noted_in seat op (reply_to_write answer) old.held.book) old.held)
       → ((opening : List (Key × Value)) (m : Machine) (pace : Pace) → IsAsked opening seat op old.held m pace (state old.disk)
-      → IsStep opening seat (kind.Admit op) (Replied (reply_to_write answer)) (with_book (noted_in seat op (reply_to_write answer) old.held.book) old.held) (state old.disk) (state old.disk) m pace)
+      → IsStep AnyRows opening seat (kind.Admit op) (Replied (reply_to_write answer)) (with_book (noted_in seat op (reply_to_write answer) old.held.book) old.held) (state old.disk) (state old.disk) m pace)
       → Admits state seat op answer old (record old { held = with_book (noted_in seat op (reply_to_write answer) old.held.book) old.held })
   refuses answer made undone has because begun steps =
       let reply = reply_to_write answer in
@@ -106,7 +106,7 @@ module _ {D : Type 0} (state : D → DiskState) (seat : ℕ) (op : Op) (old : Co
     -- how it was taken says what it left
     abbrev LeavesOver : Taking → Type 0
     LeavesOver taking =
-        (opening : List (Key × Value)) (m : Machine) (pace : Pace) → IsTrue (state old.disk).is_honest → StandsFor opening old.held m pace (state old.disk) → old.held.book.stopped ≡ None → may m seat (kind.Admit op) ≡ true → WritesFit (kind.Admit op)
+        (opening : List (Key × Value)) (m : Machine) (pace : Pace) → IsTrue (state old.disk).is_honest → StandsFor AnyRows opening old.held m pace (state old.disk) → old.held.book.stopped ≡ None → may m seat (kind.Admit op) ≡ true → WritesFit (kind.Admit op)
         → TakesOver taking opening seat op m pace new (state old.disk) (state disk)
 
     pub admit_taken : is_write op ≡ true → Takes Taken seat (key_of write) (record_of write) old.held new (state disk) → (state disk).faults ≡ (state old.disk).faults → LeavesOver Taken → b ≡ noted_in seat op Done new.book

@@ -1,8 +1,8 @@
 -- What an admission leaves to the other seats.
-use Rattle.std.specs.Prelude.{is_some, slice_index, slice_set, nat_lt}
+use Rattle.std.specs.Prelude.{is_some, slice_index, nat_lt}
 use Rattle.std.proofs.lemmas.Grind.{common_steps}
 use Rattle.std.proofs.lemmas.Bool.Decides.{nat_tests}
-use Rattle.std.proofs.Common.{◌≡◌, ◌≢◌, ⊎_elim, ℕ, ◌+◌, ◌≤◌, Bool, true, false, cond, not, ◌&&◌, List, replicate, sym, subst, arith}
+use Rattle.std.proofs.Common.{◌≡◌, ◌≢◌, ⊎_elim, ℕ, ◌+◌, ◌≤◌, Bool, true, false, cond, not, ◌&&◌, replicate, sym, subst, arith}
 use Rattle.blsm_model.specs.Facts.{Follows}
 use Rattle.blsm_model.specs.Format.{callers}
 use Rattle.blsm_model.specs.declared.key.Key.{Key}
@@ -11,7 +11,7 @@ use Rattle.blsm_model.specs.declared.history.Why.{Why}
 use Rattle.blsm_model.specs.declared.history.Reply.{Reply}
 use Rattle.blsm_model.specs.declared.history.Reply.TheVariants.{Done}
 use Rattle.disk_trait.specs.Disk.{DiskState}
-use Rattle.gear_sched.specs.Gears.{GearState, first_debt, second_debt, entered, passing, pass_ended, rotated, deep_ended}
+use Rattle.gear_sched.specs.Gears.{GearState, first_debt, second_debt, entered, pass_ended, rotated}
 use Rattle.record_delta.specs.declared.record.Rec.{Rec}
 use Rattle.seat_book.specs.State.{BookState, noted_in, stopped_in}
 use Rattle.seat_book.specs.Seats.{KeepsSeats}
@@ -53,20 +53,11 @@ record Eases (seat : ℕ) (old new : GearState) : Type 0 where
 none_owed : (seat : ℕ) → slice_index (replicate callers 0) seat ≡ 0
 none_owed seat = of_replicate 16 seat 0
 
-deep_end_eases : (seat : ℕ) (gears : GearState) → Eases seat gears (deep_ended gears)
-deep_end_eases seat gears = record { first = λ other apart. omega arith; second = λ other apart. omega (arith, none_owed other) }
-
 pass_end_eases : (seat : ℕ) (gears : GearState) → Eases seat gears (pass_ended gears)
 pass_end_eases seat gears = record { first = λ other apart. omega (arith, none_owed other); second = λ other apart. omega arith }
 
 rotated_pass_eases : (seat input : ℕ) (gears : GearState) → Eases seat gears (rotated (pass_ended gears) input)
 rotated_pass_eases seat input gears = record { first = λ other apart. omega (arith, none_owed other); second = λ other apart. omega (arith, none_owed other) }
-
-begin_eases : (seat c1 memory : ℕ) (gears : GearState) → Eases seat gears (passing gears c1 memory)
-begin_eases seat c1 memory gears = record { first = λ other apart. omega (arith, none_owed other); second = λ other apart. omega arith }
-
-same_or_set : (b : Bool) (xs : List ℕ) (seat other n : ℕ) → other ≢ seat → slice_index (cond b (slice_set xs seat n) xs) other ≤ slice_index xs other
-same_or_set b xs seat other n h1 = grind (arith, common_steps, nat_tests)
 
 entry_eases : (seat w : ℕ) (gears : GearState) → Eases seat gears (entered gears seat w)
 entry_eases seat w gears = grind (arith, common_steps, nat_tests)

@@ -2,8 +2,8 @@
 use Rattle.std.specs.Prelude.{◌<◌}
 use Rattle.std.proofs.lemmas.Grind.{common_steps}
 use Rattle.std.proofs.lemmas.Bool.Decides.{nat_tests}
-use Rattle.std.proofs.Common.{arith}
-use Rattle.std.proofs.Common.{◌≡◌, ◌∙◌, ⊎_elim, inl, inr, ℕ, ◌+◌, ◌≤◌, Bool, true, false, cond, [], ◌∷◌, None, Some, Option, refl, ap, sym, subst}
+use Rattle.std.proofs.Common.{arith, []}
+use Rattle.std.proofs.Common.{◌≡◌, ◌∙◌, ⊎_elim, inl, inr, ℕ, ◌+◌, ◌≤◌, Bool, true, false, cond, ◌∷◌, None, Some, Option, refl, ap, sym, subst}
 use Rattle.std.proofs.lemmas.Bool.{false≢true}
 use Rattle.std.proofs.lemmas.Option.{none-some}
 use Rattle.blsm_model.specs.Geometry.{charge_limit}
@@ -37,11 +37,11 @@ use Rattle.core_pace.specs.Calls.{KeepsBook}
 use Rattle.core_pace.specs.Events.{MayWrite, IsBetween}
 use Rattle.core_pace.proofs.EventLemmas.{deep_keeps, settled_between, moves_are_told, admission_is_paced, entry_is_told, stop_is_told}
 use Rattle.core_pace.proofs.CallLemmas.{paced_is_between, moves_keep_book}
-use Rattle.core_pace.proofs.MadeLemmas.{entry_is_paced}
 use Rattle.tree_core.specs.declared.admission.Taking.TheVariants.{Taken, Failed}
 use Rattle.tree_core.specs.Core.{IsTold, HoldsPace}
 use Rattle.tree_core.specs.Steps.{MovesPace}
 use Rattle.tree_core.specs.Taking.{Takes}
+use Rattle.tree_core.proofs.QuietLemmas.{read_holds}
 use Rattle.tree_core.proofs.TakingLemmas.{begun_keeps, weighs}
 
 charge_of : (held : Held) (pace : Pace) → HasPace held pace → charge pace ≡ charge_in held
@@ -52,28 +52,12 @@ charge_of held pace p = cc (p.c1, p.c1x, p.c2, p.gears, p.a, p.b)
 told_of : (held : Held) (b : BookState) (pace : Pace) → IsBetween held pace → b.counts ≡ held.book.counts → IsRunBook b pace → IsTold (with_book b held) pace
 told_of held b pace between same told = grind (arith, common_steps, nat_tests)
 
--- an entry that is no write that was done
-pub quiet_holds : (seat : ℕ) (op : Op) (reply : Reply) (held : Held) (pace : Pace) (d : DiskState) → (is_done reply ≡ true → is_write op ≡ false)
-    → HasRoom held.book.book.room (record { seat = seat; op = op; reply = reply }) → HoldsPace held pace d → HoldsPace (with_book (noted_in seat op reply held.book) held) pace d
-quiet_holds seat op reply held pace d quiet room holds = record {
-  told = record {
-    told = entry_is_told held.book pace seat op reply quiet room holds.told.told;
-    peak = holds.told.peak;
-    opening = holds.told.opening;
-    charge_is = holds.told.charge_is;
-    sizes = holds.told.sizes;
-  };
-  live = λ runs.
-      let live = holds.live runs in
-      record { paced = entry_is_paced seat op reply held pace quiet room live.paced; on = record { running = live.on.running; long = live.on.long } };
-}
-
 -- a store that is stopped, or a write that is refused, keeps the pace
 pub refused_moves : (seat : ℕ) (op : Op) (reply : Reply) (held : Held) (pace : Pace) (d : DiskState) (b : BookState) → IsReplied reply seat op pace pace → is_done reply ≡ false
     → HasRoom held.book.book.room (record { seat = seat; op = op; reply = reply }) → b ≡ noted_in seat op reply held.book → HoldsPace held pace d → MovesPace seat (kind.Admit op) (Replied reply) (with_book b held) d pace
 refused_moves seat op reply held pace d b made undone room same holds =
     subst (λ (k : BookState). MovesPace seat (kind.Admit op) (Replied reply) (with_book k held) d pace) (sym same)
-    (record { next = pace; made = made; holds = quiet_holds seat op reply held pace d (λ done. absurd (false≢true (sym undone ∙ done))) room holds })
+    (record { next = pace; made = made; holds = read_holds held held.runs.space _ pace d d holds refl refl (entry_is_told held.book pace seat op reply (λ done. absurd (false≢true (sym undone ∙ done))) room holds.told.told) (λ on. on) })
 
 -- and one with which the store stops
 stopped_holds : (seat : ℕ) (op : Op) (reply : Reply) (why : Why) (held : Held) (pace : Pace) (d : DiskState) → is_done reply ≡ false → HasRoom held.book.book.room (record { seat = seat; op = op; reply = reply })

@@ -25,7 +25,7 @@ use Rattle.blsm_model.specs.Legal.{total_weight, is_del}
 use Rattle.blsm_model.specs.Values.{added_count, key_of, text_written}
 use Rattle.blsm_model.specs.Format.{most_key, most_text}
 use Rattle.disk_trait.specs.Disk.{DiskState}
-use Rattle.disk_trait.specs.Moments.{IsTimed, LeavesOnly, leaves_only_start, leaves_only_weaken, leaves_only_now}
+use Rattle.disk_trait.specs.Moments.{IsTimed, LeavesOnly, leaves_only_weaken, leaves_only_now}
 use Rattle.pacing.specs.Pace.{Pace}
 use Rattle.paced_tree.specs.After.{pace_after}
 use Rattle.paced_tree.specs.Kept.{IsPacedTree}
@@ -50,21 +50,22 @@ use Rattle.core_moves.specs.Held.{charge_in}
 use Rattle.core_moves.specs.Moves.{with_book}
 use Rattle.core_pace.specs.Pacing.{HasPace}
 use Rattle.core_lists.specs.Standing.{IsAt}
-use Rattle.core_lists.specs.Going.{GoesOn}
 use Rattle.core_lists.specs.Shown.{CommitsAs, CountsAs, HasFronts, ShowsHistory, ShowsWhole, doubted}
 use Rattle.core_lists.specs.Images.{ShowsNoted, history_with}
 use Rattle.core_lists.proofs.AppendLemmas.{not_past}
 use Rattle.core_lists.proofs.FileWeights.{counts_itself, deep_swapped_counts, doubt_grows, ready_counts, weighs_as}
-use Rattle.core_lists.proofs.GoingLemmas.{admission_fits, refusal_goes_on}
+use Rattle.core_lists.proofs.GoingLemmas.{admission_fits}
 use Rattle.core_lists.proofs.ShowingLemmas.{standing_shows, showing_is_kept, quiet_entry_counts_none, quiet_entry_shows}
 use Rattle.core_lists.proofs.WriteLands.{book_lands}
-use Rattle.tree_core.specs.Standing.{RunsOver, HasStopped, StandsFor}
+use Rattle.tree_core.specs.Standing.{AnyRows, HasStopped, RunsOver, StandsFor}
 use Rattle.tree_core.specs.Steps.{IsStep}
 use Rattle.tree_core.specs.Taking.{TellsOf, TakenOver, HasLost, TakesOver}
 use Rattle.tree_core.specs.declared.admission.Taking.TheVariants.{Failed}
 use Rattle.tree_core.proofs.BoundLemmas.{rose}
 use Rattle.blsm_model.specs.Tails.{TailFits}
 use Rattle.tree_core.proofs.TakingLists.{tells_of}
+use Rattle.disk_trait.specs.Reads.{only_reads_start}
+use Rattle.tree_core.proofs.QuietLemmas.{quiet_step}
 
 -- a command's write fits the format
 pub write_fits : (op : Op) (write : Write) → writes_of op ≡ write ∷ [] → added_count write < 2 ^ 64 → (1 ≤ length (key_of write)) × (length (key_of write) ≤ most_key) → length (text_written write) ≤ most_text → TailFits write → WritesFit (kind.Admit op)
@@ -105,27 +106,14 @@ module _ (opening : List (Key × Value)) (seat : ℕ) (op : Op) (m : Machine) wh
 
 -- ---- what is in memory then
 
-noted_tells : (seat : ℕ) (op : Op) (reply : Reply) (held : Held) (m : Machine) → TellsOf held m → TellsOf (with_book (noted_in seat op reply held.book) held) (note seat op reply m)
-noted_tells seat op reply held m tells = record { sizes = tells.sizes; gears = tells.gears; book = ap (λ (b : BookState). noted_in seat op reply b) tells.book; charge_is = tells.charge_is }
-
 stopped_tells : (seat : ℕ) (op : Op) (reply : Reply) (why : Why) (held : Held) (m : Machine) → TellsOf held m
     → TellsOf (with_book (noted_in seat op reply (stopped_in why held.book)) held) (note seat op reply (stop why m))
 stopped_tells seat op reply why held m tells = grind (arith, common_steps, nat_tests)
 
-standing_tells : (opening : List (Key × Value)) (held : Held) (m : Machine) (pace : Pace) (d : DiskState) → StandsFor opening held m pace d → TellsOf held m
+standing_tells : (opening : List (Key × Value)) (held : Held) (m : Machine) (pace : Pace) (d : DiskState) → StandsFor AnyRows opening held m pace d → TellsOf held m
 standing_tells opening held m pace d stands = record { sizes = stands.sizes; gears = stands.gears; book = stands.book; charge_is = stands.charge_is }
 
 -- ---- failures, as the machine has them
-
-some_due : (deep pass : Bool) → deep ≡ true → nat_lt 0 (one_if deep + one_if pass) ≡ true
-some_due deep pass h1 = grind (arith, common_steps, nat_tests)
-
-pass_due : (deep pass : Bool) → pass ≡ true → nat_lt (one_if deep) (one_if deep + one_if pass) ≡ true
-pass_due deep pass h1 = grind (arith, common_steps, nat_tests)
-
--- the deep merge's swap is none of the pass's
-same_pass : (m : Machine) → pass_done (deep_swapped m) ≡ pass_done m
-same_pass m = grind (arith, common_steps, nat_tests)
 
 deep_lost : (seat : ℕ) (op : Op) (w faults : ℕ) (m : Machine) → deep_done m ≡ true → admit_fitting m seat op w (FailedAfter 0 faults) ≡ replied seat op FaultLost (stop (Faulted faults) m)
 deep_lost seat op w faults m done = grind (arith, common_steps, nat_tests)
@@ -139,11 +127,17 @@ append_lost seat op w faults m = grind (arith, common_steps, nat_tests)
 
 -- ---- the step
 
+stopped_pace : (seat : ℕ) (op : Op) (why : Why) (m : Machine) (pace : Pace) → m.stopped ≡ Some why → pace_after m pace seat (kind.Admit op) Well ≡ pace
+stopped_pace seat op why m pace stops = grind (arith, common_steps, nat_tests)
+
+full_pace : (seat : ℕ) (op : Op) (m : Machine) (pace : Pace) → m.stopped ≡ None → charge_limit m.gears.sizes (is_del op) < charge m + total_weight (writes_of op) → pace_after m pace seat (kind.Admit op) Well ≡ pace
+full_pace seat op m pace runs past = grind (arith, common_steps, nat_tests)
+
 -- an admission that may be made
 pub record IsAsked (opening : List (Key × Value)) (seat : ℕ) (op : Op) (held : Held) (m : Machine) (pace : Pace) (d : DiskState) : Type 0 where
   pub honest : IsTrue d.is_honest
   pub timed : IsTimed d
-  pub stands : StandsFor opening held m pace d
+  pub stands : StandsFor AnyRows opening held m pace d
   pub may : IsTrue (may m seat (kind.Admit op))
   pub fits : WritesFit (kind.Admit op)
 
@@ -160,12 +154,12 @@ module _ (opening : List (Key × Value)) (seat : ℕ) (op : Op) (held : Held) (m
   step_by : (outcome : Outcome) (reply : Reply) (s : Machine) (new : Held) (after : DiskState) → admit m seat op outcome ≡ record { state = s; answer = Replied reply }
       → IsPossible m seat asked outcome d.faults after.faults → is_broken outcome ≡ false → TellsOf new s
       → (new.book.stopped ≡ None → RunsOver new s (pace_after m pace seat asked outcome) after) → (IsSome new.book.stopped → HasStopped opening s after)
-      → LeavesOnly d after (ShowsHistory m.gears.sizes opening s.book.entries (length m.book.entries)) → IsStep opening seat asked (Replied reply) new d after m pace
+      → LeavesOnly d after (ShowsHistory m.gears.sizes opening s.book.entries (length m.book.entries)) → IsStep AnyRows opening seat asked (Replied reply) new d after m pace
   step_by outcome reply s new after same possible whole tells runs stopped images = record {
     outcome = outcome;
     possible = possible;
     whole = whole;
-    stands = subst (λ (st : Stepped). StandsFor opening new st.state (pace_after m pace seat asked outcome) after) (sym same)
+    stands = subst (λ (st : Stepped). StandsFor AnyRows opening new st.state (pace_after m pace seat asked outcome) after) (sym same)
         (record {
           paced = subst (λ (st : Stepped). IsPacedTree opening st.state (pace_after m pace seat asked outcome)) same
               (step_is_paced opening m pace (record { seat = seat; kind = asked }) outcome is.stands.paced is.may is.fits);
@@ -174,6 +168,7 @@ module _ (opening : List (Key × Value)) (seat : ℕ) (op : Op) (held : Held) (m
           book = tells.book;
           charge_is = tells.charge_is;
           runs = runs;
+          rows = λ none. tt;
           stopped = stopped;
         });
     answers = sym (ap (λ (st : Stepped). st.answer) same);
@@ -186,24 +181,18 @@ module _ (opening : List (Key × Value)) (seat : ℕ) (op : Op) (held : Held) (m
   tells : TellsOf held m
   tells = standing_tells opening held m pace d is.stands
 
-  -- a store that is stopped only notes that it is
-  pub stopped_steps : (why : Why) → held.book.stopped ≡ Some why → IsStep opening seat asked (Replied (Stopped why)) (with_book (noted_in seat op (Stopped why) held.book) held) d d m pace
-  stopped_steps why stop = step_by Well (Stopped why) (note seat op (Stopped why) m) (with_book (noted_in seat op (Stopped why) held.book) held) d
-      (ap (λ (o : Option Why). unless_stopped o seat op m (cond (nat_lt limit (charge m + w)) (replied seat op (Full (charge m)) m) (admit_fitting m seat op w Well))) (stop_is ∙ stop))
-      tt refl (noted_tells seat op (Stopped why) held m tells)
-      (λ runs. absurd (none-some why (sym runs ∙ stop)))
-      (λ some. record { reads = noted d.bytes shown.reads; each = λ c left. noted c (shown.each c left); commits = shown.commits })
-      (leaves_only_start d _ is.timed (λ c left. kept_whole opening seat op m (Stopped why) c (shown.each c left)))
-    where
-      shown : HasStopped opening m d
-      shown = is.stands.stopped (ap is_some stop)
+  -- It only notes an entry that counts no write, and the pace stays.
+  notes_alone : (reply : Reply) → pace_after m pace seat asked Well ≡ pace → admit m seat op Well ≡ replied seat op reply m → is_done reply ≡ false → is_unsure reply ≡ false
+      → IsStep AnyRows opening seat asked (Replied reply) (with_book (noted_in seat op reply held.book) held) d d m pace
+  notes_alone reply same_pace same undone sure =
+      quiet_step {end = 0} {most = 0} opening seat asked Well (Replied reply) held held.runs.space (noted_in seat op reply held.book) m (note seat op reply m) pace (only_reads_start d is.timed) is.honest is.stands is.may is.fits tt refl same_pace same
+      (record { same = record { lists = refl; merges = refl; gears = refl; spring = refl; catalogue = refl }; counts = record { charge = refl; peak = refl; quanta = refl }; book = ap (noted_in seat op reply) is.stands.book; stopped = refl; noted = inr (entry opening seat op m reply, refl, quiet_entry_counts_none (entry opening seat op m reply) (inr (undone, sure))) })
+      (λ tree table file of. of) (λ none. tt)
 
-      noted : (file : List ℕ) → ShowsWhole opening m file → ShowsWhole opening (note seat op (Stopped why) m) file
-      noted file shows =
-          let with = noted_whole opening seat op m (Stopped why) file refl refl shows in (
-            subst (λ (n : ℕ). ShowsHistory m.gears.sizes opening (history_with seat op (Stopped why) m) n file) (sym (length-append m.book.entries (entry opening seat op m (Stopped why) ∷ []))) with.0,
-            with.1,
-          )
+  -- a store that is stopped only notes that it is
+  pub stopped_steps : (why : Why) → held.book.stopped ≡ Some why → IsStep AnyRows opening seat asked (Replied (Stopped why)) (with_book (noted_in seat op (Stopped why) held.book) held) d d m pace
+  stopped_steps why stop = notes_alone (Stopped why) (stopped_pace seat op why m pace (stop_is ∙ stop))
+      (ap (λ (o : Option Why). unless_stopped o seat op m (cond (nat_lt limit (charge m + w)) (replied seat op (Full (charge m)) m) (admit_fitting m seat op w Well))) (stop_is ∙ stop)) refl refl
 
   -- ---- while it runs
 
@@ -223,29 +212,15 @@ module _ (opening : List (Key × Value)) (seat : ℕ) (op : Op) (held : Held) (m
     shows_now : (file : List ℕ) → HoldsTree held.runs.sizes over.tree file → ShowsWhole opening m file
     shows_now file holds = standing_shows opening m pace over.fronts over.tree file is.stands.paced over.within over.holds.lists over.lanes (subst (λ (z : Sizes). HoldsTree z over.tree file) (sym is.stands.sizes) holds)
 
-    full_here : limit < charge m + w → IsStep opening seat asked (Replied (Full (charge m))) (noted (Full (charge m))) d d m pace
-    full_here past = step_by Well (Full (charge m)) (note seat op (Full (charge m)) m) (noted (Full (charge m))) d
+    full_here : limit < charge m + w → IsStep AnyRows opening seat asked (Replied (Full (charge m))) (noted (Full (charge m))) d d m pace
+    full_here past = notes_alone (Full (charge m)) (full_pace seat op m pace runs past)
         (ap (λ (o : Option Why). unless_stopped o seat op m (cond (nat_lt limit (charge m + w)) (replied seat op (Full (charge m)) m) (admit_fitting m seat op w Well))) runs
-        ∙ ap (λ (b : Bool). cond b (replied seat op (Full (charge m)) m) (admit_fitting m seat op w Well)) (lt-ltb limit (charge m + w) past))
-        tt refl (noted_tells seat op (Full (charge m)) held m tells)
-        (λ still. record {
-          fronts = over.fronts;
-          tree = over.tree;
-          over = record { stands = over.over.stands; are_of = over.over.are_of };
-          holds = ((book_lands held over.tree m d.bytes at).note seat op (Full (charge m))).holds;
-          within = goes.1.within;
-          lanes = over.lanes;
-        })
-        (λ some. absurd (none_is_some held.book.stopped ran some))
-        (leaves_only_start d _ is.timed (λ c left. kept_whole opening seat op m (Full (charge m)) c (shows_now c (over.over.stands.each c left))))
-      where
-        goes : ((admit m seat op Well).state ≡ note seat op (Full (charge m)) m) × GoesOn opening (admit m seat op Well).state (pace_after m pace seat asked Well) over.fronts over.tree
-        goes = refusal_goes_on opening m pace over.fronts over.tree seat op Well runs past is.may is.fits (record { paced = is.stands.paced; within = over.within; lanes = over.lanes })
+        ∙ ap (λ (b : Bool). cond b (replied seat op (Full (charge m)) m) (admit_fitting m seat op w Well)) (lt-ltb limit (charge m + w) past)) refl refl
 
     -- a write that is refused for its size
-    pub full_steps : charge_limit held.runs.sizes (is_del op) < charge_in held + w → IsStep opening seat asked (Replied (Full (charge_in held))) (noted (Full (charge_in held))) d d m pace
+    pub full_steps : charge_limit held.runs.sizes (is_del op) < charge_in held + w → IsStep AnyRows opening seat asked (Replied (Full (charge_in held))) (noted (Full (charge_in held))) d d m pace
     full_steps past =
-        subst (λ (n : ℕ). IsStep opening seat asked (Replied (Full n)) (noted (Full n)) d d m pace) is.stands.charge_is
+        subst (λ (n : ℕ). IsStep AnyRows opening seat asked (Replied (Full n)) (noted (Full n)) d d m pace) is.stands.charge_is
         (full_here (subst (λ (n : ℕ). limit < n + w) (sym is.stands.charge_is) (subst (λ (z : Sizes). charge_limit z (is_del op) < charge_in held + w) (sym is.stands.sizes) past)))
 
     -- ---- and there is room
@@ -270,7 +245,7 @@ module _ (opening : List (Key × Value)) (seat : ℕ) (op : Op) (held : Held) (m
             → ((c : List ℕ) → after.images c → ShowsNoted opening seat op reply m c)
             → ShowsNoted opening seat op reply m after.bytes → CommitsAs later after
             → LeavesOnly d after (ShowsHistory m.gears.sizes opening (history_with seat op reply m) (length m.book.entries))
-            → IsStep opening seat asked (Replied reply) (stopped reply) d after m pace
+            → IsStep AnyRows opening seat asked (Replied reply) (stopped reply) d after m pace
         fails_by reply commits later same few left_tells sizes book counts each reads committed images =
             step_by (FailedAfter commits after.faults) reply (note seat op reply (stop why later)) (stopped reply) after
             (admission_fits m seat op (FailedAfter commits after.faults) runs room_here ∙ same)
@@ -284,7 +259,7 @@ module _ (opening : List (Key × Value)) (seat : ℕ) (op : Op) (held : Held) (m
             (images_after opening seat op m reply later d after book images)
 
         -- a swap failed
-        lost_steps : IsTimed after → HasLost m left after → LeavesOnly d after (ShowsWhole opening m) → ShowsWhole opening m after.bytes → IsStep opening seat asked (Replied FaultLost) (stopped FaultLost) d after m pace
+        lost_steps : IsTimed after → HasLost m left after → LeavesOnly d after (ShowsWhole opening m) → ShowsWhole opening m after.bytes → IsStep AnyRows opening seat asked (Replied FaultLost) (stopped FaultLost) d after m pace
         lost_steps timed lost images reads = ⊎_elim
             (λ deep. by 0 m (deep_lost seat op w after.faults m deep.1) (omega arith) deep.0 refl refl (counts_itself m) deep.2)
             (λ pass.
@@ -293,7 +268,7 @@ module _ (opening : List (Key × Value)) (seat : ℕ) (op : Op) (held : Held) (m
             lost
           where
             by : (commits : ℕ) (later : Machine) → admit_fitting m seat op w (FailedAfter commits after.faults) ≡ replied seat op FaultLost (stop why later) → commits ≤ swaps_due m
-                → TellsOf left later → later.gears.sizes ≡ m.gears.sizes → later.book ≡ m.book → CountsAs m later → CommitsAs later after → IsStep opening seat asked (Replied FaultLost) (stopped FaultLost) d after m pace
+                → TellsOf left later → later.gears.sizes ≡ m.gears.sizes → later.book ≡ m.book → CountsAs m later → CommitsAs later after → IsStep AnyRows opening seat asked (Replied FaultLost) (stopped FaultLost) d after m pace
             by commits later same few left_tells sizes book counts committed =
                 fails_by FaultLost commits later same few left_tells sizes book counts
                 (λ c here. noted_whole opening seat op m FaultLost c refl refl (leaves_only_now timed images c here))
@@ -304,14 +279,14 @@ module _ (opening : List (Key × Value)) (seat : ℕ) (op : Op) (held : Held) (m
         unsure_steps : TellsOf left (ready_for w m) → LeavesOnly d after (ShowsHistory m.gears.sizes opening (history_with seat op FaultUnsure m) (length m.book.entries))
             → ((c : List ℕ) → after.images c → ShowsNoted opening seat op FaultUnsure m c)
             → ShowsNoted opening seat op FaultUnsure m after.bytes → CommitsAs (ready_for w m) after
-            → IsStep opening seat asked (Replied FaultUnsure) (stopped FaultUnsure) d after m pace
+            → IsStep AnyRows opening seat asked (Replied FaultUnsure) (stopped FaultUnsure) d after m pace
         unsure_steps left_tells images each reads committed =
             let carries = ready_carries w m is.stands.paced.stands.sound (has_way opening m pace is.stands.paced) in
             fails_by FaultUnsure (swaps_due m) (ready_for w m) (append_lost seat op w after.faults m) (omega arith) left_tells carries.sizes carries.book (ready_counts w m) each reads committed images
 
         -- a call failed
         pub failed_steps : (begun : Bool) → IsTimed after → TakesOver (Failed begun) opening seat op m pace left d after
-            → IsStep opening seat asked (Replied (cond begun FaultUnsure FaultLost)) (stopped (cond begun FaultUnsure FaultLost)) d after m pace
+            → IsStep AnyRows opening seat asked (Replied (cond begun FaultUnsure FaultLost)) (stopped (cond begun FaultUnsure FaultLost)) d after m pace
         failed_steps true timed taken = unsure_steps taken.0 taken.1 taken.2 taken.3 taken.4
         failed_steps false timed taken = lost_steps timed taken.0 taken.1 taken.2
 
@@ -319,7 +294,7 @@ module _ (opening : List (Key × Value)) (seat : ℕ) (op : Op) (held : Held) (m
       pub taken_steps : (new : Held) (after : DiskState) (numbers : Pace) → TakenOver opening seat op m pace new after → new.book.stopped ≡ None
           → HasPace (with_book (noted_in seat op Done new.book) new) numbers → new.gears.sizes ≡ new.runs.sizes
           → LeavesOnly d after (ShowsHistory m.gears.sizes opening (history_with seat op Done m) (length m.book.entries))
-          → IsStep opening seat asked (Replied Done) (with_book (noted_in seat op Done new.book) new) d after m pace
+          → IsStep AnyRows opening seat asked (Replied Done) (with_book (noted_in seat op Done new.book) new) d after m pace
       taken_steps new after numbers taken on has one images =
           step_by Well Done next then after same tt refl (tells_of then taken.tree next after.bytes numbers at_next sound has one)
           (λ still. record {

@@ -1,10 +1,11 @@
 -- A write that failed has committed the swaps that were due, or fewer. They are those of the machine.
-use Rattle.std.specs.Prelude.{◌≡◌, ◌⊎◌, ℕ, ◌+◌, ◌<◌, ◌≤◌, Bool, true, false, ◌==◌, is_some, List, None}
+use Rattle.std.specs.Prelude.{◌≡◌, ◌⊎◌, ℕ, ◌+◌, ◌<◌, Bool, true, false, ◌==◌, is_some, List, Option, None}
 use Rattle.std.proofs.lemmas.Grind.{common_steps}
 use Rattle.std.proofs.lemmas.Bool.Decides.{nat_tests}
 use Rattle.std.proofs.Common.{◌∙◌, ap, arith}
 use Rattle.std.proofs.lemmas.Bool.{eqb-true, eq-eqb}
 use Rattle.blsm_model.specs.declared.key.Key.{Key}
+use Rattle.blsm_model.specs.declared.row.Row.{Row}
 use Rattle.blsm_model.specs.declared.row.Value.{Value}
 use Rattle.disk_trait.specs.Disk.{DiskState}
 use Rattle.record_delta.specs.declared.record.Rec.{Rec}
@@ -34,17 +35,8 @@ deep_is held done = both (is_some held.runs.deep) (left_for_deep held.runs.deep 
 pub pass_is : (held : Held) → IsPassDone held → is_pass_due held ≡ true
 pass_is held done = both (is_some held.runs.pass) (left_for_pass held.runs.pass held.log.a.entries == 0) done.0 (eq-eqb (left_for_pass held.runs.pass held.log.a.entries) 0 done.1)
 
-not_deep : (held : Held) → (IsDeepDone held → ⊥) → is_deep_due held ≡ false
-not_deep held none = grind (arith, common_steps, nat_tests)
-
-not_pass : (held : Held) → (IsPassDone held → ⊥) → is_pass_due held ≡ false
-not_pass held none = grind (arith, common_steps, nat_tests)
-
 abbrev version : Held → ℕ
 version held = held.runs.catalogue.version
-
-unmoved : (old new : Held) (due : Bool) → due ≡ false → new ≡ old → version new ≡ version old + one_where due
-unmoved old new due none same = grind (arith, common_steps, nat_tests)
 
 -- the deep merge's swap is one commit, and leaves the pass as it was
 pub deep_counts : (old new : Held) → SettlesDeep old new → (version new ≡ version old + one_where (is_deep_due old)) × (is_pass_due new ≡ is_pass_due old)
@@ -72,17 +64,12 @@ pub begun_by : (begun : Bool) (seat : ℕ) (key : Key) (rec : Rec) (old new : He
 begun_by true seat key rec old new b after r = begun_append (weight key rec) old new r
 begun_by false seat key rec old new b after lost = lost_before old new lost
 
--- ---- how many they are
-
-at_most_one : (b : Bool) → one_where b ≤ 1
-at_most_one b = grind (arith, common_steps, nat_tests)
-
 -- ---- by the machine
 
 same_count : (done due : Bool) → (done ≡ true → due ≡ true) → (due ≡ true → done ≡ true) → one_if done ≡ one_where due
 same_count done due h1 h2 = grind (arith, common_steps, nat_tests)
 
-pub due_agree : (opening : List (Key × Value)) (old : Held) (m : Machine) (pace : Pace) (d : DiskState) → StandsFor opening old m pace d → IsCore old d → old.book.stopped ≡ None → swaps_due m ≡ swaps_due_in old
+pub due_agree : {Rows : List (Option (List Row)) → Type 0} (opening : List (Key × Value)) (old : Held) (m : Machine) (pace : Pace) (d : DiskState) → StandsFor Rows opening old m pace d → IsCore old d → old.book.stopped ≡ None → swaps_due m ≡ swaps_due_in old
 due_agree opening old m pace d stands keeps runs =
     let over = stands.runs runs in
     let agrees : Agrees old m = tests_agree_with_lists old over.tree m d.bytes keeps.pace (record { are_of = over.over.are_of; holds = over.holds }) stands.paced.stands.sound (keeps.holds.live runs).paced.numbers in

@@ -77,7 +77,7 @@ hold_goes : {D : Type 0} {end most : ℕ} {k : Kind} {command : Op} {mid : Held}
     → GoesOnAs state seat k (Replied r) old (after_it disk mid after seat command r old.held)
 hold_goes {D} {end} {most} {k} {command} {mid} {after} state seat r old disk core timed is moves reads on room can steps =
     goes_by state seat k (Replied r) old (after_it disk mid after seat command r old.held) core timed can reads.effect.goes_on (hold_follows command r moves) (λ pace holds. hold_moves r pace is moves on room holds)
-    (λ opening m pace honest stands. steps opening m pace honest stands (may_agrees seat k old.held m stands.stands.book stands.stands.gears ∙ can))
+    (λ opening m pace honest stands. steps opening m pace honest stands (may_agrees seat k old.held m stands.book stands.gears ∙ can))
 
 pub hold_does : {D : Type 0} {mid : Held} {after : List (Option HoldState)} (state : D → DiskState) (seat : ℕ) (low high : Key) (answer : Holding) (old : CoreState D) (b : BookState) → IsCore old.held (state old.disk) → IsTimed (state old.disk)
     → may_note_in seat 0 old.held.book ≡ true → MovesHold seat old.held mid old.holds after → HoldsBecause answer seat low high (undisked old.held old.holds) (undisked mid after)

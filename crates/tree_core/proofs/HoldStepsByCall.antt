@@ -65,9 +65,6 @@ none_by_hold answer = grind (arith, common_steps, nat_tests)
 none_by_drop : (answer : Release) → length (rows_given (reply_to_drop answer)) ≤ 0
 none_by_drop answer = grind (arith, common_steps, nat_tests)
 
-few_given : (n : ℕ) (old new : Option HoldState) (rows : List Row) → AreGivenBy n old new rows → length rows ≤ n
-few_given n old new rows h1 = grind (arith, common_steps, nat_tests)
-
 few_by_next : {D : Type 0} (answer : Scanned) (seat n : ℕ) (old new : CoreState D) (d d2 : DiskState) → ScansBecause answer seat n old new d d2 → length (rows_given (reply_to_next answer)) ≤ n
 few_by_next answer seat n old new d d2 h1 = grind (arith, common_steps, nat_tests)
 
@@ -106,7 +103,7 @@ drop_steps state opening seat answer old mid after m pace timed honest below mov
     reads = only_reads_start (state old.disk) timed
 
     stopped_is : m.stopped ≡ old.held.book.stopped
-    stopped_is = ap (λ (b : BookState). b.stopped) stands.stands.book
+    stopped_is = ap (λ (b : BookState). b.stopped) stands.book
 
     running : old.held.book.stopped ≡ None → drop_hold m seat ≡ replied seat op.Release (answer_to_release (held_by seat m)) (holding seat None m)
     running none = ap (λ (o : Option Why). unless_stopped o seat op.Release m (replied seat op.Release (answer_to_release (held_by seat m)) (holding seat None m))) (stopped_is ∙ none)
@@ -117,7 +114,7 @@ drop_steps state opening seat answer old mid after m pace timed honest below mov
     let_go r none is gone =
         hold_step state opening seat kind.Release op.Release r Well old mid after old.disk (slice_set m.holds seat None) m pace (release_kind seat) moves reads honest stands can
         (running none ∙ ap (λ (x : Reply). replied seat op.Release x (holding seat None m)) is) tt refl
-        (λ runs. seat_rows seat old.held mid old.holds after m None (state old.disk) (state old.disk) moves below stands.stands.paced.stands.places refl
+        (λ runs. seat_rows seat old.held mid old.holds after m None (state old.disk) (state old.disk) moves below stands.paced.stands.places refl
         (subst (λ (h : Option HoldState). HasHeld old.held.runs.sizes mid.runs.space.pins seat h None (state old.disk).bytes) (sym gone) tt) (stands.rows runs))
 
     by : (a : Release) → DropsBecause a seat (undisked old.held old.holds) (undisked mid after)
@@ -146,7 +143,7 @@ hold_steps state opening seat low high answer old mid after m pace timed honest 
     reads = only_reads_start (state old.disk) timed
 
     stopped_is : m.stopped ≡ old.held.book.stopped
-    stopped_is = ap (λ (b : BookState). b.stopped) stands.stands.book
+    stopped_is = ap (λ (b : BookState). b.stopped) stands.book
 
     by_stop : (outcome : Outcome) (o : Option Why) → old.held.book.stopped ≡ o → hold m seat low high outcome ≡ unless_stopped o seat (op.Hold low high) m (do_hold m seat low high outcome)
     by_stop outcome o is = ap (λ (o : Option Why). unless_stopped o seat (op.Hold low high) m (do_hold m seat low high outcome)) (stopped_is ∙ is)
@@ -158,12 +155,12 @@ hold_steps state opening seat low high answer old mid after m pace timed honest 
     by holds.Held because has =
         let rows = Some (rows_in m.lists low high) in
         hold_step state opening seat (kind.Hold low high) (op.Hold low high) reply.Held Well old mid after old.disk (slice_set m.holds seat rows) m pace (hold_kind seat low high) moves reads honest stands can (by_stop Well None because.0) tt refl
-        (λ runs. seat_rows seat old.held mid old.holds after m rows (state old.disk) (state old.disk) moves below stands.stands.paced.stands.places refl (now runs) (stands.rows runs))
+        (λ runs. seat_rows seat old.held mid old.holds after m rows (state old.disk) (state old.disk) moves below stands.paced.stands.places refl (now runs) (stands.rows runs))
       where
         -- the tables are what the lanes replay to
         now : old.held.book.stopped ≡ None → HasHeld old.held.runs.sizes mid.runs.space.pins seat (hold_of seat after) (Some (rows_in m.lists low high)) (state old.disk).bytes
         now runs =
-            let over = stands.stands.runs runs in
+            let over = stands.runs runs in
             let log = over.holds.of_log in
             let tree = over.tree in
             let lists : m.lists ≡ record { b = old.held.log.b.entries; a = old.held.log.a.entries; c1 = entries_of tree.c1; c1x = entries_of tree.c1x; c2 = entries_of tree.c2 } = over.holds.lists
@@ -174,7 +171,7 @@ hold_steps state opening seat low high answer old mid after m pace timed honest 
     by holds.NoMemory because has =
         hold_step state opening seat (kind.Hold low high) (op.Hold low high) reply.NoMemory NoRoom old mid after old.disk m.holds m pace (hold_kind seat low high) moves reads honest stands can (by_stop NoRoom None because.0)
         (ap (λ (o : Option Why). not (is_some o) && true) (stopped_is ∙ because.0)) refl
-        (λ runs. same_rows old.held mid old.holds after m (state old.disk) (state old.disk) because.2 because.1 refl (stands.rows runs))
+        (λ runs. same_rows old.held mid old.holds after m.holds (state old.disk) (state old.disk) because.2 because.1 refl (stands.rows runs))
     by (holds.Stopped why) because has =
         hold_step state opening seat (kind.Hold low high) (op.Hold low high) (reply.Stopped why) Well old mid after old.disk m.holds m pace (hold_kind seat low high) moves reads honest stands can (by_stop Well (Some why) because.0) tt refl
         (λ runs. absurd (running_still old.held.book.stopped because.0 runs))
@@ -219,7 +216,7 @@ next_steps state opening seat n answer old after disk m pace reads honest below 
     bytes = reads.same.same.bytes honest
 
     stopped_is : m.stopped ≡ old.held.book.stopped
-    stopped_is = ap (λ (b : BookState). b.stopped) stands.stands.book
+    stopped_is = ap (λ (b : BookState). b.stopped) stands.book
 
     by_stop : (outcome : Outcome) (o : Option Why) → old.held.book.stopped ≡ o → next_rows m seat n outcome ≡ unless_stopped o seat (op.Next n) m (do_next m seat n outcome (held_by seat m))
     by_stop outcome o is = ap (λ (o : Option Why). unless_stopped o seat (op.Next n) m (do_next m seat n outcome (held_by seat m))) (stopped_is ∙ is)
@@ -238,7 +235,7 @@ next_steps state opening seat n answer old after disk m pace reads honest below 
     kept : (r : Reply) (outcome : Outcome) → after ≡ old.holds → next_rows m seat n outcome ≡ replied seat (op.Next n) r m → IsPossible m seat (kind.Next n) outcome d.faults (state disk).faults → is_broken outcome ≡ false
         → IsWholeStep state opening seat (kind.Next n) (Replied r) old (after_it disk old.held after seat (op.Next n) r old.held) m pace
     kept r outcome same does possible whole = hold_step state opening seat (kind.Next n) (op.Next n) r outcome old old.held after disk m.holds m pace (next_kind seat n) moves reads honest stands can does possible whole
-        (λ runs. same_rows old.held old.held old.holds after m d (state disk) refl same bytes (stands.rows runs))
+        (λ runs. same_rows old.held old.held old.holds after m.holds d (state disk) refl same bytes (stands.rows runs))
 
     by : (a : Scanned) → ScansBecause a seat n (undisked old.held old.holds) (undisked old.held after) d (state disk) → (a ≡ scanned.Fault → (state disk).faults < 2 ^ 64) → GivesRows seat n a old after d (state disk)
         → IsWholeStep state opening seat (kind.Next n) (Replied (reply_to_next a)) old (after_it disk old.held after seat (op.Next n) (reply_to_next a) old.held) m pace
@@ -248,7 +245,7 @@ next_steps state opening seat n answer old after disk m pace reads honest below 
         let left = Some (drop n come.0) in
         hold_step state opening seat (kind.Next n) (op.Next n) (reply.Rows rows) Well old old.held after disk (slice_set m.holds seat left) m pace (next_kind seat n) moves reads honest stands can
         (running Well (Some come.0) because.0 come.1 ∙ ap (λ (a : Scanned). replied seat (op.Next n) (reply_to_next a) (holding seat left m)) (sym given.0)) tt refl
-        (λ runs. seat_rows seat old.held old.held old.holds after m left d (state disk) moves below stands.stands.paced.stands.places bytes given.1 (stands.rows runs))
+        (λ runs. seat_rows seat old.held old.held old.holds after m left d (state disk) moves below stands.paced.stands.places bytes given.1 (stands.rows runs))
     by scanned.NoHold because counted gives =
         kept reply.NoHold Well because.2 (running Well None because.0 (none_held old.held.runs.sizes old.held.runs.space.pins seat d.bytes (hold_of seat old.holds) (held_by seat m) because.1 (stands.rows because.0 seat below))) tt refl
     by scanned.Fault because counted gives =

@@ -11,6 +11,7 @@ use Rattle.blsm_model.specs.Histories.{writes_of}
 use Rattle.blsm_model.specs.Legal.{total_weight, is_del}
 use Rattle.blsm_model.specs.Sizes.{Sizes}
 use Rattle.blsm_model.specs.declared.key.Key.{Key}
+use Rattle.blsm_model.specs.declared.row.Row.{Row}
 use Rattle.blsm_model.specs.declared.row.Value.{Value}
 use Rattle.blsm_model.specs.declared.op.Op.{Op}
 use Rattle.blsm_model.specs.declared.op.Write.{Write}
@@ -34,10 +35,9 @@ use Rattle.tree_machine.specs.declared.step.Kind.{Kind}
 use Rattle.tree_machine.specs.declared.step.Kind.TheVariants as kind
 use Rattle.tree_machine.specs.Lists.{memory_weight}
 use Rattle.tree_machine.specs.Machine.{Machine, charge, deep_done}
-use Rattle.tree_machine.specs.Merges.{Merge}
-use Rattle.tree_machine.specs.Moves.{deep_quantum_of, end_pass, output_of, pass_quantum_of, rotate, swap_deep, swap_pass}
+use Rattle.tree_machine.specs.Moves.{end_pass, output_of, rotate, swap_deep, swap_pass}
 use Rattle.tree_machine.specs.Plays.{stepped_as}
-use Rattle.tree_machine.specs.Steps.{Answer, Broken as AtPage, Choice, FailedAfter, NoRoom, Outcome, Well, Stepped, admit, admit_fitting, choice, chosen, deep_swapped, do_turn, pay, ready_for, swaps_due, taken_once, unless_stopped, work_turning, worker_turning}
+use Rattle.tree_machine.specs.Steps.{Answer, Broken as AtPage, Choice, FailedAfter, NoRoom, Outcome, Well, Stepped, admit, admit_fitting, choice, deep_swapped, do_turn, pay, ready_for, swaps_due, taken_once, unless_stopped, work_turning, worker_turning}
 use Rattle.tree_machine.proofs.FrameLemmas.{step_stays}
 use Rattle.tree_runs.specs.Runs.{page_share}
 use Rattle.core_moves.specs.declared.held.Held.{Held}
@@ -47,10 +47,11 @@ use Rattle.core_pace.specs.Turns.{TurnsBy}
 use Rattle.tree_core.specs.declared.admission.Taking.{Taking}
 use Rattle.tree_core.specs.declared.admission.Taking.TheVariants.{Taken, Failed}
 use Rattle.tree_core.specs.Core.{CoreState}
-use Rattle.tree_core.specs.Holds.{AreFew, HoldRows, KeepsHolds, StandsWhole}
-use Rattle.tree_core.specs.Standing.{StandsFor}
-use Rattle.tree_core.specs.Steps.{IsStep, IsWholeStep}
+use Rattle.tree_core.specs.Holds.{AreFew, HoldRows, KeepsHolds}
+use Rattle.tree_core.specs.Standing.{AnyRows, StandsFor}
+use Rattle.tree_core.specs.Steps.{IsStep}
 use Rattle.tree_core.specs.Taking.{IsReadied, Takes}
+use Rattle.tree_core.proofs.QuietLemmas.{with_rows}
 
 -- ---- the machine
 
@@ -111,17 +112,8 @@ admission_keeps m seat op outcome =
     by (AtPage page) = record { holds = done.holds }
     by NoRoom = record { holds = done.holds }
 
-pass_quantum_keeps : (p : Option Merge) (seat : ℕ) (m : Machine) → Keeps m (pass_quantum_of p seat m)
-pass_quantum_keeps p seat m = grind (arith, common_steps, nat_tests)
-
-deep_quantum_keeps : (p : Option Merge) (seat : ℕ) (m : Machine) → Keeps m (deep_quantum_of p seat m)
-deep_quantum_keeps p seat m = grind (arith, common_steps, nat_tests)
-
 payment_keeps : (m : Machine) (seat : ℕ) (outcome : Outcome) → Keeps m (pay m seat outcome).state
 payment_keeps m seat outcome = grind (arith, common_steps, nat_tests)
-
-chosen_keeps : (c : Choice) (seat : ℕ) (m : Machine) → Keeps m (chosen c seat m)
-chosen_keeps c seat m = grind (arith, common_steps, nat_tests)
 
 turn_keeps : (c : Choice) (o : Outcome) (seat : ℕ) (m : Machine) → Keeps m (do_turn c o seat m).state
 turn_keeps c o seat m = grind (arith, common_steps, nat_tests)
@@ -139,13 +131,13 @@ step_keeps_holds m seat k outcome h1 = grind (arith, common_steps, nat_tests, ad
 -- ---- the core
 
 -- the rows to come stay where nothing that is pinned is written
-pub rows_stay : (old new : Held) (holds holds' : List (Option HoldState)) (m after : Machine) (d d2 : DiskState) → holds' ≡ holds → new.runs.space.pins ≡ old.runs.space.pins → new.runs.sizes ≡ old.runs.sizes
-    → after.holds ≡ m.holds → IsSameOutside (beside_pins old.runs.sizes old.runs.space.pins) d.bytes d2.bytes → HoldRows old holds m d → HoldRows new holds' after d2
-rows_stay old new holds holds' m after d d2 same pins sizes same_rows beside rows = grind (arith, common_steps, nat_tests, held_beside)
+pub rows_stay : {D : Type 0} (state : D → DiskState) (old new : CoreState D) (rows : List (Option (List Row))) → KeepsHolds old new
+    → IsSameOutside (beside_pins old.held.runs.sizes old.held.runs.space.pins) (state old.disk).bytes (state new.disk).bytes → HoldRows old.held old.holds (state old.disk) rows → HoldRows new.held new.holds (state new.disk) rows
+rows_stay state old new rows keeps beside has = grind (arith, common_steps, nat_tests, held_beside)
 
 -- at the opening there are none
-pub none_held : (held : Held) (holds : List (Option HoldState)) (m : Machine) (d : DiskState) → holds ≡ replicate callers None → m.holds ≡ replicate callers None → HoldRows held holds m d
-none_held held holds m d none none_too = grind (arith, common_steps, nat_tests)
+pub none_held : (held : Held) (holds : List (Option HoldState)) (d : DiskState) (rows : List (Option (List Row))) → holds ≡ replicate callers None → rows ≡ replicate callers None → HoldRows held holds d rows
+none_held held holds d rows none none_too = grind (arith, common_steps, nat_tests)
 
 pub few_at_first : (sizes : Sizes) (holds : List (Option HoldState)) → holds ≡ replicate callers None → AreFew sizes holds
 few_at_first sizes holds none = grind (arith, common_steps, nat_tests)
@@ -156,8 +148,8 @@ pub few_by : (sizes : Sizes) (seat : ℕ) (old new : List (Option HoldState)) �
 few_by sizes seat old new others bound few = grind (arith, common_steps, nat_tests)
 
 -- a store that runs after a step ran before it
-pub ran_before : (opening : List (Key × Value)) (seat : ℕ) (k : Kind) (answer : Answer) (old new : Held) (before after : DiskState) (m : Machine) (pace : Pace) → StandsFor opening old m pace before
-    → IsStep opening seat k answer new before after m pace → new.book.stopped ≡ None → old.book.stopped ≡ None
+ran_before : {Rows Next : List (Option (List Row)) → Type 0} (opening : List (Key × Value)) (seat : ℕ) (k : Kind) (answer : Answer) (old new : Held) (before after : DiskState) (m : Machine) (pace : Pace) → StandsFor Rows opening old m pace before
+    → IsStep Next opening seat k answer new before after m pace → new.book.stopped ≡ None → old.book.stopped ≡ None
 ran_before opening seat k answer old new before after m pace stands is runs = by old.book.stopped refl
   where
     by : (o : Option Why) → old.book.stopped ≡ o → old.book.stopped ≡ None
@@ -166,15 +158,16 @@ ran_before opening seat k answer old new before after m pace stands is runs = by
         let was : m.stopped ≡ Some why = ap (λ (b : BookState). b.stopped) stands.book ∙ same in
         absurd (none-some why (sym runs ∙ sym (ap (λ (b : BookState). b.stopped) is.stands.book) ∙ step_stays m seat k is.outcome why was))
 
--- so a step that keeps the holds is one of the whole core
-pub whole_step : {D : Type 0} (state : D → DiskState) (opening : List (Key × Value)) (seat : ℕ) (k : Kind) (answer : Answer) (old new : CoreState D) (m : Machine) (pace : Pace) → is_held k ≡ false → KeepsHolds old new
-    → IsSameOutside (beside_pins old.held.runs.sizes old.held.runs.space.pins) (state old.disk).bytes (state new.disk).bytes → StandsWhole state opening old m pace
-    → IsStep opening seat k answer new.held (state old.disk) (state new.disk) m pace → IsWholeStep state opening seat k answer old new m pace
-whole_step state opening seat k answer old new m pace none keeps beside whole is = record {
-  step = is;
-  rows = λ runs.
-      rows_stay old.held new.held old.holds new.holds m (stepped_as m seat k is.outcome).state (state old.disk) (state new.disk) keeps.holds keeps.pins keeps.sizes (step_keeps_holds m seat k is.outcome none) beside
-      (whole.rows (ran_before opening seat k answer old.held new.held (state old.disk) (state new.disk) m pace whole.stands is runs));
+-- A step that keeps the holds leaves the rows to come, of which this was so.
+pub rows_said : {Rows Next : List (Option (List Row)) → Type 0} (opening : List (Key × Value)) (seat : ℕ) (k : Kind) (answer : Answer) (old new : Held) (before after : DiskState) (m : Machine) (pace : Pace) → is_held k ≡ false
+    → (old.book.stopped ≡ None → Next m.holds) → StandsFor Rows opening old m pace before → IsStep AnyRows opening seat k answer new before after m pace → IsStep Next opening seat k answer new before after m pace
+rows_said {Rows} {Next} opening seat k answer old new before after m pace none said stands is = record {
+  outcome = is.outcome;
+  possible = is.possible;
+  whole = is.whole;
+  stands = with_rows opening new _ _ after (λ runs. subst Next (sym (step_keeps_holds m seat k is.outcome none)) (said (ran_before opening seat k answer old new before after m pace stands is runs))) is.stands;
+  answers = is.answers;
+  images = is.images;
 }
 
 -- ---- what each call keeps
@@ -213,16 +206,10 @@ taking_keeps_pins (Failed true) seat key rec old new after is = readied_keeps_pi
 taking_keeps_pins (Failed false) seat key rec old new after is = ⊎_elim (λ still. same_pins old new still.0) (λ settled. deep_keeps_pins old new settled.0) is
 
 -- a payment's quantum
-planned_keeps_pins : (p : Plan) (seat n : ℕ) (old new : Held) → TakesByPlan p seat n old new → KeepsPins old new
-planned_keeps_pins p seat n old new h1 = grind (arith, common_steps, nat_tests)
-
 pub quantum_keeps_pins : (p : Plan) (result : Result ℕ Broken) (seat : ℕ) (old new : Held) → IfOk result (λ n. TakesByPlan p seat n old new) → KeepsAllButMerges (IsErr result) old new → KeepsPins old new
 quantum_keeps_pins p result seat old new h1 h2 = grind (arith, common_steps, nat_tests)
 
 -- a turn's move
-moved_keeps_pins : (mv : Move) (seat n : ℕ) (old new : Held) → TurnsBy mv seat n old new → KeepsPins old new
-moved_keeps_pins mv seat n old new h1 = grind (arith, common_steps, nat_tests)
-
 pub move_keeps_pins : (mv : Move) (result : Result ℕ Broken) (seat : ℕ) (old new : Held) → IfOk result (λ n. TurnsBy mv seat n old new) → KeepsAllButMerges (IsErr result) old new → KeepsPins old new
 move_keeps_pins mv result seat old new h1 h2 = grind (arith, common_steps, nat_tests)
 

@@ -4,6 +4,7 @@ use Rattle.std.proofs.lemmas.Grind.{common_steps}
 use Rattle.std.proofs.lemmas.Bool.Decides.{nat_tests}
 use Rattle.std.proofs.Common.{◌∙◌, refl, ap, sym, subst, arith}
 use Rattle.blsm_model.specs.declared.key.Key.{Key}
+use Rattle.blsm_model.specs.declared.row.Row.{Row}
 use Rattle.blsm_model.specs.declared.row.Value.{Value}
 use Rattle.blsm_model.specs.Facts.{Follows}
 use Rattle.blsm_model.specs.Geometry.{high_mark}
@@ -31,10 +32,11 @@ use Rattle.core_moves.specs.declared.held.Held.{Held}
 use Rattle.tree_core.specs.Calls.{BesideHolds, GoesOnAs}
 use Rattle.tree_core.specs.Core.{CoreState, IsCore, IsTold, HoldsPace, facts_of_held}
 use Rattle.tree_core.specs.Holds.{AreFew, KeepsHolds, StandsWhole}
-use Rattle.tree_core.specs.Standing.{StandsFor}
+use Rattle.tree_core.specs.Standing.{AnyRows, StandsFor}
 use Rattle.tree_core.specs.Steps.{MovesPace, IsStep, IsPlayed, IsWholeStep, StandsSince, is_even_in, may_in}
-use Rattle.tree_core.proofs.KeepLemmas.{is_held, whole_step}
+use Rattle.tree_core.proofs.KeepLemmas.{is_held, rows_said, rows_stay}
 use Rattle.tree_core.proofs.PlayLemmas.{may_agrees, none_is_played, both_are_played, played_by}
+use Rattle.tree_core.proofs.QuietLemmas.{with_rows}
 use Rattle.tree_core.proofs.SizeLemmas.{made_sizes}
 
 -- at the start
@@ -86,17 +88,18 @@ goes_by {D} state seat k answer old new core timed can goes follows numbers step
 pub goes_on_by : {D : Type 0} {end most : ℕ} (state : D → DiskState) (seat : ℕ) (k : Kind) (answer : Answer) (old new : CoreState D) → IsCore old.held (state old.disk) → IsTimed (state new.disk) → is_held k ≡ false → may_in old.held seat k ≡ true
     → KeepsHolds old new → Affects (beside_pins old.held.runs.sizes old.held.runs.space.pins) end most (state old.disk) (state new.disk) → Follows seat (facts_of_held old.held) (facts_of_held new.held)
     → ((pace : Pace) → HoldsPace old.held pace (state old.disk) → MovesPace seat k answer new.held (state new.disk) pace)
-    → ((opening : List (Key × Value)) (m : Machine) (pace : Pace) → IsTrue (state old.disk).is_honest → StandsFor opening old.held m pace (state old.disk) → may m seat k ≡ true
-    → IsStep opening seat k answer new.held (state old.disk) (state new.disk) m pace)
+    → ((opening : List (Key × Value)) (m : Machine) (pace : Pace) → IsTrue (state old.disk).is_honest → StandsFor AnyRows opening old.held m pace (state old.disk) → may m seat k ≡ true
+    → IsStep AnyRows opening seat k answer new.held (state old.disk) (state new.disk) m pace)
     → GoesOnAs state seat k answer old new × BesideHolds state seat k answer old new
 goes_on_by state seat k answer old new core timed none can keeps effect follows numbers steps = (
-  goes_by state seat k answer old new core timed can effect.goes_on follows numbers
-      (λ opening m pace honest stands. whole_step state opening seat k answer old new m pace none keeps (effect.bytes honest) stands (step opening m pace honest stands.stands)),
-  record { holds = keeps; step = step },
+  goes_by state seat k answer old new core timed can effect.goes_on follows numbers (λ opening m pace honest stands. step opening m pace honest (λ ran. rows_stay state old new m.holds keeps (effect.bytes honest) (stands.rows ran)) stands),
+  record { holds = keeps; step = λ opening m pace honest stands. step opening m pace honest (λ ran. refl) stands },
 )
   where
-    step : (opening : List (Key × Value)) (m : Machine) (pace : Pace) → IsTrue (state old.disk).is_honest → StandsFor opening old.held m pace (state old.disk) → IsStep opening seat k answer new.held (state old.disk) (state new.disk) m pace
-    step opening m pace honest stands = steps opening m pace honest stands (may_agrees seat k old.held m stands.book stands.gears ∙ can)
+    step : {Rows Next : List (Option (List Row)) → Type 0} (opening : List (Key × Value)) (m : Machine) (pace : Pace) → IsTrue (state old.disk).is_honest → (old.held.book.stopped ≡ None → Next m.holds) → StandsFor Rows opening old.held m pace (state old.disk)
+        → IsStep Next opening seat k answer new.held (state old.disk) (state new.disk) m pace
+    step opening m pace honest said stands = rows_said opening seat k answer old.held new.held (state old.disk) (state new.disk) m pace none said stands
+        (steps opening m pace honest (with_rows opening old.held m pace (state old.disk) (λ none. tt) stands) (may_agrees seat k old.held m stands.book stands.gears ∙ can))
 
 -- And the core, as it is told of, keeps what its type keeps.
 pub core_kept : {D : Type 0} (state : D → DiskState) {seat : ℕ} {k : Kind} {answer : Answer} {inside old new : CoreState D} → inside ≡ old → IsCore inside.held (state inside.disk) → GoesOnAs state seat k answer old new → IsCore new.held (state new.disk)

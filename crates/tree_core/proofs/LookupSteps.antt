@@ -42,7 +42,7 @@ use Rattle.tree_core.specs.Answers.{reply_to_get, found_in, newest_in}
 use Rattle.tree_core.specs.Calls.{BesideHolds, Gets, GoesOnAs}
 use Rattle.tree_core.specs.Causes.{FindsBecause, LooksNone}
 use Rattle.tree_core.specs.Core.{CoreState, IsCore}
-use Rattle.tree_core.specs.Standing.{StandsFor}
+use Rattle.tree_core.specs.Standing.{AnyRows, StandsFor}
 use Rattle.tree_core.specs.Steps.{IsStep}
 use Rattle.tree_core.proofs.BoundLemmas.{rose}
 use Rattle.tree_core.proofs.QuietLemmas.{quiet_step, reads_on}
@@ -61,19 +61,19 @@ get_has_room seat key found b can = note_has_room b seat 0 (Get key) (reply_to_g
 
 -- The machine's step, where it notes this reply.
 get_step : {end most : ℕ} {d d2 : DiskState} (opening : List (Key × Value)) (seat : ℕ) (key : Key) (r : Reply) (outcome : Outcome) (held : Held) (m : Machine) (pace : Pace) → OnlyReads end most d d2 → IsTrue d.is_honest
-    → StandsFor opening held m pace d → may m seat (kind.Get key) ≡ true → get m seat key outcome ≡ replied seat (Get key) r m
+    → StandsFor AnyRows opening held m pace d → may m seat (kind.Get key) ≡ true → get m seat key outcome ≡ replied seat (Get key) r m
     → IsPossible m seat (kind.Get key) outcome d.faults d2.faults → is_broken outcome ≡ false
-    → IsStep opening seat (kind.Get key) (Replied r) (with_book (noted_in seat (Get key) r held.book) held) d d2 m pace
+    → IsStep AnyRows opening seat (kind.Get key) (Replied r) (with_book (noted_in seat (Get key) r held.book) held) d d2 m pace
 get_step opening seat key r outcome held m pace reads honest s can is possible whole =
     let entry : Entry = record { seat = seat; op = Get key; reply = r } in
-    quiet_step opening seat (kind.Get key) outcome (Replied r) held (noted_in seat (Get key) r held.book) m (note seat (Get key) r m) pace reads honest s can tt possible whole refl is
-    (record { same = record { lists = refl; merges = refl; gears = refl; spring = refl; catalogue = refl }; counts = record { charge = refl; peak = refl; quanta = refl }; book = (moves_book m).note seat (Get key) r ∙ ap (noted_in seat (Get key) r) s.book; stopped = refl; noted = inr (entry, refl, quiet_entry_counts_none entry (inl refl)) })
+    quiet_step opening seat (kind.Get key) outcome (Replied r) held held.runs.space (noted_in seat (Get key) r held.book) m (note seat (Get key) r m) pace reads honest s can tt possible whole refl is
+    (record { same = record { lists = refl; merges = refl; gears = refl; spring = refl; catalogue = refl }; counts = record { charge = refl; peak = refl; quanta = refl }; book = (moves_book m).note seat (Get key) r ∙ ap (noted_in seat (Get key) r) s.book; stopped = refl; noted = inr (entry, refl, quiet_entry_counts_none entry (inl refl)) }) (λ tree table file of. of) (λ none. tt)
 
 get_steps : {end most : ℕ} {d d2 : DiskState} (opening : List (Key × Value)) (seat : ℕ) (key : Key) (found : Lookup) (held : Held) (m : Machine) (pace : Pace) → OnlyReads end most d d2 → IsTrue d.is_honest
     → FindsBecause found key held d d2 → (found ≡ lookup.Fault → d2.faults < 2 ^ 64)
     → ((tree : Tree) → HoldsTree held.runs.sizes tree d.bytes → tree.catalogue ≡ held.runs.catalogue → AreGuided held.runs.guides held.runs.tags tree → held.book.stopped ≡ None → found ≢ lookup.Fault → reply_to_get found ≡ answer_to_get (found_in key held tree))
-    → StandsFor opening held m pace d → may m seat (kind.Get key) ≡ true
-    → IsStep opening seat (kind.Get key) (Replied (reply_to_get found)) (with_book (noted_in seat (Get key) (reply_to_get found) held.book) held) d d2 m pace
+    → StandsFor AnyRows opening held m pace d → may m seat (kind.Get key) ≡ true
+    → IsStep AnyRows opening seat (kind.Get key) (Replied (reply_to_get found)) (with_book (noted_in seat (Get key) (reply_to_get found) held.book) held) d d2 m pace
 get_steps {end} {most} {d} {d2} opening seat key found held m pace reads honest because counted value s can = by found because counted value
   where
     stopped_is : m.stopped ≡ held.book.stopped
@@ -91,12 +91,12 @@ get_steps {end} {most} {d} {d2} opening seat key found held m pace reads honest 
         ∙ ap answer_to_get (lookup_is_the_machines held over.tree m d.bytes key (record { are_of = over.over.are_of; holds = over.holds }))
 
     well : (r : Reply) → held.book.stopped ≡ None → r ≡ answer_to_get (value_in m.lists key)
-        → IsStep opening seat (kind.Get key) (Replied r) (with_book (noted_in seat (Get key) r held.book) held) d d2 m pace
+        → IsStep AnyRows opening seat (kind.Get key) (Replied r) (with_book (noted_in seat (Get key) r held.book) held) d d2 m pace
     well r none is = get_step opening seat key r Well held m pace reads honest s can (running Well none ∙ ap (λ (x : Reply). replied seat (Get key) x m) (sym is)) tt refl
 
     by : (f : Lookup) → FindsBecause f key held d d2 → (f ≡ lookup.Fault → d2.faults < 2 ^ 64)
         → ((tree : Tree) → HoldsTree held.runs.sizes tree d.bytes → tree.catalogue ≡ held.runs.catalogue → AreGuided held.runs.guides held.runs.tags tree → held.book.stopped ≡ None → f ≢ lookup.Fault → reply_to_get f ≡ answer_to_get (found_in key held tree))
-        → IsStep opening seat (kind.Get key) (Replied (reply_to_get f)) (with_book (noted_in seat (Get key) (reply_to_get f) held.book) held) d d2 m pace
+        → IsStep AnyRows opening seat (kind.Get key) (Replied (reply_to_get f)) (with_book (noted_in seat (Get key) (reply_to_get f) held.book) held) d d2 m pace
     by (lookup.Is x) because counted is = well (reply.Is x) because.0 (there (reply.Is x) because.0 (λ tree holds catalogue guided. is tree holds catalogue guided because.0 (λ same. cc same)))
     by lookup.Absent because counted is = well reply.Absent because.0 (there reply.Absent because.0 (λ tree holds catalogue guided. is tree holds catalogue guided because.0 (λ same. cc same)))
     by (lookup.Damaged page) because counted is = well (reply.Damaged page) because.0 (there (reply.Damaged page) because.0 (λ tree holds catalogue guided. is tree holds catalogue guided because.0 (λ same. cc same)))

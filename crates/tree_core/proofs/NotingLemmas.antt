@@ -16,8 +16,7 @@ use Rattle.gear_sched.specs.declared.Plan.TheVariants.{Nothing}
 use Rattle.page_file.specs.declared.file.Broken.{Broken}
 use Rattle.pacing.specs.Steps as pacing
 use Rattle.pacing.specs.Steps.{Move}
-use Rattle.paced_tree.specs.Booking.{quanta_of_move}
-use Rattle.tree_machine.specs.Machine.{Turned, is_caller, seats}
+use Rattle.tree_machine.specs.Machine.{Turned, seats}
 use Rattle.tree_machine.specs.Steps.{last_write}
 use Rattle.tree_machine.proofs.PlayLemmas.{of_replicate}
 use Rattle.seat_book.specs.State.{BookState, helped_in, noted_in, paid_in, stopped_in, turned_in}
@@ -25,7 +24,7 @@ use Rattle.core_moves.specs.declared.held.Held.{Held}
 use Rattle.core_moves.specs.Held.{is_run_full}
 use Rattle.core_moves.specs.Moves.{KeepsAllButMerges, with_book, with_debts_forgiven}
 use Rattle.core_pace.specs.Calls.{KeepsBook}
-use Rattle.core_pace.specs.Turns.{TurnsBy, end_of_move, move_in}
+use Rattle.core_pace.specs.Turns.{TurnsBy, move_in}
 use Rattle.tree_core.specs.Notes.{NotesOne, NotesNone, CountsPayment, CountsTurn, HelpsOnce, OwesNothing, quanta_of_turn}
 use Rattle.tree_core.specs.Quanta.{ended_by, quanta_by, stopped_by}
 use Rattle.tree_core.specs.declared.answers.Payment.TheVariants as payment
@@ -66,18 +65,8 @@ plans_nothing first second is = grind (arith, common_steps, nat_tests)
 
 -- ---- a turn
 
-well_quanta : (mv : Move) → quanta_of_move mv ≡ quanta_of_turn (end_of_move mv) mv
-well_quanta mv = grind (arith, common_steps, nat_tests)
-
 ended_quanta : (mv : Move) (made : Result ℕ Broken) → quanta_by made mv ≡ quanta_of_turn (ended_by made mv) mv
 ended_quanta mv made = grind (arith, common_steps, nat_tests)
-
--- the move, and the stop where it failed, leave the annals and the works
-stopped_notes : (made : Result ℕ Broken) (faults : ℕ) (b : BookState) → NotesNone b (stopped_by made faults b)
-stopped_notes made faults b = grind (arith, common_steps, nat_tests)
-
-moved_notes : (mv : Move) (seat : ℕ) (made : Result ℕ Broken) (old moved : Held) → IfOk made (λ n. TurnsBy mv seat n old moved) → KeepsAllButMerges (IsErr made) old moved → NotesNone old.book moved.book
-moved_notes mv seat made old moved h1 h2 = grind (arith, common_steps, nat_tests)
 
 ended_notes : (w : Bool) (seat : ℕ) (mv : Move) (made : Result ℕ Broken) (faults : ℕ) (old moved : Held) (ended : Turned) (b : BookState) (before after : DiskState) → Ends w seat mv made faults old moved ended b before after
     → NotesNone old.book (stopped_by made faults moved.book)
@@ -142,9 +131,6 @@ stopped_turns made faults b = grind (arith, common_steps, nat_tests)
 
 moved_turns : (mv : Move) (seat : ℕ) (made : Result ℕ Broken) (old moved : Held) → IfOk made (λ n. TurnsBy mv seat n old moved) → KeepsAllButMerges (IsErr made) old moved → moved.book.seats.turns ≡ old.book.seats.turns
 moved_turns mv seat made old moved h1 h2 = grind (arith, common_steps, nat_tests)
-
-no_caller : (seat : ℕ) → callers ≤ seat → is_caller seat ≡ false
-no_caller seat above = grind (arith, common_steps, nat_tests)
 
 pub helps_once : (seat : ℕ) (old between b : BookState) → callers ≤ seat → seat < seats → length old.seats.turns ≡ seats - callers → between.seats.turns ≡ old.seats.turns → b ≡ helped_in seat between → HelpsOnce seat old b
 helps_once seat old between b above below places same is = grind (arith, common_steps, nat_tests)

@@ -3,12 +3,10 @@ use Rattle.std.specs.Prelude.{◌≡◌, ◌+◌, List, [], None, Option, is_som
 use Rattle.std.proofs.lemmas.Grind.{common_steps}
 use Rattle.std.proofs.lemmas.Bool.Decides.{nat_tests}
 use Rattle.std.proofs.Common.{arith}
-use Rattle.std.proofs.Common.{◌∙◌, refl, ap, sym, subst}
+use Rattle.std.proofs.Common.{◌∙◌, refl, ap, sym}
 use Rattle.std.proofs.lemmas.Bool.{false≢true}
 use Rattle.blsm_model.specs.Book.{Book}
-use Rattle.blsm_model.specs.Components.{empty_component}
 use Rattle.blsm_model.specs.Format.{callers}
-use Rattle.deep_merge.specs.Merge.{DeepState}
 use Rattle.disk_trait.specs.Disk.{DiskState}
 use Rattle.disk_trait.specs.Moments.{IsTimed}
 use Rattle.gear_sched.specs.Gears.{GearState, at_rest}
@@ -20,7 +18,7 @@ use Rattle.seat_book.specs.State.{BookState, opened_in}
 use Rattle.tree_file.specs.Tree.{Tree, map_of_tree}
 use Rattle.tree_log.specs.Log.{LogState}
 use Rattle.tree_machine.specs.Machine.{opened}
-use Rattle.tree_runs.specs.Runs.{RunsState, RestsEmpty}
+use Rattle.tree_runs.specs.Runs.{RunsState}
 use Rattle.tree_runs.specs.Holding.{StandOver}
 use Rattle.core_moves.specs.declared.held.Held.{Held}
 use Rattle.core_moves.specs.Held.{IsOne}
@@ -49,9 +47,6 @@ module _ {D : Type 0} (state : D → DiskState) (disk : D) (runs : RunsState) (l
 
   abbrev pace : Pace
   pace = pace_opened runs.sizes runs.catalogue.c1.weight runs.catalogue.c2.weight
-
-  empty_c1x : runs.catalogue.c1x ≡ empty_component
-  empty_c1x = subst (λ (deep : Option DeepState). RestsEmpty deep runs.catalogue.c1x) settled.deep settled.running.in_order.rests
 
   is_opened : IsOpened annals d.faults held
   is_opened = grind (arith, common_steps, nat_tests)
@@ -82,14 +77,12 @@ module _ {D : Type 0} (state : D → DiskState) (disk : D) (runs : RunsState) (l
       let agrees = Rattle.core_lists.proofs.TestLemmas.tests_agree_with_lists held tree m d.bytes pace stands.at
       stands.paced.stands.sound paced.numbers in
       record {
-        stands = record {
-          paced = stands.paced;
-          sizes = refl;
-          gears = stands.at.holds.gears;
-          book = stands.at.holds.book;
-          charge_is = agrees.charge_is;
-          runs = λ none. record { fronts = no_fronts; tree = tree; over = over; holds = stands.at.holds; within = stands.within; lanes = stands.lanes };
-          stopped = λ some. absurd (false≢true (sym (ap is_some not_stopped) ∙ some));
-        };
-        rows = λ runs. none_held held holds m d none refl;
+        paced = stands.paced;
+        sizes = refl;
+        gears = stands.at.holds.gears;
+        book = stands.at.holds.book;
+        charge_is = agrees.charge_is;
+        runs = λ none. record { fronts = no_fronts; tree = tree; over = over; holds = stands.at.holds; within = stands.within; lanes = stands.lanes };
+        rows = λ runs. none_held held holds d m.holds none refl;
+        stopped = λ some. absurd (false≢true (sym (ap is_some not_stopped) ∙ some));
       }

@@ -37,6 +37,7 @@ use Rattle.tree_core.specs.Calls.{BesideHolds, GoesOnAs, Pays}
 use Rattle.tree_core.specs.Causes.{IsDamageAhead}
 use Rattle.tree_core.specs.Core.{CoreState, HoldsPace, IsCore, facts_of_held}
 use Rattle.tree_core.specs.Quanta.{LeavesTaken}
+use Rattle.tree_core.specs.Standing.{AnyRows}
 use Rattle.tree_core.specs.Steps.{IsStep, MovesPace}
 use Rattle.tree_core.specs.declared.answers.Payment.TheVariants as payment
 use Rattle.tree_core.proofs.BoundLemmas.{rose as has_risen}
@@ -55,7 +56,7 @@ pub pay_halted : {D : Type 0} (state : D → DiskState) (seat : ℕ) (why : Why)
 pay_halted state seat why old core timed caller stopped =
     let goes = goes_on_by {end = 0} {most = 0} state seat kind.Pay (Turn (machine.Halted why)) old old core timed refl (may_leave seat caller) (record { holds = refl; pins = refl; sizes = refl }) (affects_start (state old.disk) timed)
     (follows_by seat 0 0 old.held old.held (omega arith) (omega arith) (keeps_itself seat old.held.book) (debts_stay seat old.held.gears)) (λ pace holds. record { next = pace; made = refl; holds = holds })
-    (λ opening m pace honest s ok. halted_payment opening seat why old.held m pace (state old.disk) timed stopped s) in
+    (λ opening m pace honest s ok. halted_payment opening seat why old.held m pace (state old.disk) timed honest stopped s ok) in
     record {
       goes = goes.0;
       beside = goes.1;
@@ -107,7 +108,7 @@ module _ {D : Type 0} (state : D → DiskState) (seat : ℕ) (plan : Plan) (resu
   paying_goes : (answer : Answer) (b : BookState) → Follows seat (facts_of_held old.held) (facts_of_held (with_book b taken))
       → ((pace : Pace) → HoldsPace old.held pace (state old.disk) → MovesPace seat kind.Pay answer (with_book b taken) (state disk) pace)
       → ((opening : List (Key × Value)) (m : Machine) (pace : Pace) (tree : Tree) → RunsAt opening old.held m pace (state old.disk) tree → may m seat kind.Pay ≡ true → LeavesTaken plan result forgiven taken tree (state old.disk) (state disk)
-      → IsStep opening seat kind.Pay answer (with_book b taken) (state old.disk) (state disk) m pace)
+      → IsStep AnyRows opening seat kind.Pay answer (with_book b taken) (state old.disk) (state disk) m pace)
       → GoesOnAs state seat kind.Pay answer old (record { disk = disk; held = with_book b taken; holds = old.holds }) × BesideHolds state seat kind.Pay answer old (record { disk = disk; held = with_book b taken; holds = old.holds })
   paying_goes answer b follows numbers steps =
       let pins = then_pins old.held forgiven taken (forgiven_keeps_pins seat old.held forgiven t.plans.is) (quantum_keeps_pins plan result seat forgiven taken t.takes t.kept) in

@@ -1,5 +1,5 @@
 -- On an honest disk a payment is the machine's own step.
-use Rattle.std.proofs.Common.{◌≡◌, ◌∙◌, ℕ, ◌+◌, true, not, ◌&&◌, List, Some, None, Option, Ok, Err, refl, ap, sym, subst, arith}
+use Rattle.std.proofs.Common.{◌≡◌, ◌∙◌, inl, ℕ, ◌+◌, true, not, ◌&&◌, List, Some, None, Option, Ok, Err, refl, ap, sym, subst, arith}
 use Rattle.std.proofs.lemmas.Grind.{common_steps}
 use Rattle.std.proofs.lemmas.Bool.Decides.{nat_tests}
 use Rattle.std.specs.Prelude.{IsTrue, is_some, nat_lt}
@@ -42,27 +42,24 @@ use Rattle.core_lists.proofs.StepLands.{settling_lands}
 use Rattle.core_lists.proofs.GoingLemmas.{payment_goes_on}
 use Rattle.tree_core.specs.Core.{HoldsPace}
 use Rattle.tree_core.specs.Quanta.{LeavesTaken}
-use Rattle.tree_core.specs.Standing.{StandsFor}
+use Rattle.tree_core.specs.Standing.{AnyRows, StandsFor}
 use Rattle.tree_core.specs.Steps.{IsStep}
 use Rattle.tree_core.proofs.QuantumLemmas.{charge_kept}
 use Rattle.tree_core.proofs.QuantumSteps.{RunsAt, stands_running, running_at, steady_at, shows_at, leaves_same, step_by}
 use Rattle.tree_core.proofs.VersionLemmas.{one_commits, version_of}
 use Rattle.tree_core.proofs.PaymentLemmas.{Took, FailedToTake, book_stopped, kept_of, takes_in, payment_runs}
+use Rattle.disk_trait.specs.Reads.{only_reads_start}
+use Rattle.tree_core.proofs.QuietLemmas.{quiet_step}
 
 -- ---- a store that is stopped
 
-pub halted_payment : (opening : List (Key × Value)) (seat : ℕ) (why : Why) (held : Held) (m : Machine) (pace : Pace) (d : DiskState) → IsTimed d → held.book.stopped ≡ Some why → StandsFor opening held m pace d
-    → IsStep opening seat kind.Pay (Turn (machine.Halted why)) held d d m pace
-halted_payment opening seat why held m pace d timed is stands =
-    step_by opening seat kind.Pay (Turn (machine.Halted why)) held d d m pace Well halted pace (ap (λ (o : Option Why). pay_running o m seat Well) stop_is)
-    (ap (λ (o : Option Why). unless_stopped o pace (after_payment m pace seat Well)) stop_is) tt refl stands refl
-    (leaves_only_start d _ timed (λ c here. ((stands.stopped (ap is_some is)).each c here).0))
-  where
-    halted : Stepped
-    halted = record { state = m; answer = Turn (machine.Halted why) }
-
-    stop_is : m.stopped ≡ Some why
-    stop_is = ap (λ (b : BookState). b.stopped) stands.book ∙ is
+pub halted_payment : (opening : List (Key × Value)) (seat : ℕ) (why : Why) (held : Held) (m : Machine) (pace : Pace) (d : DiskState) → IsTimed d → IsTrue d.is_honest → held.book.stopped ≡ Some why → StandsFor AnyRows opening held m pace d
+    → IsTrue (may m seat kind.Pay) → IsStep AnyRows opening seat kind.Pay (Turn (machine.Halted why)) held d d m pace
+halted_payment opening seat why held m pace d timed honest is stands ok =
+    let stop_is : m.stopped ≡ Some why = ap (λ (b : BookState). b.stopped) stands.book ∙ is in
+    quiet_step {end = 0} {most = 0} opening seat kind.Pay Well (Turn (machine.Halted why)) held held.runs.space held.book m m pace (only_reads_start d timed) honest stands ok tt tt refl
+    (ap (λ (o : Option Why). unless_stopped o pace (after_payment m pace seat Well)) stop_is) (ap (λ (o : Option Why). pay_running o m seat Well) stop_is)
+    (record { same = record { lists = refl; merges = refl; gears = refl; spring = refl; catalogue = refl }; counts = record { charge = refl; peak = refl; quanta = refl }; book = stands.book; stopped = refl; noted = inl refl }) (λ tree table file of. of) (λ none. tt)
 
 -- ---- one that runs
 
@@ -83,7 +80,7 @@ machine_runs opening old m pace d tree r = ap (λ (b : BookState). b.stopped) r.
 
 -- where nothing is owed
 settled_at : (opening : List (Key × Value)) (seat : ℕ) (old : Held) (m : Machine) (pace : Pace) (d : DiskState) (tree : Tree) → IsTimed d → RunsAt opening old m pace d tree → IsTrue (may m seat kind.Pay)
-    → ((c : List ℕ) → d.images c → HoldsTree old.runs.sizes tree c) → plan_in seat old ≡ Nothing → IsStep opening seat kind.Pay Settled (with_debts_forgiven seat old) d d m pace
+    → ((c : List ℕ) → d.images c → HoldsTree old.runs.sizes tree c) → plan_in seat old ≡ Nothing → IsStep AnyRows opening seat kind.Pay Settled (with_debts_forgiven seat old) d d m pace
 settled_at opening seat old m pace d tree timed r ok each nothing =
     let steady = steady_at opening old m pace d tree r in
     let at = settling_lands seat old tree m d.bytes steady nothing in
@@ -96,12 +93,12 @@ settled_at opening seat old m pace d tree timed r ok each nothing =
     (leaves_same opening m d d (pay m seat Well).state.book.entries d.images (ap (λ (b : BookState). b.book.entries) (at.holds.book ∙ sym r.holds.book))
     (λ c here. shows_at opening old m pace d tree c r (each c here)) (leaves_only_start d d.images timed (λ c here. here)))
 
-pub settled_payment : (opening : List (Key × Value)) (seat : ℕ) (old forgiven : Held) (m : Machine) (pace numbers : Pace) (d : DiskState) → IsTimed d → old.book.stopped ≡ None → HoldsPace old numbers d → StandsFor opening old m pace d
-    → IsTrue (may m seat kind.Pay) → forgiven ≡ with_debts_forgiven seat old → plan_in seat old ≡ Nothing → IsStep opening seat kind.Pay Settled forgiven d d m pace
+pub settled_payment : (opening : List (Key × Value)) (seat : ℕ) (old forgiven : Held) (m : Machine) (pace numbers : Pace) (d : DiskState) → IsTimed d → old.book.stopped ≡ None → HoldsPace old numbers d → StandsFor AnyRows opening old m pace d
+    → IsTrue (may m seat kind.Pay) → forgiven ≡ with_debts_forgiven seat old → plan_in seat old ≡ Nothing → IsStep AnyRows opening seat kind.Pay Settled forgiven d d m pace
 settled_payment opening seat old forgiven m pace numbers d timed ran holds stands ok is nothing =
     let k = (holds.live ran).paced in
     let r = running_at opening old m pace d numbers stands ran k.numbers k.one.gears in
-    subst (λ (h : Held). IsStep opening seat kind.Pay Settled h d d m pace) (sym is)
+    subst (λ (h : Held). IsStep AnyRows opening seat kind.Pay Settled h d d m pace) (sym is)
     (settled_at opening seat old m pace d (stands.runs ran).tree timed r ok (stands.runs ran).over.stands.each nothing)
 
 -- where the quantum was taken
@@ -120,7 +117,7 @@ stands_forgiven seat old forgiven tree d is over = subst (λ (h : Held). StandOv
 
 pub paid_step : PaymentLands → (opening : List (Key × Value)) (seat n : ℕ) (plan : Plan) (old forgiven taken : Held) (b : BookState) (m : Machine) (pace next : Pace) (before after : DiskState) (tree : Tree) (result : Result ℕ Broken)
     → Took seat n plan old forgiven taken → b ≡ paid_in seat taken.book → RunsAt opening old m pace before tree → IsPacedHeld (with_book b taken) next → IsTrue (may m seat kind.Pay)
-    → result ≡ Ok n → LeavesTaken plan result forgiven taken tree before after → IsStep opening seat kind.Pay Paid (with_book b taken) before after m pace
+    → result ≡ Ok n → LeavesTaken plan result forgiven taken tree before after → IsStep AnyRows opening seat kind.Pay Paid (with_book b taken) before after m pace
 paid_step lands opening seat n plan old forgiven taken b m pace next before after tree result took counted r k ok is leaves =
     step_by opening seat kind.Pay Paid (with_book b taken) before after m pace Well (pay m seat Well) (pace_after m pace seat kind.Pay Well) refl refl tt refl
     (stands_running opening (with_book b taken) (pay m seat Well).state (pace_after m pace seat kind.Pay Well) after tree
@@ -156,7 +153,7 @@ owed_by first second h1 = grind (arith, common_steps, nat_tests)
 
 pub failed_payment_step : (opening : List (Key × Value)) (seat f : ℕ) (plan : Plan) (old forgiven failed : Held) (b : BookState) (m : Machine) (pace : Pace) (before after : DiskState) (tree : Tree) (result : Result ℕ Broken)
     → FailedToTake seat plan (Faulted f) old forgiven failed b → RunsAt opening old m pace before tree → IsTrue (may m seat kind.Pay) → f ≡ after.faults → Rose before.faults after.faults
-    → LeavesTaken plan result forgiven failed tree before after → IsStep opening seat kind.Pay (Turn machine.Failed) (with_book b failed) before after m pace
+    → LeavesTaken plan result forgiven failed tree before after → IsStep AnyRows opening seat kind.Pay (Turn machine.Failed) (with_book b failed) before after m pace
 failed_payment_step opening seat f plan old forgiven failed b m pace before after tree result fails r ok counted rose leaves =
     step_by opening seat kind.Pay (Turn machine.Failed) (with_book b failed) before after m pace (FailedAfter 0 f) stepped (pace_after m pace seat kind.Pay (FailedAfter 0 f)) same refl possible refl stands refl
     (leaves_same opening m before after m.book.entries (HoldsTree forgiven.runs.sizes tree) refl shows leaves.each)
@@ -193,7 +190,7 @@ failed_payment_step opening seat f plan old forgiven failed b m pace before afte
     stops : b ≡ stopped_in (Faulted f) old.book
     stops = book_stopped seat plan (Faulted f) old forgiven failed b fails
 
-    stands : StandsFor opening (with_book b failed) stepped.state (pace_after m pace seat kind.Pay (FailedAfter 0 f)) after
+    stands : StandsFor AnyRows opening (with_book b failed) stepped.state (pace_after m pace seat kind.Pay (FailedAfter 0 f)) after
     stands =
         let kept = kept_of seat plan (Faulted f) old forgiven failed b fails in
         record {
@@ -204,6 +201,7 @@ failed_payment_step opening seat f plan old forgiven failed b m pace before afte
           charge_is = (tests_agree_with_lists (with_debts_forgiven seat old) tree (forgive seat m) before.bytes (with_forgiven r.numbers seat) at (sound_forgiven m seat r.goes.paced.stands.sound) (forgiving_has_pace seat old r.numbers r.has)).charge_is
               ∙ sym (charge_kept (with_debts_forgiven seat old) failed kept);
           runs = λ runs. absurd (let e = ap (λ (x : BookState). x.stopped) stops in cc (e, runs));
+          rows = λ runs. tt;
           stopped = λ some. record {
             reads = shows after.bytes leaves.stands.reads;
             each = λ c here. shows c (leaves.stands.each c here);

@@ -1,5 +1,5 @@
 -- Lists of steps: each step is the machine's, or is passed over.
-use Rattle.std.specs.Prelude.{◌≡◌, ◌↔◌, IsTrue, ℕ, ◌+◌, ◌≤◌, Bool, true, false, ◌&&◌, List, [], ◌∷◌, ◌++◌, None, length, map}
+use Rattle.std.specs.Prelude.{◌≡◌, ◌↔◌, IsTrue, ℕ, ◌≤◌, Bool, true, false, List, [], ◌∷◌, ◌++◌, length, map}
 use Rattle.std.proofs.lemmas.Grind.{common_steps}
 use Rattle.std.proofs.lemmas.Bool.Decides.{nat_tests}
 use Rattle.std.proofs.Common.{◌∙◌, ⊎_elim, cond, length-append, refl, ap, sym, subst, arith}
@@ -14,15 +14,13 @@ use Rattle.blsm_model.specs.declared.history.Entry.{Entry}
 use Rattle.blsm_model.specs.Sizes.{Sizes}
 use Rattle.disk_trait.specs.Disk.{DiskState, GoesOn}
 use Rattle.disk_trait.specs.Moments.{IsTimed, LeavesOnly, goes_on_start, leaves_only_run, leaves_only_weaken}
-use Rattle.gear_sched.specs.Gears.{first_debt, second_debt}
 use Rattle.pacing.specs.Pace.{Pace}
-use Rattle.seat_book.specs.State.{BookState, book_of, may_note_in}
-use Rattle.seat_book.proofs.WordLemmas.{reads_book}
+use Rattle.seat_book.specs.State.{book_of}
 use Rattle.tree_machine.specs.declared.step.Kind.{Kind}
 use Rattle.tree_machine.specs.declared.step.Step.{Step}
 use Rattle.tree_machine.specs.Machine.{Machine}
-use Rattle.tree_machine.specs.Outcomes.{AreTold, IsPossible, NoneBroken, Rose}
-use Rattle.tree_machine.specs.Plays.{is_even, may, may_note, played, played_one, stepped_as}
+use Rattle.tree_machine.specs.Outcomes.{AreTold, IsPossible, NoneBroken}
+use Rattle.tree_machine.specs.Plays.{may, played, played_one, stepped_as}
 use Rattle.tree_machine.specs.Steps.{Outcome, Answer, Well}
 use Rattle.tree_machine.proofs.FrameLemmas.{step_fixed, step_follows}
 use Rattle.paced_tree.specs.After.{pace_after}
@@ -33,28 +31,15 @@ use Rattle.paced_tree.specs.Kept.{paced_all, paced_one}
 use Rattle.tree_core.specs.Core.{CoreState}
 use Rattle.tree_core.specs.Holds.{StandsWhole}
 use Rattle.tree_core.proofs.QuietLemmas.{leaves_now}
-use Rattle.tree_core.specs.Steps.{IsWholeStep, IsPlayed, is_even_in, is_fit, may_in}
+use Rattle.tree_core.specs.Steps.{IsWholeStep, IsPlayed, is_fit, may_in}
 
 -- ---- when a step may be made
-
-even_agrees : (seat : ℕ) (held : Held) (m : Machine) → book_of m ≡ held.book → m.gears ≡ held.gears → is_even seat m ≡ is_even_in seat held
-even_agrees seat held m book gears = grind (arith, common_steps, nat_tests)
-
-note_agrees : (seat rows : ℕ) (held : Held) (m : Machine) → book_of m ≡ held.book → may_note seat rows m ≡ may_note_in seat rows held.book
-note_agrees seat rows held m book = (reads_book m).notes seat rows ∙ ap (λ (b : BookState). may_note_in seat rows b) book
 
 -- what the machine says of it is what the core has in memory
 pub may_agrees : (seat : ℕ) (k : Kind) (held : Held) (m : Machine) → book_of m ≡ held.book → m.gears ≡ held.gears → may m seat k ≡ may_in held seat k
 may_agrees seat k held m h1 h2 = grind (arith, common_steps, nat_tests)
 
--- a seat that is even owes nothing while the store runs
-pub even_owes : (seat : ℕ) (held : Held) → is_even_in seat held ≡ true → held.book.stopped ≡ None → first_debt held.gears seat + second_debt held.gears seat ≡ 0
-even_owes seat held even runs = grind (arith, common_steps, nat_tests)
-
 -- ---- which tails fit
-
-both_are : (a b : Bool) → (a && b) ≡ true → (a ≡ true) × (b ≡ true)
-both_are a b h1 = grind (arith, common_steps, nat_tests)
 
 same_truth : (a b : Bool) → (a ≡ true → b ≡ true) → (b ≡ true → a ≡ true) → a ≡ b
 same_truth a b h1 h2 = grind (arith, common_steps, nat_tests)
@@ -81,7 +66,7 @@ none_is_played state opening core m pace timed whole = record {
   whole = tt;
   stands = whole;
   grows = prefix_self m.book.entries;
-  images = leaves_only_weaken (λ c shows. shows.0) (leaves_now opening core.held m pace (state core.disk) timed whole.stands);
+  images = leaves_only_weaken (λ c shows. shows.0) (leaves_now opening core.held m pace (state core.disk) timed whole);
 }
 
 -- a step of one seat notes one entry at most
@@ -98,18 +83,18 @@ one_told m step outcome old new grows possible = (new, grows, possible, omega ar
 pub made_is_played : {D : Type 0} (state : D → DiskState) (opening : List (Key × Value)) (step : Step) (answer : Answer) (old new : CoreState D) (m : Machine) (pace : Pace) → may m step.seat step.kind ≡ true
     → (state old.disk).faults ≤ (state new.disk).faults → IsWholeStep state opening step.seat step.kind answer old new m pace → IsPlayed state opening (step ∷ []) old new m pace
 made_is_played state opening step answer old new m pace can grows is =
-    let outcome = is.step.outcome in
+    let outcome = is.outcome in
     let played_is : played_one m (step, outcome) ≡ (stepped_as m step.seat step.kind outcome).state = ap (λ (b : Bool). cond b (stepped_as m step.seat step.kind outcome).state m) can in
     let paced_is : paced_one m pace (step, outcome) ≡ pace_after m pace step.seat step.kind outcome = ap (λ (b : Bool). cond b (pace_after m pace step.seat step.kind outcome) pace) can in
     record {
       made = (step, outcome) ∷ [];
       steps_are = refl;
-      told = one_told m step outcome (state old.disk).faults (state new.disk).faults grows (λ may. is.step.possible);
-      whole = (is.step.whole, tt);
+      told = one_told m step outcome (state old.disk).faults (state new.disk).faults grows (λ may. is.possible);
+      whole = (is.whole, tt);
       stands = subst (λ (p : Pace). StandsWhole state opening new (played_one m (step, outcome)) p) (sym paced_is)
-          (subst (λ (x : Machine). StandsWhole state opening new x (pace_after m pace step.seat step.kind outcome)) (sym played_is) (record { stands = is.step.stands; rows = is.rows }));
+          (subst (λ (x : Machine). StandsWhole state opening new x (pace_after m pace step.seat step.kind outcome)) (sym played_is) is.stands);
       grows = subst (λ (x : Machine). IsPrefix m.book.entries x.book.entries) (sym played_is) (history_grows m step.seat step.kind outcome can);
-      images = subst (λ (x : Machine). LeavesOnly (state old.disk) (state new.disk) (ShowsHistory m.gears.sizes opening x.book.entries (length m.book.entries))) (sym played_is) is.step.images;
+      images = subst (λ (x : Machine). LeavesOnly (state old.disk) (state new.disk) (ShowsHistory m.gears.sizes opening x.book.entries (length m.book.entries))) (sym played_is) is.images;
     }
 
 -- a step of a kind, whose condition holds by what the core has in memory
@@ -123,7 +108,7 @@ pub passed_is_played : {D : Type 0} (state : D → DiskState) (opening : List (K
     → may_in core.held step.seat step.kind ≡ false → StandsWhole state opening core m pace → IsPlayed state opening (step ∷ []) core core m pace
 passed_is_played state opening step core m pace timed cannot whole =
     let d = state core.disk in
-    let not : may m step.seat step.kind ≡ false = may_agrees step.seat step.kind core.held m whole.stands.book whole.stands.gears ∙ cannot in
+    let not : may m step.seat step.kind ≡ false = may_agrees step.seat step.kind core.held m whole.book whole.gears ∙ cannot in
     let played_is : played_one m (step, Well) ≡ m = ap (λ (b : Bool). cond b (stepped_as m step.seat step.kind Well).state m) not in
     let paced_is : paced_one m pace (step, Well) ≡ pace = ap (λ (b : Bool). cond b (pace_after m pace step.seat step.kind Well) pace) not in
     record {
@@ -133,7 +118,7 @@ passed_is_played state opening step core m pace timed cannot whole =
       whole = (refl, tt);
       stands = subst (λ (p : Pace). StandsWhole state opening core (played_one m (step, Well)) p) (sym paced_is) (subst (λ (x : Machine). StandsWhole state opening core x pace) (sym played_is) whole);
       grows = subst (λ (x : Machine). IsPrefix m.book.entries x.book.entries) (sym played_is) (prefix_self m.book.entries);
-      images = subst (λ (x : Machine). LeavesOnly d d (ShowsHistory m.gears.sizes opening x.book.entries (length m.book.entries))) (sym played_is) (leaves_only_weaken (λ c shows. shows.0) (leaves_now opening core.held m pace d timed whole.stands));
+      images = subst (λ (x : Machine). LeavesOnly d d (ShowsHistory m.gears.sizes opening x.book.entries (length m.book.entries))) (sym played_is) (leaves_only_weaken (λ c shows. shows.0) (leaves_now opening core.held m pace d timed whole));
     }
 
 -- a disk that wasn't called
@@ -141,10 +126,6 @@ pub goes_still : {D : Type 0} (state : D → DiskState) {old new : D} → new �
 goes_still {D} state {old} {new} same = subst (λ (d : D). GoesOn (state old) (state d)) (sym same) (goes_on_start (state old))
 
 -- ---- one after another
-
--- a count that rose from here rose from before, too
-rose_before : (old mid new : ℕ) → old ≤ mid → Rose mid new → Rose old new
-rose_before old mid new le rose = grind (arith, common_steps, nat_tests)
 
 sooner : (m : Machine) (seat : ℕ) (k : Kind) (outcome : Outcome) (old mid new : ℕ) → old ≤ mid → IsPossible m seat k outcome mid new → IsPossible m seat k outcome old new
 sooner m seat k outcome old mid new h1 h2 = grind (arith, common_steps, nat_tests)

@@ -8,7 +8,7 @@ use Rattle.blsm_model.specs.Facts.{Follows}
 use Rattle.blsm_model.specs.declared.history.Why.{Why}
 use Rattle.disk_trait.specs.Disk.{DiskState}
 use Rattle.gear_sched.specs.Gears.{GearState, first_debt, second_debt, forgiven, took_first, took_second}
-use Rattle.pacing.specs.Pace.{Pace, charge}
+use Rattle.pacing.specs.Pace.{Pace}
 use Rattle.seat_book.specs.State.{BookState}
 use Rattle.seat_book.specs.Seats.{KeepsSeats}
 use Rattle.seat_book.proofs.KeepLemmas.{keeps_less, holds_follow}
@@ -20,9 +20,6 @@ use Rattle.core_pace.specs.Pacing.{HasPace, IsRunBook, IsPacedHeld}
 use Rattle.tree_core.specs.Core.{IsTold, HoldsPace, beside_in, facts_of_held}
 
 -- ---- numbers
-
-same_charge : (held : Held) (pace : Pace) → HasPace held pace → charge pace ≡ charge_in held
-same_charge held pace p = cc (p.c1, p.c1x, p.c2, p.gears, p.a, p.b)
 
 pub told_by : (held : Held) (pace : Pace) → HasPace held pace → IsOne held → IsRunBook held.book pace → IsTold held pace
 told_by held pace has one told = grind (arith, common_steps, nat_tests)

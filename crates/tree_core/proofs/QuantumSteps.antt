@@ -33,7 +33,7 @@ use Rattle.core_lists.specs.Images.{StandsIn}
 use Rattle.core_lists.proofs.TestLemmas.{tests_agree_with_lists}
 use Rattle.core_lists.proofs.ShowingLemmas.{standing_shows}
 use Rattle.core_lists.proofs.GoingLemmas.{standing_is_steady}
-use Rattle.tree_core.specs.Standing.{StandsFor}
+use Rattle.tree_core.specs.Standing.{AnyRows, StandsFor}
 use Rattle.tree_core.specs.Steps.{IsStep}
 
 -- a store that runs has no stop
@@ -51,7 +51,7 @@ pub record RunsAt (opening : List (Key × Value)) (held : Held) (m : Machine) (p
   pub one : held.gears.sizes ≡ held.runs.sizes
   pub ran : held.book.stopped ≡ None
 
-pub stands_running : (opening : List (Key × Value)) (held : Held) (m : Machine) (pace : Pace) (d : DiskState) (tree : Tree) → RunsAt opening held m pace d tree → StandsFor opening held m pace d
+pub stands_running : (opening : List (Key × Value)) (held : Held) (m : Machine) (pace : Pace) (d : DiskState) (tree : Tree) → RunsAt opening held m pace d tree → StandsFor AnyRows opening held m pace d
 stands_running opening held m pace d tree r = record {
   paced = r.goes.paced;
   sizes = ap (λ (g : GearState). g.sizes) r.holds.gears ∙ r.one;
@@ -59,11 +59,12 @@ stands_running opening held m pace d tree r = record {
   book = r.holds.book;
   charge_is = (tests_agree_with_lists held tree m d.bytes r.numbers (record { are_of = r.over.are_of; holds = r.holds }) r.goes.paced.stands.sound r.has).charge_is;
   runs = λ runs. record { fronts = r.fronts; tree = tree; over = r.over; holds = r.holds; within = r.goes.within; lanes = r.goes.lanes };
+  rows = λ runs. tt;
   stopped = λ some. absurd (no_stop held r.ran some);
 }
 
 -- and back
-pub running_at : (opening : List (Key × Value)) (held : Held) (m : Machine) (pace : Pace) (d : DiskState) (numbers : Pace) (stands : StandsFor opening held m pace d) (ran : held.book.stopped ≡ None) → HasPace held numbers
+pub running_at : (opening : List (Key × Value)) (held : Held) (m : Machine) (pace : Pace) (d : DiskState) (numbers : Pace) (stands : StandsFor AnyRows opening held m pace d) (ran : held.book.stopped ≡ None) → HasPace held numbers
     → held.gears.sizes ≡ held.runs.sizes → RunsAt opening held m pace d (stands.runs ran).tree
 running_at opening held m pace d numbers stands ran has one =
     let r = stands.runs ran in
@@ -100,6 +101,6 @@ leaves_same opening m before after entries P same shows leaves =
 -- A step by what it makes of the machine and of the pace.
 pub step_by : (opening : List (Key × Value)) (seat : ℕ) (kind : Kind) (answer : Answer) (new : Held) (before after : DiskState) (m : Machine) (pace : Pace) (outcome : Outcome) (s : Stepped) (p : Pace)
     → stepped_as m seat kind outcome ≡ s → pace_after m pace seat kind outcome ≡ p → IsPossible m seat kind outcome before.faults after.faults → is_broken outcome ≡ false
-    → StandsFor opening new s.state p after → answer ≡ s.answer → LeavesOnly before after (ShowsHistory m.gears.sizes opening s.state.book.entries (length m.book.entries))
-    → IsStep opening seat kind answer new before after m pace
+    → StandsFor AnyRows opening new s.state p after → answer ≡ s.answer → LeavesOnly before after (ShowsHistory m.gears.sizes opening s.state.book.entries (length m.book.entries))
+    → IsStep AnyRows opening seat kind answer new before after m pace
 step_by opening seat kind answer new before after m pace outcome s p same same_pace possible whole stands answers images = grind (arith, common_steps, nat_tests)

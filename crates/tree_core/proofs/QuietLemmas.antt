@@ -2,9 +2,10 @@
 use Rattle.std.specs.Prelude.{◌≡◌, ◌⊎◌, ℕ, ◌+◌, ◌≤◌, Bool, false, true, List, [], ◌∷◌, ◌++◌, Option, None, IsSome, IsTrue, length}
 use Rattle.std.proofs.lemmas.Grind.{common_steps}
 use Rattle.std.proofs.lemmas.Bool.Decides.{nat_tests}
-use Rattle.std.proofs.Common.{◌∙◌, ⊎_elim, inl, inr, refl, ap, sym, subst, arith}
+use Rattle.std.proofs.Common.{◌∙◌, ⊎_elim, refl, ap, sym, subst, arith}
 use mathlib.Core.List.{IsPrefix}
 use Rattle.blsm_model.specs.declared.key.Key.{Key}
+use Rattle.blsm_model.specs.declared.row.Row.{Row}
 use Rattle.blsm_model.specs.declared.row.Value.{Value}
 use Rattle.blsm_model.specs.declared.history.Entry.{Entry}
 use Rattle.blsm_model.specs.declared.history.Why.{Why}
@@ -15,6 +16,8 @@ use Rattle.disk_trait.specs.Reads.{OnlyReads, only_reads_each}
 use Rattle.disk_trait.specs.Moments.{IsTimed, LeavesOnly, leaves_only_start, leaves_only_weaken}
 use Rattle.gear_sched.specs.Gears.{GearState}
 use Rattle.pacing.specs.Pace.{Pace}
+use Rattle.page_space.specs.Space.{SpaceState}
+use Rattle.record_delta.specs.Entries.{Entries}
 use Rattle.tree_machine.specs.Lists.{Lists}
 use Rattle.tree_machine.specs.Machine.{Machine, charge}
 use Rattle.tree_machine.specs.Outcomes.{IsPossible, is_broken}
@@ -28,9 +31,10 @@ use Rattle.tree_file.proofs.StandLemmas.{stands_read}
 use Rattle.tree_runs.specs.Holding.{AreOf, StandOver}
 use Rattle.tree_runs.specs.Laws.{RunsStay}
 use Rattle.core_moves.specs.declared.held.Held.{Held}
+use Rattle.core_moves.specs.Held.{IsOne}
 use Rattle.core_moves.specs.Moves.{with_book}
 use Rattle.core_moves.specs.Needs.{IsOn}
-use Rattle.core_pace.specs.Pacing.{IsRunBook}
+use Rattle.core_pace.specs.Pacing.{HasPace, IsPacedHeld, IsRunBook}
 use Rattle.core_pace.proofs.TurnLemmas.{book_is_paced}
 use Rattle.core_lists.specs.Standing.{HoldsMachine}
 use Rattle.core_lists.specs.Shown.{CountsAs, ShowsHistory, ShowsWhole, doubted}
@@ -40,24 +44,35 @@ use Rattle.paced_tree.specs.After.{pace_after}
 use Rattle.paced_tree.specs.Kept.{IsPacedTree}
 use Rattle.paced_tree.proofs.Promises.{step_is_paced}
 use Rattle.tree_core.specs.Core.{IsTold, HoldsPace}
-use Rattle.tree_core.specs.Standing.{StandsFor, HasStopped}
+use Rattle.tree_core.specs.HoldMoves.{mapped}
+use Rattle.tree_core.specs.Standing.{HasStopped, StandsFor}
 use Rattle.tree_core.specs.Steps.{IsStep}
 use Rattle.tree_core.proofs.VersionLemmas.{commits_still, one_commits, version_of}
 
 -- ---- by numbers
 
-pub rebooked_told : (held : Held) (b : BookState) (pace : Pace) → IsTold held pace → b.counts ≡ held.book.counts → IsRunBook b pace → IsTold (with_book b held) pace
-rebooked_told held b pace t counts told = grind (arith, common_steps, nat_tests)
+rebooked_told : (held : Held) (space : SpaceState) (b : BookState) (pace : Pace) → IsTold held pace → b.counts ≡ held.book.counts → IsRunBook b pace → IsTold (with_book b (mapped space held)) pace
+rebooked_told held space b pace t counts told = grind (arith, common_steps, nat_tests)
 
--- a disk that is only read, or isn't called
-pub read_holds : (held : Held) (b : BookState) (pace : Pace) (d d2 : DiskState) → HoldsPace held pace d → b.counts ≡ held.book.counts → b.stopped ≡ held.book.stopped → IsRunBook b pace
-    → (IsOn held d → IsOn held d2) → HoldsPace (with_book b held) pace d2
-read_holds held b pace d d2 holds counts stopped told on = record {
-  told = rebooked_told held b pace holds.told counts told;
+-- the numbers don't speak of the map
+mapped_numbers : (held : Held) (space : SpaceState) (pace : Pace) → HasPace held pace → HasPace (mapped space held) pace
+mapped_numbers held space pace numbers = grind (arith, common_steps, nat_tests)
+
+mapped_one : (held : Held) (space : SpaceState) → IsOne held → IsOne (mapped space held)
+mapped_one held space one = grind (arith, common_steps, nat_tests)
+
+mapped_paced : (held : Held) (space : SpaceState) (pace : Pace) → IsPacedHeld held pace → IsPacedHeld (mapped space held) pace
+mapped_paced held space pace paced = record { numbers = mapped_numbers held space pace paced.numbers; told = paced.told; counted = paced.counted; one = mapped_one held space paced.one; version = paced.version }
+
+-- a disk that is only read, or isn't called, where the book and the map of the pages alone change
+pub read_holds : (held : Held) (space : SpaceState) (b : BookState) (pace : Pace) (d d2 : DiskState) → HoldsPace held pace d → b.counts ≡ held.book.counts → b.stopped ≡ held.book.stopped → IsRunBook b pace
+    → (IsOn held d → IsOn (mapped space held) d2) → HoldsPace (with_book b (mapped space held)) pace d2
+read_holds held space b pace d d2 holds counts stopped told on = record {
+  told = rebooked_told held space b pace holds.told counts told;
   live = λ runs.
       let live = holds.live (sym stopped ∙ runs) in
       let still = on live.on in
-      record { paced = book_is_paced held b pace live.paced counts told; on = record { running = still.running; long = still.long } };
+      record { paced = mapped_paced (with_book b held) space pace (book_is_paced held b pace live.paced counts told); on = record { running = still.running; long = still.long } };
 }
 
 pub reads_on : {end most : ℕ} {d d2 : DiskState} (held : Held) → RunsStay → OnlyReads end most d d2 → IsOn held d → IsOn held d2
@@ -68,8 +83,13 @@ reads_on {end} {most} {d} {d2} held stay reads on = grind (arith, common_steps, 
 runs_or_not : (stopped : Option Why) → (stopped ≡ None) ⊎ IsSome stopped
 runs_or_not stopped = grind (arith, common_steps, nat_tests)
 
+-- the core stands for it whatever is said of the rows, if that is so
+pub with_rows : {Rows Next : List (Option (List Row)) → Type 0} (opening : List (Key × Value)) (held : Held) (m : Machine) (pace : Pace) (d : DiskState) → (held.book.stopped ≡ None → Next m.holds) → StandsFor Rows opening held m pace d
+    → StandsFor Next opening held m pace d
+with_rows opening held m pace d said s = record { paced = s.paced; sizes = s.sizes; gears = s.gears; book = s.book; charge_is = s.charge_is; runs = s.runs; rows = said; stopped = s.stopped }
+
 -- The disk's images, and what it reads, show the whole history.
-pub shows_now : (opening : List (Key × Value)) (held : Held) (m : Machine) (pace : Pace) (d : DiskState) → StandsFor opening held m pace d → HasStopped opening m d
+pub shows_now : {Rows : List (Option (List Row)) → Type 0} (opening : List (Key × Value)) (held : Held) (m : Machine) (pace : Pace) (d : DiskState) → StandsFor Rows opening held m pace d → HasStopped opening m d
 shows_now opening held m pace d s = ⊎_elim running s.stopped (runs_or_not held.book.stopped)
   where
     running : held.book.stopped ≡ None → HasStopped opening m d
@@ -92,15 +112,15 @@ pub record SameTree (m after : Machine) : Type 0 where
 pub same_charge : (m after : Machine) → SameTree m after → charge after ≡ charge m
 same_charge m after same = cc (same.lists, same.gears, same.merges)
 
-pub same_machine : (held : Held) (b : BookState) (tree : Tree) (m after : Machine) → HoldsMachine held tree m → SameTree m after → book_of after ≡ b → HoldsMachine (with_book b held) tree after
-same_machine held b tree m after holds same book = grind (arith, common_steps, nat_tests)
+same_machine : (held : Held) (space : SpaceState) (b : BookState) (tree : Tree) (m after : Machine) → HoldsMachine held tree m → SameTree m after → book_of after ≡ b → HoldsMachine (with_book b (mapped space held)) tree after
+same_machine held space b tree m after holds same book = grind (arith, common_steps, nat_tests)
 
--- Where the book alone changes, on a disk that still stands, the core stands for the machine's state with that book.
-pub quiet_stands : (opening : List (Key × Value)) (held : Held) (b : BookState) (m after : Machine) (pace : Pace) (d d2 : DiskState) → StandsFor opening held m pace d → SameTree m after → book_of after ≡ b
-    → b.stopped ≡ held.book.stopped → IsPacedTree opening after pace
-    → ((tree : Tree) → StandOver held.runs tree held.log.a.entries d → StandOver held.runs tree held.log.a.entries d2)
-    → (IsSome held.book.stopped → HasStopped opening after d2) → StandsFor opening (with_book b held) after pace d2
-quiet_stands opening held b m after pace d d2 s same book stopped paced stays shows = record {
+-- Where the book and the map of the pages alone change, on a disk that still stands, the core stands for the machine's state with that book.
+quiet_stands : {Rows Next : List (Option (List Row)) → Type 0} (opening : List (Key × Value)) (held : Held) (space : SpaceState) (b : BookState) (m after : Machine) (pace : Pace) (d d2 : DiskState) → StandsFor Rows opening held m pace d → SameTree m after
+    → book_of after ≡ b → b.stopped ≡ held.book.stopped → IsPacedTree opening after pace
+    → ((tree : Tree) → StandOver held.runs tree held.log.a.entries d → StandOver (mapped space held).runs tree held.log.a.entries d2)
+    → (IsSome held.book.stopped → HasStopped opening after d2) → (held.book.stopped ≡ None → Next after.holds) → StandsFor Next opening (with_book b (mapped space held)) after pace d2
+quiet_stands opening held space b m after pace d d2 s same book stopped paced stays shows gives = record {
   paced = paced;
   sizes = ap (λ (g : GearState). g.sizes) same.gears ∙ s.sizes;
   gears = same.gears ∙ s.gears;
@@ -112,13 +132,14 @@ quiet_stands opening held b m after pace d d2 s same book stopped paced stays sh
         fronts = over.fronts;
         tree = over.tree;
         over = stays over.tree over.over;
-        holds = same_machine held b over.tree m after over.holds same book;
+        holds = same_machine held space b over.tree m after over.holds same book;
         within = over.within;
         lanes = record {
           lane_a = subst (λ (l : Lists). Rattle.paced_tree.specs.Lanes.IsLane over.tree.lane_a l.a over.fronts.lane_a) (sym same.lists) over.lanes.lane_a;
           lane_b = subst (λ (l : Lists). Rattle.paced_tree.specs.Lanes.IsLane over.tree.lane_b l.b over.fronts.lane_b) (sym same.lists) over.lanes.lane_b;
         };
       };
+  rows = λ none. gives (sym stopped ∙ none);
   stopped = λ some. shows (subst IsSome stopped some);
 }
 
@@ -163,7 +184,7 @@ leaves_longer opening m longer before after begins leaves =
     leaves_only_weaken (λ file shows. showing_is_kept m.gears.sizes opening m.book.entries longer (length m.book.entries) (length m.book.entries) file begins (omega arith) shows.0) leaves
 
 -- no call, no other moment
-pub leaves_now : (opening : List (Key × Value)) (held : Held) (m : Machine) (pace : Pace) (d : DiskState) → IsTimed d → StandsFor opening held m pace d → LeavesOnly d d (ShowsWhole opening m)
+pub leaves_now : {Rows : List (Option (List Row)) → Type 0} (opening : List (Key × Value)) (held : Held) (m : Machine) (pace : Pace) (d : DiskState) → IsTimed d → StandsFor Rows opening held m pace d → LeavesOnly d d (ShowsWhole opening m)
 leaves_now opening held m pace d timed s = leaves_only_start d (ShowsWhole opening m) timed (shows_now opening held m pace d s).each
 
 -- ---- a step that changes the book alone
@@ -176,21 +197,24 @@ pub record ChangesBook (held : Held) (b : BookState) (m after : Machine) : Type 
   pub stopped : b.stopped ≡ held.book.stopped
   pub noted : (after.book.entries ≡ m.book.entries) ⊎ ((entry : Entry) × (after.book.entries ≡ m.book.entries ++ entry ∷ []) × ((unsure : Bool) → counted_with unsure entry ≡ []))
 
--- So it is the machine's step, by an outcome that leaves the pace, on a disk that is only read, or isn't called.
-pub quiet_step : {end most : ℕ} {d d2 : DiskState} (opening : List (Key × Value)) (seat : ℕ) (k : Kind) (outcome : Outcome) (answer : Answer) (held : Held) (b : BookState) (m after : Machine) (pace : Pace) → OnlyReads end most d d2 → IsTrue d.is_honest
-    → StandsFor opening held m pace d → may m seat k ≡ true → WritesFit k → IsPossible m seat k outcome d.faults d2.faults → is_broken outcome ≡ false → pace_after m pace seat k outcome ≡ pace
-    → stepped_as m seat k outcome ≡ record { state = after; answer = answer } → ChangesBook held b m after → IsStep opening seat k answer (with_book b held) d d2 m pace
-quiet_step {end} {most} {d} {d2} opening seat k outcome answer held b m after pace reads honest s can fits possible whole same_pace is changes = record {
+-- So it is the machine's step, by an outcome that leaves the pace, on a disk that is only read, or isn't called. A hold may have moved pins before.
+pub quiet_step : {end most : ℕ} {d d2 : DiskState} {Rows Next : List (Option (List Row)) → Type 0} (opening : List (Key × Value)) (seat : ℕ) (k : Kind) (outcome : Outcome) (answer : Answer) (held : Held) (space : SpaceState) (b : BookState)
+    (m after : Machine) (pace : Pace) → OnlyReads end most d d2 → IsTrue d.is_honest
+    → StandsFor Rows opening held m pace d → may m seat k ≡ true → WritesFit k → IsPossible m seat k outcome d.faults d2.faults → is_broken outcome ≡ false → pace_after m pace seat k outcome ≡ pace
+    → stepped_as m seat k outcome ≡ record { state = after; answer = answer } → ChangesBook held b m after
+    → ((tree : Tree) (table : Entries) (file : List ℕ) → AreOf held.runs tree table file → AreOf (mapped space held).runs tree table file) → (held.book.stopped ≡ None → Next after.holds)
+    → IsStep Next opening seat k answer (with_book b (mapped space held)) d d2 m pace
+quiet_step {end} {most} {d} {d2} {Rows} {Next} opening seat k outcome answer held space b m after pace reads honest s can fits possible whole same_pace is changes lists gives = record {
   outcome = outcome;
   possible = possible;
   whole = whole;
-  stands = subst (λ (p : Pace). StandsFor opening (with_book b held) (stepped_as m seat k outcome).state p d2) (sym same_pace)
-      (subst (λ (t : Stepped). StandsFor opening (with_book b held) t.state pace d2) (sym is)
-      (quiet_stands opening held b m after pace d d2 s changes.same changes.book changes.stopped paced
+  stands = subst (λ (p : Pace). StandsFor Next opening (with_book b (mapped space held)) (stepped_as m seat k outcome).state p d2) (sym same_pace)
+      (subst (λ (t : Stepped). StandsFor Next opening (with_book b (mapped space held)) t.state pace d2) (sym is)
+      (quiet_stands opening held space b m after pace d d2 s changes.same changes.book changes.stopped paced
       (λ tree over. record {
         stands = (stands_read held.runs.sizes tree reads honest over.stands).0;
-        are_of = subst (λ (file : List ℕ). AreOf held.runs tree held.log.a.entries file) (sym (reads.same.same.bytes honest)) over.are_of;
-      }) (λ stopped. shows)));
+        are_of = lists tree held.log.a.entries d2.bytes (subst (λ (file : List ℕ). AreOf held.runs tree held.log.a.entries file) (sym (reads.same.same.bytes honest)) over.are_of);
+      }) (λ stopped. shows) gives));
   answers = ap (λ (t : Stepped). t.answer) (sym is);
   images = subst (λ (t : Stepped). LeavesOnly d d2 (ShowsHistory m.gears.sizes opening t.state.book.entries (length m.book.entries))) (sym is)
       (leaves_longer opening m after.book.entries d d2 grows (leaves_only_weaken shown.each (only_reads_each reads honest)));

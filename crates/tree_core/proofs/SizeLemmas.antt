@@ -10,15 +10,13 @@ use Rattle.blsm_model.specs.Legal.{total_weight, is_del}
 use Rattle.blsm_model.specs.declared.history.Reply.{Reply}
 use Rattle.blsm_model.specs.declared.history.Reply.TheVariants as reply
 use Rattle.blsm_model.specs.declared.op.Op.{Op}
-use Rattle.gear_sched.specs.declared.Plan.{Plan}
-use Rattle.pacing.specs.Pace.{Pace, Quantum, with_rotation, with_pass, with_pass_swapped, with_deep_swapped, with_forgiven, deep_done, pass_done}
-use Rattle.pacing.specs.Steps.{Admit, Turn, Move, deep_settled, pass_settled, begun_for, ready_for, after, paid_by, turned_by, turn_of, is_worker_seat}
+use Rattle.pacing.specs.Pace.{Pace, Quantum, with_rotation, with_pass, with_pass_swapped, with_deep_swapped, deep_done, pass_done}
+use Rattle.pacing.specs.Steps.{Admit, Turn, Move, deep_settled, pass_settled, begun_for, ready_for, after, turned_by, turn_of, is_worker_seat}
 use Rattle.paced_tree.specs.Made.{IsMadeBy, IsReplied, IsPaidBy, IsTurnedBy}
 use Rattle.tree_machine.specs.declared.step.Kind.{Kind}
 use Rattle.tree_machine.specs.Machine as machine
-use Rattle.tree_machine.specs.Machine.{Turned}
 use Rattle.tree_machine.specs.Steps as steps
-use Rattle.tree_machine.specs.Steps.{Answer, Replied, Paid, Settled, Left}
+use Rattle.tree_machine.specs.Steps.{Answer, Replied}
 
 by_test : (b : Bool) (then otherwise old : Pace) → then.gears.sizes ≡ old.gears.sizes → otherwise.gears.sizes ≡ old.gears.sizes → (cond b then otherwise).gears.sizes ≡ old.gears.sizes
 by_test b then otherwise old h1 h2 = grind (arith, common_steps, nat_tests)
@@ -34,9 +32,6 @@ begun_sizes p w = by_test (not p.gears.pass && nat_lt p.gears.sizes.low (p.sprin
 
 ready_sizes : (p : Pace) (w : ℕ) → (ready_for p w).gears.sizes ≡ p.gears.sizes
 ready_sizes p w = begun_sizes (pass_settled (deep_settled p)) w ∙ pass_sizes (deep_settled p) ∙ deep_sizes p
-
-paid_sizes : (plan : Plan) (p : Pace) (seat : ℕ) (quantum : Quantum) → (paid_by plan p seat quantum).gears.sizes ≡ p.gears.sizes
-paid_sizes plan p seat quantum = grind (arith, common_steps, nat_tests)
 
 turned_sizes : (move : Move) (p : Pace) (seat : ℕ) (quantum : Quantum) → (turned_by move p seat quantum).gears.sizes ≡ p.gears.sizes
 turned_sizes move p seat quantum = grind (arith, common_steps, nat_tests)

@@ -54,7 +54,7 @@ use Rattle.core_lists.proofs.ImageLemmas.{settled_fronts, ready_fronts, deep_swa
 use Rattle.core_lists.proofs.AppendLemmas.{append_shows, unsure_shows}
 use Rattle.core_lists.proofs.GoingLemmas.{admission_goes_on}
 use Rattle.core_lists.proofs.TestLemmas.{tests_agree_with_lists}
-use Rattle.tree_core.specs.Standing.{StandsFor}
+use Rattle.tree_core.specs.Standing.{AnyRows, StandsFor}
 use Rattle.tree_core.specs.Taking.{PassMakesTree, TellsOf, TakenOver, HasLost}
 use Rattle.tree_core.proofs.VersionLemmas.{either_commits, version_of}
 use Rattle.tree_core.proofs.TakingLemmas.{is_ok_of, ok_of, begun_keeps}
@@ -84,7 +84,7 @@ Appends key rec begun ok before after = (tree : Tree) → IsTrue before.is_hones
 -- what an admission begins with
 pub record Begins (opening : List (Key × Value)) (old : Held) (m : Machine) (pace : Pace) (d : DiskState) : Type 0 where
   pub honest : IsTrue d.is_honest
-  pub stands : StandsFor opening old m pace d
+  pub stands : StandsFor AnyRows opening old m pace d
   pub runs : old.book.stopped ≡ None
   pub numbers : Pace
   pub paced : IsPacedHeld old numbers

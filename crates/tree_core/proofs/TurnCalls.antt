@@ -51,16 +51,15 @@ halted_goes : {D : Type 0} (state : D → DiskState) (w : Bool) (seat : ℕ) (wh
 halted_goes state w seat why old b core timed stopped is none can counts =
     let d = state old.disk in
     goes_on_by {end = 0} {most = 0} state seat (kind_of_turn w) (Turn (machine.Halted why)) old _ core timed none can (record { holds = refl; pins = refl; sizes = refl }) (affects_start d timed) (halted_follows w seat (machine.Halted why) old.held b is counts)
-    (λ pace holds. halted_moves w seat why old.held b pace d stopped is holds counts) (λ opening m pace honest s ok. halted_turn w opening seat why old.held b m pace d timed stopped counts s ok)
+    (λ pace holds. halted_moves w seat why old.held b pace d stopped is holds counts) (λ opening m pace honest s ok. halted_turn w opening seat why old.held b m pace d timed honest stopped counts s ok)
 
 closed_goes : {D : Type 0} (state : D → DiskState) (seat : ℕ) (old : CoreState D) (b : BookState) → IsCore old.held (state old.disk) → IsTimed (state old.disk) → old.held.book.stopped ≡ None → is_closed_in old.held.book ≡ true → callers ≤ seat → seat < seats
     → b ≡ helped_in seat old.held.book → GoesOnAs state seat kind.WorkerTurn (Turn machine.Closed) old (record old { held = with_book b old.held }) × BesideHolds state seat kind.WorkerTurn (Turn machine.Closed) old (record old { held = with_book b old.held })
 closed_goes state seat old b core timed ran closed above below counts =
     let d = state old.disk in
-    let k = (core.holds.live ran).paced in
     goes_on_by {end = 0} {most = 0} state seat kind.WorkerTurn (Turn machine.Closed) old _ core timed refl (may_help seat above below) (record { holds = refl; pins = refl; sizes = refl }) (affects_start d timed)
     (halted_follows true seat machine.Closed old.held b (above, below) counts) (λ pace holds. closed_moves seat old.held b pace d ran holds counts)
-    (λ opening m pace honest s ok. closed_turn opening seat old.held b m pace d (s.runs ran).tree timed (running_at opening old.held m pace d core.pace s ran k.numbers k.one.gears) closed counts ok)
+    (λ opening m pace honest s ok. closed_turn opening seat old.held b m pace d timed honest ran closed counts s ok)
 
 -- a worker's, which counts all the same
 rests_helping : {D : Type 0} (state : D → DiskState) (seat : ℕ) (ended : Turned) (old : CoreState D) (b : BookState) → IsTimed (state old.disk) → callers ≤ seat → seat < seats → length old.held.book.seats.turns ≡ seats - callers

@@ -21,7 +21,7 @@ use Rattle.pacing.specs.Steps.{Move}
 use Rattle.paced_tree.specs.Booking.{quanta_of_move}
 use Rattle.paced_tree.specs.Made.{IsMadeBy}
 use Rattle.tree_machine.specs.Machine as machine
-use Rattle.tree_machine.specs.Machine.{Turned, WorkSoFar, is_caller, no_work, seats}
+use Rattle.tree_machine.specs.Machine.{Turned, is_caller, seats}
 use Rattle.tree_machine.specs.Plays.{most_turns}
 use Rattle.tree_machine.proofs.PlayLemmas.{of_replicate}
 use Rattle.tree_machine.specs.Steps.{Turn}
@@ -37,13 +37,14 @@ use Rattle.core_pace.specs.Pacing.{IsRunBook, IsPacedHeld}
 use Rattle.core_pace.specs.Turns.{MayMove, TurnsBy, move_in, end_of_move}
 use Rattle.core_pace.proofs.CallLemmas.{between_is_ready, paced_is_between}
 use Rattle.core_pace.proofs.MadeLemmas.{failed_work_is_told, failed_help_is_told}
-use Rattle.core_pace.proofs.TurnLemmas.{turn_may_move, work_is_paced, help_is_paced, turn_is_told, help_is_told, book_is_paced}
+use Rattle.core_pace.proofs.TurnLemmas.{turn_may_move, work_is_paced, help_is_paced, turn_is_told, help_is_told}
 use Rattle.core_lists.specs.Going.{kind_of_turn}
-use Rattle.tree_core.specs.Causes.{IsDamageAhead, RanOn, TurnsBecause, merge_of}
+use Rattle.tree_core.specs.Causes.{IsDamageAhead, TurnsBecause, merge_of}
 use Rattle.tree_core.specs.Core.{HoldsPace, facts_of_held}
 use Rattle.tree_core.specs.Quanta.{ended_by, quanta_by, stopped_by}
 use Rattle.tree_core.specs.Steps.{MovesPace}
 use Rattle.tree_core.specs.Turning.{IsEven, MayCount, counted_by}
+use Rattle.tree_core.proofs.QuietLemmas.{read_holds}
 use Rattle.tree_core.proofs.QuantumLemmas.{holds_running, holds_stopped, on_rebooked, told_after_failure, kept_once, LeavesDebts, debts_stay, debts_first, debts_second, follows_by}
 
 -- ---- whose turn it is
@@ -69,9 +70,6 @@ turn_ready w seat mv old pace d t holds = let live = holds.live t.ran in between
 
 -- ---- the book of a move that went well
 
-moved_book : (mv : Move) (seat n : ℕ) (old moved : Held) → TurnsBy mv seat n old moved → KeepsSeats seat 0 1 old.book moved.book
-moved_book mv seat n old moved h1 = grind (arith, common_steps, nat_tests)
-
 -- no entry, no stop, and no turn
 pub record KeepsOpen (old new : BookState) : Type 0 where
   pub stopped : new.stopped ≡ old.stopped
@@ -89,9 +87,6 @@ none_owed other debt = let none : slice_index (replicate callers 0) other ≡ 0 
 
 debts_deep_ended : (seat : ℕ) (gears : GearState) → LeavesDebts seat gears (deep_ended gears)
 debts_deep_ended seat gears = record { first = λ other apart. omega arith; second = λ other apart. none_owed other (second_debt gears other) }
-
-debts_pass_ended : (seat : ℕ) (gears : GearState) → LeavesDebts seat gears (pass_ended gears)
-debts_pass_ended seat gears = record { first = λ other apart. none_owed other (first_debt gears other); second = λ other apart. omega arith }
 
 debts_rotated : (seat input : ℕ) (gears : GearState) → LeavesDebts seat gears (rotated gears input)
 debts_rotated seat input gears = record { first = λ other apart. omega arith; second = λ other apart. none_owed other (second_debt gears other) }
@@ -139,15 +134,12 @@ pub halted_follows : (w : Bool) (seat : ℕ) (ended : Turned) (old : Held) (b : 
 halted_follows w seat ended old b is counts = grind (arith, common_steps, nat_tests)
 
 pub closed_moves : (seat : ℕ) (old : Held) (b : BookState) (pace : Pace) (d : DiskState) → old.book.stopped ≡ None → HoldsPace old pace d → b ≡ helped_in seat old.book → MovesPace seat (kind_of_turn true) (Turn machine.Closed) (with_book b old) d pace
-closed_moves seat old b pace d ran holds counts =
-    let live = holds.live ran in
-    record {
-      next = pace;
-      made = refl;
-      holds = holds_running (with_book b old) pace d
-          (book_is_paced old b pace live.paced (ap (λ (x : BookState). x.counts) counts) (subst (λ (x : BookState). IsRunBook x pace) (sym counts) (help_is_told old.book pace seat live.paced.told)))
-          (on_rebooked old b d live.on);
-    }
+closed_moves seat old b pace d ran holds counts = record {
+  next = pace;
+  made = refl;
+  holds = read_holds old old.runs.space b pace d d holds (ap (λ (x : BookState). x.counts) counts) (ap (λ (x : BookState). x.stopped) counts)
+      (subst (λ (x : BookState). IsRunBook x pace) (sym counts) (help_is_told old.book pace seat holds.told.told)) (λ on. on);
+}
 
 -- ---- a turn that moves
 
@@ -214,17 +206,6 @@ turn_moves w seat mv made faults old moved ended b pace before after e holds =
 
 -- ---- what the count of a turn requires
 
--- a stop leaves the turns
-stopped_work : (made : Result ℕ Broken) (faults : ℕ) (b : BookState) → (stopped_by made faults b).seats.work ≡ b.seats.work
-stopped_work made faults b = grind (arith, common_steps, nat_tests)
-
-moved_work : (mv : Move) (seat : ℕ) (made : Result ℕ Broken) (old moved : Held) → IfOk made (λ n. TurnsBy mv seat n old moved) → KeepsAllButMerges (IsErr made) old moved → moved.book.seats.work ≡ old.book.seats.work
-moved_work mv seat made old moved h1 h2 = grind (arith, common_steps, nat_tests)
-
-turn_open : (mv : Move) (seat : ℕ) (made : Result ℕ Broken) (faults : ℕ) (old moved : Held) (b : BookState) → IfOk made (λ n. TurnsBy mv seat n old moved) → KeepsAllButMerges (IsErr made) old moved → b ≡ stopped_by made faults moved.book
-    → IsTrue (may_turn_in seat old.book) → IsTrue (may_turn_in seat b)
-turn_open mv seat made faults old moved b moves kept is ok = grind (arith, common_steps, nat_tests)
-
 -- whoever might take the turn may count it
 pub count_open : (w : Bool) (mv : Move) (seat : ℕ) (made : Result ℕ Broken) (faults : ℕ) (old moved : Held) (b : BookState) → IfOk made (λ n. TurnsBy mv seat n old moved) → KeepsAllButMerges (IsErr made) old moved → b ≡ stopped_by made faults moved.book
     → MayCount w seat old.book → MayCount w seat b
@@ -250,14 +231,6 @@ turn_follows w seat mv made faults old moved ended b before after e =
     (ended_debts mv seat made old moved e.moves e.kept)
 
 -- ---- why it ends so
-
-well_because : (mv : Move) (w : Bool) (seat : ℕ) (old new : Held) (before after : DiskState) → mv ≡ move_in w old → RanOn old new before after → TurnsBecause (end_of_move mv) w seat old new before after
-well_because mv w seat old new before after h1 h2 = grind (arith, common_steps, nat_tests)
-
-ended_because : (w : Bool) (seat : ℕ) (mv : Move) (made : Result ℕ Broken) (faults : ℕ) (old moved : Held) (b : BookState) (before after : DiskState) → old.book.stopped ≡ None → mv ≡ move_in w old → IfOk made (λ n. TurnsBy mv seat n old moved)
-    → TellsFaultsBy (Err Fault) made before after → ((n : ℕ) → made ≡ Err (Damaged n) → IsTrue before.tells_bytes → IsDamageAhead (merge_of mv) moved.runs n after.bytes)
-    → b.stopped ≡ (stopped_by made faults moved.book).stopped → faults ≡ after.faults → TurnsBecause (ended_by made mv) w seat old (with_book b moved) before after
-ended_because w seat mv made faults old moved b before after h1 h2 h3 h4 h5 h6 h7 = grind (arith, common_steps, nat_tests)
 
 pub turn_because : (w : Bool) (seat : ℕ) (mv : Move) (made : Result ℕ Broken) (faults : ℕ) (old moved : Held) (ended : Turned) (b : BookState) (before after : DiskState) → Ends w seat mv made faults old moved ended b before after
     → ((n : ℕ) → made ≡ Err (Damaged n) → IsTrue before.tells_bytes → IsDamageAhead (merge_of mv) moved.runs n after.bytes) → faults ≡ after.faults → TurnsBecause ended w seat old (with_book b moved) before after

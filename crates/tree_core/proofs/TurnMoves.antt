@@ -24,9 +24,6 @@ use Rattle.tree_core.specs.Quanta.{MakesTree, LeavesMoved, as_moved}
 
 -- ---- a swap or a rotation
 
-on_ok : {T E : Type 0} (r : Result T E) (P Q : Type 0) → (P → Q) → OnOk r P → OnOk r Q
-on_ok r P Q h1 h2 = grind (arith, common_steps, nat_tests)
-
 pub on_both : {T E : Type 0} (r : Result T E) (P Q : Type 0) → P → (P → Q) → OnOk r Q
 on_both r P Q h1 h2 = grind (arith, common_steps, nat_tests)
 

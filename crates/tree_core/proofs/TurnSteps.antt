@@ -1,5 +1,5 @@
 -- On an honest disk a turn is the machine's own step.
-use Rattle.std.proofs.Common.{◌≡◌, ◌∙◌, ⊎_elim, ℕ, Bool, true, false, cond, not, ◌&&◌, List, Some, None, Option, Ok, Err, refl, ap, sym, subst, arith}
+use Rattle.std.proofs.Common.{◌≡◌, ◌∙◌, inl, ⊎_elim, ℕ, Bool, true, false, cond, not, ◌&&◌, List, Some, None, Option, Ok, Err, refl, ap, sym, subst, arith}
 use Rattle.std.proofs.lemmas.Grind.{common_steps}
 use Rattle.std.proofs.lemmas.Bool.Decides.{nat_tests}
 use Rattle.std.specs.Prelude.{⊤, IfOk, OnOk, IsErr, IsTrue, is_some}
@@ -11,7 +11,7 @@ use Rattle.blsm_model.specs.declared.history.Why.TheVariants.{Faulted}
 use Rattle.blsm_model.specs.Book.{Book}
 use Rattle.blsm_model.specs.Sizes.{Sizes}
 use Rattle.disk_trait.specs.Disk.{DiskState}
-use Rattle.disk_trait.specs.Moments.{IsTimed, leaves_only_start}
+use Rattle.disk_trait.specs.Moments.{IsTimed}
 use Rattle.gear_sched.specs.Gears.{GearState}
 use Rattle.page_file.specs.declared.file.Broken.{Broken}
 use Rattle.page_file.specs.declared.file.Broken.TheVariants.{Fault, Damaged}
@@ -24,14 +24,14 @@ use Rattle.tree_machine.specs.Machine as machine
 use Rattle.tree_machine.specs.Machine.{Machine, Turned, Seats, charge, deep_done, is_closed}
 use Rattle.tree_machine.specs.Moves.{stop, swap_deep}
 use Rattle.tree_machine.specs.Steps as steps
-use Rattle.tree_machine.specs.Steps.{Stepped, Answer, Outcome, Well, FailedAfter, Turn, ended_as, deep_swapped, work_turning, worker_turning, work_turn, worker_turn}
+use Rattle.tree_machine.specs.Steps.{Stepped, Outcome, Well, FailedAfter, Turn, ended_as, deep_swapped, work_turning, worker_turning}
 use Rattle.tree_machine.specs.Plays.{may, stepped_as}
 use Rattle.tree_machine.specs.Outcomes.{Rose, IsPossible, calls_disk}
 use Rattle.paced_tree.specs.After.{pace_after}
 use Rattle.paced_tree.specs.Kept.{IsPacedTree}
 use Rattle.paced_tree.specs.Booking.{quanta_of_move}
 use Rattle.paced_tree.proofs.Promises.{has_way, step_is_paced}
-use Rattle.seat_book.specs.State.{BookState, book_of, is_closed_in, stopped_in}
+use Rattle.seat_book.specs.State.{BookState, book_of, is_closed_in, stopped_in, helped_in}
 use Rattle.tree_file.specs.Tree.{Tree, HoldsTree}
 use Rattle.tree_file.specs.Places.{HoldsEither}
 use Rattle.tree_runs.specs.Holding.{AreOf, StandOver}
@@ -41,7 +41,6 @@ use Rattle.core_moves.specs.Needs.{IsOn}
 use Rattle.core_moves.specs.Moves.{KeepsAllButMerges, with_book}
 use Rattle.core_pace.specs.Pacing.{IsPacedHeld}
 use Rattle.core_pace.specs.Turns.{MayMove, TurnsBy, move_in, end_of_move}
-use Rattle.core_pace.proofs.BookLemmas.{rebooked}
 use Rattle.core_lists.specs.Standing.{IsAt}
 use Rattle.core_lists.specs.Lists.{turn_noted, helped}
 use Rattle.core_lists.specs.Shown.{ShowsWhole}
@@ -51,17 +50,19 @@ use Rattle.core_lists.proofs.FileWeights.{weighs_as}
 use Rattle.core_lists.proofs.TestLemmas.{tests_agree_with_lists}
 use Rattle.core_lists.proofs.StepLands.{choices_agree}
 use Rattle.core_lists.proofs.ImageLemmas.{deep_swap_images, pass_swap_images, rotation_images}
-use Rattle.core_lists.proofs.WriteLands.{book_lands}
-use Rattle.core_lists.proofs.GoingLemmas.{turn_goes_on, closed_turn_goes_on}
+use Rattle.core_lists.proofs.GoingLemmas.{turn_goes_on}
 use Rattle.tree_core.specs.Core.{HoldsPace}
 use Rattle.tree_core.specs.Quanta.{MakesTree, LeavesMoved, ended_by, quanta_by, stopped_by}
-use Rattle.tree_core.specs.Standing.{StandsFor, HasStopped}
+use Rattle.tree_core.specs.Standing.{AnyRows, StandsFor}
 use Rattle.tree_core.specs.Steps.{IsStep}
 use Rattle.tree_core.proofs.QuantumLemmas.{charge_kept, kept_once}
 use Rattle.tree_core.proofs.QuantumSteps.{RunsAt, stands_running, standing_at, steady_at, shows_at, leaves_same, step_by}
 use Rattle.tree_core.specs.Turning.{counted_by}
 use Rattle.tree_core.proofs.VersionLemmas.{either_commits, moved_version, version_of}
 use Rattle.tree_core.proofs.TurnLemmas.{Turns, Ends, KeepsOpen, counted_book, counted_stops, moved_open, ended_moves}
+use Rattle.disk_trait.specs.Reads.{only_reads_start}
+use Rattle.tree_core.proofs.QuietLemmas.{quiet_step}
+use Rattle.tree_machine.specs.Stands.{WritesFit}
 
 -- ---- a store that is stopped
 
@@ -97,51 +98,29 @@ halted_as false seat why m is =
 halted_pace : (w : Bool) (seat : ℕ) (why : Why) (m : Machine) (pace : Pace) → m.stopped ≡ Some why → pace_after m pace seat (kind_of_turn w) Well ≡ pace
 halted_pace w seat why m pace h1 = grind (arith, common_steps, nat_tests)
 
+turn_fits : (w : Bool) → WritesFit (kind_of_turn w)
+turn_fits true = tt
+turn_fits false = tt
+
 then_paced : (w : Bool) (opening : List (Key × Value)) (m : Machine) (pace : Pace) (seat : ℕ) (outcome : Outcome) → IsTrue (may m seat (kind_of_turn w)) → IsPacedTree opening m pace
     → IsPacedTree opening (stepped_as m seat (kind_of_turn w) outcome).state (pace_after m pace seat (kind_of_turn w) outcome)
-then_paced true opening m pace seat outcome ok paced = step_is_paced opening m pace (record { seat = seat; kind = kind.WorkerTurn }) outcome paced ok tt
-then_paced false opening m pace seat outcome ok paced = step_is_paced opening m pace (record { seat = seat; kind = kind.WorkTurn }) outcome paced ok tt
+then_paced w opening m pace seat outcome ok paced = step_is_paced opening m pace (record { seat = seat; kind = kind_of_turn w }) outcome paced ok (turn_fits w)
 
 possible_well : (w : Bool) (m : Machine) (seat old new : ℕ) → IsPossible m seat (kind_of_turn w) Well old new
 possible_well w m seat old new = tt
 
-pub halted_turn : (w : Bool) (opening : List (Key × Value)) (seat : ℕ) (why : Why) (old : Held) (b : BookState) (m : Machine) (pace : Pace) (d : DiskState) → IsTimed d → old.book.stopped ≡ Some why
-    → b ≡ counted_by w seat (machine.Halted why) 0 old.book → StandsFor opening old m pace d → IsTrue (may m seat (kind_of_turn w)) → IsStep opening seat (kind_of_turn w) (Turn (machine.Halted why)) (with_book b old) d d m pace
-halted_turn w opening seat why old b m pace d timed is counts stands ok =
-    step_by opening seat (kind_of_turn w) (Turn (machine.Halted why)) (with_book b old) d d m pace Well stepped pace (halted_as w seat why m stop_is) (halted_pace w seat why m pace stop_is) (possible_well w m seat d.faults d.faults) refl stood refl
-    (leaves_only_start d _ timed (λ c here. (stopped.each c here).0))
-  where
-    then : Machine
-    then = record m { seats = counted_seats w seat (machine.Halted why) m }
-
-    stepped : Stepped
-    stepped = record { state = record m { seats = counted_seats w seat (machine.Halted why) m }; answer = Turn (machine.Halted why) }
-
-    stop_is : m.stopped ≡ Some why
-    stop_is = ap (λ (x : BookState). x.stopped) stands.book ∙ is
-
-    stopped : HasStopped opening m d
-    stopped = stands.stopped (ap is_some is)
-
-    book_is : book_of stepped.state ≡ b
-    book_is = counted_is w seat (machine.Halted why) m old.book stands.book ∙ sym counts
-
-    stood : StandsFor opening (with_book b old) stepped.state pace d
-    stood = record {
-      paced = subst (λ (p : Pace). IsPacedTree opening stepped.state p) (halted_pace w seat why m pace stop_is)
-          (subst (λ (s : Stepped). IsPacedTree opening s.state (pace_after m pace seat (kind_of_turn w) Well)) (halted_as w seat why m stop_is) (then_paced w opening m pace seat Well ok stands.paced));
-      sizes = stands.sizes;
-      gears = stands.gears;
-      book = book_is;
-      charge_is = stands.charge_is;
-      runs = λ runs. absurd (let e = ap (λ (x : BookState). x.stopped) book_is in cc (e, runs, stop_is));
-      stopped = λ some. record { reads = counted_shows w opening seat (machine.Halted why) m d.bytes stopped.reads; each = λ c here. counted_shows w opening seat (machine.Halted why) m c (stopped.each c here); commits = stopped.commits };
-    }
+pub halted_turn : (w : Bool) (opening : List (Key × Value)) (seat : ℕ) (why : Why) (old : Held) (b : BookState) (m : Machine) (pace : Pace) (d : DiskState) → IsTimed d → IsTrue d.is_honest → old.book.stopped ≡ Some why
+    → b ≡ counted_by w seat (machine.Halted why) 0 old.book → StandsFor AnyRows opening old m pace d → IsTrue (may m seat (kind_of_turn w)) → IsStep AnyRows opening seat (kind_of_turn w) (Turn (machine.Halted why)) (with_book b old) d d m pace
+halted_turn w opening seat why old b m pace d timed honest is counts stands ok =
+    let stop_is : m.stopped ≡ Some why = ap (λ (x : BookState). x.stopped) stands.book ∙ is in
+    let then = record m { seats = counted_seats w seat (machine.Halted why) m } in
+    let book_is : book_of then ≡ b = counted_is w seat (machine.Halted why) m old.book stands.book ∙ sym counts in
+    quiet_step {end = 0} {most = 0} opening seat (kind_of_turn w) Well (Turn (machine.Halted why)) old old.runs.space b m then pace (only_reads_start d timed) honest stands ok (turn_fits w) (possible_well w m seat d.faults d.faults) refl (halted_pace w seat why m pace stop_is)
+    (halted_as w seat why m stop_is)
+    (record { same = record { lists = refl; merges = refl; gears = refl; spring = refl; catalogue = refl }; counts = record { charge = refl; peak = refl; quanta = counted_quanta w seat (machine.Halted why) m }; book = book_is; stopped = sym (ap (λ (x : BookState). x.stopped) book_is) ∙ ap (λ (x : BookState). x.stopped) stands.book; noted = inl refl })
+    (λ tree table file of. of) (λ none. tt)
 
 -- ---- what the images show of a move
-
-not_deep_first : (b : Bool) (rest : Move) → b ≡ true → pacing.SwapPass ≡ cond b pacing.SwapDeep rest → ⊥
-not_deep_first b rest h1 h2 = grind (arith, common_steps, nat_tests)
 
 -- a pass is swapped in where no deep merge is done
 pub not_deep_done : (w : Bool) (old : Held) → pacing.SwapPass ≡ move_in w old → IsDeepDone old → ⊥
@@ -214,7 +193,7 @@ same_sizes opening old m pace d tree r = ap (λ (g : GearState). g.sizes) r.hold
 well_turn : WorkLands → HelpLands → (w : Bool) (opening : List (Key × Value)) (seat n : ℕ) (old moved : Held) (m : Machine) (pace numbers : Pace) (tree : Tree) (before after : DiskState) (made : Result ℕ Broken) → made ≡ Ok n → Turns w seat (move_in w old) old
     → TurnsBy (move_in w old) seat n old moved → IsPacedHeld (with_book (counted_by w seat (end_of_move (move_in w old)) (quanta_of_move (move_in w old)) moved.book) moved) numbers
     → TurnsOver w opening seat (move_in w old) made old moved m pace tree before after
-    → IsStep opening seat (kind_of_turn w) (Turn (end_of_move (move_in w old))) (with_book (counted_by w seat (end_of_move (move_in w old)) (quanta_of_move (move_in w old)) moved.book) moved) before after m pace
+    → IsStep AnyRows opening seat (kind_of_turn w) (Turn (end_of_move (move_in w old))) (with_book (counted_by w seat (end_of_move (move_in w old)) (quanta_of_move (move_in w old)) moved.book) moved) before after m pace
 well_turn work help w opening seat n old moved m pace numbers tree before after made made_is t moves k o =
     step_by opening seat (kind_of_turn w) (Turn (end_of_move mv)) new before after m pace Well (stepped_as m seat (kind_of_turn w) Well) (pace_after m pace seat (kind_of_turn w) Well) refl refl
     (possible_well w m seat before.faults after.faults) refl
@@ -277,7 +256,7 @@ failed_possible false seat f old new m runs opened called rose counted = (ap (λ
 
 failed_turn : (w : Bool) (opening : List (Key × Value)) (seat f : ℕ) (old moved : Held) (m : Machine) (pace : Pace) (tree : Tree) (before after : DiskState) (made : Result ℕ Broken) → KeepsAllButMerges ⊤ old moved → f ≡ after.faults
     → Rose before.faults after.faults → calls_disk (choice_of (move_in w old)) ≡ true → TurnsOver w opening seat (move_in w old) made old moved m pace tree before after
-    → IsStep opening seat (kind_of_turn w) (Turn machine.Failed) (with_book (counted_by w seat machine.Failed 0 (stopped_in (Faulted f) moved.book)) moved) before after m pace
+    → IsStep AnyRows opening seat (kind_of_turn w) (Turn machine.Failed) (with_book (counted_by w seat machine.Failed 0 (stopped_in (Faulted f) moved.book)) moved) before after m pace
 failed_turn w opening seat f old moved m pace tree before after made kept counted rose called o =
     step_by opening seat (kind_of_turn w) (Turn machine.Failed) (with_book b moved) before after m pace (FailedAfter 0 f) stepped pace same same_pace possible refl stands refl
     (leaves_same opening m before after m.book.entries (HoldsEither old.runs.sizes tree o.next) refl shows o.leaves.each)
@@ -311,7 +290,7 @@ failed_turn w opening seat f old moved m pace tree before after made kept counte
         counted_is w seat machine.Failed (stop (Faulted f) m) (stopped_in (Faulted f) old.book) (ap (λ (x : BookState). stopped_in (Faulted f) x) o.runs.holds.book)
         ∙ ap (λ (x : BookState). counted_by w seat machine.Failed 0 (stopped_in (Faulted f) x)) (sym (kept.book tt))
 
-    stands : StandsFor opening (with_book (counted_by w seat machine.Failed 0 (stopped_in (Faulted f) moved.book)) moved) stepped.state pace after
+    stands : StandsFor AnyRows opening (with_book (counted_by w seat machine.Failed 0 (stopped_in (Faulted f) moved.book)) moved) stepped.state pace after
     stands = record {
       paced = subst (λ (p : Pace). IsPacedTree opening stepped.state p) same_pace
           (subst (λ (s : Stepped). IsPacedTree opening s.state (pace_after m pace seat (kind_of_turn w) (FailedAfter 0 f))) same (then_paced w opening m pace seat (FailedAfter 0 f) o.ok o.runs.goes.paced));
@@ -320,6 +299,7 @@ failed_turn w opening seat f old moved m pace tree before after made kept counte
       book = book_is;
       charge_is = (tests_agree_with_lists old tree m before.bytes o.runs.numbers (record { are_of = o.runs.over.are_of; holds = o.runs.holds }) o.runs.goes.paced.stands.sound o.runs.has).charge_is ∙ sym (charge_kept old moved kept);
       runs = λ none. absurd (let e = ap (λ (x : BookState). x.stopped) book_is in cc (e, none));
+      rows = λ none. tt;
       stopped = λ some. record {
         reads = stop_shows after.bytes (shows after.bytes o.leaves.either.reads);
         each = λ c here. stop_shows c (shows c (o.leaves.either.each c here));
@@ -333,7 +313,7 @@ failed_turn w opening seat f old moved m pace tree before after made kept counte
 turn_by : WorkLands → HelpLands → (w : Bool) (opening : List (Key × Value)) (seat : ℕ) (made : Result ℕ Broken) (faults : ℕ) (old moved : Held) (m : Machine) (pace numbers : Pace) (tree : Tree) (before after : DiskState)
     → Turns w seat (move_in w old) old → IfOk made (λ n. TurnsBy (move_in w old) seat n old moved) → OnOk made (IsOn moved after) → KeepsAllButMerges (IsErr made) old moved → HoldsPace old numbers before → faults ≡ after.faults
     → (made ≡ Err Fault → Rose before.faults after.faults) → (IsErr made → calls_disk (choice_of (move_in w old)) ≡ true) → TurnsOver w opening seat (move_in w old) made old moved m pace tree before after
-    → IsStep opening seat (kind_of_turn w) (Turn (ended_by made (move_in w old))) (with_book (counted_by w seat (ended_by made (move_in w old)) (quanta_by made (move_in w old)) (stopped_by made faults moved.book)) moved) before after m pace
+    → IsStep AnyRows opening seat (kind_of_turn w) (Turn (ended_by made (move_in w old))) (with_book (counted_by w seat (ended_by made (move_in w old)) (quanta_by made (move_in w old)) (stopped_by made faults moved.book)) moved) before after m pace
 turn_by work help w opening seat (Ok n) faults old moved m pace numbers tree before after t moves on kept holds counted rose called o =
     let next = ended_moves w seat (Ok n) faults old moved numbers before after t moves on kept holds in
     let runs = counted_stops w seat (end_of_move (move_in w old)) (quanta_of_move (move_in w old)) moved.book ∙ (moved_open (move_in w old) seat n old moved moves).stopped ∙ t.ran in
@@ -347,11 +327,11 @@ turn_by work help w opening seat (Err (Damaged page)) faults old moved m pace nu
 
 pub turn_step : WorkLands → HelpLands → (w : Bool) (opening : List (Key × Value)) (seat : ℕ) (mv : Move) (made : Result ℕ Broken) (faults : ℕ) (old moved : Held) (ended : Turned) (b : BookState) (m : Machine) (pace numbers : Pace) (tree : Tree)
     (before after : DiskState) → Ends w seat mv made faults old moved ended b before after → HoldsPace old numbers before → faults ≡ after.faults → (made ≡ Err Fault → Rose before.faults after.faults)
-    → (IsErr made → calls_disk (choice_of mv) ≡ true) → TurnsOver w opening seat mv made old moved m pace tree before after → IsStep opening seat (kind_of_turn w) (Turn ended) (with_book b moved) before after m pace
+    → (IsErr made → calls_disk (choice_of mv) ≡ true) → TurnsOver w opening seat mv made old moved m pace tree before after → IsStep AnyRows opening seat (kind_of_turn w) (Turn ended) (with_book b moved) before after m pace
 turn_step work help w opening seat mv made faults old moved ended b m pace numbers tree before after e holds counted rose called o =
-    subst (λ (x : BookState). IsStep opening seat (kind_of_turn w) (Turn ended) (with_book x moved) before after m pace) (sym e.counts)
-    (subst (λ (t : Turned). IsStep opening seat (kind_of_turn w) (Turn t) (with_book (counted_by w seat t (quanta_by made mv) (stopped_by made faults moved.book)) moved) before after m pace) (sym e.ended_is)
-    (subst (λ (y : Move). IsStep opening seat (kind_of_turn w) (Turn (ended_by made y)) (with_book (counted_by w seat (ended_by made y) (quanta_by made y) (stopped_by made faults moved.book)) moved) before after m pace) (sym e.turns.is)
+    subst (λ (x : BookState). IsStep AnyRows opening seat (kind_of_turn w) (Turn ended) (with_book x moved) before after m pace) (sym e.counts)
+    (subst (λ (t : Turned). IsStep AnyRows opening seat (kind_of_turn w) (Turn t) (with_book (counted_by w seat t (quanta_by made mv) (stopped_by made faults moved.book)) moved) before after m pace) (sym e.ended_is)
+    (subst (λ (y : Move). IsStep AnyRows opening seat (kind_of_turn w) (Turn (ended_by made y)) (with_book (counted_by w seat (ended_by made y) (quanta_by made y) (stopped_by made faults moved.book)) moved) before after m pace) (sym e.turns.is)
     (turn_by work help w opening seat made faults old moved m pace numbers tree before after (subst (λ (y : Move). Turns w seat y old) e.turns.is e.turns)
     (subst (λ (y : Move). IfOk made (λ n. TurnsBy y seat n old moved)) e.turns.is e.moves) e.on e.kept holds counted rose
     (subst (λ (y : Move). IsErr made → calls_disk (choice_of y) ≡ true) e.turns.is called)
@@ -359,27 +339,17 @@ turn_step work help w opening seat mv made faults old moved ended b m pace numbe
 
 -- ---- a worker's turn where the store is closed
 
-pub closed_turn : (opening : List (Key × Value)) (seat : ℕ) (old : Held) (b : BookState) (m : Machine) (pace : Pace) (d : DiskState) (tree : Tree) → IsTimed d → RunsAt opening old m pace d tree → is_closed_in old.book ≡ true
-    → b ≡ counted_by true seat machine.Closed 0 old.book → IsTrue (may m seat kind.WorkerTurn) → IsStep opening seat kind.WorkerTurn (Turn machine.Closed) (with_book b old) d d m pace
-closed_turn opening seat old b m pace d tree timed r closed counts ok =
-    step_by opening seat kind.WorkerTurn (Turn machine.Closed) (with_book b old) d d m pace Well (worker_turn m seat Well) (pace_after m pace seat kind.WorkerTurn Well) refl refl tt refl
-    (stands_running opening (with_book b old) (worker_turn m seat Well).state (pace_after m pace seat kind.WorkerTurn Well) d tree
-    (record { fronts = r.fronts; over = r.over; holds = at.holds; goes = goes.1; numbers = r.numbers; has = rebooked old b r.numbers (ap (λ (x : BookState). x.counts) counts) r.has; one = r.one; ran = ap (λ (x : BookState). x.stopped) counts ∙ r.ran }))
-    (sym (ap (λ (o : Option Why). Turn (worker_turning o (is_closed m) m seat Well).ended) runs ∙ ap (λ (x : Bool). Turn (worker_turning None x m seat Well).ended) closed_is))
-    (leaves_same opening m d d (worker_turn m seat Well).state.book.entries d.images (ap (λ (x : BookState). x.book.entries) (at.holds.book ∙ counts) ∙ sym (ap (λ (x : BookState). x.book.entries) r.holds.book))
-    (λ c here. shows_at opening old m pace d tree c r (r.over.stands.each c here)) (leaves_only_start d d.images timed (λ c here. here)))
-  where
-    runs : m.stopped ≡ None
-    runs = machine_runs opening old m pace d tree r
+closed_pace : (seat : ℕ) (m : Machine) (pace : Pace) → m.stopped ≡ None → is_closed m ≡ true → pace_after m pace seat kind.WorkerTurn Well ≡ pace
+closed_pace seat m pace runs closed = grind (arith, common_steps, nat_tests)
 
-    closed_is : is_closed m ≡ true
-    closed_is = ap is_closed_in r.holds.book ∙ closed
+closed_as : (seat : ℕ) (m : Machine) → m.stopped ≡ None → is_closed m ≡ true → stepped_as m seat kind.WorkerTurn Well ≡ record { state = helped seat m; answer = Turn machine.Closed }
+closed_as seat m runs closed = grind (arith, common_steps, nat_tests)
 
-    goes : ((worker_turn m seat Well).state ≡ helped seat m) × GoesOn opening (worker_turn m seat Well).state (pace_after m pace seat kind.WorkerTurn Well) r.fronts tree
-    goes = closed_turn_goes_on opening m pace r.fronts tree seat Well runs closed_is ok r.goes
-
-    at : IsAt (with_book b old) tree (worker_turn m seat Well).state d.bytes
-    at =
-        subst (λ (x : BookState). IsAt (with_book x old) tree (worker_turn m seat Well).state d.bytes) (sym counts)
-        (subst (λ (s : Machine). IsAt (with_book (counted_by true seat machine.Closed 0 old.book) old) tree s d.bytes) (sym goes.0)
-        ((book_lands old tree m d.bytes (record { are_of = r.over.are_of; holds = r.holds })).help seat))
+pub closed_turn : (opening : List (Key × Value)) (seat : ℕ) (old : Held) (b : BookState) (m : Machine) (pace : Pace) (d : DiskState) → IsTimed d → IsTrue d.is_honest → old.book.stopped ≡ None → is_closed_in old.book ≡ true
+    → b ≡ counted_by true seat machine.Closed 0 old.book → StandsFor AnyRows opening old m pace d → IsTrue (may m seat kind.WorkerTurn) → IsStep AnyRows opening seat kind.WorkerTurn (Turn machine.Closed) (with_book b old) d d m pace
+closed_turn opening seat old b m pace d timed honest ran closed counts stands ok =
+    let runs : m.stopped ≡ None = ap (λ (x : BookState). x.stopped) stands.book ∙ ran in
+    let closed_is : is_closed m ≡ true = ap is_closed_in stands.book ∙ closed in
+    quiet_step {end = 0} {most = 0} opening seat kind.WorkerTurn Well (Turn machine.Closed) old old.runs.space b m (helped seat m) pace (only_reads_start d timed) honest stands ok tt tt refl (closed_pace seat m pace runs closed_is) (closed_as seat m runs closed_is)
+    (record { same = record { lists = refl; merges = refl; gears = refl; spring = refl; catalogue = refl }; counts = record { charge = refl; peak = refl; quanta = refl }; book = ap (helped_in seat) stands.book ∙ sym counts; stopped = ap (λ (x : BookState). x.stopped) counts; noted = inl refl })
+    (λ tree table file of. of) (λ none. tt)

@@ -27,7 +27,7 @@ use Rattle.tree_core.specs.Causes.{AdmitsBecause, CallsNone, DropsBecause, Finds
 use Rattle.tree_core.specs.Core.{CoreState, HoldsPace, facts_of_held}
 use Rattle.tree_core.specs.Holds.{KeepsHolds, LeavesOthers, StandsWhole}
 use Rattle.tree_core.specs.Notes.{CountsPayment, CountsTurn, HasLeft, HelpsOnce, Lessens, NotesNone, NotesOne, OwesNothing, Settles}
-use Rattle.tree_core.specs.Standing.{StandsFor}
+use Rattle.tree_core.specs.Standing.{AnyRows, StandsFor}
 use Rattle.tree_core.specs.Steps.{IsStep, IsWholeStep, MovesPace, StandsSince, may_in}
 use Rattle.tree_core.specs.declared.answers.Admission.{Admission}
 use Rattle.tree_core.specs.declared.answers.Holding.{Holding}
@@ -46,11 +46,12 @@ pub record GoesOnAs {D : Type 0} (state : D → DiskState) (seat : ℕ) (k : Kin
   pub lasts : (start : CoreState D) → StandsSince state start old → StandsSince state start new
   pub begins : StandsSince state new new
 
--- And one that has nothing to do with holds: it leaves them and what they pin, and on an honest disk it is the machine's step whatever rows they have to give.
+-- And one that has nothing to do with holds: it leaves them and what they pin. On an honest disk it is the machine's step whatever rows they have to give,
+-- and while it runs these stay.
 pub record BesideHolds {D : Type 0} (state : D → DiskState) (seat : ℕ) (k : Kind) (answer : Answer) (old new : CoreState D) : Type 0 where
   pub holds : KeepsHolds old new
-  pub step : (opening : List (Key × Value)) (m : Machine) (pace : Pace) → IsTrue (state old.disk).is_honest → StandsFor opening old.held m pace (state old.disk)
-      → IsStep opening seat k answer new.held (state old.disk) (state new.disk) m pace
+  pub step : (opening : List (Key × Value)) (m : Machine) (pace : Pace) → IsTrue (state old.disk).is_honest → StandsFor AnyRows opening old.held m pace (state old.disk)
+      → IsStep (λ rows. rows ≡ m.holds) opening seat k answer new.held (state old.disk) (state new.disk) m pace
 
 pub record Admits {D : Type 0} (state : D → DiskState) (seat : ℕ) (op : Op) (answer : Admission) (old new : CoreState D) : Type 0 where
   pub goes : GoesOnAs state seat (kind.Admit op) (Replied (reply_to_write answer)) old new

@@ -1,8 +1,9 @@
 -- The callers' holds, and the rows that they have still to give.
-use Rattle.std.specs.Prelude.{◌≡◌, ◌≢◌, ℕ, ◌<◌, ◌≤◌, List, Option, None}
+use Rattle.std.specs.Prelude.{◌≡◌, ◌≢◌, ℕ, ◌<◌, ◌≤◌, List, Option, None, slice_index_or}
 use Rattle.blsm_model.specs.Format.{callers}
 use Rattle.blsm_model.specs.Sizes.{Sizes}
 use Rattle.blsm_model.specs.declared.key.Key.{Key}
+use Rattle.blsm_model.specs.declared.row.Row.{Row}
 use Rattle.blsm_model.specs.declared.row.Value.{Value}
 use Rattle.disk_trait.specs.Disk.{DiskState}
 use Rattle.pacing.specs.Pace.{Pace}
@@ -11,7 +12,7 @@ use Rattle.scan_view.specs.Hold.{HoldState}
 use Rattle.scan_view.specs.Holds.{hold_of, pages_behind}
 use Rattle.scan_view.specs.Pins.{HasHeld}
 use Rattle.tree_runs.specs.Runs.{page_share}
-use Rattle.tree_machine.specs.Machine.{Machine, held_by}
+use Rattle.tree_machine.specs.Machine.{Machine}
 use Rattle.core_moves.specs.declared.held.Held.{Held}
 use Rattle.tree_core.specs.Core.{CoreState}
 use Rattle.tree_core.specs.Standing.{StandsFor}
@@ -20,14 +21,13 @@ use Rattle.tree_core.specs.Standing.{StandsFor}
 abbrev pub AreFew : Sizes → List (Option HoldState) → Type 0
 AreFew sizes holds = (seat : ℕ) → pages_behind (hold_of seat holds) ≤ page_share sizes
 
--- Each caller's hold has those rows to give that the machine's has, from pages that the seat pins.
-abbrev pub HoldRows : Held → List (Option HoldState) → Machine → DiskState → Type 0
-HoldRows held holds m d = (seat : ℕ) → seat < callers → HasHeld held.runs.sizes held.runs.space.pins seat (hold_of seat holds) (held_by seat m) d.bytes
+-- Each caller's hold has those rows to give, from pages that the seat pins.
+abbrev pub HoldRows : Held → List (Option HoldState) → DiskState → List (Option (List Row)) → Type 0
+HoldRows held holds d rows = (seat : ℕ) → seat < callers → HasHeld held.runs.sizes held.runs.space.pins seat (hold_of seat holds) (slice_index_or rows seat None) d.bytes
 
--- The core stands for this state of the machine, its holds too as long as it runs.
-pub record StandsWhole {D : Type 0} (state : D → DiskState) (opening : List (Key × Value)) (core : CoreState D) (m : Machine) (pace : Pace) : Type 0 where
-  pub stands : StandsFor opening core.held m pace (state core.disk)
-  pub rows : core.held.book.stopped ≡ None → HoldRows core.held core.holds m (state core.disk)
+-- The whole core stands for it: its holds have the rows that the machine's have.
+abbrev pub StandsWhole : {D : Type 0} → (D → DiskState) → List (Key × Value) → CoreState D → Machine → Pace → Type 0
+StandsWhole state opening core m pace = StandsFor (HoldRows core.held core.holds (state core.disk)) opening core.held m pace (state core.disk)
 
 -- A call that has nothing to do with holds leaves them as they are, and the pages that they pin.
 pub record KeepsHolds {D : Type 0} (old new : CoreState D) : Type 0 where

@@ -1,6 +1,7 @@
 -- What the core stands for on an honest disk, while it runs and once it is stopped: a state of the machine over lists.
-use Rattle.std.specs.Prelude.{◌≡◌, ℕ, List, None, IsSome}
+use Rattle.std.specs.Prelude.{◌≡◌, ⊤, ℕ, List, Option, None, IsSome}
 use Rattle.blsm_model.specs.declared.key.Key.{Key}
+use Rattle.blsm_model.specs.declared.row.Row.{Row}
 use Rattle.blsm_model.specs.declared.row.Value.{Value}
 use Rattle.disk_trait.specs.Disk.{DiskState}
 use Rattle.pacing.specs.Pace.{Pace}
@@ -30,12 +31,17 @@ pub record HasStopped (opening : List (Key × Value)) (m : Machine) (d : DiskSta
   pub each : (c : List ℕ) → d.images c → ShowsWhole opening m c
   pub commits : CommitsAs m d
 
--- The core stands for this state of the machine, which is paced from the opening on.
-pub record StandsFor (opening : List (Key × Value)) (held : Held) (m : Machine) (pace : Pace) (d : DiskState) : Type 0 where
+-- Nothing is said of the rows that the callers' holds have still to give.
+abbrev pub AnyRows : List (Option (List Row)) → Type 0
+AnyRows rows = ⊤
+
+-- The core stands for this state of the machine, which is paced from the opening on; while it runs, `Rows` holds of the rows to come.
+pub record StandsFor (Rows : List (Option (List Row)) → Type 0) (opening : List (Key × Value)) (held : Held) (m : Machine) (pace : Pace) (d : DiskState) : Type 0 where
   pub paced : IsPacedTree opening m pace
   pub sizes : m.gears.sizes ≡ held.runs.sizes
   pub gears : m.gears ≡ held.gears
   pub book : book_of m ≡ held.book
   pub charge_is : charge m ≡ charge_in held
   pub runs : held.book.stopped ≡ None → RunsOver held m pace d
+  pub rows : held.book.stopped ≡ None → Rows m.holds
   pub stopped : IsSome held.book.stopped → HasStopped opening m d

@@ -1,10 +1,11 @@
 -- What a call of the core is: one step of the pacing on every disk, and one step of the machine on an honest one.
-use Rattle.std.specs.Prelude.{◌≡◌, ℕ, ◌+◌, ◌≤◌, IsTrue, Bool, false, not, ◌&&◌, ◌||◌, nat_le, nat_lt, is_some, List, None, length, map, true, filter}
+use Rattle.std.specs.Prelude.{◌≡◌, ℕ, ◌+◌, ◌≤◌, IsTrue, Bool, false, not, ◌&&◌, ◌||◌, nat_le, nat_lt, is_some, List, Option, length, map, true, filter}
 use mathlib.Core.List.{IsPrefix}
 use Rattle.blsm_model.specs.Legal.{is_write}
 use Rattle.gear_sched.specs.Gears.{first_debt, second_debt}
 use Rattle.seat_book.specs.State.{may_note_in, may_turn_in, may_end_in}
 use Rattle.blsm_model.specs.declared.key.Key.{Key}
+use Rattle.blsm_model.specs.declared.row.Row.{Row}
 use Rattle.blsm_model.specs.declared.row.Value.{Value}
 use Rattle.blsm_model.specs.declared.op.Op.{Op}
 use Rattle.blsm_model.specs.declared.op.Op.TheVariants.{Tail}
@@ -36,20 +37,20 @@ pub record MovesPace (seat : ℕ) (kind : Kind) (answer : Answer) (new : Held) (
   pub holds : HoldsPace new next after
 
 -- By lists: the machine's own step, by an outcome that the disk's count of faults tells, with its answer. Each image of each moment since it began
--- shows the history after it, with all entries of the one before it.
-pub record IsStep (opening : List (Key × Value)) (seat : ℕ) (kind : Kind) (answer : Answer) (new : Held) (before after : DiskState) (m : Machine) (pace : Pace) : Type 0 where
+-- shows the history after it, with all entries of the one before it. `Rows` holds of the rows to come then.
+pub record IsStep (Rows : List (Option (List Row)) → Type 0) (opening : List (Key × Value)) (seat : ℕ) (kind : Kind) (answer : Answer) (new : Held) (before after : DiskState) (m : Machine) (pace : Pace) : Type 0 where
   pub outcome : Outcome
   pub possible : IsPossible m seat kind outcome before.faults after.faults
   -- no page is found damaged there
   pub whole : is_broken outcome ≡ false
-  pub stands : StandsFor opening new (stepped_as m seat kind outcome).state (pace_after m pace seat kind outcome) after
+  pub stands : StandsFor Rows opening new (stepped_as m seat kind outcome).state (pace_after m pace seat kind outcome) after
   pub answers : answer ≡ (stepped_as m seat kind outcome).answer
   pub images : LeavesOnly before after (ShowsHistory m.gears.sizes opening (stepped_as m seat kind outcome).state.book.entries (length m.book.entries))
 
--- And where it is a step of a hold, the callers' holds are the machine's next ones.
-pub record IsWholeStep {D : Type 0} (state : D → DiskState) (opening : List (Key × Value)) (seat : ℕ) (kind : Kind) (answer : Answer) (old new : CoreState D) (m : Machine) (pace : Pace) : Type 0 where
-  pub step : IsStep opening seat kind answer new.held (state old.disk) (state new.disk) m pace
-  pub rows : new.held.book.stopped ≡ None → HoldRows new.held new.holds (stepped_as m seat kind step.outcome).state (state new.disk)
+-- A step of the whole core: its holds have the rows to give then that the machine's have.
+abbrev pub IsWholeStep : {D : Type 0} → (D → DiskState) → List (Key × Value) → ℕ → Kind → Answer → CoreState D → CoreState D → Machine → Pace → Type 0
+IsWholeStep state opening seat kind answer old new m pace =
+    IsStep (HoldRows new.held new.holds (state new.disk)) opening seat kind answer new.held (state old.disk) (state new.disk) m pace
 
 -- ---- when a step may be made
 

@@ -22,7 +22,7 @@ ghost use Rattle.tree_machine.specs.Stands.{WritesFit};
 ghost use Rattle.core_pace.specs.Events.{MayWrite};
 ghost use Rattle.tree_core.specs.Calls.{Admits};
 ghost use Rattle.tree_core.specs.Causes.{calls_to_admit};
-ghost use Rattle.tree_core.specs.Standing.{StandsFor};
+ghost use Rattle.tree_core.specs.Standing.{AnyRows, StandsFor};
 ghost use Rattle.tree_core.specs.Taking.{Runs, Takes, TakesOver, TellsTaking};
 
 use crate::settling::{settle_deep, settle_pass};
@@ -46,7 +46,7 @@ fn take<D: Disk>(held: &mut Held, disk: &mut D, seat: u32, op: &Op, write: &Writ
     requires tail { TailFits write.now }
     requires may { MayWrite seat (total_weight (writes_of op.now)) op.now held.old }
     ensures takes { Takes result seat (key_of write.now) (record_of write.now) held.old held.new (D.state disk.new) }
-    ensures lists { (opening : List (Key × Value)) (m : Machine) (pace : Pace) → IsTrue (D.state disk.old).is_honest → StandsFor opening held.old m pace (D.state disk.old)
+    ensures lists { (opening : List (Key × Value)) (m : Machine) (pace : Pace) → IsTrue (D.state disk.old).is_honest → StandsFor AnyRows opening held.old m pace (D.state disk.old)
         → held.old.book.stopped ≡ None → IsTrue (may m seat (kind.Admit op.now)) → WritesFit (kind.Admit op.now)
         → TakesOver result opening seat op.now m pace held.new (D.state disk.old) (D.state disk.new) }
     ensures effect { Affects (beside_pins held.old.runs.sizes held.old.runs.space.pins) (file_length held.old.runs.sizes) (calls_to_admit held.old) (D.state disk.old) (D.state disk.new) }
