@@ -52,7 +52,7 @@ use Rattle.tree_core.proofs.AdmissionFollows.{failed_follows, quiet_follows, tak
 use Rattle.tree_core.proofs.AdmissionLemmas.{failed_keeps, failed_moves, refused_moves, room_as, taken_keeps, taken_moves}
 use Rattle.tree_core.proofs.AdmissionSteps.{IsAsked, failed_steps, full_steps, stopped_steps, taken_steps}
 use Rattle.tree_core.proofs.BegunLemmas.{begun_by}
-use Rattle.tree_core.proofs.KeepLemmas.{taking_keeps_pins}
+use Rattle.tree_core.proofs.KeepLemmas.{taking_keeps_pins, no_commits}
 use Rattle.tree_core.proofs.LastLemmas.{goes_on_by}
 use Rattle.tree_core.proofs.NotingLemmas.{notes_at_once, notes_by, notes_stopped}
 
@@ -76,7 +76,7 @@ module _ {D : Type 0} (state : D → DiskState) (seat : ℕ) (op : Op) (old : Co
   refuses answer made undone has because begun steps =
       let reply = reply_to_write answer in
       let b = noted_in seat op reply old.held.book in
-      let goes = goes_on_by {end = 0} {most = 0} state seat (kind.Admit op) (Replied reply) old (record old { held = with_book b old.held }) core timed refl can (record { holds = refl; pins = refl; sizes = refl }) (affects_start (state old.disk) timed) (quiet_follows seat op reply old.held)
+      let goes = goes_on_by {end = 0} {most = 0} state seat (kind.Admit op) (Replied reply) old (record old { held = with_book b old.held }) core timed refl can (record { holds = refl; pins = refl; sizes = refl }) (no_commits old.held (with_book b old.held) refl refl) (affects_start (state old.disk) timed) (quiet_follows seat op reply old.held)
       (λ pace holds. refused_moves seat op reply old.held pace (state old.disk) b (made pace) undone has refl holds) (λ opening m pace honest s ok. steps opening m pace (asked_by opening m pace honest s ok)) in
       record {
         goes = goes.0;
@@ -117,7 +117,7 @@ module _ {D : Type 0} (state : D → DiskState) (seat : ℕ) (op : Op) (old : Co
         let moves = λ (pace : Pace) (paced : HoldsPace old.held pace (state old.disk)). taken_moves seat op write old.held new pace (state disk) writes writing (paced.live ran).paced may_write (note_has_room old.held.book seat 0 op Done room (omega arith)) takes in
         let moved = moves core.pace core.holds in
         let live = (moved.holds.live (keeps.stopped ∙ ran)).paced in
-        let goes = goes_on_by state seat (kind.Admit op) (Replied Done) old (record { disk = disk; held = with_book (noted_in seat op Done new.book) new; holds = old.holds }) core later refl can (record { holds = refl; pins = pins.pins; sizes = pins.sizes }) effect (taken_follows seat op (key_of write) (record_of write) old.held new (state disk) takes) moves
+        let goes = goes_on_by state seat (kind.Admit op) (Replied Done) old (record { disk = disk; held = with_book (noted_in seat op Done new.book) new; holds = old.holds }) core later refl can (record { holds = refl; pins = pins.pins; sizes = pins.sizes }) pins.commits effect (taken_follows seat op (key_of write) (record_of write) old.held new (state disk) takes) moves
         (λ opening m pace honest s ok.
         let left = lists opening m pace honest s ran ok fits in
         taken_steps opening seat op old.held m pace (state old.disk) (asked_by opening m pace honest s ok) ran may_write.room new (state disk) moved.next left.0 (keeps.stopped ∙ ran) live.numbers live.one.gears left.1) in
@@ -139,7 +139,7 @@ module _ {D : Type 0} (state : D → DiskState) (seat : ℕ) (op : Op) (old : Co
         let reply = cond begun FaultUnsure FaultLost in
         let keeps = failed_keeps begun seat (key_of write) (record_of write) old.held new (state disk) takes in
         let pins = taking_keeps_pins (Failed begun) seat (key_of write) (record_of write) old.held new (state disk) takes in
-        let goes = goes_on_by state seat (kind.Admit op) (Replied reply) old (record { disk = disk; held = with_book (noted_in seat op reply (stopped_in why new.book)) new; holds = old.holds }) core later refl can (record { holds = refl; pins = pins.pins; sizes = pins.sizes }) effect (failed_follows begun seat op reply why (key_of write) (record_of write) old.held new (state disk) takes)
+        let goes = goes_on_by state seat (kind.Admit op) (Replied reply) old (record { disk = disk; held = with_book (noted_in seat op reply (stopped_in why new.book)) new; holds = old.holds }) core later refl can (record { holds = refl; pins = pins.pins; sizes = pins.sizes }) pins.commits effect (failed_follows begun seat op reply why (key_of write) (record_of write) old.held new (state disk) takes)
         (λ pace holds. failed_moves begun seat op write why old.held new pace (state disk) writes (holds.live ran).paced (room_for old.held.book seat op room) takes)
         (λ opening m pace honest s ok. failed_steps opening seat op old.held m pace (state old.disk) (asked_by opening m pace honest s ok) ran may_write.room (state disk) effect.goes_on.faults few risen new begun later (lists opening m pace honest s ran ok fits)) in
         subst (λ (x : BookState). Admits state seat op (admission.Fault begun) old (record { disk = disk; held = with_book x new; holds = old.holds })) (sym is)

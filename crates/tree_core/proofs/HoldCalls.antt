@@ -2,7 +2,7 @@
 use Rattle.std.specs.Prelude.{◌≡◌, ◌≢◌, ℕ, ◌<◌, ◌≤◌, ◌^◌, true, List, Option, Some, IsTrue}
 use Rattle.std.proofs.lemmas.Grind.{common_steps}
 use Rattle.std.proofs.lemmas.Bool.Decides.{nat_tests}
-use Rattle.std.proofs.Common.{arith}
+use Rattle.std.proofs.Common.{arith, ap}
 use Rattle.std.proofs.Common.{◌∙◌, refl, subst, sym}
 use Rattle.blsm_model.specs.Book.{HasRoom}
 use Rattle.blsm_model.specs.Format.{most_rows}
@@ -51,6 +51,7 @@ use Rattle.tree_core.proofs.HoldStepsByCall.{GivesRows, drop_room, drop_steps, h
 use Rattle.tree_core.proofs.LastLemmas.{goes_by, may_next}
 use Rattle.tree_core.proofs.PlayLemmas.{may_agrees}
 use Rattle.tree_core.proofs.QuietLemmas.{reads_on}
+use Rattle.tree_core.proofs.KeepLemmas.{no_commits}
 
 -- ---- what each is due to doesn't speak of the entry
 
@@ -76,7 +77,7 @@ hold_goes : {D : Type 0} {end most : ℕ} {k : Kind} {command : Op} {mid : Held}
     → IsWholeStep state opening seat k (Replied r) old (after_it disk mid after seat command r old.held) m pace)
     → GoesOnAs state seat k (Replied r) old (after_it disk mid after seat command r old.held)
 hold_goes {D} {end} {most} {k} {command} {mid} {after} state seat r old disk core timed is moves reads on room can steps =
-    goes_by state seat k (Replied r) old (after_it disk mid after seat command r old.held) core timed can reads.effect.goes_on (hold_follows command r moves) (λ pace holds. hold_moves r pace is moves on room holds)
+    goes_by state seat k (Replied r) old (after_it disk mid after seat command r old.held) core timed can reads.effect.goes_on (no_commits old.held (with_book (noted_in seat command r old.held.book) mid) (ap (λ (held : Held). held.runs.catalogue) moves.rest) refl) (hold_follows command r moves) (λ pace holds. hold_moves r pace is moves on room holds)
     (λ opening m pace honest stands. steps opening m pace honest stands (may_agrees seat k old.held m stands.book stands.gears ∙ can))
 
 pub hold_does : {D : Type 0} {mid : Held} {after : List (Option HoldState)} (state : D → DiskState) (seat : ℕ) (low high : Key) (answer : Holding) (old : CoreState D) (b : BookState) → IsCore old.held (state old.disk) → IsTimed (state old.disk)

@@ -1,5 +1,5 @@
 -- Steps that are none of a hold leave the callers' holds as they are, those of the machine and those of the core.
-use Rattle.std.specs.Prelude.{◌≢◌, ◌≤◌, nat_le, nat_lt, not, ◌==◌, replicate, IsErr, IfOk}
+use Rattle.std.specs.Prelude.{◌≢◌, ◌≤◌, nat_le, nat_lt, not, ◌==◌, replicate, IsErr, IfOk, Ok, Err}
 use Rattle.std.proofs.lemmas.Grind.{common_steps}
 use Rattle.std.proofs.lemmas.Bool.Decides.{nat_tests}
 use Rattle.std.specs.declared.result.Result.{Result}
@@ -41,7 +41,7 @@ use Rattle.tree_machine.specs.Steps.{Answer, Broken as AtPage, Choice, FailedAft
 use Rattle.tree_machine.proofs.FrameLemmas.{step_stays}
 use Rattle.tree_runs.specs.Runs.{page_share}
 use Rattle.core_moves.specs.declared.held.Held.{Held}
-use Rattle.core_moves.specs.Moves.{KeepsAllButMerges, SettlesDeep, SettlesPass, begun_in, with_debts_forgiven}
+use Rattle.core_moves.specs.Moves.{KeepsAllButMerges, SettlesDeep, SettlesPass, begun_in, with_debts_forgiven, WritesIn, with_book}
 use Rattle.core_pace.specs.Events.{TakesByPlan}
 use Rattle.core_pace.specs.Turns.{TurnsBy}
 use Rattle.tree_core.specs.declared.admission.Taking.{Taking}
@@ -52,6 +52,7 @@ use Rattle.tree_core.specs.Standing.{AnyRows, StandsFor}
 use Rattle.tree_core.specs.Steps.{IsStep}
 use Rattle.tree_core.specs.Taking.{IsReadied, Takes}
 use Rattle.tree_core.proofs.QuietLemmas.{with_rows}
+use Rattle.tree_core.specs.Notes.{CountsCommits, rotations_by}
 
 -- ---- the machine
 
@@ -172,50 +173,64 @@ rows_said {Rows} {Next} opening seat k answer old new before after m pace none s
 
 -- ---- what each call keeps
 
-pub record KeepsPins (old new : Held) : Type 0 where
+-- Pins and sizes stay, and commits are counted, but for so many rotations.
+pub record KeepsPins (rotated : ℕ) (old new : Held) : Type 0 where
   pub pins : new.runs.space.pins ≡ old.runs.space.pins
   pub sizes : new.runs.sizes ≡ old.runs.sizes
+  pub commits : CountsCommits rotated old new
 
-pins_themselves : (held : Held) → KeepsPins held held
-pins_themselves held = record { pins = refl; sizes = refl }
+-- where nothing is committed
+pub no_commits : (old new : Held) → new.runs.catalogue ≡ old.runs.catalogue → new.book.counts ≡ old.book.counts → CountsCommits 0 old new
+no_commits old new catalogue counts = grind (arith, common_steps, nat_tests)
 
-pub same_pins : (old new : Held) → new ≡ old → KeepsPins old new
-same_pins old new is = subst (λ (h : Held). KeepsPins old h) (sym is) (pins_themselves old)
+-- what is noted beside counts none
+pub commits_beside : (rotated : ℕ) (old new : Held) (b : BookState) → b.counts ≡ new.book.counts → CountsCommits rotated old new → CountsCommits rotated old (with_book b new)
+commits_beside rotated old new b counts commits = grind (arith, common_steps, nat_tests)
 
-pub then_pins : (old mid new : Held) → KeepsPins old mid → KeepsPins mid new → KeepsPins old new
-then_pins old mid new one two = record { pins = two.pins ∙ one.pins; sizes = two.sizes ∙ one.sizes }
+pub same_pins : (old new : Held) → new ≡ old → KeepsPins 0 old new
+same_pins old new is = grind (arith, common_steps, nat_tests)
 
-pub deep_keeps_pins : (old new : Held) → SettlesDeep old new → KeepsPins old new
-deep_keeps_pins old new settles = ⊎_elim (λ done. record { pins = done.1.runs.pins; sizes = done.1.runs.sizes }) (λ rests. same_pins old new rests.1) settles
+pub then_pins : (old mid new : Held) → KeepsPins 0 old mid → KeepsPins 0 mid new → KeepsPins 0 old new
+then_pins old mid new one two = record { pins = two.pins ∙ one.pins; sizes = two.sizes ∙ one.sizes; commits = omega (arith, one.commits, two.commits) }
 
-pub pass_keeps_pins : (old new : Held) → SettlesPass old new → KeepsPins old new
-pass_keeps_pins old new settles = ⊎_elim (λ done. record { pins = done.1.runs.pins; sizes = done.1.runs.sizes }) (λ rests. same_pins old new rests.1) settles
+pub deep_keeps_pins : (old new : Held) → SettlesDeep old new → KeepsPins 0 old new
+deep_keeps_pins old new settles = grind (arith, common_steps, nat_tests)
 
-pub begin_keeps_pins : (w : ℕ) (held : Held) → KeepsPins held (begun_in w held)
+pub pass_keeps_pins : (old new : Held) → SettlesPass old new → KeepsPins 0 old new
+pass_keeps_pins old new settles = grind (arith, common_steps, nat_tests)
+
+pub begin_keeps_pins : (w : ℕ) (held : Held) → KeepsPins 0 held (begun_in w held)
 begin_keeps_pins w held = grind (arith, common_steps, nat_tests)
 
-readied_keeps_pins : (w : ℕ) (old new : Held) → IsReadied w old new → KeepsPins old new
+readied_keeps_pins : (w : ℕ) (old new : Held) → IsReadied w old new → KeepsPins 0 old new
 readied_keeps_pins w old new is =
-    subst (λ (h : Held). KeepsPins old h) (sym is.begun)
+    subst (λ (h : Held). KeepsPins 0 old h) (sym is.begun)
     (then_pins old is.ready (begun_in w is.ready) (then_pins old is.settled is.ready (deep_keeps_pins old is.settled is.deep) (pass_keeps_pins is.settled is.ready is.pass)) (begin_keeps_pins w is.ready))
 
+write_keeps_pins : (seat : ℕ) (key : Key) (rec : Rec) (old new : Held) → WritesIn seat key rec old new → KeepsPins 0 old new
+write_keeps_pins seat key rec old new is = grind (arith, common_steps, nat_tests)
+
 -- an admission, however its write was taken
-pub taking_keeps_pins : (t : Taking) (seat : ℕ) (key : Key) (rec : Rec) (old new : Held) (after : DiskState) → Takes t seat key rec old new after → KeepsPins old new
-taking_keeps_pins Taken seat key rec old new after is = then_pins old is.0 new (readied_keeps_pins _ old is.0 is.1) (record { pins = ap (λ (r : Rattle.tree_runs.specs.Runs.RunsState). r.space.pins) is.2.runs; sizes = ap (λ (r : Rattle.tree_runs.specs.Runs.RunsState). r.sizes) is.2.runs })
+pub taking_keeps_pins : (t : Taking) (seat : ℕ) (key : Key) (rec : Rec) (old new : Held) (after : DiskState) → Takes t seat key rec old new after → KeepsPins 0 old new
+taking_keeps_pins Taken seat key rec old new after is = then_pins old is.0 new (readied_keeps_pins _ old is.0 is.1) (write_keeps_pins seat key rec is.0 new is.2)
 taking_keeps_pins (Failed true) seat key rec old new after is = readied_keeps_pins _ old new is
 taking_keeps_pins (Failed false) seat key rec old new after is = ⊎_elim (λ still. same_pins old new still.0) (λ settled. deep_keeps_pins old new settled.0) is
 
 -- a payment's quantum
-pub quantum_keeps_pins : (p : Plan) (result : Result ℕ Broken) (seat : ℕ) (old new : Held) → IfOk result (λ n. TakesByPlan p seat n old new) → KeepsAllButMerges (IsErr result) old new → KeepsPins old new
+pub quantum_keeps_pins : (p : Plan) (result : Result ℕ Broken) (seat : ℕ) (old new : Held) → IfOk result (λ n. TakesByPlan p seat n old new) → KeepsAllButMerges (IsErr result) old new → KeepsPins 0 old new
 quantum_keeps_pins p result seat old new h1 h2 = grind (arith, common_steps, nat_tests)
 
 -- a turn's move
-pub move_keeps_pins : (mv : Move) (result : Result ℕ Broken) (seat : ℕ) (old new : Held) → IfOk result (λ n. TurnsBy mv seat n old new) → KeepsAllButMerges (IsErr result) old new → KeepsPins old new
+abbrev pub rotated_by : Result ℕ Broken → Move → ℕ
+rotated_by (Ok n) mv = rotations_by mv
+rotated_by (Err broken) mv = 0
+
+pub move_keeps_pins : (mv : Move) (result : Result ℕ Broken) (seat : ℕ) (old new : Held) → IfOk result (λ n. TurnsBy mv seat n old new) → KeepsAllButMerges (IsErr result) old new → KeepsPins (rotated_by result mv) old new
 move_keeps_pins mv result seat old new h1 h2 = grind (arith, common_steps, nat_tests)
 
 -- with the debts that may be forgiven
-pub forgiven_keeps_pins : (seat : ℕ) (old new : Held) → new ≡ with_debts_forgiven seat old → KeepsPins old new
-forgiven_keeps_pins seat old new is = subst (λ (h : Held). KeepsPins old h) (sym is) (record { pins = refl; sizes = refl })
+pub forgiven_keeps_pins : (seat : ℕ) (old new : Held) → new ≡ with_debts_forgiven seat old → KeepsPins 0 old new
+forgiven_keeps_pins seat old new is = grind (arith, common_steps, nat_tests)
 
 -- ---- a disk that was only read
 

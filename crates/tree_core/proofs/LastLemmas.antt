@@ -38,6 +38,7 @@ use Rattle.tree_core.proofs.KeepLemmas.{is_held, rows_said, rows_stay}
 use Rattle.tree_core.proofs.PlayLemmas.{may_agrees, none_is_played, both_are_played, played_by}
 use Rattle.tree_core.proofs.QuietLemmas.{with_rows}
 use Rattle.tree_core.proofs.SizeLemmas.{made_sizes}
+use Rattle.tree_core.specs.Notes.{CountsCommits, rotations}
 
 -- at the start
 pub since_now : {D : Type 0} (state : D → DiskState) (core : CoreState D) (pace : Pace) → IsTimed (state core.disk) → IsTold core.held pace → StandsSince state core core
@@ -65,12 +66,12 @@ since_played state start old new since sizes peak goes played = record {
 
 -- What a call says that is one step of the machine and moves the pace. What lasts from a start on lasts over it.
 pub goes_by : {D : Type 0} (state : D → DiskState) (seat : ℕ) (k : Kind) (answer : Answer) (old new : CoreState D) → IsCore old.held (state old.disk) → IsTimed (state new.disk) → may_in old.held seat k ≡ true
-    → GoesOn (state old.disk) (state new.disk) → Follows seat (facts_of_held old.held) (facts_of_held new.held)
+    → GoesOn (state old.disk) (state new.disk) → CountsCommits (rotations answer k old.held) old.held new.held → Follows seat (facts_of_held old.held) (facts_of_held new.held)
     → ((pace : Pace) → HoldsPace old.held pace (state old.disk) → MovesPace seat k answer new.held (state new.disk) pace)
     → ((opening : List (Key × Value)) (m : Machine) (pace : Pace) → IsTrue (state old.disk).is_honest → StandsWhole state opening old m pace → IsWholeStep state opening seat k answer old new m pace)
     → GoesOnAs state seat k answer old new
-goes_by {D} state seat k answer old new core timed can goes follows numbers steps =
-    record { may = can; numbers = numbers; steps = steps; follows = follows; lasts = lasts; begins = since_now state new moves.next timed told }
+goes_by {D} state seat k answer old new core timed can goes commits follows numbers steps =
+    record { may = can; numbers = numbers; commits = commits; steps = steps; follows = follows; lasts = lasts; begins = since_now state new moves.next timed told }
   where
     moves : MovesPace seat k answer new.held (state new.disk) core.pace
     moves = numbers core.pace core.holds
@@ -86,13 +87,13 @@ goes_by {D} state seat k answer old new core timed can goes follows numbers step
 
 -- And one that has nothing to do with holds: it writes beside the pages that are pinned.
 pub goes_on_by : {D : Type 0} {end most : ℕ} (state : D → DiskState) (seat : ℕ) (k : Kind) (answer : Answer) (old new : CoreState D) → IsCore old.held (state old.disk) → IsTimed (state new.disk) → is_held k ≡ false → may_in old.held seat k ≡ true
-    → KeepsHolds old new → Affects (beside_pins old.held.runs.sizes old.held.runs.space.pins) end most (state old.disk) (state new.disk) → Follows seat (facts_of_held old.held) (facts_of_held new.held)
+    → KeepsHolds old new → CountsCommits (rotations answer k old.held) old.held new.held → Affects (beside_pins old.held.runs.sizes old.held.runs.space.pins) end most (state old.disk) (state new.disk) → Follows seat (facts_of_held old.held) (facts_of_held new.held)
     → ((pace : Pace) → HoldsPace old.held pace (state old.disk) → MovesPace seat k answer new.held (state new.disk) pace)
     → ((opening : List (Key × Value)) (m : Machine) (pace : Pace) → IsTrue (state old.disk).is_honest → StandsFor AnyRows opening old.held m pace (state old.disk) → may m seat k ≡ true
     → IsStep AnyRows opening seat k answer new.held (state old.disk) (state new.disk) m pace)
     → GoesOnAs state seat k answer old new × BesideHolds state seat k answer old new
-goes_on_by state seat k answer old new core timed none can keeps effect follows numbers steps = (
-  goes_by state seat k answer old new core timed can effect.goes_on follows numbers (λ opening m pace honest stands. step opening m pace honest (λ ran. rows_stay state old new m.holds keeps (effect.bytes honest) (stands.rows ran)) stands),
+goes_on_by state seat k answer old new core timed none can keeps commits effect follows numbers steps = (
+  goes_by state seat k answer old new core timed can effect.goes_on commits follows numbers (λ opening m pace honest stands. step opening m pace honest (λ ran. rows_stay state old new m.holds keeps (effect.bytes honest) (stands.rows ran)) stands),
   record { holds = keeps; step = λ opening m pace honest stands. step opening m pace honest (λ ran. refl) stands },
 )
   where

@@ -120,7 +120,7 @@ get_does {D} state seat key found old disk b core timed stay can because counted
     (record { goes = goes.0; beside = goes.1; cause = because; held = refl; reads = reads; hidden = hidden; untouched = untouched })
   where
     goes : GoesOnAs state seat (kind.Get key) (Replied (reply_to_get found)) old (record { disk = disk; held = with_book (noted_in seat (Get key) (reply_to_get found) old.held.book) old.held; holds = old.holds }) × BesideHolds state seat (kind.Get key) (Replied (reply_to_get found)) old (record { disk = disk; held = with_book (noted_in seat (Get key) (reply_to_get found) old.held.book) old.held; holds = old.holds })
-    goes = book_goes state seat (kind.Get key) (Replied (reply_to_get found)) old disk (noted_in seat (Get key) (reply_to_get found) old.held.book) 1 core timed reads (reads_on old.held stay reads) refl can (omega arith)
+    goes = book_goes state seat (kind.Get key) (Replied (reply_to_get found)) old disk (noted_in seat (Get key) (reply_to_get found) old.held.book) 1 core timed reads (reads_on old.held stay reads) refl refl can (omega arith)
         (note_keeps seat (Get key) (reply_to_get found) old.held.book) refl refl
         (λ pace told. entry_is_told old.held.book pace seat (Get key) (reply_to_get found) (λ done. refl) (get_has_room seat key found old.held.book can) told) (λ pace. refl)
         (λ opening m pace honest s ok. get_steps opening seat key found old.held m pace reads honest because counted (λ tree holds catalogue guided. value tree honest holds catalogue guided) s ok)

@@ -41,20 +41,23 @@ use Rattle.tree_core.specs.Standing.{AnyRows}
 use Rattle.tree_core.specs.Steps.{IsStep, MovesPace}
 use Rattle.tree_core.specs.declared.answers.Payment.TheVariants as payment
 use Rattle.tree_core.proofs.BoundLemmas.{rose as has_risen}
-use Rattle.tree_core.proofs.KeepLemmas.{forgiven_keeps_pins, quantum_keeps_pins, then_pins}
+use Rattle.tree_core.proofs.KeepLemmas.{forgiven_keeps_pins, quantum_keeps_pins, then_pins, no_commits, commits_beside}
 use Rattle.tree_core.proofs.LastLemmas.{goes_on_by, may_leave}
 use Rattle.tree_core.proofs.NotingLemmas.{failed_payment_counts, payment_counts, plans_nothing, settling_counts}
 use Rattle.tree_core.proofs.PaymentLemmas.{FailedToTake, Plans, Took, failed_payment_follows, failed_payment_moves, nothing_planned, payment_follows, payment_lessens, payment_moves, payment_runs, settling_follows, settling_moves}
 use Rattle.tree_core.proofs.PaymentSteps.{failed_payment_step, halted_payment, never_damaged, paid_step, settled_payment, stands_forgiven}
 use Rattle.tree_core.proofs.QuantumLemmas.{debts_stay, follows_by, kept_once}
 use Rattle.tree_core.proofs.QuantumSteps.{RunsAt, running_at}
+use Rattle.tree_core.specs.Notes.{CountsCommits, rotations}
+use Rattle.std.proofs.lemmas.Grind.{common_steps}
+use Rattle.std.proofs.lemmas.Bool.Decides.{nat_tests}
 
 -- ---- without a quantum
 
 pub pay_halted : {D : Type 0} (state : D → DiskState) (seat : ℕ) (why : Why) (old : CoreState D) → IsCore old.held (state old.disk) → IsTimed (state old.disk) → seat < callers → old.held.book.stopped ≡ Some why
     → Pays state seat (payment.Stopped why) old old
 pay_halted state seat why old core timed caller stopped =
-    let goes = goes_on_by {end = 0} {most = 0} state seat kind.Pay (Turn (machine.Halted why)) old old core timed refl (may_leave seat caller) (record { holds = refl; pins = refl; sizes = refl }) (affects_start (state old.disk) timed)
+    let goes = goes_on_by {end = 0} {most = 0} state seat kind.Pay (Turn (machine.Halted why)) old old core timed refl (may_leave seat caller) (record { holds = refl; pins = refl; sizes = refl }) (no_commits old.held old.held refl refl) (affects_start (state old.disk) timed)
     (follows_by seat 0 0 old.held old.held (omega arith) (omega arith) (keeps_itself seat old.held.book) (debts_stay seat old.held.gears)) (λ pace holds. record { next = pace; made = refl; holds = holds })
     (λ opening m pace honest s ok. halted_payment opening seat why old.held m pace (state old.disk) timed honest stopped s ok) in
     record {
@@ -74,7 +77,7 @@ pay_settled state seat plan old forgiven core timed caller ran is plan_is none =
     let d = state old.disk in
     let nothing = nothing_planned seat plan old.held forgiven is plan_is none in
     let pins = forgiven_keeps_pins seat old.held forgiven is in
-    let goes = goes_on_by {end = 0} {most = 0} state seat kind.Pay Settled old (record old { held = forgiven }) core timed refl (may_leave seat caller) (record { holds = refl; pins = pins.pins; sizes = pins.sizes }) (affects_start d timed) (settling_follows seat old.held forgiven is)
+    let goes = goes_on_by {end = 0} {most = 0} state seat kind.Pay Settled old (record old { held = forgiven }) core timed refl (may_leave seat caller) (record { holds = refl; pins = pins.pins; sizes = pins.sizes }) pins.commits (affects_start d timed) (settling_follows seat old.held forgiven is)
     (λ pace holds. settling_moves seat old.held forgiven pace d caller ran holds is) (λ opening m pace honest s ok. settled_payment opening seat old.held forgiven m pace core.pace d timed ran core.holds s ok is nothing) in
     record {
       goes = goes.0;
@@ -101,18 +104,22 @@ pub record Paying {D : Type 0} (state : D → DiskState) (seat : ℕ) (plan : Pl
   pub ahead : (n : ℕ) → result ≡ Err (Damaged n) → IsTrue (state old.disk).tells_bytes → IsDamageAhead plan taken.runs n (state disk).bytes
   pub lists : (tree : Tree) → IsTrue (state old.disk).is_honest → StandOver forgiven.runs tree forgiven.log.a.entries (state old.disk) → LeavesTaken plan result forgiven taken tree (state old.disk) (state disk)
 
+-- a payment rotates nothing
+pay_rotates : (answer : Answer) (held : Held) → rotations answer kind.Pay held ≡ 0
+pay_rotates answer held = grind (arith, common_steps, nat_tests)
+
 module _ {D : Type 0} (state : D → DiskState) (seat : ℕ) (plan : Plan) (result : Result ℕ Broken) (old : CoreState D) (forgiven taken : Held) (disk : D) (t : Paying state seat plan result old forgiven taken disk) where
   paying_effect : Affects (beside_pins old.held.runs.sizes old.held.runs.space.pins) (file_length old.held.runs.sizes) (old.held.runs.sizes.quantum / 4 + 3) (state old.disk) (state disk)
   paying_effect = subst (λ (h : Held). Affects (beside_pins h.runs.sizes h.runs.space.pins) (file_length h.runs.sizes) (h.runs.sizes.quantum / 4 + 3) (state old.disk) (state disk)) t.plans.is t.effect
 
-  paying_goes : (answer : Answer) (b : BookState) → Follows seat (facts_of_held old.held) (facts_of_held (with_book b taken))
+  paying_goes : (answer : Answer) (b : BookState) → b.counts ≡ taken.book.counts → Follows seat (facts_of_held old.held) (facts_of_held (with_book b taken))
       → ((pace : Pace) → HoldsPace old.held pace (state old.disk) → MovesPace seat kind.Pay answer (with_book b taken) (state disk) pace)
       → ((opening : List (Key × Value)) (m : Machine) (pace : Pace) (tree : Tree) → RunsAt opening old.held m pace (state old.disk) tree → may m seat kind.Pay ≡ true → LeavesTaken plan result forgiven taken tree (state old.disk) (state disk)
       → IsStep AnyRows opening seat kind.Pay answer (with_book b taken) (state old.disk) (state disk) m pace)
       → GoesOnAs state seat kind.Pay answer old (record { disk = disk; held = with_book b taken; holds = old.holds }) × BesideHolds state seat kind.Pay answer old (record { disk = disk; held = with_book b taken; holds = old.holds })
-  paying_goes answer b follows numbers steps =
+  paying_goes answer b counts follows numbers steps =
       let pins = then_pins old.held forgiven taken (forgiven_keeps_pins seat old.held forgiven t.plans.is) (quantum_keeps_pins plan result seat forgiven taken t.takes t.kept) in
-      goes_on_by state seat kind.Pay answer old _ t.core t.timed refl (may_leave seat t.plans.caller) (record { holds = refl; pins = pins.pins; sizes = pins.sizes }) paying_effect follows numbers
+      goes_on_by state seat kind.Pay answer old _ t.core t.timed refl (may_leave seat t.plans.caller) (record { holds = refl; pins = pins.pins; sizes = pins.sizes }) (subst (λ (n : ℕ). CountsCommits n old.held (with_book b taken)) (sym (pay_rotates answer old.held)) (commits_beside 0 old.held taken b counts pins.commits)) paying_effect follows numbers
       (λ opening m pace honest s ok.
       let ran = t.plans.ran in
       let k = (t.core.holds.live ran).paced in
@@ -152,7 +159,7 @@ pay_taken lands {D} state seat n plan old forgiven taken disk b t on counted = r
     runs = payment_runs seat n plan old.held forgiven taken b took counted
 
     goes : GoesOnAs state seat kind.Pay Paid old (record { disk = disk; held = with_book b taken; holds = old.holds }) × BesideHolds state seat kind.Pay Paid old (record { disk = disk; held = with_book b taken; holds = old.holds })
-    goes = paying_goes state seat plan (Ok n) old forgiven taken disk t Paid b (payment_follows seat n plan old.held forgiven taken b took counted) (λ pace holds. moves pace holds)
+    goes = paying_goes state seat plan (Ok n) old forgiven taken disk t Paid b (ap (λ (x : BookState). x.counts) counted) (payment_follows seat n plan old.held forgiven taken b took counted) (λ pace holds. moves pace holds)
         (λ opening m pace tree r ok leaves. paid_step lands opening seat n plan old.held forgiven taken b m pace (moves t.core.pace t.core.holds).next before after tree (Ok n) took counted r
         ((moves t.core.pace t.core.holds).holds.live runs).paced ok refl leaves)
 
@@ -169,7 +176,7 @@ pay_failed state seat faults plan broken old forgiven taken disk b t is counted 
     let f = fails state seat plan broken (Faulted faults) old forgiven taken disk b t stops in
     let notes = failed_payment_counts seat plan (Faulted faults) old.held forgiven taken b f in
     let risen = t.told.failed (ap (λ (x : Broken). Err x) is) in
-    let goes = paying_goes state seat plan (Err broken) old forgiven taken disk t (Turn machine.Failed) b (failed_payment_follows seat plan (Faulted faults) old.held forgiven taken b f)
+    let goes = paying_goes state seat plan (Err broken) old forgiven taken disk t (Turn machine.Failed) b (ap (λ (x : BookState). x.counts) stops) (failed_payment_follows seat plan (Faulted faults) old.held forgiven taken b f)
     (λ pace holds. failed_payment_moves seat plan (Faulted faults) old.held forgiven taken b pace before after (Turn machine.Failed) f holds refl)
     (λ opening m pace tree r ok leaves. failed_payment_step opening seat faults plan old.held forgiven taken b m pace before after tree (Err broken) f r ok counted (has_risen before.faults after.faults t.effect.goes_on.faults few risen) leaves) in
     record {
@@ -190,7 +197,7 @@ pay_damaged state seat page plan broken old forgiven taken disk b t is stops =
     let after = state disk in
     let f = fails state seat plan broken (BadPage page) old forgiven taken disk b t stops in
     let notes = failed_payment_counts seat plan (BadPage page) old.held forgiven taken b f in
-    let goes = paying_goes state seat plan (Err broken) old forgiven taken disk t (Turn (machine.BadPage page)) b (failed_payment_follows seat plan (BadPage page) old.held forgiven taken b f)
+    let goes = paying_goes state seat plan (Err broken) old forgiven taken disk t (Turn (machine.BadPage page)) b (ap (λ (x : BookState). x.counts) stops) (failed_payment_follows seat plan (BadPage page) old.held forgiven taken b f)
     (λ pace holds. failed_payment_moves seat plan (BadPage page) old.held forgiven taken b pace before after (Turn (machine.BadPage page)) f holds refl)
     (λ opening m pace tree r ok leaves. absurd (never_damaged plan page forgiven taken tree before after (Err broken) (ap (λ (x : Broken). Err x) is) leaves)) in
     record {

@@ -75,7 +75,7 @@ at_write P key key' rec rec' same_key same_rec holds = subst (λ (k : Key). P k 
 -- ---- the calls together
 
 -- a run after a run that went well, by a core of the same sizes and pins
-pub affects_then : (old settled : Held) {most more : ℕ} (total : ℕ) {before mid after : DiskState} → KeepsPins old settled → IsTimed mid → mid.faults ≡ before.faults
+pub affects_then : (old settled : Held) {most more : ℕ} (total : ℕ) {before mid after : DiskState} → KeepsPins 0 old settled → IsTimed mid → mid.faults ≡ before.faults
     → Affects (beside_pins old.runs.sizes old.runs.space.pins) (file_length old.runs.sizes) most before mid
     → Affects (beside_pins settled.runs.sizes settled.runs.space.pins) (file_length settled.runs.sizes) more mid after → most + more ≤ total
     → Affects (beside_pins old.runs.sizes old.runs.space.pins) (file_length old.runs.sizes) total before after

@@ -36,11 +36,11 @@ use Rattle.tree_core.specs.Quanta.{LeavesMoved, ended_by}
 use Rattle.tree_core.specs.Steps.{may_in}
 use Rattle.tree_core.specs.Turning.{IsEven, MayCount, TakesTurn, counted_by}
 use Rattle.tree_core.proofs.BoundLemmas.{rose as has_risen}
-use Rattle.tree_core.proofs.KeepLemmas.{is_held, move_keeps_pins}
+use Rattle.tree_core.proofs.KeepLemmas.{is_held, move_keeps_pins, no_commits}
 use Rattle.tree_core.proofs.LastLemmas.{goes_on_by, may_help, may_work}
 use Rattle.tree_core.proofs.NotingLemmas.{help_notes, helped_notes, helps_once, turn_counts, turn_helps, turn_owes, turned_counts}
 use Rattle.tree_core.proofs.QuantumSteps.{running_at}
-use Rattle.tree_core.proofs.TurnLemmas.{Ends, IsSeat, closed_moves, halted_follows, halted_moves, turn_because, turn_follows, turn_may, turn_moves, working_caller}
+use Rattle.tree_core.proofs.TurnLemmas.{Ends, IsSeat, closed_moves, halted_follows, halted_moves, turn_because, turn_follows, turn_may, turn_moves, working_caller, counted_counts, turn_commits}
 use Rattle.tree_core.proofs.TurnSteps.{closed_turn, halted_turn, turn_step}
 
 -- ---- the store is stopped, or closed to a worker
@@ -50,14 +50,14 @@ halted_goes : {D : Type 0} (state : D → DiskState) (w : Bool) (seat : ℕ) (wh
     → GoesOnAs state seat (kind_of_turn w) (Turn (machine.Halted why)) old (record old { held = with_book b old.held }) × BesideHolds state seat (kind_of_turn w) (Turn (machine.Halted why)) old (record old { held = with_book b old.held })
 halted_goes state w seat why old b core timed stopped is none can counts =
     let d = state old.disk in
-    goes_on_by {end = 0} {most = 0} state seat (kind_of_turn w) (Turn (machine.Halted why)) old _ core timed none can (record { holds = refl; pins = refl; sizes = refl }) (affects_start d timed) (halted_follows w seat (machine.Halted why) old.held b is counts)
+    goes_on_by {end = 0} {most = 0} state seat (kind_of_turn w) (Turn (machine.Halted why)) old _ core timed none can (record { holds = refl; pins = refl; sizes = refl }) (no_commits old.held (with_book b old.held) refl (ap (λ (x : BookState). x.counts) counts ∙ counted_counts w seat (machine.Halted why) 0 old.held.book)) (affects_start d timed) (halted_follows w seat (machine.Halted why) old.held b is counts)
     (λ pace holds. halted_moves w seat why old.held b pace d stopped is holds counts) (λ opening m pace honest s ok. halted_turn w opening seat why old.held b m pace d timed honest stopped counts s ok)
 
 closed_goes : {D : Type 0} (state : D → DiskState) (seat : ℕ) (old : CoreState D) (b : BookState) → IsCore old.held (state old.disk) → IsTimed (state old.disk) → old.held.book.stopped ≡ None → is_closed_in old.held.book ≡ true → callers ≤ seat → seat < seats
     → b ≡ helped_in seat old.held.book → GoesOnAs state seat kind.WorkerTurn (Turn machine.Closed) old (record old { held = with_book b old.held }) × BesideHolds state seat kind.WorkerTurn (Turn machine.Closed) old (record old { held = with_book b old.held })
 closed_goes state seat old b core timed ran closed above below counts =
     let d = state old.disk in
-    goes_on_by {end = 0} {most = 0} state seat kind.WorkerTurn (Turn machine.Closed) old _ core timed refl (may_help seat above below) (record { holds = refl; pins = refl; sizes = refl }) (affects_start d timed)
+    goes_on_by {end = 0} {most = 0} state seat kind.WorkerTurn (Turn machine.Closed) old _ core timed refl (may_help seat above below) (record { holds = refl; pins = refl; sizes = refl }) (no_commits old.held (with_book b old.held) refl (ap (λ (x : BookState). x.counts) counts)) (affects_start d timed)
     (halted_follows true seat machine.Closed old.held b (above, below) counts) (λ pace holds. closed_moves seat old.held b pace d ran holds counts)
     (λ opening m pace honest s ok. closed_turn opening seat old.held b m pace d timed honest ran closed counts s ok)
 
@@ -121,7 +121,7 @@ turning_goes work help state w seat mv made faults old disk moved ended b none c
     let before = state old.disk in
     let after = state disk in
     let pins = move_keeps_pins mv made seat old.held moved t.ends.moves t.ends.kept in
-    goes_on_by state seat (kind_of_turn w) (Turn ended) old _ t.core t.timed none can (record { holds = refl; pins = pins.pins; sizes = pins.sizes }) t.effect (turn_follows w seat mv made faults old.held moved ended b before after t.ends)
+    goes_on_by state seat (kind_of_turn w) (Turn ended) old _ t.core t.timed none can (record { holds = refl; pins = pins.pins; sizes = pins.sizes }) (turn_commits w seat mv made faults old.held moved ended b before after t.ends) t.effect (turn_follows w seat mv made faults old.held moved ended b before after t.ends)
     (λ pace holds. turn_moves w seat mv made faults old.held moved ended b pace before after t.ends holds)
     (λ opening m pace honest s ok.
     let ran = t.ends.turns.ran in

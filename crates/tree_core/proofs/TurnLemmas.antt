@@ -46,6 +46,8 @@ use Rattle.tree_core.specs.Steps.{MovesPace}
 use Rattle.tree_core.specs.Turning.{IsEven, MayCount, counted_by}
 use Rattle.tree_core.proofs.QuietLemmas.{read_holds}
 use Rattle.tree_core.proofs.QuantumLemmas.{holds_running, holds_stopped, on_rebooked, told_after_failure, kept_once, LeavesDebts, debts_stay, debts_first, debts_second, follows_by}
+use Rattle.tree_core.specs.Notes.{CountsCommits, rotations}
+use Rattle.tree_core.proofs.KeepLemmas.{commits_beside, move_keeps_pins, rotated_by}
 
 -- ---- whose turn it is
 
@@ -114,7 +116,7 @@ counted_keeps w seat ended quanta b c h1 = grind (arith, common_steps, nat_tests
 pub counted_stops : (w : Bool) (seat : ℕ) (ended : Turned) (quanta : ℕ) (b : BookState) → (counted_by w seat ended quanta b).stopped ≡ b.stopped
 counted_stops w seat ended quanta b = grind (arith, common_steps, nat_tests)
 
-counted_counts : (w : Bool) (seat : ℕ) (ended : Turned) (quanta : ℕ) (b : BookState) → (counted_by w seat ended quanta b).counts ≡ b.counts
+pub counted_counts : (w : Bool) (seat : ℕ) (ended : Turned) (quanta : ℕ) (b : BookState) → (counted_by w seat ended quanta b).counts ≡ b.counts
 counted_counts w seat ended quanta b = grind (arith, common_steps, nat_tests)
 
 pub counted_book : (w : Bool) (seat : ℕ) (ended : Turned) (quanta : ℕ) (b : BookState) → (counted_by w seat ended quanta b).book ≡ b.book
@@ -203,6 +205,22 @@ turn_moves w seat mv made faults old moved ended b pace before after e holds =
     (subst (λ (y : Move). MovesPace seat (kind_of_turn w) (Turn (ended_by made y)) (with_book (counted_by w seat (ended_by made y) (quanta_by made y) (stopped_by made faults moved.book)) moved) after pace) (sym e.turns.is)
     (ended_moves w seat made faults old moved pace before after (subst (λ (y : Move). Turns w seat y old) e.turns.is e.turns)
     (subst (λ (y : Move). IfOk made (λ n. TurnsBy y seat n old moved)) e.turns.is e.moves) e.on e.kept holds)))
+
+-- ---- its commits
+
+rotates_as : (w : Bool) (mv : Move) (made : Result ℕ Broken) (old : Held) → mv ≡ move_in w old → rotations (Turn (ended_by made mv)) (kind_of_turn w) old ≡ rotated_by made mv
+rotates_as w mv made old is = grind (arith, common_steps, nat_tests)
+
+stopped_counts : (made : Result ℕ Broken) (faults : ℕ) (b : BookState) → (stopped_by made faults b).counts ≡ b.counts
+stopped_counts made faults b = grind (arith, common_steps, nat_tests)
+
+pub turn_commits : (w : Bool) (seat : ℕ) (mv : Move) (made : Result ℕ Broken) (faults : ℕ) (old moved : Held) (ended : Turned) (b : BookState) (before after : DiskState) → Ends w seat mv made faults old moved ended b before after
+    → CountsCommits (rotations (Turn ended) (kind_of_turn w) old) old (with_book b moved)
+turn_commits w seat mv made faults old moved ended b before after e =
+    let counts = ap (λ (x : BookState). x.counts) e.counts ∙ counted_counts w seat ended (quanta_by made mv) (stopped_by made faults moved.book) ∙ stopped_counts made faults moved.book in
+    subst (λ (t : Turned). CountsCommits (rotations (Turn t) (kind_of_turn w) old) old (with_book b moved)) (sym e.ended_is)
+    (subst (λ (n : ℕ). CountsCommits n old (with_book b moved)) (sym (rotates_as w mv made old e.turns.is))
+    (commits_beside (rotated_by made mv) old moved b counts (move_keeps_pins mv made seat old moved e.moves e.kept).commits))
 
 -- ---- what the count of a turn requires
 

@@ -26,7 +26,7 @@ use Rattle.tree_core.specs.Answers.{answer_to_pay, newest_in, reply_to_drop, rep
 use Rattle.tree_core.specs.Causes.{AdmitsBecause, CallsNone, DropsBecause, FindsBecause, HasBegun, HoldsBecause, LooksNone, PaysBecause, PaysNone, ScansBecause, ScansNone, TurnsBecause, TurnsNone, calls_to_admit}
 use Rattle.tree_core.specs.Core.{CoreState, HoldsPace, facts_of_held}
 use Rattle.tree_core.specs.Holds.{KeepsHolds, LeavesOthers, StandsWhole}
-use Rattle.tree_core.specs.Notes.{CountsPayment, CountsTurn, HasLeft, HelpsOnce, Lessens, NotesNone, NotesOne, OwesNothing, Settles}
+use Rattle.tree_core.specs.Notes.{CountsPayment, CountsTurn, HasLeft, HelpsOnce, Lessens, NotesNone, NotesOne, OwesNothing, Settles, CountsCommits, rotations}
 use Rattle.tree_core.specs.Standing.{AnyRows, StandsFor}
 use Rattle.tree_core.specs.Steps.{IsStep, IsWholeStep, MovesPace, StandsSince, may_in}
 use Rattle.tree_core.specs.declared.answers.Admission.{Admission}
@@ -36,11 +36,12 @@ use Rattle.tree_core.specs.declared.answers.Payment.{Payment}
 use Rattle.tree_core.specs.declared.answers.Release.{Release}
 use Rattle.tree_core.specs.Scanned.{Scanned}
 
--- What each call says: it might be made, it moves the pace by its answer, follows from what stood, what lasts goes on lasting, and begins anew there.
+-- What each call says: it might be made, it moves the pace by its answer, counts its commits, follows from what stood, what lasts goes on lasting, and begins anew there.
 -- On an honest disk it is the machine's own step.
 pub record GoesOnAs {D : Type 0} (state : D → DiskState) (seat : ℕ) (k : Kind) (answer : Answer) (old new : CoreState D) : Type 0 where
   pub may : IsTrue (may_in old.held seat k)
   pub numbers : (pace : Pace) → HoldsPace old.held pace (state old.disk) → MovesPace seat k answer new.held (state new.disk) pace
+  pub commits : CountsCommits (rotations answer k old.held) old.held new.held
   pub steps : (opening : List (Key × Value)) (m : Machine) (pace : Pace) → IsTrue (state old.disk).is_honest → StandsWhole state opening old m pace → IsWholeStep state opening seat k answer old new m pace
   pub follows : Follows seat (facts_of_held old.held) (facts_of_held new.held)
   pub lasts : (start : CoreState D) → StandsSince state start old → StandsSince state start new

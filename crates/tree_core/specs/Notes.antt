@@ -5,10 +5,13 @@ use Rattle.blsm_model.specs.declared.op.Op.{Op}
 use Rattle.blsm_model.specs.declared.history.Reply.{Reply}
 use Rattle.blsm_model.specs.declared.history.Why.{Why}
 use Rattle.gear_sched.specs.Gears.{first_debt, second_debt}
+use Rattle.pacing.specs.Steps as pacing
 use Rattle.pacing.specs.Steps.{Move}
 use Rattle.paced_tree.specs.Booking.{quanta_of_move}
 use Rattle.tree_machine.specs.Machine.{Turned, Worked, turn_more}
-use Rattle.tree_machine.specs.Steps.{last_write}
+use Rattle.tree_machine.specs.Steps.{Answer, Turn, last_write}
+use Rattle.tree_machine.specs.declared.step.Kind.{Kind}
+use Rattle.tree_machine.specs.declared.step.Kind.TheVariants as kind
 use Rattle.seat_book.specs.State.{BookState, work_in, with_ended}
 use Rattle.seat_book.specs.Seats.{turns_in}
 use Rattle.core_moves.specs.declared.held.Held.{Held}
@@ -74,3 +77,25 @@ HelpsOnce seat old new = turns_in seat new ≡ turn_more (turns_in seat old)
 
 abbrev pub HasLeft : ℕ → BookState → Type 0
 HasLeft seat b = slice_index_or b.seats.left seat false ≡ true
+
+-- ---- commits
+
+-- a rotation by itself is a commit that no count has
+abbrev pub rotations_by : Move → ℕ
+rotations_by pacing.Rotate = 1
+rotations_by _ = 0
+
+abbrev pub rotations_in : Kind → Held → ℕ
+rotations_in kind.WorkTurn held = rotations_by (move_in false held)
+rotations_in kind.WorkerTurn held = rotations_by (move_in true held)
+rotations_in _ held = 0
+
+-- how many a call makes: a turn that worked makes its move's
+abbrev pub rotations : Answer → Kind → Held → ℕ
+rotations (Turn Worked) k held = rotations_in k held
+rotations _ k held = 0
+
+-- The catalogue's version rose by so many rotations, and by as much as the counts of passes and of deep merges did.
+abbrev pub CountsCommits : ℕ → Held → Held → Type 0
+CountsCommits rotated old new =
+    new.runs.catalogue.version + (old.book.counts.passes + old.book.counts.deeps) ≡ old.runs.catalogue.version + (new.book.counts.passes + new.book.counts.deeps) + rotated
