@@ -1,9 +1,8 @@
 -- What a next gave, by the entry that it noted.
-use Rattle.std.specs.Prelude.{◌≡◌, ℕ, ◌-◌, List}
+use Rattle.std.specs.Prelude.{◌≡◌, ℕ, List}
 use Rattle.std.proofs.lemmas.Grind.{common_steps}
 use Rattle.std.proofs.lemmas.Bool.Decides.{nat_tests}
 use Rattle.std.proofs.Common.{arith}
-use Rattle.blsm_model.specs.declared.history.Reply.TheVariants as reply
 use Rattle.blsm_model.specs.declared.op.Op.TheVariants as op
 use Rattle.blsm_model.specs.declared.row.Row.{Row}
 use Rattle.seat_book.specs.State.{BookState, noted_in}
