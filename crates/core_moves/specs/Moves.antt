@@ -1,6 +1,5 @@
 -- What each move of the core makes of what it has in memory, on any disk. Weights are in bytes.
-use Rattle.std.specs.Prelude.{◌≡◌, ◌⊎◌, ℕ, ◌+◌, ◌*◌, ◌≤◌, [], is_some, not, ◌&&◌, nat_lt, if◌then◌else◌}
-use Rattle.blsm_model.specs.Format.{most_weight}
+use Rattle.std.specs.Prelude.{◌≡◌, ◌⊎◌, ℕ, ◌+◌, [], is_some, not, ◌&&◌, nat_lt, if◌then◌else◌}
 use Rattle.blsm_model.specs.declared.key.Key.{Key}
 use Rattle.record_delta.specs.declared.record.Rec.{Rec}
 use Rattle.record_delta.specs.Records.{weight}
@@ -10,7 +9,7 @@ use Rattle.seat_book.specs.State.{BookState, pass_counted_in, deep_counted_in, q
 use Rattle.tree_file.specs.Tree.{Tree}
 use Rattle.tree_file.specs.Places.{TurnsRoles}
 use Rattle.tree_log.specs.Log.{LogState, IsLogOf, Grows, Turns, turned_log, weight_of_tables, with_entry}
-use Rattle.tree_runs.specs.Runs.{made_by_pass, left_for_pass, left_for_deep, pass_begun}
+use Rattle.tree_runs.specs.Runs.{made_by_pass, pass_begun}
 use Rattle.tree_runs.specs.Holding.{SwapsDeep, SwapsPass, Rotates, KeepsAllButPass, KeepsAllButDeep, PassTakes, DeepTakes}
 use Rattle.core_moves.specs.declared.held.Held.{Held}
 use Rattle.core_moves.specs.Held.{IsPassDone, IsDeepDone, is_pass_over, is_deep_over, is_run_full, goes_ahead}
@@ -71,10 +70,8 @@ SettlesPass old new = (IsPassDone old × SwapsPassIn old new) ⊎ ((IsPassDone o
 
 -- The seat's quantum of the pass took so much: a quantum's weight or all that was left, and no more than two entries beyond it.
 pub record TakesOfPass (seat n : ℕ) (old new : Held) : Type 0 where
-  pub takes : PassTakes old.runs.pass new.runs.pass old.log.a.entries n
+  pub takes : PassTakes old.runs.sizes.quantum old.runs.pass new.runs.pass old.log.a.entries n
   pub others : KeepsAllButPass old.runs new.runs
-  pub bound : n + 1 ≤ old.runs.sizes.quantum + 2 * most_weight
-  pub enough : (old.runs.sizes.quantum ≤ n) ⊎ (left_for_pass new.runs.pass old.log.a.entries ≡ 0)
   pub log : new.log ≡ old.log
   pub gears : new.gears ≡ took_first old.gears seat n
   pub spring : new.spring ≡ old.spring
@@ -82,10 +79,8 @@ pub record TakesOfPass (seat n : ℕ) (old new : Held) : Type 0 where
 
 -- and of the deep merge
 pub record TakesOfDeep (seat n : ℕ) (old new : Held) : Type 0 where
-  pub takes : DeepTakes old.runs.deep new.runs.deep n
+  pub takes : DeepTakes old.runs.sizes.quantum old.runs.deep new.runs.deep n
   pub others : KeepsAllButDeep old.runs new.runs
-  pub bound : n + 1 ≤ old.runs.sizes.quantum + 2 * most_weight
-  pub enough : (old.runs.sizes.quantum ≤ n) ⊎ (left_for_deep new.runs.deep ≡ 0)
   pub log : new.log ≡ old.log
   pub gears : new.gears ≡ took_second old.gears seat n
   pub spring : new.spring ≡ old.spring

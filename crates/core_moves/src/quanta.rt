@@ -1,18 +1,11 @@
 //! Quanta of the merges, and which merge a seat pays.
-ghost use Rattle.std.specs.Prelude.{◌≡◌, ◌≢◌, ◌+◌, ◌*◌, ◌/◌, ◌<◌, ℕ, Ok, Err, length, max, IsTrue, IsErr, IsSome, IfOk, OnOk};
-ghost use Rattle.disk_trait.specs.Disk.{TellsFaultsBy};
-ghost use Rattle.disk_trait.specs.Effects.{Affects};
-ghost use Rattle.disk_trait.specs.Moments.{LeavesOnly};
+ghost use Rattle.std.specs.Prelude.{◌≡◌, ◌+◌, ◌/◌, ◌<◌, IsErr, IsSome, IfOk, OnOk};
 ghost use Rattle.blsm_model.specs.Format.{callers};
-ghost use Rattle.blsm_model.specs.Geometry.{file_length};
 ghost use Rattle.gear_sched.specs.Gears.{first_debt, second_debt, plan_for};
 ghost use Rattle.page_file.specs.Component.{entries_of};
 ghost use Rattle.tree_machine.specs.Machine.{seats};
-ghost use Rattle.tree_file.specs.Tree.{Tree, HoldsTree};
-ghost use Rattle.tree_file.specs.Places.{StandsOn};
-ghost use Rattle.scan_view.specs.Pins.{beside_pins};
 ghost use Rattle.tree_runs.specs.Damage.{PassMeetsDamage, DeepMeetsDamage};
-ghost use Rattle.tree_runs.specs.Holding.{StandOver, PassTook, DeepTook};
+ghost use Rattle.tree_runs.specs.Holding.{PassTook, DeepTook, TellsQuantum};
 ghost use Rattle.core_moves.specs.Needs.{IsOn, IsReady};
 ghost use Rattle.core_moves.specs.Moves.{TakesOfPass, TakesOfDeep, KeepsAllButMerges, with_debts_forgiven};
 
@@ -30,19 +23,12 @@ impl Held {
         requires seat { seat < seats }
         requires runs { IsSome self.old.runs.pass }
         requires ready { IsReady self.old (D.state disk.old) }
-        ensures stands { (tree : Tree) → IsTrue (D.state disk.old).is_honest → StandOver self.old.runs tree self.old.log.a.entries (D.state disk.old)
-            → StandsOn self.old.runs.sizes tree (D.state disk.new) × LeavesOnly (D.state disk.old) (D.state disk.new) (HoldsTree self.old.runs.sizes tree) }
-        ensures lists { (tree : Tree) → IsTrue (D.state disk.old).is_honest → StandOver self.old.runs tree self.old.log.a.entries (D.state disk.old)
-            → result ≢ Err Broken.Fault
-            → (n : ℕ) × (result ≡ Ok n) × StandOver self.new.runs tree self.new.log.a.entries (D.state disk.new)
-            × PassTook self.old.runs.sizes.quantum self.old.runs.pass self.new.runs.pass self.old.log.a.entries (entries_of tree.c1) n }
+        ensures told { TellsQuantum self.old.log.a.entries self.new.log.a.entries (self.old.runs.sizes.quantum / 7 + 2)
+            (λ tree n. PassTook self.old.runs.sizes.quantum self.old.runs.pass self.new.runs.pass self.old.log.a.entries (entries_of tree.c1) n)
+            (PassMeetsDamage self.new.runs.sizes self.new.runs.pass) self.old.runs self.new.runs result (D.state disk.old) (D.state disk.new) }
         ensures takes { IfOk result (λ n. TakesOfPass seat n self.old self.new) }
-        ensures damaged { (n : ℕ) → result ≡ Err (Broken.Damaged n) → IsTrue (D.state disk.old).tells_bytes
-            → PassMeetsDamage self.new.runs.sizes self.new.runs.pass n (D.state disk.new).bytes }
         ensures on { OnOk result (IsOn self.new (D.state disk.new)) }
         ensures kept { KeepsAllButMerges (IsErr result) self.old self.new }
-        ensures effect { Affects (beside_pins self.old.runs.sizes self.old.runs.space.pins) (file_length self.old.runs.sizes) (self.old.runs.sizes.quantum / 7 + 2) (D.state disk.old) (D.state disk.new) }
-        ensures faults { TellsFaultsBy (Err Broken.Fault) result (D.state disk.old) (D.state disk.new) }
     {
         match self.runs.pass_quantum(disk, self.log.a()) {
             Ok(taken) => {
@@ -59,19 +45,12 @@ impl Held {
         requires seat { seat < seats }
         requires runs { IsSome self.old.runs.deep }
         requires ready { IsReady self.old (D.state disk.old) }
-        ensures stands { (tree : Tree) → IsTrue (D.state disk.old).is_honest → StandOver self.old.runs tree self.old.log.a.entries (D.state disk.old)
-            → StandsOn self.old.runs.sizes tree (D.state disk.new) × LeavesOnly (D.state disk.old) (D.state disk.new) (HoldsTree self.old.runs.sizes tree) }
-        ensures lists { (tree : Tree) → IsTrue (D.state disk.old).is_honest → StandOver self.old.runs tree self.old.log.a.entries (D.state disk.old)
-            → result ≢ Err Broken.Fault
-            → (n : ℕ) × (result ≡ Ok n) × StandOver self.new.runs tree self.new.log.a.entries (D.state disk.new)
-            × DeepTook self.old.runs.sizes.quantum self.old.runs.deep self.new.runs.deep (entries_of tree.c1x) (entries_of tree.c2) n }
+        ensures told { TellsQuantum self.old.log.a.entries self.new.log.a.entries (self.old.runs.sizes.quantum / 4 + 3)
+            (λ tree n. DeepTook self.old.runs.sizes.quantum self.old.runs.deep self.new.runs.deep (entries_of tree.c1x) (entries_of tree.c2) n)
+            (DeepMeetsDamage self.new.runs.sizes self.new.runs.deep) self.old.runs self.new.runs result (D.state disk.old) (D.state disk.new) }
         ensures takes { IfOk result (λ n. TakesOfDeep seat n self.old self.new) }
-        ensures damaged { (n : ℕ) → result ≡ Err (Broken.Damaged n) → IsTrue (D.state disk.old).tells_bytes
-            → DeepMeetsDamage self.new.runs.sizes self.new.runs.deep n (D.state disk.new).bytes }
         ensures on { OnOk result (IsOn self.new (D.state disk.new)) }
         ensures kept { KeepsAllButMerges (IsErr result) self.old self.new }
-        ensures effect { Affects (beside_pins self.old.runs.sizes self.old.runs.space.pins) (file_length self.old.runs.sizes) (self.old.runs.sizes.quantum / 4 + 3) (D.state disk.old) (D.state disk.new) }
-        ensures faults { TellsFaultsBy (Err Broken.Fault) result (D.state disk.old) (D.state disk.new) }
     {
         match self.runs.deep_quantum(disk, self.log.a()) {
             Ok(taken) => {

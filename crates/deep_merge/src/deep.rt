@@ -1,22 +1,21 @@
 //! A deep merge.
-ghost use Rattle.std.specs.Prelude.{◌≡◌, ◌≢◌, ◌↔◌, ◌⊎◌, ◌+◌, ◌*◌, ◌/◌, ◌≤◌, [], ℕ, Bool, List, Option, Ok, Err, length, IsTrue, IsErr, IfOk, OnOk};
+ghost use Rattle.std.specs.Prelude.{◌≡◌, ◌≢◌, ◌↔◌, ◌⊎◌, ◌+◌, ◌/◌, ◌≤◌, [], ◌∷◌, ℕ, Bool, List, Ok, Err, length, IsTrue, IsErr, IfOk};
 ghost use Rattle.std.specs.List.{Contains};
-ghost use Rattle.disk_trait.specs.Disk.{TellsFaultsBy};
 ghost use Rattle.blsm_model.specs.Components.{empty_component};
-ghost use Rattle.blsm_model.specs.Format.{most_weight};
 ghost use Rattle.blsm_model.specs.Sizes.{Sizes};
 ghost use Rattle.blsm_model.specs.Geometry.{page_count, file_length};
 ghost use Rattle.bloom_bits.specs.BitSet.{BitState, cleared};
 ghost use Rattle.bloom_bits.specs.Fences.{FencesState};
 ghost use Rattle.bloom_bits.specs.Filter.{rounded};
-ghost use Rattle.bloom_bits.specs.Guides.{Guide, KeepReserves, KeepSized};
+ghost use Rattle.bloom_bits.specs.Guides.{Guide, KeepSized};
 ghost use Rattle.record_delta.specs.Entries.{Entries, folded_over, settled_entries};
-ghost use Rattle.page_space.specs.Space.{SpaceState, HasRole, IsFree, role_size};
+ghost use Rattle.page_space.specs.Space.{SpaceState, HasRole, IsFree};
 ghost use Rattle.page_file.specs.Component.{numbers_of, HasList};
 ghost use Rattle.page_file.specs.File.{Writes};
 ghost use Rattle.run_writer.specs.Writer.{IsInside, role_region};
-ghost use Rattle.merge_ends.specs.Quantum.{IsNext, NoneAbove, IsQuantum, Works, Counts};
-ghost use Rattle.deep_merge.specs.Merge.{started, left_weight, pages_ahead, IsRunning, IsMerge, MeetsDamage, Takes, TakesGroup, MayGoOn};
+ghost use Rattle.merge_ends.specs.Quantum.{IsNext, NoneAbove, IsQuantum};
+ghost use Rattle.merge_ends.specs.Progress.{IsRunning, MayGoOn, MergesOn, TakesGroup, TakesQuantum, left_to_take, stage};
+ghost use Rattle.deep_merge.specs.Merge.{started, IsMerge, progress_of_deep};
 
 use crate::settled::put_settled;
 use bloom_bits::{Fences, Filter};
@@ -66,7 +65,7 @@ impl Deep {
         ensures reserves { KeepSized (rounded bits) filter.old filter.new fences.old fences.new }
         ensures filter { filter.new ≡ cleared filter.old.reserved (rounded bits) }
         ensures fences { fences.new ≡ record { reserved = fences.old.reserved; list = [] } }
-        ensures running { (sizes : Sizes) (honest : Bool) (file : List ℕ) (space : SpaceState) → IsRunning sizes honest file space result filter.new fences.new }
+        ensures running { (sizes : Sizes) (honest : Bool) (file : List ℕ) (space : SpaceState) → IsRunning sizes honest file space result.writer result.at (result.c1x ∷ result.c2 ∷ []) filter.new fences.new }
         // No page of either has the run's tag, and none is free.
         ensures merge { (sizes : Sizes) (file : List ℕ) (space : SpaceState) (newer older : Entries)
             → (list : HasList sizes c1x.now newer file) → ((n : ℕ) → Contains (numbers_of list.pages) n → (HasRole space role n → ⊥) × (IsFree space n → ⊥))
@@ -96,7 +95,7 @@ impl Deep {
 
     /// Whether C1' and C2 are wholly taken.
     pub fn is_done(&self) -> bool
-        ensures { IsTrue result ↔ (left_weight self.now ≡ 0) }
+        ensures { IsTrue result ↔ (left_to_take (progress_of_deep self.now) ≡ 0) }
     {
         is_through(&self.c1x, &self.at) && is_through(&self.c2, &self.at)
     }
@@ -112,21 +111,12 @@ impl Deep {
     ) -> Result<u64, Broken>
         requires pages { space.old.pages ≡ page_count geo.now }
         requires length { IsTrue (D.state disk.old).tells_bytes → length (D.state disk.old).bytes ≡ file_length geo.now }
-        requires runs { MayGoOn geo.now (D.state disk.old).is_honest (D.state disk.old).bytes space.old self.old filter.old fences.old }
+        requires runs { MayGoOn geo.now (stage (progress_of_deep self.old) space.old filter.old fences.old (D.state disk.old)) }
         ensures merge { (newer older : List ℕ) (c1x c2 : Entries) → IsTrue (D.state disk.old).is_honest → IsMerge geo.now (D.state disk.old).bytes space.old self.old filter.old fences.old newer older c1x c2
             → result ≢ Err Broken.Fault
             → (n : ℕ) × (result ≡ Ok n) × IsMerge geo.now (D.state disk.new).bytes space.new self.new filter.new fences.new newer older c1x c2
             × (IsNext self.old.at self.new.at c1x c2 n ⊎ (NoneAbove self.old.at c1x c2 × (self.new.at ≡ self.old.at) × (n ≡ 0))) }
-        ensures runs { OnOk result (MayGoOn geo.now (D.state disk.new).is_honest (D.state disk.new).bytes space.new self.new filter.new fences.new) }
-        ensures takes { IfOk result (TakesGroup self.old self.new) }
-        ensures size { OnOk result (role_size space.new self.old.writer.role + self.old.writer.component.pages ≡ role_size space.old self.old.writer.role + self.new.writer.component.pages) }
-        ensures reserves { KeepReserves filter.old filter.new fences.old fences.new }
-        ensures role { self.new.writer.role ≡ self.old.writer.role }
-        ensures works { Works geo.now self.old.writer.role 3 space.old space.new (D.state disk.old) (D.state disk.new) }
-        ensures counted { OnOk result (Counts 0 (pages_ahead self.old) (pages_ahead self.new) self.old.writer.component.pages self.new.writer.component.pages (D.state disk.old) (D.state disk.new)) }
-        ensures counts { Counts 1 (pages_ahead self.old) (pages_ahead self.new) self.old.writer.component.pages self.new.writer.component.pages (D.state disk.old) (D.state disk.new) }
-        ensures damaged { (n : ℕ) → result ≡ Err (Broken.Damaged n) → IsTrue (D.state disk.old).tells_bytes → MeetsDamage geo.now self.new n (D.state disk.new).bytes }
-        ensures faults { TellsFaultsBy (Err Broken.Fault) result (D.state disk.old) (D.state disk.new) }
+        ensures numbers { MergesOn geo.now 3 TakesGroup (stage (progress_of_deep self.old) space.old filter.old fences.old (D.state disk.old)) (stage (progress_of_deep self.new) space.new filter.new fences.new (D.state disk.new)) result }
     {
         an_input_stays();
         a_merge_goes_on();
@@ -155,8 +145,7 @@ impl Deep {
     /// comes just where the disk's count of faults rose. After an `Err` the quantum isn't counted: the cursor is told as before, and the
     /// merge is not to be gone on with.
     ///
-    /// Of its clauses one is on the lists of an honest disk; the others hold on every disk, each of one thing: what was taken and is left, the
-    /// room, the pages, the calls.
+    /// One clause is on the lists of an honest disk; the others hold on every disk.
     pub fn quantum<D: Disk>(
         &mut self,
         disk: &mut D,
@@ -167,7 +156,7 @@ impl Deep {
     ) -> Result<u64, Broken>
         requires pages { space.old.pages ≡ page_count geo.now }
         requires length { IsTrue (D.state disk.old).tells_bytes → length (D.state disk.old).bytes ≡ file_length geo.now }
-        requires runs { MayGoOn geo.now (D.state disk.old).is_honest (D.state disk.old).bytes space.old self.old filter.old fences.old }
+        requires runs { MayGoOn geo.now (stage (progress_of_deep self.old) space.old filter.old fences.old (D.state disk.old)) }
 
         // On an honest disk the merge stands as before, further on by one quantum.
         ensures merge { (newer older : List ℕ) (c1x c2 : Entries) → IsTrue (D.state disk.old).is_honest → IsMerge geo.now (D.state disk.old).bytes space.old self.old filter.old fences.old newer older c1x c2
@@ -175,22 +164,10 @@ impl Deep {
             → (n : ℕ) × (result ≡ Ok n) × IsMerge geo.now (D.state disk.new).bytes space.new self.new filter.new fences.new newer older c1x c2
             × IsQuantum geo.now.quantum self.old.at self.new.at c1x c2 n }
 
-        // On any disk what was taken and what is left add up, and it is a quantum or all that was left, and less than one group more.
-        ensures runs { OnOk result (MayGoOn geo.now (D.state disk.new).is_honest (D.state disk.new).bytes space.new self.new filter.new fences.new) }
-        ensures takes { IfOk result (Takes self.old self.new) }
-        ensures bound { IfOk result (λ n. n + 1 ≤ geo.now.quantum + 2 * most_weight) }
-        ensures enough { IfOk result (λ n. (geo.now.quantum ≤ n) ⊎ (left_weight self.new ≡ 0)) }
-        ensures size { OnOk result (role_size space.new self.old.writer.role + self.old.writer.component.pages ≡ role_size space.old self.old.writer.role + self.new.writer.component.pages) }
+        // On any disk what was taken and what is left add up, and it is a quantum or all that was left, and less than one group more. Each group
+        // weighs 14 bytes at least, and makes three calls at most.
+        ensures numbers { MergesOn geo.now (geo.now.quantum / 4 + 3) (TakesQuantum geo.now.quantum) (stage (progress_of_deep self.old) space.old filter.old fences.old (D.state disk.old)) (stage (progress_of_deep self.new) space.new filter.new fences.new (D.state disk.new)) result }
         ensures kept { IsErr result → self.new.at ≡ self.old.at }
-
-        // Whatever it answers: it takes free pages, and writes its run's alone. Each group weighs 14 bytes at least, and makes three calls at most.
-        ensures reserves { KeepReserves filter.old filter.new fences.old fences.new }
-        ensures role { self.new.writer.role ≡ self.old.writer.role }
-        ensures works { Works geo.now self.old.writer.role (geo.now.quantum / 4 + 3) space.old space.new (D.state disk.old) (D.state disk.new) }
-        ensures counts { Counts 1 (pages_ahead self.old) (pages_ahead self.new) self.old.writer.component.pages self.new.writer.component.pages (D.state disk.old) (D.state disk.new) }
-        // One of its cursors comes to the damaged page next.
-        ensures damaged { (n : ℕ) → result ≡ Err (Broken.Damaged n) → IsTrue (D.state disk.old).tells_bytes → MeetsDamage geo.now self.new n (D.state disk.new).bytes }
-        ensures faults { TellsFaultsBy (Err Broken.Fault) result (D.state disk.old) (D.state disk.new) }
     {
         a_merge_goes_on();
         let at = self.cursor();
@@ -215,7 +192,7 @@ impl Deep {
     /// Writes the run's last page, and gives the new C2. The merge stays as it was. After an `Err`, whose cause is a fault of the
     /// disk, nobody knows what that page has.
     pub fn finish<D: Disk>(&mut self, disk: &mut D, geo: &Geometry) -> Result<Component, Failed>
-        requires done { left_weight self.old ≡ 0 }
+        requires done { left_to_take (progress_of_deep self.old) ≡ 0 }
         requires inside { IsInside (page_count geo.now) self.old.writer }
         requires length { IsTrue (D.state disk.old).tells_bytes → length (D.state disk.old).bytes ≡ file_length geo.now }
         ensures component { IfOk result (λ c. c ≡ self.old.writer.component) }
@@ -226,7 +203,7 @@ impl Deep {
             × ((n : ℕ) → Contains (numbers_of list.pages) n → HasRole space self.old.writer.role n) × Guide filter fences list.pages) }
         ensures same { self.new ≡ self.old }
         // One call of the disk at most. No byte outside the run's pages changes, in no image of any moment.
-        ensures writes { (space : SpaceState) (filter : BitState) (fences : FencesState) → IsRunning geo.now (D.state disk.old).is_honest (D.state disk.old).bytes space self.old filter fences
+        ensures writes { (space : SpaceState) (filter : BitState) (fences : FencesState) → IsRunning geo.now (D.state disk.old).is_honest (D.state disk.old).bytes space self.old.writer self.old.at (self.old.c1x ∷ self.old.c2 ∷ []) filter fences
             → Writes (role_region geo.now space self.old.writer.role) (file_length geo.now) result (D.state disk.old) (D.state disk.new) }
     {
         where_a_run_writes();

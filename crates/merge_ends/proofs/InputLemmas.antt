@@ -2,15 +2,16 @@
 use Rattle.std.proofs.Common.{◌≡◌, ◌∙◌, ℕ, false, cond, List, [], ◌∷◌, Option, Some, None, refl, ap, sym, subst, ⊎_elim}
 use Rattle.std.specs.List.{Contains}
 use Rattle.disk_trait.specs.Region.{IsWithin, IsSameOutside, outside, same_wider}
+use Rattle.blsm_model.specs.declared.component.Component.{Component}
 use Rattle.blsm_model.specs.declared.key.Key.{Key}
 use Rattle.blsm_model.specs.Sizes.{Sizes}
 use Rattle.record_delta.specs.declared.record.Rec.{Rec}
-use Rattle.record_delta.specs.Entries.{Entries, above}
-use Rattle.page_space.specs.Space.{SpaceState, HasRole}
+use Rattle.record_delta.specs.Entries.{Entries, AreSorted, above}
+use Rattle.page_space.specs.Space.{SpaceState, HasRole, IsFree}
 use Rattle.page_file.specs.File.{pages_region, AreSamePages}
 use Rattle.page_file.specs.Component.{RunPage, numbers_of}
 use Rattle.page_file.proofs.PageLemmas.{others_apart, same_pages}
-use Rattle.run_cursor.specs.Cursor.{CursorState, from_head, HasAhead, IsAdvanced}
+use Rattle.run_cursor.specs.Cursor.{CursorState, from_head, started, HasAhead, IsAdvanced}
 use Rattle.run_writer.specs.Writer.{role_region}
 use Rattle.merge_ends.specs.Input.{head_above, IsInput}
 use Rattle.merge_ends.specs.Output.{TakesPages}
@@ -19,6 +20,22 @@ use Rattle.merge_ends.specs.Output.{TakesPages}
 pub stale_left : (at : Option Key) (head : Option (Key × Rec)) (rest : Entries) → head_above at head ≡ false → above at (from_head head rest) ≡ above at rest
 stale_left at None rest is = refl
 stale_left at (Some e) rest is = ap (λ b. cond b (e ∷ above at rest) (above at rest)) is
+
+-- A cursor that has taken nothing yet, over pages that don't have the run's tag and aren't free.
+pub input_begun : {sizes : Sizes} {file : List ℕ} {space : SpaceState} {role tag : ℕ} {component : Component} {cursor : CursorState} {entries : Entries} {pages : List RunPage} → tag ≡ role → cursor ≡ started component → AreSorted entries
+    → (ahead : HasAhead sizes cursor entries file) × (ahead.coming ≡ pages) → ((n : ℕ) → Contains (numbers_of pages) n → (HasRole space role n → ⊥) × (IsFree space n → ⊥))
+    → IsInput sizes file space tag None cursor (numbers_of pages) entries
+input_begun {space = space} {entries = entries} same is sorted ahead elsewhere =
+    let there = λ (n : ℕ) (has : Contains (numbers_of ahead.0.coming) n). subst (λ (ps : List RunPage). Contains (numbers_of ps) n) ahead.1 has in
+    record {
+      sorted = sorted;
+      rest = entries;
+      ahead = ahead.0;
+      left_is = ap (λ (s : CursorState). above None (from_head s.head entries)) is;
+      among = there;
+      apart = λ n has tagged. (elsewhere n (there n has)).0 (subst (λ (r : ℕ). HasRole space r n) same tagged);
+      in_use = λ n has. (elsewhere n (there n has)).1;
+    }
 
 pub went_on : (sizes : Sizes) (file : List ℕ) (space : SpaceState) (role : ℕ) (at : Option Key) (old new : CursorState) (pages : List ℕ) (entries : Entries) → head_above at old.head ≡ false
     → (input : IsInput sizes file space role at old pages entries) → IsAdvanced sizes new (numbers_of input.ahead.coming) input.rest file → IsInput sizes file space role at new pages entries

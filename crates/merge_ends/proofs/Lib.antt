@@ -3,3 +3,4 @@ pub mod OutputLemmas
 pub mod GroupLemmas
 pub mod WorkLemmas
 pub mod QuantumLemmas
+pub mod ProgressLemmas

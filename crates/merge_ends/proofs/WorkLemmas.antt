@@ -1,12 +1,13 @@
 -- What a merge does to the disk and to the free-page map, call by call.
-use Rattle.std.proofs.Common.{◌≡◌, ◌+◌, ◌≤◌, ℕ, Bool, List, Result, sym, subst, arith}
+use Rattle.std.proofs.Common.{◌≡◌, ◌+◌, ◌≤◌, ℕ, Bool, List, Option, Result, sym, subst, arith}
 use Rattle.std.specs.Prelude.{IsTrue}
 use Rattle.disk_trait.specs.Disk.{DiskState}
 use Rattle.disk_trait.specs.Effects.{affects_wider, affects_run, affects_start, affects_counted}
 use Rattle.disk_trait.specs.Moments.{IsTimed, no_sync_run, no_sync_start}
-use Rattle.disk_trait.specs.Reads.{OnlyReads}
+use Rattle.disk_trait.specs.Reads.{OnlyReads, only_reads_same}
 use Rattle.disk_trait.specs.Region.{IsWithin}
 use Rattle.blsm_model.specs.Sizes.{Sizes}
+use Rattle.blsm_model.specs.declared.key.Key.{Key}
 use Rattle.blsm_model.specs.Geometry.{file_length}
 use Rattle.bloom_bits.specs.BitSet.{BitState}
 use Rattle.bloom_bits.specs.Fences.{FencesState}
@@ -14,7 +15,7 @@ use Rattle.record_delta.specs.Entries.{Entries}
 use Rattle.page_space.specs.Space.{SpaceState}
 use Rattle.page_file.specs.File.{Writes}
 use Rattle.run_writer.specs.Writer.{WriterState, role_region, Stands, HasPushed}
-use Rattle.merge_ends.specs.Output.{TakesPages, HasRoom}
+use Rattle.merge_ends.specs.Output.{TakesPages, HasRoom, HasRun}
 use Rattle.merge_ends.specs.Quantum.{Works}
 use Rattle.merge_ends.proofs.OutputLemmas.{takes_none, takes_run}
 
@@ -78,6 +79,16 @@ pushed_read sizes honest old new space writer filter fences out same has = recor
   tagged = has.tagged;
   entries_are = has.entries_are;
   stands = λ told. subst (λ (file : List ℕ). Stands sizes has.run file) (sym (same told)) (has.stands told);
+}
+
+-- and is, behind what only read
+pub run_read : {sizes : Sizes} {end most : ℕ} {old new : DiskState} {space : SpaceState} {writer : WriterState} {filter : BitState} {fences : FencesState} {at : Option Key} → OnlyReads end most old new
+    → HasRun sizes old.is_honest old.bytes space writer filter fences at → HasRun sizes new.is_honest new.bytes space writer filter fences at
+run_read {sizes} {end} {most} {old} {new} {space} {writer} {filter} {fences} reads has = record {
+  out = has.out;
+  pushed = subst (λ (h : Bool). HasPushed sizes h new.bytes space writer filter fences has.out) (sym reads.effect.goes_on.is_honest)
+      (pushed_read sizes old.is_honest old.bytes new.bytes space writer filter fences has.out (λ told. only_reads_same reads told) has.pushed);
+  ends = has.ends;
 }
 
 -- ---- room

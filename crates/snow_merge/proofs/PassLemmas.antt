@@ -1,6 +1,6 @@
 -- A pass that takes one key group.
 use Rattle.std.proofs.lemmas.List.Sums.{sum_by-cons}
-use Rattle.std.proofs.Common.{cond, false, ◌∷◌, ◌≡◌, ◌∙◌, ◌+◌, ◌≤◌, ℕ, true, List, [], Option, Some, None, refl, ap, subst, inl, inr, arith}
+use Rattle.std.proofs.Common.{cond, false, ◌∷◌, ◌≡◌, ◌∙◌, ◌+◌, ◌≤◌, ℕ, true, List, [], Option, Some, None, ap, subst, arith}
 use Rattle.blsm_model.specs.declared.key.Key.{Key}
 use Rattle.record_delta.specs.declared.record.Rec.{Rec}
 use Rattle.record_delta.specs.Records.{weight}
@@ -14,27 +14,19 @@ use Rattle.run_writer.specs.Writer.{WriterState, HasPushed}
 use Rattle.merge_step.specs.Group.{group_of}
 use Rattle.merge_step.specs.Merged.{IsTaken}
 use Rattle.merge_ends.specs.Input.{left_in, IsReady}
-use Rattle.merge_ends.proofs.GroupLemmas.{further, head_first, head_sorted, end_left, first_none, group_none, weightless, input_done, all_up_to}
+use Rattle.merge_ends.proofs.GroupLemmas.{head_first, head_sorted, end_left, first_none, group_none, weightless, input_done, all_up_to}
 use Rattle.merge_ends.proofs.QuantumLemmas.{GoesOn}
 use Rattle.merge_ends.specs.Quantum.{NoneAbove}
-use Rattle.snow_merge.specs.Pass.{SnowState, left_weight, IsPass, Takes, TakesGroup}
+use Rattle.merge_ends.specs.Progress.{left_to_take}
+use Rattle.snow_merge.specs.Pass.{SnowState, IsPass, progress_of_pass}
 
 -- ---- nothing is left
 
 pub nothing_left : (writer : WriterState) (cursor : CursorState) (at : Option Key) (a : Entries) → IsReady at cursor → group_of (first_of (above at a)) cursor.head ≡ None
-    → left_weight (record { writer = writer; c1 = cursor; at = at }) a ≡ 0
+    → left_to_take (progress_of_pass (record { writer = writer; c1 = cursor; at = at }) a) ≡ 0
 nothing_left writer cursor at a ready none =
     let parts = group_none (first_of (above at a)) cursor.head none in
     omega (arith, ap (λ (l : Entries). entries_weight l) (first_none (above at a) parts.0), end_left at cursor ready parts.1)
-
-pub takes_nothing : (writer : WriterState) (old cursor : CursorState) (at : Option Key) (a : Entries) → IsReady at cursor → left_in at cursor ≡ left_in at old
-    → group_of (first_of (above at a)) cursor.head ≡ None
-    → TakesGroup (record { writer = writer; c1 = old; at = at }) (record { writer = writer; c1 = cursor; at = at }) a 0
-takes_nothing writer old cursor at a ready same none = record {
-  takes = record { of_table = 0; of_c1 = 0; taken_is = refl; table = omega arith; c1 = omega (arith, same); light = omega arith; onward = λ key is. is };
-  light = omega arith;
-  some = inr (refl, nothing_left writer cursor at a ready none);
-}
 
 -- ---- a group
 
@@ -42,39 +34,6 @@ pub group_taken : GoesOn → (cursor : CursorState) (at : Option Key) (a : Entri
     → group_of (first_of (above at a)) cursor.head ≡ Some (key, rec, taken) → IsTaken at a (from_head cursor.head []) key rec taken
 group_taken goes_on cursor at a key rec taken sorted ready group =
     goes_on at a (from_head cursor.head []) key rec taken sorted (head_sorted cursor.head) (ap (group_of (first_of (above at a))) (head_first at cursor ready) ∙ group)
-
-pub takes_group : (writer new_writer : WriterState) (old cursor : CursorState) (at : Option Key) (a : Entries) (key : Key) (rec : Rec) (taken : ℕ) → left_in at cursor ≡ left_in at old
-    → IsTaken at a (from_head cursor.head []) key rec taken → 14 ≤ taken → taken ≤ 1024 → weight key rec ≤ taken → new_writer.component.weight ≡ writer.component.weight + weight key rec
-    → TakesGroup (record { writer = writer; c1 = old; at = at }) (record { writer = new_writer; c1 = cursor; at = Some key }) a taken
-takes_group writer new_writer old cursor at a key rec taken same group some few light weighs = record {
-  takes = record {
-    of_table = group.of_newer;
-    of_c1 = group.of_older;
-    taken_is = group.taken_is;
-    table = group.newer_left;
-    c1 = omega (arith, same, group.older_left);
-    light = omega (arith, light, weighs);
-    onward = λ q is. further at key q group.above_at is;
-  };
-  light = few;
-  some = inl some;
-}
-
--- ---- several groups
-
-pub takes_run : (old mid new : SnowState) (a : Entries) (m n : ℕ) → Takes old mid a m → Takes mid new a n → Takes old new a (m + n)
-takes_run old mid new a m n first second = record {
-  of_table = first.of_table + second.of_table;
-  of_c1 = first.of_c1 + second.of_c1;
-  taken_is = omega (arith, first.taken_is, second.taken_is);
-  table = omega (arith, first.table, second.table);
-  c1 = omega (arith, first.c1, second.c1);
-  light = omega (arith, first.light, second.light);
-  onward = λ key is. first.onward key (second.onward key is);
-}
-
-pub takes_none : (snow : SnowState) (a : Entries) → Takes snow snow a 0
-takes_none snow a = record { of_table = 0; of_c1 = 0; taken_is = refl; table = omega arith; c1 = omega arith; light = omega arith; onward = λ key is. is }
 
 -- ---- the end
 
@@ -85,14 +44,14 @@ last_part : (m n : ℕ) → m + n ≡ 0 → n ≡ 0
 last_part m n is = omega arith
 
 -- Where nothing is left by the numbers, nothing is left of the lists.
-pub none_above : {pages : List ℕ} (sizes : Sizes) (file : List ℕ) (space : SpaceState) (snow : SnowState) (filter : BitState) (fences : FencesState) (a c1 : Entries) → left_weight snow a ≡ 0 → IsPass sizes file space snow filter fences pages a c1 → NoneAbove snow.at a c1
+pub none_above : {pages : List ℕ} (sizes : Sizes) (file : List ℕ) (space : SpaceState) (snow : SnowState) (filter : BitState) (fences : FencesState) (a c1 : Entries) → left_to_take (progress_of_pass snow a) ≡ 0 → IsPass sizes file space snow filter fences pages a c1 → NoneAbove snow.at a c1
 none_above sizes file space snow filter fences a c1 done pass = (
   weightless (above snow.at a) (first_part (entries_weight (above snow.at a)) (left_in snow.at snow.c1) done),
   input_done sizes file space snow.writer.role snow.at snow.c1 c1 (last_part (entries_weight (above snow.at a)) (left_in snow.at snow.c1) done) pass.older,
 )
 
 -- All was pushed.
-pub pushed_all : {pages : List ℕ} (sizes : Sizes) (file : List ℕ) (space : SpaceState) (snow : SnowState) (filter : BitState) (fences : FencesState) (a c1 : Entries) → left_weight snow a ≡ 0 → IsPass sizes file space snow filter fences pages a c1
+pub pushed_all : {pages : List ℕ} (sizes : Sizes) (file : List ℕ) (space : SpaceState) (snow : SnowState) (filter : BitState) (fences : FencesState) (a c1 : Entries) → left_to_take (progress_of_pass snow a) ≡ 0 → IsPass sizes file space snow filter fences pages a c1
     → HasPushed sizes true file space snow.writer filter fences (folded_over a c1)
 pushed_all sizes file space snow filter fences a c1 done pass =
     let none = none_above sizes file space snow filter fences a c1 done pass in

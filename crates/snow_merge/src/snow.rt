@@ -1,23 +1,21 @@
 //! A pass.
-ghost use Rattle.std.specs.Prelude.{◌≡◌, ◌≢◌, ◌↔◌, ◌⊎◌, ◌+◌, ◌*◌, ◌/◌, ◌≤◌, [], ℕ, Bool, List, Option, Ok, Err, length, IsTrue, IsErr, IfOk, OnOk};
+ghost use Rattle.std.specs.Prelude.{◌≡◌, ◌≢◌, ◌↔◌, ◌⊎◌, ◌+◌, ◌/◌, ◌≤◌, [], ◌∷◌, ℕ, Bool, List, Option, Ok, Err, length, IsTrue, IsErr, IfOk};
 ghost use Rattle.std.specs.List.{Contains};
-ghost use Rattle.disk_trait.specs.Disk.{TellsFaultsBy};
 ghost use Rattle.blsm_model.specs.Components.{empty_component};
-ghost use Rattle.blsm_model.specs.Format.{most_weight};
 ghost use Rattle.blsm_model.specs.Sizes.{Sizes};
 ghost use Rattle.blsm_model.specs.Geometry.{page_count, file_length};
 ghost use Rattle.bloom_bits.specs.BitSet.{BitState, cleared};
 ghost use Rattle.bloom_bits.specs.Fences.{FencesState};
 ghost use Rattle.bloom_bits.specs.Filter.{rounded};
-ghost use Rattle.bloom_bits.specs.Guides.{Guide, KeepReserves, KeepSized};
+ghost use Rattle.bloom_bits.specs.Guides.{Guide, KeepSized};
 ghost use Rattle.record_delta.specs.Entries.{Entries, entries_weight, folded_over, above};
-ghost use Rattle.page_space.specs.Space.{SpaceState, HasRole, IsFree, role_size};
+ghost use Rattle.page_space.specs.Space.{SpaceState, HasRole, IsFree};
 ghost use Rattle.page_file.specs.Component.{numbers_of, HasList};
 ghost use Rattle.page_file.specs.File.{Writes};
-ghost use Rattle.run_cursor.specs.Cursor.{IsDamageAt};
 ghost use Rattle.run_writer.specs.Writer.{IsInside, role_region};
-ghost use Rattle.merge_ends.specs.Quantum.{IsNext, NoneAbove, IsQuantum, Works, Counts};
-ghost use Rattle.snow_merge.specs.Pass.{started, left_weight, IsRunning, IsPass, Takes, TakesGroup, MayGoOn};
+ghost use Rattle.merge_ends.specs.Quantum.{IsNext, NoneAbove, IsQuantum};
+ghost use Rattle.merge_ends.specs.Progress.{IsRunning, MayGoOn, MergesOn, TakesGroup, TakesQuantum, left_to_take, stage};
+ghost use Rattle.snow_merge.specs.Pass.{started, IsPass, progress_of_pass};
 
 use bloom_bits::{Fences, Filter};
 use blsm_model::{Component, Geometry, Key};
@@ -60,7 +58,7 @@ impl Snow {
         requires empty { c1.now.pages ≡ 0 → c1.now ≡ empty_component }
         requires bits { rounded bits ≤ filter.old.reserved }
         ensures started { result ≡ started role c1.now }
-        ensures running { (sizes : Sizes) (honest : Bool) (file : List ℕ) (space : SpaceState) → IsRunning sizes honest file space result filter.new fences.new }
+        ensures running { (sizes : Sizes) (honest : Bool) (file : List ℕ) (space : SpaceState) → IsRunning sizes honest file space result.writer result.at (result.c1 ∷ []) filter.new fences.new }
         ensures reserves { KeepSized (rounded bits) filter.old filter.new fences.old fences.new }
         ensures filter { filter.new ≡ cleared filter.old.reserved (rounded bits) }
         ensures fences { fences.new ≡ record { reserved = fences.old.reserved; list = [] } }
@@ -91,7 +89,7 @@ impl Snow {
 
     /// Whether table A, as it is now, and C1 are wholly taken. A record that comes into the table ahead of the cursor makes it false again.
     pub fn is_done(&self, a: &Table) -> bool
-        ensures { IsTrue result ↔ (left_weight self.now a.now.entries ≡ 0) }
+        ensures { IsTrue result ↔ (left_to_take (progress_of_pass self.now a.now.entries) ≡ 0) }
     {
         is_through(&self.c1, &self.at) && has_none_above(a, self.cursor())
     }
@@ -108,21 +106,12 @@ impl Snow {
     ) -> Result<u64, Broken>
         requires pages { space.old.pages ≡ page_count geo.now }
         requires length { IsTrue (D.state disk.old).tells_bytes → length (D.state disk.old).bytes ≡ file_length geo.now }
-        requires runs { MayGoOn geo.now (D.state disk.old).is_honest (D.state disk.old).bytes space.old self.old filter.old fences.old a.now.entries }
+        requires runs { MayGoOn geo.now (stage (progress_of_pass self.old a.now.entries) space.old filter.old fences.old (D.state disk.old)) }
         ensures pass { (pages : List ℕ) (c1 : Entries) → IsTrue (D.state disk.old).is_honest → IsPass geo.now (D.state disk.old).bytes space.old self.old filter.old fences.old pages a.now.entries c1
             → result ≢ Err Broken.Fault
             → (n : ℕ) × (result ≡ Ok n) × IsPass geo.now (D.state disk.new).bytes space.new self.new filter.new fences.new pages a.now.entries c1
             × (IsNext self.old.at self.new.at a.now.entries c1 n ⊎ (NoneAbove self.old.at a.now.entries c1 × (self.new.at ≡ self.old.at) × (n ≡ 0))) }
-        ensures runs { OnOk result (MayGoOn geo.now (D.state disk.new).is_honest (D.state disk.new).bytes space.new self.new filter.new fences.new a.now.entries) }
-        ensures takes { IfOk result (TakesGroup self.old self.new a.now.entries) }
-        ensures size { OnOk result (role_size space.new self.old.writer.role + self.old.writer.component.pages ≡ role_size space.old self.old.writer.role + self.new.writer.component.pages) }
-        ensures reserves { KeepReserves filter.old filter.new fences.old fences.new }
-        ensures role { self.new.writer.role ≡ self.old.writer.role }
-        ensures works { Works geo.now self.old.writer.role 2 space.old space.new (D.state disk.old) (D.state disk.new) }
-        ensures counted { OnOk result (Counts 0 self.old.c1.pages self.new.c1.pages self.old.writer.component.pages self.new.writer.component.pages (D.state disk.old) (D.state disk.new)) }
-        ensures counts { Counts 1 self.old.c1.pages self.new.c1.pages self.old.writer.component.pages self.new.writer.component.pages (D.state disk.old) (D.state disk.new) }
-        ensures damaged { (n : ℕ) → result ≡ Err (Broken.Damaged n) → IsTrue (D.state disk.old).tells_bytes → IsDamageAt geo.now self.new.c1 n (D.state disk.new).bytes }
-        ensures faults { TellsFaultsBy (Err Broken.Fault) result (D.state disk.old) (D.state disk.new) }
+        ensures numbers { MergesOn geo.now 2 TakesGroup (stage (progress_of_pass self.old a.now.entries) space.old filter.old fences.old (D.state disk.old)) (stage (progress_of_pass self.new a.now.entries) space.new filter.new fences.new (D.state disk.new)) result }
     {
         let _weight = a.weight();
         an_input_stays();
@@ -155,8 +144,7 @@ impl Snow {
     /// just where the disk's count of faults rose. After an `Err` the quantum isn't counted: the cursor is told as before, and the
     /// pass is not to be gone on with.
     ///
-    /// Of its clauses one is on the lists of an honest disk; the others hold on every disk, each of one thing: what was taken and is left, the
-    /// room, the pages, the calls.
+    /// One clause is on the lists of an honest disk; the others hold on every disk.
     pub fn quantum<D: Disk>(
         &mut self,
         disk: &mut D,
@@ -168,7 +156,7 @@ impl Snow {
     ) -> Result<u64, Broken>
         requires pages { space.old.pages ≡ page_count geo.now }
         requires length { IsTrue (D.state disk.old).tells_bytes → length (D.state disk.old).bytes ≡ file_length geo.now }
-        requires runs { MayGoOn geo.now (D.state disk.old).is_honest (D.state disk.old).bytes space.old self.old filter.old fences.old a.now.entries }
+        requires runs { MayGoOn geo.now (stage (progress_of_pass self.old a.now.entries) space.old filter.old fences.old (D.state disk.old)) }
 
         // On an honest disk the pass stands as before, further on by one quantum.
         ensures pass { (pages : List ℕ) (c1 : Entries) → IsTrue (D.state disk.old).is_honest → IsPass geo.now (D.state disk.old).bytes space.old self.old filter.old fences.old pages a.now.entries c1
@@ -176,22 +164,10 @@ impl Snow {
             → (n : ℕ) × (result ≡ Ok n) × IsPass geo.now (D.state disk.new).bytes space.new self.new filter.new fences.new pages a.now.entries c1
             × IsQuantum geo.now.quantum self.old.at self.new.at a.now.entries c1 n }
 
-        // On any disk what was taken and what is left add up, and it is a quantum or all that was left, and less than one group more.
-        ensures runs { OnOk result (MayGoOn geo.now (D.state disk.new).is_honest (D.state disk.new).bytes space.new self.new filter.new fences.new a.now.entries) }
-        ensures takes { IfOk result (Takes self.old self.new a.now.entries) }
-        ensures bound { IfOk result (λ n. n + 1 ≤ geo.now.quantum + 2 * most_weight) }
-        ensures enough { IfOk result (λ n. (geo.now.quantum ≤ n) ⊎ (left_weight self.new a.now.entries ≡ 0)) }
-        ensures size { OnOk result (role_size space.new self.old.writer.role + self.old.writer.component.pages ≡ role_size space.old self.old.writer.role + self.new.writer.component.pages) }
+        // On any disk what was taken and what is left add up, and it is a quantum or all that was left, and less than one group more. Each group
+        // weighs 14 bytes at least, and makes two calls at most.
+        ensures numbers { MergesOn geo.now (geo.now.quantum / 7 + 2) (TakesQuantum geo.now.quantum) (stage (progress_of_pass self.old a.now.entries) space.old filter.old fences.old (D.state disk.old)) (stage (progress_of_pass self.new a.now.entries) space.new filter.new fences.new (D.state disk.new)) result }
         ensures kept { IsErr result → self.new.at ≡ self.old.at }
-
-        // Whatever it answers: it takes free pages, and writes its run's alone. Each group weighs 14 bytes at least, and makes two calls at most.
-        ensures reserves { KeepReserves filter.old filter.new fences.old fences.new }
-        ensures role { self.new.writer.role ≡ self.old.writer.role }
-        ensures works { Works geo.now self.old.writer.role (geo.now.quantum / 7 + 2) space.old space.new (D.state disk.old) (D.state disk.new) }
-        ensures counts { Counts 1 self.old.c1.pages self.new.c1.pages self.old.writer.component.pages self.new.writer.component.pages (D.state disk.old) (D.state disk.new) }
-        // The cursor comes to the damaged page next.
-        ensures damaged { (n : ℕ) → result ≡ Err (Broken.Damaged n) → IsTrue (D.state disk.old).tells_bytes → IsDamageAt geo.now self.new.c1 n (D.state disk.new).bytes }
-        ensures faults { TellsFaultsBy (Err Broken.Fault) result (D.state disk.old) (D.state disk.new) }
     {
         let _weight = a.weight();
         a_merge_goes_on();
@@ -222,7 +198,7 @@ impl Snow {
         geo: &Geometry,
         a: &Table,
     ) -> Result<Component, Failed>
-        requires done { left_weight self.old a.now.entries ≡ 0 }
+        requires done { left_to_take (progress_of_pass self.old a.now.entries) ≡ 0 }
         requires inside { IsInside (page_count geo.now) self.old.writer }
         requires length { IsTrue (D.state disk.old).tells_bytes → length (D.state disk.old).bytes ≡ file_length geo.now }
         ensures component { IfOk result (λ c. c ≡ self.old.writer.component) }
@@ -233,7 +209,7 @@ impl Snow {
             × ((n : ℕ) → Contains (numbers_of list.pages) n → HasRole space self.old.writer.role n) × Guide filter fences list.pages) }
         ensures same { self.new ≡ self.old }
         // One call of the disk at most. No byte outside the run's pages changes, in no image of any moment.
-        ensures writes { (space : SpaceState) (filter : BitState) (fences : FencesState) → IsRunning geo.now (D.state disk.old).is_honest (D.state disk.old).bytes space self.old filter fences
+        ensures writes { (space : SpaceState) (filter : BitState) (fences : FencesState) → IsRunning geo.now (D.state disk.old).is_honest (D.state disk.old).bytes space self.old.writer self.old.at (self.old.c1 ∷ []) filter fences
             → Writes (role_region geo.now space self.old.writer.role) (file_length geo.now) result (D.state disk.old) (D.state disk.new) }
     {
         where_a_run_writes();

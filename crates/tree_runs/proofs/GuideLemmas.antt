@@ -1,14 +1,15 @@
 -- Filters and fences by tag, when those of one tag are written.
-use Rattle.std.specs.Prelude.{◌≡◌, ◌≢◌, ℕ, ◌<◌, ◌≤◌, List, slice_set}
+use Rattle.std.specs.Prelude.{◌≡◌, ◌≢◌, ℕ, ◌<◌, ◌≤◌, List, get_or, length, slice_set}
+use Rattle.std.proofs.lemmas.List.{get_or_read}
 use Rattle.std.proofs.lemmas.Grind.{common_steps}
 use Rattle.std.proofs.lemmas.Bool.Decides.{nat_tests}
-use Rattle.std.proofs.Common.{sym, subst, arith}
+use Rattle.std.proofs.Common.{◌∙◌, ap, sym, subst, arith}
 use Rattle.blsm_model.specs.Sizes.{Sizes}
 use Rattle.page_space.specs.Space.{role_count}
 use Rattle.page_file.specs.Component.{RunPage}
 use Rattle.merge_ends.specs.Output.{most_pages}
 use Rattle.tree_file.specs.Tree.{Tree}
-use Rattle.tree_runs.specs.Runs.{GuideState, AreGuides, Tags, guide_at}
+use Rattle.tree_runs.specs.Runs.{GuideState, AreGuides, Tags, guide_at, no_guide}
 use Rattle.tree_runs.specs.Holding.{AreGuided, IsGuidedBy, KeepsOtherGuides}
 
 -- ---- room
@@ -23,10 +24,15 @@ pub record WritesGuide (sizes : Sizes) (tag : ℕ) (old new : List GuideState) (
   pub others : KeepsOtherGuides tag old new
   pub reserved : AreGuides sizes new
 
-pub writes_guide : (sizes : Sizes) (tag : ℕ) (guides : List GuideState) (guide : GuideState) → AreGuides sizes guides → tag < role_count
-    → guide.filter.reserved ≡ (guide_at guides tag).filter.reserved → guide.fences.reserved ≡ (guide_at guides tag).fences.reserved
-    → WritesGuide sizes tag guides (slice_set guides tag guide) guide
-writes_guide sizes tag guides guide are below bits pages = grind (arith, common_steps, nat_tests)
+-- where a number names the tag, and these are the filters and fences by number, of which one was read
+module _ {sizes : Sizes} {tag number : ℕ} {guides items : List GuideState} (are : AreGuides sizes guides) (had : items ≡ guides) (named : number ≡ tag) (below : number < role_count) {was : GuideState} where
+  pub guide_named : {read : GuideState} → was ≡ read → read ≡ get_or items number read → was ≡ guide_at guides tag
+  guide_named {read} is value =
+      let there : number < length items = omega (arith, are.five, ap (λ (gs : List GuideState). length gs) had, below) in
+      is ∙ get_or_read items number read there value no_guide ∙ ap (λ (gs : List GuideState). guide_at gs number) had ∙ ap (λ (n : ℕ). guide_at guides n) named
+
+  pub writes_guide : (guide : GuideState) → was ≡ guide_at guides tag → guide.filter.reserved ≡ was.filter.reserved → guide.fences.reserved ≡ was.fences.reserved → WritesGuide sizes tag guides (slice_set items number guide) guide
+  writes_guide guide is bits pages = grind (arith, common_steps, nat_tests)
 
 -- ---- what the components' are of
 

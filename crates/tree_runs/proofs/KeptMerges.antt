@@ -67,7 +67,7 @@ module _ (pushed_kept : KeepsPushed) {sizes : Sizes} {honest : Bool} {region : R
 
   pub deep_runs_still : (tag : ℕ) (guide : GuideState) (merge : Option DeepState) → KeepsRun sizes honest region old new space after tag → DeepHasTag tag merge → DeepRuns sizes honest old space guide merge → DeepRuns sizes honest new after guide merge
   deep_runs_still tag guide None keeps role runs = tt
-  deep_runs_still tag guide (Some merge) keeps role runs = record { run = run_still keeps role runs.run; newer = runs.newer; older = runs.older }
+  deep_runs_still tag guide (Some merge) keeps role runs = record { run = run_still keeps role runs.run; behind = runs.behind }
 
 -- the lists, on an honest disk
 module _ (pushed_kept : KeepsPushed) (ahead_kept : KeepsAhead) {sizes : Sizes} {region : Region} {old new : List ℕ} {space after : SpaceState} where

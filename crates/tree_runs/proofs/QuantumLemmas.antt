@@ -14,15 +14,14 @@ use Rattle.page_file.specs.declared.file.Broken.TheVariants.{Fault}
 use Rattle.page_file.specs.Component.{numbers_of, entries_of}
 use Rattle.merge_ends.specs.Output.{HasRoom, TakesPages}
 use Rattle.merge_ends.specs.Quantum.{IsQuantum, Works}
-use Rattle.snow_merge.specs.Pass as pass
-use Rattle.snow_merge.specs.Pass.{SnowState, IsPass}
-use Rattle.deep_merge.specs.Merge as deep
-use Rattle.deep_merge.specs.Merge.{DeepState, IsMerge}
+use Rattle.merge_ends.specs.Progress.{MergesOn, TakesQuantum, stage}
+use Rattle.snow_merge.specs.Pass.{SnowState, IsPass, progress_of_pass}
+use Rattle.deep_merge.specs.Merge.{DeepState, IsMerge, progress_of_deep}
 use Rattle.tree_file.specs.Tree.{Tree, HoldsTree}
 use Rattle.tree_file.specs.Places.{StandsOn}
 use Rattle.tree_file.proofs.StandLemmas.{stands_beside}
 use Rattle.scan_view.proofs.StayLemmas.{unpinned_on}
-use Rattle.tree_runs.specs.Runs.{GuideState, RunsState, Tags, AreGuides, AreRuns, AreRunning, Fits, HasOneTag, IsFilled, PassRuns, DeepRuns, PassHasTag, DeepHasTag, guide_at, made_by_pass, made_by_deep, pages_in_use, page_share}
+use Rattle.tree_runs.specs.Runs.{GuideState, RunsState, Tags, AreGuides, AreRuns, AreRunning, Fits, HasOneTag, IsFilled, PassRuns, DeepRuns, PassHasTag, DeepHasTag, guide_at, left_for_deep, left_for_pass, made_by_pass, made_by_deep, pages_in_use, page_share}
 use Rattle.tree_runs.specs.Holding.{IsPassOver, IsDeepOver, StandOver, KeepsAllButPass, KeepsAllButDeep, PassTook, DeepTook}
 use Rattle.tree_runs.proofs.CountLemmas.{within_more, other_size}
 use Rattle.tree_runs.proofs.GuideLemmas.{WritesGuide, all_guided_still}
@@ -65,17 +64,17 @@ tree_stays runs tree a role most after old new are tag shape works honest timed 
 -- ---- room
 
 -- a run and what is left for it weigh the capacity at most
-pub pass_light : (runs : RunsState) (snow : SnowState) (a : Entries) → runs.pass ≡ Some snow → Fits runs a → snow.writer.component.weight + pass.left_weight snow a ≤ capacity runs.sizes
+pub pass_light : (runs : RunsState) (snow : SnowState) (a : Entries) → runs.pass ≡ Some snow → Fits runs a → snow.writer.component.weight + left_for_pass (Some snow) a ≤ capacity runs.sizes
 pass_light runs snow a is fits = grind (arith, common_steps, nat_tests)
 
-pub deep_light : (runs : RunsState) (merge : DeepState) (a : Entries) → runs.deep ≡ Some merge → Fits runs a → merge.writer.component.weight + deep.left_weight merge ≤ capacity runs.sizes
+pub deep_light : (runs : RunsState) (merge : DeepState) (a : Entries) → runs.deep ≡ Some merge → Fits runs a → merge.writer.component.weight + left_for_deep (Some merge) ≤ capacity runs.sizes
 deep_light runs merge a is fits = grind (arith, common_steps, nat_tests)
 
 -- so there are pages for it
-pub pass_has_room : (runs : RunsState) (snow : SnowState) (a : Entries) → runs.pass ≡ Some snow → AreRuns runs → Fits runs a → HasRoom runs.space snow.writer (pass.left_weight snow a)
+pub pass_has_room : (runs : RunsState) (snow : SnowState) (a : Entries) → runs.pass ≡ Some snow → AreRuns runs → Fits runs a → HasRoom runs.space snow.writer (left_for_pass (Some snow) a)
 pass_has_room runs snow a is are fits = grind (arith, common_steps, nat_tests)
 
-pub deep_has_room : (runs : RunsState) (merge : DeepState) (a : Entries) → runs.deep ≡ Some merge → AreRuns runs → Fits runs a → HasRoom runs.space merge.writer (deep.left_weight merge)
+pub deep_has_room : (runs : RunsState) (merge : DeepState) (a : Entries) → runs.deep ≡ Some merge → AreRuns runs → Fits runs a → HasRoom runs.space merge.writer (left_for_deep (Some merge))
 deep_has_room runs merge a is are fits = grind (arith, common_steps, nat_tests)
 
 -- ---- the pass
@@ -91,10 +90,8 @@ passed_is space guides snow keeps s g p = λ j. record { sizes = keeps.sizes j; 
 pub record PassQuantum (sizes : Sizes) (space after : SpaceState) (guide guide_after : GuideState) (snow next : SnowState) (a : Entries) (result : Result ℕ Broken) (old new : DiskState) : Type 0 where
   pub took : (pages : List ℕ) (c1 : Entries) → IsTrue old.is_honest → IsPass sizes old.bytes space snow guide.filter guide.fences pages a c1 → result ≢ Err Fault
       → (n : ℕ) × (result ≡ Ok n) × IsPass sizes new.bytes after next guide_after.filter guide_after.fences pages a c1 × IsQuantum sizes.quantum snow.at next.at a c1 n
-  pub runs : OnOk result (pass.MayGoOn sizes new.is_honest new.bytes after next guide_after.filter guide_after.fences a)
-  pub size : OnOk result (role_size after snow.writer.role + snow.writer.component.pages ≡ role_size space snow.writer.role + next.writer.component.pages)
-  pub role : next.writer.role ≡ snow.writer.role
-  pub works : Works sizes snow.writer.role (sizes.quantum / 7 + 2) space after old new
+  pub on : MergesOn sizes (sizes.quantum / 7 + 2) (TakesQuantum sizes.quantum) (stage (progress_of_pass snow a) space guide.filter guide.fences old)
+      (stage (progress_of_pass next a) after guide_after.filter guide_after.fences new) result
 
 pass_role : (runs : RunsState) (snow : SnowState) → runs.pass ≡ Some snow → AreRuns runs → snow.writer.role ≡ runs.tags.pass
 pass_role runs snow is are = subst (λ (p : Option SnowState). PassHasTag runs.tags.pass p) is are.pass_tag
@@ -134,10 +131,10 @@ pub pass_ran : KeepsPushed → (runs : RunsState) (after : SpaceState) (guides :
     → PassQuantum runs.sizes runs.space after (guide_at runs.guides runs.tags.pass) guide snow next a result old new
     → OnOk result (AreRunning new.is_honest new.bytes (passed runs after guides next))
 pass_ran pushed runs after guides guide snow next a result old new is running shape writes quantum =
-    both_ok result quantum.runs quantum.size
+    both_ok result quantum.on.runs quantum.on.size
     (λ goes size. record {
       in_order = pass_in_order runs after guides snow next is running.in_order shape works.takes
-          (subst (λ (r : ℕ). role_size after r + snow.writer.component.pages ≡ role_size runs.space r + next.writer.component.pages) role size) (quantum.role ∙ role)
+          (subst (λ (r : ℕ). role_size after r + snow.writer.component.pages ≡ role_size runs.space r + next.writer.component.pages) role size) (quantum.on.role ∙ role)
           (run_filled runs.sizes new.is_honest new.bytes after next.writer guide.filter guide.fences goes.running.run.out goes.running.run.pushed) writes.reserved;
       pass = subst (λ (g : GuideState). PassRuns runs.sizes new.is_honest new.bytes after g (Some next)) (sym writes.here) goes.running;
       deep = subst (λ (g : GuideState). DeepRuns runs.sizes new.is_honest new.bytes after g runs.deep) (sym (writes.others runs.tags.deep (λ same. running.in_order.tags.pass_deep (sym same))))
@@ -200,10 +197,8 @@ deepened_is space guides merge keeps s g d = λ j. record { sizes = keeps.sizes 
 pub record DeepQuantum (sizes : Sizes) (space after : SpaceState) (guide guide_after : GuideState) (merge next : DeepState) (result : Result ℕ Broken) (old new : DiskState) : Type 0 where
   pub took : (newer older : List ℕ) (c1x c2 : Entries) → IsTrue old.is_honest → IsMerge sizes old.bytes space merge guide.filter guide.fences newer older c1x c2 → result ≢ Err Fault
       → (n : ℕ) × (result ≡ Ok n) × IsMerge sizes new.bytes after next guide_after.filter guide_after.fences newer older c1x c2 × IsQuantum sizes.quantum merge.at next.at c1x c2 n
-  pub runs : OnOk result (deep.MayGoOn sizes new.is_honest new.bytes after next guide_after.filter guide_after.fences)
-  pub size : OnOk result (role_size after merge.writer.role + merge.writer.component.pages ≡ role_size space merge.writer.role + next.writer.component.pages)
-  pub role : next.writer.role ≡ merge.writer.role
-  pub works : Works sizes merge.writer.role (sizes.quantum / 4 + 3) space after old new
+  pub on : MergesOn sizes (sizes.quantum / 4 + 3) (TakesQuantum sizes.quantum) (stage (progress_of_deep merge) space guide.filter guide.fences old)
+      (stage (progress_of_deep next) after guide_after.filter guide_after.fences new) result
 
 deep_role : (runs : RunsState) (merge : DeepState) → runs.deep ≡ Some merge → AreRuns runs → merge.writer.role ≡ runs.tags.deep
 deep_role runs merge is are = subst (λ (d : Option DeepState). DeepHasTag runs.tags.deep d) is are.deep_tag
@@ -243,10 +238,10 @@ pub deep_ran : KeepsPushed → (runs : RunsState) (after : SpaceState) (guides :
     → DeepQuantum runs.sizes runs.space after (guide_at runs.guides runs.tags.deep) guide merge next result old new
     → OnOk result (AreRunning new.is_honest new.bytes (deepened runs after guides next))
 deep_ran pushed runs after guides guide merge next result old new is running shape writes quantum =
-    both_ok result quantum.runs quantum.size
+    both_ok result quantum.on.runs quantum.on.size
     (λ goes size. record {
       in_order = deep_in_order runs after guides merge next is running.in_order shape works.takes
-          (subst (λ (r : ℕ). role_size after r + merge.writer.component.pages ≡ role_size runs.space r + next.writer.component.pages) role size) (quantum.role ∙ role)
+          (subst (λ (r : ℕ). role_size after r + merge.writer.component.pages ≡ role_size runs.space r + next.writer.component.pages) role size) (quantum.on.role ∙ role)
           (run_filled runs.sizes new.is_honest new.bytes after next.writer guide.filter guide.fences goes.running.run.out goes.running.run.pushed) writes.reserved;
       pass = subst (λ (g : GuideState). PassRuns runs.sizes new.is_honest new.bytes after g runs.pass) (sym (writes.others runs.tags.pass running.in_order.tags.pass_deep))
           (pass_runs_still pushed runs.tags.pass (guide_at runs.guides runs.tags.pass) runs.pass

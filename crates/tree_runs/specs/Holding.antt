@@ -1,32 +1,35 @@
 -- What the components and merges of a tree are on an honest disk, whose file holds the tree.
-use Rattle.std.specs.Prelude.{◌≡◌, ◌≢◌, ◌⊎◌, ⊤, ℕ, Bool, IsTrue, ◌+◌, List, [], ◌∷◌, Option, Some, None, if◌then◌else◌, nat_le}
+use Rattle.std.specs.Prelude.{◌≡◌, ◌≢◌, ◌⊎◌, ⊤, ℕ, Bool, IsTrue, ◌+◌, List, [], ◌∷◌, Option, Some, None, Result, Ok, Err, OnOk, if◌then◌else◌, nat_le}
 use Rattle.std.specs.List.{Contains}
 use Rattle.disk_trait.specs.Region.{Region, span}
-use Rattle.disk_trait.specs.Disk.{DiskState}
+use Rattle.disk_trait.specs.Disk.{DiskState, TellsFaultsBy}
+use Rattle.disk_trait.specs.Effects.{Affects}
 use Rattle.disk_trait.specs.Moments.{LeavesOnly}
 use Rattle.blsm_model.specs.Sizes.{Sizes}
 use Rattle.blsm_model.specs.Components.{empty_component}
-use Rattle.blsm_model.specs.Geometry.{c1_mark}
+use Rattle.blsm_model.specs.Geometry.{c1_mark, file_length}
 use Rattle.blsm_model.specs.Lanes.{a_of, b_of, spare_of}
 use Rattle.blsm_model.specs.declared.key.Key.{Key}
 use Rattle.blsm_model.specs.declared.component.Component.{Component}
 use Rattle.catalog_swap.specs.declared.catalog.Catalog.{Catalog}
 use Rattle.record_delta.specs.Entries.{Entries, folded_over, settled_entries}
 use Rattle.page_space.specs.Space.{SpaceState, HasRole, IsFree, KeepsOtherPins}
+use Rattle.page_file.specs.declared.file.Broken.{Broken}
+use Rattle.page_file.specs.declared.file.Broken.TheVariants.{Fault, Damaged}
 use Rattle.page_file.specs.Component.{RunPage, entries_of, numbers_of}
 use Rattle.run_cursor.specs.Lookup.{IsGuided}
 use Rattle.run_writer.specs.Writer.{role_region}
-use Rattle.scan_view.specs.Pins.{Pins}
+use Rattle.scan_view.specs.Pins.{Pins, beside_pins}
 use Rattle.catalog_swap.specs.Slots.{slot_of, slot_length}
 use Rattle.catalog_swap.specs.Swap.{prepared}
 use Rattle.merge_ends.specs.Output.{TakesPages}
 use Rattle.merge_ends.specs.Quantum.{IsQuantum}
-use Rattle.snow_merge.specs.Pass.{SnowState, IsPass, Takes}
-use Rattle.deep_merge.specs.Merge as deep
-use Rattle.deep_merge.specs.Merge.{DeepState, IsMerge, started as deep_started}
+use Rattle.merge_ends.specs.Progress.{TakesQuantum}
+use Rattle.snow_merge.specs.Pass.{SnowState, IsPass, progress_of_pass}
+use Rattle.deep_merge.specs.Merge.{DeepState, IsMerge, progress_of_deep, started as deep_started}
 use Rattle.tree_file.specs.Tree.{Tree, HoldsTree}
 use Rattle.tree_file.specs.Places.{StandsOn, HoldsEither, StandsOnEither}
-use Rattle.tree_runs.specs.Runs.{GuideState, RunsState, Tags, deep_bits, emptied, guide_at, made_by_pass, made_by_deep}
+use Rattle.tree_runs.specs.Runs.{GuideState, RunsState, Tags, AreRunning, deep_bits, emptied, guide_at, made_by_pass, made_by_deep}
 
 -- each of these pages has the tag
 abbrev pub AreTagged : SpaceState → ℕ → List RunPage → Type 0
@@ -172,21 +175,31 @@ abbrev pub PinsComponents : ℕ → RunsState → RunsState → Type 0
 PinsComponents seat old new = Pins seat old.tags.c1 old.tags.c1x old.tags.c2 old.space new.space
 
 -- a quantum of the pass took so much, by the numbers, or as the lists have it
-abbrev pub PassTakes : Option SnowState → Option SnowState → Entries → ℕ → Type 0
-PassTakes (Some old) (Some new) a n = Takes old new a n
-PassTakes old new a n = ⊥
+abbrev pub PassTakes : ℕ → Option SnowState → Option SnowState → Entries → ℕ → Type 0
+PassTakes least (Some old) (Some new) a n = TakesQuantum least (progress_of_pass old a) (progress_of_pass new a) n
+PassTakes least old new a n = ⊥
 
 abbrev pub PassTook : ℕ → Option SnowState → Option SnowState → (a c1 : Entries) → ℕ → Type 0
 PassTook least (Some old) (Some new) a c1 n = IsQuantum least old.at new.at a c1 n
 PassTook least old new a c1 n = ⊥
 
-abbrev pub DeepTakes : Option DeepState → Option DeepState → ℕ → Type 0
-DeepTakes (Some old) (Some new) n = deep.Takes old new n
-DeepTakes old new n = ⊥
+abbrev pub DeepTakes : ℕ → Option DeepState → Option DeepState → ℕ → Type 0
+DeepTakes least (Some old) (Some new) n = TakesQuantum least (progress_of_deep old) (progress_of_deep new) n
+DeepTakes least old new n = ⊥
 
 abbrev pub DeepTook : ℕ → Option DeepState → Option DeepState → (c1x c2 : Entries) → ℕ → Type 0
 DeepTook least (Some old) (Some new) c1x c2 n = IsQuantum least old.at new.at c1x c2 n
 DeepTook least old new c1x c2 n = ⊥
+
+-- What a quantum tells of the disk and of the lists. On an honest disk it still stands on its tree, in each image of each moment, and the merge is
+-- further on by one quantum; a page that is named is damaged. It writes no page that a seat pins, in so many calls at most.
+pub record TellsQuantum (a a_after : Entries) (most : ℕ) (Took : Tree → ℕ → Type 0) (IsDamage : ℕ → List ℕ → Type 0) (old new : RunsState) (result : Result ℕ Broken) (before after : DiskState) : Type 0 where
+  pub stands : (tree : Tree) → IsTrue before.is_honest → StandOver old tree a before → StandsOn old.sizes tree after × LeavesOnly before after (HoldsTree old.sizes tree)
+  pub lists : (tree : Tree) → IsTrue before.is_honest → StandOver old tree a before → result ≢ Err Fault → (n : ℕ) × (result ≡ Ok n) × StandOver new tree a_after after × Took tree n
+  pub running : OnOk result (AreRunning after.is_honest after.bytes new)
+  pub damaged : (n : ℕ) → result ≡ Err (Damaged n) → IsTrue before.tells_bytes → IsDamage n after.bytes
+  pub effect : Affects (beside_pins old.sizes old.space.pins) (file_length old.sizes) most before after
+  pub faults : TellsFaultsBy (Err Fault) result before after
 
 -- how far the merges have come: the greatest keys that they took
 abbrev pub cursor_of_pass : Option SnowState → Option Key

@@ -1,5 +1,5 @@
 -- What contracts see of the components of a tree and of its merges, and what they keep on every disk. Weights are in bytes.
-use Rattle.std.specs.Prelude.{◌≡◌, ◌≢◌, ⊤, ℕ, ◌+◌, ◌-◌, ◌*◌, ◌/◌, ◌<◌, ◌≤◌, Bool, List, [], length, Option, Some, None, if◌then◌else◌, min, nat_eq, slice_index_or, slice_set}
+use Rattle.std.specs.Prelude.{◌≡◌, ◌≢◌, ⊤, ℕ, ◌+◌, ◌-◌, ◌*◌, ◌/◌, ◌<◌, ◌≤◌, Bool, List, [], ◌∷◌, length, Option, Some, None, if◌then◌else◌, min, nat_eq, slice_index_or, slice_set}
 use Rattle.blsm_model.specs.declared.component.Component.{Component}
 use Rattle.blsm_model.specs.Components.{empty_component}
 use Rattle.blsm_model.specs.Format.{least_full}
@@ -12,11 +12,12 @@ use Rattle.catalog_swap.specs.declared.catalog.Catalog.{Catalog}
 use Rattle.record_delta.specs.Entries.{Entries}
 use Rattle.page_space.specs.Space.{SpaceState, IsSpace, HasRole, IsWithin, role_count, role_size, pin_size, seat_count}
 use Rattle.merge_ends.specs.Output.{most_pages}
+use Rattle.merge_ends.specs.Progress.{IsRunning, left_to_take}
 use Rattle.scan_view.specs.Pins.{IsUnpinned}
 use Rattle.snow_merge.specs.Pass as pass
-use Rattle.snow_merge.specs.Pass.{SnowState}
+use Rattle.snow_merge.specs.Pass.{SnowState, progress_of_pass}
 use Rattle.deep_merge.specs.Merge as deep
-use Rattle.deep_merge.specs.Merge.{DeepState}
+use Rattle.deep_merge.specs.Merge.{DeepState, progress_of_deep}
 
 -- which tags the pages of C1, C1', C2, of the pass's run and of the deep merge's run have
 pub record Tags : Type 0 where
@@ -133,11 +134,11 @@ made_by_deep (Some deep) = deep.writer.component
 -- how much is left to be taken
 abbrev pub left_for_pass : Option SnowState → Entries → ℕ
 left_for_pass None a = 0
-left_for_pass (Some snow) a = pass.left_weight snow a
+left_for_pass (Some snow) a = left_to_take (progress_of_pass snow a)
 
 abbrev pub left_for_deep : Option DeepState → ℕ
 left_for_deep None = 0
-left_for_deep (Some merge) = deep.left_weight merge
+left_for_deep (Some merge) = left_to_take (progress_of_deep merge)
 
 -- the pages in use by the components and the runs
 abbrev pub pages_in_use : RunsState → ℕ
@@ -234,11 +235,11 @@ pub record AreRead (sizes : Sizes) (catalogue : Catalog) (space : SpaceState) : 
 -- Where the file is honest the runs' closed pages stand in it; on any disk the merges' cursors and runs are in order.
 abbrev pub PassRuns : Sizes → Bool → List ℕ → SpaceState → GuideState → Option SnowState → Type 0
 PassRuns sizes honest file space guide None = ⊤
-PassRuns sizes honest file space guide (Some snow) = pass.IsRunning sizes honest file space snow guide.filter guide.fences
+PassRuns sizes honest file space guide (Some snow) = IsRunning sizes honest file space snow.writer snow.at (snow.c1 ∷ []) guide.filter guide.fences
 
 abbrev pub DeepRuns : Sizes → Bool → List ℕ → SpaceState → GuideState → Option DeepState → Type 0
 DeepRuns sizes honest file space guide None = ⊤
-DeepRuns sizes honest file space guide (Some merge) = deep.IsRunning sizes honest file space merge guide.filter guide.fences
+DeepRuns sizes honest file space guide (Some merge) = IsRunning sizes honest file space merge.writer merge.at (merge.c1x ∷ merge.c2 ∷ []) guide.filter guide.fences
 
 pub record AreRunning (honest : Bool) (file : List ℕ) (runs : RunsState) : Type 0 where
   pub in_order : AreRuns runs

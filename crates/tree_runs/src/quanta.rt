@@ -1,17 +1,10 @@
 //! Quanta of the merges.
-ghost use Rattle.std.specs.Prelude.{◌≡◌, ◌≢◌, ◌⊎◌, ◌+◌, ◌*◌, ◌/◌, ◌≤◌, ℕ, Ok, Err, length, IsTrue, IsErr, IsSome, IfOk, OnOk};
-ghost use Rattle.disk_trait.specs.Disk.{TellsFaultsBy};
-ghost use Rattle.disk_trait.specs.Effects.{Affects};
-ghost use Rattle.disk_trait.specs.Moments.{LeavesOnly};
-ghost use Rattle.blsm_model.specs.Format.{most_weight};
+ghost use Rattle.std.specs.Prelude.{◌≡◌, ◌+◌, ◌/◌, length, IsTrue, IsErr, IsSome, IfOk};
 ghost use Rattle.blsm_model.specs.Geometry.{file_length};
 ghost use Rattle.page_file.specs.Component.{entries_of};
-ghost use Rattle.scan_view.specs.Pins.{beside_pins};
-ghost use Rattle.tree_file.specs.Tree.{Tree, HoldsTree};
-ghost use Rattle.tree_file.specs.Places.{StandsOn};
-ghost use Rattle.tree_runs.specs.Runs.{AreRunning, Fits, left_for_pass, left_for_deep};
+ghost use Rattle.tree_runs.specs.Runs.{AreRunning, Fits};
 ghost use Rattle.tree_runs.specs.Damage.{PassMeetsDamage, DeepMeetsDamage};
-ghost use Rattle.tree_runs.specs.Holding.{StandOver, KeepsAllButPass, KeepsAllButDeep, PassTakes, PassTook, DeepTakes, DeepTook, cursor_of_pass, cursor_of_deep};
+ghost use Rattle.tree_runs.specs.Holding.{KeepsAllButPass, KeepsAllButDeep, PassTakes, PassTook, DeepTakes, DeepTook, TellsQuantum, cursor_of_pass, cursor_of_deep};
 
 use crate::runs::Runs;
 use disk_trait::Disk;
@@ -26,37 +19,20 @@ impl Runs {
     /// `Damaged` names a page of C1 that isn't valid or doesn't go on; it never comes where the disk stands on a tree. `Fault` comes just
     /// where the disk's count of faults rose. After an `Err` the quantum isn't counted, and no merge is to be gone on with.
     ///
-    /// Two clauses are on an honest disk (what the disk stands on, and the lists); the others hold on every disk: numbers, the page that is named as
-    /// damaged, what stays, and what the disk's calls did.
+    /// One clause is on the disk and the lists; the others are on numbers, and on what stays.
     pub fn pass_quantum<D: Disk>(&mut self, disk: &mut D, a: &Table) -> Result<u64, Broken>
         requires runs { IsSome self.old.pass }
         requires length { IsTrue (D.state disk.old).tells_bytes → length (D.state disk.old).bytes ≡ file_length self.old.sizes }
         requires running { AreRunning (D.state disk.old).is_honest (D.state disk.old).bytes self.old }
         requires fits { Fits self.old a.now.entries }
-
-        // On an honest disk it still stands on its tree, in each image of each moment, and the pass is further on by one quantum.
-        ensures stands { (tree : Tree) → IsTrue (D.state disk.old).is_honest → StandOver self.old tree a.now.entries (D.state disk.old)
-            → StandsOn self.old.sizes tree (D.state disk.new) × LeavesOnly (D.state disk.old) (D.state disk.new) (HoldsTree self.old.sizes tree) }
-        ensures lists { (tree : Tree) → IsTrue (D.state disk.old).is_honest → StandOver self.old tree a.now.entries (D.state disk.old)
-            → result ≢ Err Broken.Fault
-            → (n : ℕ) × (result ≡ Ok n) × StandOver self.new tree a.now.entries (D.state disk.new)
-            × PassTook self.old.sizes.quantum self.old.pass self.new.pass a.now.entries (entries_of tree.c1) n }
-
-        // On any disk what was taken and what is left add up.
-        ensures running { OnOk result (AreRunning (D.state disk.new).is_honest (D.state disk.new).bytes self.new) }
-        ensures takes { IfOk result (PassTakes self.old.pass self.new.pass a.now.entries) }
-        ensures bound { IfOk result (λ n. n + 1 ≤ self.old.sizes.quantum + 2 * most_weight) }
-        ensures enough { IfOk result (λ n. (self.old.sizes.quantum ≤ n) ⊎ (left_for_pass self.new.pass a.now.entries ≡ 0)) }
-        // It comes to the damaged page next.
-        ensures damaged { (n : ℕ) → result ≡ Err (Broken.Damaged n) → IsTrue (D.state disk.old).tells_bytes
-            → PassMeetsDamage self.new.sizes self.new.pass n (D.state disk.new).bytes }
+        ensures told { TellsQuantum a.now.entries a.now.entries (self.old.sizes.quantum / 7 + 2)
+            (λ tree n. PassTook self.old.sizes.quantum self.old.pass self.new.pass a.now.entries (entries_of tree.c1) n)
+            (PassMeetsDamage self.new.sizes self.new.pass) self.old self.new result (D.state disk.old) (D.state disk.new) }
+        // On any disk what was taken and what is left add up, and it is a quantum or all that was left.
+        ensures takes { IfOk result (PassTakes self.old.sizes.quantum self.old.pass self.new.pass a.now.entries) }
         ensures kept { IsErr result → cursor_of_pass self.new.pass ≡ cursor_of_pass self.old.pass }
         ensures runs { IsSome self.new.pass }
         ensures others { KeepsAllButPass self.old self.new }
-
-        // It writes no page that a seat pins.
-        ensures effect { Affects (beside_pins self.old.sizes self.old.space.pins) (file_length self.old.sizes) (self.old.sizes.quantum / 7 + 2) (D.state disk.old) (D.state disk.new) }
-        ensures faults { TellsFaultsBy (Err Broken.Fault) result (D.state disk.old) (D.state disk.new) }
     {
         what_is_ahead();
         where_a_run_writes();
@@ -86,26 +62,13 @@ impl Runs {
         requires length { IsTrue (D.state disk.old).tells_bytes → length (D.state disk.old).bytes ≡ file_length self.old.sizes }
         requires running { AreRunning (D.state disk.old).is_honest (D.state disk.old).bytes self.old }
         requires fits { Fits self.old a.now.entries }
-
-        ensures stands { (tree : Tree) → IsTrue (D.state disk.old).is_honest → StandOver self.old tree a.now.entries (D.state disk.old)
-            → StandsOn self.old.sizes tree (D.state disk.new) × LeavesOnly (D.state disk.old) (D.state disk.new) (HoldsTree self.old.sizes tree) }
-        ensures lists { (tree : Tree) → IsTrue (D.state disk.old).is_honest → StandOver self.old tree a.now.entries (D.state disk.old)
-            → result ≢ Err Broken.Fault
-            → (n : ℕ) × (result ≡ Ok n) × StandOver self.new tree a.now.entries (D.state disk.new)
-            × DeepTook self.old.sizes.quantum self.old.deep self.new.deep (entries_of tree.c1x) (entries_of tree.c2) n }
-
-        ensures running { OnOk result (AreRunning (D.state disk.new).is_honest (D.state disk.new).bytes self.new) }
-        ensures takes { IfOk result (DeepTakes self.old.deep self.new.deep) }
-        ensures bound { IfOk result (λ n. n + 1 ≤ self.old.sizes.quantum + 2 * most_weight) }
-        ensures enough { IfOk result (λ n. (self.old.sizes.quantum ≤ n) ⊎ (left_for_deep self.new.deep ≡ 0)) }
-        ensures damaged { (n : ℕ) → result ≡ Err (Broken.Damaged n) → IsTrue (D.state disk.old).tells_bytes
-            → DeepMeetsDamage self.new.sizes self.new.deep n (D.state disk.new).bytes }
+        ensures told { TellsQuantum a.now.entries a.now.entries (self.old.sizes.quantum / 4 + 3)
+            (λ tree n. DeepTook self.old.sizes.quantum self.old.deep self.new.deep (entries_of tree.c1x) (entries_of tree.c2) n)
+            (DeepMeetsDamage self.new.sizes self.new.deep) self.old self.new result (D.state disk.old) (D.state disk.new) }
+        ensures takes { IfOk result (DeepTakes self.old.sizes.quantum self.old.deep self.new.deep) }
         ensures kept { IsErr result → cursor_of_deep self.new.deep ≡ cursor_of_deep self.old.deep }
         ensures runs { IsSome self.new.deep }
         ensures others { KeepsAllButDeep self.old self.new }
-
-        ensures effect { Affects (beside_pins self.old.sizes self.old.space.pins) (file_length self.old.sizes) (self.old.sizes.quantum / 4 + 3) (D.state disk.old) (D.state disk.new) }
-        ensures faults { TellsFaultsBy (Err Broken.Fault) result (D.state disk.old) (D.state disk.new) }
     {
         what_is_ahead();
         where_a_run_writes();

@@ -41,24 +41,17 @@ well_honest well honest = subst IsTrue (sym well.effect.goes_on.is_honest) hones
 
 -- ---- what a quantum takes, by the numbers
 
-pub deep_took : (old new : Option DeepState) (n : ℕ) → DeepTakes old new n
-    → ((made_by_deep new).weight + left_for_deep new ≤ (made_by_deep old).weight + left_for_deep old) × (n + left_for_deep new ≡ left_for_deep old)
-deep_took old new n h1 = grind (arith, common_steps, nat_tests)
+pub deep_took : (old new : Option DeepState) (least n : ℕ) → DeepTakes least old new n
+    → ((made_by_deep new).weight + left_for_deep new ≤ (made_by_deep old).weight + left_for_deep old) × (n + left_for_deep new ≡ left_for_deep old) × ((least ≤ n) ⊎ (left_for_deep new ≡ 0))
+deep_took old new least n h1 = grind (arith, common_steps, nat_tests)
 
-pub pass_took : (old new : Option SnowState) (a : Entries) (n : ℕ) → PassTakes old new a n
-    → ((made_by_pass new).weight + left_for_pass new a ≤ (made_by_pass old).weight + left_for_pass old a) × (n + left_for_pass new a ≡ left_for_pass old a)
-pass_took old new a n h1 = grind (arith, common_steps, nat_tests)
+pub pass_took : (old new : Option SnowState) (a : Entries) (least n : ℕ) → PassTakes least old new a n
+    → ((made_by_pass new).weight + left_for_pass new a ≤ (made_by_pass old).weight + left_for_pass old a) × (n + left_for_pass new a ≡ left_for_pass old a) × ((least ≤ n) ⊎ (left_for_pass new a ≡ 0))
+pass_took old new a least n h1 = grind (arith, common_steps, nat_tests)
 
 -- so less is left than there was
-less_left : (left old least n : ℕ) → 1 ≤ least → old ≢ 0 → n + left ≡ old → (least ≤ n) ⊎ (left ≡ 0) → left < old
+pub less_left : (left old least n : ℕ) → 1 ≤ least → old ≢ 0 → n + left ≡ old → (least ≤ n) ⊎ (left ≡ 0) → left < old
 less_left left old least n some there took enough = ⊎_elim (λ much. omega (arith, much, took)) (λ none. omega (arith, none, there)) enough
-
-pub deep_less : (old new : Option DeepState) (least n : ℕ) → 1 ≤ least → left_for_deep old ≢ 0 → DeepTakes old new n → (least ≤ n) ⊎ (left_for_deep new ≡ 0) → left_for_deep new < left_for_deep old
-deep_less old new least n some there takes enough = less_left (left_for_deep new) (left_for_deep old) least n some there (deep_took old new n takes).1 enough
-
-pub pass_less : (old new : Option SnowState) (a : Entries) (least n : ℕ) → 1 ≤ least → left_for_pass old a ≢ 0 → PassTakes old new a n → (least ≤ n) ⊎ (left_for_pass new a ≡ 0)
-    → left_for_pass new a < left_for_pass old a
-pass_less old new a least n some there takes enough = less_left (left_for_pass new a) (left_for_pass old a) least n some there (pass_took old new a n takes).1 enough
 
 -- the other merge rests
 pub rested : {A : Type 0} {old new : A} (due : A → ℕ) → new ≡ old → due new ≤ due old

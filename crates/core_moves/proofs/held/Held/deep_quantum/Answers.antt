@@ -1,42 +1,37 @@
-use Rattle.std.specs.Prelude.{◌≡◌, ◌≢◌, ℕ, Ok, Err, is_some}
-use Rattle.std.specs.declared.result.Result.{Result}
-use Rattle.std.proofs.Common.{◌∙◌, refl, ap, sym, subst}
+use Rattle.std.specs.Prelude.{◌+◌, ◌/◌, Ok, Err, is_some}
+use Rattle.std.proofs.Common.{◌∙◌, ◌*◌, ◌≤◌, ℕ, refl, ap, sym, subst, arith}
+use Rattle.std.proofs.lemmas.Grind.{common_steps}
+use Rattle.std.proofs.lemmas.Bool.Decides.{nat_tests}
+use Rattle.blsm_model.specs.Format.{most_weight}
 use Rattle.mem_table.specs.Tables.{Contents}
-use Rattle.page_file.specs.declared.file.Broken.{Broken}
-use Rattle.page_file.specs.declared.file.Broken.TheVariants.{Fault}
 use Rattle.page_file.specs.Component.{entries_of}
-use Rattle.disk_trait.specs.Moments.{LeavesOnly}
-use Rattle.tree_file.specs.Tree.{HoldsTree}
-use Rattle.tree_file.specs.Places.{StandsOn}
-use Rattle.tree_runs.specs.Holding.{StandOver, DeepTook}
+use Rattle.tree_runs.specs.Damage.{DeepMeetsDamage}
+use Rattle.tree_runs.specs.Holding.{DeepTakes, DeepTook, TellsQuantum}
 use Rattle.core_moves.proofs.AffectLemmas.{stays_long}
 use Rattle.core_moves.proofs.held.Held.deep_quantum.Goals as goal
 
+-- less than a group more than a quantum
+few : (least : ℕ) (old new : _) (n : ℕ) → DeepTakes least old new n → n + 1 ≤ least + 2 * most_weight
+few least old new n takes = grind (arith, common_steps, nat_tests)
+
 -- where it took one
 
-pub returns-in-Ok-clause-stands : goal.returns-in-Ok-clause-stands
-returns-in-Ok-clause-stands g c = λ tree honest.
-    let old = g.D.Disk.state c.args.disk.now in
-    let new = g.D.Disk.state c.deep_quantum.new.disk in
-    subst (λ (t : Contents). StandOver c.args.self.now.runs tree t.entries old → StandsOn c.args.self.now.runs.sizes tree new × LeavesOnly old new (HoldsTree c.args.self.now.runs.sizes tree)) c.a.ensures
-    (c.deep_quantum.ensures.stands tree honest)
-
-pub returns-in-Ok-clause-lists : goal.returns-in-Ok-clause-lists
-returns-in-Ok-clause-lists g c = λ tree honest.
+pub took2-requires-clause-fits : goal.took2-requires-clause-fits
+took2-requires-clause-fits g c =
     let held = c.args.self.now in
-    let old = g.D.Disk.state c.args.disk.now in
-    let new = g.D.Disk.state c.deep_quantum.new.disk in
-    let answer : Result ℕ Broken = Ok c.in-Ok.taken in
-    subst (λ (t : Contents). StandOver held.runs tree t.entries old → answer ≢ Err Fault → (n : ℕ) × (answer ≡ Ok n) × StandOver c.deep_quantum.new.self tree t.entries new
-    × DeepTook held.runs.sizes.quantum held.runs.deep c.deep_quantum.new.self.deep (entries_of tree.c1x) (entries_of tree.c2) n) c.a.ensures
-    (c.in-Ok.ensures.lists tree honest)
+    omega (arith, few held.runs.sizes.quantum held.runs.deep c.deep_quantum.new.self.deep c.in-Ok.taken c.in-Ok.ensures.takes, c.requires.ready.small.deep_taken c.requires.runs)
+
+pub returns-in-Ok-clause-told : goal.returns-in-Ok-clause-told
+returns-in-Ok-clause-told g c =
+    let held = c.args.self.now in
+    let next = c.deep_quantum.new.self in
+    subst (λ (t : Contents). TellsQuantum t.entries t.entries (held.runs.sizes.quantum / 4 + 3) (λ tree n. DeepTook held.runs.sizes.quantum held.runs.deep next.deep (entries_of tree.c1x) (entries_of tree.c2) n)
+    (DeepMeetsDamage next.sizes next.deep) held.runs next (Ok c.in-Ok.taken) (g.D.Disk.state c.args.disk.now) (g.D.Disk.state c.deep_quantum.new.disk)) c.a.ensures c.in-Ok.ensures.told
 
 pub returns-in-Ok-clause-takes : goal.returns-in-Ok-clause-takes
 returns-in-Ok-clause-takes g c = record {
   takes = c.in-Ok.ensures.takes;
   others = c.deep_quantum.ensures.others;
-  bound = c.in-Ok.ensures.bound;
-  enough = c.in-Ok.ensures.enough;
   log = refl;
   gears = c.took2.ensures;
   spring = refl;
@@ -45,31 +40,18 @@ returns-in-Ok-clause-takes g c = record {
 
 pub returns-in-Ok-clause-on : goal.returns-in-Ok-clause-on
 returns-in-Ok-clause-on g c = record {
-  running = c.in-Ok.ensures.running;
-  long = stays_long c.args.self.now.runs.sizes c.deep_quantum.new.self.sizes c.deep_quantum.ensures.others.sizes c.requires.ready.on.long c.deep_quantum.ensures.effect;
+  running = c.in-Ok.ensures.told.running;
+  long = stays_long c.args.self.now.runs.sizes c.deep_quantum.new.self.sizes c.deep_quantum.ensures.others.sizes c.requires.ready.on.long c.deep_quantum.ensures.told.effect;
 }
-
-pub returns-in-Ok-clause-effect : goal.returns-in-Ok-clause-effect
-returns-in-Ok-clause-effect g c = c.deep_quantum.ensures.effect
 
 -- and where it failed
 
-pub returns-in-Err-clause-stands : goal.returns-in-Err-clause-stands
-returns-in-Err-clause-stands g c = λ tree honest.
-    let old = g.D.Disk.state c.args.disk.now in
-    let new = g.D.Disk.state c.deep_quantum.new.disk in
-    subst (λ (t : Contents). StandOver c.args.self.now.runs tree t.entries old → StandsOn c.args.self.now.runs.sizes tree new × LeavesOnly old new (HoldsTree c.args.self.now.runs.sizes tree)) c.a.ensures
-    (c.deep_quantum.ensures.stands tree honest)
-
-pub returns-in-Err-clause-lists : goal.returns-in-Err-clause-lists
-returns-in-Err-clause-lists g c = λ tree honest.
+pub returns-in-Err-clause-told : goal.returns-in-Err-clause-told
+returns-in-Err-clause-told g c =
     let held = c.args.self.now in
-    let old = g.D.Disk.state c.args.disk.now in
-    let new = g.D.Disk.state c.deep_quantum.new.disk in
-    let answer : Result ℕ Broken = Err c.in-Err.broken in
-    subst (λ (t : Contents). StandOver held.runs tree t.entries old → answer ≢ Err Fault → (n : ℕ) × (answer ≡ Ok n) × StandOver c.deep_quantum.new.self tree t.entries new
-    × DeepTook held.runs.sizes.quantum held.runs.deep c.deep_quantum.new.self.deep (entries_of tree.c1x) (entries_of tree.c2) n) c.a.ensures
-    (c.in-Err.ensures.lists tree honest)
+    let next = c.deep_quantum.new.self in
+    subst (λ (t : Contents). TellsQuantum t.entries t.entries (held.runs.sizes.quantum / 4 + 3) (λ tree n. DeepTook held.runs.sizes.quantum held.runs.deep next.deep (entries_of tree.c1x) (entries_of tree.c2) n)
+    (DeepMeetsDamage next.sizes next.deep) held.runs next (Err c.in-Err.broken) (g.D.Disk.state c.args.disk.now) (g.D.Disk.state c.deep_quantum.new.disk)) c.a.ensures c.in-Err.ensures.told
 
 pub returns-in-Err-clause-kept : goal.returns-in-Err-clause-kept
 returns-in-Err-clause-kept g c = record {
@@ -83,6 +65,3 @@ returns-in-Err-clause-kept g c = record {
   book = λ failed. refl;
   pins = λ failed. c.deep_quantum.ensures.others.takes.pins;
 }
-
-pub returns-in-Err-clause-effect : goal.returns-in-Err-clause-effect
-returns-in-Err-clause-effect g c = c.deep_quantum.ensures.effect

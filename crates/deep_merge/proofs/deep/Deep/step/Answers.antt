@@ -1,36 +1,36 @@
-use Rattle.std.proofs.Common.{◌≡◌, ◌∙◌, ℕ, IsTrue, Bool, true, List, [], ◌∷◌, ◌++◌, Option, Some, Result, Ok, Err, refl, ap, sym, subst, inl, inr, arith}
+use Rattle.std.proofs.Common.{rules, ◌≡◌, ◌∙◌, ◌+◌, ◌≤◌, ℕ, IsTrue, Bool, true, List, [], ◌∷◌, ◌++◌, Option, Some, Ok, Err, refl, ap, sym, subst, inl, inr, arith}
 use Rattle.std.proofs.lemmas.Result.{err_from_is_err_and}
 use Rattle.disk_trait.specs.Reads.{only_reads_same}
 use Rattle.blsm_model.specs.declared.key.Key.{Key}
 use Rattle.record_delta.specs.declared.record.Rec.{Rec}
 use Rattle.record_delta.specs.Entries.{Entries, first_of, folded_over, settled_entries, above, up_to}
-use Rattle.page_file.specs.declared.file.Broken.{Broken}
-use Rattle.page_file.specs.declared.file.Broken.TheVariants.{Fault, Damaged}
 use Rattle.page_file.specs.Entry.{AreRising}
 use Rattle.run_writer.specs.Writer.{HasPushed}
 use Rattle.merge_step.specs.Group.{group_of}
-use Rattle.merge_ends.specs.Input.{IsInput}
+use Rattle.merge_step.specs.Merged.{IsTaken}
+use Rattle.run_cursor.specs.Cursor.{from_head}
+use Rattle.record_delta.specs.Records.{weight}
+use Rattle.merge_ends.specs.Output.{HasRun}
+use Rattle.merge_ends.specs.Input.{IsInput, left_in}
 use Rattle.merge_ends.specs.Quantum.{IsNext, NoneAbove, Works}
 use Rattle.merge_ends.proofs.OutputLemmas.{rising_more}
-use Rattle.merge_ends.proofs.GroupLemmas.{head_is, first_none, group_none, older_stays, newer_stays, behind_group, input_further}
-use Rattle.merge_ends.proofs.WorkLemmas.{works_read, works_reads, works_written, works_more, pushed_read, room_less}
-use Rattle.deep_merge.specs.Merge.{DeepState, left_weight, IsMerge, TakesGroup, MayGoOn}
+use Rattle.merge_ends.proofs.GroupLemmas.{end_left, head_is, first_none, group_none, older_stays, newer_stays, behind_group, input_further}
+use Rattle.merge_ends.proofs.WorkLemmas.{works_read, works_reads, works_written, works_more, pushed_read, room_less, run_read}
+use Rattle.deep_merge.specs.Merge.{DeepState, IsMerge, progress_of_deep}
+use Rattle.merge_ends.specs.Progress.{MayGoOn, MergesOn, TakesGroup, stage}
+use Rattle.merge_ends.proofs.ProgressLemmas.{takes_nothing, takes_group, told_ok, told_err, fault_is, not_both, calm_of, damage_is}
 use Rattle.deep_merge.proofs.SettledLemmas.{settled_more, ends_settled}
-use Rattle.deep_merge.proofs.MergeLemmas.{takes_nothing, group_taken, takes_group}
+use Rattle.deep_merge.proofs.MergeLemmas.{group_taken}
 use Rattle.deep_merge.proofs.deep.Deep.step.Goals as goal
+use Rattle.deep_merge.proofs.deep.Deep.step.Goals.{In-Some, After-go_above-2, After-put_settled}
 
-fault_is : (a : Result (Unit {0}) Broken) (broken : Broken) → a ≡ Err broken → a ≡ Err Fault → broken ≡ Fault
-fault_is a broken was is = cc
+-- what the two reads did
+reads_two : (g : _) (c : After-go_above-2 g) → Works c.args.geo.now c.self.inside.writer.role 2 c.args.space.now c.args.space.now (g.D.Disk.state c.args.disk.now) (g.D.Disk.state c.go_above-2.new.disk)
+reads_two g c =
+    works_reads c.args.geo.now c.self.inside.writer.role c.args.space.now (g.D.Disk.state c.args.disk.now) (g.D.Disk.state c.go_above.new.disk) (g.D.Disk.state c.go_above-2.new.disk) (g.met.D.Disk.timed c.go_above.new.disk)
+    (c.go_above.ensures.reads.stands (calm_of c.go_above.result c.in_ok-go_above.was)) c.go_above.ensures.reads.effect c.go_above-2.ensures.reads.effect
 
-not_both : (a : Result (Unit {0}) Broken) (broken : Broken) → a ≡ Err broken → a ≡ Ok tt → ⊥
-not_both a broken was is = cc
-
-calm_of : (a : Result (Unit {0}) Broken) → a ≡ Ok tt → a ≡ Err Fault → ⊥
-calm_of a is fault = not_both a Fault fault is
-
--- the page that is named was named below
-damage_is : (n : ℕ) (a : Result (Unit {0}) Broken) (b : Result ℕ Broken) (broken other : Broken) → a ≡ Err broken → b ≡ Err other → other ≡ broken → b ≡ Err (Damaged n) → a ≡ Err (Damaged n)
-damage_is n a b broken other was gave same is = cc
+-- ---- a cursor can't go on
 
 pub returns-in_err-go_above-clause-merge : goal.returns-in_err-go_above-clause-merge
 returns-in_err-go_above-clause-merge g c = λ news olds newer older honest merge other.
@@ -40,9 +40,12 @@ returns-in_err-go_above-clause-merge g c = λ news olds newer older honest merge
     (c.go_above.ensures.input c.args.space.now c.self.inside.writer.role news newer honest old.newer
     (λ fault. other (p.1 ∙ ap Err (p.2 ∙ fault_is c.go_above.result c.in_err-go_above.field-0.0 c.in_err-go_above.was fault)))).0)
 
-pub returns-in_err-go_above-clause-works : goal.returns-in_err-go_above-clause-works
-returns-in_err-go_above-clause-works g c =
-    works_read c.args.geo.now c.args.self.now.writer.role 3 c.args.space.now (g.D.Disk.state c.args.disk.now) (g.D.Disk.state c.go_above.new.disk) (omega arith) c.go_above.ensures.reads.effect
+pub returns-in_err-go_above-clause-numbers : goal.returns-in_err-go_above-clause-numbers
+returns-in_err-go_above-clause-numbers g c =
+    let p = err_from_is_err_and c.from_residual.result c.from_residual.ensures.1 in
+    told_err p.1 (search rules) (search rules) (search rules)
+    (works_read c.args.geo.now c.args.self.now.writer.role 3 c.args.space.now (g.D.Disk.state c.args.disk.now) (g.D.Disk.state c.go_above.new.disk) (omega arith) c.go_above.ensures.reads.effect)
+    (λ n is tells. inl (c.go_above.ensures.damaged n (damage_is n c.go_above.result c.from_residual.result c.in_err-go_above.field-0.0 p.0 c.in_err-go_above.was p.1 p.2 is) tells)) (search rules)
 
 pub returns-in_err-go_above-2-clause-merge : goal.returns-in_err-go_above-2-clause-merge
 returns-in_err-go_above-2-clause-merge g c = λ news olds newer older honest merge other.
@@ -57,68 +60,19 @@ returns-in_err-go_above-2-clause-merge g c = λ news olds newer older honest mer
     (c.go_above-2.ensures.input space role olds older (first.effect.goes_on.is_honest ∙ honest) below
     (λ fault. other (p.1 ∙ ap Err (p.2 ∙ fault_is c.go_above-2.result c.in_err-go_above-2.field-0.0 c.in_err-go_above-2.was fault)))).0)
 
-pub returns-in_err-go_above-2-clause-works : goal.returns-in_err-go_above-2-clause-works
-returns-in_err-go_above-2-clause-works g c =
-    let role = c.args.self.now.writer.role in
-    works_more c.args.geo.now role 2 3 c.args.space.now c.args.space.now (g.D.Disk.state c.args.disk.now) (g.D.Disk.state c.go_above-2.new.disk) (omega arith)
-    (works_reads c.args.geo.now role c.args.space.now (g.D.Disk.state c.args.disk.now) (g.D.Disk.state c.go_above.new.disk) (g.D.Disk.state c.go_above-2.new.disk) (g.met.D.Disk.timed c.go_above.new.disk)
-    (c.go_above.ensures.reads.stands (calm_of c.go_above.result c.in_ok-go_above.was)) c.go_above.ensures.reads.effect c.go_above-2.ensures.reads.effect)
-
-pub returns-in_err-go_above-clause-damaged : goal.returns-in_err-go_above-clause-damaged
-returns-in_err-go_above-clause-damaged g c = λ n is tells.
-    let p = err_from_is_err_and c.from_residual.result c.from_residual.ensures.1 in
-    inl (c.go_above.ensures.damaged n (damage_is n c.go_above.result c.from_residual.result c.in_err-go_above.field-0.0 p.0 c.in_err-go_above.was p.1 p.2 is) tells)
-
-pub returns-in_err-go_above-2-clause-damaged : goal.returns-in_err-go_above-2-clause-damaged
-returns-in_err-go_above-2-clause-damaged g c = λ n is tells.
+pub returns-in_err-go_above-2-clause-numbers : goal.returns-in_err-go_above-2-clause-numbers
+returns-in_err-go_above-2-clause-numbers g c =
     let result = c.from_residual-in_err-go_above-2.result in
     let p = err_from_is_err_and result c.from_residual-in_err-go_above-2.ensures.1 in
-    inr (c.go_above-2.ensures.damaged n (damage_is n c.go_above-2.result result c.in_err-go_above-2.field-0.0 p.0 c.in_err-go_above-2.was p.1 p.2 is)
-    (subst IsTrue (sym c.go_above.ensures.reads.effect.effect.goes_on.tells_bytes) tells))
+    told_err p.1 (search rules) (search rules) (search rules)
+    (subst (λ (r : ℕ). Works c.args.geo.now r 3 c.args.space.now c.args.space.now (g.D.Disk.state c.args.disk.now) (g.D.Disk.state c.go_above-2.new.disk)) (ap (λ (s : DeepState). s.writer.role) c.self.view_is)
+    (works_more c.args.geo.now c.self.inside.writer.role 2 3 c.args.space.now c.args.space.now (g.D.Disk.state c.args.disk.now) (g.D.Disk.state c.go_above-2.new.disk) (omega arith)
+    (reads_two g (goal.at.returns-in_err-go_above-2-clause-numbers g c).After-go_above-2)))
+    (λ n is tells.
+    inr (inl (c.go_above-2.ensures.damaged n (damage_is n c.go_above-2.result result c.in_err-go_above-2.field-0.0 p.0 c.in_err-go_above-2.was p.1 p.2 is)
+    (subst IsTrue (sym c.go_above.ensures.reads.effect.effect.goes_on.tells_bytes) tells)))) (search rules)
 
 -- ---- nothing is left
-
-pub returns-in_default-clause-works : goal.returns-in_default-clause-works
-returns-in_default-clause-works g c =
-    let role = c.args.self.now.writer.role in
-    works_more c.args.geo.now role 2 3 c.args.space.now c.args.space.now (g.D.Disk.state c.args.disk.now) (g.D.Disk.state c.go_above-2.new.disk) (omega arith)
-    (works_reads c.args.geo.now role c.args.space.now (g.D.Disk.state c.args.disk.now) (g.D.Disk.state c.go_above.new.disk) (g.D.Disk.state c.go_above-2.new.disk) (g.met.D.Disk.timed c.go_above.new.disk)
-    (c.go_above.ensures.reads.stands (calm_of c.go_above.result c.in_ok-go_above.was)) c.go_above.ensures.reads.effect c.go_above-2.ensures.reads.effect)
-
-pub returns-in_default-clause-takes : goal.returns-in_default-clause-takes
-returns-in_default-clause-takes g c =
-    let newer = c.go_above.new.cursor in
-    let older = c.go_above-2.new.cursor in
-    let at = c.self.inside.at in
-    subst (λ (s : DeepState). TakesGroup s (record { writer = c.self.inside.writer; c1x = newer; c2 = older; at = at }) 0) c.self.view_is
-    (takes_nothing c.self.inside.writer c.self.inside.c1x newer c.self.inside.c2 older at c.in_ok-go_above.ensures.ready.0 c.in_ok-go_above-2.ensures.ready.0
-    c.in_ok-go_above.ensures.ready.1 c.in_ok-go_above-2.ensures.ready.1 (sym c.in_default.ensures.group))
-
-pub returns-in_default-clause-runs : goal.returns-in_default-clause-runs
-returns-in_default-clause-runs g c =
-    let sizes = c.args.geo.now in
-    let space = c.args.space.now in
-    let before = g.D.Disk.state c.args.disk.now in
-    let mid = g.D.Disk.state c.go_above-2.new.disk in
-    let first = c.go_above.ensures.reads.effect in
-    let second = c.go_above-2.ensures.reads.effect in
-    let writer = c.self.inside.writer in
-    let old = subst (λ (s : DeepState). MayGoOn sizes before.is_honest before.bytes space s c.args.filter.now c.args.fences.now) (sym c.self.view_is) c.requires.runs in
-    let out = old.running.run.out in
-    record {
-      running = record {
-        run = record {
-          out = out;
-          pushed = subst (λ (h : Bool). HasPushed sizes h mid.bytes space writer c.args.filter.now c.args.fences.now out) (sym (second.effect.goes_on.is_honest ∙ first.effect.goes_on.is_honest))
-              (pushed_read sizes before.is_honest before.bytes mid.bytes space writer c.args.filter.now c.args.fences.now out (λ told. only_reads_same second (first.effect.goes_on.is_honest ∙ told) ∙ only_reads_same first told) old.running.run.pushed);
-          ends = old.running.run.ends;
-        };
-        newer = inl c.in_ok-go_above.ensures.ready.0;
-        older = inl c.in_ok-go_above-2.ensures.ready.0;
-      };
-      fences_fit = omega (arith, c.in_ok-go_above.ensures.ready.1, c.in_ok-go_above-2.ensures.ready.1, old.fences_fit);
-      room = room_less space writer _ _ (omega (arith, c.in_ok-go_above.ensures.ready.1, c.in_ok-go_above-2.ensures.ready.1)) old.room;
-    }
 
 pub returns-in_default-clause-merge : goal.returns-in_default-clause-merge
 returns-in_default-clause-merge g c = λ news olds newer older honest merge other.
@@ -157,128 +111,117 @@ returns-in_default-clause-merge g c = λ news olds newer older honest merge othe
       inr (subst (λ (k : Option Key). NoneAbove k newer older) at_is ends, at_is, refl),
     )
 
+pub returns-in_default-clause-numbers : goal.returns-in_default-clause-numbers
+returns-in_default-clause-numbers g c =
+    let newer = c.go_above.new.cursor in
+    let older = c.go_above-2.new.cursor in
+    let ready_newer = c.in_ok-go_above.ensures.ready in
+    let ready_older = c.in_ok-go_above-2.ensures.ready in
+    let old = subst (λ (s : DeepState). MayGoOn c.args.geo.now (stage (progress_of_deep s) c.args.space.now c.args.filter.now c.args.fences.now (g.D.Disk.state c.args.disk.now))) (sym c.self.view_is) c.requires.runs in
+    let parts = group_none newer.head older.head (sym c.in_default.ensures.group) in
+    subst (λ (s : DeepState). MergesOn c.args.geo.now 3 TakesGroup (stage (progress_of_deep s) c.args.space.now c.args.filter.now c.args.fences.now (g.D.Disk.state c.args.disk.now))
+    (stage (progress_of_deep (record { writer = c.self.inside.writer; c1x = newer; c2 = older; at = c.self.inside.at })) c.args.space.now c.args.filter.now c.args.fences.now (g.D.Disk.state c.go_above-2.new.disk)) (Ok 0)) c.self.view_is
+    (told_ok
+    (takes_nothing _ _ _ _ ready_newer.1 ready_older.1 (omega (arith, end_left c.self.inside.at newer ready_newer.0 parts.0, end_left c.self.inside.at older ready_older.0 parts.1)))
+    (record {
+      running = record { run = run_read c.go_above-2.ensures.reads.effect (run_read c.go_above.ensures.reads.effect old.running.run); behind = (inl ready_newer.0, (inl ready_older.0, tt)) };
+      fences_fit = omega (arith, ready_newer.1, ready_older.1, old.fences_fit);
+      room = room_less c.args.space.now c.self.inside.writer _ _ (omega (arith, ready_newer.1, ready_older.1)) old.room;
+    })
+    (search rules) (search rules) (search rules) (search rules)
+    (works_more c.args.geo.now c.self.inside.writer.role 2 3 c.args.space.now c.args.space.now (g.D.Disk.state c.args.disk.now) (g.D.Disk.state c.go_above-2.new.disk) (omega arith)
+    (reads_two g (goal.at.returns-in_default-clause-numbers g c).After-go_above-2)) (search rules))
+
 -- ---- a group
 
+-- the merge as its parts have it
+may : (g : _) (c : In-Some g) → MayGoOn c.args.geo.now (stage (progress_of_deep (record { writer = c.self.inside.writer; c1x = c.self.inside.c1x; c2 = c.self.inside.c2; at = c.self.inside.at })) c.args.space.now c.args.filter.now c.args.fences.now (g.D.Disk.state c.args.disk.now))
+may g c = subst (λ (s : DeepState). MayGoOn c.args.geo.now (stage (progress_of_deep s) c.args.space.now c.args.filter.now c.args.fences.now (g.D.Disk.state c.args.disk.now))) (sym c.self.view_is) c.requires.runs
+
+taken : (g : _) (c : In-Some g) → IsTaken c.self.inside.at (from_head c.go_above.new.cursor.head []) (from_head c.go_above-2.new.cursor.head []) c.in-Some.key c.in-Some.rec c.in-Some.weight
+taken g c =
+    group_taken c.a_merge_goes_on.ensures c.go_above.new.cursor c.go_above-2.new.cursor c.self.inside.at c.in-Some.key c.in-Some.rec c.in-Some.weight
+    c.in_ok-go_above.ensures.ready.0 c.in_ok-go_above-2.ensures.ready.0 (sym c.in-Some.ensures.group)
+
+-- it weighs no more than what is gone of what was left
+light : (g : _) (c : In-Some g) → weight c.in-Some.key c.in-Some.rec + (left_in (Some c.in-Some.key) c.go_above.new.cursor + left_in (Some c.in-Some.key) c.go_above-2.new.cursor)
+    ≤ left_in c.self.inside.at c.self.inside.c1x + left_in c.self.inside.at c.self.inside.c2
+light g c = let t = taken g c in omega (arith, t.taken_is, t.newer_left, t.older_left, c.in_ok-go_above.ensures.ready.1, c.in_ok-go_above-2.ensures.ready.1, c.in-Some.ensures.light.1)
+
+read : (g : _) (c : In-Some g) → HasRun c.args.geo.now (g.D.Disk.state c.go_above-2.new.disk).is_honest (g.D.Disk.state c.go_above-2.new.disk).bytes c.args.space.now c.self.inside.writer c.args.filter.now c.args.fences.now c.self.inside.at
+read g c = run_read c.go_above-2.ensures.reads.effect (run_read c.go_above.ensures.reads.effect (may g c).running.run)
+
+rises : (g : _) (c : In-Some g) (any : Rec) → AreRising ((read g c).out ++ (c.in-Some.key, any) ∷ [])
+rises g c any =
+    let run = read g c in
+    rising_more c.self.inside.at run.out c.in-Some.key any (subst AreRising run.pushed.entries_are run.pushed.is_run.rise) run.ends (taken g c).above_at
+
 pub put_settled-requires-clause-room : goal.put_settled-requires-clause-room
-put_settled-requires-clause-room g c =
-    let sizes = c.args.geo.now in
-    let space = c.args.space.now in
-    let before = g.D.Disk.state c.args.disk.now in
-    let old = subst (λ (s : DeepState). MayGoOn sizes before.is_honest before.bytes space s c.args.filter.now c.args.fences.now) (sym c.self.view_is) c.requires.runs in
-    let newer = c.in_ok-go_above.ensures.ready in
-    let older = c.in_ok-go_above-2.ensures.ready in
-    let taken = group_taken c.a_merge_goes_on.ensures c.go_above.new.cursor c.go_above-2.new.cursor c.self.inside.at c.in-Some.key c.in-Some.rec c.in-Some.weight newer.0 older.0 (sym c.in-Some.ensures.group) in
-    room_less space c.self.inside.writer _ _ (omega (arith, taken.taken_is, taken.newer_left, taken.older_left, newer.1, older.1, c.in-Some.ensures.light.1)) old.room
+put_settled-requires-clause-room g c = let arm = (goal.at.put_settled-requires-clause-room g c).In-Some in room_less c.args.space.now c.self.inside.writer _ _ (omega (arith, light g arm)) (may g arm).room
 
 pub put_settled-requires-clause-fences : goal.put_settled-requires-clause-fences
-put_settled-requires-clause-fences g c =
-    let sizes = c.args.geo.now in
-    let space = c.args.space.now in
-    let before = g.D.Disk.state c.args.disk.now in
-    let old = subst (λ (s : DeepState). MayGoOn sizes before.is_honest before.bytes space s c.args.filter.now c.args.fences.now) (sym c.self.view_is) c.requires.runs in
-    let newer = c.in_ok-go_above.ensures.ready in
-    let older = c.in_ok-go_above-2.ensures.ready in
-    let taken = group_taken c.a_merge_goes_on.ensures c.go_above.new.cursor c.go_above-2.new.cursor c.self.inside.at c.in-Some.key c.in-Some.rec c.in-Some.weight newer.0 older.0 (sym c.in-Some.ensures.group) in
-    omega (arith, taken.taken_is, taken.newer_left, taken.older_left, newer.1, older.1, c.in-Some.ensures.light.1, old.fences_fit)
+put_settled-requires-clause-fences g c = let arm = (goal.at.put_settled-requires-clause-fences g c).In-Some in omega (arith, light g arm, (may g arm).fences_fit)
 
 pub put_settled-requires-clause-run : goal.put_settled-requires-clause-run
-put_settled-requires-clause-run g c =
-    let sizes = c.args.geo.now in
-    let space = c.args.space.now in
-    let before = g.D.Disk.state c.args.disk.now in
-    let old = subst (λ (s : DeepState). MayGoOn sizes before.is_honest before.bytes space s c.args.filter.now c.args.fences.now) (sym c.self.view_is) c.requires.runs in
-    let newer = c.in_ok-go_above.ensures.ready in
-    let older = c.in_ok-go_above-2.ensures.ready in
-    let taken = group_taken c.a_merge_goes_on.ensures c.go_above.new.cursor c.go_above-2.new.cursor c.self.inside.at c.in-Some.key c.in-Some.rec c.in-Some.weight newer.0 older.0 (sym c.in-Some.ensures.group) in
-    let mid = g.D.Disk.state c.go_above-2.new.disk in
-    let first = c.go_above.ensures.reads.effect in
-    let second = c.go_above-2.ensures.reads.effect in
-    let writer = c.self.inside.writer in
-    let out = old.running.run.out in
-    let pushed = subst (λ (h : Bool). HasPushed sizes h mid.bytes space writer c.args.filter.now c.args.fences.now out) (sym (second.effect.goes_on.is_honest ∙ first.effect.goes_on.is_honest))
-    (pushed_read sizes before.is_honest before.bytes mid.bytes space writer c.args.filter.now c.args.fences.now out (λ told. only_reads_same second (first.effect.goes_on.is_honest ∙ told) ∙ only_reads_same first told) old.running.run.pushed) in
-    let rise = subst AreRising pushed.entries_are pushed.is_run.rise in
-    (out, pushed, λ any. rising_more c.self.inside.at out c.in-Some.key any rise old.running.run.ends taken.above_at)
+put_settled-requires-clause-run g c = let arm = (goal.at.put_settled-requires-clause-run g c).In-Some in ((read g arm).out, (read g arm).pushed, rises g arm)
 
-pub returns-in_err-put_settled-clause-works : goal.returns-in_err-put_settled-clause-works
-returns-in_err-put_settled-clause-works g c =
-    let role = c.self.inside.writer.role in
-    let before = g.D.Disk.state c.args.disk.now in
-    let first = g.D.Disk.state c.go_above.new.disk in
-    let mid = g.D.Disk.state c.go_above-2.new.disk in
-    let calm_first = c.go_above.ensures.reads.stands (calm_of c.go_above.result c.in_ok-go_above.was) in
-    let calm = c.go_above-2.ensures.reads.stands (calm_of c.go_above-2.result c.in_ok-go_above-2.was) ∙ calm_first in
-    subst (λ (r : ℕ). Works c.args.geo.now r 3 c.args.space.now c.put_settled.new.space before (g.D.Disk.state c.put_settled.new.disk)) (ap (λ (s : DeepState). s.writer.role) c.self.view_is)
-    (works_written c.args.geo.now role 2 c.args.space.now c.put_settled.new.space before mid (g.D.Disk.state c.put_settled.new.disk) c.put_settled.result (g.met.D.Disk.timed c.go_above-2.new.disk) calm
-    (works_reads c.args.geo.now role c.args.space.now before first mid (g.met.D.Disk.timed c.go_above.new.disk) calm_first c.go_above.ensures.reads.effect c.go_above-2.ensures.reads.effect)
-    c.put_settled.ensures.takes c.put_settled.ensures.writes)
+works : (g : _) (c : After-put_settled g) → Works c.args.geo.now c.self.inside.writer.role 2 c.args.space.now c.args.space.now (g.D.Disk.state c.args.disk.now) (g.D.Disk.state c.go_above-2.new.disk)
+    → Works c.args.geo.now c.self.inside.writer.role 3 c.args.space.now c.put_settled.new.space (g.D.Disk.state c.args.disk.now) (g.D.Disk.state c.put_settled.new.disk)
+works g c read =
+    works_written c.args.geo.now c.self.inside.writer.role 2 c.args.space.now c.put_settled.new.space (g.D.Disk.state c.args.disk.now) (g.D.Disk.state c.go_above-2.new.disk) (g.D.Disk.state c.put_settled.new.disk) c.put_settled.result
+    (g.met.D.Disk.timed c.go_above-2.new.disk)
+    (c.go_above-2.ensures.reads.stands (calm_of c.go_above-2.result c.in_ok-go_above-2.was) ∙ c.go_above.ensures.reads.stands (calm_of c.go_above.result c.in_ok-go_above.was))
+    read c.put_settled.ensures.takes c.put_settled.ensures.writes
 
-pub returns-clause-works : goal.returns-clause-works
-returns-clause-works g c =
-    let role = c.self.inside.writer.role in
-    let before = g.D.Disk.state c.args.disk.now in
-    let first = g.D.Disk.state c.go_above.new.disk in
-    let mid = g.D.Disk.state c.go_above-2.new.disk in
-    let calm_first = c.go_above.ensures.reads.stands (calm_of c.go_above.result c.in_ok-go_above.was) in
-    let calm = c.go_above-2.ensures.reads.stands (calm_of c.go_above-2.result c.in_ok-go_above-2.was) ∙ calm_first in
-    subst (λ (r : ℕ). Works c.args.geo.now r 3 c.args.space.now c.put_settled.new.space before (g.D.Disk.state c.put_settled.new.disk)) (ap (λ (s : DeepState). s.writer.role) c.self.view_is)
-    (works_written c.args.geo.now role 2 c.args.space.now c.put_settled.new.space before mid (g.D.Disk.state c.put_settled.new.disk) c.put_settled.result (g.met.D.Disk.timed c.go_above-2.new.disk) calm
-    (works_reads c.args.geo.now role c.args.space.now before first mid (g.met.D.Disk.timed c.go_above.new.disk) calm_first c.go_above.ensures.reads.effect c.go_above-2.ensures.reads.effect)
-    c.put_settled.ensures.takes c.put_settled.ensures.writes)
+pub returns-in_err-put_settled-clause-numbers : goal.returns-in_err-put_settled-clause-numbers
+returns-in_err-put_settled-clause-numbers g c = told_err (err_from_is_err_and c.from_residual-in_err-put_settled.result c.from_residual-in_err-put_settled.ensures.1).1 (search rules) (search rules) (search rules)
+    (subst (λ (r : ℕ). Works c.args.geo.now r 3 c.args.space.now c.put_settled.new.space (g.D.Disk.state c.args.disk.now) (g.D.Disk.state c.put_settled.new.disk)) (ap (λ (s : DeepState). s.writer.role) c.self.view_is) (works g (goal.at.returns-in_err-put_settled-clause-numbers g c).After-put_settled (reads_two g (goal.at.returns-in_err-put_settled-clause-numbers g c).After-go_above-2)))
+    (search rules) (search rules)
 
-pub returns-clause-takes : goal.returns-clause-takes
-returns-clause-takes g c =
-    let newer = c.go_above.new.cursor in
-    let older = c.go_above-2.new.cursor in
-    let key = c.in-Some.key in
-    let rec = c.in-Some.rec in
-    let weighs = c.in-Some.weight in
-    let ready_newer = c.in_ok-go_above.ensures.ready in
-    let ready_older = c.in_ok-go_above-2.ensures.ready in
-    let taken = group_taken c.a_merge_goes_on.ensures newer older c.self.inside.at key rec weighs ready_newer.0 ready_older.0 (sym c.in-Some.ensures.group) in
-    subst (λ (s : DeepState). TakesGroup s (record { writer = c.put_settled.new.writer; c1x = newer; c2 = older; at = Some key }) weighs) c.self.view_is
-    (takes_group c.self.inside.writer c.put_settled.new.writer c.self.inside.c1x newer c.self.inside.c2 older c.self.inside.at key rec weighs ready_newer.1 ready_older.1 taken
-    c.in-Some.ensures.some c.in-Some.ensures.light.0 c.in-Some.ensures.light.1 c.in_ok-put_settled.ensures.light)
-
-pub returns-clause-runs : goal.returns-clause-runs
-returns-clause-runs g c =
-    let sizes = c.args.geo.now in
-    let space = c.args.space.now in
-    let before = g.D.Disk.state c.args.disk.now in
-    let mid = g.D.Disk.state c.go_above-2.new.disk in
-    let newer = c.go_above.new.cursor in
-    let older = c.go_above-2.new.cursor in
-    let writer = c.self.inside.writer in
+pub returns-clause-numbers : goal.returns-clause-numbers
+returns-clause-numbers g c =
+    let arm = (goal.at.returns-clause-numbers g c).In-Some in
     let at = c.self.inside.at in
-    let key = c.in-Some.key in
-    let rec = c.in-Some.rec in
-    let weighs = c.in-Some.weight in
-    let first = c.go_above.ensures.reads.effect in
-    let second = c.go_above-2.ensures.reads.effect in
+    let newer = c.go_above.new.cursor in
+    let older = c.go_above-2.new.cursor in
     let ready_newer = c.in_ok-go_above.ensures.ready in
     let ready_older = c.in_ok-go_above-2.ensures.ready in
-    let old = subst (λ (s : DeepState). MayGoOn sizes before.is_honest before.bytes space s c.args.filter.now c.args.fences.now) (sym c.self.view_is) c.requires.runs in
+    let key = c.in-Some.key in
+    let rec = c.in-Some.rec in
+    let old = may g arm in
+    let run = read g arm in
+    let less = light g arm in
     let group = sym c.in-Some.ensures.group in
-    let taken = group_taken c.a_merge_goes_on.ensures newer older at key rec weighs ready_newer.0 ready_older.0 group in
-    let out = old.running.run.out in
-    let pushed = subst (λ (h : Bool). HasPushed sizes h mid.bytes space writer c.args.filter.now c.args.fences.now out) (sym (second.effect.goes_on.is_honest ∙ first.effect.goes_on.is_honest))
-    (pushed_read sizes before.is_honest before.bytes mid.bytes space writer c.args.filter.now c.args.fences.now out (λ told. only_reads_same second (first.effect.goes_on.is_honest ∙ told) ∙ only_reads_same first told) old.running.run.pushed) in
-    let rise = subst AreRising pushed.entries_are pushed.is_run.rise in
-    let left = left_weight (record { writer = c.put_settled.new.writer; c1x = newer; c2 = older; at = Some key }) in
-    record {
-      running = record {
-        run = record {
-          out = out ++ settled_entries ((key, rec) ∷ []);
-          pushed = c.in_ok-put_settled.ensures.pushed out (λ any. rising_more at out key any rise old.running.run.ends taken.above_at) pushed;
-          ends = ends_settled at out key rec old.running.run.ends taken.above_at;
+    subst (λ (s : DeepState). MergesOn c.args.geo.now 3 TakesGroup (stage (progress_of_deep s) c.args.space.now c.args.filter.now c.args.fences.now (g.D.Disk.state c.args.disk.now))
+    (stage (progress_of_deep (record { writer = c.put_settled.new.writer; c1x = newer; c2 = older; at = Some key })) c.put_settled.new.space c.put_settled.new.filter c.put_settled.new.fences (g.D.Disk.state c.put_settled.new.disk)) (Ok c.in-Some.weight)) c.self.view_is
+    (record {
+      takes =
+          takes_group _ _ (taken g arm) refl (omega (arith, ready_newer.1)) (omega (arith, ready_older.1)) c.in-Some.ensures.some c.in-Some.ensures.light.0
+          (omega (arith, c.in-Some.ensures.light.1, c.in_ok-put_settled.ensures.light));
+      runs = record {
+        running = record {
+          run = record {
+            out = run.out ++ settled_entries ((key, rec) ∷ []);
+            pushed = c.in_ok-put_settled.ensures.pushed run.out (rises g arm) run.pushed;
+            ends = ends_settled at run.out key rec run.ends (taken g arm).above_at;
+          };
+          behind = (
+            behind_group at newer key ready_newer.0 (newer_stays newer.head older.head key rec c.in-Some.weight group),
+            (behind_group at older key ready_older.0 (older_stays newer.head older.head key rec c.in-Some.weight group), tt),
+          );
         };
-        newer = behind_group at newer key ready_newer.0 (newer_stays newer.head older.head key rec weighs group);
-        older = behind_group at older key ready_older.0 (older_stays newer.head older.head key rec weighs group);
+        fences_fit = omega (arith, less, old.fences_fit, c.in_ok-put_settled.ensures.light, c.put_settled.ensures.reserves.fences_are);
+        room = c.in_ok-put_settled.ensures.room _ (room_less c.args.space.now c.self.inside.writer _ _ less old.room);
       };
-      fences_fit = omega (arith, taken.taken_is, taken.newer_left, taken.older_left, ready_newer.1, ready_older.1, c.in-Some.ensures.light.1, old.fences_fit, c.in_ok-put_settled.ensures.light, c.put_settled.ensures.reserves.fences_are);
-      room = c.in_ok-put_settled.ensures.room left
-          (room_less space writer _ _ (omega (arith, taken.taken_is, taken.newer_left, taken.older_left, ready_newer.1, ready_older.1, c.in-Some.ensures.light.1)) old.room);
-    }
+      size = search rules;
+      counted = search rules;
+      counts = search rules;
+      role = search rules;
+      reserves = search rules;
+      works = works g (goal.at.returns-clause-numbers g c).After-put_settled (reads_two g (goal.at.returns-clause-numbers g c).After-go_above-2);
+      damaged = search rules;
+      faults = search rules;
+    })
 
 pub returns-clause-merge : goal.returns-clause-merge
 returns-clause-merge g c = λ news olds upper lower honest merge other.

@@ -1,171 +1,79 @@
-use Rattle.std.proofs.Common.{◌≡◌, ◌∙◌, ◌+◌, ◌/◌, ◌<◌, ℕ, Result, Ok, Err, IsTrue, refl, sym, subst, inl, inr, arith}
-use Rattle.refusal.specs.Count.{HasRisen}
-use Rattle.disk_trait.specs.Effects.{affects_length}
-use Rattle.page_file.specs.declared.file.Broken.{Broken}
-use Rattle.page_file.specs.declared.file.Broken.TheVariants.{Fault}
-use Rattle.page_space.specs.Space.{role_size}
-use Rattle.merge_ends.specs.Quantum.{Works, HasTaken}
-use Rattle.merge_ends.proofs.WorkLemmas.{works_start, works_run, works_counted}
-use Rattle.run_cursor.specs.Cursor.{IsDamageAt}
-use Rattle.snow_merge.specs.Pass.{SnowState, Takes}
-use Rattle.merge_ends.proofs.QuantumLemmas.{has_step, some_weight, no_weight}
-use Rattle.snow_merge.proofs.PassLemmas.{takes_none, takes_run, none_above}
+use Rattle.std.proofs.Common.{◌+◌, ◌/◌, ◌<◌, ℕ, Err, IsTrue, refl, sym, subst, inl, inr, arith}
+use Rattle.merge_ends.specs.Quantum.{HasTaken}
+use Rattle.merge_ends.specs.Progress.{MergesOn, TakesQuantum, stage}
+use Rattle.merge_ends.proofs.QuantumLemmas.{some_weight, no_weight}
+use Rattle.merge_ends.proofs.ProgressLemmas.{merged_start, merged_ok, merged_more, merged_failed, merged_none, lists_more, ok_not_fault, err_not_ok}
+use Rattle.snow_merge.specs.Pass.{SnowState, progress_of_pass}
+use Rattle.snow_merge.proofs.PassLemmas.{none_above}
 use Rattle.snow_merge.proofs.snow.Snow.quantum.Goals as goal
-
-ok_not_fault : (n : ℕ) → ◌≡◌ {A = Result ℕ Broken} (Ok n) (Err Fault) → ⊥
-ok_not_fault n wrong = cc
-
-err_not_ok : (broken : Broken) (n : ℕ) → ◌≡◌ {A = Result ℕ Broken} (Err broken) (Ok n) → ⊥
-err_not_ok broken n wrong = cc
-
-same_weight : (m n : ℕ) → ◌≡◌ {A = Result ℕ Broken} (Ok m) (Ok n) → n ≡ m
-same_weight m n is = cc
 
 pub loop-taken-init : goal.loop-taken-init
 loop-taken-init g c = record {
   quantum = c.quantum-quantum.ensures.value;
-  pages = c.requires.pages;
-  long = c.requires.length;
-  runs = c.requires.runs;
-  takes = takes_none c.args.self.now c.args.a.now.entries;
-  bound = omega arith;
-  size = refl;
-  role = refl;
   calls = omega arith;
-  works = works_start c.args.geo.now c.args.self.now.writer.role (c.args.geo.now.quantum / 7 + 2) c.args.space.now (g.D.Disk.state c.args.disk.now) (g.met.D.Disk.timed c.args.disk.now);
-  counts = record { onward = omega arith; grows = omega arith; calls = omega arith };
-  faults = refl;
-  reserves = record { bits = refl; fences_are = refl; size_is = refl };
+  numbers =
+      merged_start c.args.geo.now (c.args.geo.now.quantum / 7 + 2) (stage (progress_of_pass c.args.self.now c.args.a.now.entries) c.args.space.now c.args.filter.now c.args.fences.now (g.D.Disk.state c.args.disk.now)) (g.met.D.Disk.timed c.args.disk.now)
+      c.requires.pages c.requires.length c.requires.runs;
   pass = λ pages c1 honest pass. (pass, record { taken_is = omega arith; last = inl refl });
 }
 
 -- ---- after a step
 
-pub returns-in-Err-clause-works : goal.returns-in-Err-clause-works
-returns-in-Err-clause-works g c =
+pub returns-in-Err-clause-numbers : goal.returns-in-Err-clause-numbers
+returns-in-Err-clause-numbers g c =
     let inv = c.loop-taken.invariant in
-    let role = c.args.self.now.writer.role in
-    let old = g.D.Disk.state c.args.disk.now in
-    let mid = g.D.Disk.state c.loop-taken.disk in
-    let new = g.D.Disk.state c.step.new.disk in
-    let step = subst (λ (r : ℕ). Works c.args.geo.now r 2 c.loop-taken.space c.step.new.space mid new) inv.role c.step.ensures.works in
-    let least = c.args.geo.now.quantum in
-    works_counted c.args.geo.now role (least / 7 + 2 + 2) (least / 7 + 2) c.args.space.now c.step.new.space old new (omega (arith, inv.calls, step.effect.calls, inv.quantum))
-    (works_run c.args.geo.now role (least / 7 + 2) 2 c.args.space.now c.loop-taken.space c.step.new.space old mid new (g.met.D.Disk.timed c.loop-taken.disk) inv.faults inv.works step)
-
-pub returns-in-Err-clause-damaged : goal.returns-in-Err-clause-damaged
-returns-in-Err-clause-damaged g c = λ n is tells.
-    subst (λ (s : SnowState). IsDamageAt c.args.geo.now s.c1 n (g.D.Disk.state c.step.new.disk).bytes) (sym c.self.view_is)
-    (c.in-Err.ensures.damaged n is (subst IsTrue (sym c.loop-taken.invariant.works.effect.goes_on.tells_bytes) tells))
-
-pub returns-in-Err-clause-faults : goal.returns-in-Err-clause-faults
-returns-in-Err-clause-faults g c =
-    let inv = c.loop-taken.invariant in
-    record {
-      stands = λ other. c.in-Err.ensures.faults.stands other ∙ inv.faults;
-      failed = λ is. subst (λ (n : ℕ). HasRisen n (g.D.Disk.state c.step.new.disk).faults) inv.faults (c.in-Err.ensures.faults.failed is);
-    }
+    let on = c.in-Err.ensures.numbers in
+    subst (λ (s : SnowState). MergesOn c.args.geo.now (c.args.geo.now.quantum / 7 + 2) (TakesQuantum c.args.geo.now.quantum) (stage (progress_of_pass c.args.self.now c.args.a.now.entries) c.args.space.now c.args.filter.now c.args.fences.now (g.D.Disk.state c.args.disk.now)) (stage (progress_of_pass (record s { at = c.cursor-at.result }) c.args.a.now.entries) c.step.new.space c.step.new.filter c.step.new.fences (g.D.Disk.state c.step.new.disk)) (Err c.in-Err.broken))
+    (sym c.self.view_is) (merged_failed inv.numbers (g.met.D.Disk.timed c.loop-taken.disk) (omega (arith, inv.calls, inv.quantum, on.works.effect.calls)) _ _ _ on)
 
 pub returns-in-Err-clause-pass : goal.returns-in-Err-clause-pass
 returns-in-Err-clause-pass g c = λ pages c1 honest pass other.
     let inv = c.loop-taken.invariant in
-    let was = inv.pass pages c1 honest pass in
-    let went = c.in-Err.ensures.pass pages c1 (subst IsTrue (sym inv.works.effect.goes_on.is_honest) honest) was.0 other in
+    let went = c.in-Err.ensures.pass pages c1 (subst IsTrue (sym inv.numbers.works.effect.goes_on.is_honest) honest) (inv.pass pages c1 honest pass).0 other in
     absurd (err_not_ok c.in-Err.broken went.0 went.1)
 
-pub returns-then-weight-eq0-clause-works : goal.returns-then-weight-eq0-clause-works
-returns-then-weight-eq0-clause-works g c =
+pub returns-then-weight-eq0-clause-numbers : goal.returns-then-weight-eq0-clause-numbers
+returns-then-weight-eq0-clause-numbers g c =
     let inv = c.loop-taken.invariant in
-    let role = c.args.self.now.writer.role in
-    let old = g.D.Disk.state c.args.disk.now in
-    let mid = g.D.Disk.state c.loop-taken.disk in
-    let new = g.D.Disk.state c.step.new.disk in
-    let step = subst (λ (r : ℕ). Works c.args.geo.now r 2 c.loop-taken.space c.step.new.space mid new) inv.role c.step.ensures.works in
-    let least = c.args.geo.now.quantum in
-    works_counted c.args.geo.now role (least / 7 + 2 + 2) (least / 7 + 2) c.args.space.now c.step.new.space old new (omega (arith, inv.calls, step.effect.calls, inv.quantum))
-    (works_run c.args.geo.now role (least / 7 + 2) 2 c.args.space.now c.loop-taken.space c.step.new.space old mid new (g.met.D.Disk.timed c.loop-taken.disk) inv.faults inv.works step)
-
-pub returns-then-weight-eq0-clause-faults : goal.returns-then-weight-eq0-clause-faults
-returns-then-weight-eq0-clause-faults g c = record {
-  stands = λ other. c.in-Ok.ensures.faults.stands (ok_not_fault c.in-Ok.weight) ∙ c.loop-taken.invariant.faults;
-  failed = λ wrong. absurd (ok_not_fault c.loop-taken.taken wrong);
-}
-
-pub returns-then-weight-eq0-clause-takes : goal.returns-then-weight-eq0-clause-takes
-returns-then-weight-eq0-clause-takes g c =
-    let inv = c.loop-taken.invariant in
-    let a = c.args.a.now.entries in
-    let none : c.loop-taken.taken + c.in-Ok.weight ≡ c.loop-taken.taken = omega arith in
-    subst (λ (n : ℕ). Takes c.args.self.now c.step.new.self a n) none
-    (takes_run c.args.self.now c.loop-taken.self c.step.new.self a c.loop-taken.taken c.in-Ok.weight inv.takes c.in-Ok.ensures.takes.takes)
-
-pub returns-then-weight-eq0-clause-enough : goal.returns-then-weight-eq0-clause-enough
-returns-then-weight-eq0-clause-enough g c = inr (no_weight c.in-Ok.weight c.in-Ok.ensures.takes.some c.if-weight-eq0.true)
+    let on = c.in-Ok.ensures.numbers in
+    merged_none inv.numbers (g.met.D.Disk.timed c.loop-taken.disk) (omega (arith, inv.calls, inv.quantum, on.works.effect.calls)) (omega (arith, inv.quantum)) c.if-weight-eq0.true on
 
 pub returns-then-weight-eq0-clause-pass : goal.returns-then-weight-eq0-clause-pass
 returns-then-weight-eq0-clause-pass g c = λ pages c1 honest pass other.
     let inv = c.loop-taken.invariant in
-    let a = c.args.a.now.entries in
     let least = c.args.geo.now.quantum in
     let was = inv.pass pages c1 honest pass in
-    let went = c.in-Ok.ensures.pass pages c1 (subst IsTrue (sym inv.works.effect.goes_on.is_honest) honest) was.0 (ok_not_fault c.in-Ok.weight) in
-    let same = same_weight c.in-Ok.weight went.0 went.1 in
-    let none : c.loop-taken.taken + went.0 ≡ c.loop-taken.taken = omega (arith, same) in
-    let few : c.loop-taken.taken < least = omega (arith, inv.quantum) in (
+    let went = lists_more c.a_merge_goes_on.ensures least c.args.self.now.at c.loop-taken.self.at c.step.new.self.at c.args.a.now.entries c1 c.loop-taken.taken c.in-Ok.weight (omega (arith, inv.quantum)) c.weight-weight.ensures.sorted was.0.older.sorted was.1
+    (c.in-Ok.ensures.pass pages c1 (subst IsTrue (sym inv.numbers.works.effect.goes_on.is_honest) honest) was.0 (ok_not_fault c.in-Ok.weight)) in (
       c.loop-taken.taken,
       refl,
-      went.2,
+      went.0,
       record {
-        has_taken = subst (λ (n : ℕ). HasTaken least c.args.self.now.at c.step.new.self.at a c1 n) none
-            (has_step c.a_merge_goes_on.ensures least c.args.self.now.at c.loop-taken.self.at c.step.new.self.at a c1 c.loop-taken.taken went.0 c.weight-weight.ensures.sorted was.0.older.sorted few was.1 went.3);
-        enough = inr (none_above c.args.geo.now (g.D.Disk.state c.step.new.disk).bytes c.step.new.space c.step.new.self c.step.new.filter c.step.new.fences a c1
-            (no_weight c.in-Ok.weight c.in-Ok.ensures.takes.some c.if-weight-eq0.true) went.2);
+        has_taken = subst (λ (n : ℕ). HasTaken least c.args.self.now.at c.step.new.self.at c.args.a.now.entries c1 n) (omega (arith, c.if-weight-eq0.true)) went.1;
+        enough = inr (none_above c.args.geo.now (g.D.Disk.state c.step.new.disk).bytes c.step.new.space c.step.new.self c.step.new.filter c.step.new.fences c.args.a.now.entries c1
+            (no_weight c.in-Ok.weight c.in-Ok.ensures.numbers.takes.some c.if-weight-eq0.true) went.0);
       },
     )
 
 pub loop-taken-preserved : goal.loop-taken-preserved
 loop-taken-preserved g c =
     let inv = c.loop-taken.invariant in
-    let a = c.args.a.now.entries in
-    let sizes = c.args.geo.now in
-    let role = c.args.self.now.writer.role in
-    let old = g.D.Disk.state c.args.disk.now in
-    let mid = g.D.Disk.state c.loop-taken.disk in
-    let new = g.D.Disk.state c.step.new.disk in
-    let step = subst (λ (r : ℕ). Works sizes r 2 c.loop-taken.space c.step.new.space mid new) inv.role c.step.ensures.works in
-    let size = subst (λ (r : ℕ). role_size c.step.new.space r + c.loop-taken.self.writer.component.pages ≡ role_size c.loop-taken.space r + c.step.new.self.writer.component.pages) inv.role c.in-Ok.ensures.size in
-    let least = sizes.quantum in
-    let counted = c.in-Ok.ensures.counted in
-    let group = c.in-Ok.ensures.takes in
-    let some = some_weight c.in-Ok.weight group.some c.if-weight-eq0.false in
-    let few : c.loop-taken.taken < least = omega (arith, inv.quantum) in
+    let on = c.in-Ok.ensures.numbers in
+    let few : c.loop-taken.taken < c.args.geo.now.quantum = omega (arith, inv.quantum) in
     record {
       quantum = inv.quantum;
-      pages = step.takes.pages ∙ inv.pages;
-      long = λ tells. let told = subst IsTrue step.effect.goes_on.tells_bytes tells in affects_length step.effect told (inv.long told);
-      runs = c.in-Ok.ensures.runs;
-      takes = takes_run c.args.self.now c.loop-taken.self c.step.new.self a c.loop-taken.taken c.in-Ok.weight inv.takes group.takes;
-      bound = omega (arith, few, group.light);
-      size = omega (arith, inv.size, size);
-      role = c.step.ensures.role ∙ inv.role;
-      calls = omega (arith, inv.calls, step.effect.calls, some);
-      works = works_counted sizes role (least / 7 + 2 + 2) (least / 7 + 2) c.args.space.now c.step.new.space old new (omega (arith, inv.calls, step.effect.calls, few))
-          (works_run sizes role (least / 7 + 2) 2 c.args.space.now c.loop-taken.space c.step.new.space old mid new (g.met.D.Disk.timed c.loop-taken.disk) inv.faults inv.works step);
-      counts = record {
-        onward = omega (arith, inv.counts.onward, counted.onward);
-        grows = omega (arith, inv.counts.grows, counted.grows);
-        calls = omega (arith, inv.counts.calls, counted.calls, inv.counts.onward, counted.onward, inv.counts.grows, counted.grows);
-      };
-      faults = c.in-Ok.ensures.faults.stands (ok_not_fault c.in-Ok.weight) ∙ inv.faults;
-      reserves = record { bits = c.step.ensures.reserves.bits ∙ inv.reserves.bits; fences_are = c.step.ensures.reserves.fences_are ∙ inv.reserves.fences_are; size_is = c.step.ensures.reserves.size_is ∙ inv.reserves.size_is };
+      calls = omega (arith, inv.calls, on.works.effect.calls, some_weight c.in-Ok.weight on.takes.some c.if-weight-eq0.false);
+      numbers = merged_more inv.numbers (g.met.D.Disk.timed c.loop-taken.disk) (omega (arith, inv.calls, inv.quantum, on.works.effect.calls)) few on;
       pass = λ pages c1 honest pass.
           let was = inv.pass pages c1 honest pass in
-          let went = c.in-Ok.ensures.pass pages c1 (subst IsTrue (sym inv.works.effect.goes_on.is_honest) honest) was.0 (ok_not_fault c.in-Ok.weight) in (
-            went.2,
-            subst (λ (n : ℕ). HasTaken least c.args.self.now.at c.step.new.self.at a c1 (c.loop-taken.taken + n)) (same_weight c.in-Ok.weight went.0 went.1)
-                (has_step c.a_merge_goes_on.ensures least c.args.self.now.at c.loop-taken.self.at c.step.new.self.at a c1 c.loop-taken.taken went.0 c.weight-weight.ensures.sorted was.0.older.sorted few was.1 went.3),
-          );
+          lists_more c.a_merge_goes_on.ensures c.args.geo.now.quantum c.args.self.now.at c.loop-taken.self.at c.step.new.self.at c.args.a.now.entries c1 c.loop-taken.taken c.in-Ok.weight few c.weight-weight.ensures.sorted was.0.older.sorted was.1
+          (c.in-Ok.ensures.pass pages c1 (subst IsTrue (sym inv.numbers.works.effect.goes_on.is_honest) honest) was.0 (ok_not_fault c.in-Ok.weight));
     }
+
+-- ---- enough is taken
+
+pub returns-clause-numbers : goal.returns-clause-numbers
+returns-clause-numbers g c = merged_ok c.loop-taken.invariant.numbers (inl (omega (arith, c.loop-taken.invariant.quantum)))
 
 pub returns-clause-pass : goal.returns-clause-pass
 returns-clause-pass g c = λ pages c1 honest pass other.

@@ -1,28 +1,16 @@
-use Rattle.std.proofs.Common.{◌-◌, ◌≡◌, ◌+◌, ◌*◌, ◌/◌, ◌≤◌, length, IsTrue, List, ℕ}
-use Rattle.blsm_model.specs.Format.{most_weight}
-use Rattle.blsm_model.specs.Geometry.{page_count, file_length}
-use Rattle.bloom_bits.specs.Guides.{KeepReserves}
+use Rattle.std.proofs.Common.{◌-◌, ◌≡◌, ◌+◌, ◌/◌, ◌≤◌, IsTrue, List, ℕ}
 use Rattle.record_delta.specs.Entries.{Entries}
-use Rattle.page_space.specs.Space.{role_size}
-use Rattle.merge_ends.specs.Quantum.{HasTaken, Works, Counts}
-use Rattle.snow_merge.specs.Pass.{IsPass, Takes, MayGoOn}
+use Rattle.merge_ends.specs.Quantum.{HasTaken}
+use Rattle.merge_ends.specs.Progress.{stage}
+use Rattle.merge_ends.proofs.ProgressLemmas.{HasMerged}
+use Rattle.snow_merge.specs.Pass.{IsPass, progress_of_pass}
 use Rattle.snow_merge.proofs.snow.Snow.quantum.Given as goal
 
 abbrev pub invariant-loop-taken : goal.invariant-loop-taken
 invariant-loop-taken g l = record {
   quantum : l.quantum ≡ l.geo.quantum;
-  pages : l.space.pages ≡ page_count l.geo;
-  long : IsTrue (g.D.Disk.state l.disk).tells_bytes → length (g.D.Disk.state l.disk).bytes ≡ file_length l.geo;
-  runs : MayGoOn l.geo (g.D.Disk.state l.disk).is_honest (g.D.Disk.state l.disk).bytes l.space l.self l.filter l.fences l.a.entries;
-  takes : Takes l.fn.self l.self l.a.entries l.taken;
-  bound : l.taken + 1 ≤ l.geo.quantum + 2 * most_weight;
-  size : role_size l.space l.fn.self.writer.role + l.fn.self.writer.component.pages ≡ role_size l.fn.space l.fn.self.writer.role + l.self.writer.component.pages;
-  role : l.self.writer.role ≡ l.fn.self.writer.role;
   calls : (g.D.Disk.state l.disk).clock ≤ (g.D.Disk.state l.fn.disk).clock + l.taken / 7;
-  works : Works l.geo l.fn.self.writer.role (l.geo.quantum / 7 + 2) l.fn.space l.space (g.D.Disk.state l.fn.disk) (g.D.Disk.state l.disk);
-  counts : Counts 0 l.fn.self.c1.pages l.self.c1.pages l.fn.self.writer.component.pages l.self.writer.component.pages (g.D.Disk.state l.fn.disk) (g.D.Disk.state l.disk);
-  faults : (g.D.Disk.state l.disk).faults ≡ (g.D.Disk.state l.fn.disk).faults;
-  reserves : KeepReserves l.fn.filter l.filter l.fn.fences l.fences;
+  numbers : HasMerged l.geo (l.geo.quantum / 7 + 2) (stage (progress_of_pass l.fn.self l.a.entries) l.fn.space l.fn.filter l.fn.fences (g.D.Disk.state l.fn.disk)) (stage (progress_of_pass l.self l.a.entries) l.space l.filter l.fences (g.D.Disk.state l.disk)) l.taken;
   pass : (pages : List ℕ) (c1 : Entries) → IsTrue (g.D.Disk.state l.fn.disk).is_honest → IsPass l.geo (g.D.Disk.state l.fn.disk).bytes l.fn.space l.fn.self l.fn.filter l.fn.fences pages l.a.entries c1
       → IsPass l.geo (g.D.Disk.state l.disk).bytes l.space l.self l.filter l.fences pages l.a.entries c1 × HasTaken l.geo.quantum l.fn.self.at l.self.at l.a.entries c1 l.taken;
 }

@@ -1,4 +1,4 @@
-use Rattle.std.proofs.Common.{◌≡◌, ◌∙◌, ℕ, Option, Some, ap, sym, subst}
+use Rattle.std.proofs.Common.{◌≡◌, ◌∙◌, ◌∷◌, [], ℕ, Option, Some, ap, sym, subst}
 use Rattle.std.specs.Prelude.{IfOk}
 use Rattle.std.specs.List.{Contains}
 use Rattle.blsm_model.specs.Geometry.{page_count, file_length}
@@ -8,7 +8,8 @@ use Rattle.page_space.specs.Space.{HasRole}
 use Rattle.page_file.specs.Component.{HasList, entries_of, numbers_of}
 use Rattle.page_file.specs.File.{Writes}
 use Rattle.run_writer.specs.Writer.{IsInside, role_region}
-use Rattle.deep_merge.specs.Merge.{DeepState, IsMerge, IsRunning}
+use Rattle.deep_merge.specs.Merge.{DeepState, IsMerge}
+use Rattle.merge_ends.specs.Progress.{IsRunning}
 use Rattle.tree_runs.specs.declared.runs.Merges.{Merges}
 use Rattle.tree_runs.specs.Runs.{RunsState, DeepRuns, DeepHasTag, fences_of_tag, filter_of, guide_at}
 use Rattle.tree_runs.specs.Holding.{AreTagged, IsDeepOver}
@@ -45,6 +46,6 @@ returns-clause-writes g c =
     let is : now.deep ≡ Some c.in-Some.deep = sym (ap (λ (s : RunsState). s.deep) c.self.view_is) ∙ sym (ap (λ (m : Merges). m.deep) c.deref_mut-merges.ensures.value) ∙ c.in-Some.is in
     let role = subst (λ (o : Option DeepState). DeepHasTag now.tags.deep o) is c.requires.running.in_order.deep_tag in
     let runs = subst (λ (o : Option DeepState). DeepRuns now.sizes old.is_honest old.bytes now.space (guide_at now.guides now.tags.deep) o) is c.requires.running.deep in
-    let here = subst (λ (s : RunsState). IsRunning s.sizes old.is_honest old.bytes now.space c.in-Some.deep (filter_of now now.tags.deep) (fences_of_tag now now.tags.deep)) (sym c.self.view_is) runs in
+    let here = subst (λ (s : RunsState). IsRunning s.sizes old.is_honest old.bytes now.space c.in-Some.deep.writer c.in-Some.deep.at (c.in-Some.deep.c1x ∷ c.in-Some.deep.c2 ∷ []) (filter_of now now.tags.deep) (fences_of_tag now now.tags.deep)) (sym c.self.view_is) runs in
     subst (λ (s : RunsState). Writes (role_region s.sizes now.space now.tags.deep) (file_length s.sizes) c.finish.result old new) c.self.view_is
     (subst (λ (r : ℕ). Writes (role_region c.self.inside.geometry now.space r) (file_length c.self.inside.geometry) c.finish.result old new) role (c.finish.ensures.writes now.space (filter_of now now.tags.deep) (fences_of_tag now now.tags.deep) here))

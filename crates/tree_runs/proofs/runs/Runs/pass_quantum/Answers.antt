@@ -1,18 +1,17 @@
-use Rattle.std.proofs.Common.{rules, ◌≡◌, ◌∙◌, ◌/◌, ◌+◌, ◌<◌, ℕ, Option, Some, OnOk, length, ap, sym, subst, refl, arith}
+use Rattle.std.proofs.Common.{rules, ◌≡◌, ◌/◌, ◌+◌, Option, Some, OnOk, sym, subst, refl, arith}
 use Rattle.std.specs.Prelude.{List, slice_set}
-use Rattle.std.proofs.lemmas.List.{get_or_read}
 use Rattle.disk_trait.specs.Effects.{affects_wider}
 use Rattle.blsm_model.specs.Sizes.{Sizes}
 use Rattle.blsm_model.specs.Geometry.{capacity}
 use Rattle.page_space.specs.Space.{SpaceState}
-use Rattle.run_cursor.specs.Cursor.{IsDamageAt}
 use Rattle.merge_ends.specs.Quantum.{Works}
-use Rattle.snow_merge.specs.Pass.{SnowState, MayGoOn, left_weight}
+use Rattle.merge_ends.specs.Progress.{MayGoOn, stage}
+use Rattle.snow_merge.specs.Pass.{SnowState, progress_of_pass}
 use Rattle.scan_view.proofs.StayLemmas.{writes_beside}
-use Rattle.tree_runs.specs.Runs.{GuideState, RunsState, AreRunning, PassRuns, guide_at, no_guide}
+use Rattle.tree_runs.specs.Runs.{GuideState, RunsState, AreRunning, PassRuns, guide_at, left_for_pass}
 use Rattle.tree_runs.specs.Damage.{PassMeetsDamage}
 use Rattle.tree_runs.specs.Holding.{StandOver}
-use Rattle.tree_runs.proofs.GuideLemmas.{WritesGuide, pages_within, writes_guide}
+use Rattle.tree_runs.proofs.GuideLemmas.{WritesGuide, guide_named, pages_within, writes_guide}
 use Rattle.tree_runs.proofs.QuantumLemmas.{PassQuantum, pass_has_room, pass_light, passed_is, pass_ran, pass_stands, pass_works, tree_stays, pass_is_run}
 use Rattle.tree_runs.proofs.runs.Runs.pass_quantum.Goals as goal
 use Rattle.tree_runs.proofs.runs.Runs.pass_quantum.Goals.{After-pages-pages}
@@ -25,22 +24,17 @@ quantum-taken-requires-clause-runs g c =
     let d = g.D.Disk.state c.args.disk.now in
     let order = c.requires.running.in_order in
     let merge_is : now.pass ≡ Some c.in-Some.snow = search rules in
-    let items = c.self.inside.guides.items in
-    let had : items ≡ now.guides = search rules in
+    let had : c.self.inside.guides.items ≡ now.guides = search rules in
     let number : c.number.result ≡ now.tags.pass = search rules in
-    let there : c.number.result < length items = omega (arith, order.guides.five, ap (λ (gs : List GuideState). length gs) had, c.number.ensures.in_range) in
-    let was = c.guide.view_is
-    ∙ get_or_read items c.number.result c.index_mut-guide.result.now there c.index_mut-guide.ensures.value no_guide
-    ∙ ap (λ (gs : List GuideState). guide_at gs c.number.result) had
-    ∙ ap (λ (n : ℕ). guide_at now.guides n) number in
+    let was = guide_named order.guides had number c.number.ensures.in_range c.guide.view_is c.index_mut-guide.ensures.value in
     let running = subst (λ (o : Option SnowState). PassRuns now.sizes d.is_honest d.bytes now.space (guide_at now.guides now.tags.pass) o) merge_is c.requires.running.pass in
     let sizes : c.self.inside.geometry ≡ now.sizes = search rules in
     let space : c.self.inside.space ≡ now.space = search rules in
     let room = pass_has_room now c.in-Some.snow c.args.a.now.entries merge_is order c.requires.fits in
-    let fits = pages_within (c.in-Some.snow.writer.component.weight + left_weight c.in-Some.snow c.args.a.now.entries) (capacity now.sizes) (pass_light now c.in-Some.snow c.args.a.now.entries merge_is c.requires.fits) in
-    subst (λ (r : GuideState). MayGoOn c.self.inside.geometry d.is_honest d.bytes c.self.inside.space c.in-Some.snow r.filter r.fences c.args.a.now.entries) (sym was)
-    (subst (λ (s : Sizes). MayGoOn s d.is_honest d.bytes c.self.inside.space c.in-Some.snow (guide_at now.guides now.tags.pass).filter (guide_at now.guides now.tags.pass).fences c.args.a.now.entries) (sym sizes)
-    (subst (λ (s : SpaceState). MayGoOn now.sizes d.is_honest d.bytes s c.in-Some.snow (guide_at now.guides now.tags.pass).filter (guide_at now.guides now.tags.pass).fences c.args.a.now.entries) (sym space)
+    let fits = pages_within (c.in-Some.snow.writer.component.weight + left_for_pass (Some c.in-Some.snow) c.args.a.now.entries) (capacity now.sizes) (pass_light now c.in-Some.snow c.args.a.now.entries merge_is c.requires.fits) in
+    subst (λ (r : GuideState). MayGoOn c.self.inside.geometry (stage (progress_of_pass c.in-Some.snow c.args.a.now.entries) c.self.inside.space r.filter r.fences d)) (sym was)
+    (subst (λ (s : Sizes). MayGoOn s (stage (progress_of_pass c.in-Some.snow c.args.a.now.entries) c.self.inside.space (guide_at now.guides now.tags.pass).filter (guide_at now.guides now.tags.pass).fences d)) (sym sizes)
+    (subst (λ (s : SpaceState). MayGoOn now.sizes (stage (progress_of_pass c.in-Some.snow c.args.a.now.entries) s (guide_at now.guides now.tags.pass).filter (guide_at now.guides now.tags.pass).fences d)) (sym space)
     (record { running = running; fences_fit = omega (arith, fits, (order.guides.each now.tags.pass order.tags.pass_below).pages); room = room })))
 
 -- ---- what it ends with
@@ -50,14 +44,9 @@ pass_is g c = search rules
 
 guide_was : (g : _) (c : After-pages-pages g) → ◌≡◌ {A = GuideState} (record { filter = c.guide.inside.filter; fences = c.guide.inside.fences }) (guide_at c.args.self.now.guides c.args.self.now.tags.pass)
 guide_was g c =
-    let items = c.self.inside.guides.items in
-    let had : items ≡ c.args.self.now.guides = search rules in
+    let had : c.self.inside.guides.items ≡ c.args.self.now.guides = search rules in
     let number : c.number.result ≡ c.args.self.now.tags.pass = search rules in
-    let there : c.number.result < length items = omega (arith, c.requires.running.in_order.guides.five, ap (λ (gs : List GuideState). length gs) had, c.number.ensures.in_range) in
-    c.guide.view_is
-    ∙ get_or_read items c.number.result c.index_mut-guide.result.now there c.index_mut-guide.ensures.value no_guide
-    ∙ ap (λ (gs : List GuideState). guide_at gs c.number.result) had
-    ∙ ap (λ (n : ℕ). guide_at c.args.self.now.guides n) number
+    guide_named c.requires.running.in_order.guides had number c.number.ensures.in_range c.guide.view_is c.index_mut-guide.ensures.value
 
 abbrev guide_after : (g : _) (c : After-pages-pages g) → GuideState
 guide_after g c = record { filter = c.quantum-taken.new.filter; fences = c.quantum-taken.new.fences }
@@ -67,16 +56,10 @@ guides_after g c = slice_set c.self.inside.guides.items c.number.result (guide_a
 
 writes : (g : _) (c : After-pages-pages g) → WritesGuide c.args.self.now.sizes c.args.self.now.tags.pass c.args.self.now.guides (guides_after g c) (guide_after g c)
 writes g c =
-    let now = c.args.self.now in
-    let items = c.self.inside.guides.items in
-    let had : items ≡ now.guides = search rules in
-    let number : c.number.result ≡ now.tags.pass = search rules in
-    let order = c.requires.running.in_order in
-    subst (λ (n : ℕ). WritesGuide now.sizes now.tags.pass now.guides (slice_set items n (guide_after g c)) (guide_after g c)) (sym number)
-    (subst (λ (gs : List GuideState). WritesGuide now.sizes now.tags.pass now.guides (slice_set gs now.tags.pass (guide_after g c)) (guide_after g c)) (sym had)
-    (writes_guide now.sizes now.tags.pass now.guides (guide_after g c) order.guides order.tags.pass_below
-    (c.quantum-taken.ensures.reserves.bits ∙ ap (λ (r : GuideState). r.filter.reserved) (guide_was g c))
-    (c.quantum-taken.ensures.reserves.fences_are ∙ ap (λ (r : GuideState). r.fences.reserved) (guide_was g c))))
+    let had : c.self.inside.guides.items ≡ c.args.self.now.guides = search rules in
+    let number : c.number.result ≡ c.args.self.now.tags.pass = search rules in
+    let kept = c.quantum-taken.ensures.numbers.reserves in
+    writes_guide c.requires.running.in_order.guides had number c.number.ensures.in_range (guide_after g c) (guide_was g c) kept.bits kept.fences_are
 
 quantum_is : (g : _) (c : After-pages-pages g) → PassQuantum c.args.self.now.sizes c.args.self.now.space c.quantum-taken.new.space (guide_at c.args.self.now.guides c.args.self.now.tags.pass) (guide_after g c)
     c.in-Some.snow c.quantum-taken.new.self c.args.a.now.entries c.quantum-taken.result (g.D.Disk.state c.args.disk.now) (g.D.Disk.state c.quantum-taken.new.disk)
@@ -91,10 +74,7 @@ quantum_is g c =
     (subst (λ (s : SpaceState). PassQuantum c.self.inside.geometry s c.quantum-taken.new.space (record { filter = c.guide.inside.filter; fences = c.guide.inside.fences }) (guide_after g c) c.in-Some.snow c.quantum-taken.new.self c.args.a.now.entries c.quantum-taken.result old new) space
     (record {
       took = c.quantum-taken.ensures.pass;
-      runs = c.quantum-taken.ensures.runs;
-      size = c.quantum-taken.ensures.size;
-      role = c.quantum-taken.ensures.role;
-      works = c.quantum-taken.ensures.works;
+      on = c.quantum-taken.ensures.numbers;
     })))
 
 works_are : (g : _) (c : After-pages-pages g) → Works c.args.self.now.sizes c.args.self.now.tags.pass (c.args.self.now.sizes.quantum / 7 + 2) c.args.self.now.space c.quantum-taken.new.space
@@ -107,46 +87,32 @@ works_are g c =
 pub returns-clause-others : goal.returns-clause-others
 returns-clause-others g c = record { sizes = search rules; catalogue = search rules; tags = search rules; deep = search rules; takes = (works_are g c).takes; guides = (writes g c).others }
 
-pub returns-clause-effect : goal.returns-clause-effect
-returns-clause-effect g c =
-    let runs = c.args.self.now in
-    let works = works_are g c in
-    affects_wider (writes_beside runs.sizes runs.space c.quantum-taken.new.space runs.tags.pass works.takes c.requires.running.in_order.pass_unpinned) (omega arith) (omega arith) works.effect
-
-pub returns-clause-stands : goal.returns-clause-stands
-returns-clause-stands g c = λ tree honest stand.
+pub returns-clause-told : goal.returns-clause-told
+returns-clause-told g c =
     let runs = c.args.self.now in
     let are = c.requires.running.in_order in
+    let a = c.args.a.now.entries in
     let old = g.D.Disk.state c.args.disk.now in
     let new = g.D.Disk.state c.quantum-taken.new.disk in
+    let after = c.quantum-taken.new.space in
+    let next = c.quantum-taken.new.self in
+    let timed = g.met.D.Disk.timed c.quantum-taken.new.disk in
     let works = works_are g c in
-    tree_stays runs tree c.args.a.now.entries runs.tags.pass (runs.sizes.quantum / 7 + 2) c.quantum-taken.new.space old new are (pass_is_run runs are) c.pages-pages.ensures.shape works
-    honest (g.met.D.Disk.timed c.quantum-taken.new.disk) stand
-
-pub returns-clause-lists : goal.returns-clause-lists
-returns-clause-lists g c = λ tree honest stand other.
-    let runs = c.args.self.now in
-    let old = g.D.Disk.state c.args.disk.now in
-    let new = g.D.Disk.state c.quantum-taken.new.disk in
-    let is_new = passed_is c.quantum-taken.new.space (guides_after g c) c.quantum-taken.new.self (returns-clause-others g c) refl refl refl in
-    let stands = pass_stands c.where_a_run_writes.ensures.pushed c.what_is_ahead.ensures runs c.quantum-taken.new.space (guides_after g c) (guide_after g c) c.in-Some.snow c.quantum-taken.new.self c.args.a.now.entries
-    c.quantum-taken.result old new (pass_is g c) c.requires.running.in_order c.pages-pages.ensures.shape (writes g c) (quantum_is g c) (g.met.D.Disk.timed c.quantum-taken.new.disk) tree honest stand other in
-    (stands.0, stands.1, subst (λ (r : RunsState). StandOver r tree c.args.a.now.entries new) (sym is_new) stands.2, stands.3)
-
-pub returns-clause-running : goal.returns-clause-running
-returns-clause-running g c =
-    let runs = c.args.self.now in
-    let old = g.D.Disk.state c.args.disk.now in
-    let new = g.D.Disk.state c.quantum-taken.new.disk in
-    let is_new = passed_is c.quantum-taken.new.space (guides_after g c) c.quantum-taken.new.self (returns-clause-others g c) refl refl refl in
-    subst (λ (r : RunsState). OnOk c.quantum-taken.result (AreRunning new.is_honest new.bytes r)) (sym is_new)
-    (pass_ran c.where_a_run_writes.ensures.pushed runs c.quantum-taken.new.space (guides_after g c) (guide_after g c) c.in-Some.snow c.quantum-taken.new.self c.args.a.now.entries
-    c.quantum-taken.result old new (pass_is g c) c.requires.running c.pages-pages.ensures.shape (writes g c) (quantum_is g c))
-
-pub returns-clause-damaged : goal.returns-clause-damaged
-returns-clause-damaged g c = λ n is tells.
-    let file = (g.D.Disk.state c.quantum-taken.new.disk).bytes in
-    let sizes : c.self.inside.geometry ≡ c.args.self.now.sizes = search rules in
-    let is_new = passed_is c.quantum-taken.new.space (guides_after g c) c.quantum-taken.new.self (returns-clause-others g c) refl refl refl in
-    subst (λ (r : RunsState). PassMeetsDamage r.sizes r.pass n file) (sym is_new)
-    (subst (λ (s : Sizes). IsDamageAt s c.quantum-taken.new.self.c1 n file) sizes (c.quantum-taken.ensures.damaged n is tells))
+    let sizes : c.self.inside.geometry ≡ runs.sizes = search rules in
+    let is_new = passed_is after (guides_after g c) next (returns-clause-others g c) refl refl refl in
+    record {
+      stands = λ tree honest stand. tree_stays runs tree a runs.tags.pass (runs.sizes.quantum / 7 + 2) after old new are (pass_is_run runs are) c.pages-pages.ensures.shape works honest timed stand;
+      lists = λ tree honest stand other.
+          let stands = pass_stands c.where_a_run_writes.ensures.pushed c.what_is_ahead.ensures runs after (guides_after g c) (guide_after g c) c.in-Some.snow next a
+          c.quantum-taken.result old new (pass_is g c) are c.pages-pages.ensures.shape (writes g c) (quantum_is g c) timed tree honest stand other in
+          (stands.0, stands.1, subst (λ (r : RunsState). StandOver r tree a new) (sym is_new) stands.2, stands.3);
+      running =
+          subst (λ (r : RunsState). OnOk c.quantum-taken.result (AreRunning new.is_honest new.bytes r)) (sym is_new)
+          (pass_ran c.where_a_run_writes.ensures.pushed runs after (guides_after g c) (guide_after g c) c.in-Some.snow next a
+          c.quantum-taken.result old new (pass_is g c) c.requires.running c.pages-pages.ensures.shape (writes g c) (quantum_is g c));
+      damaged = λ n is tells.
+          subst (λ (r : RunsState). PassMeetsDamage r.sizes r.pass n new.bytes) (sym is_new)
+          (subst (λ (s : Sizes). PassMeetsDamage s (Some next) n new.bytes) sizes (c.quantum-taken.ensures.numbers.damaged n is tells));
+      effect = affects_wider (writes_beside runs.sizes runs.space after runs.tags.pass works.takes are.pass_unpinned) (omega arith) (omega arith) works.effect;
+      faults = c.quantum-taken.ensures.numbers.faults;
+    }
