@@ -35,7 +35,7 @@ pass_quantum_lands quanta_agree seat n old new tree m file after at sound sizes 
         → n ≡ (quantum_of m.gears.sizes.quantum pass m.lists.a m.lists.c1).weight → HoldsMachine new tree (pass_quantum_of (Some pass) seat m)
     moved pass snow next is comes weighs = grind (arith, common_steps, nat_tests)
 
-    by : (p : Option Merge) (o q : Option SnowState) → new.runs.pass ≡ q → IsPassAt p o → PassTakes o q old.log.a.entries n → PassTook old.runs.sizes.quantum o q old.log.a.entries (entries_of tree.c1) n
+    by : (p : Option Merge) (o q : Option SnowState) → new.runs.pass ≡ q → IsPassAt p o → PassTakes old.runs.sizes.quantum o q old.log.a.entries n → PassTook old.runs.sizes.quantum o q old.log.a.entries (entries_of tree.c1) n
         → HoldsMachine new tree (pass_quantum_of p seat m)
     by None None None is comes takes took = absurd takes
     by None None (Some next) is comes takes took = absurd takes
@@ -45,7 +45,7 @@ pass_quantum_lands quanta_agree seat n old new tree m file after at sound sizes 
     by (Some pass) None (Some next) is comes takes took = absurd comes
     by (Some pass) (Some snow) None is comes takes took = absurd takes
     by (Some pass) (Some snow) (Some next) is comes takes took =
-        let onward : IsOnward pass.cursor next.at = λ (key : Key) past. subst (λ (k : Option Key). is_above k key ≡ true) (sym comes) (takes.onward key past) in
+        let onward : IsOnward pass.cursor next.at = λ (key : Key) past. subst (λ (k : Option Key). is_above k key ≡ true) (sym comes) (takes.takes.onward key past) in
         let agree = quanta_agree m.gears.sizes.quantum pass next.at m.lists.a m.lists.c1 n (subst (λ (k : ℕ). 0 < k) least_is positive) sound.layered.sorted_a sound.layered.sorted_c1 onward
         (same_quantum old.runs.sizes.quantum m.gears.sizes.quantum snow.at pass.cursor next.at old.log.a.entries m.lists.a (entries_of tree.c1) m.lists.c1 n
         least_is (sym comes) (sym (table_a old tree m file at)) (sym (list_c1 old tree m file at)) took) in
@@ -62,7 +62,7 @@ deep_quantum_lands quanta_agree seat n old new tree m file after at sound sizes 
         → n ≡ (quantum_of m.gears.sizes.quantum deep m.lists.c1x m.lists.c2).weight → HoldsMachine new tree (deep_quantum_of (Some deep) seat m)
     moved deep merge next is comes weighs = grind (arith, common_steps, nat_tests)
 
-    by : (p : Option Merge) (o q : Option DeepState) → new.runs.deep ≡ q → IsDeepAt p o → DeepTakes o q n → DeepTook old.runs.sizes.quantum o q (entries_of tree.c1x) (entries_of tree.c2) n
+    by : (p : Option Merge) (o q : Option DeepState) → new.runs.deep ≡ q → IsDeepAt p o → DeepTakes old.runs.sizes.quantum o q n → DeepTook old.runs.sizes.quantum o q (entries_of tree.c1x) (entries_of tree.c2) n
         → HoldsMachine new tree (deep_quantum_of p seat m)
     by None None None is comes takes took = absurd takes
     by None None (Some next) is comes takes took = absurd takes
@@ -72,7 +72,7 @@ deep_quantum_lands quanta_agree seat n old new tree m file after at sound sizes 
     by (Some deep) None (Some next) is comes takes took = absurd comes
     by (Some deep) (Some merge) None is comes takes took = absurd takes
     by (Some deep) (Some merge) (Some next) is comes takes took =
-        let onward : IsOnward deep.cursor next.at = λ (key : Key) past. subst (λ (k : Option Key). is_above k key ≡ true) (sym comes) (takes.onward key past) in
+        let onward : IsOnward deep.cursor next.at = λ (key : Key) past. subst (λ (k : Option Key). is_above k key ≡ true) (sym comes) (takes.takes.onward key past) in
         let agree = quanta_agree m.gears.sizes.quantum deep next.at m.lists.c1x m.lists.c2 n (subst (λ (k : ℕ). 0 < k) least_is positive) sound.layered.sorted_c1x sound.layered.sorted_c2 onward
         (same_quantum old.runs.sizes.quantum m.gears.sizes.quantum merge.at deep.cursor next.at (entries_of tree.c1x) m.lists.c1x (entries_of tree.c2) m.lists.c2 n
         least_is (sym comes) (sym (list_c1x old tree m file at)) (sym (list_c2 old tree m file at)) took) in

@@ -1,8 +1,9 @@
 -- Quanta have the pace that the pacing makes of them.
-use Rattle.std.proofs.Common.{◌≡◌, ◌⊎◌, ⊎_elim, inl, inr, ℕ, ◌+◌, ◌<◌, ◌≤◌, true, Option, refl, ap, sym, subst, arith}
+use Rattle.std.proofs.Common.{◌≡◌, ◌⊎◌, ⊎_elim, inl, inr, ℕ, ◌+◌, ◌*◌, ◌<◌, ◌≤◌, true, Option, refl, ap, sym, subst, arith}
 use Rattle.std.proofs.lemmas.Grind.{common_steps}
 use Rattle.std.proofs.lemmas.Bool.Decides.{nat_tests}
 use Rattle.std.specs.Prelude.{is_some}
+use Rattle.blsm_model.specs.Format.{most_weight}
 use Rattle.blsm_model.specs.Sizes.{Sizes}
 use Rattle.record_delta.specs.Entries.{Entries}
 use Rattle.pacing.specs.Pace.{with_snow, with_deep}
@@ -14,7 +15,7 @@ use Rattle.core_pace.specs.Pacing.{HasPace, HasTaken, table_left}
 use Rattle.core_pace.specs.Laws.{SnowHasPace, DeepHasPace, CountHasPace, snow_quantum, deep_quantum}
 
 -- What a quantum of a pass took, of both inputs and of table A, by what is left.
-pub record Took (old new : Option SnowState) (a : Entries) (n : ℕ) : Type 0 where
+pub record Took (least : ℕ) (old new : Option SnowState) (a : Entries) (n : ℕ) : Type 0 where
   pub ran : is_some old ≡ true
   pub runs : is_some new ≡ true
   pub left : n + left_for_pass new a ≡ left_for_pass old a
@@ -22,19 +23,23 @@ pub record Took (old new : Option SnowState) (a : Entries) (n : ℕ) : Type 0 wh
   pub of_table : table_left old a ≤ table_left new a + n
   pub rest : table_left new a ≤ left_for_pass new a
   pub light : (made_by_pass new).weight ≤ (made_by_pass old).weight + n
+  pub bound : n + 1 ≤ least + 2 * most_weight
+  pub enough : (least ≤ n) ⊎ (left_for_pass new a ≡ 0)
 
-pub took : (old new : Option SnowState) (a : Entries) (n : ℕ) → PassTakes old new a n → Took old new a n
-took old new a n h1 = grind (arith, common_steps, nat_tests)
+pub took : (least : ℕ) (old new : Option SnowState) (a : Entries) (n : ℕ) → PassTakes least old new a n → Took least old new a n
+took least old new a n h1 = grind (arith, common_steps, nat_tests)
 
 -- what a quantum of a deep merge took
-pub record DeepTook (old new : Option DeepState) (n : ℕ) : Type 0 where
+pub record DeepTook (least : ℕ) (old new : Option DeepState) (n : ℕ) : Type 0 where
   pub ran : is_some old ≡ true
   pub runs : is_some new ≡ true
   pub left : n + left_for_deep new ≡ left_for_deep old
   pub light : (made_by_deep new).weight ≤ (made_by_deep old).weight + n
+  pub bound : n + 1 ≤ least + 2 * most_weight
+  pub enough : (least ≤ n) ⊎ (left_for_deep new ≡ 0)
 
-pub deep_took : (old new : Option DeepState) (n : ℕ) → DeepTakes old new n → DeepTook old new n
-deep_took old new n h1 = grind (arith, common_steps, nat_tests)
+pub deep_took : (least : ℕ) (old new : Option DeepState) (n : ℕ) → DeepTakes least old new n → DeepTook least old new n
+deep_took least old new n h1 = grind (arith, common_steps, nat_tests)
 
 -- a pass that has taken something may stand at any key
 at_some : (snow : Option SnowState) (taken : ℕ) → 0 < taken → HasTaken snow taken
@@ -43,8 +48,8 @@ at_some snow taken h1 = grind (arith, common_steps, nat_tests)
 pub snow_has_pace : SnowHasPace
 snow_has_pace seat n old new pace p one within some m = (is_snow, has)
   where
-    t : Took old.runs.pass new.runs.pass old.log.a.entries n
-    t = took old.runs.pass new.runs.pass old.log.a.entries n m.takes
+    t : Took old.runs.sizes.quantum old.runs.pass new.runs.pass old.log.a.entries n
+    t = took old.runs.sizes.quantum old.runs.pass new.runs.pass old.log.a.entries n m.takes
 
     runs : pace.gears.pass ≡ true
     runs = cc (p.in_pass, t.ran)
@@ -65,13 +70,13 @@ snow_has_pace seat n old new pace p one within some m = (is_snow, has)
     same = ap (λ (s : Sizes). s.quantum) sizes
 
     enough : (pace.gears.sizes.quantum ≤ n) ⊎ (pace.gears.pass_taken + n ≡ pace.a + pace.c1)
-    enough = ⊎_elim (λ (more : old.runs.sizes.quantum ≤ n). inl (omega (arith, more, same))) (λ (none : left_for_pass new.runs.pass old.log.a.entries ≡ 0). inr (omega (arith, none, left, t.left))) m.enough
+    enough = ⊎_elim (λ (more : old.runs.sizes.quantum ≤ n). inl (omega (arith, more, same))) (λ (none : left_for_pass new.runs.pass old.log.a.entries ≡ 0). inr (omega (arith, none, left, t.left))) t.enough
 
     is_snow : Rattle.pacing.specs.Steps.IsSnow pace (snow_quantum n old new)
     is_snow = (
       record {
         enough = enough;
-        few = omega (arith, m.bound, same);
+        few = omega (arith, t.bound, same);
         left = omega (arith, left, t.left);
         written = omega (arith, p.made1, t.light, made);
       },
@@ -111,8 +116,8 @@ snow_has_pace seat n old new pace p one within some m = (is_snow, has)
 pub deep_has_pace : DeepHasPace
 deep_has_pace seat n old new pace p one within m = (is_deep, has)
   where
-    t : DeepTook old.runs.deep new.runs.deep n
-    t = deep_took old.runs.deep new.runs.deep n m.takes
+    t : DeepTook old.runs.sizes.quantum old.runs.deep new.runs.deep n
+    t = deep_took old.runs.sizes.quantum old.runs.deep new.runs.deep n m.takes
 
     runs : pace.gears.deep ≡ true
     runs = cc (p.in_deep, t.ran)
@@ -130,7 +135,12 @@ deep_has_pace seat n old new pace p one within m = (is_deep, has)
     same = ap (λ (s : Sizes). s.quantum) sizes
 
     is_deep : Rattle.pacing.specs.Steps.IsDeep pace (deep_quantum n new)
-    is_deep = grind (arith, common_steps, nat_tests)
+    is_deep = record {
+      enough = ⊎_elim (λ (more : old.runs.sizes.quantum ≤ n). inl (omega (arith, more, same))) (λ (none : left_for_deep new.runs.deep ≡ 0). inr (omega (arith, none, left, t.left))) t.enough;
+      few = omega (arith, t.bound, same);
+      left = omega (arith, left, t.left);
+      written = omega (arith, p.made2, t.light, made);
+    }
 
     has : HasPace new (with_deep pace seat (deep_quantum n new))
     has = record {

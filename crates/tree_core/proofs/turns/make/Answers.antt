@@ -97,8 +97,8 @@ returns-in-DeepQuantum-clause-lists g c = λ tree honest over.
     let after = g.D.Disk.state c.deep_quantum.new.disk in (
       tree,
       subst (λ (ch : Choice). LeavesMoved (move_of ch) c.deep_quantum.result old new tree tree before after) (sym c.in-DeepQuantum.is)
-          (quantum_left pacing.TakeDeep c.deep_quantum.result old new tree before after refl (c.deep_quantum.ensures.stands tree honest over)
-          (λ well. let x = c.deep_quantum.ensures.lists tree honest over well in (x.0, x.1, x.2, (refl, x.3)))),
+          (quantum_left pacing.TakeDeep c.deep_quantum.result old new tree before after refl (c.deep_quantum.ensures.told.stands tree honest over)
+          (λ well. let x = c.deep_quantum.ensures.told.lists tree honest over well in (x.0, x.1, x.2, (refl, x.3)))),
     )
 
 pub returns-in-DeepQuantum-clause-moves : goal.returns-in-DeepQuantum-clause-moves
@@ -113,8 +113,8 @@ returns-in-PassQuantum-clause-lists g c = λ tree honest over.
     let after = g.D.Disk.state c.pass_quantum.new.disk in (
       tree,
       subst (λ (ch : Choice). LeavesMoved (move_of ch) c.pass_quantum.result old new tree tree before after) (sym c.in-PassQuantum.is)
-          (quantum_left pacing.TakeSnow c.pass_quantum.result old new tree before after refl (c.pass_quantum.ensures.stands tree honest over)
-          (λ well. let x = c.pass_quantum.ensures.lists tree honest over well in (x.0, x.1, x.2, (refl, x.3)))),
+          (quantum_left pacing.TakeSnow c.pass_quantum.result old new tree before after refl (c.pass_quantum.ensures.told.stands tree honest over)
+          (λ well. let x = c.pass_quantum.ensures.told.lists tree honest over well in (x.0, x.1, x.2, (refl, x.3)))),
     )
 
 pub returns-in-PassQuantum-clause-moves : goal.returns-in-PassQuantum-clause-moves
@@ -156,8 +156,8 @@ returns-in-Rotate-clause-damaged g c = λ n is tells. absurd (swap_not_named c.r
 
 pub returns-in-DeepQuantum-clause-damaged : goal.returns-in-DeepQuantum-clause-damaged
 returns-in-DeepQuantum-clause-damaged g c = λ n is tells.
-    subst (λ (ch : Choice). IsDamageAhead (merge_of (move_of ch)) c.deep_quantum.new.self.runs n (g.D.Disk.state c.deep_quantum.new.disk).bytes) (sym c.in-DeepQuantum.is) (c.deep_quantum.ensures.damaged n is tells)
+    subst (λ (ch : Choice). IsDamageAhead (merge_of (move_of ch)) c.deep_quantum.new.self.runs n (g.D.Disk.state c.deep_quantum.new.disk).bytes) (sym c.in-DeepQuantum.is) (c.deep_quantum.ensures.told.damaged n is tells)
 
 pub returns-in-PassQuantum-clause-damaged : goal.returns-in-PassQuantum-clause-damaged
 returns-in-PassQuantum-clause-damaged g c = λ n is tells.
-    subst (λ (ch : Choice). IsDamageAhead (merge_of (move_of ch)) c.pass_quantum.new.self.runs n (g.D.Disk.state c.pass_quantum.new.disk).bytes) (sym c.in-PassQuantum.is) (c.pass_quantum.ensures.damaged n is tells)
+    subst (λ (ch : Choice). IsDamageAhead (merge_of (move_of ch)) c.pass_quantum.new.self.runs n (g.D.Disk.state c.pass_quantum.new.disk).bytes) (sym c.in-PassQuantum.is) (c.pass_quantum.ensures.told.damaged n is tells)

@@ -50,7 +50,7 @@ pub ended-requires-in-Err-clause-taken : goal.ended-requires-in-Err-clause-taken
 ended-requires-in-Err-clause-taken g c =
     let inv = c.quanta.invariant in
     let self = c.args.self in
-    let takes = subst (λ (r : ℕ). TakesPages r c.quanta.space c.quantum.new.space) inv.role c.quantum.ensures.works.takes in (
+    let takes = subst (λ (r : ℕ). TakesPages r c.quanta.space c.quantum.new.space) inv.role c.quantum.ensures.numbers.works.takes in (
       self.space,
       record { roles = self.roles; seats = self.seats },
       takes_run c.args.role self.space c.quanta.space c.quantum.new.space inv.takes takes,
@@ -61,19 +61,19 @@ pub quanta-preserved : goal.quanta-preserved
 quanta-preserved g c =
     let inv = c.quanta.invariant in
     let self = c.args.self in
-    let works = c.quantum.ensures.works in
-    let took = c.in-Ok.ensures.takes in
+    let works = c.quantum.ensures.numbers.works in
+    let took = c.in-Ok.ensures.numbers.takes.takes in
     let takes = subst (λ (r : ℕ). TakesPages r c.quanta.space c.quantum.new.space) inv.role works.takes in
-    let size = subst (λ (r : ℕ). role_size c.quantum.new.space r + c.quanta.deep.writer.component.pages ≡ role_size c.quanta.space r + c.quantum.new.self.writer.component.pages) inv.role c.in-Ok.ensures.size in
+    let size = subst (λ (r : ℕ). role_size c.quantum.new.space r + c.quanta.deep.writer.component.pages ≡ role_size c.quanta.space r + c.quantum.new.self.writer.component.pages) inv.role c.in-Ok.ensures.numbers.size in
     record {
       pages = works.takes.pages ∙ inv.pages;
       long = affects_length works.effect refl inv.long;
-      running = c.in-Ok.ensures.runs.running;
+      running = c.in-Ok.ensures.numbers.runs.running;
       takes = takes_run c.args.role self.space c.quanta.space c.quantum.new.space inv.takes takes;
       size = omega (arith, inv.size, size);
-      role = c.quantum.ensures.role ∙ inv.role;
+      role = c.quantum.ensures.numbers.role ∙ inv.role;
       light = omega (arith, took.light, inv.light);
-      newer = omega (arith, took.c1x, inv.newer);
-      older = omega (arith, took.c2, inv.older);
-      reserved = c.quantum.ensures.reserves.fences_are ∙ inv.reserved;
+      newer = omega (arith, took.newer, inv.newer);
+      older = omega (arith, took.older, inv.older);
+      reserved = c.quantum.ensures.numbers.reserves.fences_are ∙ inv.reserved;
     }
