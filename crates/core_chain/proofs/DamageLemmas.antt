@@ -31,23 +31,9 @@ use Rattle.core_chain.proofs.TellLemmas.{link_tells}
 
 -- ---- one call
 
--- a store that runs isn't stopped
-runs_on : {A : Type 0} (o : Option Why) (why : Why) → o ≡ None → o ≡ Some why → A
-runs_on o why runs stops = absurd (cc (runs, stops))
-
 -- nor is it where the stop is what it was
 runs_still : {A : Type 0} (old new : Option Why) (why : Why) → old ≡ None → new ≡ old → new ≡ Some why → A
 runs_still old new why ran same stops = absurd (cc (ran, same, stops))
-
--- a stop by a fault is by no page
-no_page : {A : Type 0} (o : Option Why) (faults page : ℕ) → o ≡ Some (Faulted faults) → o ≡ Some (BadPage page) → A
-no_page o faults page fault stops = absurd (cc (fault, stops))
-
-same_page : (o : Option Why) (one other : ℕ) → o ≡ Some (BadPage one) → o ≡ Some (BadPage other) → one ≡ other
-same_page o one other is stops = cc (is, stops)
-
-named : (plan : Plan) (one page : ℕ) (old new : Held) (before after : DiskState) → FoundDamaged plan one old new before after → new.book.stopped ≡ Some (BadPage page) → FoundDamaged plan page old new before after
-named plan one page old new before after found stops = subst (λ (n : ℕ). FoundDamaged plan n old new before after) (same_page new.book.stopped one page found.stopped stops) found
 
 admit_stops : {A : Type 0} (answer : Admission) (seat : ℕ) (op : Op) (page : ℕ) (old new : Held) (before after : DiskState) → AdmitsBecause answer seat op old new before after → old.book.stopped ≡ None → new.book.stopped ≡ Some (BadPage page) → A
 admit_stops answer seat op page old new before after h1 h2 h3 = grind (arith, common_steps, nat_tests)

@@ -129,9 +129,6 @@ stays_damaged page told pend left old new before after found few = grind (arith,
 pub stays_same : (told pend left : ℕ) (old new : Option Why) (before after : DiskState) → new ≡ old → after.faults ≡ before.faults → told + left ≤ pend → Stays 0 told pend left old new before after
 stays_same told pend left old new before after same faults few = grind (arith, common_steps, nat_tests)
 
-pub stays_lookup : (told pend left : ℕ) (old new : Option Why) (before after : DiskState) → old ≡ None → new ≡ old → HasRisen before.faults after.faults → told + left ≤ 1 + pend → Stays 1 told pend left old new before after
-stays_lookup told pend left old new before after ran same rose few = grind (arith, common_steps, nat_tests)
-
 pub stops_failed : (told pend left : ℕ) (old new : Held) (before after : DiskState) → HasFailed old new before after → told + left ≤ pend + 1 → Stops told pend left old.book.stopped new.book.stopped before after
 stops_failed told pend left old new before after failed few = record { ran = failed.ran; stop = failed.stopped; risen = failed.faults; told_is = few }
 
@@ -156,10 +153,6 @@ pub record LinkTells (old new : BookState) (before after : DiskState) : Type 0 w
 pub no_entry_tells : (old new : BookState) (before after : DiskState) → new.book.entries ≡ old.book.entries → How 0 0 (pending old) (pending new) old.stopped new.stopped before after → LinkTells old new before after
 no_entry_tells old new before after same how = grind (arith, common_steps, nat_tests)
 
-named_more : (es : List Entry) (e : Entry) (stopped : Option Why) → AllNamed es stopped → NamesStop e.reply stopped → AllNamed (es ++ e ∷ []) stopped
-named_more [] e stopped all one = (one, tt)
-named_more (x ∷ es) e stopped all one = (all.0, named_more es e stopped all.1 one)
-
 pub entry_tells : (lookups told : ℕ) (e : Entry) (old new : BookState) (before after : DiskState) → new.book.entries ≡ old.book.entries ++ e ∷ [] → one_if (is_failed_lookup e.op e.reply) ≡ lookups → faults_of e.reply ≡ told
     → NamesStop e.reply new.stopped → How lookups told (pending old) (pending new) old.stopped new.stopped before after → LinkTells old new before after
 entry_tells lookups told e old new before after is lookup fault names how = grind (arith, common_steps, nat_tests)
@@ -174,14 +167,6 @@ pub record Told (before : DiskState) (b : BookState) (now : DiskState) : Type 0 
   pub stop : NamesCount b.stopped before now
   pub others : faults_told b.book.entries + pending b ≤ lookups_failed b.book.entries + one_if (is_by_fault b.stopped)
   pub names : AllNamed b.book.entries b.stopped
-
--- a stop that isn't by a fault names no count
-unnamed : (o : Option Why) (before after : DiskState) → is_by_fault o ≡ false → NamesCount o before after
-unnamed o before after h1 = grind (arith, common_steps, nat_tests)
-
--- the count that it names stands
-named_still : (o : Option Why) (before between after : DiskState) → after.faults ≡ between.faults → NamesCount o before between → NamesCount o before after
-named_still o before between after h1 h2 = grind (arith, common_steps, nat_tests)
 
 still_named : (es : List Entry) (old new : Option Why) → ((why : Why) → old ≡ Some why → new ≡ Some why) → AllNamed es old → AllNamed es new
 still_named [] old new halted all = tt

@@ -13,13 +13,6 @@ use Rattle.blsm_model.specs.declared.history.Entry.{Entry}
 use Rattle.blsm_model.specs.declared.key.Key.{Key}
 use Rattle.blsm_model.specs.declared.row.Value.{Value}
 
--- an entry of another seat leaves them
-other_leaves : (object : Object) (e : Entry) (seat : ℕ) → (seat == e.seat) ≡ false → (after object e).held seat ≡ object.held seat
-other_leaves object e seat apart = grind (arith, common_steps, nat_tests)
-
-turned : (m n : ℕ) → (m == n) ≡ false → (n == m) ≡ false
-turned m n apart = ne_eqb n m (λ (same : n ≡ m). eqb-false m n apart (sym same))
-
 none_leave : (es : List Entry) (object : Object) (seat : ℕ) → entries_of seat es ≡ [] → (fold after object es).held seat ≡ object.held seat
 none_leave [] object seat none = refl
 none_leave (e ∷ es) object seat none = by (e.seat == seat) refl (none_leave es (after object e) seat)

@@ -43,9 +43,6 @@ counts_back m later counts = record { charge = sym counts.charge; peak = sym cou
 pub deep_swapped_counts : (m : Machine) → CountsAs m (deep_swapped m)
 deep_swapped_counts m = grind (arith, common_steps, nat_tests)
 
-swap_pass_counts : (m : Machine) → CountsAs m (swap_pass m)
-swap_pass_counts m = grind (arith, common_steps, nat_tests)
-
 pass_swapped_counts : (m : Machine) → CountsAs m (pass_swapped m)
 pass_swapped_counts m = grind (arith, common_steps, nat_tests)
 
@@ -83,9 +80,6 @@ weighs_as m later history longer file sizes counts more weighs = grind (arith, c
 
 pub paced_components : (m : Machine) (pace : Pace) (tree : Tree) → IsPaceOf m pace → IsPaced pace → m.lists ≡ lists_of tree → components_weight tree ≤ most_worked m
 paced_components m pace tree of_tree paced lists = grind (arith, common_steps, nat_tests)
-
-pub paced_lanes : (m : Machine) (pace : Pace) (tree : Tree) → IsPaceOf m pace → IsPaced pace → m.lists ≡ lists_of tree → lanes_weight tree ≤ m.counts.peak
-paced_lanes m pace tree of_tree paced lists = grind (arith, common_steps, nat_tests)
 
 -- each file that holds the tree of a machine that is paced,
 pub paced_weighs : (m : Machine) (pace : Pace) (tree : Tree) (history : List Entry) (file : List ℕ) → IsPaceOf m pace → IsPaced pace → m.lists ≡ lists_of tree → HoldsTree m.gears.sizes tree file → WeighsWithin m history file

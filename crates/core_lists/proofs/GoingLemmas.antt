@@ -71,16 +71,6 @@ standing_is_steady opening held m pace fronts tree file is runs =
 pub admission_fits : AdmissionFits
 admission_fits m seat op outcome runs room = grind (arith, common_steps, nat_tests)
 
-some_due : (deep pass : Bool) → deep ≡ true → nat_lt 0 (one_if deep + one_if pass) ≡ true
-some_due deep pass h1 = grind (arith, common_steps, nat_tests)
-
-pass_due : (deep pass : Bool) → pass ≡ true → nat_lt (one_if deep) (one_if deep + one_if pass) ≡ true
-pass_due deep pass h1 = grind (arith, common_steps, nat_tests)
-
--- the deep merge's swap is none of the pass's
-same_pass : (m : Machine) → pass_done (deep_swapped m) ≡ pass_done m
-same_pass m = grind (arith, common_steps, nat_tests)
-
 pub failures_are_the_machines : FailuresAreTheMachines
 failures_are_the_machines m seat op w faults = grind (arith, common_steps, nat_tests)
 
@@ -128,19 +118,6 @@ paid_fronts opening m pace then fronts seat Settled paced within made = subst (�
 paid_fronts opening m pace then fronts seat (machine.Turn Failed) paced within made = subst (λ (p : Pace). AreFronts p fronts) (sym made) (forgiven_fronts pace fronts seat within)
 paid_fronts opening m pace then fronts seat (machine.Turn (BadPage page)) paced within made = subst (λ (p : Pace). AreFronts p fronts) (sym made) (forgiven_fronts pace fronts seat within)
 paid_fronts opening m pace then fronts seat answer paced within made = subst (λ (p : Pace). AreFronts p fronts) (sym made) within
-
--- a payment leaves the lists
-pass_quantum_lists : (seat : ℕ) (m : Machine) → (pass_quantum seat m).lists ≡ m.lists
-pass_quantum_lists seat m = grind (arith, common_steps, nat_tests)
-
-deep_quantum_lists : (seat : ℕ) (m : Machine) → (deep_quantum seat m).lists ≡ m.lists
-deep_quantum_lists seat m = grind (arith, common_steps, nat_tests)
-
-done_lists : (m : Machine) (quantum : Machine → Machine) (seat : ℕ) (outcome : Outcome) → (quantum m).lists ≡ m.lists → (do_pay m quantum seat outcome).state.lists ≡ m.lists
-done_lists m quantum seat outcome h1 = grind (arith, common_steps, nat_tests)
-
-planned_lists : (plan : Plan) (m : Machine) (seat : ℕ) (outcome : Outcome) → (pay_planned plan m seat outcome).state.lists ≡ m.lists
-planned_lists plan m seat outcome = grind (arith, common_steps, nat_tests)
 
 paid_lists : (m : Machine) (seat : ℕ) (outcome : Outcome) → (stepped_as m seat kind.Pay outcome).state.lists ≡ m.lists
 paid_lists m seat outcome = grind (arith, common_steps, nat_tests)
@@ -234,15 +211,6 @@ quiet_paced opening m pace seat (kind.Next n) outcome ok quiet paced = then_pace
 quiet_paced opening m pace seat kind.Release outcome ok quiet paced = then_paced opening m pace seat kind.Release outcome ok tt paced
 quiet_paced opening m pace seat (kind.WorkEnd n) outcome ok quiet paced = then_paced opening m pace seat (kind.WorkEnd n) outcome ok tt paced
 quiet_paced opening m pace seat kind.Leave outcome ok quiet paced = then_paced opening m pace seat kind.Leave outcome ok tt paced
-
-unless_lists : (m : Machine) (seat : ℕ) (o : Op) (otherwise : Stepped) (stopped : Option Why) → otherwise.state.lists ≡ m.lists → (machine_unless stopped seat o m otherwise).state.lists ≡ m.lists
-unless_lists m seat o otherwise stopped h1 = grind (arith, common_steps, nat_tests)
-
-held_lists : (m : Machine) (seat : ℕ) (low high : Key) (outcome : Outcome) → (do_hold m seat low high outcome).state.lists ≡ m.lists
-held_lists m seat low high outcome = grind (arith, common_steps, nat_tests)
-
-next_lists : (m : Machine) (seat n : ℕ) (outcome : Outcome) (rows : Option (List Row)) → (do_next m seat n outcome rows).state.lists ≡ m.lists
-next_lists m seat n outcome rows = grind (arith, common_steps, nat_tests)
 
 quiet_lists : (m : Machine) (seat : ℕ) (k : Kind) (outcome : Outcome) → IsQuiet k → (stepped_as m seat k outcome).state.lists ≡ m.lists
 quiet_lists m seat k outcome h1 = grind (arith, common_steps, nat_tests)

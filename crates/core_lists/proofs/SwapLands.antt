@@ -37,9 +37,6 @@ use Rattle.core_lists.proofs.WeighLemmas.{table_a, table_b, list_c1, weight_c1, 
 
 -- ---- five lists, one by one
 
-abbrev five : Entries → Entries → Entries → Entries → Entries → Lists
-five b a c1 c1x c2 = record { b = b; a = a; c1 = c1; c1x = c1x; c2 = c2 }
-
 pub same_lists : (one other : Lists) → one.b ≡ other.b → one.a ≡ other.a → one.c1 ≡ other.c1 → one.c1x ≡ other.c1x → one.c2 ≡ other.c2 → one ≡ other
 same_lists one other b a c1 c1x c2 = grind (arith, common_steps, nat_tests)
 

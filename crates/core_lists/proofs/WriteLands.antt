@@ -35,11 +35,6 @@ use Rattle.core_lists.proofs.WeighLemmas.{tables_weigh}
 pub same_way : (pass : Option Merge) (snow : Option SnowState) (key : Key) → IsPassAt pass snow → goes_to_a pass key ≡ is_above (cursor_of_pass snow) key
 same_way pass snow key h1 = grind (arith, common_steps, nat_tests)
 
--- the lists with the write
-joined : (ahead : Bool) (key : Key) (rec : Rec) (tree : Tree)
-    → cond ahead (record (lists_of tree) { a = with_record key rec (lists_of tree).a }) (record (lists_of tree) { b = with_record key rec (lists_of tree).b }) ≡ lists_of (appended ahead (key, rec) tree)
-joined ahead key rec tree = grind (arith, common_steps, nat_tests)
-
 -- the gears know a pass where one runs
 pub runs_as : (m : Machine) (held : Held) → IsSound m → IsPassAt m.merges.pass held.runs.pass → m.gears.pass ≡ is_some held.runs.pass
 runs_as m held sound comes = grind (arith, common_steps, nat_tests)

@@ -168,9 +168,6 @@ lowered xs seat some = grind (arith, common_steps, nat_tests)
 pub room_taken : (book : Book) (entry : Entry) → HasRoom book.room entry → length book.entries + sum book.room.entries ≤ most_entries → length (noted book entry).entries + sum (noted book entry).room.entries ≤ most_entries
 room_taken book entry room few = omega (arith, few, lowered book.room.entries entry.seat room.entries, length-append book.entries (entry ∷ []))
 
-charge_is : (held : Held) (pace : Pace) → HasPace held pace → charge pace ≡ charge_in held
-charge_is held pace p = cc (p.c1, p.c1x, p.c2, p.gears, p.a, p.b)
-
 -- a write that may be is an admission that may be, wherever it lands
 pub may_admit_of : (seat w : ℕ) (op : Op) (held : Held) (pace : Pace) (ahead : Bool) (after : ℕ) → IsPacedHeld held pace → MayWrite seat w op held → Lands (ready_for pace w) w ahead after → MayAdmit pace seat w (is_del op) ahead after
 may_admit_of seat w op held pace ahead after k may lands = grind (arith, common_steps, nat_tests)

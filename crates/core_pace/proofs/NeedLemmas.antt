@@ -25,15 +25,6 @@ use Rattle.core_pace.proofs.WriteLemmas.{lands_by}
 
 -- ---- pages
 
-run_is : (runs : Bool) (made left taken all : ℕ) → (runs ≡ true → taken + left ≡ all) → (runs ≡ false → (made ≡ 0) × (left ≡ 0)) → made + left ≤ cond runs (made + (all - taken)) 0
-run_is runs made left taken all h1 h2 = grind (arith, common_steps, nat_tests)
-
-no_pass : (snow : Option SnowState) (a : Entries) → is_some snow ≡ false → ((made_by_pass snow).weight ≡ 0) × (left_for_pass snow a ≡ 0)
-no_pass snow a h1 = grind (arith, common_steps, nat_tests)
-
-no_deep : (merge : Option DeepState) → is_some merge ≡ false → ((made_by_deep merge).weight ≡ 0) × (left_for_deep merge ≡ 0)
-no_deep merge h1 = grind (arith, common_steps, nat_tests)
-
 sizes_are : (held : Held) (pace : Pace) → HasPace held pace → IsOne held → pace.gears.sizes ≡ held.runs.sizes
 sizes_are held pace p one = ap (λ (g : GearState). g.sizes) p.gears ∙ one.gears
 
@@ -52,9 +43,6 @@ way_is_free held pace p one paced not_done done full = by held.runs.deep refl
     by d h1 = grind (arith, common_steps, nat_tests, each_test_agrees, both, leb-true, sizes_are, deep_in_time)
 
 -- ---- a write
-
-half_is : (held : Held) (pace : Pace) → HasPace held pace → IsOne held → pace.gears.sizes.half ≡ held.runs.sizes.half
-half_is held pace p one = ap (λ (s : Sizes). s.half) (sizes_are held pace p one)
 
 pub writes_fit : WritesFit
 writes_fit key rec held pace p one paced room heavy = record {

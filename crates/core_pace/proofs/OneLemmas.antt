@@ -28,22 +28,12 @@ record One (s : Sizes) (ls : List ℕ) (l : LogState) (g : GearState) : Type 0 w
   pub sorted_a : AreSorted l.a.entries
   pub sorted_b : AreSorted l.b.entries
 
-parts : (held : Held) → IsOne held → One held.runs.sizes held.runs.catalogue.lanes held.log held.gears
-parts held one = assumption
-
 whole : (held : Held) → One held.runs.sizes held.runs.catalogue.lanes held.log held.gears → IsOne held
 whole held one = assumption
-
--- with other gears, and other roles and lanes
-at_gears : {sizes : Sizes} {roles : List ℕ} {log : LogState} {gears : GearState} (new : GearState) → new.sizes ≡ gears.sizes → One sizes roles log gears → One sizes roles log new
-at_gears new is one = grind (arith, common_steps, nat_tests)
 
 -- the runs and the log are as they were, as far as this goes
 stays : (old new : Held) → IsOne old → new.runs.sizes ≡ old.runs.sizes → new.runs.catalogue.lanes ≡ old.runs.catalogue.lanes → new.log ≡ old.log → new.gears.sizes ≡ old.gears.sizes → IsOne new
 stays old new one sizes lanes log gears = grind (arith, common_steps, nat_tests)
-
-turned_apart : (roles : List ℕ) → AreRoles roles → AreRoles (b_of roles ∷ spare_of roles ∷ a_of roles ∷ [])
-turned_apart roles are = grind (arith, common_steps, nat_tests)
 
 -- the lanes turn
 turned : (old new : Held) → IsOne old → new.runs.sizes ≡ old.runs.sizes → new.runs.catalogue.lanes ≡ (turned_log old.log).lanes.roles → new.log ≡ turned_log old.log → new.gears.sizes ≡ old.gears.sizes → IsOne new

@@ -47,9 +47,6 @@ use Rattle.core_pace.proofs.EventLemmas.{forgiving_is_paced}
 runs_on : (runs : Bool) (left : ℕ) → (not runs || (left == 0)) ≡ false → (runs ≡ true) × (0 < left)
 runs_on runs left h1 = grind (arith, common_steps, nat_tests)
 
-in_place : (xs : List ℕ) (seat : ℕ) → length xs ≡ callers → seat < callers → seat < length xs
-in_place xs seat is caller = omega (arith, is, caller)
-
 -- the seat owes to a pass that isn't over
 snow_runs : (pace : Pace) (seat : ℕ) → IsPaced pace → seat < callers → plan_of (with_forgiven pace seat) seat ≡ Snow → pass_over pace ≡ false
 snow_runs pace seat paced caller is = grind (arith, common_steps, nat_tests)

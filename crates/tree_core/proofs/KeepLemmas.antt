@@ -84,9 +84,6 @@ unless o seat op m otherwise h1 = grind (arith, common_steps, nat_tests)
 deep_swap_keeps : (m : Machine) → Keeps m (deep_swapped m)
 deep_swap_keeps m = either (deep_done m) m (swap_deep m) m (record { holds = refl }) (itself m)
 
-pass_keeps : (m : Machine) → Keeps m (swap_pass m)
-pass_keeps m = either (nat_le (c1_mark m.gears.sizes) (entries_weight (output_of m.merges.pass))) m (rotate (end_pass m)) (end_pass m) (record { holds = refl }) (record { holds = refl })
-
 ready_keeps : (w : ℕ) (m : Machine) → Keeps m (ready_for w m)
 ready_keeps w m = grind (arith, common_steps, nat_tests)
 

@@ -26,13 +26,6 @@ unpinned_still tag is free seat page pinned has = free seat page (still_pinned i
 pub released_unpinned : {role : ℕ} {old new : SpaceState} → Released role old new → IsUnpinned new role
 released_unpinned {role} {old} {new} is seat page pinned has = none_has old.pages page _ is.this has
 
--- a set of no pages has none
-none_in : (set : Members) (page : ℕ) → size set ≡ 0 → IsIn set page → ⊥
-none_in [] page none is = absurd (cc (is))
-none_in (true ∷ set) page none is = absurd (omega (arith, none, size-cons true set))
-none_in (false ∷ set) zero none is = absurd (cc (is))
-none_in (false ∷ set) (suc page) none is = none_in set page (omega (arith, none, size-cons false set)) is
-
 pub none_pinned : (space : SpaceState) (tag : ℕ) → IsSpace space → ((seat : ℕ) → seat < seat_count → pin_size space seat ≡ 0) → IsUnpinned space tag
 none_pinned space tag shape none seat page pinned has = grind (arith, common_steps, nat_tests)
 

@@ -338,9 +338,6 @@ only_first least at to newer older taken g enough went quantum = grind (arith, c
 none_first : (f : Key × Rec) (fs : Entries) → ◌≡◌ {A = Entries} [] (f ∷ fs) → ⊥
 none_first f fs wrong = cc
 
-same_first : (e f : Key × Rec) (es fs : Entries) → ◌≡◌ {A = Entries} (e ∷ es) (f ∷ fs) → (e ≡ f) × (es ≡ fs)
-same_first e f es fs is = (cc, cc)
-
 agree : (fs : Entries) (least : ℕ) (at to : Option Key) (newer older : Entries) (taken : ℕ) → folded_over (above at newer) (above at older) ≡ fs → 0 < least → AreSorted newer → AreSorted older → IsOnward at to
     → IsQuantum least at to newer older taken
     → (taken ≡ sum_by (λ e. group_weight (above at newer) (above at older) e.0) (until least (group_weight (above at newer) (above at older)) fs))

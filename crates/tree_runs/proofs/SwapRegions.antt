@@ -22,9 +22,6 @@ use Rattle.tree_runs.specs.Holding.{AreTagged, swap_region}
 
 -- ---- not in the pages of other tags
 
-pub lane_before : (sizes : Sizes) (lane : ℕ) → 1 ≤ sizes.half → lane < 3 → region_start sizes lane + 1 ≤ page_start sizes 0
-lane_before sizes lane h1 h2 = grind (arith, common_steps, nat_tests)
-
 pub swap_apart : (sizes : Sizes) (space : SpaceState) (of_run tag : ℕ) (now : Catalog) → IsGeometry sizes → AreRoles now.lanes → HasOneTag space → of_run ≢ tag
     → AreApart (swap_region sizes space of_run now) (role_region sizes space tag)
 swap_apart sizes space of_run tag now geometry roles once differs i here there = grind (arith, common_steps, nat_tests)

@@ -62,10 +62,6 @@ tells_failed {newer} {broken} {result} {old} sizes key c cs one is = record {
   damaged = λ n named honest. inl (one.damaged n (sym is ∙ named) honest);
 }
 
-told_behind : (sizes : Sizes) (key : Key) (c : Component × GuideState) (cs : List (Component × GuideState)) (newer found : Option Rec) (result : Result (Option Rec) Broken) (H H2 : Type 0) (file file2 : List ℕ)
-    → (H → H2 × (file2 ≡ file)) → (H → IsToldBy sizes key file c newer found) → IfOk result (λ last. H2 → AreToldBy sizes key file2 cs found last) → IfOk result (λ last. H → AreToldBy sizes key file (c ∷ cs) newer last)
-told_behind sizes key c cs newer found result H H2 file file2 h1 h2 h3 = grind (arith, common_steps, nat_tests)
-
 -- one before others
 pub tells_behind : {newer found : Option Rec} {result : Result (Option Rec) Broken} {end most : ℕ} {old mid : DiskState} (sizes : Sizes) (key : Key) (c : Component × GuideState) (cs : List (Component × GuideState))
     → TellsOne sizes key c newer (Ok found) old → OnlyReads end most old mid → Tells sizes key cs found result mid → Tells sizes key (c ∷ cs) newer result old

@@ -130,9 +130,6 @@ scan_tells state seat n _ old new call same = tells_quiet same call.cause.2
 pub none_told : (op : Op) (reply : Reply) → faults_of reply ≡ 0 → TellsNone op reply
 none_told op reply none = λ looks. none
 
-stopped_not_calm : (old new : Held) (before after : DiskState) → HasFailed old new before after → is_by_fault new.book.stopped ≡ false → ⊥
-stopped_not_calm old new before after failed calm = false≢true (sym calm ∙ ap is_by_fault failed.stopped)
-
 pub admit_calm : (result : Admission) (seat : ℕ) (op : Op) (old new : Held) (before after : DiskState) → AdmitsBecause result seat op old new before after → is_by_fault new.book.stopped ≡ false → faults_of (reply_to_write result) ≡ 0
 admit_calm result seat op old new before after h1 h2 = grind (arith, common_steps, nat_tests)
 

@@ -99,9 +99,6 @@ pub scan_names : {D : Type 0} (answer : Scanned) (seat n : ℕ) (old new : CoreS
 scan_names (scanned.Stopped why) seat n old new before after because same = same ∙ because.0
 scan_names _ seat n old new before after because same = tt
 
-given_few : (n : ℕ) (old new : Option HoldState) (rows : List Row) → AreGivenBy n old new rows → length rows ≤ n
-given_few n old new rows h1 = grind (arith, common_steps, nat_tests)
-
 -- nor does it give more rows than it was asked for
 pub scan_rows : {D : Type 0} (answer : Scanned) (seat n : ℕ) (old new : CoreState D) (before after : DiskState) → ScansBecause answer seat n old new before after → length (rows_given (reply_to_next answer)) ≤ n
 scan_rows answer seat n old new before after h1 = grind (arith, common_steps, nat_tests)
