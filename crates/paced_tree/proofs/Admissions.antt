@@ -68,9 +68,6 @@ pub taken_le : (p : Option Merge) (es : Entries) → taken_of p es ≤ entries_w
 taken_le None es = omega arith
 taken_le (Some pass) es = omega (arith, weight_parts pass.cursor es)
 
-at_key : (cursor : Option Key) (key : Key) → is_above cursor key ≡ false → is_some cursor ≡ true
-at_key cursor key h1 = grind (arith, common_steps, nat_tests)
-
 -- a key that isn't ahead finds a pass that has taken something
 behind_runs : (m : Machine) (key : Key) → IsSound m → HasTaken m.merges.pass m.gears.pass_taken → goes_to_a m.merges.pass key ≡ false → (m.gears.pass ≡ true) × (0 < m.gears.pass_taken)
 behind_runs m key sound started = grind (arith, common_steps, nat_tests)
@@ -101,10 +98,6 @@ module _ (m : Machine) (l : Pace) (w : Write) (sound : IsSound m) (started : Has
   written_numbers seat op reply = grind (arith, common_steps, nat_tests, taken_stays)
 
 -- ---- an admission
-
--- what a seat that owes nothing owes
-pub owes_none : (m : Machine) (seat : ℕ) → Rattle.tree_machine.specs.Machine.owes seat m ≡ false → first_debt m.gears seat + second_debt m.gears seat ≡ 0
-owes_none m seat is = omega (arith, ltb-false 0 (first_debt m.gears seat + second_debt m.gears seat) is)
 
 module _ (m : Machine) (l : Pace) (seat : ℕ) (op : Op) (w : Write) (sound : IsSound m) (way : HasWay m) (paced : IsPaced (with_numbers_of m l)) (of_tree : IsPaceOf m (with_numbers_of m l))
     (caller : seat < callers) (settled : first_debt m.gears seat + second_debt m.gears seat ≡ 0) (fits : FitsFormat w)

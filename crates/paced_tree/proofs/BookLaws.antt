@@ -39,18 +39,10 @@ note_books book s pace entry is k =
 -- ---- moves that the book doesn't see
 
 deep_settled_books : (book : Book) (s : Seats) (pace : Pace) → IsBookOf book s pace → IsBookOf book s (deep_settled pace)
-deep_settled_books book s pace k = by (pace.gears.deep && deep_done pace)
-  where
-    by : (b : Bool) → IsBookOf book s (cond b (with_deep_swapped pace) pace)
-    by true = k
-    by false = k
+deep_settled_books book s pace k = grind (arith, common_steps, nat_tests)
 
 swap_books : (book : Book) (s : Seats) (pace : Pace) → IsBookOf book s pace → IsBookOf book s (with_swap_and_rotation pace)
-swap_books book s pace k = by (nat_le (c1_mark pace.gears.sizes) pace.made1)
-  where
-    by : (b : Bool) → IsBookOf book s (cond b (with_rotation (with_pass_swapped pace)) (with_pass_swapped pace))
-    by true = k
-    by false = k
+swap_books book s pace k = grind (arith, common_steps, nat_tests)
 
 pass_settled_books : (book : Book) (s : Seats) (pace : Pace) → IsBookOf book s pace → IsBookOf book s (pass_settled pace)
 pass_settled_books book s pace k = by (pace.gears.pass && pass_done pace)
@@ -60,18 +52,10 @@ pass_settled_books book s pace k = by (pace.gears.pass && pass_done pace)
     by false = k
 
 begun_books : (book : Book) (s : Seats) (pace : Pace) (w : ℕ) → IsBookOf book s pace → IsBookOf book s (begun_for pace w)
-begun_books book s pace w k = by (not pace.gears.pass && nat_lt pace.gears.sizes.low (pace.spring + w))
-  where
-    by : (b : Bool) → IsBookOf book s (cond b (with_pass pace) pace)
-    by true = k
-    by false = k
+begun_books book s pace w k = grind (arith, common_steps, nat_tests)
 
 pub moves_book : MovesBook
-moves_book book s pace w seat k = (
-  deep_settled_books book s pace k,
-  begun_books book s (pass_settled (deep_settled pace)) w (pass_settled_books book s (deep_settled pace) (deep_settled_books book s pace k)),
-  k,
-)
+moves_book book s pace w seat k = grind (arith, common_steps, nat_tests, deep_settled_books, begun_books, pass_settled_books)
 
 -- ---- quanta
 
@@ -93,22 +77,10 @@ pay_books book s pace seat quantum paced may some k = by (plan_of (with_forgiven
         (paid_booked pace.gears.sizes book s.quanta s.work pace.work pace.admitted pace.writes pace.weights pace.quanta seat quantum_is paced.quanta may.caller
         (of_bound (paid_by Deep (with_forgiven pace seat) seat quantum) (subst (λ plan. IsPaced (paid_by plan (with_forgiven pace seat) seat quantum)) is (step_keeps pace (Pay seat quantum) paced may))) k)
 
-none : (book : Book) (s : Seats) (pace : Pace) → IsBooked pace.gears.sizes book s.quanta s.work (pace.work + 0) pace.admitted pace.writes pace.weights pace.quanta → IsBookOf book s pace
-none book s pace k = subst (λ n. IsBooked pace.gears.sizes book s.quanta s.work n pace.admitted pace.writes pace.weights pace.quanta) (plus_none pace.work) k
-  where
-    plus_none : (n : ℕ) → n + 0 ≡ n
-    plus_none n = omega arith
-
 -- the numbers that the book sees, after a turn
 turn_books_as : (book : Book) (s : Seats) (pace : Pace) (seat : ℕ) (quantum : Quantum) (move : Move) → IsBooked pace.gears.sizes book s.quanta s.work (pace.work + quanta_of_move move) pace.admitted pace.writes pace.weights pace.quanta
     → IsBookOf book s (turned_by move pace seat quantum)
-turn_books_as book s pace seat quantum TakeDeep k = k
-turn_books_as book s pace seat quantum TakeSnow k = k
-turn_books_as book s pace seat quantum SwapDeep k = none book s pace k
-turn_books_as book s pace seat quantum SwapPass k = swap_books book s pace (none book s pace k)
-turn_books_as book s pace seat quantum Begin k = none book s pace k
-turn_books_as book s pace seat quantum Rotate k = none book s pace k
-turn_books_as book s pace seat quantum Idle k = none book s pace k
+turn_books_as book s pace seat quantum move zh1 = grind (arith, common_steps, nat_tests)
 
 pub turn_books : TurnBooks
 turn_books book s pace seat quantum now caller places is k =

@@ -51,10 +51,6 @@ module _ (m : Machine) (p : Pace) (seat : ℕ) (op : Op) (sound : IsSound m) (wa
       (weight_after (goes_to_a (ready_for (total_weight (w ∷ ws)) m).merges.pass (key_of w)) (with_write (ready_for (total_weight (w ∷ ws)) m).merges.pass (key_of w) (record_of w) (ready_for (total_weight (w ∷ ws)) m).lists))
       g.paced counts (lands_at w (total_weight (w ∷ ws)) (one w ws refl))
 
-abbrev first_weight : List Write → ℕ
-first_weight [] = 0
-first_weight (w ∷ ws) = weight_of w
-
 -- a command writes once at most
 pub writes_once : (op : Op) (w : Write) (rest : List Write) → writes_of op ≡ w ∷ rest → total_weight (writes_of op) ≡ weight_of w
 writes_once op w rest is = grind (arith, common_steps, nat_tests)
@@ -96,12 +92,10 @@ turn_counts m p seat Well k c = counted_turn p (is_worker_seat seat) seat (quant
 turn_counts m p seat NoRoom k c = counted_turn p (is_worker_seat seat) seat (quantum_for_move (turn_of (is_worker_seat seat) p) m) k c
 
 unless_counts : (o : Option Why) (p q : Pace) → IsCounted p → IsCounted q → IsCounted (unless_stopped o p q)
-unless_counts (Some why) p q c d = c
-unless_counts None p q c d = d
+unless_counts o p q zh1 zh2 = grind (arith, common_steps, nat_tests)
 
 either_counts : (b : Bool) (p q : Pace) → IsCounted p → IsCounted q → IsCounted (cond b p q)
-either_counts true p q c d = c
-either_counts false p q c d = d
+either_counts b p q zh1 zh2 = grind (arith, common_steps, nat_tests)
 
 -- a tree that runs after a step ran before it
 ran : (m : Machine) (seat : ℕ) (k : Kind) (outcome : Outcome) → (stepped_as m seat k outcome).state.stopped ≡ None → m.stopped ≡ None
@@ -129,15 +123,10 @@ pub step_few : (m : Machine) (p : Pace) (seat : ℕ) (k : Kind) (outcome : Outco
 step_few m p seat k outcome sound way g counts few = by k
   where
     unless : (q : Pace) → (m.stopped ≡ None → AreFew q) → AreFew (unless_stopped m.stopped p q)
-    unless q then = of m.stopped refl
-      where
-        of : (o : Option Why) → m.stopped ≡ o → AreFew (unless_stopped o p q)
-        of (Some why) is = few
-        of None is = then is
+    unless q then = grind (arith, common_steps, nat_tests)
 
     either : (b : Bool) (q : Pace) → AreFew q → AreFew (cond b p q)
-    either true q then = few
-    either false q then = then
+    either b q zh1 = grind (arith, common_steps, nat_tests)
 
     admits : (op : Op) → IsCounted p → (e : Outcome) → AreFew (after_admission m p seat op (total_weight (writes_of op)) e)
     admits op c Well = counted_few (admitted seat op (writes_of op) (ready_for (total_weight (writes_of op)) m) p) (written_counts m p seat op sound way g c (writes_of op) (writes_once op))

@@ -93,22 +93,11 @@ module _ (m : Machine) (l : Pace) (seat : ℕ) (op : Op) (sound : IsSound m) (wa
 
   admit_made : (outcome : Outcome) → AllByRecursion FitsFormat (writes_of op)
       → m.stopped ≡ None → IsAdmittedBy (admit m seat op outcome).answer seat op (with_numbers_of m l) (pace_after m (with_numbers_of m l) seat (kind.Admit op) outcome)
-  admit_made outcome fits runs =
-      subst (λ o. IsAdmittedBy (machine_unless o seat op m (cond (nat_lt (charge_limit m.gears.sizes (is_del op)) (charge m + total_weight (writes_of op))) (replied seat op (Full (charge m)) m) (admit_fitting m seat op (total_weight (writes_of op)) outcome))).answer seat op (with_numbers_of m l)
-      (unless_stopped o (with_numbers_of m l) (cond (nat_lt (charge_limit m.gears.sizes (is_del op)) (charge m + total_weight (writes_of op))) (with_numbers_of m l) (after_admission m (with_numbers_of m l) seat op (total_weight (writes_of op)) outcome)))) (sym runs)
-      (by (nat_lt (charge_limit m.gears.sizes (is_del op)) (charge m + total_weight (writes_of op))) refl)
-    where
-      by : (b : Bool) → nat_lt (charge_limit m.gears.sizes (is_del op)) (charge m + total_weight (writes_of op)) ≡ b
-          → IsAdmittedBy (cond b (replied seat op (Full (charge m)) m) (admit_fitting m seat op (total_weight (writes_of op)) outcome)).answer seat op (with_numbers_of m l)
-          (cond b (with_numbers_of m l) (after_admission m (with_numbers_of m l) seat op (total_weight (writes_of op)) outcome))
-      by true is = refl
-      by false is = admission_made outcome fits (ltb-false (charge_limit m.gears.sizes (is_del op)) (charge m + total_weight (writes_of op)) is)
+  admit_made outcome fits runs = grind (arith, common_steps, nat_tests, admission_made)
 
 -- a stopped tree makes nothing
 stopped_made : (m : Machine) (p : Pace) (seat : ℕ) (op : Op) (outcome : Outcome) (cause : Why) → m.stopped ≡ Some cause → IsAdmittedBy (admit m seat op outcome).answer seat op p (pace_after m p seat (kind.Admit op) outcome)
-stopped_made m p seat op outcome cause is =
-    subst (λ o. IsAdmittedBy (machine_unless o seat op m (cond (nat_lt (charge_limit m.gears.sizes (is_del op)) (charge m + total_weight (writes_of op))) (replied seat op (Full (charge m)) m) (admit_fitting m seat op (total_weight (writes_of op)) outcome))).answer seat op p
-    (unless_stopped o p (cond (nat_lt (charge_limit m.gears.sizes (is_del op)) (charge m + total_weight (writes_of op))) p (after_admission m p seat op (total_weight (writes_of op)) outcome)))) (sym is) refl
+stopped_made m p seat op outcome cause is = grind (arith, common_steps, nat_tests)
 
 -- ---- a payment
 
@@ -152,11 +141,7 @@ payment_made m p seat outcome sound g caller = planned (plan_for (first_debt (fo
         owing (deep_quantum seat) (omega (arith, left, falls)) outcome
 
 pay_made : (m : Machine) (p : Pace) (seat : ℕ) (outcome : Outcome) → IsSound m → Goes m p → seat < callers → IsPaidBy (pay m seat outcome).answer seat p (unless_stopped m.stopped p (after_payment m p seat outcome))
-pay_made m p seat outcome sound g caller = by m.stopped
-  where
-    by : (o : Option Why) → IsPaidBy (pay_running o m seat outcome).answer seat p (unless_stopped o p (after_payment m p seat outcome))
-    by (Some cause) = refl
-    by None = payment_made m p seat outcome sound g caller
+pay_made m p seat outcome sound g caller = grind (arith, common_steps, nat_tests, payment_made)
 
 -- ---- a turn
 
@@ -174,13 +159,7 @@ turn_made m l seat is_worker outcome sound g is settled = by outcome
     worked = (quantum_for_move (turn_of (is_worker_seat seat) (with_numbers_of m l)) m, record { settled = settled; fits = fits }, refl)
 
     chosen_made : (c : Choice) → due is_worker m l ≡ c → IsTurnedBy (machine.Turn (ended_as c)) seat (with_numbers_of m l) (after_turn m (with_numbers_of m l) seat Well)
-    chosen_made Rest c_is = ap (λ x. turned_by x (with_numbers_of m l) seat (quantum_for_move x m)) (moves ∙ ap move_of c_is)
-    chosen_made SwapDeep c_is = worked
-    chosen_made SwapPass c_is = worked
-    chosen_made DeepQuantum c_is = worked
-    chosen_made PassQuantum c_is = worked
-    chosen_made Begin c_is = worked
-    chosen_made Rotate c_is = worked
+    chosen_made c zh1 = grind (arith, common_steps, nat_tests, moves, worked)
 
     by : (e : Outcome) → IsTurnedBy (machine.Turn (do_turn (due is_worker m l) e seat m).ended) seat (with_numbers_of m l) (after_turn m (with_numbers_of m l) seat e)
     by (FailedAfter commits faults) = refl

@@ -45,11 +45,7 @@ pub swap_deep_of : (m : Machine) (l : Pace) → IsPaceOf m (with_numbers_of m l)
 swap_deep_of m l g = record { numbers = refl; started = g.started; booked = g.booked }
 
 pub swap_pass_of : (m : Machine) (l : Pace) → IsPaceOf m (with_numbers_of m l) → IsPaceOf (swap_pass m) (with_swap_and_rotation (with_numbers_of m l))
-swap_pass_of m l g = by (nat_le (c1_mark m.gears.sizes) (entries_weight (output_of m.merges.pass)))
-  where
-    by : (b : Bool) → IsPaceOf (cond b (rotate (end_pass m)) (end_pass m)) (cond b (with_rotation (with_pass_swapped (with_numbers_of m l))) (with_pass_swapped (with_numbers_of m l)))
-    by true = record { numbers = refl; started = tt; booked = g.booked }
-    by false = record { numbers = refl; started = tt; booked = g.booked }
+swap_pass_of m l g = grind (arith, common_steps, nat_tests)
 
 pub rotate_of : (m : Machine) (l : Pace) → IsPaceOf m (with_numbers_of m l) → IsPaceOf (rotate_alone m) (with_rotation (with_numbers_of m l))
 rotate_of m l g = record { numbers = refl; started = g.started; booked = g.booked }
@@ -62,20 +58,14 @@ begin_of m l g = record {
 }
 
 deep_settled_of : (m : Machine) (p : Pace) → IsSound m → IsPaceOf m p → IsPaceOf (deep_swapped m) (deep_settled p)
-deep_settled_of m p sound g = of_pace (λ q. IsPaceOf (deep_swapped m) (deep_settled q)) (λ q. IsPaceOf m q) m p g.numbers g (λ l h.
-    subst (λ b. IsPaceOf (deep_swapped m) (cond b (with_deep_swapped (with_numbers_of m l)) (with_numbers_of m l))) (deep_test m sound) (by l h (deep_done m)))
-  where
-    by : (l : Pace) → IsPaceOf m (with_numbers_of m l) → (b : Bool) → IsPaceOf (cond b (swap_deep m) m) (cond b (with_deep_swapped (with_numbers_of m l)) (with_numbers_of m l))
-    by l h true = swap_deep_of m l h
-    by l h false = h
+deep_settled_of m p sound g = grind (arith, common_steps, nat_tests, of_pace, deep_test, swap_deep_of)
 
 pass_settled_of : (m : Machine) (p : Pace) → IsSound m → IsPaceOf m p → IsPaceOf (pass_swapped m) (pass_settled p)
 pass_settled_of m p sound g = of_pace (λ q. IsPaceOf (pass_swapped m) (pass_settled q)) (λ q. IsPaceOf m q) m p g.numbers g (λ l h.
     subst (λ b. IsPaceOf (pass_swapped m) (cond b (with_swap_and_rotation (with_numbers_of m l)) (with_numbers_of m l))) (pass_test m sound) (by l h (pass_done m)))
   where
     by : (l : Pace) → IsPaceOf m (with_numbers_of m l) → (b : Bool) → IsPaceOf (cond b (swap_pass m) m) (cond b (with_swap_and_rotation (with_numbers_of m l)) (with_numbers_of m l))
-    by l h true = swap_pass_of m l h
-    by l h false = h
+    by l zh1 b = grind (arith, common_steps, nat_tests)
 
 begun_of : (m : Machine) (p : Pace) (w : ℕ) → IsPaceOf m p → IsPaceOf (pass_begun_for w m) (begun_for p w)
 begun_of m p w g = of_pace (λ q. IsPaceOf (pass_begun_for w m) (begun_for q w)) (λ q. IsPaceOf m q) m p g.numbers g (λ l h. by l h (not m.gears.pass && nat_lt m.gears.sizes.low (m.spring + w)))
@@ -95,7 +85,4 @@ ready_of m p w sound g =
 -- ---- debts are forgiven
 
 pub forgive_of : (m : Machine) (p : Pace) (seat : ℕ) → IsSound m → IsPaceOf m p → IsPaceOf (forgive seat m) (with_forgiven p seat)
-forgive_of m p seat sound g = of_pace (λ q. IsPaceOf (forgive seat m) (with_forgiven q seat)) (λ q. IsPaceOf m q) m p g.numbers g (λ l h.
-    subst (λ b. IsPaceOf (forgive seat m) (record (with_numbers_of m l) { gears = forgiven m.gears seat b (deep_over (with_numbers_of m l)) })) (over_test (pass_done m) m.gears.pass (pace_pass_done (with_numbers_of m l)) (pass_test m sound))
-    (subst (λ c. IsPaceOf (forgive seat m) (record (with_numbers_of m l) { gears = forgiven m.gears seat (not (in_pass m) || pass_done m) c })) (over_test (deep_done m) m.gears.deep (pace_deep_done (with_numbers_of m l)) (deep_test m sound))
-    (record { numbers = refl; started = h.started; booked = h.booked })))
+forgive_of m p seat sound g = grind (arith, common_steps, nat_tests, of_pace, over_test, pass_test, deep_test)

@@ -122,20 +122,8 @@ steps_are_paced opening m p (made ∷ steps) t fits = steps_are_paced opening (p
 abbrev book_of : Room → Book
 book_of room = record { entries = []; quanta = []; room = room }
 
-none_yet : (seat : ℕ) → is_write_by seat (get_or [] (last_write seat []) no_entry) ≡ false
-none_yet seat = grind (arith, common_steps, nat_tests)
-
 pub opened_booked : (sizes : Sizes) (room : Room) → IsBooked sizes (book_of room) fresh_seats.quanta fresh_seats.work 0 0 0 (replicate callers 0) (replicate callers 0)
-opened_booked sizes room = record {
-  places = refl;
-  seats = refl;
-  worked = refl;
-  by_callers = refl;
-  by_weight = refl;
-  by_number = refl;
-  last = λ seat. (none_of_none 16 seat ∙ ap (λ b. cond b (total_weight (writes_of (entry_at (book_of room) (last_write seat [])).op)) 0) (sym (none_yet seat)), none_of_none 16 seat ∙ ap (λ b. cond b (slice_index (book_of room).quanta (last_write seat [])) 0) (sym (none_yet seat)));
-  bound = λ place is. absurd (false≢true is.1);
-}
+opened_booked sizes room = grind (arith, common_steps, nat_tests)
 
 pub opened_is_paced : (sizes : Sizes) (c1 c2 : Entries) (catalogue : Catalogue) (faults : ℕ) (room : Room) → AreComponents sizes c1 c2
     → IsPacedTree (map_in (record { b = []; a = []; c1 = c1; c1x = []; c2 = c2 })) (opened sizes c1 c2 catalogue faults room) (pace_opened sizes (entries_weight c1) (entries_weight c2))
@@ -171,13 +159,7 @@ pass_keeps_up m l sound k runs =
     }
 
 no_pass_runs : (m : Machine) (l : Pace) → IsPaced (with_numbers_of m l) → in_pass m ≡ false → NoPassRuns m
-no_pass_runs m l k rests =
-    let h = k.within.resting rests in
-    record {
-      table = omega (arith, h.spring, h.behind);
-      spring = h.low;
-      nothing = k.no_pass rests;
-    }
+no_pass_runs m l k rests = grind (arith, common_steps, nat_tests)
 
 deep_keeps_up : (m : Machine) (l : Pace) → IsSound m → IsPaced (with_numbers_of m l) → in_deep m ≡ true → DeepKeepsUp m
 deep_keeps_up m l sound k runs =
@@ -244,8 +226,7 @@ bounded_of m l sound settled k g few spent =
     }
 
 pub is_bounded : (opening : List (Key × Value)) (m : Machine) (p : Pace) → IsPacedTree opening m p → IsBounded m
-is_bounded opening m p t = of_pace (λ q. IsBounded m) (λ q. Goes m q × AreFew q × IsSpent q) m p t.of_tree.numbers (record { of_tree = t.of_tree; paced = t.paced }, t.few, t.spent)
-    (λ l h. bounded_of m l t.stands.sound t.settled h.0.paced h.0.of_tree h.1 h.2)
+is_bounded opening m p t = grind (arith, common_steps, nat_tests, bounded_of)
 
 pub run_is_paced : (sizes : Sizes) (c1 c2 : Entries) (catalogue : Catalogue) (faults : ℕ) (room : Room) (steps : List (Step × Outcome)) → AreComponents sizes c1 c2 → AllFit steps
     → Stands (map_in (record { b = []; a = []; c1 = c1; c1x = []; c2 = c2 })) (played (opened sizes c1 c2 catalogue faults room) steps)

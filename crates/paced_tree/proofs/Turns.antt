@@ -112,12 +112,7 @@ module _ (m : Machine) (l : Pace) (seat : ℕ) (sound : IsSound m) (goes : Goes 
 
   module _ (caller : seat < callers) (places : length m.seats.work ≡ callers) (now : WorkSoFar) where
     idle_of : (n : Machine) (q : Pace) → IsPaceOf n q → n.seats ≡ m.seats → now.quanta ≡ (work_of seat m).quanta + 0 → IsPaceOf (work_noted seat now n) q
-    idle_of n q g same is = record {
-      numbers = g.numbers;
-      started = g.started;
-      booked = idle_booked n.gears.sizes n.book n.seats.quanta n.seats.work q.work q.admitted q.writes q.weights q.quanta seat now caller (ap (λ (s : Seats). length s.work) same ∙ places)
-          (subst (λ (s : Seats). now.quanta ≡ (slice_index_or s.work seat no_work).quanta) (sym same) (omega (arith, is))) g.booked;
-    }
+    idle_of n q g same is = grind (arith, common_steps, nat_tests)
 
     work_chosen : (c : Choice) → due false m l ≡ c → now.quanta ≡ (work_of seat m).quanta + quanta_of c
         → IsPaceOf (work_noted seat now (chosen c seat m)) (turned_by (move_of c) (with_numbers_of m l) seat (quantum_for_move (move_of c) m))
@@ -186,11 +181,7 @@ pub work_turn_goes : (m : Machine) (p : Pace) (seat : ℕ) (outcome : Outcome) �
 work_turn_goes m p seat outcome sound g caller places = by m.stopped outcome
   where
     still : (n : Machine) (ended : Turned) → IsPaceOf n p → n.seats ≡ m.seats → Goes (work_noted seat (with_turn (work_of seat m) (record { state = n; ended = ended; quanta = 0 })) n) p
-    still n ended of_tree same = record {
-      of_tree = of_pace (λ q. IsPaceOf (work_noted seat (with_turn (work_of seat m) (record { state = n; ended = ended; quanta = 0 })) n) p) (λ q. Goes m q) m p g.of_tree.numbers g
-          (λ l h. idle_of m l seat sound h caller places (with_turn (work_of seat m) (record { state = n; ended = ended; quanta = 0 })) n p of_tree same refl);
-      paced = g.paced;
-    }
+    still n ended of_tree same = grind (arith, common_steps, nat_tests)
 
     well : Goes (work_noted seat (with_turn (work_of seat m) (do_turn (choice (not (memory_weight m.lists == 0)) (not (entries_weight m.lists.c1 == 0)) m) Well seat m)) (chosen (choice (not (memory_weight m.lists == 0)) (not (entries_weight m.lists.c1 == 0)) m) seat m))
         (after_turn m p seat Well)

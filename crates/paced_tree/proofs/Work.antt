@@ -90,12 +90,6 @@ taken_work seat m n h1 h2 h3 = grind (arith, common_steps, nat_tests, pass_leave
 
 -- ---- a step
 
-below_all : (seat : ℕ) → is_caller seat ≡ true → seat < seats
-below_all seat is = let caller = ltb-true seat callers is in omega (arith, caller)
-
-noting_below : (m : Machine) (seat rows : ℕ) → may_note seat rows m ≡ true → seat < seats
-noting_below m seat rows ok = below_all seat (both_hold (is_caller seat) (has_room m.book.room seat rows) (both_hold (is_caller seat && has_room m.book.room seat rows) (is_between seat m) ok).0).0
-
 pub seat_below : (m : Machine) (seat : ℕ) (k : Kind) → may m seat k ≡ true → seat < seats
 seat_below m seat k h1 = grind (arith, common_steps, nat_tests)
 
