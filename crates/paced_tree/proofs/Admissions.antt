@@ -2,7 +2,7 @@
 use Rattle.std.proofs.Common.{◌≡◌, ◌∙◌, refl, sym, ap, subst, ℕ, ◌+◌, ◌<◌, ◌≤◌, Bool, cond, true, false, ◌&&◌, [], ◌∷◌, Option, Some, None, set, arith}
 use Rattle.std.proofs.lemmas.Grind.{common_steps}
 use Rattle.std.proofs.lemmas.Bool.Decides.{nat_tests}
-use Rattle.std.specs.Prelude.{◌==◌, nat_lt, is_some}
+use Rattle.std.specs.Prelude.{◌==◌, nat_lt}
 use Rattle.std.specs.List.{AllByRecursion}
 use Rattle.std.proofs.lemmas.Bool.{ltb-false}
 use Rattle.blsm_model.specs.Format.{callers}
@@ -26,7 +26,7 @@ use Rattle.pacing.specs.Kept.{IsPaced}
 use Rattle.pacing.specs.Steps.{Admit, MayAdmit, Lands, deep_settled, ready_for as pace_ready_for}
 use Rattle.pacing.proofs.Runs.{step_keeps}
 use Rattle.pacing.proofs.Promises.{moves_keep}
-use Rattle.record_delta.specs.Entries.{AreSorted, Entries, entries_weight, is_above, with_record}
+use Rattle.record_delta.specs.Entries.{AreSorted, Entries, entries_weight, with_record}
 use Rattle.tree_machine.specs.Lists.{Lists}
 use Rattle.tree_machine.specs.Merges.{Merge}
 use Rattle.tree_machine.specs.Layers.{IsSound, HasWay}

@@ -1,18 +1,18 @@
 -- What each part of a step does to the book's counts, over the pace alone.
-use Rattle.std.proofs.Common.{◌≡◌, refl, sym, subst, ℕ, ◌+◌, ◌<◌, ◌≤◌, Bool, cond, true, false, not, ◌&&◌, set, arith}
+use Rattle.std.proofs.Common.{◌≡◌, refl, sym, subst, ℕ, ◌+◌, ◌<◌, ◌≤◌, Bool, cond, true, false, ◌&&◌, set, arith}
 use Rattle.std.proofs.lemmas.Grind.{common_steps}
 use Rattle.std.proofs.lemmas.Bool.Decides.{nat_tests}
-use Rattle.std.specs.Prelude.{nat_lt, nat_le, slice_index}
-use Rattle.blsm_model.specs.Geometry.{c1_mark, work_bound}
+use Rattle.std.specs.Prelude.{slice_index}
+use Rattle.blsm_model.specs.Geometry.{work_bound}
 use Rattle.blsm_model.specs.declared.history.Reply.TheVariants.{Done}
 use Rattle.blsm_model.specs.Book.{Book, counted_up}
 use Rattle.blsm_model.specs.Histories.{is_done}
 use Rattle.blsm_model.specs.Legal.{is_write}
 use Rattle.gear_sched.specs.declared.Plan.{Plan}
 use Rattle.gear_sched.specs.declared.Plan.TheVariants.{Snow, Deep, Nothing}
-use Rattle.pacing.specs.Pace.{Pace, Quantum, pass_done, deep_done, with_deep_swapped, with_swap_and_rotation, with_pass_swapped, with_rotation, with_pass, with_forgiven}
+use Rattle.pacing.specs.Pace.{Pace, Quantum, pass_done, with_swap_and_rotation, with_forgiven}
 use Rattle.pacing.specs.Kept.{IsPaced}
-use Rattle.pacing.specs.Steps.{Move, SwapDeep, SwapPass, TakeDeep, TakeSnow, Begin, Rotate, Idle, Pay, plan_of, paid_by, turn_of, turned_by, is_worker_seat, deep_settled, pass_settled, begun_for}
+use Rattle.pacing.specs.Steps.{Move, Pay, plan_of, paid_by, turn_of, turned_by, is_worker_seat, deep_settled, pass_settled, begun_for}
 use Rattle.pacing.proofs.Runs.{step_keeps}
 use Rattle.tree_machine.specs.Machine.{Seats}
 use Rattle.tree_machine.specs.Moves.{count_quantum}

@@ -1,13 +1,9 @@
 -- A lane's fronts, one record at a time.
-use Rattle.std.proofs.Common.{◌≡◌, ◌∙◌, refl, sym, ap, subst, ℕ, ◌≤◌, max, Bool, [], ◌∷◌, ◌++◌, take, length, arith}
+use Rattle.std.proofs.Common.{◌≡◌, refl, sym, subst, ℕ, ◌≤◌, [], take, arith}
 use Rattle.std.proofs.lemmas.Grind.{common_steps}
 use Rattle.std.proofs.lemmas.Bool.Decides.{nat_tests}
-use Rattle.std.specs.Prelude.{fold, nat_lt}
 use Rattle.std.proofs.lemmas.List.{take_all}
-use Rattle.blsm_model.specs.declared.key.Key.{Key}
-use Rattle.record_delta.specs.declared.record.Rec.{Rec}
-use Rattle.record_delta.specs.Entries.{Entries, entries_weight, replayed, with_record}
-use Rattle.pacing.proofs.Fronts.{fronts_fit}
+use Rattle.record_delta.specs.Entries.{Entries, entries_weight, replayed}
 use Rattle.paced_tree.specs.Lanes.{EmptyLane, LaneGrows, LanesReplay}
 
 abbrev none : Entries

@@ -4,7 +4,7 @@ use Rattle.std.proofs.lemmas.Grind.{common_steps}
 use Rattle.std.proofs.lemmas.Bool.Decides.{nat_tests}
 use Rattle.std.specs.Prelude.{◌==◌, nat_lt, nat_le}
 use Rattle.std.specs.List.{AllByRecursion}
-use Rattle.std.proofs.lemmas.Bool.{ltb-false, leb-true}
+use Rattle.std.proofs.lemmas.Bool.{leb-true}
 use Rattle.blsm_model.specs.Format.{callers, least_weight, most_weight}
 use Rattle.blsm_model.specs.Geometry.{charge_limit}
 use Rattle.blsm_model.specs.Values.{key_of, weight_of}
@@ -13,7 +13,7 @@ use Rattle.blsm_model.specs.Legal.{is_write, total_weight, is_del}
 use Rattle.blsm_model.specs.declared.key.Key.{Key}
 use Rattle.blsm_model.specs.declared.row.Value.{Value}
 use Rattle.blsm_model.specs.declared.op.Op.{Op}
-use Rattle.blsm_model.specs.declared.history.Reply.TheVariants.{Full, FaultLost, FaultUnsure}
+use Rattle.blsm_model.specs.declared.history.Reply.TheVariants.{FaultLost, FaultUnsure}
 use Rattle.blsm_model.specs.declared.history.Why.TheVariants.{Faulted}
 use Rattle.blsm_model.specs.declared.op.Write.{Write}
 use Rattle.blsm_model.specs.declared.history.Why.{Why}
@@ -24,7 +24,7 @@ use Rattle.gear_sched.specs.declared.Plan.{Plan}
 use Rattle.gear_sched.specs.declared.Plan.TheVariants.{Snow, Deep, Nothing}
 use Rattle.pacing.specs.Pace.{Pace, with_forgiven, pass_over, deep_over}
 use Rattle.pacing.specs.Kept.{IsPaced}
-use Rattle.pacing.specs.Steps.{Admit, turned_by, after as pacing_after, FitsPlan, FitsMove, plan_of, paid_by, turn_of, is_worker_seat, deep_settled, ready_for as pace_ready_for}
+use Rattle.pacing.specs.Steps.{Admit, after as pacing_after, FitsPlan, FitsMove, plan_of, paid_by, turn_of, is_worker_seat, deep_settled, ready_for as pace_ready_for}
 use Rattle.pacing.proofs.Forgiven.{falls_at}
 use Rattle.pacing.proofs.Promises.{forgiving_keeps}
 use Rattle.tree_machine.specs.declared.step.Kind.{Kind}

@@ -3,16 +3,14 @@ use Rattle.std.proofs.Common.{◌≡◌, refl, sym, ap, subst, ℕ, ◌+◌, Boo
 use Rattle.std.proofs.lemmas.Grind.{common_steps}
 use Rattle.std.proofs.lemmas.Bool.Decides.{nat_tests}
 use Rattle.std.proofs.Common.{arith}
-use Rattle.std.specs.Prelude.{◌==◌, nat_lt, nat_le}
+use Rattle.std.specs.Prelude.{◌==◌, nat_lt}
 use Rattle.std.proofs.lemmas.Bool.{false≢true, eqb-true, eq-eqb}
-use Rattle.blsm_model.specs.Geometry.{c1_mark}
-use Rattle.gear_sched.specs.Gears.{forgiven}
-use Rattle.pacing.specs.Pace.{Pace, pass_done as pace_pass_done, deep_done as pace_deep_done, deep_over, with_deep_swapped, with_pass_swapped, with_swap_and_rotation, with_rotation, with_pass, with_forgiven}
+use Rattle.pacing.specs.Pace.{Pace, with_deep_swapped, with_swap_and_rotation, with_rotation, with_pass, with_forgiven}
 use Rattle.pacing.specs.Steps.{deep_settled, pass_settled, begun_for, ready_for as pace_ready_for}
 use Rattle.record_delta.specs.Entries.{entries_weight}
 use Rattle.tree_machine.specs.Layers.{IsSound}
-use Rattle.tree_machine.specs.Machine.{Machine, in_pass, pass_done, deep_done}
-use Rattle.tree_machine.specs.Moves.{begin_pass, rotate, rotate_alone, end_pass, swap_deep, swap_pass, output_of}
+use Rattle.tree_machine.specs.Machine.{Machine, pass_done, deep_done}
+use Rattle.tree_machine.specs.Moves.{begin_pass, rotate_alone, swap_deep, swap_pass}
 use Rattle.tree_machine.specs.Steps.{deep_swapped, pass_swapped, swapped, pass_begun_for, ready_for, forgive}
 use Rattle.tree_machine.proofs.CarryLemmas.{behind_none, deep_swapped_carries}
 use Rattle.tree_machine.proofs.NumberLemmas.{pass_runs, deep_runs, pass_taken_when_done, pass_done_when_taken, deep_taken_when_done, deep_done_when_taken}

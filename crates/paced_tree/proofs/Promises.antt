@@ -1,5 +1,5 @@
 -- What a paced tree keeps, over every list of steps.
-use Rattle.std.proofs.Common.{◌≡◌, ◌≢◌, ◌∙◌, refl, sym, subst, ℕ, ◌+◌, ◌*◌, ◌<◌, ◌≤◌, Bool, cond, true, false, not, ◌||◌, List, [], ◌∷◌, length, inl, inr, arith, get_or, replicate, ap}
+use Rattle.std.proofs.Common.{◌≡◌, ◌≢◌, ◌∙◌, refl, sym, subst, ℕ, ◌+◌, ◌*◌, ◌<◌, ◌≤◌, Bool, cond, true, false, not, ◌||◌, List, [], ◌∷◌, length, inl, inr, arith, replicate, ap}
 use Rattle.std.proofs.lemmas.Grind.{common_steps}
 use Rattle.std.proofs.lemmas.Bool.Decides.{nat_tests}
 use Rattle.std.specs.Prelude.{slice_index}
@@ -13,7 +13,6 @@ use Rattle.blsm_model.specs.Geometry.{c1_mark, capacity, work_bound}
 use Rattle.gear_sched.specs.Gears.{first_debt, second_debt}
 use Rattle.pacing.specs.Pace.{Pace, opened as pace_opened, pass_done as pace_pass_done, deep_done as pace_deep_done, pass_over}
 use Rattle.pacing.specs.Kept.{IsPaced, most_taken, quanta_for}
-use Rattle.pacing.proofs.Numbers.{none_of_none}
 use Rattle.pacing.proofs.Runs.{opened_paced, bounded, deep_in_time}
 use Rattle.record_delta.specs.Entries.{Entries, entries_weight}
 use Rattle.tree_machine.specs.Lists.{map_in}
@@ -32,7 +31,7 @@ use Rattle.tree_machine.proofs.StepLemmas.{step_stands}
 use Rattle.tree_machine.proofs.SettledLemmas.{step_settles}
 use Rattle.paced_tree.specs.Numbers.{with_numbers_of, IsPaceOf, IsBooked, taken_of, last_weight, last_quanta}
 use Rattle.paced_tree.specs.After.{pace_after}
-use Rattle.blsm_model.specs.Book.{Book, no_entry, entry_at}
+use Rattle.blsm_model.specs.Book.{Book}
 use Rattle.blsm_model.specs.Histories.{writes_of}
 use Rattle.blsm_model.specs.Legal.{total_weight, is_del}
 use Rattle.tree_machine.specs.Steps.{is_write_by, last_write}
@@ -40,7 +39,6 @@ use Rattle.paced_tree.specs.Calls.{IsCall, IsRight}
 use Rattle.paced_tree.specs.Kept.{AreComponents, IsPacedTree, paced_one, paced_all, AllFit}
 use Rattle.paced_tree.specs.Bounds.{IsBounded, KeepsPace, PassKeepsUp, NoPassRuns, DeepKeepsUp, quanta_owed_by}
 use Rattle.paced_tree.proofs.Moves.{of_pace, over_test, pass_test, deep_test}
-use Rattle.paced_tree.proofs.Admissions.{Goes}
 use Rattle.pacing.specs.Spent.{IsSpent}
 use Rattle.pacing.specs.Steps.{Admit, Pay, Turn}
 use Rattle.pacing.proofs.Spent.{opening_spends, step_spends, moves_spend, quanta_are_few, forgave}

@@ -2,7 +2,7 @@
 use Rattle.std.proofs.Common.{◌≡◌, ◌∙◌, refl, sym, ap, subst, ℕ, ◌+◌, ◌-◌, ◌<◌, ◌≤◌, Bool, cond, true, false, not, ◌&&◌, ◌||◌, List, Option, Some, None, length, arith}
 use Rattle.std.proofs.lemmas.Grind.{common_steps}
 use Rattle.std.proofs.lemmas.Bool.Decides.{nat_tests}
-use Rattle.std.specs.Prelude.{◌==◌, nat_lt, slice_index, slice_index_or, slice_set}
+use Rattle.std.specs.Prelude.{◌==◌, nat_lt, slice_index, slice_set}
 use Rattle.std.proofs.lemmas.Bool.{le-leb}
 use Rattle.blsm_model.specs.Format.{callers}
 use Rattle.blsm_model.specs.declared.history.Why.{Why}
@@ -17,12 +17,12 @@ use Rattle.record_delta.specs.Entries.{entries_weight}
 use Rattle.tree_machine.specs.Lists.{memory_weight}
 use Rattle.tree_machine.specs.Merges.{Merge}
 use Rattle.tree_machine.specs.Layers.{IsSound}
-use Rattle.tree_machine.specs.Machine.{Machine, Seats, Turned, Failed, BadPage, Halted, is_closed, WorkSoFar, no_work, seats, pass_done, deep_done, work_of, turn_more}
+use Rattle.tree_machine.specs.Machine.{Machine, Turned, Failed, BadPage, Halted, is_closed, WorkSoFar, seats, pass_done, deep_done, work_of, turn_more}
 use Rattle.tree_machine.specs.Moves.{begin_pass, rotate_alone, swap_deep, swap_pass, pass_quantum, deep_quantum, stop}
 use Rattle.tree_machine.specs.Steps.{Choice, SwapDeep, SwapPass, DeepQuantum, PassQuantum, Begin, Rotate, Rest, choice, chosen, quanta_of, work_noted, with_turn, work_turn, work_turning, worker_turn, worker_turning, do_turn, Outcome, Well, FailedAfter, Broken, NoRoom}
 use Rattle.paced_tree.specs.Numbers.{with_numbers_of, IsPaceOf, HasTaken}
 use Rattle.paced_tree.specs.After.{snow_of, deep_of, quantum_for_move, after_turn, unless_stopped}
-use Rattle.paced_tree.proofs.Books.{worked_booked, helped_booked, idle_booked}
+use Rattle.paced_tree.proofs.Books.{worked_booked, helped_booked}
 use Rattle.paced_tree.proofs.Quanta.{has_taken_on, snow_is, deep_is}
 use Rattle.paced_tree.proofs.Moves.{of_pace, pass_test, deep_test, swap_deep_of, swap_pass_of, rotate_of, begin_of}
 use Rattle.paced_tree.proofs.Payments.{with_pass_as, at_pass, at_deep, snow_numbers, deep_numbers, pass_of, deep_run_of}

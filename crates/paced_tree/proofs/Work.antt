@@ -1,11 +1,10 @@
 -- What the cursors pass is at most what the quanta can take.
-use Rattle.std.proofs.Common.{◌≡◌, ◌∙◌, refl, sym, ap, subst, ℕ, ◌+◌, ◌*◌, ◌^◌, ◌<◌, ◌≤◌, ◌⊎◌, inl, inr, Bool, cond, true, false, ◌&&◌, List, [], ◌∷◌, Option, Some, None, length, set, sum, arith}
+use Rattle.std.proofs.Common.{◌≡◌, ◌∙◌, refl, sym, ap, subst, ℕ, ◌+◌, ◌*◌, ◌^◌, ◌<◌, ◌≤◌, ◌⊎◌, inl, inr, Bool, cond, true, false, List, [], ◌∷◌, Option, Some, None, length, set, sum, arith}
 use Rattle.std.proofs.lemmas.Grind.{common_steps}
 use Rattle.std.proofs.lemmas.Bool.Decides.{nat_tests}
 use Rattle.std.specs.Prelude.{slice_index}
-use Rattle.std.proofs.lemmas.Bool.{ltb-true}
 use Rattle.std.proofs.Math.Nat.{mul-add, mul-le-mul_left}
-use Rattle.blsm_model.specs.Format.{callers, most_weight, most_entries}
+use Rattle.blsm_model.specs.Format.{most_weight, most_entries}
 use Rattle.blsm_model.specs.Sizes.{Sizes, IsGeometry}
 use Rattle.blsm_model.specs.Geometry.{capacity}
 use Rattle.blsm_model.specs.Histories.{counted_writes}
@@ -20,10 +19,10 @@ use Rattle.pacing.proofs.Numbers.{sum_set, small}
 use Rattle.tree_machine.specs.Lists.{map_in}
 use Rattle.tree_machine.specs.Merges.{Merge, begun}
 use Rattle.tree_machine.specs.Layers.{IsSound}
-use Rattle.tree_machine.specs.Machine.{Machine, Catalogue, opened, seats, is_caller}
+use Rattle.tree_machine.specs.Machine.{Machine, Catalogue, opened, seats}
 use Rattle.tree_machine.specs.Moves.{pass_quantum, deep_quantum, pass_quantum_of, deep_quantum_of}
 use Rattle.tree_machine.specs.Steps.{Outcome}
-use Rattle.tree_machine.specs.Plays.{has_room, is_between, may_note, may, may_step, stepped, stepped_as, played, played_one}
+use Rattle.tree_machine.specs.Plays.{may, may_step, stepped, stepped_as, played, played_one}
 use Rattle.tree_machine.specs.Effects.{MergeStands, Rests, TakesQuantum, passed_by, work_between}
 use Rattle.tree_machine.specs.declared.step.Step.{Step}
 use Rattle.tree_machine.specs.declared.step.Kind.{Kind}
@@ -33,7 +32,6 @@ use Rattle.tree_machine.specs.Laws.{IsVersion}
 use Rattle.tree_machine.proofs.CommitLemmas.{step_commits}
 use Rattle.tree_machine.proofs.GrowLemmas.{step_room}
 use Rattle.tree_machine.proofs.FrameLemmas.{step_fixed}
-use Rattle.tree_machine.proofs.FoldLemmas.{both_hold}
 use Rattle.tree_machine.proofs.QuantumLemmas.{quantum_weighs, quantum_few}
 use Rattle.tree_machine.proofs.LightLemmas.{light_weighs}
 use Rattle.paced_tree.specs.Kept.{AreComponents, IsPacedTree, paced_one, paced_all, AllFit}
