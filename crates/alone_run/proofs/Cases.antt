@@ -6,8 +6,8 @@ use Rattle.std.specs.Prelude.{nat_lt, slice_set}
 use Rattle.std.specs.List.{AllByRecursion}
 use Rattle.std.proofs.lemmas.Bool.{false≢true}
 use Rattle.blsm_model.specs.Book.{Book}
-use Rattle.blsm_model.specs.Format.{callers}
-use Rattle.blsm_model.specs.Legal.{is_write}
+use Rattle.blsm_model.specs.Format.{callers, most_turns}
+use Rattle.blsm_model.specs.Legal.{is_write, is_look}
 use Rattle.blsm_model.specs.declared.history.Entry.{Entry}
 use Rattle.blsm_model.specs.declared.op.Op.{Op}
 use Rattle.blsm_model.specs.declared.op.Op.TheVariants.{Work}
@@ -17,18 +17,19 @@ use Rattle.tree_machine.proofs.FrameLemmas.{step_follows}
 use Rattle.tree_machine.specs.declared.step.Kind.{Kind}
 use Rattle.tree_machine.specs.declared.step.Kind.TheVariants as kind
 use Rattle.tree_machine.specs.Machine.{Machine, WorkSoFar, is_caller, is_worked, no_work, owes, work_of}
-use Rattle.tree_machine.specs.Plays.{has_room, is_even, is_finished, may, may_note, most_turns, stepped_as}
+use Rattle.tree_machine.specs.Plays.{has_room, is_even, is_finished, may, may_note, stepped_as}
 use Rattle.tree_machine.specs.Stands.{work_at}
-use Rattle.tree_machine.specs.Steps.{Outcome, Well, admit, pay, work_end, work_turn}
+use Rattle.tree_machine.specs.Steps.{Outcome, Well, admit, pay, work_end, work_turn, look}
 use Rattle.alone_run.specs.Alone.{all_paid, but_left, ops_in}
 use Rattle.alone_run.proofs.Resumed.{alone_resumed, done_resumed}
 use Rattle.alone_run.proofs.Fuel.{all_paid_first, pay_synced}
 use Rattle.alone_run.proofs.Lefts.{all_paid_left, alone_left, with_left}
 use Rattle.alone_run.proofs.Moves.{Synced}
 use Rattle.alone_run.proofs.Payments.{IsEven, Pays, all_paid_reads, even_not_owing, even_paid, even_pays_none, not_owing, paid_lengths, paid_seen, pay_as_well, pay_pays}
-use Rattle.alone_run.proofs.Readings.{Calm, Reading, Seen, end_reads, ending, entry_of, last_of, read_as, seen}
-use Rattle.alone_run.proofs.Since.{admit_between}
+use Rattle.alone_run.proofs.Readings.{Calm, Reading, Seen, end_reads, ending, entry_of, last_of, read_as, seen, look_reads, look_well, looking}
+use Rattle.alone_run.proofs.Since.{admit_between, between}
 use Rattle.alone_run.proofs.Turns.{Notes, RestsOnceOver, Turns, admit_as_well, admit_notes, finished, longer, turn_as_well, turn_turns, turned_first}
+use Rattle.blsm_model.proofs.LookLemmas.{look_is_no_write}
 
 -- ---- what a run that one seat asks keeps
 
@@ -146,6 +147,18 @@ module _ (s : ℕ) (end : Machine) where
 
   write_done : (op : Op) (m : Machine) → is_write op ≡ true → done_resumed s op m ≡ all_paid s (admit m s op Well).state
   write_done op m h1 = grind (arith, common_steps, nat_tests)
+
+  -- ---- a command that only looks
+
+  look_done : (seat : ℕ) (op : Op) (m : Machine) → is_look op ≡ true → done_resumed seat op m ≡ (look m seat op Well).state
+  look_done seat op m h1 = grind (arith, common_steps, nat_tests)
+
+  pub looks : (m : Machine) (seat : ℕ) (op : Op) (outcome : Outcome) → IsAlone s m → (is_look op && may_note seat 0 m) ≡ true → Before s (look m seat op outcome).state
+      → (IsAlone s (look m seat op outcome).state → Leads s (look m seat op outcome).state end) → Leads s m end
+  looks m seat op outcome is ok before =
+      let can = both_hold (is_look op) (may_note seat 0 m) ok in
+      free_reads (looking op) op m (look m seat op outcome).state seat (look_reads m seat op outcome is.runs before.calm) (look_is_no_write op can.0) is refl (between seat 0 m can.1)
+      (λ n runs. look_done seat op n can.0 ∙ look_well n seat op runs) before
 
   abbrev Steps : Machine → Kind → Outcome → ℕ → Type 0
   Steps m k outcome seat =

@@ -50,7 +50,7 @@ abbrev three_writes : List (ℕ × Kind)
 three_writes = (0, kind.Admit heavy) ∷ (0, kind.Pay) ∷ (0, kind.Admit heavy) ∷ (3, kind.Pay) ∷ (0, kind.Admit heavy) ∷ []
 
 -- Whether the get comes before the payments or after them, and when the others leave, is not printed.
-paid_late : printed (played (fresh low_mark) (went_well (three_writes ++ (0, kind.Get a) ∷ (3, kind.Leave) ∷ (0, kind.Pay) ∷ (0, kind.Pay) ∷ (0, kind.Leave) ∷ [])))
+paid_late : printed (played (fresh low_mark) (went_well (three_writes ++ (0, kind.Look (Get a)) ∷ (3, kind.Leave) ∷ (0, kind.Pay) ∷ (0, kind.Pay) ∷ (0, kind.Leave) ∷ [])))
     ≡ printed (alone 0 (fresh low_mark) (heavy ∷ heavy ∷ heavy ∷ Get a ∷ []))
 paid_late = refl
 

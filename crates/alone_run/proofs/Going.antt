@@ -1,24 +1,23 @@
 -- Commands done alone: the tree runs on, and the seat owes nothing after each.
 use Rattle.std.proofs.Common.{◌≡◌, ◌∙◌, refl, ap, sym, subst, ℕ, zero, suc, ◌+◌, ◌-◌, ◌<◌, Bool, cond, true, false, List, [], ◌∷◌, length, None, arith, get_or-set_same, length-set}
 use Rattle.blsm_model.specs.Format.{callers}
-use Rattle.blsm_model.specs.Histories.{answer_to_get}
 use Rattle.blsm_model.specs.Sizes.{Sizes}
 use Rattle.blsm_model.specs.declared.room.Room.{Room}
 use Rattle.record_delta.specs.Entries.{Entries}
 use Rattle.blsm_model.specs.declared.op.Op.{Op}
-use Rattle.blsm_model.specs.declared.op.Op.TheVariants.{Get, Hold, Next, Release, Work}
+use Rattle.blsm_model.specs.declared.op.Op.TheVariants.{Hold, Next, Release, Work}
 use Rattle.gear_sched.specs.Gears.{first_debt, second_debt}
-use Rattle.tree_machine.specs.Lists.{value_in}
 use Rattle.tree_machine.specs.Machine.{Catalogue, Machine, WorkSoFar, no_work, opened, work_of}
 use Rattle.tree_machine.specs.Stands.{work_at}
-use Rattle.tree_machine.specs.Steps.{Well, admit, do_hold, replied, work_end, work_turn}
+use Rattle.tree_machine.specs.Steps.{Well, admit, do_hold, work_end, work_turn, look}
 use Rattle.alone_run.specs.Alone.{AlonePays, all_paid, alone, done_alone, is_over, turned}
 use Rattle.alone_run.proofs.Fuel.{all_paid_even, paid_synced}
 use Rattle.alone_run.proofs.Moves.{Synced}
 use Rattle.alone_run.proofs.Payments.{IsEven, not_owing, paid_seen}
-use Rattle.alone_run.proofs.Readings.{Reading, Seen, drop_reads, getting, next_well, read_as, reading_on, releasing, running_is, seen, taking_hold}
+use Rattle.alone_run.proofs.Readings.{Reading, Seen, drop_reads, next_well, read_as, reading_on, releasing, running_is, seen, taking_hold, look_well, looking}
 use Rattle.alone_run.proofs.Resumed.{alone_resumed, done_resumed}
 use Rattle.alone_run.proofs.Turns.{admit_notes, replicated, turn_turns}
+use Rattle.blsm_model.specs.Legal.{is_look}
 
 module _ (s : ℕ) (caller : s < callers) where
   pub record IsGoing (m : Machine) : Type 0 where
@@ -59,15 +58,18 @@ module _ (s : ℕ) (caller : s < callers) where
         even = all_paid_even s new (notes.synced is.synced) (notes.stopped ∙ is.runs);
       }
 
+  -- a command that only looks, and a write
+  other_goes : (op : Op) (m : Machine) → IsGoing m → (looks : Bool) → IsGoing (cond looks (look m s op Well).state (all_paid s (admit m s op Well).state))
+  other_goes op m is true = reads_go (looking op) op m (look m s op Well).state (look_well m s op is.runs) refl is
+  other_goes op m is false = write_goes op m is
+
   done_goes : (op : Op) (m : Machine) → IsGoing m → IsGoing (done_alone s op m)
-  done_goes (Get key) m is =
-      reads_go (getting key) (Get key) m (done_alone s (Get key) m) (running_is m s (Get key) (replied s (Get key) (answer_to_get (value_in m.lists key)) m) is.runs) refl is
   done_goes (Hold low high) m is =
       reads_go (taking_hold s low high) (Hold low high) m (done_alone s (Hold low high) m) (running_is m s (Hold low high) (do_hold m s low high Well) is.runs) refl is
   done_goes (Next n) m is = reads_go (reading_on s n) (Next n) m (done_alone s (Next n) m) (next_well m s n is.runs) refl is
   done_goes Release m is = reads_go (releasing s) Release m (done_alone s Release m) (drop_reads m s is.runs) refl is
   done_goes (Work n) m is = ends_going n (turned n s m) (turned_goes n m is)
-  done_goes op m is = write_goes op m is
+  done_goes op m is = other_goes op m is (is_look op)
 
   pub alone_goes : (ops : List Op) (m : Machine) → IsGoing m → ((alone s m ops).stopped ≡ None) × IsEven s (alone s m ops)
   alone_goes [] m is = (is.runs, is.even)
@@ -87,9 +89,11 @@ module _ (s : ℕ) (caller : s < callers) where
       ap (λ (v : Seen). (work_at s v.work).turns) (paid_seen s (first_debt new.gears s + second_debt new.gears s) new)
       ∙ ap (λ (ws : List WorkSoFar). (work_at s ws).turns) (admit_notes m s op is.runs).work ∙ closed
 
+  other_closes : (op : Op) (m : Machine) → IsGoing m → IsClosed m → (looks : Bool) → IsClosed (cond looks (look m s op Well).state (all_paid s (admit m s op Well).state))
+  other_closes op m is closed true = reads_close (looking op) op m (look m s op Well).state (look_well m s op is.runs) refl closed
+  other_closes op m is closed false = write_closes op m is closed
+
   done_closes : (op : Op) (m : Machine) → IsGoing m → IsClosed m → IsClosed (done_alone s op m)
-  done_closes (Get key) m is closed =
-      reads_close (getting key) (Get key) m (done_alone s (Get key) m) (running_is m s (Get key) (replied s (Get key) (answer_to_get (value_in m.lists key)) m) is.runs) refl closed
   done_closes (Hold low high) m is closed =
       reads_close (taking_hold s low high) (Hold low high) m (done_alone s (Hold low high) m) (running_is m s (Hold low high) (do_hold m s low high Well) is.runs) refl closed
   done_closes (Next n) m is closed = reads_close (reading_on s n) (Next n) m (done_alone s (Next n) m) (next_well m s n is.runs) refl closed
@@ -97,7 +101,7 @@ module _ (s : ℕ) (caller : s < callers) where
   done_closes (Work n) m is closed =
       let works = (turned_goes n m is).works in
       ap (λ (w : WorkSoFar). w.turns) (get_or-set_same (turned n s m).seats.work s no_work no_work (omega (arith, caller, works)))
-  done_closes op m is closed = write_closes op m is closed
+  done_closes op m is closed = other_closes op m is closed (is_look op)
 
   done_same : (op : Op) (m : Machine) → IsClosed m → done_resumed s op m ≡ done_alone s op m
   done_same (Work n) m closed = ap (λ k. (work_end (turned k s m) s n).state) (let all : n - (work_of s m).turns ≡ n = omega (arith, closed) in all)

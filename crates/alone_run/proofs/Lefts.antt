@@ -1,24 +1,21 @@
 -- Who left is read by no step but a worker's: every other step is the same, whoever left.
-use Rattle.std.proofs.Common.{◌≡◌, ◌∙◌, refl, ap, ℕ, zero, suc, ◌+◌, ◌-◌, Bool, cond, not, ◌&&◌, List, [], ◌∷◌, Option, None}
+use Rattle.std.proofs.Common.{◌≡◌, ◌∙◌, refl, ap, ℕ, zero, suc, ◌+◌, ◌-◌, Bool, cond, List, [], ◌∷◌, Option, None, true, false}
 use Rattle.std.proofs.lemmas.Grind.{common_steps}
 use Rattle.std.proofs.lemmas.Bool.Decides.{nat_tests}
 use Rattle.std.proofs.Common.{arith}
-use Rattle.std.specs.Prelude.{nat_le, nat_lt}
-use Rattle.blsm_model.specs.Geometry.{c1_mark}
-use Rattle.blsm_model.specs.Histories.{answer_to_get, answer_to_release}
+use Rattle.blsm_model.specs.Histories.{answer_to_release, answer_to_look}
 use Rattle.blsm_model.specs.declared.history.Why.{Why}
 use Rattle.blsm_model.specs.declared.op.Op.{Op}
-use Rattle.blsm_model.specs.declared.op.Op.TheVariants.{Get, Hold, Next, Release, Work}
+use Rattle.blsm_model.specs.declared.op.Op.TheVariants.{Hold, Next, Release, Work}
 use Rattle.blsm_model.specs.declared.op.Write.{Write}
 use Rattle.blsm_model.specs.declared.row.Row.{Row}
 use Rattle.gear_sched.specs.Gears.{first_debt, second_debt}
-use Rattle.record_delta.specs.Entries.{entries_weight}
-use Rattle.tree_machine.specs.Lists.{value_in}
-use Rattle.tree_machine.specs.Machine.{Machine, deep_done, held_by, in_pass, owes, pass_done, work_of}
-use Rattle.tree_machine.specs.Moves.{begin_pass, deep_quantum, end_pass, output_of, pass_quantum, rotate, swap_deep, swap_pass}
-use Rattle.tree_machine.specs.Steps.{Choice, Well, admit, chosen, deep_swapped, do_hold, do_next, holding, pass_begun_for, pass_swapped, pay, ready_for, replied, taken_once, unless_stopped, work_end, work_turn}
+use Rattle.tree_machine.specs.Lists.{contents_in}
+use Rattle.tree_machine.specs.Machine.{Machine, held_by, owes, work_of}
+use Rattle.tree_machine.specs.Steps.{Choice, Well, admit, chosen, do_hold, do_next, holding, pay, ready_for, replied, taken_once, unless_stopped, work_end, work_turn, look}
 use Rattle.alone_run.specs.Alone.{all_paid, is_over, paid, turned}
 use Rattle.alone_run.proofs.Resumed.{alone_resumed, done_resumed}
+use Rattle.blsm_model.specs.Legal.{is_look}
 
 -- the callers left as this list says
 abbrev pub with_left : List Bool → Machine → Machine
@@ -60,12 +57,20 @@ pub turned_left : (n seat : ℕ) (l : List Bool) (m : Machine) → turned n seat
 turned_left zero seat l m = refl
 turned_left (suc n) seat l m = ap (λ x. cond (is_over (work_of seat m)) (with_left l m) x) (ap (turned n seat) (turn_left seat l m) ∙ turned_left n seat l (work_turn m seat Well).state) ∙ if_left l (is_over (work_of seat m)) m (turned n seat (work_turn m seat Well).state)
 
-pub done_left : (seat : ℕ) (op : Op) (l : List Bool) (m : Machine) → done_resumed seat op (with_left l m) ≡ with_left l (done_resumed seat op m)
-done_left seat (Get key) l m = by m.stopped
+-- a command that only looks, and a write
+look_left : (seat : ℕ) (op : Op) (l : List Bool) (m : Machine) → (look (with_left l m) seat op Well).state ≡ with_left l (look m seat op Well).state
+look_left seat op l m = by m.stopped
   where
-    by : (o : Option Why) → (unless_stopped o seat (Get key) (with_left l m) (replied seat (Get key) (answer_to_get (value_in m.lists key)) (with_left l m))).state
-        ≡ with_left l (unless_stopped o seat (Get key) m (replied seat (Get key) (answer_to_get (value_in m.lists key)) m)).state
+    by : (o : Option Why) → (unless_stopped o seat op (with_left l m) (replied seat op (answer_to_look op (contents_in m.lists)) (with_left l m))).state
+        ≡ with_left l (unless_stopped o seat op m (replied seat op (answer_to_look op (contents_in m.lists)) m)).state
     by o = grind (arith, common_steps, nat_tests)
+
+other_left : (seat : ℕ) (op : Op) (l : List Bool) (m : Machine) (looks : Bool)
+    → cond looks (look (with_left l m) seat op Well).state (all_paid seat (admit (with_left l m) seat op Well).state) ≡ with_left l (cond looks (look m seat op Well).state (all_paid seat (admit m seat op Well).state))
+other_left seat op l m true = look_left seat op l m
+other_left seat op l m false = ap (all_paid seat) (admit_left seat op l m) ∙ all_paid_left seat l (admit m seat op Well).state
+
+pub done_left : (seat : ℕ) (op : Op) (l : List Bool) (m : Machine) → done_resumed seat op (with_left l m) ≡ with_left l (done_resumed seat op m)
 done_left seat (Hold low high) l m = by m.stopped
   where
     by : (o : Option Why) → (unless_stopped o seat (Hold low high) (with_left l m) (do_hold (with_left l m) seat low high Well)).state ≡ with_left l (unless_stopped o seat (Hold low high) m (do_hold m seat low high Well)).state
@@ -80,7 +85,7 @@ done_left seat Release l m = by m.stopped
         ≡ with_left l (unless_stopped o seat Release m (replied seat Release (answer_to_release (held_by seat m)) (holding seat None m))).state
     by o = grind (arith, common_steps, nat_tests)
 done_left seat (Work n) l m = ap (λ x. (work_end x seat n).state) (turned_left (n - (work_of seat m).turns) seat l m)
-done_left seat op l m = ap (all_paid seat) (admit_left seat op l m) ∙ all_paid_left seat l (admit m seat op Well).state
+done_left seat op l m = other_left seat op l m (is_look op)
 
 pub alone_left : (seat : ℕ) (ops : List Op) (l : List Bool) (m : Machine) → alone_resumed seat (with_left l m) ops ≡ with_left l (alone_resumed seat m ops)
 alone_left seat [] l m = refl

@@ -6,19 +6,19 @@ use Rattle.std.specs.Prelude.{slice_index, slice_index_or, slice_set}
 use Rattle.std.specs.List.{AllByRecursion}
 use Rattle.std.proofs.lemmas.Bool.{false≢true}
 use Rattle.blsm_model.specs.Book.{room_after}
-use Rattle.blsm_model.specs.Histories.{answer_to_get, answer_to_release}
+use Rattle.blsm_model.specs.Histories.{answer_to_release, answer_to_look}
 use Rattle.blsm_model.specs.declared.history.Entry.{Entry}
 use Rattle.blsm_model.specs.declared.history.Reply.{Reply}
 use Rattle.blsm_model.specs.declared.history.Reply.TheVariants.{Held, NoHold, Rows, Fault, Damaged, NoMemory}
 use Rattle.blsm_model.specs.declared.history.Why.{Why}
 use Rattle.blsm_model.specs.declared.key.Key.{Key}
 use Rattle.blsm_model.specs.declared.op.Op.{Op}
-use Rattle.blsm_model.specs.declared.op.Op.TheVariants.{Get, Hold, Next, Release, Work}
+use Rattle.blsm_model.specs.declared.op.Op.TheVariants.{Hold, Next, Release, Work}
 use Rattle.blsm_model.specs.declared.row.Row.{Row}
-use Rattle.tree_machine.specs.Lists.{Lists, rows_in, value_in}
+use Rattle.tree_machine.specs.Lists.{Lists, rows_in, contents_in}
 use Rattle.tree_machine.specs.Machine.{Machine, WorkSoFar, held_by, no_work}
 use Rattle.tree_machine.specs.Stands.{work_at}
-use Rattle.tree_machine.specs.Steps.{Outcome, Well, FailedAfter, Broken, NoRoom, Stepped, do_hold, do_next, drop_hold, get, hold, holding, next_rows, replied, reply_unless, unless_stopped, work_end, work_reply}
+use Rattle.tree_machine.specs.Steps.{Outcome, Well, FailedAfter, Broken, NoRoom, Stepped, do_hold, do_next, drop_hold, hold, holding, next_rows, replied, reply_unless, unless_stopped, work_end, work_reply, look}
 use Rattle.alone_run.specs.Alone.{is_trouble}
 
 -- what such a step reads
@@ -52,8 +52,8 @@ read_as r seat op m = record m {
   };
 }
 
-abbrev pub getting : Key → Reading
-getting key = record { reply = λ v. answer_to_get (value_in v.lists key); holds = λ v. v.holds; work = λ v. v.work; quanta = λ v. 0 }
+abbrev pub looking : Op → Reading
+looking op = record { reply = λ v. answer_to_look op (contents_in v.lists); holds = λ v. v.holds; work = λ v. v.work; quanta = λ v. 0 }
 
 abbrev pub taking_hold : ℕ → Key → Key → Reading
 taking_hold seat low high = record { reply = λ v. Held; holds = λ v. slice_set v.holds seat (Some (rows_in v.lists low high)); work = λ v. v.work; quanta = λ v. 0 }
@@ -93,13 +93,20 @@ no_trouble : (m : Machine) (seat : ℕ) (op : Op) (reply : Reply) (made : Steppe
 no_trouble m seat op reply made none is calm =
     last_of (λ (e : Entry). is_trouble e.reply ≡ false) m.book.entries (entry_of seat op reply) (subst Calm (ap (λ (n : Machine). n.book.entries) (running_is m seat op made none) ∙ is) calm)
 
-pub get_reads : (m : Machine) (seat : ℕ) (key : Key) (outcome : Outcome) → m.stopped ≡ None → Calm (get m seat key outcome).state.book.entries → (get m seat key outcome).state ≡ read_as (getting key) seat (Get key) m
-get_reads m seat key outcome none calm =
-    running_is m seat (Get key) (replied seat (Get key) (reply_unless outcome (answer_to_get (value_in m.lists key))) m) none
-    ∙ by outcome (no_trouble m seat (Get key) (reply_unless outcome (answer_to_get (value_in m.lists key))) (replied seat (Get key) (reply_unless outcome (answer_to_get (value_in m.lists key))) m) none refl calm)
+pub look_reads : (m : Machine) (seat : ℕ) (op : Op) (outcome : Outcome) → m.stopped ≡ None → Calm (look m seat op outcome).state.book.entries → (look m seat op outcome).state ≡ read_as (looking op) seat op m
+look_reads m seat op outcome none calm =
+    running_is m seat op (replied seat op (reply_unless outcome answer) m) none
+    ∙ by outcome (no_trouble m seat op (reply_unless outcome answer) (replied seat op (reply_unless outcome answer) m) none refl calm)
   where
-    by : (e : Outcome) → is_trouble (reply_unless e (answer_to_get (value_in m.lists key))) ≡ false → (replied seat (Get key) (reply_unless e (answer_to_get (value_in m.lists key))) m).state ≡ read_as (getting key) seat (Get key) m
+    answer : Reply
+    answer = answer_to_look op (contents_in m.lists)
+
+    by : (e : Outcome) → is_trouble (reply_unless e answer) ≡ false → (replied seat op (reply_unless e answer) m).state ≡ read_as (looking op) seat op m
     by e h1 = grind (arith, common_steps, nat_tests)
+
+-- one that went well
+pub look_well : (m : Machine) (seat : ℕ) (op : Op) → m.stopped ≡ None → (look m seat op Well).state ≡ read_as (looking op) seat op m
+look_well m seat op none = running_is m seat op (replied seat op (answer_to_look op (contents_in m.lists)) m) none
 
 pub hold_reads : (m : Machine) (seat : ℕ) (low high : Key) (outcome : Outcome) → m.stopped ≡ None → Calm (hold m seat low high outcome).state.book.entries → (hold m seat low high outcome).state ≡ read_as (taking_hold seat low high) seat (Hold low high) m
 hold_reads m seat low high outcome none calm = running_is m seat (Hold low high) (do_hold m seat low high outcome) none ∙ by outcome calm

@@ -4,10 +4,9 @@ use Rattle.std.specs.Prelude.{◌==◌}
 use Rattle.std.specs.List.{AllByRecursion}
 use Rattle.std.proofs.lemmas.Bool.{false≢true, eq-eqb}
 use Rattle.blsm_model.specs.Format.{callers}
-use Rattle.blsm_model.specs.Histories.{answer_to_get}
 use Rattle.blsm_model.specs.Sizes.{Sizes}
 use Rattle.blsm_model.specs.declared.history.Entry.{Entry}
-use Rattle.blsm_model.specs.declared.op.Op.TheVariants.{Get, Hold, Next, Release}
+use Rattle.blsm_model.specs.declared.op.Op.TheVariants.{Hold, Next, Release}
 use Rattle.blsm_model.specs.declared.room.Room.{Room}
 use Rattle.gear_sched.specs.Gears.{first_debt, second_debt}
 use Rattle.record_delta.specs.Entries.{Entries}
@@ -15,16 +14,15 @@ use Rattle.tree_machine.proofs.PlayLemmas.{of_replicate}
 use Rattle.tree_machine.specs.declared.step.Kind.{Kind}
 use Rattle.tree_machine.specs.declared.step.Kind.TheVariants as kind
 use Rattle.tree_machine.specs.declared.step.Step.{Step}
-use Rattle.tree_machine.specs.Lists.{value_in}
 use Rattle.tree_machine.specs.Machine.{Catalogue, Machine, WorkSoFar, no_work, opened, totals, work_of}
 use Rattle.tree_machine.specs.Plays.{is_help, may, may_step, played, played_one, stepped, stepped_as}
-use Rattle.tree_machine.specs.Steps.{Outcome, Well, do_hold, replied}
+use Rattle.tree_machine.specs.Steps.{Outcome, Well, do_hold}
 use Rattle.alone_run.specs.Alone.{alone, EndsAlone, IsAsAlone, NoneHelps, RunsAlone, SameText, but_left, is_trouble, ops_in}
 use Rattle.alone_run.proofs.Going.{alone_same, opened_goes}
 use Rattle.alone_run.proofs.Resumed.{alone_resumed}
-use Rattle.alone_run.proofs.Cases.{Before, IsAlone, Leads, admits, end_leads, even_pays, free_reads, leaves, no_other_turns, own_pays, own_turns, turning_caller}
+use Rattle.alone_run.proofs.Cases.{Before, IsAlone, Leads, admits, end_leads, even_pays, free_reads, leaves, no_other_turns, own_pays, own_turns, turning_caller, looks}
 use Rattle.alone_run.proofs.Payments.{even_of, even_paid}
-use Rattle.alone_run.proofs.Readings.{drop_reads, get_reads, getting, hold_reads, next_reads, next_well, reading_on, releasing, running_is, taking_hold}
+use Rattle.alone_run.proofs.Readings.{drop_reads, hold_reads, next_reads, next_well, reading_on, releasing, running_is, taking_hold}
 use Rattle.alone_run.proofs.Since.{between, closed_since, entries_since, next_between, ran_since}
 use Rattle.alone_run.proofs.Turns.{replicated}
 
@@ -41,9 +39,7 @@ module _ (s : ℕ) (caller : s < callers) (end : Machine) (ends : EndsAlone s en
           subst (λ u. may m u kind.Pay ≡ true → Before s (stepped_as m u kind.Pay outcome).state → (IsAlone s (stepped_as m u kind.Pay outcome).state → Leads s (stepped_as m u kind.Pay outcome).state end) → Leads s m end)
           (sym (eqb-true seat s same)) (own_pays s end m outcome is) ok before rest
       by false differs = even_pays s end m seat outcome (is.others seat (λ same. false≢true (sym differs ∙ eq-eqb seat s same))) is rest
-  one_leads m seat (kind.Get key) outcome helps is ok before closed rest =
-      free_reads s end (getting key) (Get key) m (stepped_as m seat (kind.Get key) outcome).state seat (get_reads m seat key outcome is.runs before.calm) refl is refl (between seat 0 m ok)
-      (λ n runs. running_is n seat (Get key) (replied seat (Get key) (answer_to_get (value_in n.lists key)) n) runs) before rest
+  one_leads m seat (kind.Look op) outcome helps is ok before closed rest = looks s end m seat op outcome is ok before rest
   one_leads m seat (kind.Hold low high) outcome helps is ok before closed rest =
       free_reads s end (taking_hold seat low high) (Hold low high) m (stepped_as m seat (kind.Hold low high) outcome).state seat (hold_reads m seat low high outcome is.runs before.calm) refl is refl (between seat 0 m ok)
       (λ n runs. running_is n seat (Hold low high) (do_hold n seat low high Well) runs) before rest

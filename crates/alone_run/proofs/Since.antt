@@ -7,7 +7,7 @@ use Rattle.std.specs.List.{AllByRecursion}
 use Rattle.std.proofs.lemmas.Bool.{false≢true, eq-eqb}
 use Rattle.blsm_model.specs.Facts.{Notes}
 use Rattle.blsm_model.specs.Format.{callers, most_rows}
-use Rattle.blsm_model.specs.Legal.{is_write}
+use Rattle.blsm_model.specs.Legal.{is_write, is_look}
 use Rattle.blsm_model.specs.declared.history.Entry.{Entry}
 use Rattle.blsm_model.specs.declared.history.Why.{Why}
 use Rattle.blsm_model.specs.declared.op.Op.TheVariants.{Work}
@@ -87,7 +87,7 @@ module _ (s u : ℕ) (other : u ≢ s) (caller : u < callers) where
   own_closed m kind.Pay outcome ok ran runs asked none =
       let same : (pay m u outcome).state.seats.work ≡ m.seats.work = ap (λ (n : Machine). n.seats.work) (pay_as_well m u outcome runs) ∙ ap (λ (v : Seen). v.work) (pay_pays u m).seen in
       ap (λ (ws : List WorkSoFar). (slice_index_or ws u no_work).turns) (sym same) ∙ none
-  own_closed m (kind.Get key) outcome ok ran runs asked none = between u 0 m ok
+  own_closed m (kind.Look op) outcome ok ran runs asked none = between u 0 m (both_hold (is_look op) (may_note u 0 m) ok).1
   own_closed m (kind.Hold low high) outcome ok ran runs asked none = between u 0 m ok
   own_closed m (kind.Next n) outcome ok ran runs asked none = next_between m u n ok
   own_closed m kind.Release outcome ok ran runs asked none = between u 0 m ok

@@ -3,7 +3,7 @@ use Rattle.std.proofs.Common.{◌≡◌, ◌∙◌, refl, ap, sym, subst, ℕ, z
 use Rattle.std.proofs.lemmas.Grind.{common_steps}
 use Rattle.std.proofs.lemmas.Bool.Decides.{nat_tests}
 use Rattle.std.specs.Prelude.{nat_le, nat_lt, slice_index, slice_set}
-use Rattle.blsm_model.specs.Book.{Book, counted_up, noted}
+use Rattle.blsm_model.specs.Book.{Book}
 use Rattle.blsm_model.specs.Format.{callers}
 use Rattle.blsm_model.specs.Geometry.{c1_mark, charge_limit}
 use Rattle.blsm_model.specs.Histories.{writes_of}
@@ -12,7 +12,6 @@ use Rattle.blsm_model.specs.declared.history.Entry.{Entry}
 use Rattle.blsm_model.specs.declared.history.Reply.{Reply}
 use Rattle.blsm_model.specs.declared.history.Reply.TheVariants.{Done, Full}
 use Rattle.blsm_model.specs.declared.op.Op.{Op}
-use Rattle.blsm_model.specs.declared.op.Op.TheVariants.{Work}
 use Rattle.record_delta.specs.Entries.{entries_weight}
 use Rattle.tree_machine.proofs.FoldLemmas.{both, both_hold}
 use Rattle.tree_machine.proofs.PlayLemmas.{of_replicate}

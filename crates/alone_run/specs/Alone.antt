@@ -8,14 +8,15 @@ use Rattle.blsm_model.specs.declared.history.Entry.{Entry}
 use Rattle.blsm_model.specs.declared.history.Reply.{Reply}
 use Rattle.blsm_model.specs.declared.history.Reply.TheVariants.{Fault, Damaged, NoMemory}
 use Rattle.blsm_model.specs.declared.op.Op.{Op}
-use Rattle.blsm_model.specs.declared.op.Op.TheVariants.{Get, Hold, Next, Release, Work}
+use Rattle.blsm_model.specs.declared.op.Op.TheVariants.{Hold, Next, Release, Work}
 use Rattle.blsm_model.specs.declared.room.Room.{Room}
 use Rattle.gear_sched.specs.Gears.{first_debt, second_debt}
 use Rattle.record_delta.specs.Entries.{Entries}
 use Rattle.tree_machine.specs.declared.step.Step.{Step}
 use Rattle.tree_machine.specs.Machine.{Catalogue, Machine, WorkSoFar, is_worked, opened, owes, totals, work_of}
 use Rattle.tree_machine.specs.Plays.{is_help, played}
-use Rattle.tree_machine.specs.Steps.{Outcome, Well, admit, drop_hold, get, hold, next_rows, pay, work_end, work_turn}
+use Rattle.tree_machine.specs.Steps.{Outcome, Well, admit, drop_hold, hold, next_rows, pay, work_end, work_turn, look}
+use Rattle.blsm_model.specs.Legal.{is_look}
 
 -- ---- one function
 
@@ -39,12 +40,11 @@ turned (suc n) seat m = let rest = turned n seat (work_turn m seat Well).state i
 
 -- One command. A write is admitted, and paid for at once. A work takes its turns, and ends.
 abbrev pub done_alone : ℕ → Op → Machine → Machine
-done_alone seat (Get key) m = (get m seat key Well).state
 done_alone seat (Hold low high) m = (hold m seat low high Well).state
 done_alone seat (Next n) m = (next_rows m seat n Well).state
 done_alone seat Release m = (drop_hold m seat).state
 done_alone seat (Work n) m = (work_end (turned n seat m) seat n).state
-done_alone seat write m = all_paid seat (admit m seat write Well).state
+done_alone seat op m = if is_look op then (look m seat op Well).state else all_paid seat (admit m seat op Well).state
 
 -- the commands, one after another
 abbrev pub alone : ℕ → Machine → List Op → Machine

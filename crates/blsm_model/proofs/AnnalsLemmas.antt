@@ -1,8 +1,8 @@
 -- Rows that are added leave what was noted before.
 use Rattle.std.proofs.lemmas.Bool.Decides.{nat_tests}
-use Rattle.std.proofs.Common.{◌≡◌, ℕ, zero, suc, ◌+◌, ◌-◌, ◌<◌, ◌≤◌, ◌++◌, List, [], ◌∷◌, refl, ap, ◌∙◌, map, length, sum, arith, slice_index, slice_set, slice_range, length-append}
+use Rattle.std.proofs.Common.{◌≡◌, ℕ, zero, suc, ◌+◌, ◌-◌, ◌<◌, ◌≤◌, ◌++◌, List, [], ◌∷◌, refl, ap, ◌∙◌, map, length, sum, arith, slice_index, slice_set}
 use Rattle.std.specs.List.{AllByRecursion}
-use Rattle.std.proofs.lemmas.List.{take-append-le, drop-append-le, map-append, set-get_or}
+use Rattle.std.proofs.lemmas.List.{set-get_or}
 use Rattle.std.proofs.lemmas.Grind.{common_steps}
 use Rattle.std.proofs.lemmas.List.Sums.{sum_by-cons}
 use Rattle.blsm_model.specs.declared.row.Row.{Row}
@@ -13,15 +13,11 @@ use Rattle.blsm_model.specs.declared.history.ShortReply.TheVariants as short
 use Rattle.blsm_model.specs.declared.annals.StoredReply.{StoredReply}
 use Rattle.blsm_model.specs.declared.annals.StoredReply.TheVariants as stored
 use Rattle.blsm_model.specs.declared.annals.StoredEntry.{StoredEntry}
-use Rattle.blsm_model.specs.declared.history.Reply.TheVariants.{Rows}
 use Rattle.blsm_model.specs.Book.{rows_given}
 use Rattle.blsm_model.specs.Stored.{as_reply, stored_reply, stored_entry, FitsRows, IsStored}
 
-same_range : (rows more : List Row) (first end : ℕ) → end ≤ length rows → slice_range (rows ++ more) first end ≡ slice_range rows first end
-same_range rows more first end fits = grind (arith, common_steps, take-append-le, drop-append-le)
-
 same_reply : (rows more : List Row) (reply : StoredReply) → FitsRows rows reply → stored_reply (rows ++ more) reply ≡ stored_reply rows reply
-same_reply rows more reply zh1 = grind (arith, common_steps, nat_tests)
+same_reply rows more reply h1 = grind (arith, common_steps, nat_tests)
 
 same_entries : (rows more : List Row) (entries : List StoredEntry) → AllByRecursion (λ e. FitsRows rows e.reply) entries → map (stored_entry (rows ++ more)) entries ≡ map (stored_entry rows) entries
 same_entries rows more [] within = refl
@@ -29,7 +25,7 @@ same_entries rows more (e ∷ es) within =
     λ i. record { seat = e.seat; op = e.op; reply = same_reply rows more e.reply within.0 i } ∷ same_entries rows more es within.1 i
 
 fits_more : (rows more : List Row) (reply : StoredReply) → FitsRows rows reply → FitsRows (rows ++ more) reply
-fits_more rows more reply zh1 = grind (arith, common_steps, nat_tests)
+fits_more rows more reply h1 = grind (arith, common_steps, nat_tests)
 
 within_push : (rows more : List Row) (entries : List StoredEntry) (e : StoredEntry) → AllByRecursion (λ k. FitsRows rows k.reply) entries → FitsRows (rows ++ more) e.reply → AllByRecursion (λ k. FitsRows (rows ++ more) k.reply) (entries ++ e ∷ [])
 within_push rows more [] e within fits = (fits, tt)

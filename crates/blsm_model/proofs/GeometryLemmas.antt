@@ -2,7 +2,7 @@
 use Rattle.std.proofs.lemmas.Bool.Decides.{nat_tests}
 use Rattle.std.proofs.lemmas.Grind.{common_steps}
 use Rattle.std.proofs.Common.{ℕ, ◌*◌, ◌/◌, ◌^◌, ◌<◌, ◌≤◌, arith}
-use Rattle.std.proofs.Math.Nat.{mul-le-mul, div-le_of_le-mul}
+use Rattle.std.proofs.Math.Nat.{mul-le-mul}
 
 -- a product is below the product of the bounds
 pub product_below : (a b m n : ℕ) → a ≤ m → b ≤ n → a * b ≤ m * n

@@ -1,14 +1,12 @@
 -- The rows that a caller holds stay those of the moment of its hold.
 use Rattle.std.proofs.lemmas.Bool.Decides.{nat_tests}
 use Rattle.std.proofs.lemmas.Grind.{common_steps}
-use Rattle.std.proofs.Common.{arith, ◌≡◌, ℕ, ◌==◌, ◌++◌, List, [], ◌∷◌, Bool, cond, true, false, not, ◌||◌, ◌&&◌, Option, Some, refl, ap, sym, ◌∙◌, eq-eqb}
+use Rattle.std.proofs.Common.{arith, ◌≡◌, ℕ, ◌==◌, ◌++◌, List, [], ◌∷◌, Bool, cond, true, false, Option, Some, refl, ap, ◌∙◌, eq-eqb}
 use Rattle.std.specs.List.{fold, list_all}
 use Rattle.std.proofs.lemmas.List.Sums.{fold-append}
 use Rattle.blsm_model.specs.declared.key.Key.{Key}
 use Rattle.blsm_model.specs.declared.row.Row.{Row}
 use Rattle.blsm_model.specs.declared.row.Value.{Value}
-use Rattle.blsm_model.specs.declared.op.Op.{Op}
-use Rattle.blsm_model.specs.declared.op.Op.TheVariants.{Hold, Next, Release}
 use Rattle.blsm_model.specs.declared.history.Entry.{Entry}
 use Rattle.blsm_model.specs.Rows.{rows}
 use Rattle.blsm_model.specs.Histories.{Object, held_after, is_refusal, moves_rows, leaves_rows, hold_by, fresh_object, after, object_after, written}
@@ -21,19 +19,9 @@ held-refusal object entry seat refused = ap (λ b. cond b (object.held seat) (co
 either : (b : Bool) (held : Option (List Row)) → cond b held held ≡ held
 either b held = grind (arith, common_steps, nat_tests)
 
--- another caller's entry changes none of this caller's
-pub held-other : (object : Object) (entry : Entry) (seat : ℕ) → (seat == entry.seat) ≡ false → (after object entry).held seat ≡ object.held seat
-held-other object entry seat other = grind (arith, common_steps, nat_tests)
-
-held_after-still : (op : Op) (object : Object) (seat : ℕ) → moves_rows op ≡ false → held_after op object.writes (object.held seat) ≡ object.held seat
-held_after-still op object seat zh1 = grind (arith, common_steps, nat_tests)
-
 -- a caller's own writes, gets and work change none of its rows either
 pub held-still : (object : Object) (entry : Entry) (seat : ℕ) → moves_rows entry.op ≡ false → (after object entry).held seat ≡ object.held seat
 held-still object entry seat still = grind (arith, common_steps, nat_tests)
-
-held-leaves : (object : Object) (entry : Entry) (seat : ℕ) → leaves_rows seat entry ≡ true → (after object entry).held seat ≡ object.held seat
-held-leaves object entry seat leaves = grind (arith, common_steps, nat_tests)
 
 -- nor do many such entries
 pub held-all_leave : (object : Object) (entries : List Entry) (seat : ℕ) → list_all (leaves_rows seat) entries ≡ true → (fold after object entries).held seat ≡ object.held seat

@@ -2,15 +2,13 @@
 -- store answers nothing else, with one why.
 use Rattle.std.proofs.lemmas.Bool.Decides.{nat_tests}
 use Rattle.std.proofs.lemmas.Grind.{common_steps}
-use Rattle.std.proofs.Common.{arith, ◌≡◌, ℕ, ◌++◌, List, [], ◌∷◌, Bool, true, false, not, ◌||◌, ◌&&◌, inl, inr, refl, ap, sym, subst, ◌∙◌, append_assoc, append-nil}
+use Rattle.std.proofs.Common.{arith, ◌≡◌, ℕ, ◌++◌, List, [], ◌∷◌, Bool, true, false, not, ◌||◌, refl, ap, sym, subst, append-nil}
 use Rattle.std.specs.List.{list_all, AllByRecursion}
-use Rattle.std.proofs.lemmas.List.Folds.{list_all-append}
 use Rattle.blsm_model.specs.declared.row.Value.{Value}
 use Rattle.blsm_model.specs.declared.op.Op.{Op}
-use Rattle.blsm_model.specs.declared.op.Op.TheVariants.{Get, Next, Work}
 use Rattle.blsm_model.specs.declared.history.Why.{Why}
 use Rattle.blsm_model.specs.declared.history.Reply.{Reply}
-use Rattle.blsm_model.specs.declared.history.Reply.TheVariants.{Fault, Damaged, Stopped}
+use Rattle.blsm_model.specs.declared.history.Reply.TheVariants.{Stopped}
 use Rattle.blsm_model.specs.declared.history.Entry.{Entry}
 use Rattle.blsm_model.specs.Legal.{Limits, MayReply, MayFail, NamesNoOther, FollowsOn, IsLegal, is_running, none_stopping, is_stopping, is_stopped, is_work, FollowsStop}
 
@@ -33,11 +31,8 @@ one_fails p before e more fails all = grind (arith, common_steps, nat_tests)
 not_running : (before : List Entry) (e : Entry) (more : List Entry) → (is_stopping e.op e.reply || is_stopped e.reply) ≡ true → is_running (before ++ e ∷ more) ≡ true → ⊥
 not_running before e more stop running = one_fails (λ k. not (is_stopping k.op k.reply || is_stopped k.reply)) before e more (ap not stop) running
 
-may_fail_stopped : (before : List Entry) (op : Op) (reply : Reply) → is_stopping op reply ≡ is_work op → (is_running before ≡ true → ⊥) → MayFail before op → FollowsStop op reply
-may_fail_stopped before op reply zh1 zh2 zh3 = grind (arith, common_steps, nat_tests)
-
 reply_stopped : (limits : Limits) (opening : Pairs) (before : List Entry) (seat : ℕ) (op : Op) (reply : Reply) → (is_running before ≡ true → ⊥) → MayReply limits opening before seat op reply → FollowsStop op reply
-reply_stopped limits opening before seat op reply zh1 zh2 = grind (arith, common_steps, nat_tests)
+reply_stopped limits opening before seat op reply h1 h2 = grind (arith, common_steps, nat_tests)
 
 -- after an entry that shows a stop each entry is Stopped, but for a work that stops the store itself
 pub stays_stopped : (limits : Limits) (opening : Pairs) (before : List Entry) (e : Entry) (between : List Entry) (f : Entry) (more : List Entry) →
@@ -45,14 +40,14 @@ pub stays_stopped : (limits : Limits) (opening : Pairs) (before : List Entry) (e
 stays_stopped limits opening before e between f more legal stop = grind (arith, common_steps, nat_tests, reply_stopped, not_running, legal_at)
 
 may_fail_once : (before : List Entry) (op : Op) (reply : Reply) → is_stopping op reply ≡ is_work op → is_stopping op reply ≡ true → MayFail before op → none_stopping before ≡ true
-may_fail_once before op reply zh1 zh2 zh3 = grind (arith, common_steps, nat_tests)
+may_fail_once before op reply h1 h2 h3 = grind (arith, common_steps, nat_tests)
 
 running_none : (before : List Entry) → is_running before ≡ true → none_stopping before ≡ true
 running_none [] running = refl
 running_none (e ∷ es) running = grind (arith, common_steps, nat_tests, running_none es)
 
 reply_once : (limits : Limits) (opening : Pairs) (before : List Entry) (seat : ℕ) (op : Op) (reply : Reply) → is_stopping op reply ≡ true → MayReply limits opening before seat op reply → none_stopping before ≡ true
-reply_once limits opening before seat op reply zh1 zh2 = grind (arith, common_steps, nat_tests, may_fail_once, running_none)
+reply_once limits opening before seat op reply h1 h2 = grind (arith, common_steps, nat_tests, may_fail_once, running_none)
 
 -- at most one entry stops the store
 pub stops_once : (limits : Limits) (opening : Pairs) (before : List Entry) (e : Entry) (between : List Entry) (f : Entry) (more : List Entry) →
@@ -75,9 +70,6 @@ one_why limits opening before e between f more first second legal at_e at_f =
 pub named_push : (why : Why) (history : List Entry) (entry : Entry) → AllByRecursion (λ e. NamesNoOther why e.reply) history → NamesNoOther why entry.reply → AllByRecursion (λ e. NamesNoOther why e.reply) (history ++ entry ∷ [])
 named_push why [] entry all one = (one, tt)
 named_push why (e ∷ es) entry all one = (all.0, named_push why es entry all.1 one)
-
-names_none : (why : Why) (reply : Reply) → is_stopped reply ≡ false → NamesNoOther why reply
-names_none why reply zh1 = grind (arith, common_steps, nat_tests)
 
 -- while the store runs no why is named
 pub named-running : (why : Why) (history : List Entry) → is_running history ≡ true → AllByRecursion (λ e. NamesNoOther why e.reply) history

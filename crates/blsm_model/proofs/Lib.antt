@@ -10,6 +10,7 @@ mod ScriptExamples
 pub mod TailLemmas
 pub mod ValueLemmas
 pub mod OpLemmas
+pub mod LookLemmas
 pub mod HistoryLemmas
 pub mod HoldLemmas
 pub mod LegalLemmas

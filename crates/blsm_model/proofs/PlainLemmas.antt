@@ -1,11 +1,9 @@
 -- The plain store keeps a legal history.
 use Rattle.std.proofs.lemmas.Bool.Decides.{nat_tests}
 use Rattle.std.proofs.lemmas.Grind.{common_steps}
-use Rattle.std.proofs.Common.{◌≡◌, ℕ, ◌+◌, ◌<◌, ◌≤◌, ◌++◌, ◌&&◌, Bool, cond, List, [], ◌∷◌, Option, Some, None, true, false, refl, ap, sym, subst, ◌∙◌, append-nil, arith, ◌⊎◌, inl, inr}
+use Rattle.std.proofs.Common.{◌≡◌, ℕ, ◌+◌, ◌<◌, ◌≤◌, ◌++◌, List, [], ◌∷◌, Option, Some, None, true, refl, ap, sym, subst, ◌∙◌, append-nil, arith, ◌⊎◌}
 use Rattle.std.specs.List.{list_all}
 use Rattle.std.proofs.lemmas.Bool.{false≢true}
-use Rattle.std.proofs.lemmas.List.Sums.{sum_by-append}
-use Rattle.std.proofs.lemmas.List.Folds.{list_all-append}
 use Rattle.blsm_model.specs.declared.row.Value.{Value}
 use Rattle.blsm_model.specs.declared.op.Op.{Op}
 use Rattle.blsm_model.specs.declared.op.Op.TheVariants.{Get}
@@ -13,12 +11,12 @@ use Rattle.blsm_model.specs.declared.history.Reply.{Reply}
 use Rattle.blsm_model.specs.declared.history.Reply.TheVariants.{Done, Is, Absent, Full}
 use Rattle.blsm_model.specs.declared.history.Entry.{Entry}
 use Rattle.blsm_model.specs.Kept.{Kept}
-use Rattle.blsm_model.specs.Values.{weight_of, value_at}
+use Rattle.blsm_model.specs.Values.{value_at}
 use Rattle.blsm_model.specs.Histories.{writes_of, counted_writes, counted, written, object_after, answer_to_get}
-use Rattle.blsm_model.specs.Legal.{MayReply, is_del, is_running, is_write, limit_for, total_weight}
+use Rattle.blsm_model.specs.Legal.{MayReply, is_running, is_write, limit_for, total_weight}
 use Rattle.blsm_model.specs.Plain.{IsPlainStep, StandsAfter, plain_limits, is_plain_reply}
 use Rattle.blsm_model.proofs.OpLemmas.{write_is_done}
-use Rattle.blsm_model.proofs.HistoryLemmas.{written_push, counted_writes_push, legal_push, running_push, writes-object_after}
+use Rattle.blsm_model.proofs.HistoryLemmas.{written_push, legal_push, running_push, writes-object_after}
 
 abbrev by : ℕ → Op → Reply → Entry
 by seat op reply = record { seat = seat; op = op; reply = reply }
@@ -69,7 +67,7 @@ stands_get old opening at history seat key found is s =
 write_answers : (old new : Kept) (op : Op) (reply : Reply) → is_write op ≡ true → IsPlainStep old op new reply →
     ((reply ≡ Done) × (old.charge + total_weight (writes_of op) ≤ old.limit) × (new ≡ record { writes = old.writes ++ writes_of op; charge = old.charge + total_weight (writes_of op); limit = old.limit }))
     ⊎ ((reply ≡ Full old.charge) × (old.limit < old.charge + total_weight (writes_of op)) × (new ≡ old))
-write_answers old new op reply zh1 zh2 = grind (arith, common_steps, nat_tests)
+write_answers old new op reply h1 h2 = grind (arith, common_steps, nat_tests)
 
 stands_write : (old new : Kept) (opening : List (List ℕ × Value)) (at : ℕ) (history : List Entry) (seat : ℕ) (op : Op) (reply : Reply) → is_write op ≡ true → IsPlainStep old op new reply → StandsAfter old opening at history → StandsAfter new opening at (history ++ by seat op reply ∷ [])
 stands_write old new opening at history seat op reply w a s = grind (arith, common_steps, nat_tests, write_answers, stands_done, stands_full)
@@ -81,30 +79,17 @@ stands_push old new opening at history seat (Get key) reply a s =
 stands_push old new opening at history seat op (Full charge) a s = stands_write old new opening at history seat op (Full charge) a.0 a s
 stands_push old new opening at history seat op reply a s = stands_write old new opening at history seat op reply a.0 a s
 
-limit_by : (old new : Kept) (op : Op) (reply : Reply) →
-    ((reply ≡ Done) × (old.charge + total_weight (writes_of op) ≤ old.limit) × (new ≡ record { writes = old.writes ++ writes_of op; charge = old.charge + total_weight (writes_of op); limit = old.limit }))
-    ⊎ ((reply ≡ Full old.charge) × (old.limit < old.charge + total_weight (writes_of op)) × (new ≡ old)) → new.limit ≡ old.limit
-limit_by old new op reply zh1 = grind (arith, common_steps, nat_tests)
-
 -- no answer changes the limit
 pub limit_kept : (old new : Kept) (op : Op) (reply : Reply) → IsPlainStep old op new reply → new.limit ≡ old.limit
-limit_kept old new op reply zh1 = grind (arith, common_steps, nat_tests)
-
-charge_by : (old new : Kept) (op : Op) (reply : Reply) →
-    ((reply ≡ Done) × (old.charge + total_weight (writes_of op) ≤ old.limit) × (new ≡ record { writes = old.writes ++ writes_of op; charge = old.charge + total_weight (writes_of op); limit = old.limit }))
-    ⊎ ((reply ≡ Full old.charge) × (old.limit < old.charge + total_weight (writes_of op)) × (new ≡ old)) → old.charge ≤ old.limit → new.charge ≤ new.limit
-charge_by old new op reply zh1 zh2 = grind (arith, common_steps, nat_tests)
+limit_kept old new op reply h1 = grind (arith, common_steps, nat_tests)
 
 -- the charge stays within the limit
 pub charge_kept : (old new : Kept) (op : Op) (reply : Reply) → IsPlainStep old op new reply → old.charge ≤ old.limit → new.charge ≤ new.limit
-charge_kept old new op reply zh1 zh2 = grind (arith, common_steps, nat_tests)
-
-got_plain : (found : Option Value) → is_plain_reply (answer_to_get found) ≡ true
-got_plain found = grind (arith, common_steps, nat_tests)
+charge_kept old new op reply h1 h2 = grind (arith, common_steps, nat_tests)
 
 -- each reply is one of those that the plain store gives
 pub answered : (old new : Kept) (op : Op) (reply : Reply) → IsPlainStep old op new reply → is_plain_reply reply ≡ true
-answered old new op reply zh1 = grind (arith, common_steps, nat_tests)
+answered old new op reply h1 = grind (arith, common_steps, nat_tests)
 
 pub answered_push : (history : List Entry) (entry : Entry) → list_all (λ e. is_plain_reply e.reply) history ≡ true → is_plain_reply entry.reply ≡ true → list_all (λ e. is_plain_reply e.reply) (history ++ entry ∷ []) ≡ true
 answered_push history entry before now = grind (arith, common_steps, nat_tests)

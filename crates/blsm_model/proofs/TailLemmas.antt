@@ -3,11 +3,11 @@ use Rattle.std.proofs.lemmas.Bool.Decides.{nat_tests}
 use Rattle.std.proofs.lemmas.Grind.{common_steps}
 use Rattle.std.proofs.Common.{◌≡◌, ℕ, ◌+◌, ◌-◌, ◌<◌, ◌≤◌, ◌++◌, ◌⊎◌, inl, inr, List, [], ◌∷◌, refl, ap, sym, ◌∙◌, length, drop, append-nil, append_assoc, length-append, length-drop, arith}
 use Rattle.std.proofs.lemmas.List.{drop-drop, drop-append-le, drop_at}
-use Rattle.blsm_model.specs.Format.{most_tail, most_text}
+use Rattle.blsm_model.specs.Format.{most_tail}
 use Rattle.blsm_model.specs.Tails.{last_of, with_tail}
 
 some_tail : (text tail : List ℕ) → 1 ≤ length tail → with_tail text tail ≡ last_of most_tail (text ++ tail)
-some_tail text tail zh1 = grind (arith, common_steps, nat_tests)
+some_tail text tail h1 = grind (arith, common_steps, nat_tests)
 
 last_all : (n : ℕ) (xs : List ℕ) → length xs ≤ n → last_of n xs ≡ xs
 last_all n xs few = let none : length xs - n ≡ 0 = omega (arith, few) in ap (λ k. drop k xs) none
@@ -52,23 +52,13 @@ tails_join text tail (byte ∷ more) =
 
 -- a tail of nothing is itself, where it is no longer than tails are
 pub tail_alone : (tail : List ℕ) → length tail ≤ most_tail → with_tail [] tail ≡ tail
-tail_alone tail zh1 = grind (arith, common_steps, nat_tests)
+tail_alone tail h1 = grind (arith, common_steps, nat_tests)
 
 pub tail_at_most : (text tail : List ℕ) → length (with_tail text tail) ≤ length text + length tail
 tail_at_most text tail = grind (arith, common_steps, nat_tests)
 
 pub tail_at_least : (text tail : List ℕ) → length tail ≤ most_tail → length tail ≤ length (with_tail text tail)
-tail_at_least text tail zh1 = grind (arith, common_steps, nat_tests)
+tail_at_least text tail h1 = grind (arith, common_steps, nat_tests)
 
 pub tail_within : (limit : ℕ) (text tail : List ℕ) → most_tail ≤ limit → length text ≤ limit → length (with_tail text tail) ≤ limit
-tail_within limit text tail zh1 zh2 = grind (arith, common_steps, nat_tests)
-
--- the two ways in which a program puts it together
-pub front_and_tail : (text tail : List ℕ) (out : ℕ) → 1 ≤ length tail → out ≡ (length text + length tail) - most_tail → out ≤ length text → drop out text ++ tail ≡ with_tail text tail
-front_and_tail text tail out some is le = grind (arith, common_steps, nat_tests)
-
-pub end_of_tail : (text tail : List ℕ) (out : ℕ) → 1 ≤ length tail → out ≡ (length text + length tail) - most_tail → length text ≤ out → drop (out - length text) tail ≡ with_tail text tail
-end_of_tail text tail out some is le =
-    let same : length text + (out - length text) ≡ length (text ++ tail) - most_tail = omega (arith, is, le, length-append text tail) in
-    ap (drop (out - length text)) (sym (drop_at text tail (length text) refl)) ∙ drop-drop (out - length text) (length text) (text ++ tail)
-    ∙ ap (λ k. drop k (text ++ tail)) same ∙ sym (some_tail text tail some)
+tail_within limit text tail h1 h2 = grind (arith, common_steps, nat_tests)

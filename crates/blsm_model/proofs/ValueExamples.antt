@@ -1,6 +1,6 @@
 -- What puts, adds, dels and gets answer, worked out. Beside each history stands one that is refused.
 use Rattle.std.proofs.Common.{◌≡◌, List, [], ◌∷◌, refl, ap, codes, arith}
-use Rattle.blsm_model.specs.declared.op.Op.TheVariants.{Put, Add, Tail, Del, Get}
+use Rattle.blsm_model.specs.declared.op.Op.TheVariants.{Put, Add, Del, Get}
 use Rattle.blsm_model.specs.declared.history.Reply.{Reply}
 use Rattle.blsm_model.specs.declared.history.Reply.TheVariants.{Done, Is, Absent}
 use Rattle.blsm_model.specs.declared.history.Entry.{Entry}

@@ -32,6 +32,10 @@ most_weight = 512
 abbrev pub most_rows : ℕ
 most_rows = 32
 
+-- how many turns of merging a command may ask for
+abbrev pub most_turns : ℕ
+most_turns = 100000
+
 -- how many bytes a script has, how many lines, and how many rows they ask for together
 abbrev pub most_script : ℕ
 most_script = 8388608

@@ -54,6 +54,16 @@ abbrev pub answer_to_get : Option Value → Reply
 answer_to_get None = Absent
 answer_to_get (Some value) = Is value
 
+-- what a map has: the value of each key, and the rows of each range
+pub record Contents : Type 0 where
+  pub value : Key → Option Value
+  pub rows : Key → Key → List Row
+
+-- the answer to a command that only looks
+abbrev pub answer_to_look : Op → Contents → Reply
+answer_to_look (Get key) contents = answer_to_get (contents.value key)
+answer_to_look _ contents = Absent
+
 abbrev pub answer_to_next : ℕ → Option (List Row) → Reply
 answer_to_next n None = NoHold
 answer_to_next n (Some held) = Rows (take n held)

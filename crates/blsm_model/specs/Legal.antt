@@ -35,6 +35,11 @@ is_write (Tail key tail) = true
 is_write (Del key) = true
 is_write _ = false
 
+-- a get, which asks what the map has and changes nothing
+abbrev pub is_look : Op → Bool
+is_look (Get key) = true
+is_look _ = false
+
 -- the tails that it writes are tails
 abbrev pub TailsFit : Op → Type 0
 TailsFit op = AllByRecursion TailFits (writes_of op)

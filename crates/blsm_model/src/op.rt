@@ -3,7 +3,7 @@ ghost use Rattle.std.specs.Prelude.{◌≡◌, ◌↔◌, ◌∷◌, ◌<◌, �
 ghost use Rattle.blsm_model.specs.Format.{least_weight, most_key, most_text, most_weight};
 ghost use Rattle.blsm_model.specs.Histories.{writes_of};
 ghost use Rattle.blsm_model.specs.Tails.{TailFits};
-ghost use Rattle.blsm_model.specs.Legal.{is_write, total_weight, TailsFit};
+ghost use Rattle.blsm_model.specs.Legal.{is_look, is_write, total_weight, TailsFit};
 ghost use Rattle.blsm_model.specs.Values.{added_count, key_of, text_written};
 
 use crate::{Key, Text, Value};
@@ -106,6 +106,13 @@ impl Op {
         ensures { result ≡ is_write self.now }
     {
         matches!(self, Op::Put(..) | Op::Add(..) | Op::Tail(..) | Op::Del(_))
+    }
+
+    /// Whether it only looks, as a get does.
+    pub fn is_look(&self) -> bool
+        ensures { result ≡ is_look self.now }
+    {
+        matches!(self, Op::Get(_))
     }
 
     /// The weight of a write, in bytes: 14 to 512.

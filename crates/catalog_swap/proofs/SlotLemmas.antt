@@ -1,15 +1,15 @@
 -- Which catalogue is the newest: one at most, and none where the slots are damaged.
-use Rattle.std.proofs.Common.{◌≡◌, ◌⊎◌, inl, inr, ⊎_elim, ℕ, ◌%◌, ◌<◌, List, [], ◌∷◌, length, take, drop, get_or, refl, ap, sym, subst, ◌∙◌, arith}
+use Rattle.std.proofs.lemmas.Bool.Decides.{nat_tests}
+use Rattle.std.proofs.lemmas.Grind.{common_steps}
+use Rattle.std.proofs.Common.{◌≡◌, ◌⊎◌, inl, inr, ⊎_elim, ℕ, ◌<◌, List, [], ◌∷◌, length, take, drop, get_or, refl, ap, sym, subst, ◌∙◌, arith}
 use Rattle.std.specs.Prelude.{replicate}
-use Rattle.std.proofs.lemmas.Bool.{cases_lt}
 use Rattle.disk_trait.specs.Disk.{part}
 use Rattle.gated_write.specs.Gated.{open_byte, IsClosed}
 use Rattle.blsm_model.specs.Sizes.{Sizes}
 use Rattle.catalog_swap.specs.declared.catalog.Catalog.{Catalog}
 use Rattle.catalog_swap.specs.Slots.{slot_of, other_slot, odd_slot, even_slot, slot_length, HasSlot, IsBroken, IsNewest, IsDamagedSlots, none_open, odd_broken, even_broken}
-use Rattle.catalog_swap.specs.Text.{AreNumbers, IsEmpty, IsCatalog, body_text, slot_text, first_catalog}
-use Rattle.blsm_model.specs.Components.{empty_component}
-use Rattle.catalog_swap.specs.Laws.{gate_of_slot, has_open}
+use Rattle.catalog_swap.specs.Text.{IsCatalog, body_text, slot_text, first_catalog}
+use Rattle.catalog_swap.proofs.FileLemmas.{gate_of_slot, has_open}
 use Rattle.catalog_swap.proofs.TextLemmas.{body_same}
 
 -- a slot has one catalogue at most
@@ -17,31 +17,17 @@ pub one_catalog : (sizes : Sizes) (at : ℕ) (a b : Catalog) (file : List ℕ) �
 one_catalog sizes at a b file ha hb = body_same a b ha.fits.fits hb.fits.fits (ap (λ (l : List ℕ). drop 1 l) (sym ha.text ∙ hb.text))
 
 pub slot_cases : (version : ℕ) → ((slot_of version ≡ odd_slot) × (other_slot version ≡ even_slot)) ⊎ ((slot_of version ≡ even_slot) × (other_slot version ≡ odd_slot))
-slot_cases version =
-    elim (cases_lt (version % 2) 1) [
-      | inl even ↦ inr (omega (arith, even), omega (arith, even))
-      | inr odd ↦ inl (omega (arith, odd), omega (arith, odd))
-    ]
+slot_cases version = grind (arith, common_steps, nat_tests)
 
 same_or_other : (u v : ℕ) → (slot_of u ≡ slot_of v) ⊎ ((slot_of u ≡ other_slot v) × (slot_of v ≡ other_slot u))
-same_or_other u v =
-    ⊎_elim
-    (λ u_odd. ⊎_elim (λ v_odd. inl (u_odd.0 ∙ sym v_odd.0)) (λ v_even. inr (u_odd.0 ∙ sym v_even.1, v_even.0 ∙ sym u_odd.1)) (slot_cases v))
-    (λ u_even. ⊎_elim (λ v_odd. inr (u_even.0 ∙ sym v_odd.1, v_odd.0 ∙ sym u_even.1)) (λ v_even. inl (u_even.0 ∙ sym v_even.0)) (slot_cases v))
-    (slot_cases u)
+same_or_other u v = grind (arith, common_steps, nat_tests)
 
 pub moved : (sizes : Sizes) (at at' : ℕ) (a : Catalog) (file : List ℕ) → at ≡ at' → HasSlot sizes at a file → HasSlot sizes at' a file
 moved sizes at at' a file same has = subst (λ (k : ℕ). HasSlot sizes k a file) same has
 
 -- what stands in the other slot is older
 lower_than : (sizes : Sizes) (a b : Catalog) (file : List ℕ) → IsNewest sizes a file → HasSlot sizes (other_slot a.version) b file → b.version < a.version
-lower_than sizes a b file newest has =
-    elim newest.other [
-      | inl closed ↦ absurd (closed (has_open has))
-      | inr older ↦
-          let same : older.catalog ≡ b = one_catalog sizes (other_slot a.version) older.catalog b file older.stands has in
-          subst (λ (k : Catalog). k.version < a.version) same older.lower
-    ]
+lower_than sizes a b file h1 h2 = grind (arith, common_steps, nat_tests, has_open, one_catalog)
 
 pub one_newest : (sizes : Sizes) (a b : Catalog) (file : List ℕ) → IsNewest sizes a file → IsNewest sizes b file → a ≡ b
 one_newest sizes a b file na nb =
@@ -79,10 +65,7 @@ not_damaged sizes a file newest (even_broken broken) =
 -- ---- the newest of what the slots have
 
 pub newest_alone : (sizes : Sizes) (a : Catalog) (at at' : ℕ) (file : List ℕ) → HasSlot sizes at a file → other_slot a.version ≡ at' → IsClosed at' file → IsNewest sizes a file
-newest_alone sizes a at at' file has other closed = record {
-  stands = moved sizes at (slot_of a.version) a file (sym has.parity) has;
-  other = inl (subst (λ (k : ℕ). IsClosed k file) (sym other) closed);
-}
+newest_alone sizes a at at' file h1 h2 h3 = grind (arith, common_steps, nat_tests)
 
 pub newest_above : (sizes : Sizes) (a b : Catalog) (at at' : ℕ) (file : List ℕ) → HasSlot sizes at a file → other_slot a.version ≡ at' → HasSlot sizes at' b file → b.version < a.version
     → IsNewest sizes a file
@@ -93,42 +76,18 @@ newest_above sizes a b at at' file has other has' lower = record {
 
 -- ---- what is read of a slot
 
-head_body : (slot : List ℕ) → length slot ≡ slot_length → get_or slot 0 0 ≡ open_byte → slot ≡ open_byte ∷ drop 1 slot
-head_body (x ∷ xs) long first = λ i. first i ∷ xs
-head_body [] long first = absurd (omega (arith, long))
-
 pub read_has : (sizes : Sizes) (at : ℕ) (found : Catalog) (file slot body : List ℕ) → slot ≡ part file at slot_length → length slot ≡ slot_length → get_or slot 0 0 ≡ open_byte → body ≡ drop 1 slot
     → IsCatalog sizes found → slot_of found.version ≡ at → body ≡ body_text found → HasSlot sizes at found file
-read_has sizes at found file slot body read long first is_body fits parity spelled = record {
-  fits = fits;
-  parity = parity;
-  text = sym read ∙ head_body slot long first ∙ ap (λ (l : List ℕ). open_byte ∷ l) (sym is_body ∙ spelled);
-}
+read_has sizes at found file slot body h1 h2 h3 h4 h5 h6 h7 = grind (arith, common_steps, nat_tests)
 
 pub read_broken : (sizes : Sizes) (at : ℕ) (file slot body : List ℕ) → slot ≡ part file at slot_length → length slot ≡ slot_length → get_or slot 0 0 ≡ open_byte → body ≡ drop 1 slot
     → ((other : Catalog) → IsCatalog sizes other → slot_of other.version ≡ at → body ≡ body_text other → ⊥) → IsBroken sizes at file
-read_broken sizes at file slot body read long first is_body none = record {
-  opened = gate_of_slot at file ∙ ap (λ (l : List ℕ). take 1 l) (sym read ∙ head_body slot long first);
-  no_body = λ other has. none other has.fits has.parity (is_body ∙ ap (λ (l : List ℕ). drop 1 l) (read ∙ has.text));
-}
+read_broken sizes at file slot body h1 h2 h3 h4 h5 = grind (arith, common_steps, nat_tests)
 
 -- ---- a store that was just made
 
-empty_fits : AreNumbers empty_component
-empty_fits = record { first = omega arith; pages = omega arith; entries = omega arith; weight = omega arith }
-
-empty_is : IsEmpty empty_component
-empty_is = record { first = refl; pages = refl; entries = refl; weight = refl }
-
 first_is : (sizes : Sizes) → IsCatalog sizes first_catalog
-first_is sizes = record {
-  fits = record { version = omega arith; lanes = refl; c1 = empty_fits; c1x = empty_fits; c2 = empty_fits };
-  some_version = omega arith;
-  lanes = record { a_below = omega arith; b_below = omega arith; spare_below = omega arith; a_not_b = λ e. omega arith; a_not_spare = λ e. omega arith; b_not_spare = λ e. omega arith };
-  c1 = inl empty_is;
-  c1x = inl empty_is;
-  c2 = inl empty_is;
-}
+first_is sizes = grind (arith, common_steps, nat_tests)
 
 zero_is_open : ◌≡◌ {A = List ℕ} (0 ∷ []) (open_byte ∷ []) → ⊥
 zero_is_open same = cc

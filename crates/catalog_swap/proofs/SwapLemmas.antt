@@ -1,28 +1,28 @@
 -- What each image has while one catalogue follows another.
-use Rattle.std.proofs.Common.{◌≡◌, ◌⊎◌, inl, inr, ⊎_elim, ℕ, ◌+◌, ◌≤◌, true, false, IsTrue, List, [], ◌∷◌, ◌++◌, length, get_or, bytes_eq, refl, ap, sym, subst, ◌∙◌, arith}
-use Rattle.std.specs.Prelude.{Result, Ok, Err, OnOk}
-use Rattle.std.proofs.lemmas.Slice.Eq.{bytes_eq-Decides}
+use Rattle.std.proofs.lemmas.Bool.Decides.{nat_tests}
+use Rattle.std.proofs.lemmas.Grind.{common_steps}
+use Rattle.std.proofs.Common.{◌≡◌, ◌⊎◌, inl, inr, ⊎_elim, ℕ, ◌+◌, ◌≤◌, IsTrue, List, [], ◌∷◌, ◌++◌, length, refl, ap, sym, subst, ◌∙◌, arith}
+use Rattle.std.specs.Prelude.{Result, OnOk}
 use Rattle.disk_trait.specs.Disk.{DiskState, Only, part, overwritten}
-use Rattle.disk_trait.specs.Effects.{Affects, affects_wider, affects_run}
-use Rattle.disk_trait.specs.Moments.{IsTimed, LeavesOnly, leaves_only_run, leaves_only_weaken, leaves_only_now}
-use Rattle.disk_trait.specs.Parts.{part-overwritten, part-split}
-use Rattle.disk_trait.specs.Region.{span, IsWithin, AreApart, IsSameOutside, part_apart}
-use Rattle.gated_write.specs.Gated.{open_byte, IsClosed, IsGated, untouched, behind_gate, whole}
+use Rattle.disk_trait.specs.Effects.{Affects}
+use Rattle.disk_trait.proofs.EffectLemmas.{affects_wider, affects_run}
+use Rattle.disk_trait.specs.Moments.{IsTimed, LeavesOnly}
+use Rattle.disk_trait.proofs.MomentLemmas.{leaves_only_run, leaves_only_weaken, leaves_only_now}
+use Rattle.disk_trait.proofs.PartLemmas.{part-overwritten, part-split}
+use Rattle.disk_trait.specs.Region.{span, IsWithin, AreApart, IsSameOutside}
+use Rattle.disk_trait.proofs.RegionLemmas.{part_apart}
+use Rattle.gated_write.specs.Gated.{open_byte, IsClosed, IsGated}
 use Rattle.blsm_model.specs.Sizes.{Sizes}
 use Rattle.catalog_swap.specs.declared.catalog.Catalog.{Catalog}
 use Rattle.catalog_swap.specs.Text.{body_text}
 use Rattle.catalog_swap.specs.Slots.{slot_length, slot_of, other_slot, IsOpen, HasSlot, IsNewest, AreSameSlots}
 use Rattle.catalog_swap.specs.Swap.{spare_start, prepared, IsSettled, IsReady, IsNext, IsEither}
-use Rattle.catalog_swap.specs.Laws.{gate_same, closed_same, newest_same, slots_apart, behind_apart, settled_only, settled_each}
+use Rattle.catalog_swap.proofs.FileLemmas.{gate_same, closed_same, newest_same, slots_apart, behind_apart, settled_only, settled_each}
 use Rattle.catalog_swap.proofs.TextLemmas.{length-body_text}
 
 -- a gate is open, or it isn't
 gate_cases : (at : ℕ) (file : List ℕ) → IsOpen at file ⊎ IsClosed at file
-gate_cases at file =
-    elim (bytes_eq (part file at 1) (open_byte ∷ [])) as (λ b. bytes_eq (part file at 1) (open_byte ∷ []) ≡ b → IsOpen at file ⊎ IsClosed at file) [
-      | true ↦ λ same. inl ((bytes_eq-Decides (part file at 1) (open_byte ∷ [])).0 same)
-      | false ↦ λ other. inr (λ same. let is = (bytes_eq-Decides (part file at 1) (open_byte ∷ [])).1 same in absurd (cc (other, is)))
-    ] refl
+gate_cases at file = grind (arith, common_steps, nat_tests)
 
 -- the two slots are apart
 others_apart : (version n : ℕ) → n ≤ slot_length → AreApart (span (other_slot version) n) (span (slot_of version) slot_length)
@@ -111,8 +111,7 @@ module _ (sizes : Sizes) (now : Catalog) (start mid : DiskState) (honest : IsTru
         (leaves_only_weaken (λ c was. newest_same (spare_same was.0 c was.2) (leaves_only_now timed (each_gate settled) was.0 was.1)) (second.images still))
 
     pub closed_spare : IsClosed place mid.bytes → IsClosed (other_slot now.version) new.bytes
-    closed_spare closed =
-        closed_same (spare_same mid.bytes new.bytes (second.bytes still)) (now.version + 1) (subst (λ (k : ℕ). IsClosed k mid.bytes) placed closed)
+    closed_spare h1 = grind (arith, common_steps, nat_tests)
 
 -- both are within what a preparation may write
 module _ (sizes : Sizes) (now : Catalog) (start mid : DiskState) (place : ℕ) (placed : place ≡ other_slot now.version) (first : Affects (span place 1) (place + 1) 2 start mid) where
@@ -134,11 +133,7 @@ module _ (sizes : Sizes) (now : Catalog) (start mid : DiskState) (place : ℕ) (
 
 -- a gate that was written closed is closed
 pub shut_written : (file new : List ℕ) (at : ℕ) → at ≤ length file → new ≡ overwritten file at (0 ∷ []) → IsClosed at new
-shut_written file new at inside written opened =
-    zero_is_closed (ap (λ (l : List ℕ). get_or l 0 0) (sym (ap (λ (l : List ℕ). part l at 1) written ∙ part-overwritten file at (0 ∷ []) inside) ∙ opened))
-  where
-    zero_is_closed : ◌≡◌ {A = ℕ} 0 open_byte → ⊥
-    zero_is_closed same = omega arith
+shut_written file new at h1 h2 = grind (arith, common_steps, nat_tests)
 
 -- ---- committing
 
@@ -187,9 +182,7 @@ module _ (sizes : Sizes) (now next : Catalog) (is : IsNext sizes now next) (plac
   }
 
   gated_either : (before : List ℕ → Type 0) (c : List ℕ) → ((d : List ℕ) → before d → IsNewest sizes now d) → IsGated before place text c → IsEither sizes now next c
-  gated_either before c newest (untouched was) = inl (newest c was)
-  gated_either before c newest (behind_gate was closed) = inl (still_newest was.0 c (newest was.0 was.1) was.2 closed)
-  gated_either before c newest (whole was stands) = inr (next_newest was.0 c (newest was.0 was.1) was.2 stands)
+  gated_either before c h1 h2 = grind (arith, common_steps, nat_tests, still_newest, next_newest)
 
   module _ (old new : DiskState) (ready : IsReady sizes now old) where
     shut_now : IsClosed place old.bytes
@@ -216,5 +209,4 @@ module _ (sizes : Sizes) (now next : Catalog) (is : IsNext sizes now next) (plac
 
 -- what holds after an Ok, by a fact that does
 pub on_ok : {T E : Type 0} (P S : Type 0) (r : Result T E) → OnOk r P → (P → S) → OnOk r S
-on_ok P S (Ok x) p so = so p
-on_ok P S (Err e) p so = tt
+on_ok P S r h1 h2 = grind (arith, common_steps, nat_tests)

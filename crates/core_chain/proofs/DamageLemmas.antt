@@ -7,9 +7,8 @@ use Rattle.std.specs.Prelude.{Option}
 use Rattle.std.proofs.lemmas.Bool.{false≢true}
 use Rattle.blsm_model.specs.declared.op.Op.{Op}
 use Rattle.blsm_model.specs.declared.history.Why.{Why}
-use Rattle.blsm_model.specs.declared.history.Why.TheVariants.{Faulted, BadPage}
+use Rattle.blsm_model.specs.declared.history.Why.TheVariants.{BadPage}
 use Rattle.disk_trait.specs.Disk.{DiskState}
-use Rattle.gear_sched.specs.declared.Plan.{Plan}
 use Rattle.seat_book.specs.State.{BookState}
 use Rattle.core_moves.specs.declared.held.Held.{Held}
 use Rattle.core_pace.specs.Events.{plan_in}
@@ -52,7 +51,7 @@ module _ {D : Type 0} (state : D → DiskState) where
       → FoundDamaged (merge_at seat k old.held) page old.held new.held (state old.disk) (state new.disk)
   link_stops seat (kind.Admit op) page old new call ran stops = admit_stops call.0 seat op page old.held new.held (state old.disk) (state new.disk) call.1.cause ran stops
   link_stops seat kind.Pay page old new call ran stops = pay_stops call.0 seat page old.held new.held (state old.disk) (state new.disk) call.1.cause ran stops
-  link_stops seat (kind.Get key) page old new call ran stops = runs_still old.held.book.stopped new.held.book.stopped (BadPage page) ran (ap (λ (h : Held). h.book.stopped) call.1.held) stops
+  link_stops seat (kind.Look op) page old new call ran stops = runs_still old.held.book.stopped new.held.book.stopped (BadPage page) ran (ap (λ (h : Held). h.book.stopped) call.1.held) stops
   link_stops seat (kind.Hold low high) page old new call ran stops = runs_still old.held.book.stopped new.held.book.stopped (BadPage page) ran (ap (λ (b : BookState). b.stopped) call.1.book) stops
   link_stops seat (kind.Next n) page old new call ran stops = runs_still old.held.book.stopped new.held.book.stopped (BadPage page) ran (ap (λ (b : BookState). b.stopped) call.1.book) stops
   link_stops seat kind.Release page old new call ran stops = runs_still old.held.book.stopped new.held.book.stopped (BadPage page) ran (ap (λ (b : BookState). b.stopped) call.1.book) stops

@@ -1,5 +1,5 @@
 -- What the calls tell of faults and of the stop, one after another.
-use Rattle.std.proofs.Common.{◌≡◌, ◌≢◌, ◌⊎◌, ◌∙◌, ⊎_elim, ℕ, ◌+◌, ◌<◌, ◌≤◌, Bool, true, false, List, [], ◌∷◌, ◌++◌, Some, None, refl, ap, sym, arith}
+use Rattle.std.proofs.Common.{◌≡◌, ◌≢◌, ◌⊎◌, ◌∙◌, ⊎_elim, ℕ, ◌+◌, ◌<◌, ◌≤◌, true, false, List, [], ◌∷◌, ◌++◌, Some, None, refl, ap, sym, arith}
 use Rattle.std.proofs.lemmas.Grind.{common_steps}
 use Rattle.std.proofs.lemmas.Bool.Decides.{nat_tests}
 use Rattle.std.specs.Prelude.{Option, zero, suc, slice_index_or, sum_by}
@@ -201,9 +201,6 @@ module _ (start between after : DiskState) (old new : BookState) (grows : betwee
 
   quiet : HowNow → lookups_failed new.book.entries ≡ 0 → is_by_fault new.stopped ≡ false → after.faults ≡ start.faults
   quiet how none calm = grind (arith, common_steps, nat_tests)
-
-  stop_by : (b : Bool) → is_by_fault old.stopped ≡ b → StaysNow → NamesCount new.stopped start after
-  stop_by b h1 h2 = grind (arith, common_steps, nat_tests)
 
   stop : HowNow → NamesCount new.stopped start after
   stop how = grind (arith, common_steps, nat_tests)

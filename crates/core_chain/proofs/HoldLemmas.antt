@@ -10,7 +10,7 @@ use Rattle.std.proofs.lemmas.Bool.{cases_eq}
 use Rattle.blsm_model.specs.Book.{Book}
 use Rattle.blsm_model.specs.Format.{callers}
 use Rattle.blsm_model.specs.Keys.{in_range, key_cmp}
-use Rattle.blsm_model.specs.Legal.{is_write}
+use Rattle.blsm_model.specs.Legal.{is_write, is_look}
 use Rattle.blsm_model.specs.declared.history.Entry.{Entry}
 use Rattle.blsm_model.specs.declared.history.Reply.{Reply}
 use Rattle.blsm_model.specs.declared.key.Key.{Key}
@@ -27,7 +27,7 @@ use Rattle.tree_machine.specs.declared.step.Kind.{Kind}
 use Rattle.tree_machine.specs.declared.step.Kind.TheVariants as kind
 use Rattle.tree_machine.specs.declared.step.Step.{Step}
 use Rattle.tree_machine.proofs.PlayLemmas.{of_replicate}
-use Rattle.tree_core.specs.Answers.{reply_to_drop, reply_to_get, reply_to_hold, reply_to_next, reply_to_write}
+use Rattle.tree_core.specs.Answers.{reply_to_drop, reply_to_hold, reply_to_next, reply_to_write}
 use Rattle.tree_core.specs.Calls.{AreCalls, IsCall}
 use Rattle.tree_core.specs.Causes.{DropsBecause, HoldsBecause, ScansBecause}
 use Rattle.tree_core.specs.Core.{CoreState}
@@ -37,7 +37,7 @@ use Rattle.tree_core.specs.declared.answers.Release.{Release}
 use Rattle.tree_core.specs.Scanned.{Scanned}
 use Rattle.tree_core.specs.Scanned as scanned
 use Rattle.core_chain.specs.Holds.{AreMoreRowsOf, ChainTellsHolds, HoldsNone, IsTold, TellHoldsFrom, TellsHold, ToldHold, held_after, held_by, held_then, with_rows}
-use Rattle.core_chain.proofs.LinkLemmas.{chain_keeps, writes_as}
+use Rattle.core_chain.proofs.LinkLemmas.{chain_keeps, writes_as, looks_as}
 use Rattle.core_chain.proofs.NoteLemmas.{payment_notes_none}
 
 -- ---- one entry more
@@ -61,7 +61,7 @@ then_other e seat had apart = ap (λ (b : Bool). cond b (held_by e.op e.reply ha
 pub holds_none : {D : Type 0} (core : CoreState D) → core.holds ≡ replicate callers None → HoldsNone core
 holds_none core none seat = ap (λ (hs : List (Option HoldState)). is_some (hold_of seat hs)) none ∙ ap (λ (h : Option HoldState). is_some h) (of_replicate callers seat None)
 
--- ---- a write, a get and a work have nothing to do with holds
+-- ---- a write, a command that only looks and a work have nothing to do with holds
 
 pub record IsQuiet (op : Op) (reply : Reply) : Type 0 where
   pub same : (had : Option ToldHold) → held_by op reply had ≡ had
@@ -69,6 +69,9 @@ pub record IsQuiet (op : Op) (reply : Reply) : Type 0 where
 
 quiet_write : (op : Op) (reply : Reply) → is_write op ≡ true → IsQuiet op reply
 quiet_write op reply h1 = grind (arith, common_steps, nat_tests)
+
+quiet_look : (op : Op) (reply : Reply) → is_look op ≡ true → IsQuiet op reply
+quiet_look op reply h1 = grind (arith, common_steps, nat_tests)
 
 -- ---- one hold
 
@@ -152,9 +155,9 @@ module _ {D : Type 0} (state : D → DiskState) where
       noted seat op (reply_to_write call.0) old new
       (beside seat op (reply_to_write call.0) old new (quiet_write op (reply_to_write call.0) (writes_as state seat old op call.1.goes.may).0) (ap (λ (b : Book). b.entries) call.1.notes.annals) call.1.beside.holds)
   link_tells_holds seat kind.Pay old new call = still old new (ap (λ (b : Book). b.entries) call.1.counts.annals ∙ payment_notes_none call.0 seat old.held.book.book) call.1.beside.holds
-  link_tells_holds seat (kind.Get key) old new call =
-      noted seat (op.Get key) (reply_to_get call.0) old new
-      (beside seat (op.Get key) (reply_to_get call.0) old new (record { same = λ had. refl; tells = λ had. tt }) (ap (λ (h : Held). h.book.book.entries) call.1.held) call.1.beside.holds)
+  link_tells_holds seat (kind.Look op) old new call =
+      noted seat op call.0 old new
+      (beside seat op call.0 old new (quiet_look op call.0 (looks_as seat op old.held.book call.1.goes.may).0) (ap (λ (h : Held). h.book.book.entries) call.1.held) call.1.beside.holds)
   link_tells_holds seat (kind.Hold low high) old new call =
       noted seat (op.Hold low high) (reply_to_hold call.0) old new (record { entries = ap (λ (b : BookState). b.book.entries) call.1.book; others = call.1.others.holds; own = own_of_hold call.0 seat low high old new call.1.cause })
   link_tells_holds seat (kind.Next n) old new call =

@@ -6,9 +6,8 @@ use Rattle.std.proofs.Common.{arith}
 use Rattle.std.specs.Prelude.{IsSome, Option}
 use Rattle.std.proofs.lemmas.Bool.{ltb-true}
 use Rattle.blsm_model.specs.Format.{callers}
-use Rattle.blsm_model.specs.Legal.{is_write}
+use Rattle.blsm_model.specs.Legal.{is_write, is_look}
 use Rattle.blsm_model.specs.declared.history.Why.{Why}
-use Rattle.blsm_model.specs.declared.key.Key.{Key}
 use Rattle.blsm_model.specs.declared.op.Op.{Op}
 use Rattle.disk_trait.specs.Disk.{DiskState}
 use Rattle.seat_book.specs.State.{BookState, may_note_in, work_in}
@@ -19,14 +18,13 @@ use Rattle.tree_machine.specs.declared.step.Kind.{Kind}
 use Rattle.tree_machine.specs.declared.step.Kind.TheVariants as kind
 use Rattle.tree_machine.specs.declared.step.Step.{Step}
 use Rattle.tree_machine.proofs.FoldLemmas.{both_hold}
-use Rattle.tree_core.specs.Answers.{answer_to_pay, reply_to_drop, reply_to_get, reply_to_hold, reply_to_next, reply_to_write}
-use Rattle.tree_core.specs.Calls.{Admits, AreCalls, Gets, GoesOnAs, IsCall, Pays, ReadsOn}
+use Rattle.tree_core.specs.Answers.{answer_to_pay, reply_to_drop, reply_to_hold, reply_to_next, reply_to_write}
+use Rattle.tree_core.specs.Calls.{Admits, AreCalls, GoesOnAs, IsCall, Pays, ReadsOn}
 use Rattle.tree_core.specs.Causes.{TurnsBecause, TurnsNone}
 use Rattle.tree_core.specs.Core.{CoreState, IsCore}
 use Rattle.tree_core.specs.Steps.{is_even_in}
 use Rattle.tree_core.specs.declared.answers.Admission.{Admission}
 use Rattle.tree_core.specs.declared.answers.Admission.TheVariants as admission
-use Rattle.tree_core.specs.declared.answers.Lookup.{Lookup}
 use Rattle.tree_core.specs.declared.answers.Payment.{Payment}
 use Rattle.tree_core.specs.Scanned.{Scanned}
 use Rattle.tree_core.specs.Scanned as scanned
@@ -37,7 +35,7 @@ use Rattle.tree_core.specs.Scanned as scanned
 pub goes_of : {D : Type 0} (state : D → DiskState) (seat : ℕ) (k : Kind) (old new : CoreState D) → IsCall state seat k old new → (answer : Answer) × GoesOnAs state seat k answer old new
 goes_of state seat (kind.Admit op) old new call = (Replied (reply_to_write call.0), call.1.goes)
 goes_of state seat kind.Pay old new call = (answer_to_pay call.0, call.1.goes)
-goes_of state seat (kind.Get key) old new call = (Replied (reply_to_get call.0), call.1.goes)
+goes_of state seat (kind.Look op) old new call = (Replied call.0, call.1.goes)
 goes_of state seat (kind.Hold low high) old new call = (Replied (reply_to_hold call.0), call.1.goes)
 goes_of state seat (kind.Next n) old new call = (Replied (reply_to_next call.0), call.1.goes)
 goes_of state seat kind.Release old new call = (Replied (reply_to_drop call.0), call.1.goes)
@@ -54,6 +52,10 @@ link_keeps state seat k old new call keeps = let moves = (goes_of state seat k o
 pub link_sizes : {D : Type 0} (state : D → DiskState) (seat : ℕ) (k : Kind) (old new : CoreState D) → IsCall state seat k old new → IsCore old.held (state old.disk) → new.held.runs.sizes ≡ old.held.runs.sizes
 link_sizes state seat k old new call keeps = grind (arith, common_steps, nat_tests)
 
+-- what only looks may be asked of it
+pub looks_as : (seat : ℕ) (op : Op) (b : BookState) → (is_look op && may_note_in seat 0 b) ≡ true → (is_look op ≡ true) × (may_note_in seat 0 b ≡ true)
+looks_as seat op b is = both_hold (is_look op) (may_note_in seat 0 b) is
+
 -- who notes, works, pays or leaves is a caller
 noter : (seat rows : ℕ) (b : BookState) → may_note_in seat rows b ≡ true → seat < callers
 noter seat rows b is = ltb-true seat callers (both_hold (is_caller seat) (has_room b.book.room seat rows) (both_hold (is_caller seat && has_room b.book.room seat rows) ((work_in seat b).turns == 0) is).0).0
@@ -62,7 +64,7 @@ pub writes_as : {D : Type 0} (state : D → DiskState) (seat : ℕ) (old : CoreS
 writes_as state seat old op is = both_hold (is_write op) (may_note_in seat 0 old.held.book) (both_hold (is_write op && may_note_in seat 0 old.held.book) (is_even_in seat old.held) is).0
 
 pub caller_of : {D : Type 0} (state : D → DiskState) (seat : ℕ) (k : Kind) (old new : CoreState D) → IsCall state seat k old new → is_help k ≡ false → seat < callers
-caller_of state seat k old new h1 h2 = grind (arith, common_steps, nat_tests, noter, writes_as, ltb-true, both_hold)
+caller_of state seat k old new h1 h2 = grind (arith, common_steps, nat_tests, noter, writes_as, looks_as, ltb-true, both_hold)
 
 -- ---- a store that is stopped
 
@@ -79,9 +81,6 @@ admit_rests state seat op (admission.Stopped why) old new call some = call.untou
 pay_rests : {D : Type 0} (state : D → DiskState) (seat : ℕ) (answer : Payment) (old new : CoreState D) → Pays state seat answer old new → IsSome old.held.book.stopped → new.disk ≡ old.disk
 pay_rests state seat answer old new h1 h2 = grind (arith, common_steps, nat_tests)
 
-get_rests : {D : Type 0} (state : D → DiskState) (seat : ℕ) (key : Key) (answer : Lookup) (old new : CoreState D) → Gets state seat key answer old new → IsSome old.held.book.stopped → new.disk ≡ old.disk
-get_rests state seat key answer old new h1 h2 = grind (arith, common_steps, nat_tests)
-
 scan_rests : {D : Type 0} (state : D → DiskState) (seat n : ℕ) (answer : Scanned) (old new : CoreState D) → ReadsOn state seat n answer old new → IsSome old.held.book.stopped → new.disk ≡ old.disk
 scan_rests state seat n (scanned.Rows rows) old new call some = absurd (never old.held.book.stopped some call.cause.0)
 scan_rests state seat n scanned.NoHold old new call some = call.untouched tt
@@ -97,7 +96,7 @@ turn_rests state is_worker seat answer old new h1 h2 h3 = grind (arith, common_s
 pub link_rests : {D : Type 0} (state : D → DiskState) (seat : ℕ) (k : Kind) (old new : CoreState D) → IsCall state seat k old new → IsSome old.held.book.stopped → new.disk ≡ old.disk
 link_rests state seat (kind.Admit op) old new call some = admit_rests state seat op call.0 old new call.1 some
 link_rests state seat kind.Pay old new call some = pay_rests state seat call.0 old new call.1 some
-link_rests state seat (kind.Get key) old new call some = get_rests state seat key call.0 old new call.1 some
+link_rests state seat (kind.Look op) old new call some = call.1.rests some
 link_rests state seat (kind.Hold low high) old new call some = call.1.untouched
 link_rests state seat (kind.Next n) old new call some = scan_rests state seat n call.0 old new call.1 some
 link_rests state seat kind.Release old new call some = call.1.untouched

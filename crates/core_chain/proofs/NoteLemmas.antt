@@ -17,7 +17,7 @@ use Rattle.tree_machine.specs.declared.step.Kind.{Kind}
 use Rattle.tree_machine.specs.declared.step.Kind.TheVariants as kind
 use Rattle.tree_machine.specs.declared.step.Step.{Step}
 use Rattle.core_moves.specs.declared.held.Held.{Held}
-use Rattle.tree_core.specs.Answers.{reply_to_drop, reply_to_get, reply_to_hold, reply_to_next, reply_to_write}
+use Rattle.tree_core.specs.Answers.{reply_to_drop, reply_to_hold, reply_to_next, reply_to_write}
 use Rattle.tree_core.specs.Calls.{AreCalls, IsCall}
 use Rattle.tree_core.specs.Core.{CoreState}
 use Rattle.tree_core.specs.Notes.{with_payment}
@@ -47,7 +47,7 @@ one_added seat k op reply old new one below is = record { added = record { seat 
 pub link_adds : {D : Type 0} (state : D → DiskState) (seat : ℕ) (k : Kind) (old new : CoreState D) → IsCall state seat k old new → Adds seat k old.held.book.book.entries new.held.book.book.entries
 link_adds state seat (kind.Admit op) old new call = one_added seat (kind.Admit op) op (reply_to_write call.0) _ _ refl (caller_of state seat (kind.Admit op) old new call refl) (ap (λ (b : Book). b.entries) call.1.notes.annals)
 link_adds state seat kind.Pay old new call = none_added seat kind.Pay _ _ refl (ap (λ (b : Book). b.entries) call.1.counts.annals ∙ payment_notes_none call.0 seat old.held.book.book)
-link_adds state seat (kind.Get key) old new call = one_added seat (kind.Get key) (op.Get key) (reply_to_get call.0) _ _ refl (caller_of state seat (kind.Get key) old new call refl) (ap (λ (h : Held). h.book.book.entries) call.1.held)
+link_adds state seat (kind.Look op) old new call = one_added seat (kind.Look op) op call.0 _ _ refl (caller_of state seat (kind.Look op) old new call refl) (ap (λ (h : Held). h.book.book.entries) call.1.held)
 link_adds state seat (kind.Hold low high) old new call =
     one_added seat (kind.Hold low high) (op.Hold low high) (reply_to_hold call.0) _ _ refl (caller_of state seat (kind.Hold low high) old new call refl) (ap (λ (b : BookState). b.book.entries) call.1.book)
 link_adds state seat (kind.Next n) old new call = one_added seat (kind.Next n) (op.Next n) (reply_to_next call.0) _ _ refl (caller_of state seat (kind.Next n) old new call refl) (ap (λ (b : BookState). b.book.entries) call.1.book)

@@ -29,7 +29,7 @@ use Rattle.core_moves.specs.declared.held.Held.{Held}
 use Rattle.core_pace.specs.Turns.{move_in}
 use Rattle.core_pace.proofs.CallLemmas.{plan_agrees}
 use Rattle.core_pace.proofs.PayLemmas.{payers_wrote}
-use Rattle.tree_core.specs.Answers.{reply_to_drop, reply_to_get, reply_to_hold, reply_to_next, reply_to_write}
+use Rattle.tree_core.specs.Answers.{reply_to_drop, reply_to_hold, reply_to_next, reply_to_write}
 use Rattle.tree_core.specs.Calls.{AreCalls, EndsWork, IsCall, Pays, TurnsOnce}
 use Rattle.tree_core.specs.Core.{CoreState, IsCore}
 use Rattle.tree_core.specs.declared.answers.Payment.{Payment}
@@ -156,8 +156,8 @@ module _ {D : Type 0} (state : D → DiskState) where
       notes_one old.held.runs.sizes (record { seat = seat; op = op; reply = reply_to_write call.0 }) old.held.book new.held.book (ap (λ (b : Book). b.entries) call.1.notes.annals) (ap (λ (b : Book). b.quanta) call.1.notes.annals) call.1.notes.work so_far
   link_took start seat kind.Pay old new call kept kept_then so_far =
       pay_link seat call.0 old new call.1 (caller_of state seat kind.Pay old new call refl) kept.keeps kept_then.keeps (kept_then.sizes ∙ sym kept.sizes) so_far
-  link_took start seat (kind.Get key) old new call kept kept_then so_far =
-      notes_one old.held.runs.sizes (record { seat = seat; op = op.Get key; reply = reply_to_get call.0 }) old.held.book new.held.book (ap (λ (h : Held). h.book.book.entries) call.1.held) (ap (λ (h : Held). h.book.book.quanta) call.1.held)
+  link_took start seat (kind.Look op) old new call kept kept_then so_far =
+      notes_one old.held.runs.sizes (record { seat = seat; op = op; reply = call.0 }) old.held.book new.held.book (ap (λ (h : Held). h.book.book.entries) call.1.held) (ap (λ (h : Held). h.book.book.quanta) call.1.held)
       (ap (λ (h : Held). h.book.seats.work) call.1.held) so_far
   link_took start seat (kind.Hold low high) old new call kept kept_then so_far =
       notes_one old.held.runs.sizes (record { seat = seat; op = op.Hold low high; reply = reply_to_hold call.0 }) old.held.book new.held.book (ap (λ (b : BookState). b.book.entries) call.1.book) (ap (λ (b : BookState). b.book.quanta) call.1.book)

@@ -15,12 +15,12 @@ use Rattle.core_moves.specs.declared.held.Held.{Held}
 use Rattle.tree_machine.specs.declared.step.Kind.{Kind}
 use Rattle.tree_machine.specs.declared.step.Kind.TheVariants as kind
 use Rattle.tree_machine.specs.declared.step.Step.{Step}
-use Rattle.tree_core.specs.Answers.{reply_to_drop, reply_to_get, reply_to_hold, reply_to_next, reply_to_write}
-use Rattle.tree_core.specs.Calls.{AreCalls, IsCall}
+use Rattle.tree_core.specs.Answers.{reply_to_drop, reply_to_hold, reply_to_next, reply_to_write}
+use Rattle.tree_core.specs.Calls.{AreCalls, IsCall, RepliesBecause}
 use Rattle.tree_core.specs.Causes.{AdmitsBecause}
 use Rattle.tree_core.specs.Core.{CoreState}
 use Rattle.tree_core.specs.declared.answers.Admission.{Admission}
-use Rattle.core_chain.specs.Replies.{IsNoted, RepliesBecause}
+use Rattle.core_chain.specs.Replies.{IsNoted}
 use Rattle.core_chain.proofs.LinkLemmas.{writes_as}
 use Rattle.core_chain.proofs.NoteLemmas.{payment_notes_none}
 
@@ -63,8 +63,7 @@ module _ {D : Type 0} (state : D → DiskState) where
         because = write_because state seat op call.0 old new (writes_as state seat old op call.1.goes.may).0 call.1.cause;
       })
   link_notes seat kind.Pay old new call = inl (ap (λ (b : Book). b.entries) call.1.counts.annals ∙ payment_notes_none call.0 seat old.held.book.book)
-  link_notes seat (kind.Get key) old new call =
-      inr (record { op = op.Get key; reply = reply_to_get call.0; entries = ap (λ (h : Held). h.book.book.entries) call.1.held; because = (call.0, refl, call.1.cause) })
+  link_notes seat (kind.Look op) old new call = inr (record { op = op; reply = call.0; entries = ap (λ (h : Held). h.book.book.entries) call.1.held; because = call.1.cause })
   link_notes seat (kind.Hold low high) old new call =
       inr (record { op = op.Hold low high; reply = reply_to_hold call.0; entries = ap (λ (b : BookState). b.book.entries) call.1.book; because = (call.0, refl, call.1.cause) })
   link_notes seat (kind.Next n) old new call =

@@ -1,9 +1,8 @@
 -- The rows that a caller has still to read are the same after what it saw and after the whole history, since it saw all entries of its own.
-use Rattle.std.proofs.Common.{◌≡◌, ◌∙◌, ℕ, Bool, false, ◌==◌, List, [], ◌∷◌, ◌++◌, length, ne_eqb, refl, ap, sym, arith}
+use Rattle.std.proofs.Common.{◌≡◌, ◌∙◌, ℕ, Bool, ◌==◌, List, [], ◌∷◌, ◌++◌, length, refl, ap, sym, arith}
 use Rattle.std.proofs.lemmas.Grind.{common_steps}
 use Rattle.std.proofs.lemmas.Bool.Decides.{nat_tests}
 use Rattle.std.specs.Prelude.{fold}
-use Rattle.std.proofs.lemmas.Bool.{eqb-false}
 use Rattle.std.proofs.lemmas.List.Elements.{filter-append}
 use Rattle.std.proofs.lemmas.List.Sums.{fold-append}
 use mathlib.Core.List.{IsPrefix}

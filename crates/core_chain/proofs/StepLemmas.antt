@@ -11,7 +11,8 @@ use Rattle.blsm_model.specs.declared.history.Why.{Why}
 use Rattle.blsm_model.specs.declared.key.Key.{Key}
 use Rattle.blsm_model.specs.declared.row.Value.{Value}
 use Rattle.disk_trait.specs.Disk.{DiskState}
-use Rattle.disk_trait.specs.Moments.{IsTimed, LeavesOnly, leaves_only_run, leaves_only_weaken}
+use Rattle.disk_trait.specs.Moments.{IsTimed, LeavesOnly}
+use Rattle.disk_trait.proofs.MomentLemmas.{leaves_only_run, leaves_only_weaken}
 use Rattle.pacing.specs.Pace.{Pace}
 use Rattle.paced_tree.specs.After.{pace_after}
 use Rattle.paced_tree.specs.Kept.{paced_all, paced_one}
@@ -91,15 +92,7 @@ closed_rests state opening seat kind.WorkerTurn old new m pace call honest whole
     let step = call.1.goes.steps opening m pace honest whole in
     let ended : call.0 ≡ (worker_turning m.stopped (is_closed m) m seat step.outcome).ended = ap turned_in step.answers in
     call.1.untouched (subst (λ (t : Turned). TurnsNone t) (sym ended) (subst (λ (b : Bool). TurnsNone (worker_turning m.stopped b m seat step.outcome).ended) (sym closed) (closed_ends m.stopped m seat step.outcome)))
-closed_rests state opening seat (kind.Admit op) old new m pace call honest whole closed helps = absurd (false≢true helps)
-closed_rests state opening seat kind.Pay old new m pace call honest whole closed helps = absurd (false≢true helps)
-closed_rests state opening seat (kind.Get key) old new m pace call honest whole closed helps = absurd (false≢true helps)
-closed_rests state opening seat (kind.Hold low high) old new m pace call honest whole closed helps = absurd (false≢true helps)
-closed_rests state opening seat (kind.Next n) old new m pace call honest whole closed helps = absurd (false≢true helps)
-closed_rests state opening seat kind.Release old new m pace call honest whole closed helps = absurd (false≢true helps)
-closed_rests state opening seat kind.WorkTurn old new m pace call honest whole closed helps = absurd (false≢true helps)
-closed_rests state opening seat (kind.WorkEnd n) old new m pace call honest whole closed helps = absurd (false≢true helps)
-closed_rests state opening seat kind.Leave old new m pace call honest whole closed helps = absurd (false≢true helps)
+closed_rests state opening seat k old new m pace call honest whole closed helps = absurd (false≢true helps)
 
 -- and not at all where nothing is left to do
 over_rests : {D : Type 0} (state : D → DiskState) (opening : List (Key × Value)) (seat : ℕ) (k : Kind) (old new : CoreState D) (m : Machine) (pace : Pace) → IsCall state seat k old new → IsTrue (state old.disk).is_honest

@@ -8,13 +8,13 @@ use Rattle.std.proofs.lemmas.List.{get_or-set_other}
 use Rattle.refusal.specs.Count.{HasRisen}
 use Rattle.blsm_model.specs.Book.{Book}
 use Rattle.blsm_model.specs.Geometry.{file_length}
-use Rattle.blsm_model.specs.Legal.{is_write}
+use Rattle.blsm_model.specs.Legal.{is_write, is_look}
 use Rattle.blsm_model.specs.Scripts.{asked_in}
 use Rattle.blsm_model.specs.Sizes.{Sizes}
 use Rattle.blsm_model.specs.declared.history.Entry.{Entry}
 use Rattle.blsm_model.specs.declared.history.Reply.{Reply}
+use Rattle.blsm_model.specs.declared.history.Reply.TheVariants as reply
 use Rattle.blsm_model.specs.declared.history.Why.{Why}
-use Rattle.blsm_model.specs.declared.key.Key.{Key}
 use Rattle.blsm_model.specs.declared.op.Op.{Op}
 use Rattle.blsm_model.specs.declared.op.Op.TheVariants as op
 use Rattle.tree_machine.proofs.TellLemmas.{no_look}
@@ -28,14 +28,12 @@ use Rattle.tree_machine.specs.declared.step.Kind.{Kind}
 use Rattle.tree_machine.specs.declared.step.Kind.TheVariants as kind
 use Rattle.tree_machine.specs.declared.step.Step.{Step}
 use Rattle.core_moves.specs.declared.held.Held.{Held}
-use Rattle.tree_core.specs.Answers.{reply_to_drop, reply_to_get, reply_to_hold, reply_to_next, reply_to_write}
-use Rattle.tree_core.specs.Calls.{Admits, AreCalls, EndsWork, Gets, Helps, IsCall, Leaves, Pays, ReadsOn, TurnsOnce}
-use Rattle.tree_core.specs.Causes.{FindsBecause, HasFailed, PaysBecause, PaysNone, ScansBecause, ScansNone, TurnsBecause, TurnsNone, swaps_due_in}
+use Rattle.tree_core.specs.Answers.{reply_to_drop, reply_to_hold, reply_to_next, reply_to_write}
+use Rattle.tree_core.specs.Calls.{Admits, AreCalls, EndsWork, Helps, IsCall, Leaves, Pays, ReadsOn, TurnsOnce, Looks}
+use Rattle.tree_core.specs.Causes.{HasFailed, PaysBecause, PaysNone, ScansBecause, ScansNone, TurnsBecause, TurnsNone, swaps_due_in, IsLookOn}
 use Rattle.tree_core.specs.Core.{CoreState, IsCore}
 use Rattle.tree_core.specs.declared.answers.Admission.{Admission}
 use Rattle.tree_core.specs.declared.answers.Admission.TheVariants as admission
-use Rattle.tree_core.specs.declared.answers.Lookup.{Lookup}
-use Rattle.tree_core.specs.declared.answers.Lookup.TheVariants as lookup
 use Rattle.tree_core.specs.declared.answers.Payment.{Payment}
 use Rattle.tree_core.specs.declared.answers.Payment.TheVariants as payment
 use Rattle.tree_core.specs.Scanned.{Scanned}
@@ -47,8 +45,9 @@ use Rattle.tree_session.proofs.HoldLemmas.{drop_names, drop_quiet, hold_names, h
 use Rattle.core_chain.specs.Start.{IsUnasked, steps_of}
 use Rattle.core_chain.specs.Tells.{ChainTells, asked_by, calls_of, calls_of_all, lookups_failed}
 use Rattle.core_chain.proofs.FaultLemmas.{AllNamed, How, LinkTells, Told, all_calm, entry_tells, no_entry_tells, no_lookup, one_changed, pending, stays_damaged, stays_ran, stays_same, stops_failed, tells_all, told_more, works_idle}
-use Rattle.core_chain.proofs.LinkLemmas.{Kept, chain_keeps, link_keeps, link_kept, link_sizes, writes_as}
+use Rattle.core_chain.proofs.LinkLemmas.{Kept, chain_keeps, link_keeps, link_kept, link_sizes, writes_as, looks_as}
 use Rattle.core_chain.proofs.NoteLemmas.{AreCallers, chain_asks, entries_are_callers, payment_notes_none}
+use Rattle.blsm_model.proofs.LookLemmas.{look_may}
 
 -- the same works are open
 same_pending : (old new : BookState) → new.seats.work ≡ old.seats.work → 0 + pending new ≤ pending old
@@ -104,24 +103,25 @@ module _ {D : Type 0} (state : D → DiskState) where
       by (payment.Stopped why) cause none =
           inl (stays_same 0 (pending old.held.book) (pending new.held.book) old.held.book.stopped new.held.book.stopped (state old.disk) (state new.disk) (ap (λ (h : Held). h.book.stopped) cause.1) (faults_same old new (none tt)) few)
 
-  get_link : (seat : ℕ) (key : Key) (answer : Lookup) (old new : CoreState D) → Gets state seat key answer old new → LinkTells old.held.book new.held.book (state old.disk) (state new.disk)
-  get_link seat key answer old new call = by answer refl call.cause
+  look_link : (seat : ℕ) (op : Op) (given : Reply) (old new : CoreState D) → is_look op ≡ true → Looks state seat op given old new → LinkTells old.held.book new.held.book (state old.disk) (state new.disk)
+  look_link seat op given old new looks call = by given call.told noted
     where
+      noted : new.held.book.book.entries ≡ old.held.book.book.entries ++ record { seat = seat; op = op; reply = given } ∷ []
+      noted = ap (λ (h : Held). h.book.book.entries) call.held
+
       stopped : new.held.book.stopped ≡ old.held.book.stopped
       stopped = ap (λ (h : Held). h.book.stopped) call.held
 
       work : new.held.book.seats.work ≡ old.held.book.seats.work
       work = ap (λ (h : Held). h.book.seats.work) call.held
 
-      noted : (given : Lookup) → answer ≡ given → new.held.book.book.entries ≡ old.held.book.book.entries ++ record { seat = seat; op = op.Get key; reply = reply_to_get given } ∷ []
-      noted given is = ap (λ (h : Held). h.book.book.entries) call.held ∙ ap (λ (a : Lookup). old.held.book.book.entries ++ record { seat = seat; op = op.Get key; reply = reply_to_get a } ∷ []) is
-
-      by : (given : Lookup) → answer ≡ given → FindsBecause given key old.held (state old.disk) (state new.disk) → LinkTells old.held.book new.held.book (state old.disk) (state new.disk)
-      by (lookup.Is value) is cause = quiet_entry (record { seat = seat; op = op.Get key; reply = reply_to_get (lookup.Is value) }) old new (noted (lookup.Is value) is) work refl refl stopped cause.1 tt
-      by lookup.Absent is cause = quiet_entry (record { seat = seat; op = op.Get key; reply = reply_to_get lookup.Absent }) old new (noted lookup.Absent is) work refl refl stopped cause.1 tt
-      by lookup.Fault is cause = lookup_entry (record { seat = seat; op = op.Get key; reply = reply_to_get lookup.Fault }) old new (noted lookup.Fault is) work refl refl cause.0 stopped cause.1 tt
-      by (lookup.Damaged page) is cause = quiet_entry (record { seat = seat; op = op.Get key; reply = reply_to_get (lookup.Damaged page) }) old new (noted (lookup.Damaged page) is) work refl refl stopped cause.1 tt
-      by (lookup.Stopped why) is cause = quiet_entry (record { seat = seat; op = op.Get key; reply = reply_to_get (lookup.Stopped why) }) old new (noted (lookup.Stopped why) is) work refl refl stopped cause.1 (stopped ∙ cause.0)
+      by : (r : Reply) → IsLookOn r old.held (state old.disk) (state new.disk) → new.held.book.book.entries ≡ old.held.book.book.entries ++ record { seat = seat; op = op; reply = r } ∷ []
+          → LinkTells old.held.book new.held.book (state old.disk) (state new.disk)
+      by reply.Fault told is = lookup_entry (record { seat = seat; op = op; reply = reply.Fault }) old new is work (look_may op looks) refl told.0 stopped told.1 tt
+      by (reply.Stopped why) told is = quiet_entry (record { seat = seat; op = op; reply = reply.Stopped why }) old new is work refl refl stopped told.1 (stopped ∙ told.0)
+      by reply.FaultLost told is = absurd told
+      by reply.FaultUnsure told is = absurd told
+      by r told is = quiet_entry (record { seat = seat; op = op; reply = r }) old new is work refl refl stopped told tt
 
   scan_link : (seat n : ℕ) (answer : Scanned) (old new : CoreState D) → ReadsOn state seat n answer old new → LinkTells old.held.book new.held.book (state old.disk) (state new.disk)
   scan_link seat n answer old new call = by answer refl call.cause call.untouched
@@ -213,7 +213,7 @@ module _ {D : Type 0} (state : D → DiskState) where
   pub link_tells : (seat : ℕ) (k : Kind) (old new : CoreState D) → IsCall state seat k old new → LinkTells old.held.book new.held.book (state old.disk) (state new.disk)
   link_tells seat (kind.Admit op) old new call = admit_link seat op call.0 old new (writes_as state seat old op call.1.goes.may).0 call.1
   link_tells seat kind.Pay old new call = pay_link seat call.0 old new call.1
-  link_tells seat (kind.Get key) old new call = get_link seat key call.0 old new call.1
+  link_tells seat (kind.Look op) old new call = look_link seat op call.0 old new (looks_as seat op old.held.book call.1.goes.may).0 call.1
   link_tells seat (kind.Hold low high) old new call =
       memory_link (record { seat = seat; op = op.Hold low high; reply = reply_to_hold call.0 }) old new (no_look (op.Hold low high) (reply_to_hold call.0) refl) (hold_quiet call.0).0 call.1.book call.1.untouched
       (hold_names call.0 seat low high old new call.1.cause (ap (λ (b : BookState). b.stopped) call.1.book))
@@ -233,7 +233,7 @@ module _ {D : Type 0} (state : D → DiskState) where
   pub link_reaches : (seat : ℕ) (k : Kind) (old new : CoreState D) → IsCall state seat k old new → Reaches (file_length old.held.runs.sizes) (calls_of old.held.runs.sizes (swaps_due_in old.held) k) (state old.disk) (state new.disk)
   link_reaches seat (kind.Admit op) old new call = reaches_by call.1.effect
   link_reaches seat kind.Pay old new call = reaches_by call.1.effect
-  link_reaches seat (kind.Get key) old new call = reaches_by call.1.reads.effect
+  link_reaches seat (kind.Look op) old new call = reaches_by call.1.reads.effect
   link_reaches seat (kind.Hold low high) old new call = rests old.held.runs.sizes old new call.1.untouched
   link_reaches seat (kind.Next n) old new call = reaches_wider call.1.few (reaches_by call.1.reads.effect)
   link_reaches seat kind.Release old new call = rests old.held.runs.sizes old new call.1.untouched

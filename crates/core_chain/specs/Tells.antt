@@ -24,19 +24,16 @@ use Rattle.core_chain.specs.Start.{steps_of}
 -- ---- calls of the disk
 
 -- How many calls of the disk a step makes at most, before which so many swaps are due: an admission makes four for its append and nine for each of
--- them; a payment and a turn read a quantum's pages and write its run; a get reads one page of each component at most, and a next reads each page of
+-- them; a payment and a turn read a quantum's pages and write its run; a command that only looks reads one page of each component at most, and a next reads each page of
 -- its hold at most. The others are made in memory alone.
 abbrev pub calls_of : Sizes → ℕ → Kind → ℕ
 calls_of sizes due (kind.Admit op) = 4 + 9 * due
 calls_of sizes due kind.Pay = sizes.quantum / 4 + 3
-calls_of sizes due (kind.Get key) = 3
-calls_of sizes due (kind.Hold low high) = 0
+calls_of sizes due (kind.Look op) = 3
 calls_of sizes due (kind.Next n) = page_share sizes
-calls_of sizes due kind.Release = 0
 calls_of sizes due kind.WorkTurn = sizes.quantum / 4 + 9
-calls_of sizes due (kind.WorkEnd n) = 0
 calls_of sizes due kind.WorkerTurn = sizes.quantum / 4 + 9
-calls_of sizes due kind.Leave = 0
+calls_of sizes due _ = 0
 
 -- of a chain of calls, each by the core before it
 abbrev pub calls_of_all : {D : Type 0} → CoreState D → List (Step × CoreState D) → ℕ
@@ -48,15 +45,12 @@ calls_of_all core (one ∷ calls) = calls_of core.held.runs.sizes (swaps_due_in 
 -- The command whose entry a step notes, if it notes one: not a payment, a turn or a leave.
 abbrev pub asked_at : ℕ → Kind → List (ℕ × Op)
 asked_at seat (kind.Admit op) = (seat, op) ∷ []
-asked_at seat kind.Pay = []
-asked_at seat (kind.Get key) = (seat, op.Get key) ∷ []
+asked_at seat (kind.Look op) = (seat, op) ∷ []
 asked_at seat (kind.Hold low high) = (seat, op.Hold low high) ∷ []
 asked_at seat (kind.Next n) = (seat, op.Next n) ∷ []
 asked_at seat kind.Release = (seat, op.Release) ∷ []
-asked_at seat kind.WorkTurn = []
 asked_at seat (kind.WorkEnd n) = (seat, op.Work n) ∷ []
-asked_at seat kind.WorkerTurn = []
-asked_at seat kind.Leave = []
+asked_at seat _ = []
 
 abbrev pub asked_by : List Step → List (ℕ × Op)
 asked_by [] = []

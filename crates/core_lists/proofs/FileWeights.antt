@@ -17,7 +17,6 @@ use Rattle.pacing.specs.Pace.{Pace}
 use Rattle.pacing.specs.Steps.{deep_settled, ready_for as pace_ready_for}
 use Rattle.pacing.proofs.Admissions.{deep_settled_kept, ready_kept}
 use Rattle.tree_machine.specs.Machine.{Machine}
-use Rattle.tree_machine.specs.Moves.{swap_pass}
 use Rattle.tree_machine.specs.Steps.{deep_swapped, pass_begun_for, pass_swapped, ready_for, swapped}
 use Rattle.tree_machine.proofs.CarryLemmas.{deep_swapped_carries, ready_carries}
 use Rattle.tree_machine.proofs.FoldLemmas.{both_hold}
@@ -26,7 +25,7 @@ use Rattle.paced_tree.specs.Numbers.{IsPaceOf}
 use Rattle.paced_tree.proofs.Moves.{settled_of, ready_of}
 use Rattle.paced_tree.proofs.Promises.{has_way}
 use Rattle.tree_file.specs.Tree.{Tree, HoldsTree, components_weight, lists_of}
-use Rattle.core_lists.specs.Shown.{CountsAs, WeighsWithin, doubted, lanes_weight, most_worked, weight_in_doubt}
+use Rattle.core_lists.specs.Shown.{CountsAs, WeighsWithin, doubted, most_worked, weight_in_doubt}
 
 -- ---- machines that count the same
 

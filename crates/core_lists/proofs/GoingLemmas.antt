@@ -8,15 +8,12 @@ use Rattle.std.proofs.lemmas.Bool.{lt-ltb}
 use Rattle.blsm_model.specs.Sizes.{Sizes}
 use Rattle.blsm_model.specs.Geometry.{charge_limit}
 use Rattle.blsm_model.specs.declared.key.Key.{Key}
-use Rattle.blsm_model.specs.declared.row.Row.{Row}
 use Rattle.blsm_model.specs.declared.row.Value.{Value}
-use Rattle.blsm_model.specs.declared.op.Op.{Op}
 use Rattle.blsm_model.specs.declared.history.Reply.TheVariants.{Full}
 use Rattle.blsm_model.specs.declared.history.Why.{Why}
 use Rattle.blsm_model.specs.Histories.{writes_of}
 use Rattle.blsm_model.specs.Legal.{total_weight, is_del}
 use Rattle.gear_sched.specs.Gears.{GearState}
-use Rattle.gear_sched.specs.declared.Plan.{Plan}
 use Rattle.pacing.specs.Pace.{Pace, with_forgiven}
 use Rattle.pacing.specs.Kept.{IsPaced}
 use Rattle.pacing.specs.Steps as pacing
@@ -24,10 +21,10 @@ use Rattle.pacing.specs.Steps.{Move, Pay, Turn, turn_of, is_worker_seat}
 use Rattle.pacing.specs.Fronts.{Fronts, AreFronts, fronts_by}
 use Rattle.pacing.proofs.Fronts.{step_fronts}
 use Rattle.tree_machine.specs.Lists.{Lists}
-use Rattle.tree_machine.specs.Machine.{Machine, Failed, BadPage, charge, pass_done, is_closed}
-use Rattle.tree_machine.specs.Moves.{note, pass_quantum, deep_quantum}
+use Rattle.tree_machine.specs.Machine.{Machine, Failed, BadPage, charge, is_closed}
+use Rattle.tree_machine.specs.Moves.{note}
 use Rattle.tree_machine.specs.Steps as machine
-use Rattle.tree_machine.specs.Steps.{Outcome, Well, FailedAfter, deep_swapped, one_if, ready_for, swaps_due, Broken, NoRoom, Answer, Paid, Settled, Choice, Stepped, replied, unless_stopped as machine_unless, admit_fitting, forgive, pay_running, pay_planned, do_pay, do_hold, do_next, chosen, ended_as, work_turning, worker_turning}
+use Rattle.tree_machine.specs.Steps.{Outcome, Well, Answer, Paid, Settled, Choice, replied, unless_stopped as machine_unless, admit_fitting, chosen, ended_as, worker_turning}
 use Rattle.tree_machine.specs.Plays.{may, stepped_as}
 use Rattle.tree_machine.specs.Stands.{WritesFit}
 use Rattle.tree_machine.specs.declared.step.Kind.{Kind}
@@ -205,12 +202,7 @@ quiet_paced opening m pace seat (kind.Admit op) outcome ok quiet paced = absurd 
 quiet_paced opening m pace seat kind.Pay outcome ok quiet paced = absurd quiet
 quiet_paced opening m pace seat kind.WorkTurn outcome ok quiet paced = absurd quiet
 quiet_paced opening m pace seat kind.WorkerTurn outcome ok quiet paced = absurd quiet
-quiet_paced opening m pace seat (kind.Get key) outcome ok quiet paced = then_paced opening m pace seat (kind.Get key) outcome ok tt paced
-quiet_paced opening m pace seat (kind.Hold low high) outcome ok quiet paced = then_paced opening m pace seat (kind.Hold low high) outcome ok tt paced
-quiet_paced opening m pace seat (kind.Next n) outcome ok quiet paced = then_paced opening m pace seat (kind.Next n) outcome ok tt paced
-quiet_paced opening m pace seat kind.Release outcome ok quiet paced = then_paced opening m pace seat kind.Release outcome ok tt paced
-quiet_paced opening m pace seat (kind.WorkEnd n) outcome ok quiet paced = then_paced opening m pace seat (kind.WorkEnd n) outcome ok tt paced
-quiet_paced opening m pace seat kind.Leave outcome ok quiet paced = then_paced opening m pace seat kind.Leave outcome ok tt paced
+quiet_paced opening m pace seat k outcome ok quiet paced = then_paced opening m pace seat k outcome ok tt paced
 
 quiet_lists : (m : Machine) (seat : ℕ) (k : Kind) (outcome : Outcome) → IsQuiet k → (stepped_as m seat k outcome).state.lists ≡ m.lists
 quiet_lists m seat k outcome h1 = grind (arith, common_steps, nat_tests)

@@ -1,5 +1,5 @@
 -- What the images show of each swap and rotation.
-use Rattle.std.proofs.Common.{◌≡◌, ◌∙◌, ℕ, ◌+◌, Bool, true, false, cond, ◌&&◌, List, [], Option, None, ⊎_elim, refl, ap, sym, subst, arith}
+use Rattle.std.proofs.Common.{◌≡◌, ◌∙◌, ℕ, Bool, true, false, cond, ◌&&◌, List, [], Option, None, ⊎_elim, refl, ap, sym, subst, arith}
 use Rattle.std.proofs.lemmas.Grind.{common_steps}
 use Rattle.std.proofs.lemmas.Bool.Decides.{nat_tests}
 use Rattle.std.proofs.lemmas.Bool.{false≢true}
@@ -7,7 +7,7 @@ use Rattle.blsm_model.specs.Histories.{written}
 use Rattle.blsm_model.specs.Rows.{map_of}
 use Rattle.blsm_model.specs.declared.key.Key.{Key}
 use Rattle.blsm_model.specs.declared.row.Value.{Value}
-use Rattle.record_delta.specs.Entries.{Entries, entries_weight, replayed}
+use Rattle.record_delta.specs.Entries.{Entries, entries_weight}
 use Rattle.record_delta.specs.Replays.{ReplaysWithin}
 use Rattle.page_file.specs.Component.{RunPage, entries_of}
 use Rattle.snow_merge.specs.Pass.{SnowState}
@@ -32,7 +32,7 @@ use Rattle.core_moves.specs.declared.held.Held.{Held}
 use Rattle.core_moves.specs.Held.{IsPassDone, is_run_full}
 use Rattle.core_lists.specs.Standing.{IsPassAt, IsDeepAt}
 use Rattle.core_lists.specs.Lists.{Agrees}
-use Rattle.core_lists.specs.Shown.{HasFronts, ShowsWhole, WeighsWithin, lanes_weight}
+use Rattle.core_lists.specs.Shown.{HasFronts, ShowsWhole, WeighsWithin}
 use Rattle.core_lists.specs.Admissions.{DeepSettlesTree}
 use Rattle.core_lists.specs.Images.{SettledIn, DeepSwapImages, PassSwapImages, RotationImages, SettledFronts, ReadyFronts}
 use Rattle.core_lists.proofs.SwapLands.{deep_swap_has_lists, pass_swap_has_lists, rotation_has_lists}
@@ -167,9 +167,6 @@ rotation_images opening held m pace fronts tree next file image is rests unmerge
           (subst (λ (es : Entries). ReplaysWithin m.gears.sizes (components_weight tree) es next.lane_b) (sym rotated.lane_a)
           (subst (λ (es : Entries). ReplaysWithin m.gears.sizes (components_weight tree) tree.lane_a es) (sym rotated.lane_b) old_fits.replays));
     }
-
-    lanes_weigh : lanes_weight next ≡ lanes_weight tree
-    lanes_weigh = ap (λ (es : Entries). entries_weight (replayed es) + entries_weight (replayed next.lane_b)) rotated.lane_a ∙ ap (λ (es : Entries). entries_weight (replayed tree.lane_a) + entries_weight (replayed es)) rotated.lane_b
 
     weighs_within : HoldsTree m.gears.sizes next image → WeighsWithin m m.book.entries image
     weighs_within holds = grind (arith, common_steps, nat_tests)

@@ -18,7 +18,7 @@ use Rattle.tree_machine.specs.Layers.{Carries}
 use Rattle.tree_machine.specs.Machine.{Machine, Turned, WorkSoFar, in_pass, in_deep, is_closed, pass_done, deep_done, work_of, no_work}
 use Rattle.tree_machine.specs.Moves.{begin_pass, pass_quantum, deep_quantum}
 use Rattle.tree_machine.specs.Steps as machine
-use Rattle.tree_machine.specs.Steps.{Choice, Well, Turning, choice, chosen, ended_as, quanta_of, forgive, pay, pay_running, pay_planned, work_turn, worker_turn, work_turning, worker_turning, work_noted, with_turn}
+use Rattle.tree_machine.specs.Steps.{Choice, Well, choice, chosen, ended_as, quanta_of, forgive, pay, pay_running, pay_planned, work_turn, worker_turn, work_turning, worker_turning, work_noted, with_turn}
 use Rattle.tree_machine.proofs.CarryLemmas.{chosen_carries}
 use Rattle.seat_book.specs.State.{paid_in, helped_in, turned_in}
 use Rattle.paced_tree.specs.Booking.{quanta_of_move}

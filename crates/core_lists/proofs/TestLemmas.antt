@@ -15,7 +15,7 @@ use Rattle.tree_file.specs.Tree.{Tree}
 use Rattle.tree_log.specs.Log.{weight_of_tables}
 use Rattle.tree_runs.specs.Runs.{left_for_pass, left_for_deep}
 use Rattle.core_moves.specs.declared.held.Held.{Held}
-use Rattle.core_moves.specs.Held.{IsPassDone, IsDeepDone, is_pass_over, is_deep_over, components_in, charge_in}
+use Rattle.core_moves.specs.Held.{IsPassDone, IsDeepDone, is_pass_over, is_deep_over, charge_in}
 use Rattle.core_pace.specs.Pacing.{HasPace}
 use Rattle.core_lists.specs.Standing.{IsAt}
 use Rattle.core_lists.specs.Lists.{TestsAgreeWithLists, ForgivingLands}
@@ -104,9 +104,6 @@ module _ (held : Held) (tree : Tree) (m : Machine) (file : List ℕ) (pace : Pac
 
   memory_is : memory_charge m ≡ cond (is_some held.runs.pass) (held.gears.pass_memory + held.gears.pass_admitted) (weight_of_tables held.log)
   memory_is = grind (arith, common_steps, nat_tests)
-
-  components_are : entries_weight m.lists.c1 + entries_weight m.lists.c1x + entries_weight m.lists.c2 ≡ components_in held
-  components_are = omega (arith, weight_c1 held tree m file at, weight_c1x held tree m file at, weight_c2 held tree m file at)
 
   pub same_charge : charge m ≡ charge_in held
   same_charge = grind (arith, common_steps, nat_tests)

@@ -7,9 +7,8 @@ use Rattle.std.proofs.Common.{◌≡◌, ◌∙◌, ℕ, ◌+◌, Bool, cond, Li
 use Rattle.blsm_model.specs.declared.key.Key.{Key}
 use Rattle.blsm_model.specs.declared.op.Write.{Write}
 use Rattle.blsm_model.specs.Values.{key_of, weight_of}
-use Rattle.record_delta.specs.declared.record.Rec.{Rec}
 use Rattle.record_delta.specs.Records.{record_of, weight}
-use Rattle.record_delta.specs.Entries.{is_above, with_record}
+use Rattle.record_delta.specs.Entries.{is_above}
 use Rattle.gear_sched.specs.Gears.{GearState, entered}
 use Rattle.snow_merge.specs.Pass.{SnowState}
 use Rattle.tree_machine.specs.Lists.{memory_weight}

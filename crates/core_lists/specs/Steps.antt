@@ -14,7 +14,7 @@ use Rattle.tree_machine.specs.Layers.{IsSound, HasWay}
 use Rattle.tree_machine.specs.Machine.{Machine, is_caller, is_closed, totals, work_of}
 use Rattle.tree_machine.specs.Steps as machine
 use Rattle.tree_machine.specs.Steps.{Choice, Well, choice, chosen, forgive, pay, work_turn, worker_turn}
-use Rattle.tree_machine.specs.Plays.{is_even, may, may_note, most_turns}
+use Rattle.tree_machine.specs.Plays.{is_even, may, may_note}
 use Rattle.tree_machine.specs.declared.step.Kind.TheVariants as kind
 use Rattle.seat_book.specs.State.{is_closed_in, may_end_in, may_note_in, may_turn_in, totals_in, work_in}
 use Rattle.tree_file.specs.Tree.{Tree}
@@ -26,6 +26,7 @@ use Rattle.core_pace.specs.Pacing.{HasPace}
 use Rattle.core_pace.specs.Events.{Pays, plan_in}
 use Rattle.core_pace.specs.Turns.{move_in, TurnsBy, Works, Helps}
 use Rattle.core_lists.specs.Standing.{HoldsMachine, IsAt}
+use Rattle.blsm_model.specs.Format.{most_turns}
 
 -- What steps over lists rest on: the core stands at the machine's state, its numbers are some pace's, and a quantum has a weight.
 pub record IsSteady (held : Held) (tree : Tree) (m : Machine) (file : List ℕ) : Type 0 where

@@ -8,7 +8,8 @@ use Rattle.blsm_model.specs.Sizes.{Sizes, IsGeometry}
 use Rattle.blsm_model.proofs.GeometryLemmas.{by_half, by_ratio}
 use Rattle.disk_trait.specs.Disk.{DiskState}
 use Rattle.disk_trait.specs.Region.{Region, IsWithin, outside}
-use Rattle.disk_trait.specs.Effects.{Affects, affects_length}
+use Rattle.disk_trait.specs.Effects.{Affects}
+use Rattle.disk_trait.proofs.EffectLemmas.{affects_length}
 use Rattle.page_space.specs.PageSet.{Members}
 use Rattle.page_space.specs.Space.{SpaceState}
 use Rattle.gated_log.specs.Lane.{lane_region}

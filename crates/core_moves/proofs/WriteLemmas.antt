@@ -2,11 +2,11 @@
 use Rattle.std.specs.Prelude.{◌≡◌, ℕ, ◌<◌, Bool, true, false, List, IsTrue}
 use Rattle.std.proofs.Common.{sym, subst}
 use Rattle.blsm_model.specs.Sizes.{Sizes}
-use Rattle.blsm_model.specs.Lanes.{AreRoles}
 use Rattle.blsm_model.specs.declared.key.Key.{Key}
 use Rattle.record_delta.specs.declared.record.Rec.{Rec}
 use Rattle.disk_trait.specs.Disk.{DiskState}
-use Rattle.disk_trait.specs.Region.{IsWithin, same_wider}
+use Rattle.disk_trait.specs.Region.{IsWithin}
+use Rattle.disk_trait.proofs.RegionLemmas.{same_wider}
 use Rattle.disk_trait.specs.Effects.{Affects}
 use Rattle.gated_log.specs.Lane.{lane_region}
 use Rattle.scan_view.specs.Pins.{beside_pins}

@@ -16,7 +16,7 @@ use Rattle.catalog_swap.specs.declared.catalog.Catalog.{Catalog}
 use Rattle.record_delta.specs.declared.record.Rec.{Rec}
 use Rattle.record_delta.specs.Records.{weight}
 use Rattle.gear_sched.specs.Gears.{GearState}
-use Rattle.pacing.specs.Pace.{Pace, with_deep_swapped, with_pass_swapped, with_swap_and_rotation, with_rotation, with_pass, with_write, deep_done, pass_done, charge}
+use Rattle.pacing.specs.Pace.{Pace, with_deep_swapped, with_pass_swapped, with_swap_and_rotation, with_rotation, with_pass, with_write, deep_done, pass_done}
 use Rattle.pacing.specs.Kept.{IsPaced}
 use Rattle.pacing.specs.Counts.{AreFew, IsCounted}
 use Rattle.pacing.specs.Spent.{IsSpent}
@@ -32,7 +32,7 @@ use Rattle.tree_machine.specs.Machine.{Seats}
 use Rattle.seat_book.specs.State.{BookState, noted_in}
 use Rattle.tree_runs.specs.Runs.{RunsState}
 use Rattle.core_moves.specs.declared.held.Held.{Held}
-use Rattle.core_moves.specs.Held.{IsOne, IsDeepDone, IsPassDone, goes_ahead, charge_in}
+use Rattle.core_moves.specs.Held.{IsOne, IsDeepDone, IsPassDone, goes_ahead}
 use Rattle.core_moves.specs.Moves.{SwapsDeepIn, SwapsPassIn, with_pass_begun, SettlesDeep, SettlesPass, begun_in, with_book}
 use Rattle.core_pace.specs.Pacing.{HasPace, IsRunBook, IsPacedHeld, most_opened}
 use Rattle.core_pace.specs.Laws.{weighs_after}

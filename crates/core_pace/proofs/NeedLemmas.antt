@@ -1,12 +1,11 @@
 -- What the calls below require, a paced core has.
-use Rattle.std.proofs.Common.{◌≡◌, ◌∙◌, ℕ, ◌+◌, ◌-◌, ◌*◌, ◌≤◌, Bool, true, false, cond, ◌&&◌, Option, None, refl, ap, sym, arith}
+use Rattle.std.proofs.Common.{◌≡◌, ◌∙◌, ℕ, ◌+◌, ◌-◌, ◌*◌, ◌≤◌, Bool, true, false, ◌&&◌, Option, None, refl, ap, arith}
 use Rattle.std.proofs.lemmas.Grind.{common_steps}
 use Rattle.std.proofs.lemmas.Bool.Decides.{nat_tests}
 use Rattle.std.specs.Prelude.{is_some}
 use Rattle.std.proofs.lemmas.Bool.{leb-true}
-use Rattle.blsm_model.specs.Sizes.{Sizes}
 use Rattle.record_delta.specs.Records.{weight}
-use Rattle.record_delta.specs.Entries.{Entries, entries_weight, with_record}
+use Rattle.record_delta.specs.Entries.{entries_weight, with_record}
 use Rattle.gear_sched.specs.Gears.{GearState}
 use Rattle.pacing.specs.Pace.{Pace}
 use Rattle.pacing.specs.Steps.{Lands}
@@ -15,7 +14,6 @@ use Rattle.pacing.proofs.Runs.{deep_in_time, bounded}
 use Rattle.snow_merge.specs.Pass.{SnowState}
 use Rattle.deep_merge.specs.Merge.{DeepState}
 use Rattle.tree_log.specs.Log.{table_for}
-use Rattle.tree_runs.specs.Runs.{made_by_pass, made_by_deep, left_for_pass, left_for_deep}
 use Rattle.core_moves.specs.declared.held.Held.{Held}
 use Rattle.core_moves.specs.Held.{IsOne, goes_ahead}
 use Rattle.core_pace.specs.Pacing.{HasPace}
@@ -59,9 +57,6 @@ writes_fit key rec held pace p one paced room heavy = record {
   where
     lands : Lands pace (weight key rec) (goes_ahead key held) (entries_weight (with_record key rec (table_for (goes_ahead key held) held.log).entries))
     lands = lands_by key rec held pace p one (goes_ahead key held) refl
-
-    lane_sizes : held.log.lanes.sizes.half ≡ pace.gears.sizes.half
-    lane_sizes = ap (λ (s : Sizes). s.half) (one.lanes ∙ sym (sizes_are held pace p one))
 
     by_lane : (b : Bool) → Lands pace (weight key rec) b (entries_weight (with_record key rec (table_for b held.log).entries))
         → Rattle.gated_log.specs.Lanes.end_of held.log.lanes (Rattle.tree_log.specs.Log.lane_for b held.log) + 1 + weight key rec + 1 ≤ 4 * held.log.lanes.sizes.half

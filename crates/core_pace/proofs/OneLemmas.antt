@@ -1,10 +1,10 @@
 -- Each move keeps one geometry, and the tables sorted and as large as they may be.
-use Rattle.std.proofs.Common.{◌≡◌, ℕ, ◌≤◌, Bool, List, [], ◌∷◌}
+use Rattle.std.proofs.Common.{◌≡◌, ℕ, ◌≤◌, Bool, List, []}
 use Rattle.std.proofs.lemmas.Grind.{common_steps}
 use Rattle.std.proofs.lemmas.Bool.Decides.{nat_tests}
 use Rattle.std.proofs.Common.{arith}
 use Rattle.blsm_model.specs.Geometry.{high_mark}
-use Rattle.blsm_model.specs.Lanes.{AreRoles, a_of, b_of, spare_of}
+use Rattle.blsm_model.specs.Lanes.{AreRoles}
 use Rattle.blsm_model.specs.Sizes.{Sizes}
 use Rattle.blsm_model.specs.declared.key.Key.{Key}
 use Rattle.record_delta.specs.declared.record.Rec.{Rec}

@@ -3,7 +3,7 @@
 use crate::samples::{key, put, put_of};
 use crate::stops::calls_of;
 use crate::stores::{File, check_reply, make, smallest, work, write};
-use blsm_model::{Annals, CALLERS, Component, Geometry, ShortReply, Why};
+use blsm_model::{Annals, CALLERS, Component, Geometry, Op, ShortReply, Why};
 use catalog_swap::Catalog;
 use disk_mem::MemDisk;
 use seat_book::Turned;
@@ -115,8 +115,8 @@ fn first_place(merged: Merged) -> u32 {
 // A lookup names the page, and the store goes on.
 fn check_get(rt: &impl Abort, alloc: Global, part: Part, merged: Merged) {
     let (mut core, page) = damaged(rt, alloc, part, merged);
-    make(alloc, &mut core, 2, Kind::Get(key(rt, b"k")));
-    make(alloc, &mut core, 2, Kind::Get(key(rt, b"absent")));
+    make(alloc, &mut core, 2, Kind::Look(Op::Get(key(rt, b"k"))));
+    make(alloc, &mut core, 2, Kind::Look(Op::Get(key(rt, b"absent"))));
     make(alloc, &mut core, 2, Kind::Admit(put(rt, b"m", 1, b"")));
     let (_, annals, totals) = core.end();
     let place = first_place(merged);
@@ -164,7 +164,7 @@ fn a_next_names_the_damaged_page(rt: HostRuntime) {
 // The page stopped the store, and a lookup is told so.
 fn check_stop(rt: &impl Abort, alloc: Global, core: Core<MemDisk>, page: u32) -> Annals {
     let mut core = core;
-    make(alloc, &mut core, 3, Kind::Get(key(rt, b"k")));
+    make(alloc, &mut core, 3, Kind::Look(Op::Get(key(rt, b"k"))));
     let (_, annals, totals) = core.end();
     let why = Why::BadPage(page);
     assert_eq!(rt; totals.stopped, Some(why));

@@ -2,7 +2,7 @@
 use crate::asserts::{assert_same, assert_that_at};
 use crate::samples::{del, key, put, value};
 use crate::stores::{check_reply, fresh, make, work, write};
-use blsm_model::{Annals, Geometry, Row, ShortReply, Totals};
+use blsm_model::{Annals, Geometry, Op, Row, ShortReply, Totals};
 use disk_mem::MemDisk;
 use std::alloc::Global;
 use std::process::Abort;
@@ -24,7 +24,7 @@ fn hold_over_merges(rt: &impl Abort, alloc: Global, core: &mut Core<MemDisk>) {
 fn read_and_drop(rt: &impl Abort, alloc: Global, core: &mut Core<MemDisk>) {
     make(alloc, core, 0, Kind::Next(32));
     make(alloc, core, 0, Kind::Next(32));
-    make(alloc, core, 0, Kind::Get(key(rt, b"b")));
+    make(alloc, core, 0, Kind::Look(Op::Get(key(rt, b"b"))));
     make(alloc, core, 0, Kind::Release);
     make(alloc, core, 0, Kind::Next(1));
 }

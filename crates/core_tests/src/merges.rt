@@ -2,7 +2,7 @@
 use crate::asserts::{assert_same, assert_same_at, assert_that};
 use crate::samples::{add, del, key, put, value};
 use crate::stores::{File, check_reply, fresh, geometry, make, work, write};
-use blsm_model::{Annals, Component, Geometry, Key, ShortReply};
+use blsm_model::{Annals, Component, Geometry, Key, Op, ShortReply};
 use disk_mem::MemDisk;
 use page_file::no_component;
 use record_delta::Rec;
@@ -12,7 +12,7 @@ use tree_core::Core;
 use tree_machine::Kind;
 
 fn get(rt: &impl Abort, alloc: Global, core: &mut Core<MemDisk>, name: &[u8]) {
-    make(alloc, core, 0, Kind::Get(key(rt, name)));
+    make(alloc, core, 0, Kind::Look(Op::Get(key(rt, name))));
 }
 
 // Asserts that an entry has this value as its reply.

@@ -62,7 +62,7 @@ fn draw_kind(rt: &impl Abort, draws: &mut Draws, seat: u32, tails: bool) -> Kind
     match draws.below(24) {
         0..=6 => Kind::Admit(draw_any_write(rt, draws, tails)),
         7..=13 => Kind::Pay,
-        14..=15 => Kind::Get(draw_key(rt, draws)),
+        14..=15 => Kind::Look(Op::Get(draw_key(rt, draws))),
         16..=17 => Kind::WorkTurn,
         18..=19 => Kind::WorkEnd(draws.below(4) as u32),
         20 => Kind::Hold(draw_key(rt, draws), draw_key(rt, draws)),

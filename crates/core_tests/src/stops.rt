@@ -40,7 +40,7 @@ fn put_at(rt: &impl Abort, number: usize, count: u64, text: &[u8]) -> Op {
 }
 
 fn get_at(rt: &impl Abort, alloc: Global, core: &mut Core<MemDisk>, seat: u32, number: usize) {
-    make(alloc, core, seat, Kind::Get(key_of(rt, number)));
+    make(alloc, core, seat, Kind::Look(Op::Get(key_of(rt, number))));
 }
 
 // Writes, a lookup, and the first turns of work.

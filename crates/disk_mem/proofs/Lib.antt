@@ -5,3 +5,6 @@ mod Pieces
 mod Results
 mod Steps
 mod Told
+pub mod PlaceLemmas
+pub mod EventLemmas
+pub mod CallLemmas

@@ -1,22 +1,20 @@
 -- How one crash image is picked, call by call.
-use Rattle.std.proofs.Common.{◌≡◌, ◌≤◌, ◌<◌, ◌+◌, ◌-◌, ℕ, get_or, Bool, true, false, IsTrue, if◌then◌else◌, nat_le, List, [], ◌∷◌, length, take, drop, refl, sym, ◌∙◌, ap, subst, arith, length-append, length-drop}
+use Rattle.std.proofs.lemmas.Grind.{common_steps}
+use Rattle.std.proofs.Common.{◌≡◌, ◌≤◌, ◌<◌, ◌+◌, ◌-◌, ℕ, get_or, Bool, IsTrue, List, [], ◌∷◌, length, take, drop, refl, sym, ◌∙◌, ap, subst, arith, length-drop}
 use Rattle.std.proofs.lemmas.Bool.Decides.{nat_tests}
-use Rattle.std.proofs.lemmas.List.{length-take, length-replicate, take_all}
 use Rattle.disk_trait.specs.Disk.{Torn, overwritten}
 use Rattle.disk_trait.specs.Parts.{torn_same}
-use Rattle.disk_mem.specs.Events.{Event, wrote, tore, synced, passed, Medium, MayLeave, IsImage, fresh, after, replay}
+use Rattle.disk_mem.specs.Events.{Event, wrote, tore, Medium, MayLeave, IsImage, fresh, after, replay}
 use Rattle.disk_mem.specs.Calls.{event, events, taken, written_len}
 use Rattle.disk_mem.specs.Recorded.{Change, changed_by, is_untouched}
-use Rattle.disk_mem.specs.Images.{IsPiece, front, neither, zeros, IsTornBy, beyond, inside, IsTornAs, others, share, Pending, write, writes_in, Track, start, poked, called, follow, Picks, IsPickedOf}
+use Rattle.disk_mem.specs.Images.{IsPiece, IsTornBy, beyond, inside, IsTornAs, others, share, Pending, write, writes_in, Track, start, called, follow, Picks, IsPickedOf}
 use Rattle.disk_mem.specs.declared.call.Call.{Call}
 use Rattle.disk_mem.specs.declared.call.Call.TheVariants.{Wrote, Tore}
 use Rattle.disk_mem.proofs.Pieces.{torn_by_piece}
 
 -- a piece is no longer than its write
 piece_fits : (old text : List ℕ) (kept : ℕ) (garbled : Bool) (piece : List ℕ) → IsPiece old text kept garbled piece → length piece ≤ length text
-piece_fits old text kept garbled piece (front plain is) = omega (arith, ap length is, length-take kept text)
-piece_fits old text kept garbled piece (neither byte not lt was new is) = omega (arith, lt, ap length is, length-append (take kept text) (byte ∷ []), length-take kept text)
-piece_fits old text kept garbled piece (zeros not all is) = omega (arith, ap length is, length-replicate {A = ℕ} (length text) 0)
+piece_fits old text kept garbled piece h1 = grind (arith, common_steps, nat_tests)
 
 torn_by : (at : ℕ) (text : List ℕ) (kept : ℕ) (garbled : Bool) (old new : List ℕ) → IsTornBy at text kept garbled old new → Torn at (length text) old new
 torn_by at text kept garbled old new (beyond lt is) = subst (λ (l : List ℕ). Torn at (length text) old l) (sym is) (torn_same at (length text) old)
@@ -36,15 +34,7 @@ picks_image number left base [] c is = is.0
 picks_image number left base (w ∷ writes) c (before, d, picks, torn, rest) = (d, picks_image number before base writes d picks, torn_by w.0 w.1 _ _ d c torn)
 
 called_as_after : (e : Event) (m : Medium) → called e (track_of m) ≡ track_of (after e m)
-called_as_after (wrote at text) m =
-    elim (nat_le at (length m.bytes)) as (λ b. (if b then record { bytes = overwritten m.bytes at text; base = m.base; pending = write at text ∷ pending_of m.writes } else track_of m)
-    ≡ track_of (if b then record { bytes = overwritten m.bytes at text; base = m.base; writes = (at, text) ∷ m.writes } else m)) [
-      | true ↦ refl
-      | false ↦ refl
-    ]
-called_as_after (tore at text) m = refl
-called_as_after synced m = refl
-called_as_after passed m = refl
+called_as_after e m = grind (arith, common_steps, nat_tests)
 
 follow_untouched : (number : ℕ) (m : Medium) (es : List Event) → follow [] number (track_of m) es ≡ track_of (replay m es)
 follow_untouched number m [] = refl
@@ -87,37 +77,17 @@ picking_end changes written end number pick choice index bytes image p = subst (
 pub picking_poked : (changes : List Change) (call : Call) (calls : List Call) (written : List ℕ) (end : Track) (number pick choice index : ℕ) (bytes image bytes' image' : List ℕ)
     → bytes' ≡ changed_by changes number bytes → image' ≡ changed_by changes number image
     → IsPicking changes (call ∷ calls) written end number pick choice index bytes image → IsReady changes call calls written end number pick choice index bytes' image'
-picking_poked [] call calls written end number pick choice index bytes image bytes' image' bytes_are image_is p = record {
-  track = p.track;
-  reads = p.reads ∙ sym bytes_are;
-  picks = subst (λ (l : List ℕ). Picks pick choice p.track.base p.track.pending l) (sym image_is) p.picks;
-  place = p.place;
-  same_end = p.same_end;
-  counted = p.counted;
-}
-picking_poked (c ∷ cs) call calls written end number pick choice index bytes image bytes' image' bytes_are image_is p = record {
-  track = poked (c ∷ cs) number p.track;
-  reads = ap (λ (l : List ℕ). changed_by (c ∷ cs) number l) p.reads ∙ sym bytes_are;
-  picks = (image, p.picks, image_is);
-  place = p.place;
-  same_end = p.same_end;
-  counted = p.counted;
-}
+picking_poked changes call calls written end number pick choice index bytes image bytes' image' h1 h2 h3 = grind (arith, common_steps, nat_tests)
 
 called_wrote : (at : ℕ) (text : List ℕ) (t : Track) → at ≤ length t.bytes → called (wrote at text) t ≡ record { bytes = overwritten t.bytes at text; base = t.base; pending = write at text ∷ t.pending }
 called_wrote at text t le = grind (arith, nat_tests)
 
-called_refused : (at : ℕ) (text : List ℕ) (t : Track) → length t.bytes < at → called (wrote at text) t ≡ t
-called_refused at text t lt = grind (arith, nat_tests)
-
 -- a list with a first call is that call and the rest
 pub first_of : (left : List Call) (first d : Call) → 1 ≤ length left → get_or left 0 d ≡ first → left ≡ first ∷ take (length left - 1) (drop 1 left)
-first_of [] first d le is = absurd (omega arith)
-first_of (x ∷ xs) first d le is = let rest : take (length (x ∷ xs) - 1) xs ≡ xs = take_all (length (x ∷ xs) - 1) xs (omega arith) in (λ i. is i ∷ sym rest i)
+first_of left first d h1 h2 = grind (arith, common_steps, nat_tests)
 
 pub none_of : (left : List Call) → length left < 1 → left ≡ []
-none_of [] lt = refl
-none_of (x ∷ xs) lt = absurd (omega arith)
+none_of left h1 = grind (arith, common_steps, nat_tests)
 
 -- the number of a write's digits, and what is left behind it
 pub record IsShare (pick choice index : ℕ) (text : List ℕ) (number left place : ℕ) : Type 0 where
@@ -166,13 +136,4 @@ picking_wrote changes at n calls written text rest end number pick choice index 
 
 pub picking_refused : (changes : List Change) (at n : ℕ) (calls : List Call) (written rest : List ℕ) (end : Track) (number pick choice index : ℕ) (bytes image : List ℕ) → length bytes < at → rest ≡ drop n written
     → IsReady changes (Wrote at n) calls written end number pick choice index bytes image → IsPicking changes calls rest end (number + 1) pick choice index bytes image
-picking_refused changes at n calls written rest end number pick choice index bytes image lt rest_is r =
-    let past : length r.track.bytes < at = subst (λ (l : List ℕ). length l < at) (sym r.reads) lt in
-    subst (λ (l : List ℕ). IsPicking changes calls l end (number + 1) pick choice index bytes image) (sym rest_is) (record {
-      track = r.track;
-      reads = r.reads;
-      picks = r.picks;
-      place = r.place;
-      same_end = ap (λ (t : Track). follow changes (number + 1) t (events calls (drop n written))) (sym (called_refused at (take n written) r.track past)) ∙ r.same_end;
-      counted = omega (arith, r.counted, length-drop n written);
-    })
+picking_refused changes at n calls written rest end number pick choice index bytes image h1 h2 h3 = grind (arith, common_steps, nat_tests)

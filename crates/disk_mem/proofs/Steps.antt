@@ -1,10 +1,12 @@
 -- What one call more in the record, or one past it, does to what a disk tells.
-use Rattle.std.proofs.Common.{◌≡◌, inl, inr, ⊎_elim, ℕ, ◌+◌, ◌-◌, ◌^◌, ◌≤◌, max, Bool, true, false, IsTrue, List, [], ◌∷◌, ◌++◌, length, nat_le, if◌then◌else◌, refl, sym, ◌∙◌, subst, arith, length-append}
+use Rattle.std.proofs.lemmas.Grind.{common_steps}
+use Rattle.std.proofs.Common.{◌≡◌, inl, inr, ⊎_elim, ℕ, ◌+◌, ◌-◌, ◌^◌, ◌≤◌, max, Bool, IsTrue, List, [], ◌∷◌, ◌++◌, length, refl, sym, ◌∙◌, subst, arith, length-append}
 use Rattle.std.proofs.lemmas.Bool.Decides.{nat_tests}
 use Rattle.refusal.specs.Count.{next_count}
 use Rattle.disk_trait.specs.Disk.{DiskState, Passes, MarksSync, WritesNothing, WritesWithin, KeepsImages, ChangesNothing, LeavesAnyBytes, Only, Torn, overwritten}
 use Rattle.disk_trait.specs.Parts.{torn_overwritten, torn_same}
-use Rattle.disk_mem.specs.Events.{Event, wrote, tore, synced, passed, Medium, fresh, after, replay, IsImage, IsSync, IsSyncAt, replay-push, left_push, left_keeps, sync_push, sync_keeps, sync_now, as_read}
+use Rattle.disk_mem.specs.Events.{Event, wrote, tore, synced, passed, Medium, fresh, after, replay, IsImage, IsSync, IsSyncAt, as_read}
+use Rattle.disk_mem.proofs.EventLemmas.{replay-push, left_push, left_keeps, sync_push, sync_keeps, sync_now}
 use Rattle.disk_mem.specs.Recorded.{disk_state}
 
 length-push : (es : List Event) (e : Event) → length (es ++ e ∷ []) ≡ length es + 1
@@ -19,14 +21,7 @@ module _ (first : List ℕ) (es : List Event) (honest : Bool) (bytes bytes' : Li
   before = disk_state first es bytes past faults honest
 
   pub passes_noted : (e : Event) → faults ≤ faults' → faults' ≤ faults + 1 → Passes before (noted e)
-  passes_noted e le one_fault = record {
-    goes_on = record { tells_bytes = refl; tells_images = refl; is_honest = refl; sure_up_to = refl; clock = omega (arith, length-push es e); faults = le };
-    at_most_one = omega (arith, length-push es e);
-    one = λ _. omega (arith, length-push es e);
-    one_fault = one_fault;
-    none_else = λ t c early left. left_push (fresh first) es e t c (omega (arith, early, none)) left;
-    none_lost = λ t c early left. left_keeps (fresh first) es e t c (omega (arith, early, none)) left;
-  }
+  passes_noted e h1 h2 = grind (arith, common_steps, nat_tests, length-push, left_push, left_keeps)
 
   pub marks_noted : (e : Event) (P : Type 0) → (IsSync e → P) → (P → IsSync e) → MarksSync P before (noted e)
   marks_noted e P to from = record {
@@ -46,13 +41,7 @@ module _ (first : List ℕ) (es : List Event) (honest : Bool) (bytes bytes' : Li
   keeps_passed = λ _ _ c left. image_after passed c left
 
   pub any_wrote : (at : ℕ) (text : List ℕ) → at ≤ length bytes → (IsTrue honest → bytes ≡ (replay (fresh first) es).bytes) → LeavesAnyBytes at (length text) before (noted (wrote at text))
-  any_wrote at text le replayed = λ is_honest _ d c left torn.
-      image_after (wrote at text) c (leaves (replay (fresh first) es) (subst (λ (l : List ℕ). at ≤ length l) (replayed is_honest) le) d c left torn)
-    where
-      leaves : (m : Medium) → at ≤ length m.bytes → (d c : List ℕ) → IsImage m d → Torn at (length text) d c → IsImage (after (wrote at text) m) c
-      leaves m le d c left torn =
-          let is : after (wrote at text) m ≡ record { bytes = overwritten m.bytes at text; base = m.base; writes = (at, text) ∷ m.writes } = grind (arith, nat_tests) in
-          subst (λ (k : Medium). IsImage k c) (sym is) (d, left, torn)
+  any_wrote at text h1 h2 = grind (arith, common_steps, nat_tests, image_after)
 
   -- A write that failed may have written anything of its range.
   pub any_tore : (at : ℕ) (text : List ℕ) → LeavesAnyBytes at (length text) before (noted (tore at text))
@@ -91,12 +80,7 @@ module _ (first : List ℕ) (es : List Event) (honest : Bool) (bytes bytes' : Li
   }
     where
       tears : (m : Medium) (c : List ℕ) → IsImage (after (wrote at text) m) c → (d : List ℕ) × IsImage m d × Torn at (length text) d c
-      tears m c left =
-          elim (nat_le at (length m.bytes)) as (λ b. IsImage (if b then record { bytes = overwritten m.bytes at text; base = m.base; writes = (at, text) ∷ m.writes } else m) c
-          → (d : List ℕ) × IsImage m d × Torn at (length text) d c) [
-            | true ↦ λ torn. torn
-            | false ↦ λ here. (c, here, torn_same at (length text) c)
-          ] left
+      tears m c h1 = grind (arith, common_steps, nat_tests)
 
   -- after a sync that ended well
   pub only_synced : (IsTrue honest → bytes ≡ (replay (fresh first) es).bytes) → (IsTrue honest → bytes' ≡ bytes) → IsTrue honest → Only bytes' (IsImage (replay (fresh first) (es ++ synced ∷ [])))
@@ -111,20 +95,10 @@ module _ (first : List ℕ) (es : List Event) (honest : Bool) (bytes bytes' : Li
   old_state = disk_state first es bytes past faults honest
 
   pub passes_missed : past ≤ 2 ^ 64 - 1 → faults ≤ faults' → faults' ≤ faults + 1 → Passes old_state missed
-  passes_missed fits le one_fault = record {
-    goes_on = record { tells_bytes = refl; tells_images = refl; is_honest = refl; sure_up_to = refl; clock = omega (arith, fits); faults = le };
-    at_most_one = omega arith;
-    one = λ early. omega (arith, early);
-    one_fault = one_fault;
-    none_else = λ t c early left. inl left;
-    none_lost = λ t c early left. left;
-  }
+  passes_missed h1 h2 h3 = grind (arith, common_steps, nat_tests)
 
   pub marks_missed : (P : Type 0) → ¬ P → MarksSync P old_state missed
   marks_missed P none = record { none_else = λ t at. inl at; none_lost = λ t at. at; now = λ _ p. absurd (none p); later = λ _ p. absurd (none p) }
 
   pub nothing_missed : (IsTrue honest → bytes' ≡ bytes) → length bytes' ≡ length bytes → ChangesNothing old_state missed
-  nothing_missed stays long = record {
-    same = record { bytes = stays; length = λ _. long; images = λ _ c left. left };
-    images = λ _ _ c left. left;
-  }
+  nothing_missed h1 h2 = grind (arith, common_steps, nat_tests)

@@ -1,11 +1,12 @@
 -- What a call of a disk in memory means for what the disk tells.
-use Rattle.std.proofs.Common.{◌≡◌, ◌⊎◌, inl, inr, ℕ, ◌+◌, ◌^◌, ◌≤◌, ◌<◌, max, Bool, true, false, IsTrue, List, [], ◌∷◌, ◌++◌, length, take, drop, nat_eq, if◌then◌else◌, bytes_eq, refl, sym, ◌∙◌, ap, subst, arith, length-append, length-drop}
+use Rattle.std.proofs.lemmas.Grind.{common_steps}
+use Rattle.std.proofs.Common.{◌≡◌, ◌⊎◌, ℕ, ◌+◌, ◌^◌, ◌≤◌, ◌<◌, max, Bool, true, false, IsTrue, List, [], ◌∷◌, ◌++◌, length, nat_eq, if◌then◌else◌, bytes_eq, refl, ◌∙◌, ap, arith}
 use Rattle.std.proofs.lemmas.Slice.Eq.{bytes_eq-Decides}
 use Rattle.std.proofs.lemmas.Bool.Decides.{nat_tests}
-use Rattle.std.proofs.lemmas.List.{length-take}
 use Rattle.refusal.specs.Count.{next_count}
 use Rattle.disk_trait.specs.Disk.{DiskState, Passes, MarksSync, WritesNothing, WritesWithin, KeepsImages, ChangesNothing, LeavesAnyBytes, Only, overwritten}
-use Rattle.disk_trait.specs.Parts.{length-overwritten, within_nothing}
+use Rattle.disk_trait.specs.Parts.{length-overwritten}
+use Rattle.disk_trait.proofs.PartLemmas.{within_nothing}
 use Rattle.disk_trait.specs.Shelf.{IsFreshCount}
 use Rattle.disk_mem.specs.Events.{Event, synced, passed, fresh, replay, IsSync}
 use Rattle.disk_mem.specs.Recorded.{Recorded, Change, Kind, Outcome, unrecorded, unrecorded_past_end, past_end, refused, done, HasRecord, HasNoRecord, Fails, next_call, changed, changed_by, written_by, look, look_or_sync, sync_call, write_call, disk_state, is_untouched, is_honest, told}
@@ -15,17 +16,14 @@ use Rattle.disk_mem.proofs.Steps.{missed, passes_noted, marks_noted, keeps_passe
 -- A disk that reads as its record says is honest exactly where nobody changes it.
 honest_of : (first : List ℕ) (es : List Event) (changes : List Change) (bytes : List ℕ) → IsReplayed first es changes bytes
     → (if is_untouched changes then bytes_eq bytes (replay (fresh first) es).bytes else false) ≡ is_untouched changes
-honest_of first es [] bytes replayed = (bytes_eq-Decides bytes (replay (fresh first) es).bytes).1 (replayed refl)
-honest_of first es (c ∷ cs) bytes replayed = refl
+honest_of first es changes bytes h1 = grind (arith, common_steps, nat_tests, bytes_eq-Decides)
 
 pub honest_is : (d : Recorded) → IsConsistent d → is_honest d ≡ is_untouched d.changes
 honest_is d consistent = honest_of d.first d.events d.changes d.bytes consistent
 
 -- Changes leave the length.
 length-changed : (bytes new : List ℕ) (at : ℕ) → length (changed bytes at new) ≡ length bytes
-length-changed bytes new at =
-    let rest = drop (at + length new) bytes in
-    omega (arith, length-take (length bytes) (overwritten bytes at new), length-append (take at bytes ++ new) rest, length-append (take at bytes) new, length-take at bytes, length-drop (at + length new) bytes)
+length-changed bytes new at = grind (arith, common_steps, nat_tests)
 
 pub length-changed_by : (changes : List Change) (number : ℕ) (bytes : List ℕ) → length (changed_by changes number bytes) ≡ length bytes
 length-changed_by [] number bytes = refl
@@ -35,8 +33,7 @@ length-changed_by (c ∷ cs) number bytes =
 
 -- Where there are none, the bytes stay.
 pub changed_by_none : (changes : List Change) (number : ℕ) (bytes : List ℕ) → IsTrue (is_untouched changes) → changed_by changes number bytes ≡ bytes
-changed_by_none [] number bytes untouched = refl
-changed_by_none (c ∷ cs) number bytes untouched = absurd (cc)
+changed_by_none changes number bytes h1 = grind (arith, common_steps, nat_tests)
 
 module _ (d e : Recorded) (before : IsConsistent d) (after : IsConsistent e) (faults_fit : d.faults < 2 ^ 64) where
   abbrev h : Bool
@@ -64,11 +61,7 @@ module _ (d e : Recorded) (before : IsConsistent d) (after : IsConsistent e) (fa
   state_of x honest = disk_state x.first x.events x.bytes x.past x.faults honest
 
   land : (R : DiskState → DiskState → Type 0) (end : Recorded) → e ≡ end → end.changes ≡ d.changes → R old (state_of end h) → R (told d) (told e)
-  land R end is same holds =
-      let still : is_honest e ≡ h = honest_is e after ∙ ap is_untouched (ap (λ (x : Recorded). x.changes) is ∙ same) in
-      let at_e : R old (state_of e h) = subst (λ (x : Recorded). R old (state_of x h)) (sym is) holds in
-      let at_told : R old (told e) = subst (λ (b : Bool). R old (state_of e b)) (sym still) at_e in
-      subst (λ (b : Bool). R (state_of d b) (told e)) (sym (honest_is d before)) at_told
+  land R end h1 h2 h3 = grind (arith, common_steps, nat_tests, honest_is)
 
   -- What holds of each way in which the call may end, as the record tells them, holds of what the disk tells.
   pub by_outcome : (R : DiskState → DiskState → Type 0) (k : Kind) (ok : Bool) → Outcome k d e ok
@@ -107,8 +100,7 @@ module _ (d e : Recorded) (before : IsConsistent d) (after : IsConsistent e) (fa
       (λ has fits good. did event which has.0)
     where
       did : (event : Event) → (event ≡ passed) ⊎ (event ≡ synced) → d.past ≡ 0 → WritesNothing old (noted_as event (written_by event found) d.faults)
-      did event (inl is) none = subst (λ (v : Event). WritesNothing old (noted_as v (written_by v found) d.faults)) (sym is) (same_passed d.first d.events h d.bytes found d.past none d.faults d.faults found_is found_long)
-      did event (inr is) none = subst (λ (v : Event). WritesNothing old (noted_as v (written_by v found) d.faults)) (sym is) (same_synced d.first d.events h d.bytes found d.past none d.faults d.faults found_is found_long)
+      did event h1 h2 = grind (arith, common_steps, nat_tests, same_passed, found_is, found_long, same_synced)
 
   pub told_keeps : (needs : ℕ) (ok : Bool) → Outcome (look needs) d e ok → KeepsImages (told d) (told e)
   told_keeps needs ok outcome = by_outcome KeepsImages (look needs) ok outcome
@@ -119,11 +111,7 @@ module _ (d e : Recorded) (before : IsConsistent d) (after : IsConsistent e) (fa
 
   -- a sync
   pub told_sync : (ok : Bool) → Outcome sync_call d e ok → MarksSync (IsTrue ok) (told d) (told e)
-  told_sync ok outcome = by_outcome (MarksSync (IsTrue ok)) sync_call ok outcome
-      (λ faults le full bad. marks_missed d.first d.events h d.bytes found d.past d.faults faults (IsTrue ok) (λ is. absurd (cc (is, bad))))
-      (λ has lt bad. marks_noted d.first d.events h d.bytes found d.past has.0 d.faults d.faults passed (IsTrue ok) (λ is. absurd is) (λ is. absurd (cc (is, bad))))
-      (λ has fits bad. marks_noted d.first d.events h d.bytes found d.past has.0 d.faults (next_count d.faults) passed (IsTrue ok) (λ is. absurd is) (λ is. absurd (cc (is, bad))))
-      (λ has fits good. marks_noted d.first d.events h d.bytes found d.past has.0 d.faults d.faults synced (IsTrue ok) (λ is. good) (λ is. tt))
+  told_sync ok h1 = grind (arith, common_steps, nat_tests, by_outcome, marks_missed, marks_noted)
 
   pub told_unsettled : (ok : Bool) → Outcome sync_call d e ok → ok ≡ false → KeepsImages (told d) (told e)
   told_unsettled ok outcome failed = by_outcome KeepsImages sync_call ok outcome
@@ -166,25 +154,11 @@ module _ (d e : Recorded) (before : IsConsistent d) (after : IsConsistent e) (fa
     abbrev IsNoted : DiskState → DiskState → Type 0
     IsNoted x y = IsTrue y.is_noted
 
-    pub told_noted : ok ≡ true → IsTrue (told e).is_noted
-    told_noted well = by_outcome IsNoted (write_call at text) ok outcome
-        (λ faults le full bad. absurd (cc (well, bad)))
-        (λ has lt bad. absurd (cc (well, bad)))
-        (λ has fits bad. absurd (cc (well, bad)))
-        (λ has fits good. grind (arith, nat_tests))
-
     abbrev Unnoted : DiskState → DiskState → Type 0
     Unnoted x y = y.is_noted ≡ false → ChangesNothing x y
 
     pub told_unnoted : Unnoted (told d) (told e)
-    told_unnoted = by_outcome Unnoted (write_call at text) ok outcome
-        (λ faults le full bad. λ _. nothing_missed d.first d.events h d.bytes found d.past d.faults faults found_is found_long)
-        (λ has lt bad. λ unnoted. nothing_passed d.first d.events h d.bytes found d.past has.0 d.faults d.faults found_is found_long)
-        (λ has fits bad. λ unnoted. absurd (is_noted has.0 unnoted))
-        (λ has fits good. λ unnoted. absurd (is_noted has.0 unnoted))
-      where
-        is_noted : d.past ≡ 0 → nat_eq d.past 0 ≡ false → ⊥
-        is_noted none unnoted = grind (arith, nat_tests)
+    told_unnoted = grind (arith, common_steps, nat_tests, by_outcome, nothing_missed, found_is, found_long, nothing_passed, nat_eq)
 
     abbrev Untouched : DiskState → DiskState → Type 0
     Untouched x y = length x.bytes < at → ChangesNothing x y
@@ -199,44 +173,16 @@ module _ (d e : Recorded) (before : IsConsistent d) (after : IsConsistent e) (fa
     abbrev IsWritten : DiskState → DiskState → Type 0
     IsWritten x y = IsTrue x.is_honest → y.bytes ≡ overwritten x.bytes at text
 
-    pub told_written : ok ≡ true → IsWritten (told d) (told e)
-    told_written well = by_outcome IsWritten (write_call at text) ok outcome
-        (λ faults le full bad. absurd (cc (well, bad)))
-        (λ has lt bad. absurd (cc (well, bad)))
-        (λ has fits bad. absurd (cc (well, bad)))
-        (λ has fits good. λ untouched. ap (λ (l : List ℕ). overwritten l at text) (found_is untouched))
-
     abbrev IsLong : DiskState → DiskState → Type 0
     IsLong x y = length y.bytes ≡ max (length x.bytes) (at + length text)
 
     pub told_long : ok ≡ true → IsLong (told d) (told e)
-    told_long well = by_outcome IsLong (write_call at text) ok outcome
-        (λ faults le full bad. absurd (cc (well, bad)))
-        (λ has lt bad. absurd (cc (well, bad)))
-        (λ has fits bad. absurd (cc (well, bad)))
-        (λ has fits good. omega (arith, length-overwritten found at text (omega (arith, found_long, fits)), found_long))
+    told_long h1 = grind (arith, common_steps, nat_tests, by_outcome, found_long)
 
 -- A call fails exactly where it has a cause.
 pub outcome_cause : (k : Kind) (d e : Recorded) (ok : Bool) → Outcome k d e ok → ok ≡ false → Fails k d
-outcome_cause k d e ok (unrecorded full fits is bad) failed = inl full
-outcome_cause k d e ok (unrecorded_past_end full lt is bad) failed = inl full
-outcome_cause k d e ok (past_end has lt is bad) failed = inr (inr (inl lt))
-outcome_cause k d e ok (refused has fits (inl listed) is bad) failed = inr (inl listed)
-outcome_cause k d e ok (refused has fits (inr past) is bad) failed = inr (inr (inr past))
-outcome_cause k d e ok (done has fits free limit is good) failed = absurd (cc (good, failed))
+outcome_cause k d e ok h1 h2 = grind (arith, common_steps, nat_tests)
 
 -- the same disk with its count at 0
 pub fresh_count : (d : Recorded) → IsFreshCount (told d) (told (record d { faults = 0 }))
-fresh_count d = record {
-  faults = refl;
-  tells_bytes = refl;
-  bytes = refl;
-  tells_images = refl;
-  images = λ c. (λ h. h, λ h. h);
-  images_since = λ t c. (λ h. h, λ h. h);
-  is_noted = refl;
-  clock = refl;
-  synced_at = λ t. (λ h. h, λ h. h);
-  is_honest = refl;
-  sure_up_to = refl;
-}
+fresh_count d = grind (arith, common_steps, nat_tests)

@@ -1,18 +1,20 @@
 -- Spellings: how long they are, and that none begins another.
-use Rattle.std.proofs.Common.{◌≡◌, ℕ, zero, suc, ◌+◌, ◌^◌, ◌<◌, ◌≤◌, List, [], ◌∷◌, ◌++◌, length, get_or, take, drop, true, false, Option, Some, None, ◌⊎◌, inl, inr, refl, ap, sym, subst, ◌∙◌, append_assoc, length-append, length-drop, arith}
+use Rattle.std.proofs.lemmas.Bool.Decides.{nat_tests}
+use Rattle.std.proofs.lemmas.Grind.{common_steps}
+use Rattle.std.proofs.Common.{◌≡◌, ℕ, ◌+◌, ◌^◌, ◌<◌, ◌≤◌, List, [], ◌∷◌, ◌++◌, length, get_or, take, drop, true, false, Option, Some, None, ◌⊎◌, refl, ap, sym, subst, ◌∙◌, append_assoc, length-append, length-drop, arith}
 use Rattle.std.specs.Prelude.{IfSome, IfNone, is_some, unwrap_or}
 use Rattle.std.specs.Int.{w16, w64, to_be_bytes, from_be_bytes}
-use Rattle.std.proofs.lemmas.Bool.{cases_lt, false≢true}
+use Rattle.std.proofs.lemmas.Bool.{false≢true}
 use Rattle.std.proofs.lemmas.List.{take_at, drop_at, take-append-drop, take-append-le, length-take}
-use Rattle.std.proofs.lemmas.Nat.{be_bytes_2, be_bytes_8, from_be_bytes-to_be_bytes_2, from_be_bytes-to_be_bytes_8}
+use Rattle.std.proofs.lemmas.Nat.{be_bytes_2, from_be_bytes-to_be_bytes_2, from_be_bytes-to_be_bytes_8}
 use Rattle.blsm_model.specs.declared.key.Key.{Key}
 use Rattle.record_delta.specs.declared.record.Rec.{Rec}
-use Rattle.record_delta.specs.declared.record.Rec.TheVariants.{Base, Delta, Tomb}
+use Rattle.record_delta.specs.declared.record.Rec.TheVariants.{Delta}
 use Rattle.blsm_model.specs.Format.{most_text}
-use Rattle.record_delta.specs.Records.{count_of, text_limit, text_of, weight}
+use Rattle.record_delta.specs.Records.{count_of, text_of, weight}
 use Rattle.record_delta.proofs.FoldingLemmas.{text_is_short}
 use Rattle.entry_codec.specs.declared.decoding.Head.{Head}
-use Rattle.entry_codec.specs.Spelling.{kind_of, kind_of_delta, head, head_of, spelling, IsEntry, BeginsWith}
+use Rattle.entry_codec.specs.Spelling.{kind_of, head, head_of, spelling, IsEntry, BeginsWith}
 use Rattle.entry_codec.specs.Reading.{InRange, AreAt, IsOf, HasParts}
 
 -- ---- lengths
@@ -35,8 +37,7 @@ no_bytes : IsBytes []
 no_bytes i = omega arith
 
 one_more : (b : ℕ) (bytes : List ℕ) → b < 256 → IsBytes bytes → IsBytes (b ∷ bytes)
-one_more b bytes h fits zero = h
-one_more b bytes h fits (suc i) = fits i
+one_more b bytes h1 h2 = grind (arith, common_steps, nat_tests)
 
 -- the cells of the head, one by one
 cells : (bytes : List ℕ) → 13 ≤ length bytes → bytes ≡
@@ -51,16 +52,7 @@ pair a b la lb = be_bytes_2 (a ∷ b ∷ []) (from_be_bytes w16 (a ∷ b ∷ [])
 
 eight : (a b c d e f g h : ℕ) → a < 256 → b < 256 → c < 256 → d < 256 → e < 256 → f < 256 → g < 256 → h < 256
     → to_be_bytes w64 (from_be_bytes w64 (a ∷ b ∷ c ∷ d ∷ e ∷ f ∷ g ∷ h ∷ [])) ≡ a ∷ b ∷ c ∷ d ∷ e ∷ f ∷ g ∷ h ∷ []
-eight a b c d e f g h la lb lc ld le lf lg lh =
-    let h_fits = one_more h [] lh no_bytes in
-    let g_fits = one_more g (h ∷ []) lg h_fits in
-    let f_fits = one_more f (g ∷ h ∷ []) lf g_fits in
-    let e_fits = one_more e (f ∷ g ∷ h ∷ []) le f_fits in
-    let d_fits = one_more d (e ∷ f ∷ g ∷ h ∷ []) ld e_fits in
-    let c_fits = one_more c (d ∷ e ∷ f ∷ g ∷ h ∷ []) lc d_fits in
-    let b_fits = one_more b (c ∷ d ∷ e ∷ f ∷ g ∷ h ∷ []) lb c_fits in
-    let a_fits = one_more a (b ∷ c ∷ d ∷ e ∷ f ∷ g ∷ h ∷ []) la b_fits in
-    be_bytes_8 (a ∷ b ∷ c ∷ d ∷ e ∷ f ∷ g ∷ h ∷ []) (from_be_bytes w64 (a ∷ b ∷ c ∷ d ∷ e ∷ f ∷ g ∷ h ∷ [])) refl a_fits refl
+eight a b c d e f g h h1 h2 h3 h4 h5 h6 h7 h8 = grind (arith, common_steps, nat_tests)
 
 glue : ℕ → List ℕ → List ℕ → List ℕ → List ℕ → List ℕ
 glue kind key_len text_len count rest = (kind ∷ (key_len ++ text_len ++ count)) ++ rest
@@ -121,13 +113,6 @@ head_same kind key_len text_len count kind' key_len' text_len' count' x y k k' t
 
 -- ---- entries
 
--- a delta's kind is no other record's
-no_delta : (text : List ℕ) (k : ℕ) → (k ≡ 1) ⊎ (k ≡ 3) → kind_of_delta text ≡ k → ⊥
-no_delta [] k (inl one) is = omega (arith, one, is)
-no_delta [] k (inr three) is = omega (arith, three, is)
-no_delta (byte ∷ text) k (inl one) is = omega (arith, one, is)
-no_delta (byte ∷ text) k (inr three) is = omega (arith, three, is)
-
 -- a tail has a record, where it isn't empty and no longer than tails are
 pub tail_record : (kind count : ℕ) (text : List ℕ) → kind ≡ 4 → (length text ≡ 0 → ⊥) → length text ≤ 64 → (rec : Rec) × IsOf kind count text rec
 tail_record kind count [] is some fits = absurd (some refl)
@@ -135,14 +120,7 @@ tail_record kind count (byte ∷ text) is some fits = (Delta (record { count = c
 
 -- a record is its kind, its count and its text
 pub rec_same : (r s : Rec) → kind_of r ≡ kind_of s → count_of r ≡ count_of s → text_of r ≡ text_of s → r ≡ s
-rec_same (Base v) (Base w) kind count text = ap (λ n. Base (record { count = n; text = v.text })) count ∙ ap (λ t. Base (record { count = w.count; text = t })) text
-rec_same (Delta c) (Delta d) kind count text = ap (λ n. Delta (record { count = n; text = c.text })) count ∙ ap (λ t. Delta (record { count = d.count; text = t })) text
-rec_same (Delta c) (Base w) kind count text = absurd (no_delta c.text 1 (inl refl) kind)
-rec_same (Delta c) Tomb kind count text = absurd (no_delta c.text 3 (inr refl) kind)
-rec_same (Base v) (Delta d) kind count text = absurd (no_delta d.text 1 (inl refl) (sym kind))
-rec_same Tomb (Delta d) kind count text = absurd (no_delta d.text 3 (inr refl) (sym kind))
-rec_same Tomb Tomb kind count text = refl
-rec_same _ _ kind count text = absurd (omega arith)
+rec_same r s h1 h2 h3 = grind (arith, common_steps, nat_tests)
 
 -- the head, and then the key and the text
 pub spelled : (key : Key) (rec : Rec) (rest : List ℕ) → spelling key rec ++ rest ≡ head_of key rec ++ (key ++ text_of rec ++ rest)
@@ -202,28 +180,10 @@ too_short bytes short key rec b = omega (arith, ap (length {A = ℕ}) b.parts, l
 -- ---- part by part
 
 pub key_bounds : (n : ℕ) → ((n ≡ 0) ⊎ (64 < n) → true ≡ false) → (1 ≤ n) × (n ≤ 64)
-key_bounds n some = (above, below)
-  where
-    above : 1 ≤ n
-    above =
-        elim (cases_lt 0 n) [
-          | inl lt ↦ omega arith
-          | inr le ↦ let wrong : true ≡ false = some (inl (omega arith)) in absurd cc
-        ]
-
-    below : n ≤ 64
-    below =
-        elim (cases_lt 64 n) [
-          | inl lt ↦ let wrong : true ≡ false = some (inr lt) in absurd cc
-          | inr le ↦ le
-        ]
+key_bounds n h1 = grind (arith, common_steps, nat_tests)
 
 pub text_bound : (n : ℕ) → (435 < n → true ≡ false) → n ≤ 435
-text_bound n some =
-    elim (cases_lt 435 n) [
-      | inl lt ↦ let wrong : true ≡ false = some lt in absurd cc
-      | inr le ↦ le
-    ]
+text_bound n h1 = grind (arith, common_steps, nat_tests)
 
 pub are_read : (bytes : List ℕ) (key_len text_len : ℕ) (key text : List ℕ) → key_len + text_len ≤ length bytes → key ≡ take key_len bytes → text ≡ take text_len (drop key_len bytes)
     → (1 ≤ length key) × (length key ≤ 64) → length text ≤ 435 → AreAt bytes key_len text_len key text
@@ -244,16 +204,7 @@ are_read bytes key_len text_len key text long key_is text_is key_fits text_fits 
     }
 
 pub key_and_text_at : (h : Head) (bytes : List ℕ) (key : Key) (rec : Rec) → HasParts h bytes key rec → AreAt bytes h.key_len h.text_len key (text_of rec)
-key_and_text_at h bytes key rec p =
-    record {
-      key_len_is = p.key_len_is;
-      text_len_is = p.text_len_is;
-      key_least = p.entry.key_least;
-      key_most = p.entry.key_most;
-      text_most = text_is_short rec p.entry.in_range.text_fits;
-      rest = p.rest;
-      parts = p.parts;
-    }
+key_and_text_at h bytes key rec h1 = grind (arith, common_steps, nat_tests)
 
 pub of_kind : (h : Head) (bytes : List ℕ) (key : Key) (rec : Rec) (text : List ℕ) → HasParts h bytes key rec → text_of rec ≡ text → IsOf h.kind h.count text rec
 of_kind h bytes key rec text p text_is = record { kind_is = p.kind_is; count_is = p.count_is; text_is = text_is; fits = p.entry.in_range.text_fits }
@@ -280,14 +231,12 @@ none_whole bytes (Some e) only = tt
 
 pub found_whole : (bytes tail : List ℕ) (h : Head) (r : Option (Key × Rec × ℕ)) → bytes ≡ head h.kind h.key_len h.text_len h.count ++ tail
     → IfSome r (λ e. HasParts h tail e.0 e.1 × (e.2 ≡ weight e.0 e.1)) → IfSome r (λ e. BeginsWith bytes e.0 e.1 × (e.2 ≡ weight e.0 e.1))
-found_whole bytes tail h None read found = tt
-found_whole bytes tail h (Some e) read found = (from_parts bytes tail h e.0 e.1 read found.0, found.1)
+found_whole bytes tail h r h1 h2 = grind (arith, common_steps, nat_tests, from_parts)
 
 -- ---- the key alone
 
 pub no_text : (text : List ℕ) → length text ≡ 0 → text ≡ []
-no_text [] none = refl
-no_text (b ∷ text) none = absurd (omega (arith, none))
+no_text text h1 = grind (arith, common_steps, nat_tests)
 
 pub to_kind : (h : Head) (bytes : List ℕ) (key : Key) (rec : Rec) → HasParts h bytes key rec → IsOf h.kind h.count (text_of rec) rec
 to_kind h bytes key rec p = of_kind h bytes key rec (text_of rec) p refl
@@ -321,24 +270,17 @@ from_head h bytes count_fits key_least key_most text_most long records =
 
 -- too few bytes for a head's key and text
 pub too_few : (h : Head) (bytes : List ℕ) (key : Key) (rec : Rec) → HasParts h bytes key rec → length bytes < h.key_len + h.text_len → ⊥
-too_few h bytes key rec p few =
-    omega (arith, few, p.key_len_is, p.text_len_is, ap (length {A = ℕ}) p.parts, length-append (key ++ text_of rec) p.rest, length-append key (text_of rec))
+too_few h bytes key rec h1 h2 = grind (arith, common_steps, nat_tests)
 
 pub found_key : (bytes tail there : List ℕ) (h : Head) (rec : Rec) → bytes ≡ head h.kind h.key_len h.text_len h.count ++ tail → tail ≡ there
     → HasParts h tail (take h.key_len tail) rec
     → (r : Rec) × BeginsWith bytes (take h.key_len there) r × (13 + (h.key_len + h.text_len) ≡ weight (take h.key_len there) r)
-found_key bytes tail there h rec read same p =
-    let key_is : take h.key_len tail ≡ take h.key_len there = ap (take h.key_len) same in (
-      rec,
-      subst (λ (k : Key). BeginsWith bytes k rec) key_is (from_parts bytes tail h (take h.key_len tail) rec read p),
-      omega (arith, p.key_len_is, p.text_len_is, ap (length {A = ℕ}) key_is),
-    )
+found_key bytes tail there h rec h1 h2 h3 = grind (arith, common_steps, nat_tests, from_parts)
 
 -- ---- bytes behind an entry
 
 pub begins_more : (bytes more : List ℕ) (key : Key) (rec : Rec) → BeginsWith bytes key rec → BeginsWith (bytes ++ more) key rec
-begins_more bytes more key rec b =
-    record { entry = b.entry; rest = b.rest ++ more; parts = ap (λ l. l ++ more) b.parts ∙ append_assoc (spelling key rec) b.rest more }
+begins_more bytes more key rec h1 = grind (arith, common_steps, nat_tests)
 
 pub begins_fewer : (bytes more : List ℕ) (key : Key) (rec : Rec) → weight key rec ≤ length bytes → BeginsWith (bytes ++ more) key rec → BeginsWith bytes key rec
 begins_fewer bytes more key rec long b =

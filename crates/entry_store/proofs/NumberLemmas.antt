@@ -1,4 +1,6 @@
 -- Bytes as the number that they spell.
+use Rattle.std.proofs.lemmas.Bool.Decides.{nat_tests}
+use Rattle.std.proofs.lemmas.Grind.{common_steps}
 use Rattle.std.proofs.Common.{◌≡◌, ℕ, zero, suc, ◌+◌, ◌*◌, ◌<◌, List, [], ◌∷◌, length, take, get_or, refl, sym, ap, ◌∙◌, arith}
 use Rattle.std.specs.Int.{w64, from_be_bytes}
 use Rattle.std.specs.Ordering.{nat_cmp, ordering_then, MatchOrdering}
@@ -39,32 +41,15 @@ spelled a (u ∷ us) (v ∷ vs) same us_fit vs_fit = by (spelled (a * 256 + u) u
     by : nat_cmp (big_endian (a * 256 + u) us) (big_endian (a * 256 + u) vs) ≡ slice_cmp nat_cmp us vs
         → (o : Ordering) → nat_cmp u v ≡ o → MatchOrdering o (u < v) (u ≡ v) (v < u)
         → nat_cmp (big_endian (a * 256 + u) us) (big_endian (a * 256 + v) vs) ≡ ordering_then (nat_cmp u v) (slice_cmp nat_cmp us vs)
-    by rest Less is ranked =
-        let less : u < v = ranked in
-        sym (nat_cmp_is (big_endian (a * 256 + u) us) (big_endian (a * 256 + v) vs) Less (rises (a * 256 + u) (a * 256 + v) us vs as_long (λ i. us_fit (suc i)) (omega (arith, less))))
-        ∙ ap (λ o. ordering_then o (slice_cmp nat_cmp us vs)) (sym is)
-    by rest Equal is ranked =
-        let level : u ≡ v = ranked in
-        ap (λ w. nat_cmp (big_endian (a * 256 + u) us) (big_endian (a * 256 + w) vs)) (sym level)
-        ∙ rest
-        ∙ ap (λ o. ordering_then o (slice_cmp nat_cmp us vs)) (sym is)
-    by rest Greater is ranked =
-        let more : v < u = ranked in
-        sym (nat_cmp_is (big_endian (a * 256 + u) us) (big_endian (a * 256 + v) vs) Greater (rises (a * 256 + v) (a * 256 + u) vs us (sym as_long) (λ i. vs_fit (suc i)) (omega (arith, more))))
-        ∙ ap (λ o. ordering_then o (slice_cmp nat_cmp us vs)) (sym is)
+    by rest Less is less =
+        rw is (sym (nat_cmp_is (big_endian (a * 256 + u) us) (big_endian (a * 256 + v) vs) Less (rises (a * 256 + u) (a * 256 + v) us vs as_long (λ i. us_fit (suc i)) (omega (arith, less)))))
+    by rest Equal is ranked = grind (arith, common_steps, nat_tests)
+    by rest Greater is more =
+        rw is (sym (nat_cmp_is (big_endian (a * 256 + u) us) (big_endian (a * 256 + v) vs) Greater (rises (a * 256 + v) (a * 256 + u) vs us (sym as_long) (λ i. vs_fit (suc i)) (omega (arith, more)))))
 
 -- the number that a machine reads from eight bytes
 eight_spell : (xs : List ℕ) → length xs ≡ 8 → from_be_bytes w64 xs ≡ big_endian 0 xs
-eight_spell (a ∷ b ∷ c ∷ d ∷ e ∷ f ∷ g ∷ h ∷ []) long = omega arith
-eight_spell [] long = absurd (omega (arith, long))
-eight_spell (a ∷ []) long = absurd (omega (arith, long))
-eight_spell (a ∷ b ∷ []) long = absurd (omega (arith, long))
-eight_spell (a ∷ b ∷ c ∷ []) long = absurd (omega (arith, long))
-eight_spell (a ∷ b ∷ c ∷ d ∷ []) long = absurd (omega (arith, long))
-eight_spell (a ∷ b ∷ c ∷ d ∷ e ∷ []) long = absurd (omega (arith, long))
-eight_spell (a ∷ b ∷ c ∷ d ∷ e ∷ f ∷ []) long = absurd (omega (arith, long))
-eight_spell (a ∷ b ∷ c ∷ d ∷ e ∷ f ∷ g ∷ []) long = absurd (omega (arith, long))
-eight_spell (a ∷ b ∷ c ∷ d ∷ e ∷ f ∷ g ∷ h ∷ x ∷ xs) long = absurd (omega (arith, long))
+eight_spell xs h1 = grind (arith, common_steps, nat_tests)
 
 pub eight_ordered : (xs ys : List ℕ) → length xs ≡ 8 → length ys ≡ 8 → AreBytes xs → AreBytes ys → nat_cmp (from_be_bytes w64 xs) (from_be_bytes w64 ys) ≡ slice_cmp nat_cmp xs ys
 eight_ordered xs ys xs_long ys_long xs_fit ys_fit =

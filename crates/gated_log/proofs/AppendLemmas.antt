@@ -1,12 +1,16 @@
 -- A gated write behind a lane's closed gate is an append: what each of its moments leaves, and what stands once it has ended well.
-use Rattle.std.proofs.Common.{◌≡◌, inl, inr, Bool, IsTrue, ℕ, ◌+◌, ◌≤◌, ◌<◌, List, [], ◌∷◌, ◌++◌, length, ap, sym, subst, ◌∙◌, arith, append_assoc, append-nil, length-append}
+use Rattle.std.proofs.lemmas.Bool.Decides.{nat_tests}
+use Rattle.std.proofs.lemmas.Grind.{common_steps}
+use Rattle.std.proofs.Common.{◌≡◌, Bool, IsTrue, ℕ, ◌+◌, ◌≤◌, ◌<◌, List, [], ◌∷◌, ◌++◌, length, ap, sym, subst, ◌∙◌, arith, append_assoc, append-nil, length-append}
 use Rattle.std.proofs.lemmas.List.Elements.{All-push}
 use Rattle.disk_trait.specs.Disk.{DiskState, HasWritten, part, overwritten}
 use Rattle.disk_trait.specs.Effects.{Affects}
-use Rattle.disk_trait.specs.Moments.{IsTimed, leaves_only_weaken, leaves_only_now}
-use Rattle.disk_trait.specs.Parts.{part-split, part-overwritten}
-use Rattle.disk_trait.specs.Region.{span, IsWithin, IsSameOutside, same_file, same_wider, part_apart}
-use Rattle.gated_write.specs.Gated.{open_byte, IsClosed, IsWhole, IsGated, untouched, behind_gate, whole, LeavesGated}
+use Rattle.disk_trait.specs.Moments.{IsTimed}
+use Rattle.disk_trait.proofs.MomentLemmas.{leaves_only_weaken, leaves_only_now}
+use Rattle.disk_trait.proofs.PartLemmas.{part-split}
+use Rattle.disk_trait.specs.Region.{span, IsWithin, IsSameOutside}
+use Rattle.disk_trait.proofs.RegionLemmas.{same_file, same_wider, part_apart}
+use Rattle.gated_write.specs.Gated.{open_byte, IsClosed, IsWhole, IsGated, LeavesGated}
 use Rattle.blsm_model.specs.declared.key.Key.{Key}
 use Rattle.blsm_model.specs.Sizes.{Sizes}
 use Rattle.blsm_model.specs.Geometry.{file_length}
@@ -29,12 +33,7 @@ pub record IsEntryWrite (sizes : Sizes) (lane end : ℕ) (key : Key) (rec : Rec)
 -- where the lanes say that the lane ends
 pub entry_write : {inside lanes : LanesState} (lane : ℕ) {key : Key} {rec : Rec} {at : ℕ} {text : List ℕ} → inside ≡ lanes → at ≡ region_start inside.sizes lane + end_of inside lane → text ≡ spelling key rec ++ 0 ∷ []
     → end_of lanes lane + 1 + weight key rec + 1 ≤ region_length lanes.sizes → IsEntry key rec → IsEntryWrite lanes.sizes lane (end_of lanes lane) key rec at text
-entry_write lane {key} {rec} same place writes fits entry = record {
-  place = place ∙ ap (λ (l : LanesState). region_start l.sizes lane + end_of l lane) same;
-  writes = writes;
-  entry = entry;
-  fits = omega (arith, fits, ap (λ (l : List ℕ). length l) writes, length-spelling key rec, length-append (spelling key rec) (0 ∷ []));
-}
+entry_write lane h1 h2 h3 h4 h5 = grind (arith, common_steps, nat_tests, length-spelling, length-append)
 
 -- all of it lies in the lane's region
 pub write_inside : {sizes : Sizes} {lane end : ℕ} {key : Key} {rec : Rec} {at : ℕ} {text : List ℕ} → IsEntryWrite sizes lane end key rec at text → IsWithin (span at (1 + length text)) (lane_region sizes lane)
@@ -46,11 +45,7 @@ write_ends {sizes} {lane} below write = omega (arith, write.place, write.fits, r
 
 -- the file in which the write was done in whole
 done_whole : (at : ℕ) (text before after : List ℕ) → at ≤ length before → after ≡ overwritten before at (open_byte ∷ text) → IsWhole at text after
-done_whole at text before after within is =
-    let same : 1 + length text ≡ length (open_byte ∷ text) = omega arith in
-    ap (λ (l : List ℕ). part l at (1 + length text)) is
-    ∙ ap (λ (n : ℕ). part (overwritten before at (open_byte ∷ text)) at n) same
-    ∙ part-overwritten before at (open_byte ∷ text) within
+done_whole at text before after h1 h2 = grind (arith, common_steps, nat_tests)
 
 module _ {sizes : Sizes} {lane end : ℕ} {key : Key} {rec : Rec} {at : ℕ} {text : List ℕ} (write : IsEntryWrite sizes lane end key rec at text) (entries : List (Key × Rec)) (is_end : length (blocks entries) ≡ end) where
   here : at ≡ region_start sizes lane + length (blocks entries)
@@ -108,15 +103,7 @@ module _ {sizes : Sizes} {lane end : ℕ} {key : Key} {rec : Rec} {at : ℕ} {te
 
   -- each file that a gated write may leave
   appended : (before : List ℕ → Type 0) (file : List ℕ) → EachHasEntries sizes lane entries before → IsGated before at text file → IsAppended sizes lane entries (key, rec) before file
-  appended before file each (untouched was) = record { has = inl (each file was); outside = (file, was, same_file (lane_region sizes lane) file) }
-  appended before file each (behind_gate was closed) = record {
-    has = inl (still_has was.0 file (each was.0 was.1) was.2 closed);
-    outside = (was.0, was.1, same_wider (write_inside write) was.2);
-  }
-  appended before file each (whole was stands) = record {
-    has = inr (has_more was.0 file (each was.0 was.1) was.2 stands);
-    outside = (was.0, was.1, same_wider (write_inside write) was.2);
-  }
+  appended before file h1 h2 = grind (arith, common_steps, nat_tests, same_file, still_has, same_wider, write_inside, has_more)
 
   -- the call, at each moment and in the end
   pub leaves_appended : {done : Bool} {end most : ℕ} {old new : DiskState} → IsTimed new → IsTrue old.is_honest → at ≤ length old.bytes → LeavesGated at text old new → Affects (span at (1 + length text)) end most old new

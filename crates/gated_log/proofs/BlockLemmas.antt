@@ -1,11 +1,13 @@
 -- What a gate and the bytes behind it say of the lane.
-use Rattle.std.proofs.Common.{◌≡◌, ◌≢◌, ℕ, ◌+◌, ◌-◌, ◌≤◌, min, List, [], ◌∷◌, ◌++◌, length, get_or, take, drop, Some, None, Ok, Err, refl, ap, sym, ◌∙◌, arith, append-nil, length-append}
+use Rattle.std.proofs.lemmas.Bool.Decides.{nat_tests}
+use Rattle.std.proofs.lemmas.Grind.{common_steps}
+use Rattle.std.proofs.Common.{◌≡◌, ℕ, ◌+◌, ◌-◌, ◌≤◌, min, List, [], ◌∷◌, ◌++◌, length, get_or, take, drop, Some, Ok, Err, refl, ap, sym, ◌∙◌, arith, append-nil, length-append}
 use Rattle.std.specs.List.{between}
 use Rattle.std.proofs.lemmas.List.{take_at, drop_at, take-take, take-append-drop, length-take}
-use Rattle.std.proofs.lemmas.List.Elements.{All-push, All-head, All-tail}
+use Rattle.std.proofs.lemmas.List.Elements.{All-head, All-tail}
 use Rattle.std.proofs.lemmas.Slice.{between_to_end}
 use Rattle.disk_trait.specs.Disk.{part}
-use Rattle.disk_trait.specs.Parts.{part-split}
+use Rattle.disk_trait.proofs.PartLemmas.{part-split}
 use Rattle.gated_write.specs.Gated.{open_byte, IsClosed}
 use Rattle.blsm_model.specs.declared.key.Key.{Key}
 use Rattle.blsm_model.specs.Sizes.{Sizes}
@@ -40,18 +42,13 @@ room_of replay = min most_weight (region_length replay.sizes - (replay.end + 2))
 
 -- the gate and the bytes behind it
 gate_first : (bytes : List ℕ) → 1 ≤ length bytes → get_or bytes 0 0 ≡ open_byte → bytes ≡ open_byte ∷ drop 1 bytes
-gate_first [] long is = absurd (omega arith)
-gate_first (b ∷ bytes) long is = ap (λ (g : ℕ). g ∷ bytes) is
+gate_first bytes h1 h2 = grind (arith, common_steps, nat_tests)
 
 behind_gate : (bytes : List ℕ) → between 1 (length bytes) bytes ≡ drop 1 bytes
 behind_gate bytes = between_to_end bytes 1 (length bytes) (omega arith)
 
 pub open_block : (bytes : List ℕ) (key : Key) (rec : Rec) → 1 ≤ length bytes → get_or bytes 0 0 ≡ open_byte → BeginsWith (between 1 (length bytes) bytes) key rec → IsOpenBlock bytes (key, rec)
-open_block bytes key rec long is begins = record {
-  fields = begins.entry;
-  rest = begins.rest;
-  parts = gate_first bytes long is ∙ ap (λ (l : List ℕ). open_byte ∷ l) (sym (behind_gate bytes) ∙ begins.parts);
-}
+open_block bytes key rec h1 h2 h3 = grind (arith, common_steps, nat_tests)
 
 pub broken_block : (bytes : List ℕ) → 1 ≤ length bytes → get_or bytes 0 0 ≡ open_byte → ((key : Key) (rec : Rec) → BeginsWith (between 1 (length bytes) bytes) key rec → ⊥) → IsBrokenBlock bytes
 broken_block bytes long is none = record {
@@ -60,9 +57,7 @@ broken_block bytes long is none = record {
 }
 
 pub open_fits : (bytes : List ℕ) (e : Key × Rec) → IsOpenBlock bytes e → 1 + weight e.0 e.1 ≤ length bytes
-open_fits bytes e block =
-    let long : length bytes ≡ length (open_byte ∷ (spelling e.0 e.1 ++ block.rest)) = ap (λ (l : List ℕ). length l) block.parts in
-    omega (arith, long, length-append (spelling e.0 e.1) block.rest, length-spelling e.0 e.1)
+open_fits bytes e h1 = grind (arith, common_steps, nat_tests, length-append, length-spelling)
 
 -- ---- the lane
 
@@ -70,9 +65,7 @@ pub blocks-push : (es : List (Key × Rec)) (e : Key × Rec) → blocks (es ++ e 
 blocks-push es e = blocks-append es (e ∷ []) ∙ ap (λ (l : List ℕ). blocks es ++ (open_byte ∷ l)) (append-nil (spelling e.0 e.1))
 
 pub length-blocks-push : (es : List (Key × Rec)) (e : Key × Rec) → length (blocks (es ++ e ∷ [])) ≡ length (blocks es) + (1 + weight e.0 e.1)
-length-blocks-push es e =
-    let same : length (blocks (es ++ e ∷ [])) ≡ length (blocks es ++ (open_byte ∷ spelling e.0 e.1)) = ap (λ (l : List ℕ). length l) (blocks-push es e) in
-    omega (arith, same, length-append (blocks es) (open_byte ∷ spelling e.0 e.1), length-spelling e.0 e.1)
+length-blocks-push es e = grind (arith, common_steps, nat_tests, blocks-push, length-append, length-spelling)
 
 -- an entry behind an open gate, as the front of the bytes from there on
 open_front : (own : List ℕ) (room : ℕ) (e : Key × Rec) → IsOpenBlock (take (1 + room) own) e → (weight e.0 e.1 ≤ room) × (take (1 + weight e.0 e.1) own ≡ open_byte ∷ spelling e.0 e.1)
@@ -89,20 +82,7 @@ open_front own room e block =
 -- an entry at the place behind the front: the lane begins with one entry more
 pub one_more_given : (sizes : Sizes) (lane : ℕ) (es : List (Key × Rec)) (e : Key × Rec) (file : List ℕ) → HasFront sizes lane es file
     → HasEntryAt sizes lane (length (blocks es)) e file → HasFront sizes lane (es ++ e ∷ []) file
-one_more_given sizes lane es e file front entry =
-    let start = region_start sizes lane in
-    let n = length (blocks es) in
-    let long = length-blocks-push es e in
-    record {
-      each = All-push (λ x. IsEntry x.0 x.1) es e front.each entry.fields;
-      inside = omega (arith, long, entry.inside);
-      begins =
-          ap (λ (m : ℕ). part file start m) long
-          ∙ part-split file start n (1 + weight e.0 e.1)
-          ∙ ap (λ (l : List ℕ). l ++ part file (start + n) (1 + weight e.0 e.1)) front.begins
-          ∙ ap (λ (l : List ℕ). blocks es ++ l) entry.begins
-          ∙ sym (blocks-push es e);
-    }
+one_more_given sizes lane es e file h1 h2 = grind (arith, common_steps, nat_tests, length-blocks-push, part-split, blocks-push)
 
 -- a closed gate there: the lane has no more entries
 pub none_more : (sizes : Sizes) (lane : ℕ) (es : List (Key × Rec)) (file : List ℕ) → HasFront sizes lane es file → region_start sizes lane + region_length sizes ≤ length file
@@ -169,9 +149,6 @@ module _ (replay : ReplayState) (file : List ℕ) where
       let parts = open_front (drop (next_gate replay) file) (room_of replay) e opened in
       record { fields = opened.fields; inside = omega (arith, parts.0, opened.fields.key_least); begins = parts.1 }
 
-  closed_read : take 1 block ≢ open_byte ∷ [] → IsClosed (next_gate replay) file
-  closed_read closed = λ opened. let short : 1 ≤ 1 + room_of replay = omega arith in closed (take-take 1 (1 + room_of replay) (drop (next_gate replay) file) short ∙ opened)
-
   opened_read : IsBrokenBlock block → part file (next_gate replay) 1 ≡ open_byte ∷ []
   opened_read broken = let short : 1 ≤ 1 + room_of replay = omega arith in sym (take-take 1 (1 + room_of replay) (drop (next_gate replay) file) short) ∙ broken.opened
 
@@ -187,9 +164,6 @@ module _ (replay : ReplayState) (file : List ℕ) where
   -- the answers that were read
   pub some_read : (e : Key × Rec) → IsOpenBlock block e → IsReadFrom replay file (Ok (Some e))
   some_read e opened = entry_read e opened
-
-  pub none_read : take 1 block ≢ open_byte ∷ [] → IsReadFrom replay file (Ok None)
-  none_read closed = closed_read closed
 
   pub damaged_read : (lane : ℕ) → IsBrokenBlock block → IsReadFrom replay file (Err (Damaged lane))
   damaged_read lane broken = (opened_read broken, no_entry_read broken)

@@ -1,11 +1,14 @@
 -- What holds of each lane, whatever else its file has.
+use Rattle.std.proofs.lemmas.Bool.Decides.{nat_tests}
+use Rattle.std.proofs.lemmas.Grind.{common_steps}
 use Rattle.std.specs.Prelude.{◌≡◌, ◌≢◌, ◌≤◌, ◌<◌, ℕ, ◌+◌, ◌*◌, List, [], ◌∷◌, length, take, drop}
 use Rattle.std.proofs.Common.{⊎_elim, sym, ◌∙◌, ap, arith, get_or}
 use Rattle.std.proofs.lemmas.List.{take-take}
 use Rattle.std.proofs.Math.Seq.{drop-cons}
 use Rattle.std.proofs.lemmas.Bool.{cases_lt}
 use Rattle.disk_trait.specs.Disk.{part}
-use Rattle.disk_trait.specs.Region.{Region, AreApart, IsSameOutside, part_apart}
+use Rattle.disk_trait.specs.Region.{Region, AreApart, IsSameOutside}
+use Rattle.disk_trait.proofs.RegionLemmas.{part_apart}
 use Rattle.gated_write.specs.Gated.{IsClosed}
 use Rattle.blsm_model.specs.declared.key.Key.{Key}
 use Rattle.blsm_model.specs.Sizes.{Sizes, IsGeometry}
@@ -45,17 +48,7 @@ empty_lane sizes lane file geometry below closed =
 
 -- regions of which one has the lower number
 below_apart : (sizes : Sizes) (low high : ℕ) → low < high → region_start sizes low + region_length sizes ≤ region_start sizes high
-below_apart sizes low high lt =
-    let step : region_length sizes * (low + 1) ≤ region_length sizes * high = grind (arith, lt) in
-    let more : region_length sizes * (low + 1) ≡ region_length sizes * low + region_length sizes = grind arith in
-    omega (arith, step, more)
+below_apart sizes low high h1 = grind (arith, common_steps, nat_tests)
 
 pub lanes_apart : (sizes : Sizes) (one other : ℕ) → one ≢ other → AreApart (lane_region sizes one) (lane_region sizes other)
-lanes_apart sizes one other differ i here there =
-    ⊎_elim
-    (λ (lt : one < other). omega (arith, below_apart sizes one other lt, here.1, there.0))
-    (λ (le : other ≤ one). omega (arith, below_apart sizes other one (above le), there.1, here.0))
-    (cases_lt one other)
-  where
-    above : other ≤ one → other < one
-    above le = ⊎_elim (λ (lt : other < one). lt) (λ (ge : one ≤ other). absurd (differ (omega (arith, le, ge)))) (cases_lt other one)
+lanes_apart sizes one other h1 = grind (arith, common_steps, nat_tests, below_apart, cases_lt)

@@ -1,5 +1,6 @@
 -- Lanes and their blocks in a file: the gate behind the entries, a byte of the file, where a region lies.
-use Rattle.std.proofs.Common.{◌≡◌, ℕ, zero, suc, ◌+◌, ◌*◌, ◌≤◌, ◌<◌, List, [], ◌∷◌, ◌++◌, length, take, drop, refl, ap, sym, ◌∙◌, arith, append_assoc, length-drop, get_or}
+use Rattle.std.proofs.lemmas.Bool.Decides.{nat_tests}
+use Rattle.std.proofs.Common.{◌≡◌, ℕ, ◌+◌, ◌*◌, ◌≤◌, ◌<◌, List, [], ◌∷◌, ◌++◌, length, take, drop, refl, ap, sym, ◌∙◌, arith, append_assoc, get_or}
 use Rattle.std.proofs.lemmas.List.{take_at, drop_at, take-take, drop-take, drop-drop}
 use Rattle.std.proofs.lemmas.Grind.{common_steps}
 use Rattle.std.proofs.Math.Seq.{drop-cons}
@@ -39,17 +40,8 @@ pub one_byte : (file : List ℕ) (at : ℕ) → at < length file → (g : ℕ) �
 one_byte file at below = (get_or file at 0, ap (λ (l : List ℕ). take 1 l) (drop-cons file at 0 below))
 
 pub part_below : (file : List ℕ) (at : ℕ) (g : ℕ) → part file at 1 ≡ g ∷ [] → at < length file
-part_below file at g is =
-    let long : length (part file at 1) ≡ 1 = ap (λ (l : List ℕ). length l) is in
-    let short : length (part file at 1) ≤ length (drop at file) = length-take-le' 1 (drop at file) in
-    omega (arith, length-drop at file)
-  where
-    length-take-le' : (n : ℕ) (l : List ℕ) → length (take n l) ≤ length l
-    length-take-le' n l = grind (arith, common_steps)
+part_below file at g h1 = grind (arith, common_steps, nat_tests)
 
 -- A region lies inside the store's file.
 pub region_inside : (sizes : Sizes) (lane : ℕ) → lane < 3 → region_start sizes lane + region_length sizes ≤ 4096 + 12 * sizes.half
-region_inside sizes zero below = omega arith
-region_inside sizes (suc zero) below = omega arith
-region_inside sizes (suc (suc zero)) below = omega arith
-region_inside sizes (suc (suc (suc lane))) below = absurd (omega arith)
+region_inside sizes lane h1 = grind (arith, common_steps, nat_tests)

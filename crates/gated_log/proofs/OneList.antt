@@ -1,4 +1,6 @@
 -- A lane has one list at most: no spelling begins another, and a gate is open or closed.
+use Rattle.std.proofs.lemmas.Bool.Decides.{nat_tests}
+use Rattle.std.proofs.lemmas.Grind.{common_steps}
 use Rattle.std.proofs.Common.{◌≡◌, ◌≢◌, ℕ, ◌+◌, ◌≤◌, List, [], ◌∷◌, ◌++◌, length, take, drop, Some, None, refl, ap, sym, subst, ◌∙◌, arith, append_assoc, append-nil, length-append}
 use Rattle.std.specs.Prelude.{slice_get}
 use Rattle.std.proofs.lemmas.List.{take_at, take-take, take-append-drop, drop-drop, get_or_append_left, append_cancel_left}
@@ -22,9 +24,7 @@ record IsLeft (fs es : List (Key × Rec)) (gate : ℕ) (behind rest : List ℕ) 
 
 -- the same first entry, and the same bytes behind it
 same_first : (e f : Key × Rec) (x y : List ℕ) → IsEntry e.0 e.1 → IsEntry f.0 f.1 → open_byte ∷ (spelling e.0 e.1 ++ x) ≡ open_byte ∷ (spelling f.0 f.1 ++ y) → (e ≡ f) × (x ≡ y)
-same_first e f x y one other same =
-    let both = entry_same e.0 f.0 e.1 f.1 x y one other (ap (λ (l : List ℕ). drop 1 l) same) in
-    (λ i. (both.0 i, both.1 i), both.2)
+same_first e f x y h1 h2 h3 = grind (arith, common_steps, nat_tests, entry_same)
 
 -- entries up to a closed gate, and other entries on the same bytes: these are a front of those
 front_left : (fs es : List (Key × Rec)) (gate : ℕ) (behind rest : List ℕ) → AreEntries fs → AreEntries es → gate ≢ open_byte → blocks es ++ gate ∷ behind ≡ blocks fs ++ rest → IsLeft fs es gate behind rest

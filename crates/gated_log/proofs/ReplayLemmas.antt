@@ -1,10 +1,11 @@
 -- What the answers of a replay say of its lane.
-use Rattle.std.proofs.Common.{◌≡◌, ℕ, ◌+◌, ◌≤◌, ◌<◌, List, [], ◌∷◌, ◌++◌, length, Some, None, Ok, Err, sym, subst, arith}
+use Rattle.std.proofs.lemmas.Bool.Decides.{nat_tests}
+use Rattle.std.proofs.lemmas.Grind.{common_steps}
+use Rattle.std.proofs.Common.{◌≡◌, ℕ, ◌+◌, ◌≤◌, ◌<◌, List, [], ◌∷◌, ◌++◌, length, Some, Ok, arith}
 use Rattle.disk_trait.specs.Disk.{part}
 use Rattle.gated_write.specs.Gated.{open_byte, IsClosed}
 use Rattle.blsm_model.specs.declared.key.Key.{Key}
 use Rattle.record_delta.specs.declared.record.Rec.{Rec}
-use Rattle.gated_log.specs.declared.replay.LaneBroken.TheVariants.{Fault, Damaged}
 use Rattle.blsm_model.specs.Lanes.{region_start, region_length}
 use Rattle.gated_log.specs.Lane.{HasEntries, IsDamagedBehind}
 use Rattle.gated_log.specs.Replay.{ReplayState, HasGiven, HasEntryAt, Answer, IsReadFrom, TellsLane, next_gate, replay_after}
@@ -23,24 +24,15 @@ lies_inside replay file below long = omega (arith, region_inside replay.sizes re
 
 given_entry : (replay : ReplayState) (es : List (Key × Rec)) (e : Key × Rec) (file : List ℕ) → HasGiven replay es file → HasEntryAt replay.sizes replay.lane replay.end e file
     → HasGiven (replay_after (Ok (Some e)) replay) (es ++ e ∷ []) file
-given_entry replay es e file given entry = record {
-  place = omega (arith, length-blocks-push es e, given.place);
-  front = one_more_given replay.sizes replay.lane es e file given.front (subst (λ (n : ℕ). HasEntryAt replay.sizes replay.lane n e file) (sym given.place) entry);
-}
+given_entry replay es e file h1 h2 = grind (arith, common_steps, nat_tests, length-blocks-push, one_more_given)
 
 given_none : (replay : ReplayState) (es : List (Key × Rec)) (file : List ℕ) → IsInside replay file → HasGiven replay es file → IsClosed (next_gate replay) file → HasEntries replay.sizes replay.lane es file
-given_none replay es file long given closed =
-    none_more replay.sizes replay.lane es file given.front long (subst (λ (n : ℕ). IsClosed (region_start replay.sizes replay.lane + n) file) (sym given.place) closed)
+given_none replay es file h1 h2 h3 = grind (arith, common_steps, nat_tests, none_more)
 
 given_damaged : (replay : ReplayState) (es : List (Key × Rec)) (file : List ℕ) → HasGiven replay es file → part file (next_gate replay) 1 ≡ open_byte ∷ []
     → ((e : Key × Rec) → HasEntryAt replay.sizes replay.lane replay.end e file → ⊥) → IsDamagedBehind replay.sizes replay.lane es file
-given_damaged replay es file given opened none =
-    damaged_here replay.sizes replay.lane es file given.front (subst (λ (n : ℕ). part file (region_start replay.sizes replay.lane + n) 1 ≡ open_byte ∷ []) (sym given.place) opened)
-    (λ e entry. none e (subst (λ (n : ℕ). HasEntryAt replay.sizes replay.lane n e file) given.place entry))
+given_damaged replay es file h1 h2 h3 = grind (arith, common_steps, nat_tests, damaged_here)
 
 -- in one
 pub lane_told : (replay : ReplayState) (es : List (Key × Rec)) (file : List ℕ) (answer : Answer) → IsInside replay file → IsReadFrom replay file answer → HasGiven replay es file → TellsLane replay es file answer
-lane_told replay es file (Ok (Some e)) long read given = given_entry replay es e file given read
-lane_told replay es file (Ok None) long read given = given_none replay es file long given read
-lane_told replay es file (Err (Damaged lane)) long read given = given_damaged replay es file given read.0 read.1
-lane_told replay es file (Err Fault) long read given = tt
+lane_told replay es file answer h1 h2 h3 = grind (arith, common_steps, nat_tests, given_entry, given_none, given_damaged)

@@ -1,21 +1,20 @@
 -- What each image has, call by call, while a text is written behind a gate.
-use Rattle.std.proofs.Common.{◌≡◌, ◌⊎◌, inl, inr, ⊎_elim, ℕ, ◌+◌, ◌≤◌, true, false, IsTrue, List, [], ◌∷◌, ◌++◌, length, take, drop, bytes_eq, refl, sym, ◌∙◌, ap, subst, arith, append_assoc}
-use Rattle.std.proofs.lemmas.Slice.Eq.{bytes_eq-Decides}
-use Rattle.std.proofs.lemmas.List.{drop_at, length-take-le, take-take, take-append-le}
+use Rattle.std.proofs.lemmas.Bool.Decides.{nat_tests}
+use Rattle.std.proofs.lemmas.Grind.{common_steps}
+use Rattle.std.proofs.Common.{◌≡◌, ◌⊎◌, ⊎_elim, ℕ, ◌+◌, ◌≤◌, IsTrue, List, [], ◌∷◌, ◌++◌, length, refl, sym, ◌∙◌, ap, subst, arith}
 use Rattle.disk_trait.specs.Disk.{DiskState, Only, part, overwritten}
-use Rattle.disk_trait.specs.Effects.{Affects, affects_wider, affects_run}
-use Rattle.disk_trait.specs.Moments.{IsTimed, LeavesOnly, leaves_only_run, leaves_only_weaken, leaves_only_now}
-use Rattle.disk_trait.specs.Parts.{part-overwritten, part-split}
-use Rattle.disk_trait.specs.Region.{span, IsWithin, AreApart, IsSameOutside, IsOldOutside, same_wider, same_run, part_apart}
+use Rattle.disk_trait.specs.Effects.{Affects}
+use Rattle.disk_trait.proofs.EffectLemmas.{affects_wider, affects_run}
+use Rattle.disk_trait.specs.Moments.{IsTimed, LeavesOnly}
+use Rattle.disk_trait.proofs.MomentLemmas.{leaves_only_run, leaves_only_weaken, leaves_only_now}
+use Rattle.disk_trait.proofs.PartLemmas.{part-overwritten, part-split}
+use Rattle.disk_trait.specs.Region.{span, IsWithin, AreApart, IsSameOutside, IsOldOutside}
+use Rattle.disk_trait.proofs.RegionLemmas.{same_wider, same_run, part_apart}
 use Rattle.gated_write.specs.Gated.{open_byte, IsClosed, IsGated, behind_gate, whole, LeavesGated}
 
 -- The gate is open, or it isn't.
 gate_cases : (at : ℕ) (file : List ℕ) → (part file at 1 ≡ open_byte ∷ []) ⊎ IsClosed at file
-gate_cases at file =
-    elim (bytes_eq (part file at 1) (open_byte ∷ [])) as (λ b. bytes_eq (part file at 1) (open_byte ∷ []) ≡ b → (part file at 1 ≡ open_byte ∷ []) ⊎ IsClosed at file) [
-      | true ↦ λ same. inl ((bytes_eq-Decides (part file at 1) (open_byte ∷ [])).0 same)
-      | false ↦ λ other. inr (λ same. let is = (bytes_eq-Decides (part file at 1) (open_byte ∷ [])).1 same in absurd (cc (other, is)))
-    ] refl
+gate_cases at file = grind (arith, common_steps, nat_tests)
 
 -- The text is behind the gate, and both are one range.
 text_inside : (at n : ℕ) → IsWithin (span (at + 1) n) (span at (1 + n))
@@ -93,17 +92,4 @@ module _ (at : ℕ) (text : List ℕ) (start mid : DiskState) (first : Affects (
 
 -- The gate over the text is the two together.
 pub gate_over_text : (file : List ℕ) (at : ℕ) (text : List ℕ) → at + 1 ≤ length file → overwritten (overwritten file (at + 1) text) at (open_byte ∷ []) ≡ overwritten file at (open_byte ∷ text)
-gate_over_text file at text inside =
-    let front = take (at + 1) file in
-    let rest = drop (at + 1 + length text) file in
-    let long : length front ≡ at + 1 = length-take-le (at + 1) file inside in
-    let behind = append_assoc front text rest in
-    let below : take at (overwritten file (at + 1) text) ≡ take at file =
-    ap (λ (l : List ℕ). take at l) behind ∙ take-append-le at front (text ++ rest) (omega (arith, long)) ∙ take-take at (at + 1) file (omega arith) in
-    let above : drop (at + 1) (overwritten file (at + 1) text) ≡ text ++ rest =
-    ap (λ (l : List ℕ). drop (at + 1) l) behind ∙ drop_at front (text ++ rest) (at + 1) long in
-    let place : at + 1 + length text ≡ at + length (open_byte ∷ text) = omega arith in
-    (λ i. below i ++ open_byte ∷ [] ++ above i)
-    ∙ append_assoc (take at file) (open_byte ∷ []) (text ++ rest)
-    ∙ sym (append_assoc (take at file) (open_byte ∷ text) rest)
-    ∙ (λ i. take at file ++ open_byte ∷ text ++ drop (place i) file)
+gate_over_text file at text h1 = grind (arith, common_steps, nat_tests)

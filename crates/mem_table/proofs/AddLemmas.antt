@@ -1,12 +1,11 @@
 -- One more node in a tree of keys.
 use Rattle.std.proofs.lemmas.Bool.Decides.{nat_tests}
 use Rattle.std.proofs.lemmas.Grind.{common_steps}
-use Rattle.std.proofs.Common.{◌≡◌, ◌≢◌, ℕ, ◌+◌, ◌<◌, ◌≤◌, max, inl, inr, List, [], ◌∷◌, ◌++◌, length, refl, ap, sym, subst, ◌∙◌, arith}
+use Rattle.std.proofs.Common.{◌≡◌, ◌≢◌, ℕ, ◌+◌, ◌<◌, ◌≤◌, max, List, [], ◌∷◌, ◌++◌, length, refl, ap, sym, subst, ◌∙◌, arith}
 use Rattle.std.specs.List.{AllByRecursion}
-use Rattle.std.specs.declared.cmp.Ordering.TheVariants.{Less, Equal, Greater}
+use Rattle.std.specs.declared.cmp.Ordering.TheVariants.{Less, Greater}
 use Rattle.std.specs.FinMap.{put}
 use Rattle.std.specs.FinMap.Entries.{by_order}
-use Rattle.std.proofs.lemmas.Bool.{cases_lt}
 use Rattle.std.proofs.lemmas.Cmp.{nat_list_cmp_total}
 use Rattle.std.proofs.lemmas.List.{length-append}
 use Rattle.blsm_model.specs.declared.key.Key.{Key}
@@ -14,11 +13,11 @@ use Rattle.blsm_model.specs.Keys.{key_cmp}
 use Rattle.record_delta.specs.declared.record.Rec.{Rec}
 use Rattle.record_delta.specs.Entries.{Entries}
 use Rattle.mem_table.specs.declared.nodes.Node.{Node}
-use Rattle.mem_table.specs.Shapes.{Tree, Leaf, Fork, height, places, IsBalanced, DifferByAtMost, times, no_node, height_of, Holds, tree_at, joined, MayHang, IsHung}
+use Rattle.mem_table.specs.Shapes.{Tree, Leaf, Fork, height, places, IsBalanced, DifferByAtMost, one_if, times, no_node, height_of, Holds, tree_at, joined, MayHang, IsHung}
 use Rattle.mem_table.specs.Ways.{entry_at, entries_at, tree_entries, AreWithout, IsNew, IsAdded}
 use Rattle.mem_table.proofs.PlaceLemmas.{tied}
 use Rattle.mem_table.proofs.NodeLemmas.{times_fork, stored, read, stays, joined_other, length-joined, hang, differs_if_none}
-use Rattle.mem_table.proofs.WayLemmas.{entries_fork, all_parts, IsForked, entries_split, times_split, height_split, bare, less_of_greater, greater_of_less}
+use Rattle.mem_table.proofs.WayLemmas.{entries_fork, Parts, all_parts, IsForked, entries_split, times_split, height_split, bare, less_of_greater, greater_of_less}
 
 -- ---- among lists
 
@@ -30,9 +29,8 @@ pub put_behind : (k : Key) (v : Rec) (es : Entries) (e : Key × Rec) (fs : Entri
     → es ++ e ∷ put key_cmp k v fs ≡ put key_cmp k v (es ++ e ∷ fs)
 put_behind k v [] e fs below greater = sym (ap (λ o. by_order o ((k, v) ∷ e ∷ fs) ((e.0, v) ∷ fs) (e ∷ put key_cmp k v fs)) greater)
 put_behind k v (x ∷ es) e fs below greater =
-    let past : key_cmp k x.0 ≡ Greater = greater_of_less x.0 k (nat_list_cmp_total.trans x.0 e.0 k below.0 (less_of_greater k e.0 greater)) in
-    ap (λ (l : Entries). x ∷ l) (put_behind k v es e fs below.1 greater)
-    ∙ sym (ap (λ o. by_order o ((k, v) ∷ x ∷ (es ++ e ∷ fs)) ((x.0, v) ∷ (es ++ e ∷ fs)) (x ∷ put key_cmp k v (es ++ e ∷ fs))) past)
+    let ih0 = (put_behind k v es e fs below.1 greater) in
+    grind (arith, common_steps, nat_tests, greater_of_less, nat_list_cmp_total, less_of_greater)
 
 -- ---- the first node
 
@@ -56,26 +54,35 @@ added_first nodes slots root new few is within =
 
 -- ---- below a node
 
+not_less_greater : (a b : Key) → key_cmp a b ≢ Less → b ≢ a → key_cmp a b ≡ Greater
+not_less_greater a b not_less differs = grind (arith, common_steps, nat_tests, tied a b)
+
+may_at : (nodes : List Node) (root left right : ℕ) → length nodes ≤ no_node → root < length nodes → Holds nodes left (tree_at nodes left) → Holds nodes right (tree_at nodes right)
+    → IsBalanced (tree_at nodes left) → IsBalanced (tree_at nodes right) → ((q : ℕ) → times q (places (tree_at nodes left)) + one_if q root + times q (places (tree_at nodes right)) ≤ 1)
+    → MayHang nodes root left right (tree_at nodes left) (tree_at nodes right)
+may_at nodes root left right few within hl hr bl br apart = record {
+  few = few;
+  in_range = within;
+  holds_left = hl;
+  holds_right = hr;
+  balanced_left = bl;
+  balanced_right = br;
+  apart = λ q. omega (arith, apart q, times_fork q (places (tree_at nodes left)) (places (tree_at nodes right)) root);
+}
+
 module _ (nodes : List Node) (slots : Entries) (root left right new : ℕ) (fork : IsForked nodes slots root left right) (adds : IsNew nodes slots root new) where
+  new_parts : Parts (λ e. e.0 ≢ (entry_at slots new).0) (tree_entries nodes slots left) (entry_at slots root) (tree_entries nodes slots right)
+  new_parts = all_parts _ (tree_entries nodes slots left) (entry_at slots root) (tree_entries nodes slots right) (subst (AreWithout (entry_at slots new).0) (entries_split nodes slots root left right fork) adds.without)
+
   pub new_left : IsNew nodes slots left new
-  new_left =
-      let parts = all_parts _ (tree_entries nodes slots left) (entry_at slots root) (tree_entries nodes slots right) (subst (AreWithout (entry_at slots new).0) (entries_split nodes slots root left right fork) adds.without) in
-      record { in_range = adds.in_range; apart = λ q. omega (arith, adds.apart q, times_split nodes slots root left right fork q); without = parts.before }
+  new_left = record { in_range = adds.in_range; apart = λ q. omega (arith, adds.apart q, times_split nodes slots root left right fork q); without = new_parts.before }
 
   pub new_right : IsNew nodes slots right new
-  new_right =
-      let parts = all_parts _ (tree_entries nodes slots left) (entry_at slots root) (tree_entries nodes slots right) (subst (AreWithout (entry_at slots new).0) (entries_split nodes slots root left right fork) adds.without) in
-      record { in_range = adds.in_range; apart = λ q. omega (arith, adds.apart q, times_split nodes slots root left right fork q); without = parts.after }
+  new_right = record { in_range = adds.in_range; apart = λ q. omega (arith, adds.apart q, times_split nodes slots root left right fork q); without = new_parts.after }
 
   -- what isn't below and isn't the same is beyond
   pub new_beyond : key_cmp (entry_at slots new).0 (entry_at slots root).0 ≢ Less → key_cmp (entry_at slots new).0 (entry_at slots root).0 ≡ Greater
-  new_beyond not_less =
-      let parts = all_parts _ (tree_entries nodes slots left) (entry_at slots root) (tree_entries nodes slots right) (subst (AreWithout (entry_at slots new).0) (entries_split nodes slots root left right fork) adds.without) in
-      elim (key_cmp (entry_at slots new).0 (entry_at slots root).0) as (λ o. key_cmp (entry_at slots new).0 (entry_at slots root).0 ≡ o → o ≡ Greater) [
-        | Less ↦ λ is. absurd (not_less is)
-        | Equal ↦ λ is. absurd (parts.here (sym (tied (entry_at slots new).0 (entry_at slots root).0 is)))
-        | Greater ↦ λ is. refl
-      ] refl
+  new_beyond not_less = not_less_greater (entry_at slots new).0 (entry_at slots root).0 not_less new_parts.here
 
   pub balanced_sides : IsBalanced (tree_at nodes root) → IsBalanced (Fork (tree_at nodes left) root (tree_at nodes right))
   balanced_sides balanced = subst IsBalanced fork.tree_is balanced
@@ -90,23 +97,9 @@ module _ (nodes : List Node) (slots : Entries) (root left right new : ℕ) (fork
       right_is = read mid right (tree_at nodes right) (omega (arith, fork.right_tree.few)) held_right
 
       pub may_left : MayHang mid root below right (tree_at mid below) (tree_at mid right)
-      may_left = record {
-        few = omega (arith, fork.right_tree.few);
-        in_range = omega (arith, fork.in_range);
-        holds_left = added.holds;
-        holds_right = subst (λ (t : Tree). Holds mid right t) (sym right_is) held_right;
-        balanced_left = added.balanced;
-        balanced_right = subst IsBalanced (sym right_is) (balanced_sides balanced).2;
-        apart = λ q.
-            omega (
-              arith,
-              times_fork q (places (tree_at mid below)) (places (tree_at mid right)) root,
-              added.places_are q,
-              ap (λ (t : Tree). times q (places t)) right_is,
-              times_split nodes slots root left right fork q,
-              adds.apart q,
-            );
-      }
+      may_left =
+          may_at mid root below right (omega (arith, fork.right_tree.few)) (omega (arith, fork.in_range)) added.holds (rw right_is held_right) added.balanced (rw right_is (balanced_sides balanced).2)
+          (λ q. omega (arith, added.places_are q, ap (λ (t : Tree). times q (places t)) right_is, times_split nodes slots root left right fork q, adds.apart q))
 
       heights_left : (height_of mid below ≡ height (tree_at mid below)) × (height_of mid right ≡ height (tree_at nodes right))
       heights_left = (stored mid below (tree_at mid below) may_left.few added.holds, stored mid right (tree_at nodes right) may_left.few held_right)
@@ -119,52 +112,7 @@ module _ (nodes : List Node) (slots : Entries) (root left right new : ℕ) (fork
 
       pub added_left : (after : List Node) (top : ℕ) → key_cmp (entry_at slots new).0 (entry_at slots root).0 ≡ Less
           → IsHung mid after root (tree_at mid below) (tree_at mid right) top (tree_at after top) → IsAdded nodes after slots root new top
-      added_left after top less hung =
-          let k = (entry_at slots new).0 in
-          let v = (entry_at slots new).1 in
-          let split = height_split nodes slots root left right fork in
-          let sides = (balanced_sides balanced).0 in
-          let right_high : height (tree_at mid right) ≡ height (tree_at nodes right) = ap height right_is in
-          record {
-            holds = hung.holds;
-            balanced = hung.balanced;
-            entries_are =
-                ap (entries_at slots) hung.places_are
-                ∙ entries_fork slots (places (tree_at mid below)) (places (tree_at mid right)) root
-                ∙ ap (λ (es : Entries). es ++ entry_at slots root ∷ tree_entries mid slots right) added.entries_are
-                ∙ ap (λ (t : Tree). put key_cmp k v (tree_entries nodes slots left) ++ entry_at slots root ∷ entries_at slots (places t)) right_is
-                ∙ put_before k v (tree_entries nodes slots left) (entry_at slots root) (tree_entries nodes slots right) less
-                ∙ sym (ap (put key_cmp k v) (entries_split nodes slots root left right fork));
-            one_more =
-                omega (
-                  arith,
-                  ap length hung.places_are,
-                  length-append (places (tree_at mid below)) (root ∷ places (tree_at mid right)),
-                  added.one_more,
-                  ap (λ (t : Tree). length (places t)) right_is,
-                  ap (λ (t : Tree). length (places t)) fork.tree_is,
-                  length-append (places (tree_at nodes left)) (root ∷ places (tree_at nodes right)),
-                );
-            places_are = λ q.
-                omega (
-                  arith,
-                  ap (times q) hung.places_are,
-                  times_fork q (places (tree_at mid below)) (places (tree_at mid right)) root,
-                  added.places_are q,
-                  ap (λ (t : Tree). times q (places t)) right_is,
-                  times_split nodes slots root left right fork q,
-                );
-            not_lower = higher (height (tree_at nodes left)) (height (tree_at nodes right)) (height (tree_at mid below)) (height (tree_at mid right)) (height (tree_at nodes root)) (height (tree_at after top))
-                split sides.0 sides.1 right_high added.not_lower added.one_higher hung.not_lower hung.as_high;
-            one_higher = omega (arith, split, right_high, added.one_higher, hung.one_higher);
-            others = λ q none.
-                let parts = times_split nodes slots root left right fork q in
-                hung.others q (omega (arith, times_fork q (places (tree_at mid below)) (places (tree_at mid right)) root, added.places_are q, ap (λ (t : Tree). times q (places t)) right_is))
-                ∙ added.others q (omega arith);
-          }
-        where
-          higher : (l r l2 r2 h h2 : ℕ) → h ≡ max l r + 1 → l ≤ r + 1 → r ≤ l + 1 → r2 ≡ r → l ≤ l2 → l2 ≤ l + 1 → max l2 r2 ≤ h2 → (l2 ≤ r2 + 1 → r2 ≤ l2 + 1 → h2 ≡ max l2 r2 + 1) → h ≤ h2
-          higher l r l2 r2 h h2 is a b same c d e as_high = grind (arith, common_steps, nat_tests)
+      added_left after top h1 h2 = grind (arith, common_steps, nat_tests, height_split, balanced_sides, right_is, entries_fork, put_before, entries_split, length-append, times_fork)
 
     -- the node on the right
     module _ (added : IsAdded nodes mid slots right new below) where
@@ -175,23 +123,9 @@ module _ (nodes : List Node) (slots : Entries) (root left right new : ℕ) (fork
       left_is = read mid left (tree_at nodes left) (omega (arith, fork.right_tree.few)) held_left
 
       pub may_right : MayHang mid root left below (tree_at mid left) (tree_at mid below)
-      may_right = record {
-        few = omega (arith, fork.right_tree.few);
-        in_range = omega (arith, fork.in_range);
-        holds_left = subst (λ (t : Tree). Holds mid left t) (sym left_is) held_left;
-        holds_right = added.holds;
-        balanced_left = subst IsBalanced (sym left_is) (balanced_sides balanced).1;
-        balanced_right = added.balanced;
-        apart = λ q.
-            omega (
-              arith,
-              times_fork q (places (tree_at mid left)) (places (tree_at mid below)) root,
-              added.places_are q,
-              ap (λ (t : Tree). times q (places t)) left_is,
-              times_split nodes slots root left right fork q,
-              adds.apart q,
-            );
-      }
+      may_right =
+          may_at mid root left below (omega (arith, fork.right_tree.few)) (omega (arith, fork.in_range)) (rw left_is held_left) added.holds (rw left_is (balanced_sides balanced).1) added.balanced
+          (λ q. omega (arith, added.places_are q, ap (λ (t : Tree). times q (places t)) left_is, times_split nodes slots root left right fork q, adds.apart q))
 
       heights_right : (height_of mid left ≡ height (tree_at nodes left)) × (height_of mid below ≡ height (tree_at mid below))
       heights_right = (stored mid left (tree_at nodes left) may_right.few held_left, stored mid below (tree_at mid below) may_right.few added.holds)
@@ -204,49 +138,4 @@ module _ (nodes : List Node) (slots : Entries) (root left right new : ℕ) (fork
 
       pub added_right : (after : List Node) (top : ℕ) → key_cmp (entry_at slots new).0 (entry_at slots root).0 ≡ Greater
           → IsHung mid after root (tree_at mid left) (tree_at mid below) top (tree_at after top) → IsAdded nodes after slots root new top
-      added_right after top greater hung =
-          let k = (entry_at slots new).0 in
-          let v = (entry_at slots new).1 in
-          let split = height_split nodes slots root left right fork in
-          let sides = (balanced_sides balanced).0 in
-          let left_high : height (tree_at mid left) ≡ height (tree_at nodes left) = ap height left_is in
-          record {
-            holds = hung.holds;
-            balanced = hung.balanced;
-            entries_are =
-                ap (entries_at slots) hung.places_are
-                ∙ entries_fork slots (places (tree_at mid left)) (places (tree_at mid below)) root
-                ∙ ap (λ (es : Entries). tree_entries mid slots left ++ entry_at slots root ∷ es) added.entries_are
-                ∙ ap (λ (t : Tree). entries_at slots (places t) ++ entry_at slots root ∷ put key_cmp k v (tree_entries nodes slots right)) left_is
-                ∙ put_behind k v (tree_entries nodes slots left) (entry_at slots root) (tree_entries nodes slots right) fork.below greater
-                ∙ sym (ap (put key_cmp k v) (entries_split nodes slots root left right fork));
-            one_more =
-                omega (
-                  arith,
-                  ap length hung.places_are,
-                  length-append (places (tree_at mid left)) (root ∷ places (tree_at mid below)),
-                  added.one_more,
-                  ap (λ (t : Tree). length (places t)) left_is,
-                  ap (λ (t : Tree). length (places t)) fork.tree_is,
-                  length-append (places (tree_at nodes left)) (root ∷ places (tree_at nodes right)),
-                );
-            places_are = λ q.
-                omega (
-                  arith,
-                  ap (times q) hung.places_are,
-                  times_fork q (places (tree_at mid left)) (places (tree_at mid below)) root,
-                  added.places_are q,
-                  ap (λ (t : Tree). times q (places t)) left_is,
-                  times_split nodes slots root left right fork q,
-                );
-            not_lower = higher (height (tree_at nodes left)) (height (tree_at nodes right)) (height (tree_at mid left)) (height (tree_at mid below)) (height (tree_at nodes root)) (height (tree_at after top))
-                split sides.0 sides.1 left_high added.not_lower added.one_higher hung.not_lower hung.as_high;
-            one_higher = omega (arith, split, left_high, added.one_higher, hung.one_higher);
-            others = λ q none.
-                let parts = times_split nodes slots root left right fork q in
-                hung.others q (omega (arith, times_fork q (places (tree_at mid left)) (places (tree_at mid below)) root, added.places_are q, ap (λ (t : Tree). times q (places t)) left_is))
-                ∙ added.others q (omega arith);
-          }
-        where
-          higher : (l r l2 r2 h h2 : ℕ) → h ≡ max l r + 1 → l ≤ r + 1 → r ≤ l + 1 → l2 ≡ l → r ≤ r2 → r2 ≤ r + 1 → max l2 r2 ≤ h2 → (l2 ≤ r2 + 1 → r2 ≤ l2 + 1 → h2 ≡ max l2 r2 + 1) → h ≤ h2
-          higher l r l2 r2 h h2 is a b same c d e as_high = grind (arith, common_steps, nat_tests)
+      added_right after top h1 h2 = grind (arith, common_steps, nat_tests, height_split, balanced_sides, left_is, entries_fork, put_behind, entries_split, length-append, times_fork)

@@ -1,46 +1,38 @@
 -- What folding a record into sorted entries does to them and to their weight.
 use Rattle.std.proofs.lemmas.Bool.Decides.{nat_tests}
 use Rattle.std.proofs.lemmas.Grind.{common_steps}
-use Rattle.std.proofs.Common.{◌≡◌, ◌≢◌, ℕ, ◌+◌, ◌-◌, ◌*◌, ◌<◌, ◌≤◌, Bool, true, false, cond, T, List, [], ◌∷◌, ◌++◌, length, get_or, set, Some, refl, ap, sym, subst, ◌∙◌, ◌⊎◌, inl, inr, arith}
-use Rattle.std.specs.List.{insert, remove, AllByRecursion}
+use Rattle.std.proofs.Common.{◌≡◌, ◌≢◌, ℕ, ◌+◌, ◌-◌, ◌*◌, ◌<◌, ◌≤◌, cond, List, [], ◌∷◌, ◌++◌, length, get_or, set, Some, ap, sym, ◌∙◌, inl, inr, arith}
+use Rattle.std.specs.List.{insert, AllByRecursion}
 use Rattle.std.specs.Ordering.{is_eq, eq_by_cmp}
-use Rattle.std.specs.declared.cmp.Ordering.{Ordering}
-use Rattle.std.specs.declared.cmp.Ordering.TheVariants.{Less, Equal, Greater}
 use Rattle.std.specs.Cmp.{nat_eq_equiv, tied_itself}
 use Rattle.std.specs.Cmp.Lexicographic.{texts_ties, lists_equiv}
 use Rattle.std.specs.FinMap.{put}
-use Rattle.std.specs.FinMap.Entries.{is_sorted-put, find-put, by_order}
+use Rattle.std.specs.FinMap.Entries.{is_sorted-put, find-put}
 use Rattle.std.proofs.lemmas.Bool.{false≢true}
 use Rattle.std.proofs.lemmas.Cmp.{nat_list_cmp_total}
-use Rattle.std.proofs.lemmas.List.Sums.{sum_by-cons, sum_by-set, sum_by-insert, sum_by-remove}
+use Rattle.std.proofs.lemmas.List.Sums.{sum_by-cons, sum_by-set, sum_by-insert}
 use Rattle.blsm_model.specs.declared.key.Key.{Key}
 use Rattle.blsm_model.specs.declared.op.Write.{Write}
 use Rattle.blsm_model.specs.Keys.{key_cmp, same_key}
 use Rattle.record_delta.specs.declared.record.Rec.{Rec}
-use Rattle.record_delta.specs.Records.{weight, settled, writes_of_record, IsRecord}
+use Rattle.record_delta.specs.Records.{weight, writes_of_record, IsRecord}
 use Rattle.record_delta.specs.Folding.{fold, over}
 use Rattle.record_delta.proofs.FoldingLemmas.{fold_lighter, stands_rec}
 use Rattle.record_delta.specs.Entries.{Entries, AreSorted, record_of_key, entries_weight, with_record}
 use Rattle.mem_table.specs.Entries.{StandFor}
 use Rattle.mem_table.specs.Places.{IsAt, IsGapFor}
 use Rattle.mem_table.specs.Tables.{IsTable}
-use Rattle.mem_table.proofs.SortedLemmas.{put_at, put_apart}
+use Rattle.mem_table.proofs.SortedLemmas.{test_holds, put_at, put_apart}
 use Rattle.mem_table.proofs.PlaceLemmas.{sorted_test, tied, present_at, absent_at, parts_of_gap, place_of}
 
 -- ---- the entries after it
 
 pub with_record_at : (es : Entries) (key : Key) (rec : Rec) (i : ℕ) (d : Key × Rec) → AreSorted es → IsAt es key i → with_record key rec es ≡ set es i (key, fold rec (get_or es i d).1)
-with_record_at es key rec i d sorted at =
-    ap (λ r. put key_cmp key (over rec r) es) (present_at es key i d sorted at)
-    ∙ subst (λ (k : Key). put key_cmp k (fold rec (get_or es i d).1) es ≡ set es i (k, fold rec (get_or es i d).1)) (at.has_key d)
-    (put_at key_cmp nat_list_cmp_total es i d (fold rec (get_or es i d).1) (sorted_test es sorted) at.in_range)
+with_record_at es key rec i d h1 h2 = grind (arith, common_steps, nat_tests, present_at, get_or, set, put_at, nat_list_cmp_total, sorted_test)
 
 pub with_record_apart : (es : Entries) (key : Key) (rec : Rec) (i : ℕ) → IsGapFor es key i → with_record key rec es ≡ insert es i (key, rec)
 with_record_apart es key rec i gap =
     ap (λ r. put key_cmp key (over rec r) es) (absent_at es key i gap) ∙ put_apart key_cmp nat_list_cmp_total es key i rec gap.in_range (parts_of_gap es key i gap)
-
-test_holds : (b : Bool) → T b → b ≡ true
-test_holds b zh1 = grind (arith, common_steps, nat_tests)
 
 pub sorted_with_record : (es : Entries) (key : Key) (rec : Rec) → AreSorted es → AreSorted (with_record key rec es)
 sorted_with_record es key rec sorted =
@@ -83,29 +75,11 @@ weight_more es key rec sorted =
 
 -- ---- what it stands for
 
-by_test : (b : Bool) → (b ≡ true) ⊎ (b ≡ false)
-by_test b = grind (arith, common_steps, nat_tests)
-
-test_of_tie : (o : Ordering) → is_eq o ≡ true → o ≡ Equal
-test_of_tie o zh1 = grind (arith, common_steps, nat_tests)
-
 ties : (q key : Key) → same_key key q ≡ eq_by_cmp key_cmp q key
 ties q key = sym (sym (texts_ties q key) ∙ (lists_equiv nat_eq_equiv).symm q key)
 
 record_after : (es : Entries) (key : Key) (rec : Rec) (q : Key) → record_of_key q (with_record key rec es) ≡ cond (same_key key q) (Some (over rec (record_of_key q es))) (record_of_key q es)
-record_after es key rec q =
-    let kept = record_of_key q es in
-    find-put key_cmp nat_list_cmp_total q key (over rec (record_of_key key es)) es
-    ∙ elim (by_test (eq_by_cmp key_cmp q key)) [
-      | inl same ↦
-          let q_is : q ≡ key = tied q key (test_of_tie (key_cmp q key) same) in
-          ap (λ b. cond b (Some (over rec (record_of_key key es))) kept) same
-          ∙ ap (λ k. Some (over rec (record_of_key k es))) (sym q_is)
-          ∙ ap (λ b. cond b (Some (over rec kept)) kept) (sym (ties q key ∙ same))
-      | inr apart ↦
-          ap (λ b. cond b (Some (over rec (record_of_key key es))) kept) apart
-          ∙ ap (λ b. cond b (Some (over rec kept)) kept) (sym (ties q key ∙ apart))
-    ]
+record_after es key rec q = grind (arith, common_steps, nat_tests, find-put key_cmp nat_list_cmp_total q key (over rec (record_of_key key es)) es, ties q key, tied q key)
 
 pub record_of_this : (es : Entries) (key : Key) (rec : Rec) → record_of_key key (with_record key rec es) ≡ Some (over rec (record_of_key key es))
 record_of_this es key rec =
@@ -113,17 +87,11 @@ record_of_this es key rec =
     ∙ ap (λ o. cond (is_eq o) (Some (over rec (record_of_key key es))) (record_of_key key es)) (tied_itself nat_list_cmp_total key)
 
 pub record_of_other : (es : Entries) (key : Key) (rec : Rec) (other : Key) → other ≢ key → record_of_key other (with_record key rec es) ≡ record_of_key other es
-record_of_other es key rec other differs =
-    find-put key_cmp nat_list_cmp_total other key (over rec (record_of_key key es)) es
-    ∙ elim (by_test (eq_by_cmp key_cmp other key)) [
-      | inl same ↦ absurd (differs (tied other key (test_of_tie (key_cmp other key) same)))
-      | inr apart ↦ ap (λ b. cond b (Some (over rec (record_of_key key es))) (record_of_key other es)) apart
-    ]
+record_of_other es key rec other differs = grind (arith, common_steps, nat_tests, find-put key_cmp nat_list_cmp_total other key (over rec (record_of_key key es)) es, tied other key)
 
 pub stand_more : (es : Entries) (key : Key) (rec : Rec) (writes : List Write) → IsRecord rec → StandFor es writes
     → StandFor (with_record key rec es) (writes ++ writes_of_record key rec)
-stand_more es key rec writes in_range stood = λ q.
-    ap settled (record_after es key rec q) ∙ stands_rec key rec in_range q (record_of_key q es) writes (stood q)
+stand_more es key rec writes h1 h2 = grind (arith, common_steps, nat_tests, record_after, stands_rec)
 
 -- ---- a table stays a table
 

@@ -1,11 +1,11 @@
 -- Trees of numbered nodes: how they are read, and what a changed node leaves of them.
 use Rattle.std.proofs.lemmas.Bool.Decides.{nat_tests}
 use Rattle.std.proofs.lemmas.Grind.{common_steps}
-use Rattle.std.proofs.Common.{◌≡◌, ◌≢◌, ℕ, zero, suc, ◌+◌, ◌<◌, ◌≤◌, max, List, [], ◌∷◌, ◌++◌, length, cond, refl, ap, sym, subst, ◌∙◌, arith, add-one}
-use Rattle.std.proofs.lemmas.List.{length-set, get_or-set_same, get_or-set_other, get_or_past}
+use Rattle.std.proofs.Common.{◌≡◌, ◌≢◌, ℕ, zero, suc, ◌+◌, ◌<◌, ◌≤◌, List, [], ◌∷◌, ◌++◌, length, cond, refl, ap, arith}
+use Rattle.std.proofs.lemmas.List.{length-set, get_or-set_other, get_or_past}
 use Rattle.std.proofs.lemmas.Bool.{eq-eqb, ne_eqb}
 use Rattle.mem_table.specs.declared.nodes.Node.{Node}
-use Rattle.mem_table.specs.Shapes.{Tree, Leaf, Fork, height, places, times, one_if, no_node, node_at, height_of, Holds, fork_for, tree_to, tree_at, joined}
+use Rattle.mem_table.specs.Shapes.{Tree, Leaf, Fork, height, places, times, one_if, no_node, node_at, height_of, Holds, tree_to, tree_at, joined}
 
 -- ---- how often a place stands in a list
 

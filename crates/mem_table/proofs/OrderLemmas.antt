@@ -55,8 +55,7 @@ split_gap es key i gap = grind (arith, common_steps, nat_tests, not_above_if_les
 
 none_kept : (low : Option Key) (es : Entries) → ((k : ℕ) (d : Key × Rec) → k < length es → is_above low (get_or es k d).0 ≡ true) → above low es ≡ es
 none_kept low [] all = refl
-none_kept low (e ∷ es) all =
-    ap (λ b. cond b (e ∷ above low es) (above low es)) (all 0 e (omega arith)) ∙ ap (λ l. e ∷ l) (none_kept low es (λ k d lt. all (suc k) d (omega arith)))
+none_kept low (e ∷ es) all = grind (arith, common_steps, nat_tests, all 0 e (omega arith), none_kept low es (λ k d lt. all (suc k) d (omega arith)))
 
 pub above_is : (es : Entries) (low : Option Key) (i : ℕ) → IsSplit es low i → above low es ≡ drop i es
 above_is [] low zero split = refl

@@ -1,7 +1,7 @@
 -- What a search among a table's entries finds.
 use Rattle.std.proofs.lemmas.Bool.Decides.{nat_tests}
 use Rattle.std.proofs.lemmas.Grind.{common_steps}
-use Rattle.std.proofs.Common.{◌≡◌, ℕ, zero, suc, ◌+◌, ◌⊎◌, inl, inr, T, [], ◌∷◌, length, get_or, Some, None, Result, Ok, Err, IfOk, IfErr, refl, ap, sym, subst, ◌∙◌, arith}
+use Rattle.std.proofs.Common.{◌≡◌, ℕ, zero, suc, ◌⊎◌, inl, inr, T, [], ◌∷◌, length, get_or, Some, None, Result, Ok, Err, IfOk, IfErr, refl, sym, subst, arith}
 use Rattle.std.specs.List.{AllWithin}
 use Rattle.std.specs.List.Sorted.{IsSearchInRange, IsBinarySearchResult, IsNonDecreasingBy, IsSortedBy}
 use Rattle.std.specs.Ordering.{is_lt, ordering_index}
@@ -24,8 +24,7 @@ tied a b e = slice_cmp-IsAntisymmetric nat_cmp-IsAntisymmetric a b e
 
 -- no key is below the one before it
 not_falling : (es : Entries) → AreSorted es → IsSortedBy (λ a b. is_lt (key_cmp a.0 b.0)) es
-not_falling es sorted = λ k d low high.
-    ap is_lt (turned key_cmp nat_list_cmp_total (get_or es k d).0 (get_or es (k + 1) d).0 Less (rising key_cmp nat_list_cmp_total es k (k + 1) d (sorted_test es sorted) (omega arith) high))
+not_falling es h1 = grind (arith, common_steps, nat_tests, turned, nat_list_cmp_total, get_or, rising, sorted_test)
 
 comparisons_rise : (es : Entries) (key : Key) → AreSorted es → IsNonDecreasingBy (λ e. ordering_index (key_cmp e.0 key)) es
 comparisons_rise es key sorted = searchable_from_sorted nat_list_cmp_total (λ e. e.0) es key (not_falling es sorted)
@@ -36,16 +35,14 @@ pub record Searched (es : Entries) (key : Key) (r : Result ℕ ℕ) : Type 0 whe
   pub absent : IfErr r (IsGapFor es key)
 
 pub searched : (es : Entries) (key : Key) (r : Result ℕ ℕ) → AreSorted es → IsSearchInRange r (length es) → IsBinarySearchResult (λ e. key_cmp e.0 key) es r → Searched es key r
-searched es key (Ok at) sorted in_range equal =
-    record { found = record { in_range = in_range; has_key = λ d. tied _ _ (equal d) }; absent = tt }
+searched es key (Ok at) sorted in_range equal = grind (arith, common_steps, nat_tests, tied)
 searched es key (Err at) sorted in_range parted =
     let parts = parted (comparisons_rise es key sorted) in
     record { found = tt; absent = record { in_range = in_range; before = parts.0; after = parts.1 } }
 
 -- what the entries have at a key that was found, and at one that wasn't
 pub present_at : (es : Entries) (key : Key) (i : ℕ) (d : Key × Rec) → AreSorted es → IsAt es key i → record_of_key key es ≡ Some (get_or es i d).1
-present_at es key i d sorted at =
-    ap (λ k. record_of_key k es) (sym (at.has_key d)) ∙ find_at key_cmp nat_list_cmp_total es i d (sorted_test es sorted) at.in_range
+present_at es key i d h1 h2 = grind (arith, common_steps, nat_tests, find_at, nat_list_cmp_total, sorted_test)
 
 pub parts_of_gap : (es : Entries) (key : Key) (i : ℕ) → IsGapFor es key i → Parts key_cmp nat_list_cmp_total es key i
 parts_of_gap es key i gap = record { before = λ j d lt. gap.before j d (omega arith) lt; after = gap.after }
@@ -66,10 +63,7 @@ gap_first e es key sorted greater = record { in_range = omega arith; before = λ
   where
     after : AllWithin (λ f. key_cmp f.0 key ≡ Greater) (e ∷ es) 0 (length (e ∷ es))
     after zero d low high = greater
-    after (suc k) d low high =
-        let first : key_cmp key e.0 ≡ Less = turned key_cmp nat_list_cmp_total e.0 key Greater greater in
-        let later : key_cmp e.0 (get_or es k d).0 ≡ Less = rising key_cmp nat_list_cmp_total (e ∷ es) 0 (suc k) d sorted (omega arith) (omega arith) in
-        turned key_cmp nat_list_cmp_total key (get_or es k d).0 Less (nat_list_cmp_total.trans key e.0 (get_or es k d).0 first later)
+    after (suc k) d low high = grind (arith, common_steps, nat_list_cmp_total.trans key e.0 (get_or es k d).0, turned key_cmp nat_list_cmp_total e.0 key Greater greater, turned key_cmp nat_list_cmp_total key (get_or es k d).0 Less, rising key_cmp nat_list_cmp_total (e ∷ es) 0 (suc k) d sorted (omega arith) (omega arith))
 
 pub place_of : (es : Entries) (key : Key) → T (is_sorted key_cmp es) → ((i : ℕ) × IsAt es key i) ⊎ ((i : ℕ) × IsGapFor es key i)
 place_of [] key sorted = inr (0, record { in_range = omega arith; before = λ k d low high. absurd (omega arith); after = λ k d low high. absurd (omega arith) })

@@ -1,20 +1,23 @@
 -- Sorted lists of keys and values: what stands at a place, and what `put` does there. Over any total order.
 use Rattle.std.proofs.lemmas.Bool.Decides.{nat_tests}
 use Rattle.std.proofs.lemmas.Grind.{common_steps}
-use Rattle.std.proofs.Common.{◌≡◌, ℕ, zero, suc, ◌<◌, ◌≤◌, Bool, true, false, cond, ◌&&◌, T, List, [], ◌∷◌, length, get_or, set, Some, None, refl, ap, ◌∙◌, arith}
+use Rattle.std.proofs.Common.{◌≡◌, ℕ, zero, suc, ◌<◌, ◌≤◌, Bool, true, cond, ◌&&◌, T, List, [], ◌∷◌, length, get_or, set, Some, None, refl, ap, ◌∙◌, arith}
 use Rattle.std.specs.List.{insert}
 use Rattle.std.specs.Ordering.{is_lt, is_eq, ordering_reverse}
 use Rattle.std.specs.declared.cmp.Ordering.{Ordering}
-use Rattle.std.specs.declared.cmp.Ordering.TheVariants.{Less, Equal, Greater}
+use Rattle.std.specs.declared.cmp.Ordering.TheVariants.{Less, Greater}
 use Rattle.std.specs.Cmp.{IsTotalOrder, tied_itself}
 use Rattle.std.specs.FinMap.{find, put, is_sorted}
 use Rattle.std.specs.FinMap.Entries.{below_all, by_order}
 
 pub both_hold : (a b : Bool) → T (a && b) → T a × T b
-both_hold a b zh1 = grind (arith, common_steps, nat_tests)
+both_hold a b h1 = grind (arith, common_steps, nat_tests)
+
+pub test_holds : (b : Bool) → T b → b ≡ true
+test_holds b holds = grind (arith, common_steps, nat_tests)
 
 pub less_from_test : (o : Ordering) → T (is_lt o) → o ≡ Less
-less_from_test o zh1 = grind (arith, common_steps, nat_tests)
+less_from_test o h1 = grind (arith, common_steps, nat_tests)
 
 pub turned : {K : Type 0} (R : K → K → Ordering) → IsTotalOrder R → (x y : K) (r : Ordering) → R x y ≡ r → R y x ≡ ordering_reverse r
 turned R o x y r is = o.antisymm y x ∙ ap ordering_reverse is
@@ -48,9 +51,8 @@ module _ {K X : Type 0} (R : K → K → Ordering) (o : IsTotalOrder R) where
   put_at [] i d v sorted within = absurd (omega arith)
   put_at (e ∷ es) zero d v sorted within = ap (λ r. by_order r ((e.0, v) ∷ e ∷ es) ((e.0, v) ∷ es) (e ∷ put R e.0 v es)) (tied_itself o e.0)
   put_at (e ∷ es) (suc i) d v sorted within =
-      let key = (get_or es i d).0 in
-      let apart : R key e.0 ≡ Greater = turned R o e.0 key Less (below_at e.0 es i d (both_hold _ _ sorted).0 (omega arith)) in
-      ap (λ r. by_order r ((key, v) ∷ e ∷ es) ((e.0, v) ∷ es) (e ∷ put R key v es)) apart ∙ ap (λ l. e ∷ l) (put_at es i d v (both_hold _ _ sorted).1 (omega arith))
+      let ih0 = (put_at es i d v (both_hold _ _ sorted).1 (omega arith)) in
+      grind (arith, common_steps, nat_tests, get_or, turned, below_at, both_hold)
 
   -- lesser keys before a place, greater ones from it on
   pub record Parts (es : List (K × X)) (key : K) (i : ℕ) : Type 0 where

@@ -1,8 +1,8 @@
 -- How high a balanced tree is.
 use Rattle.std.proofs.lemmas.Bool.Decides.{nat_tests}
 use Rattle.std.proofs.lemmas.Grind.{common_steps}
-use Rattle.std.proofs.Common.{◌≡◌, ℕ, suc, ◌+◌, ◌-◌, ◌*◌, ◌^◌, ◌≤◌, max, inl, inr, ◌∷◌, ◌++◌, length, refl, ap, ◌∙◌, arith}
-use Rattle.std.proofs.Math.Nat.{pow-le-pow_right, mul_assoc, mul_comm}
+use Rattle.std.proofs.Common.{◌≡◌, ℕ, suc, ◌+◌, ◌-◌, ◌*◌, ◌^◌, ◌≤◌, max, inl, inr, ◌∷◌, ◌++◌, length, ap, ◌∙◌, arith}
+use Rattle.std.proofs.Math.Nat.{pow-le-pow_right}
 use Rattle.std.proofs.lemmas.Nat.{mul-le, pow-add}
 use Rattle.std.proofs.lemmas.Bool.{cases_lt}
 use Rattle.std.proofs.lemmas.List.{length-append}
@@ -11,8 +11,8 @@ use Rattle.mem_table.specs.Shapes.{Tree, Leaf, Fork, height, places, IsBalanced}
 square_le : (a b : ℕ) → a ≤ b → a * a ≤ b * b
 square_le a b le = mul-le a a b b le le
 
-twice_squared : (a : ℕ) → (2 * a) * (2 * a) ≡ 4 * (a * a)
-twice_squared a = grind (arith, common_steps, nat_tests)
+four_squares : (a n : ℕ) → 2 * a ≤ n → 4 * (a * a) ≤ n * n
+four_squares a n le = grind (arith, common_steps, nat_tests, square_le (2 * a) n le)
 
 power_le : (i j : ℕ) → i ≤ j → 2 ^ i ≤ 2 ^ j
 power_le i j le = pow-le-pow_right (omega arith) le
@@ -39,11 +39,9 @@ height_squared (Fork l p r) balanced high =
           let power : 2 ^ (max (height l) (height r) + 1) ≡ 2 ^ m * 4 = ap (λ k. 2 ^ k) all_is ∙ pow-add 2 m 2 in
           elim (cases_lt (length (places l)) (length (places r))) [
             | inl fewer ↦
-                let square = square_le (2 * length (places l)) (length (places l ++ p ∷ places r)) (omega arith) in
-                omega (arith, square, twice_squared (length (places l)))
+                omega (arith, four_squares (length (places l)) (length (places l ++ p ∷ places r)) (omega arith))
             | inr more ↦
-                let square = square_le (2 * length (places r)) (length (places l ++ p ∷ places r)) (omega arith) in
-                omega (arith, square, twice_squared (length (places r)))
+                omega (arith, four_squares (length (places r)) (length (places l ++ p ∷ places r)) (omega arith))
           ]
     ]
 
@@ -51,12 +49,5 @@ no_leaf : (t : Tree) → 1 ≤ length (places t) → 1 ≤ height t
 no_leaf Leaf some = absurd (omega arith)
 no_leaf (Fork l p r) some = omega arith
 
-bare_leaf : (t : Tree) → length (places t) ≡ 0 → height t ≡ 0
-bare_leaf Leaf none = refl
-bare_leaf (Fork l p r) none = absurd (omega (arith, length-append (places l) (p ∷ places r)))
-
 pub few : (t : Tree) (s n : ℕ) → IsBalanced t → length (places t) ≡ n → s ≤ height t → 1 ≤ n → 2 ^ s ≤ 4 * n * n
 few t s n balanced is low some = grind (arith, common_steps, nat_tests, height_squared, no_leaf, power_le)
-
-pub none_taken : (t : Tree) (s n : ℕ) → length (places t) ≡ n → s ≤ height t → n ≡ 0 → s ≡ 0
-none_taken t s n is low none = omega (arith, bare_leaf t (omega arith))

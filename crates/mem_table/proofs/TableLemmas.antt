@@ -1,33 +1,31 @@
 -- A table's nodes and entries, each at its place.
 use Rattle.std.proofs.lemmas.Bool.Decides.{nat_tests}
 use Rattle.std.proofs.lemmas.Grind.{common_steps}
-use Rattle.std.proofs.Common.{◌≡◌, ◌≢◌, ℕ, zero, suc, ◌+◌, ◌-◌, ◌*◌, ◌^◌, ◌<◌, ◌≤◌, inl, inr, ◌↔◌, Bool, true, false, cond, not, ltb, List, [], ◌∷◌, ◌++◌, length, get_or, set, take, drop, Option, Some, None, IsSome, IsNone, IfSome, IfNone, is_some, refl, ap, sym, subst, ◌∙◌, arith}
+use Rattle.std.proofs.Common.{◌≡◌, ◌≢◌, ℕ, zero, suc, ◌+◌, ◌-◌, ◌*◌, ◌^◌, ◌<◌, ◌≤◌, inl, inr, ◌↔◌, Bool, true, false, cond, not, List, [], ◌∷◌, ◌++◌, length, get_or, set, take, drop, Option, Some, None, IsSome, IsNone, IfSome, IfNone, refl, ap, sym, subst, ◌∙◌, arith}
 use Rattle.std.specs.List.{position, position_or_len}
 use Rattle.std.specs.Ordering.{is_eq, eq_by_cmp}
-use Rattle.std.specs.declared.cmp.Ordering.TheVariants.{Less, Equal, Greater}
+use Rattle.std.specs.declared.cmp.Ordering.TheVariants.{Equal}
 use Rattle.std.specs.Cmp.{tied_itself}
-use Rattle.std.specs.FinMap.{put}
-use Rattle.std.proofs.lemmas.Bool.{cases_eq, cases_lt, lt-ltb, le-ltb}
+use Rattle.std.proofs.lemmas.Bool.{cases_eq, cases_lt}
 use Rattle.std.proofs.lemmas.Cmp.{nat_list_cmp_total}
-use Rattle.std.proofs.lemmas.List.{length-set, length-append, length-map, map-append, append-nil, drop_all, take_all, get_or-set_same, get_or-set_other, get_or-map, get_or_default, get_or_append_left, get_or-append-add}
+use Rattle.std.proofs.lemmas.List.{length-set, length-append, length-map, map-append, get_or-map, get_or_default, get_or_append_left, get_or-append-add}
 use Rattle.std.proofs.lemmas.List.Quantifiers.{position-Some}
-use Rattle.std.proofs.lemmas.List.Sums.{sum_by-append, sum_by-cons, sum_by-set}
 use Rattle.blsm_model.specs.declared.key.Key.{Key}
 use Rattle.blsm_model.specs.Keys.{key_cmp}
 use Rattle.blsm_model.specs.Format.{least_weight}
 use Rattle.record_delta.specs.declared.record.Rec.{Rec}
 use Rattle.record_delta.specs.declared.record.Rec.TheVariants.{Tomb}
 use Rattle.record_delta.specs.Records.{weight}
-use Rattle.record_delta.specs.Folding.{fold, over}
-use Rattle.record_delta.specs.Entries.{Entries, AreSorted, record_of_key, entries_weight, with_record, is_above, above, first_of}
+use Rattle.record_delta.specs.Folding.{fold}
+use Rattle.record_delta.specs.Entries.{Entries, record_of_key, entries_weight, with_record, above, first_of}
 use Rattle.mem_table.specs.declared.nodes.Node.{Node}
 use Rattle.mem_table.specs.Shapes.{Tree, Leaf, Fork, height, places, IsBalanced, times, no_node, node_at, height_of, Holds, tree_at}
 use Rattle.mem_table.specs.Ways.{entry_at, entries_at, tree_entries, IsTree, IsPlaced, AreWithout, place_above, or_else, IsNew, IsAdded}
 use Rattle.mem_table.specs.Places.{IsAt, IsGapFor}
 use Rattle.mem_table.specs.Tables.{IsTable, IsArena, place_in, arrived_with, keys_of}
 use Rattle.mem_table.proofs.PlaceLemmas.{sorted_test, tied, present_at, place_of}
-use Rattle.mem_table.proofs.EditLemmas.{with_record_at, total_apart, least_total, table_at, table_apart, place_left, weight_at_le}
-use Rattle.mem_table.proofs.StepLemmas.{few, none_taken}
+use Rattle.mem_table.proofs.EditLemmas.{with_record_at, total_apart, least_total, table_at, table_apart, place_left}
+use Rattle.mem_table.proofs.StepLemmas.{few}
 use Rattle.mem_table.proofs.NodeLemmas.{times_fork, one_if_same, none_if_differs, stored, read, stays}
 
 -- ---- places in a list
@@ -54,15 +52,7 @@ counted q (suc i) (p ∷ ps) within is = omega (arith, counted q i ps (omega ari
 
 pub within_nodes : (nodes : List Node) (root : ℕ) (t : Tree) (q : ℕ) → Holds nodes root t → 1 ≤ times q (places t) → q < length nodes
 within_nodes nodes root Leaf q h one = absurd (omega arith)
-within_nodes nodes root (Fork l p r) q h one =
-    elim (cases_eq q p) [
-      | inl same ↦ subst (λ k. k < length nodes) (h.0 ∙ sym same) h.1
-      | inr differs ↦
-          elim (cases_lt 0 (times q (places l))) [
-            | inl left ↦ within_nodes nodes (node_at nodes root).left l q h.3 left
-            | inr none ↦ within_nodes nodes (node_at nodes root).right r q h.4 (omega (arith, times_fork q (places l) (places r) p, none_if_differs q p differs))
-          ]
-    ]
+within_nodes nodes root (Fork l p r) q h one = grind (arith, common_steps, nat_tests, within_nodes nodes (node_at nodes root).left l q h.3, within_nodes nodes (node_at nodes root).right r q h.4, times_fork, none_if_differs)
 
 pub height_le : (t : Tree) → height t ≤ length (places t)
 height_le Leaf = omega arith
@@ -97,11 +87,7 @@ entries_grown slots more (p ∷ ps) within =
 
 without_place : (key : Key) (slots : Entries) (ps : List ℕ) (q : ℕ) → AreWithout key (entries_at slots ps) → 1 ≤ times q ps → (entry_at slots q).0 ≢ key
 without_place key slots [] q all one = absurd (omega arith)
-without_place key slots (p ∷ ps) q all one =
-    elim (cases_eq q p) [
-      | inl same ↦ subst (λ k. (entry_at slots k).0 ≢ key) (sym same) all.0
-      | inr differs ↦ without_place key slots ps q all.1 (omega (arith, none_if_differs q p differs))
-    ]
+without_place key slots (p ∷ ps) q all one = grind (arith, common_steps, nat_tests, without_place key slots ps q all.1, none_if_differs)
 
 -- ---- the test for a key
 
@@ -109,20 +95,10 @@ test_same : (key k : Key) → key ≡ k → eq_by_cmp key_cmp key k ≡ true
 test_same key k is = ap is_eq (subst (λ (x : Key). key_cmp key x ≡ Equal) is (tied_itself nat_list_cmp_total key))
 
 test_other : (key k : Key) → key ≢ k → eq_by_cmp key_cmp key k ≡ false
-test_other key k differs =
-    elim (key_cmp key k) as (λ o. key_cmp key k ≡ o → is_eq o ≡ false) [
-      | Less ↦ λ is. refl
-      | Equal ↦ λ is. absurd (differs (tied key k is))
-      | Greater ↦ λ is. refl
-    ] refl
+test_other key k h1 = grind (arith, common_steps, nat_tests, tied)
 
 same_by_test : (key k : Key) → eq_by_cmp key_cmp key k ≡ true → key ≡ k
-same_by_test key k test =
-    elim (key_cmp key k) as (λ o. key_cmp key k ≡ o → is_eq o ≡ true → key ≡ k) [
-      | Less ↦ λ is no. let never : false ≡ true = no in cc
-      | Equal ↦ λ is yes. tied key k is
-      | Greater ↦ λ is no. let never : false ≡ true = no in cc
-    ] refl test
+same_by_test key k h1 = grind (arith, common_steps, nat_tests, tied)
 
 pub absent_without : (key : Key) (es : Entries) → AreWithout key es → record_of_key key es ≡ None
 absent_without key [] all = refl
@@ -130,12 +106,7 @@ absent_without key (e ∷ es) all = grind (arith, common_steps, nat_tests, absen
 
 pub without_absent : (key : Key) (es : Entries) → record_of_key key es ≡ None → AreWithout key es
 without_absent key [] none = tt
-without_absent key (e ∷ es) none =
-    let differs : e.0 ≢ key = λ is.
-    let there : Some e.1 ≡ None = sym (ap (λ b. cond b (Some e.1) (record_of_key key es)) (test_same key e.0 (sym is))) ∙ none in
-    cc
-    in
-    (differs, without_absent key es (sym (ap (λ b. cond b (Some e.1) (record_of_key key es)) (test_other key e.0 (λ is. differs (sym is)))) ∙ none))
+without_absent key (e ∷ es) none = grind (arith, common_steps, nat_tests, without_absent key es, test_same, test_other)
 
 -- ---- the place of a key among those that came
 
@@ -143,21 +114,17 @@ module _ {K : Type 0} (p : K → Bool) where
   position_at : (ks : List K) (i : ℕ) (d : K) → i < length ks → p (get_or ks i d) ≡ true → ((j : ℕ) → j < i → p (get_or ks j d) ≡ false) → position_or_len p ks ≡ i
   position_at [] i d within here before = absurd (omega arith)
   position_at (k ∷ ks) zero d within here before = ap (λ b. cond (not b) (1 + position_or_len p ks) 0) here
-  position_at (k ∷ ks) (suc i) d within here before =
-      ap (λ b. cond (not b) (1 + position_or_len p ks) 0) (before 0 (omega arith))
-      ∙ omega (arith, position_at ks i d (omega arith) here (λ j lt. before (suc j) (omega arith)))
+  position_at (k ∷ ks) (suc i) d within here before = grind (arith, common_steps, nat_tests, before 0 (omega arith), position_at ks i d (omega arith) here (λ j lt. before (suc j) (omega arith)))
 
   position_past : (ks : List K) (d : K) → ((j : ℕ) → j < length ks → p (get_or ks j d) ≡ false) → position_or_len p ks ≡ length ks
   position_past [] d all = refl
-  position_past (k ∷ ks) d all =
-      ap (λ b. cond (not b) (1 + position_or_len p ks) 0) (all 0 (omega arith)) ∙ omega (arith, position_past ks d (λ j lt. all (suc j) (omega arith)))
+  position_past (k ∷ ks) d all = grind (arith, common_steps, nat_tests, all 0 (omega arith), position_past ks d (λ j lt. all (suc j) (omega arith)))
 
   some_position : (ks : List K) (i : ℕ) (d : K) → i < length ks → p (get_or ks i d) ≡ true → ((j : ℕ) → j < i → p (get_or ks j d) ≡ false) → position p ks ≡ Some i
   some_position ks i d within here before = grind (arith, common_steps, nat_tests, position_at)
 
   no_position : (ks : List K) (d : K) → ((j : ℕ) → j < length ks → p (get_or ks j d) ≡ false) → position p ks ≡ None
-  no_position ks d all =
-      ap (λ n. cond (ltb n (length ks)) (Some n) None) (position_past ks d all) ∙ ap (λ b. cond b (Some (length ks)) None) (le-ltb (length ks) (length ks) (omega arith))
+  no_position ks d all = grind (arith, common_steps, nat_tests, position_past ks d all)
 
 pub place_here : (ks : List Key) (key : Key) (i : ℕ) → ((a b : ℕ) → a < b → b < length ks → get_or ks a [] ≢ get_or ks b []) → i < length ks → get_or ks i [] ≡ key → place_in key ks ≡ Some i
 place_here ks key i distinct within is =
@@ -187,11 +154,7 @@ grown_entry slots key rec = ap (λ n. entry_at (slots ++ (key, rec) ∷ []) n) (
 module _ (nodes : List Node) (slots : Entries) (root kept reserved node_places : ℕ) (a : IsArena nodes slots root kept reserved node_places) where
   -- fewer than there are numbers
   pub few_slots : (length slots < no_node) × (length (tree_entries nodes slots root) ≡ length slots)
-  few_slots =
-      let len : length (tree_entries nodes slots root) ≡ length slots = length-map (places (tree_at nodes root)) (entry_at slots) ∙ a.all in
-      let least = least_total (tree_entries nodes slots root) a.table.keys in
-      let fits : entries_weight (tree_entries nodes slots root) ≤ reserved = omega (arith, a.table.weight_is, a.table.fits) in
-      (omega (arith, a.numbered), len)
+  few_slots = grind (arith, common_steps, nat_tests, length-map, least_total)
 
   pub tree_there : IsTree nodes slots root
   tree_there = record { few = omega (arith, few_slots.0, a.as_many); as_many = a.as_many; holds = a.holds; sorted = a.table.sorted }
@@ -232,12 +195,7 @@ module _ (nodes : List Node) (slots : Entries) (root kept reserved node_places :
 
   pub none_iff : (key : Key) (r : Option ℕ) → r ≡ place_in key (keys_of slots) → IfNone r (AreWithout key (tree_entries nodes slots root)) → IsNone r ↔ (record_of_key key (tree_entries nodes slots root) ≡ None)
   none_iff key None is absent = (λ none. absent_without key (tree_entries nodes slots root) absent, λ none. refl)
-  none_iff key (Some p) is absent = (
-    λ none. let never : true ≡ false = none in cc,
-    λ none.
-        let there : Some (entry_at slots p).1 ≡ None = sym (recorded key p ([], Tomb) (sym is)) ∙ none in
-        cc,
-  )
+  none_iff key (Some p) is absent = grind (arith, common_steps, nat_tests, recorded key p ([], Tomb) (sym is))
 
   -- ---- how many comparisons a search makes
 
@@ -292,13 +250,6 @@ module _ (nodes : List Node) (slots : Entries) (root kept reserved node_places :
         distinct = subst (λ (ks : List Key). (i j : ℕ) → i < j → j < length ks → get_or ks i [] ≢ get_or ks j []) (sym same_keys) a.distinct;
       }
 
-  pub folded_fits : (key : Key) (rec : Rec) (p : ℕ) (e : Key × Rec) (before after : ℕ) → place_in key (keys_of slots) ≡ Some p → e.0 ≡ key → e.1 ≡ fold rec (entry_at slots p).1
-      → 1 ≤ length key → entries_weight (with_record key rec (tree_entries nodes slots root)) ≤ reserved → before ≡ weight key (entry_at slots p).1 → after ≡ weight key (fold rec (entry_at slots p).1)
-      → entries_weight (set slots p e) ≤ reserved
-  folded_fits key rec p e before after is key_is folded_is key_least fits before_is after_is =
-      let folded = arena_folded key rec p e before after is key_is folded_is key_least fits before_is after_is in
-      omega (arith, folded.same_weight, folded.table.fits)
-
   pub arrived_folded : (key : Key) (p : ℕ) (e : Key × Rec) → place_in key (keys_of slots) ≡ Some p → e.0 ≡ key → keys_of (set slots p e) ≡ arrived_with key (keys_of slots)
   arrived_folded key p e is key_is = grind (arith, common_steps, nat_tests, found_at, keys_set)
 
@@ -324,8 +275,7 @@ module _ (nodes : List Node) (slots : Entries) (root kept reserved node_places :
 
     -- the entries weigh as much in the order in which they came
     pub grown_weight : entries_weight (slots ++ (key, rec) ∷ []) ≡ kept + weight key rec
-    grown_weight =
-        omega (arith, sum_by-append (λ (e : Key × Rec). weight e.0 e.1) slots ((key, rec) ∷ []), sum_by-cons (λ (e : Key × Rec). weight e.0 e.1) (key, rec) [], a.same_weight)
+    grown_weight = grind (arith, common_steps, nat_tests)
 
     pub grown_fits : entries_weight (slots ++ (key, rec) ∷ []) ≤ reserved
     grown_fits = omega (arith, grown_weight, a.table.weight_is, total_apart (tree_entries nodes slots root) key rec gap_for.index gap_for.gap, fits)
@@ -338,9 +288,7 @@ module _ (nodes : List Node) (slots : Entries) (root kept reserved node_places :
     -- the tree among one node and one entry more
     module _ (node : Node) where
       grown_holds : Holds (nodes ++ node ∷ []) root (tree_at nodes root)
-      grown_holds =
-          stays nodes (nodes ++ node ∷ []) root (tree_at nodes root) (omega (arith, length-append nodes (node ∷ [])))
-          (λ q one. get_or_append_left nodes (node ∷ []) _ q (within_nodes nodes root (tree_at nodes root) q a.holds one)) a.holds
+      grown_holds = grind (arith, common_steps, nat_tests, stays, length-append, get_or_append_left, within_nodes)
 
       few_nodes : length (nodes ++ node ∷ []) ≤ no_node
       few_nodes = omega (arith, length-append nodes (node ∷ []), a.as_many, number_left)
@@ -441,20 +389,11 @@ or_none r = grind (arith, common_steps, nat_tests)
 
 first_none : (slots : Entries) (low : Option Key) (qs : List ℕ) → place_above slots low qs ≡ None → first_of (above low (entries_at slots qs)) ≡ None
 first_none slots low [] is = refl
-first_none slots low (q ∷ qs) is =
-    elim (is_above low (entry_at slots q).0) as (λ b. cond b (Some q) (place_above slots low qs) ≡ None → first_of (cond b (entry_at slots q ∷ above low (entries_at slots qs)) (above low (entries_at slots qs))) ≡ None) [
-      | true ↦ λ never. cc
-      | false ↦ λ rest. first_none slots low qs rest
-    ] is
+first_none slots low (q ∷ qs) is = grind (arith, common_steps, nat_tests, first_none slots low qs)
 
 first_some : (slots : Entries) (low : Option Key) (qs : List ℕ) (p : ℕ) → place_above slots low qs ≡ Some p → (first_of (above low (entries_at slots qs)) ≡ Some (entry_at slots p)) × (1 ≤ times p qs)
 first_some slots low [] p is = cc
-first_some slots low (q ∷ qs) p is =
-    elim (is_above low (entry_at slots q).0) as (λ b. cond b (Some q) (place_above slots low qs) ≡ Some p
-    → (first_of (cond b (entry_at slots q ∷ above low (entries_at slots qs)) (above low (entries_at slots qs))) ≡ Some (entry_at slots p)) × (1 ≤ times p (q ∷ qs))) [
-      | true ↦ λ here. let same : q ≡ p = cc in (ap (λ k. Some (entry_at slots k)) same, omega (arith, one_if_same p q (sym same)))
-      | false ↦ λ rest. let more = first_some slots low qs p rest in (more.0, omega (arith, more.1))
-    ] is
+first_some slots low (q ∷ qs) p is = grind (arith, common_steps, nat_tests, first_some slots low qs p, one_if_same)
 
 module _ (nodes : List Node) (slots : Entries) (root : ℕ) (tree : IsTree nodes slots root) (low : Option Key) (r : Option ℕ) (is : r ≡ or_else (place_above slots low (places (tree_at nodes root))) None) where
   next_is : place_above slots low (places (tree_at nodes root)) ≡ r

@@ -35,6 +35,65 @@ hung_plain nodes at left right l r may differ =
       others = λ q none. joined_other nodes at left right q (differs_if_none q at (omega (arith, times_fork q (places l) (places r) at)));
     })
 
+-- ---- two forks, and both from a third node
+
+module _ (nodes : List Node) (one a b two c d top : ℕ) (s t u v : Tree) (few : length nodes ≤ no_node) (in_one : one < length nodes) (in_two : two < length nodes) (in_top : top < length nodes)
+    (hs : Holds nodes a s) (ht : Holds nodes b t) (hu : Holds nodes c u) (hv : Holds nodes d v) (apart : (q : ℕ) → times q (places (Fork (Fork s one t) top (Fork u two v))) ≤ 1) where
+  abbrev first : List Node
+  first = joined nodes one a b
+
+  abbrev second : List Node
+  second = joined first two c d
+
+  abbrev third : List Node
+  third = joined second top one two
+
+  parts : (q : ℕ) → times q (places (Fork (Fork s one t) top (Fork u two v))) ≡ times q (places (Fork s one t)) + one_if q top + times q (places (Fork u two v))
+  parts q = times_fork q (places (Fork s one t)) (places (Fork u two v)) top
+
+  all_parts : (q : ℕ) → times q (places s) + one_if q one + times q (places t) + one_if q top + (times q (places u) + one_if q two + times q (places v)) ≤ 1
+  all_parts q = omega (arith, apart q, parts q, times_fork q (places s) (places t) one, times_fork q (places u) (places v) two)
+
+  few_second : length second ≤ no_node
+  few_second = omega (arith, length-joined nodes one a b, length-joined first two c d)
+
+  pub few_three : length third ≤ no_node
+  few_three = omega (arith, few_second, length-joined second top one two)
+
+  held_one : Holds first one (Fork s one t)
+  held_one = hang nodes one a b s t few in_one (omega (arith, all_parts one, one_if_same one one refl)) (omega (arith, all_parts one, one_if_same one one refl)) hs ht
+
+  held_c : Holds first c u
+  held_c = keep nodes one a b c u (omega (arith, all_parts one, one_if_same one one refl)) hu
+
+  held_d : Holds first d v
+  held_d = keep nodes one a b d v (omega (arith, all_parts one, one_if_same one one refl)) hv
+
+  held_two : Holds second two (Fork u two v)
+  held_two =
+      hang first two c d u v (omega (arith, length-joined nodes one a b)) (omega (arith, length-joined nodes one a b))
+      (omega (arith, all_parts two, one_if_same two two refl)) (omega (arith, all_parts two, one_if_same two two refl)) held_c held_d
+
+  held_both : Holds second one (Fork s one t)
+  held_both = keep first two c d one (Fork s one t) (omega (arith, parts two, apart two, times_fork two (places u) (places v) two, one_if_same two two refl)) held_one
+
+  pub held_three : Holds third top (Fork (Fork s one t) top (Fork u two v))
+  held_three =
+      hang second top one two (Fork s one t) (Fork u two v) few_second (omega (arith, length-joined nodes one a b, length-joined first two c d))
+      (omega (arith, parts top, apart top, one_if_same top top refl)) (omega (arith, parts top, apart top, one_if_same top top refl)) held_both held_two
+
+  pub heights_three : (height_of first c ≡ height u) × (height_of first d ≡ height v) × (height_of second one ≡ max (height s) (height t) + 1) × (height_of second two ≡ max (height u) (height v) + 1)
+  heights_three =
+      let few_first : length first ≤ no_node = omega (arith, length-joined nodes one a b) in
+      (stored first c u few_first held_c, stored first d v few_first held_d, stored second one (Fork s one t) few_second held_both, stored second two (Fork u two v) few_second held_two)
+
+  pub others_three : (q : ℕ) → times q (places (Fork (Fork s one t) top (Fork u two v))) ≡ 0 → node_at third q ≡ node_at nodes q
+  others_three q none =
+      let outer = parts q in
+      joined_other second top one two q (differs_if_none q top (omega arith))
+      ∙ joined_other first two c d q (differs_if_none q two (omega (arith, times_fork q (places u) (places v) two)))
+      ∙ joined_other nodes one a b q (differs_if_none q one (omega (arith, times_fork q (places s) (places t) one)))
+
 -- ---- the left tree is two levels higher
 
 -- its left side isn't lower than its right one: the heights leave room, and this is what two joins make
@@ -58,11 +117,9 @@ turned_right n nodes at left right (Fork x j y) z may higher low leans =
     let sl : height_of nodes left ≡ max (height x) (height y) + 1 = h.2 in
     let close_1 : height x ≤ height y + 1 = may.balanced_left.0.0 in
     let close_2 : height y ≤ height x + 1 = may.balanced_left.0.1 in
-    let at_parts = spread_left at (places x) (places y) (places z) j at in
-    let at_once : times at (places x) + one_if at j + times at (places y) + one_if at at + times at (places z) ≤ 1 = omega (arith, at_parts, may.apart at) in
+    let at_once : times at (places x) + one_if at j + times at (places y) + one_if at at + times at (places z) ≤ 1 = omega (arith, spread_left at (places x) (places y) (places z) j at, may.apart at) in
     let at_one : one_if at at ≡ 1 = one_if_same at at refl in
-    let top_parts = spread_left left (places x) (places y) (places z) j at in
-    let top_once : times left (places x) + one_if left j + times left (places y) + one_if left at + times left (places z) ≤ 1 = omega (arith, top_parts, may.apart left) in
+    let top_once : times left (places x) + one_if left j + times left (places y) + one_if left at + times left (places z) ≤ 1 = omega (arith, spread_left left (places x) (places y) (places z) j at, may.apart left) in
     let top_one : one_if left j ≡ 1 = one_if_same left j h.0 in
     let len_first : length first ≡ length nodes = length-joined nodes at inner right in
     let h_first : Holds first at (Fork y at z) = hang nodes at inner right y z may.few may.in_range (omega arith) (omega arith) h.4 may.holds_right in
@@ -97,90 +154,50 @@ pub record IsTurnedOver (n : ℕ) (nodes : List Node) (at left right outer inner
       IsHung nodes (joined (joined (joined nodes left outer below) at above right) inner left at) at l r inner
       (tree_at (joined (joined (joined nodes left outer below) at above right) inner left at) inner)
 
-spread_inner : (q : ℕ) (x u v z : List ℕ) (j i at : ℕ) → times q ((x ++ j ∷ (u ++ i ∷ v)) ++ at ∷ z) ≡ times q x + one_if q j + times q u + one_if q i + times q v + one_if q at + times q z
-spread_inner q x u v z j i at = omega (arith, spread_left q x (u ++ i ∷ v) z j at, times_fork q u v i)
+module _ (n : ℕ) (nodes : List Node) (at left right : ℕ) (x u v z : Tree) (j i : ℕ) (may : MayHang nodes at left right (Fork x j (Fork u i v)) z) (higher : height_of nodes left ≡ height_of nodes right + 2)
+    (low : height_of nodes left + 1 < n) (leans : height_of nodes (node_at nodes left).left < height_of nodes (node_at nodes left).right) where
+  abbrev inner : ℕ
+  inner = (node_at nodes left).right
 
-over_inner : (n : ℕ) (nodes : List Node) (at left right : ℕ) (x : Tree) (j : ℕ) (y z : Tree) → MayHang nodes at left right (Fork x j y) z → height_of nodes left ≡ height_of nodes right + 2
-    → height_of nodes left + 1 < n → height_of nodes (node_at nodes left).left < height_of nodes (node_at nodes left).right
-    → IsTurnedOver n nodes at left right (node_at nodes left).left (node_at nodes left).right (node_at nodes (node_at nodes left).right).left (node_at nodes (node_at nodes left).right).right (Fork x j y) z
-over_inner n nodes at left right x j Leaf z may higher low leans = absurd (omega (arith, stored nodes (node_at nodes left).right Leaf may.few may.holds_left.4))
-over_inner n nodes at left right x j (Fork u i v) z may higher low leans =
-    let outer : ℕ = (node_at nodes left).left in
-    let inner : ℕ = (node_at nodes left).right in
-    let below : ℕ = (node_at nodes inner).left in
-    let above : ℕ = (node_at nodes inner).right in
-    let first : List Node = joined nodes left outer below in
-    let second : List Node = joined first at above right in
-    let h = may.holds_left in
-    let hy = h.4 in
-    let sx : height_of nodes outer ≡ height x = stored nodes outer x may.few h.3 in
-    let su : height_of nodes below ≡ height u = stored nodes below u may.few hy.3 in
-    let sv : height_of nodes above ≡ height v = stored nodes above v may.few hy.4 in
-    let sy : height_of nodes inner ≡ max (height u) (height v) + 1 = hy.2 in
-    let sz : height_of nodes right ≡ height z = stored nodes right z may.few may.holds_right in
-    let sl : height_of nodes left ≡ max (height x) (max (height u) (height v) + 1) + 1 = h.2 in
-    let close_1 : height x ≤ max (height u) (height v) + 1 + 1 = may.balanced_left.0.0 in
-    let close_2 : max (height u) (height v) + 1 ≤ height x + 1 = may.balanced_left.0.1 in
-    let close_3 : height u ≤ height v + 1 = may.balanced_left.2.0.0 in
-    let close_4 : height v ≤ height u + 1 = may.balanced_left.2.0.1 in
-    let left_is : left ≡ j = h.0 in
-    let inner_is : inner ≡ i = hy.0 in
-    let left_parts = spread_inner left (places x) (places u) (places v) (places z) j i at in
-    let left_once : times left (places x) + one_if left j + times left (places u) + one_if left i + times left (places v) + one_if left at + times left (places z) ≤ 1 = omega (arith, left_parts, may.apart left) in
-    let left_one : one_if left j ≡ 1 = one_if_same left j left_is in
-    let at_parts = spread_inner at (places x) (places u) (places v) (places z) j i at in
-    let at_once : times at (places x) + one_if at j + times at (places u) + one_if at i + times at (places v) + one_if at at + times at (places z) ≤ 1 = omega (arith, at_parts, may.apart at) in
-    let at_one : one_if at at ≡ 1 = one_if_same at at refl in
-    let at_left : one_if at left ≡ 0 = ap (one_if at) left_is ∙ omega arith in
-    let inner_parts = spread_inner inner (places x) (places u) (places v) (places z) j i at in
-    let inner_once : times inner (places x) + one_if inner j + times inner (places u) + one_if inner i + times inner (places v) + one_if inner at + times inner (places z) ≤ 1 = omega (arith, inner_parts, may.apart inner) in
-    let inner_one : one_if inner i ≡ 1 = one_if_same inner i inner_is in
-    let inner_left : one_if inner left ≡ 0 = ap (one_if inner) left_is ∙ omega arith in
-    let len_first : length first ≡ length nodes = length-joined nodes left outer below in
-    let len_second : length second ≡ length first = length-joined first at above right in
-    let left_first : Holds first left (Fork x left u) = hang nodes left outer below x u may.few (omega (arith, h.1)) (omega arith) (omega arith) h.3 hy.3 in
-    let v_first : Holds first above v = keep nodes left outer below above v (omega arith) hy.4 in
-    let z_first : Holds first right z = keep nodes left outer below right z (omega arith) may.holds_right in
-    let few_first : length first ≤ no_node = omega (arith, may.few) in
-    let sv_first : height_of first above ≡ height v = stored first above v few_first v_first in
-    let sz_first : height_of first right ≡ height z = stored first right z few_first z_first in
-    let at_second : Holds second at (Fork v at z) = hang first at above right v z few_first (omega (arith, may.in_range)) (omega arith) (omega arith) v_first z_first in
-    let left_second : Holds second left (Fork x left u) = keep first at above right left (Fork x left u) (omega (arith, times_fork at (places x) (places u) left)) left_first in
-    let few_second : length second ≤ no_node = omega (arith, may.few) in
-    let s_left : height_of second left ≡ max (height x) (height u) + 1 = stored second left (Fork x left u) few_second left_second in
-    let s_at : height_of second at ≡ max (height v) (height z) + 1 = stored second at (Fork v at z) few_second at_second in
-    record {
-      inner_in = hy.1;
-      low_first = omega arith;
-      low_second = omega arith;
-      low_third = omega arith;
-      hung_so = hung nodes (joined second inner left at) at (Fork x j (Fork u i v)) z inner (Fork (Fork x left u) inner (Fork v at z)) (omega (arith, length-joined second inner left at, may.few)) (record {
-        holds = hang second inner left at (Fork x left u) (Fork v at z) few_second (omega (arith, hy.1))
-            (omega (arith, times_fork inner (places x) (places u) left)) (omega (arith, times_fork inner (places v) (places z) at)) left_second at_second;
-        balanced = ((omega arith, omega arith), ((omega arith, omega arith), may.balanced_left.1, may.balanced_left.2.1), ((omega arith, omega arith), may.balanced_left.2.2, may.balanced_right));
-        places_are =
-            ap (λ k. (places x ++ k ∷ places u) ++ inner ∷ (places v ++ at ∷ places z)) left_is
-            ∙ ap (λ k. (places x ++ j ∷ places u) ++ k ∷ (places v ++ at ∷ places z)) inner_is
-            ∙ same_order (places x) (places u) (places v) (places z) j i at;
-        not_lower = omega arith;
-        one_higher = omega arith;
-        as_high = λ near far. absurd (omega arith);
-        others = λ q none.
-            let parts = spread_inner q (places x) (places u) (places v) (places z) j i at in
-            joined_other second inner left at q (λ is. differs_if_none q i (omega arith) (is ∙ inner_is))
-            ∙ joined_other first at above right q (differs_if_none q at (omega arith))
-            ∙ joined_other nodes left outer below q (λ is. differs_if_none q j (omega arith) (is ∙ left_is));
-      });
-    }
-  where
-    same_order : (x u v z : List ℕ) (j i at : ℕ) → (x ++ j ∷ u) ++ i ∷ (v ++ at ∷ z) ≡ (x ++ j ∷ (u ++ i ∷ v)) ++ at ∷ z
-    same_order x u v z j i at = grind (arith, common_steps, nat_tests)
+  abbrev over : Tree
+  over = Fork (Fork x left u) inner (Fork v at z)
+
+  over_order : places over ≡ places (Fork x j (Fork u i v)) ++ at ∷ places z
+  over_order = grind (arith, common_steps, nat_tests)
+
+  over_sizes : (height_of nodes (node_at nodes left).left ≡ height x) × (height_of nodes (node_at nodes inner).left ≡ height u) × (height_of nodes (node_at nodes inner).right ≡ height v) × (height_of nodes right ≡ height z)
+  over_sizes = (stored nodes _ x may.few may.holds_left.3, stored nodes _ u may.few may.holds_left.4.3, stored nodes _ v may.few may.holds_left.4.4, stored nodes right z may.few may.holds_right)
+
+  over_shape : (height x ≡ max (height u) (height v)) × (height z ≡ max (height u) (height v)) × (height u ≤ height v + 1) × (height v ≤ height u + 1) × (height_of nodes left ≡ max (height u) (height v) + 2)
+  over_shape = grind (arith, common_steps, nat_tests, over_sizes)
+
+  over_inner : IsTurnedOver n nodes at left right (node_at nodes left).left inner (node_at nodes inner).left (node_at nodes inner).right (Fork x j (Fork u i v)) z
+  over_inner =
+      let h = may.holds_left in
+      let apart = λ (q : ℕ). subst (λ (ps : List ℕ). times q ps ≤ 1) (sym over_order) (may.apart q) in
+      let high = heights_three nodes left _ _ at _ right inner x u v z may.few h.1 may.in_range h.4.1 h.3 h.4.3 h.4.4 may.holds_right apart in
+      record {
+        inner_in = h.4.1;
+        low_first = grind (arith, common_steps, nat_tests, over_sizes, over_shape);
+        low_second = grind (arith, common_steps, nat_tests, over_shape);
+        low_third = grind (arith, common_steps, nat_tests, over_shape);
+        hung_so = hung nodes _ at (Fork x j (Fork u i v)) z inner over (few_three nodes left _ _ at _ right inner x u v z may.few h.1 may.in_range h.4.1 h.3 h.4.3 h.4.4 may.holds_right apart) (record {
+          holds = held_three nodes left _ _ at _ right inner x u v z may.few h.1 may.in_range h.4.1 h.3 h.4.3 h.4.4 may.holds_right apart;
+          balanced = grind (arith, common_steps, nat_tests, over_shape);
+          places_are = over_order;
+          not_lower = grind (arith, common_steps, nat_tests, over_shape);
+          one_higher = grind (arith, common_steps, nat_tests, over_shape);
+          as_high = grind (arith, common_steps, nat_tests, over_shape);
+          others = λ q none. others_three nodes left _ _ at _ right inner x u v z may.few h.1 may.in_range h.4.1 h.3 h.4.3 h.4.4 may.holds_right apart q (subst (λ (ps : List ℕ). times q ps ≡ 0) (sym over_order) none);
+        });
+      }
 
 pub turned_over : (n : ℕ) (nodes : List Node) (at left right : ℕ) (l r : Tree) → MayHang nodes at left right l r → height_of nodes left ≡ height_of nodes right + 2
     → height_of nodes left + 1 < n → height_of nodes (node_at nodes left).left < height_of nodes (node_at nodes left).right
     → IsTurnedOver n nodes at left right (node_at nodes left).left (node_at nodes left).right (node_at nodes (node_at nodes left).right).left (node_at nodes (node_at nodes left).right).right l r
 turned_over n nodes at left right Leaf r may higher low leans = absurd (omega (arith, stored nodes left Leaf may.few may.holds_left))
-turned_over n nodes at left right (Fork x j y) z may higher low leans = over_inner n nodes at left right x j y z may higher low leans
+turned_over n nodes at left right (Fork x j Leaf) z may higher low leans = absurd (omega (arith, stored nodes (node_at nodes left).right Leaf may.few may.holds_left.4))
+turned_over n nodes at left right (Fork x j (Fork u i v)) z may higher low leans = over_inner n nodes at left right x u v z j i may higher low leans
 
 -- ---- the right tree is two levels higher
 
@@ -205,11 +222,9 @@ turned_left n nodes at left right z (Fork y j x) may higher low leans =
     let sr : height_of nodes right ≡ max (height y) (height x) + 1 = h.2 in
     let close_1 : height y ≤ height x + 1 = may.balanced_right.0.0 in
     let close_2 : height x ≤ height y + 1 = may.balanced_right.0.1 in
-    let at_parts = spread_right at (places x) (places y) (places z) j at in
-    let at_once : times at (places z) + one_if at at + times at (places y) + one_if at j + times at (places x) ≤ 1 = omega (arith, at_parts, may.apart at) in
+    let at_once : times at (places z) + one_if at at + times at (places y) + one_if at j + times at (places x) ≤ 1 = omega (arith, spread_right at (places x) (places y) (places z) j at, may.apart at) in
     let at_one : one_if at at ≡ 1 = one_if_same at at refl in
-    let top_parts = spread_right right (places x) (places y) (places z) j at in
-    let top_once : times right (places z) + one_if right at + times right (places y) + one_if right j + times right (places x) ≤ 1 = omega (arith, top_parts, may.apart right) in
+    let top_once : times right (places z) + one_if right at + times right (places y) + one_if right j + times right (places x) ≤ 1 = omega (arith, spread_right right (places x) (places y) (places z) j at, may.apart right) in
     let top_one : one_if right j ≡ 1 = one_if_same right j h.0 in
     let len_first : length first ≡ length nodes = length-joined nodes at left inner in
     let h_first : Holds first at (Fork z at y) = hang nodes at left inner z y may.few may.in_range (omega arith) (omega arith) may.holds_left h.3 in
@@ -244,86 +259,47 @@ pub record IsTurnedUnder (n : ℕ) (nodes : List Node) (at left right inner oute
       IsHung nodes (joined (joined (joined nodes at left below) right above outer) inner at right) at l r inner
       (tree_at (joined (joined (joined nodes at left below) right above outer) inner at right) inner)
 
-spread_under : (q : ℕ) (x u v z : List ℕ) (j i at : ℕ) → times q (z ++ at ∷ ((u ++ i ∷ v) ++ j ∷ x)) ≡ times q z + one_if q at + times q u + one_if q i + times q v + one_if q j + times q x
-spread_under q x u v z j i at = omega (arith, spread_right q x (u ++ i ∷ v) z j at, times_fork q u v i)
+module _ (n : ℕ) (nodes : List Node) (at left right : ℕ) (z u v x : Tree) (i j : ℕ) (may : MayHang nodes at left right z (Fork (Fork u i v) j x)) (higher : height_of nodes right ≡ height_of nodes left + 2)
+    (low : height_of nodes right + 1 < n) (leans : height_of nodes (node_at nodes right).right < height_of nodes (node_at nodes right).left) where
+  abbrev inmost : ℕ
+  inmost = (node_at nodes right).left
 
-under_inner : (n : ℕ) (nodes : List Node) (at left right : ℕ) (z y : Tree) (j : ℕ) (x : Tree) → MayHang nodes at left right z (Fork y j x) → height_of nodes right ≡ height_of nodes left + 2
-    → height_of nodes right + 1 < n → height_of nodes (node_at nodes right).right < height_of nodes (node_at nodes right).left
-    → IsTurnedUnder n nodes at left right (node_at nodes right).left (node_at nodes right).right (node_at nodes (node_at nodes right).left).left (node_at nodes (node_at nodes right).left).right z (Fork y j x)
-under_inner n nodes at left right z Leaf j x may higher low leans = absurd (omega (arith, stored nodes (node_at nodes right).left Leaf may.few may.holds_right.3))
-under_inner n nodes at left right z (Fork u i v) j x may higher low leans =
-    let inner : ℕ = (node_at nodes right).left in
-    let outer : ℕ = (node_at nodes right).right in
-    let below : ℕ = (node_at nodes inner).left in
-    let above : ℕ = (node_at nodes inner).right in
-    let first : List Node = joined nodes at left below in
-    let second : List Node = joined first right above outer in
-    let h = may.holds_right in
-    let hy = h.3 in
-    let sx : height_of nodes outer ≡ height x = stored nodes outer x may.few h.4 in
-    let su : height_of nodes below ≡ height u = stored nodes below u may.few hy.3 in
-    let sv : height_of nodes above ≡ height v = stored nodes above v may.few hy.4 in
-    let sy : height_of nodes inner ≡ max (height u) (height v) + 1 = hy.2 in
-    let sz : height_of nodes left ≡ height z = stored nodes left z may.few may.holds_left in
-    let sr : height_of nodes right ≡ max (max (height u) (height v) + 1) (height x) + 1 = h.2 in
-    let close_1 : max (height u) (height v) + 1 ≤ height x + 1 = may.balanced_right.0.0 in
-    let close_2 : height x ≤ max (height u) (height v) + 1 + 1 = may.balanced_right.0.1 in
-    let close_3 : height u ≤ height v + 1 = may.balanced_right.1.0.0 in
-    let close_4 : height v ≤ height u + 1 = may.balanced_right.1.0.1 in
-    let right_is : right ≡ j = h.0 in
-    let inner_is : inner ≡ i = hy.0 in
-    let right_parts = spread_under right (places x) (places u) (places v) (places z) j i at in
-    let right_once : times right (places z) + one_if right at + times right (places u) + one_if right i + times right (places v) + one_if right j + times right (places x) ≤ 1 = omega (arith, right_parts, may.apart right) in
-    let right_one : one_if right j ≡ 1 = one_if_same right j right_is in
-    let at_parts = spread_under at (places x) (places u) (places v) (places z) j i at in
-    let at_once : times at (places z) + one_if at at + times at (places u) + one_if at i + times at (places v) + one_if at j + times at (places x) ≤ 1 = omega (arith, at_parts, may.apart at) in
-    let at_one : one_if at at ≡ 1 = one_if_same at at refl in
-    let inner_parts = spread_under inner (places x) (places u) (places v) (places z) j i at in
-    let inner_once : times inner (places z) + one_if inner at + times inner (places u) + one_if inner i + times inner (places v) + one_if inner j + times inner (places x) ≤ 1 = omega (arith, inner_parts, may.apart inner) in
-    let inner_one : one_if inner i ≡ 1 = one_if_same inner i inner_is in
-    let inner_right : one_if inner right ≡ 0 = ap (one_if inner) right_is ∙ omega arith in
-    let len_first : length first ≡ length nodes = length-joined nodes at left below in
-    let len_second : length second ≡ length first = length-joined first right above outer in
-    let at_first : Holds first at (Fork z at u) = hang nodes at left below z u may.few may.in_range (omega arith) (omega arith) may.holds_left hy.3 in
-    let v_first : Holds first above v = keep nodes at left below above v (omega arith) hy.4 in
-    let x_first : Holds first outer x = keep nodes at left below outer x (omega arith) h.4 in
-    let few_first : length first ≤ no_node = omega (arith, may.few) in
-    let sv_first : height_of first above ≡ height v = stored first above v few_first v_first in
-    let sx_first : height_of first outer ≡ height x = stored first outer x few_first x_first in
-    let right_second : Holds second right (Fork v right x) = hang first right above outer v x few_first (omega (arith, h.1)) (omega arith) (omega arith) v_first x_first in
-    let at_second : Holds second at (Fork z at u) = keep first right above outer at (Fork z at u) (omega (arith, times_fork right (places z) (places u) at)) at_first in
-    let few_second : length second ≤ no_node = omega (arith, may.few) in
-    let s_at : height_of second at ≡ max (height z) (height u) + 1 = stored second at (Fork z at u) few_second at_second in
-    let s_right : height_of second right ≡ max (height v) (height x) + 1 = stored second right (Fork v right x) few_second right_second in
-    record {
-      inner_in = hy.1;
-      low_first = omega arith;
-      low_second = omega arith;
-      low_third = omega arith;
-      hung_so = hung nodes (joined second inner at right) at z (Fork (Fork u i v) j x) inner (Fork (Fork z at u) inner (Fork v right x)) (omega (arith, length-joined second inner at right, may.few)) (record {
-        holds = hang second inner at right (Fork z at u) (Fork v right x) few_second (omega (arith, hy.1))
-            (omega (arith, times_fork inner (places z) (places u) at)) (omega (arith, times_fork inner (places v) (places x) right)) at_second right_second;
-        balanced = ((omega arith, omega arith), ((omega arith, omega arith), may.balanced_left, may.balanced_right.1.1), ((omega arith, omega arith), may.balanced_right.1.2, may.balanced_right.2));
-        places_are =
-            ap (λ k. (places z ++ at ∷ places u) ++ k ∷ (places v ++ right ∷ places x)) inner_is
-            ∙ ap (λ k. (places z ++ at ∷ places u) ++ i ∷ (places v ++ k ∷ places x)) right_is
-            ∙ same_order (places x) (places u) (places v) (places z) j i at;
-        not_lower = omega arith;
-        one_higher = omega arith;
-        as_high = λ near far. absurd (omega arith);
-        others = λ q none.
-            let parts = spread_under q (places x) (places u) (places v) (places z) j i at in
-            joined_other second inner at right q (λ is. differs_if_none q i (omega arith) (is ∙ inner_is))
-            ∙ joined_other first right above outer q (λ is. differs_if_none q j (omega arith) (is ∙ right_is))
-            ∙ joined_other nodes at left below q (differs_if_none q at (omega arith));
-      });
-    }
-  where
-    same_order : (x u v z : List ℕ) (j i at : ℕ) → (z ++ at ∷ u) ++ i ∷ (v ++ j ∷ x) ≡ z ++ at ∷ ((u ++ i ∷ v) ++ j ∷ x)
-    same_order x u v z j i at = append_assoc z (at ∷ u) (i ∷ (v ++ j ∷ x)) ∙ ap (λ k. z ++ at ∷ k) (sym (append_assoc u (i ∷ v) (j ∷ x)))
+  abbrev under : Tree
+  under = Fork (Fork z at u) inmost (Fork v right x)
+
+  under_order : places under ≡ places z ++ at ∷ places (Fork (Fork u i v) j x)
+  under_order = grind (arith, common_steps, nat_tests)
+
+  under_sizes : (height_of nodes (node_at nodes right).right ≡ height x) × (height_of nodes (node_at nodes inmost).left ≡ height u) × (height_of nodes (node_at nodes inmost).right ≡ height v) × (height_of nodes left ≡ height z)
+  under_sizes = (stored nodes _ x may.few may.holds_right.4, stored nodes _ u may.few may.holds_right.3.3, stored nodes _ v may.few may.holds_right.3.4, stored nodes left z may.few may.holds_left)
+
+  under_shape : (height x ≡ max (height u) (height v)) × (height z ≡ max (height u) (height v)) × (height u ≤ height v + 1) × (height v ≤ height u + 1) × (height_of nodes right ≡ max (height u) (height v) + 2)
+  under_shape = grind (arith, common_steps, nat_tests, under_sizes)
+
+  under_inner : IsTurnedUnder n nodes at left right inmost (node_at nodes right).right (node_at nodes inmost).left (node_at nodes inmost).right z (Fork (Fork u i v) j x)
+  under_inner =
+      let h = may.holds_right in
+      let apart = λ (q : ℕ). subst (λ (ps : List ℕ). times q ps ≤ 1) (sym under_order) (may.apart q) in
+      let high = heights_three nodes at left _ right _ _ inmost z u v x may.few may.in_range h.1 h.3.1 may.holds_left h.3.3 h.3.4 h.4 apart in
+      record {
+        inner_in = h.3.1;
+        low_first = grind (arith, common_steps, nat_tests, under_sizes, under_shape);
+        low_second = grind (arith, common_steps, nat_tests, under_shape);
+        low_third = grind (arith, common_steps, nat_tests, under_shape);
+        hung_so = hung nodes _ at z (Fork (Fork u i v) j x) inmost under (few_three nodes at left _ right _ _ inmost z u v x may.few may.in_range h.1 h.3.1 may.holds_left h.3.3 h.3.4 h.4 apart) (record {
+          holds = held_three nodes at left _ right _ _ inmost z u v x may.few may.in_range h.1 h.3.1 may.holds_left h.3.3 h.3.4 h.4 apart;
+          balanced = grind (arith, common_steps, nat_tests, under_shape);
+          places_are = under_order;
+          not_lower = grind (arith, common_steps, nat_tests, under_shape);
+          one_higher = grind (arith, common_steps, nat_tests, under_shape);
+          as_high = grind (arith, common_steps, nat_tests, under_shape);
+          others = λ q none. others_three nodes at left _ right _ _ inmost z u v x may.few may.in_range h.1 h.3.1 may.holds_left h.3.3 h.3.4 h.4 apart q (subst (λ (ps : List ℕ). times q ps ≡ 0) (sym under_order) none);
+        });
+      }
 
 pub turned_under : (n : ℕ) (nodes : List Node) (at left right : ℕ) (l r : Tree) → MayHang nodes at left right l r → height_of nodes right ≡ height_of nodes left + 2
     → height_of nodes right + 1 < n → height_of nodes (node_at nodes right).right < height_of nodes (node_at nodes right).left
     → IsTurnedUnder n nodes at left right (node_at nodes right).left (node_at nodes right).right (node_at nodes (node_at nodes right).left).left (node_at nodes (node_at nodes right).left).right l r
 turned_under n nodes at left right l Leaf may higher low leans = absurd (omega (arith, stored nodes right Leaf may.few may.holds_right))
-turned_under n nodes at left right z (Fork y j x) may higher low leans = under_inner n nodes at left right z y j x may higher low leans
+turned_under n nodes at left right z (Fork Leaf j x) may higher low leans = absurd (omega (arith, stored nodes (node_at nodes right).left Leaf may.few may.holds_right.3))
+turned_under n nodes at left right z (Fork (Fork u i v) j x) may higher low leans = under_inner n nodes at left right z u v x i j may higher low leans

@@ -3,15 +3,13 @@ use Rattle.std.proofs.lemmas.Bool.Decides.{nat_tests}
 use Rattle.std.proofs.lemmas.Grind.{common_steps}
 use Rattle.std.proofs.Common.{◌≡◌, ◌≢◌, ℕ, suc, ◌+◌, ◌<◌, ◌≤◌, max, Bool, true, false, cond, ◌&&◌, T, List, [], ◌∷◌, ◌++◌, length, get_or, Option, Some, None, IfSome, IfNone, refl, ap, sym, subst, ◌∙◌, arith}
 use Rattle.std.specs.List.{AllByRecursion}
-use Rattle.std.specs.Ordering.{is_lt}
 use Rattle.std.specs.declared.cmp.Ordering.{Ordering}
 use Rattle.std.specs.declared.cmp.Ordering.TheVariants.{Less, Equal, Greater}
-use Rattle.std.specs.Cmp.{tied_itself}
 use Rattle.std.specs.FinMap.{is_sorted}
 use Rattle.std.specs.FinMap.Entries.{below_all}
 use Rattle.std.proofs.lemmas.Bool.{eq-eqb, ne_eqb}
 use Rattle.std.proofs.lemmas.Cmp.{nat_list_cmp_total}
-use Rattle.std.proofs.lemmas.List.{map-append, length-append, get_or_append_left, get_or-append-add, get_or_default}
+use Rattle.std.proofs.lemmas.List.{map-append, length-append, get_or-append-add, get_or_default}
 use Rattle.blsm_model.specs.declared.key.Key.{Key}
 use Rattle.blsm_model.specs.Keys.{key_cmp}
 use Rattle.record_delta.specs.declared.record.Rec.{Rec}
@@ -20,7 +18,7 @@ use Rattle.record_delta.specs.Entries.{Entries, is_above}
 use Rattle.mem_table.specs.declared.nodes.Node.{Node}
 use Rattle.mem_table.specs.Shapes.{Tree, Leaf, Fork, height, places, times, one_if, no_node, node_at, height_of, Holds, tree_at}
 use Rattle.mem_table.specs.Ways.{entry_at, entries_at, tree_entries, IsTree, IsPlaced, AreWithout, place_above, or_else, place_of}
-use Rattle.mem_table.proofs.SortedLemmas.{both_hold, less_from_test, turned}
+use Rattle.mem_table.proofs.SortedLemmas.{both_hold, test_holds, less_from_test, turned}
 use Rattle.mem_table.proofs.PlaceLemmas.{sorted_test, tied}
 use Rattle.mem_table.proofs.NodeLemmas.{times_fork, stored, read}
 
@@ -43,10 +41,7 @@ all_parts P [] e fs all = record { before = tt; here = all.0; after = all.1 }
 all_parts P (x ∷ es) e fs all = grind (arith, common_steps, nat_tests, all_parts P es e fs all.1)
 
 both_true : (a b : Bool) → T a → T b → T (a && b)
-both_true a b zh1 zh2 = grind (arith, common_steps, nat_tests)
-
-test_true : (b : Bool) → T b → b ≡ true
-test_true b zh1 = grind (arith, common_steps, nat_tests)
+both_true a b h1 h2 = grind (arith, common_steps, nat_tests)
 
 below_seam : (k : Key) (es : Entries) (e : Key × Rec) (fs : Entries) → T (below_all key_cmp k (es ++ e ∷ fs)) → T (below_all key_cmp k es) × (key_cmp k e.0 ≡ Less)
 below_seam k [] e fs h = (tt, less_from_test _ (both_hold _ _ h).0)
@@ -94,28 +89,13 @@ forked_at nodes slots root (Fork l q r) few as_many there is h sorted =
     let parts = around (entries_at slots (places l)) (entry_at slots q) (entries_at slots (places r)) (subst (λ (es : Entries). T (is_sorted key_cmp es)) (entries_fork slots (places l) (places r) q) sorted) in
     record {
       in_range = h.1;
-      tree_is =
-          is ∙ ap (λ (k : ℕ). Fork l k r) (sym h.0) ∙ ap (λ (t : Tree). Fork t root r) (sym left_is) ∙ ap (λ (t : Tree). Fork (tree_at nodes left) root t) (sym right_is);
-      left_tree = record {
-        few = few;
-        as_many = as_many;
-        holds = subst (λ (t : Tree). Holds nodes left t) (sym left_is) h.3;
-        sorted = test_true _ (subst (λ (t : Tree). T (is_sorted key_cmp (entries_at slots (places t)))) (sym left_is) parts.front);
-      };
-      right_tree = record {
-        few = few;
-        as_many = as_many;
-        holds = subst (λ (t : Tree). Holds nodes right t) (sym right_is) h.4;
-        sorted = test_true _ (subst (λ (t : Tree). T (is_sorted key_cmp (entries_at slots (places t)))) (sym right_is) parts.back);
-      };
+      tree_is = rw (is, left_is, right_is, h.0) refl;
+      left_tree = record { few = few; as_many = as_many; holds = rw left_is h.3; sorted = rw left_is (test_holds _ parts.front) };
+      right_tree = record { few = few; as_many = as_many; holds = rw right_is h.4; sorted = rw right_is (test_holds _ parts.back) };
       lower_left = omega (arith, stored nodes left l few h.3, h.2);
       lower_right = omega (arith, stored nodes right r few h.4, h.2);
-      below =
-          subst (λ (t : Tree). AllByRecursion (λ x. key_cmp x.0 (entry_at slots root).0 ≡ Less) (entries_at slots (places t))) (sym left_is)
-          (subst (λ (k : ℕ). AllByRecursion (λ x. key_cmp x.0 (entry_at slots k).0 ≡ Less) (entries_at slots (places l))) (sym h.0) parts.below);
-      beyond =
-          subst (λ (t : Tree). AllByRecursion (λ x. key_cmp (entry_at slots root).0 x.0 ≡ Less) (entries_at slots (places t))) (sym right_is)
-          (subst (λ (k : ℕ). AllByRecursion (λ x. key_cmp (entry_at slots k).0 x.0 ≡ Less) (entries_at slots (places r))) (sym h.0) parts.beyond);
+      below = rw (left_is, h.0) parts.below;
+      beyond = rw (right_is, h.0) parts.beyond;
     }
 
 pub forked : (nodes : List Node) (slots : Entries) (root : ℕ) → IsTree nodes slots root → root ≢ no_node → IsForked nodes slots root (node_at nodes root).left (node_at nodes root).right
@@ -137,10 +117,7 @@ module _ (nodes : List Node) (slots : Entries) (root left right : ℕ) (fork : I
 -- ---- looking a key up
 
 less_differs : (a b : Key) → key_cmp a b ≡ Less → b ≢ a
-less_differs a b less is =
-    let here : key_cmp a a ≡ Less = subst (λ (k : Key). key_cmp a k ≡ Less) is less in
-    let tie : key_cmp a a ≡ Equal = tied_itself nat_list_cmp_total a in
-    cc
+less_differs a b h1 = grind (arith, common_steps, nat_tests, nat_list_cmp_total)
 
 all_beyond_differ : (key k : Key) (fs : Entries) → key_cmp key k ≡ Less → AllByRecursion (λ x. key_cmp k x.0 ≡ Less) fs → AreWithout key fs
 all_beyond_differ key k [] less all = tt
@@ -164,42 +141,28 @@ pub record IsAnswer (nodes : List Node) (slots : Entries) (root : ℕ) (key : Ke
 
 module _ (nodes : List Node) (slots : Entries) (root left right : ℕ) (key : Key) (fork : IsForked nodes slots root left right) where
   pub answer_left : (r : Option ℕ) → key_cmp key (entry_at slots root).0 ≡ Less → IsAnswer nodes slots left key r → IsAnswer nodes slots root key r
-  answer_left r zh1 zh2 = grind (arith, common_steps, nat_tests, entries_split, all_fork, less_differs, all_beyond_differ)
+  answer_left r h1 h2 = grind (arith, common_steps, nat_tests, entries_split, all_fork, less_differs, all_beyond_differ)
+
+  -- from its node on
+  placed_from : (p i : ℕ) → i < length (root ∷ places (tree_at nodes right)) → get_or (root ∷ places (tree_at nodes right)) i no_node ≡ p → p < length slots → (entry_at slots p).0 ≡ key → IsPlaced slots (places (tree_at nodes root)) key p
+  placed_from p i within there in_range key_is = rw fork.tree_is (record {
+    index = length (places (tree_at nodes left)) + i;
+    within = omega (arith, within, length-append (places (tree_at nodes left)) (root ∷ places (tree_at nodes right)));
+    there = get_or-append-add (places (tree_at nodes left)) (root ∷ places (tree_at nodes right)) i no_node ∙ there;
+    in_range = in_range;
+    key_is = key_is;
+  })
 
   pub answer_right : (r : Option ℕ) → key_cmp key (entry_at slots root).0 ≡ Greater → IsAnswer nodes slots right key r → IsAnswer nodes slots root key r
   answer_right None greater a =
-      let less : key_cmp (entry_at slots root).0 key ≡ Less = less_of_greater key (entry_at slots root).0 greater in
-      record {
-        found = tt;
-        absent =
-            subst (AreWithout key) (sym (entries_split nodes slots root left right fork))
-            (all_fork _ (tree_entries nodes slots left) (entry_at slots root) (tree_entries nodes slots right)
-            (all_below_differ key (entry_at slots root).0 (tree_entries nodes slots left) less fork.below) (λ is. less_differs (entry_at slots root).0 key less (sym is)) a.absent);
-      }
-  answer_right (Some p) greater a = record {
-    found =
-        subst (λ (t : Tree). IsPlaced slots (places t) key p) (sym fork.tree_is) (record {
-          index = length (places (tree_at nodes left)) + suc a.found.index;
-          within = omega (arith, a.found.within, length-append (places (tree_at nodes left)) (root ∷ places (tree_at nodes right)));
-          there = get_or-append-add (places (tree_at nodes left)) (root ∷ places (tree_at nodes right)) (suc a.found.index) no_node ∙ a.found.there;
-          in_range = a.found.in_range;
-          key_is = a.found.key_is;
-        });
-    absent = tt;
-  }
+      let less = less_of_greater key (entry_at slots root).0 greater in
+      let absent = all_fork _ (tree_entries nodes slots left) (entry_at slots root) (tree_entries nodes slots right)
+      (all_below_differ key (entry_at slots root).0 (tree_entries nodes slots left) less fork.below) (λ is. less_differs (entry_at slots root).0 key less (sym is)) a.absent in
+      record { found = tt; absent = rw (entries_split nodes slots root left right fork) absent }
+  answer_right (Some p) greater a = record { found = placed_from p (suc a.found.index) (omega (arith, a.found.within)) a.found.there a.found.in_range a.found.key_is; absent = tt }
 
   pub answer_here : key_cmp key (entry_at slots root).0 ≡ Equal → IsAnswer nodes slots root key (Some root)
-  answer_here same = record {
-    found =
-        subst (λ (t : Tree). IsPlaced slots (places t) key root) (sym fork.tree_is) (record {
-          index = length (places (tree_at nodes left)) + 0;
-          within = omega (arith, length-append (places (tree_at nodes left)) (root ∷ places (tree_at nodes right)));
-          there = get_or-append-add (places (tree_at nodes left)) (root ∷ places (tree_at nodes right)) 0 no_node;
-          in_range = omega (arith, fork.in_range, fork.left_tree.as_many);
-          key_is = sym (tied key (entry_at slots root).0 same);
-        });
-    absent = tt;
-  }
+  answer_here same = record { found = placed_from root 0 (omega arith) refl (omega (arith, fork.in_range, fork.left_tree.as_many)) (sym (tied key (entry_at slots root).0 same)); absent = tt }
 
 pub answer_none : (nodes : List Node) (slots : Entries) (root : ℕ) (key : Key) → length nodes ≤ no_node → root ≡ no_node → IsAnswer nodes slots root key None
 answer_none nodes slots root key few is = grind (arith, common_steps, nat_tests, bare)
@@ -213,16 +176,7 @@ place_missing p is = ap (λ b. cond b None (Some p)) (eq-eqb p no_node is)
 -- ---- the next key above
 
 not_above_below : (low : Option Key) (a b : Key) → is_above low b ≡ false → key_cmp a b ≡ Less → is_above low a ≡ false
-not_above_below None a b is less = is
-not_above_below (Some k) a b is less =
-    elim (key_cmp k a) as (λ o. key_cmp k a ≡ o → is_lt o ≡ false) [
-      | Less ↦ λ first.
-          let both : key_cmp k b ≡ Less = nat_list_cmp_total.trans k a b first less in
-          let test : is_lt (key_cmp k b) ≡ true = ap is_lt both in
-          cc
-      | Equal ↦ λ first. refl
-      | Greater ↦ λ first. refl
-    ] refl
+not_above_below low a b h1 h2 = grind (arith, common_steps, nat_tests, nat_list_cmp_total)
 
 above_left : (slots : Entries) (low : Option Key) (ps : List ℕ) (p : ℕ) (qs : List ℕ) (before : Option ℕ) → is_above low (entry_at slots p).0 ≡ true
     → or_else (place_above slots low (ps ++ p ∷ qs)) before ≡ or_else (place_above slots low ps) (Some p)

@@ -1,4 +1,6 @@
 -- One key group of an input and of another list.
+use Rattle.std.proofs.lemmas.Bool.Decides.{nat_tests}
+use Rattle.std.proofs.lemmas.Grind.{common_steps}
 use Rattle.std.proofs.Common.{◌≡◌, ◌∙◌, ◌+◌, ◌⊎◌, ℕ, true, false, cond, not, List, [], ◌∷◌, ◌++◌, length, Option, Some, None, refl, ap, sym, inl, inr, arith}
 use Rattle.std.specs.Ordering.{is_lt}
 use Rattle.std.specs.Cmp.{tied_itself}
@@ -25,8 +27,7 @@ use Rattle.merge_ends.specs.Output.{EndBy}
 -- ---- keys above keys
 
 pub further : (at : Option Key) (key q : Key) → is_above at key ≡ true → is_above (Some key) q ≡ true → is_above at q ≡ true
-further None key q key_above q_above = refl
-further (Some low) key q key_above q_above = ap is_lt (nat_list_cmp_total.trans low key q (less _ (test _ key_above)) (less _ (test _ q_above)))
+further at key q h1 h2 = grind (arith, common_steps, nat_tests, nat_list_cmp_total, less, test)
 
 -- what is above a key that is above another is among what is above that one
 pub above_further : (at : Option Key) (key : Key) (es : Entries) → is_above at key ≡ true → above (Some key) es ≡ above (Some key) (above at es)
@@ -53,37 +54,22 @@ none_in head none at is = false≢true (sym (ap (head_above at) none) ∙ is)
 
 -- A cursor that is ready has its head, or nothing, above the key.
 pub head_first : (at : Option Key) (cursor : CursorState) → IsReady at cursor → first_of (above at (from_head cursor.head [])) ≡ cursor.head
-head_first at cursor (inl is) = by_head cursor.head is
-  where
-    by_head : (head : Option (Key × Rec)) → head_above at head ≡ true → first_of (above at (from_head head [])) ≡ head
-    by_head None is = refl
-    by_head (Some e) is = ap (λ b. first_of (cond b (e ∷ []) [])) is
-head_first at cursor (inr end) = ap (λ h. first_of (above at (from_head h []))) end.head ∙ sym end.head
+head_first at cursor h1 = grind (arith, common_steps, nat_tests)
 
 pub head_sorted : (head : Option (Key × Rec)) → AreSorted (from_head head [])
-head_sorted None = refl
-head_sorted (Some e) = refl
+head_sorted head = grind (arith, common_steps, nat_tests)
 
 none_of : (es : Entries) → length es ≡ 0 → es ≡ []
-none_of [] is = refl
-none_of (e ∷ es) is = absurd (omega (arith, is))
+none_of es h1 = grind (arith, common_steps, nat_tests)
 
 -- It is the first of what the input has left.
 pub head_is : {pages : List ℕ} (sizes : Sizes) (file : List ℕ) (space : SpaceState) (role : ℕ) (at : Option Key) (cursor : CursorState) (entries : Entries) → IsReady at cursor
     → IsInput sizes file space role at cursor pages entries → first_of (above at entries) ≡ cursor.head
-head_is sizes file space role at cursor entries (inl is) input = ap first_of (sym input.left_is) ∙ by_head cursor.head is
-  where
-    by_head : (head : Option (Key × Rec)) → head_above at head ≡ true → first_of (above at (from_head head input.rest)) ≡ head
-    by_head None is = absurd (false≢true is)
-    by_head (Some e) is = ap (λ b. first_of (cond b (e ∷ above at input.rest) (above at input.rest))) is
-head_is sizes file space role at cursor entries (inr end) input =
-    ap first_of (sym input.left_is) ∙ ap (λ h. first_of (above at (from_head h input.rest))) end.head
-    ∙ ap (λ l. first_of (above at l)) (none_of input.rest (input.ahead.entries_is ∙ end.entries)) ∙ sym end.head
+head_is sizes file space role at cursor entries h1 h2 = grind (arith, common_steps, nat_tests)
 
 -- Nothing is left of an input that is through by its numbers.
 pub end_left : (at : Option Key) (cursor : CursorState) → IsReady at cursor → cursor.head ≡ None → left_in at cursor ≡ 0
-end_left at cursor (inl is) none = absurd (none_in cursor.head none at is)
-end_left at cursor (inr end) none = omega (arith, ap (λ (h : Option (Key × Rec)). entries_weight (above at (from_head h []))) none, end.weight)
+end_left at cursor h1 h2 = grind (arith, common_steps, nat_tests)
 
 -- ---- a group
 
@@ -94,14 +80,10 @@ none_some : {A : Type 0} {a : A} → None ≡ Some a → ⊥
 none_some is = cc
 
 pub first_none : (es : Entries) → first_of es ≡ None → es ≡ []
-first_none [] is = refl
-first_none (e ∷ es) is = absurd (some_none is)
+first_none es h1 = grind (arith, common_steps, nat_tests)
 
 pub group_none : (x y : Option (Key × Rec)) → group_of x y ≡ None → (x ≡ None) × (y ≡ None)
-group_none None None is = (refl, refl)
-group_none None (Some f) is = absurd (some_none is)
-group_none (Some e) None is = absurd (some_none is)
-group_none (Some e) (Some f) is = absurd (some_none is)
+group_none x y h1 = grind (arith, common_steps, nat_tests)
 
 key_is : (g h : Key × Rec × ℕ) → Some g ≡ Some h → g.0 ≡ h.0
 key_is g h is = let groups : g ≡ h = cc in ap (λ (k : Key × Rec × ℕ). k.0) groups
@@ -122,24 +104,12 @@ older_stays (Some e) (Some f) key rec taken is = by_order (key_cmp e.0 f.0) refl
 
 pub newer_stays : (x y : Option (Key × Rec)) (key : Key) (rec : Rec) (taken : ℕ) → group_of x y ≡ Some (key, rec, taken)
     → ((head_above (Some key) x ≡ true) ⊎ (x ≡ None)) ⊎ (key_of x ≡ Some key)
-newer_stays None None key rec taken is = absurd (none_some is)
-newer_stays None (Some f) key rec taken is = inl (inr refl)
-newer_stays (Some e) None key rec taken is = inr (ap Some (key_is _ _ is))
-newer_stays (Some e) (Some f) key rec taken is = by_order (key_cmp e.0 f.0) refl is
-  where
-    by_order : (r : Ordering) → key_cmp e.0 f.0 ≡ r → Some (least_of r e f) ≡ Some (key, rec, taken)
-        → ((is_above (Some key) e.0 ≡ true) ⊎ (Some e ≡ None)) ⊎ (Some e.0 ≡ Some key)
-    by_order Less order same_group = inr (ap Some (key_is _ _ same_group))
-    by_order Equal order same_group = inr (ap Some (key_is _ _ same_group))
-    by_order Greater order same_group = inl (inl (ap (λ k. is_lt (key_cmp k e.0)) (sym (key_is _ _ same_group)) ∙ ap is_lt (turned e.0 f.0 Greater order)))
+newer_stays x y key rec taken h1 = grind (arith, common_steps, nat_tests, none_some, key_is, turned)
 
 -- So the cursor is behind the group.
 pub behind_group : (at : Option Key) (cursor : CursorState) (key : Key) → IsReady at cursor
     → ((head_above (Some key) cursor.head ≡ true) ⊎ (cursor.head ≡ None)) ⊎ (key_of cursor.head ≡ Some key) → IsBehind (Some key) cursor
-behind_group at cursor key ready (inl (inl is)) = inl (inl is)
-behind_group at cursor key (inl was) (inl (inr none)) = absurd (none_in cursor.head none at was)
-behind_group at cursor key (inr end) (inl (inr none)) = inl (inr end)
-behind_group at cursor key ready (inr is) = inr is
+behind_group at cursor key h1 h2 = grind (arith, common_steps, nat_tests)
 
 -- What is left above the group is left of the input.
 pub input_further : {pages : List ℕ} (sizes : Sizes) (file : List ℕ) (space : SpaceState) (role : ℕ) (at : Option Key) (key : Key) (cursor : CursorState) (entries : Entries) → is_above at key ≡ true
@@ -166,16 +136,7 @@ weightless (e ∷ es) is = absurd (weight_some e es is)
 -- An input of which nothing is left by the numbers has nothing left.
 pub input_done : {pages : List ℕ} (sizes : Sizes) (file : List ℕ) (space : SpaceState) (role : ℕ) (at : Option Key) (cursor : CursorState) (entries : Entries) → left_in at cursor ≡ 0
     → IsInput sizes file space role at cursor pages entries → above at entries ≡ []
-input_done sizes file space role at cursor entries none input =
-    let rest_none : input.rest ≡ [] = weightless input.rest (input.ahead.weight_is ∙ later (entries_weight (above at (from_head cursor.head []))) cursor.weight none) in
-    let head_none : above at (from_head cursor.head []) ≡ [] = weightless _ (earlier (entries_weight (above at (from_head cursor.head []))) cursor.weight none) in
-    sym input.left_is ∙ ap (λ l. above at (from_head cursor.head l)) rest_none ∙ head_none
-  where
-    later : (m n : ℕ) → m + n ≡ 0 → n ≡ 0
-    later m n is = omega arith
-
-    earlier : (m n : ℕ) → m + n ≡ 0 → m ≡ 0
-    earlier m n is = omega arith
+input_done sizes file space role at cursor entries h1 h2 = grind (arith, common_steps, nat_tests, weightless)
 
 pub all_up_to : (at : Option Key) (es : Entries) → above at es ≡ [] → up_to at es ≡ es
 all_up_to at [] none = refl

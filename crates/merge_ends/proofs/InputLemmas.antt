@@ -1,7 +1,10 @@
 -- A cursor that goes on, and one whose pages stay.
-use Rattle.std.proofs.Common.{◌≡◌, ◌∙◌, ℕ, false, cond, List, [], ◌∷◌, Option, Some, None, refl, ap, sym, subst, ⊎_elim}
+use Rattle.std.proofs.lemmas.Bool.Decides.{nat_tests}
+use Rattle.std.proofs.lemmas.Grind.{common_steps}
+use Rattle.std.proofs.Common.{◌≡◌, ◌∙◌, ℕ, false, List, [], ◌∷◌, Option, None, refl, ap, sym, subst, ⊎_elim, arith}
 use Rattle.std.specs.List.{Contains}
-use Rattle.disk_trait.specs.Region.{IsWithin, IsSameOutside, outside, same_wider}
+use Rattle.disk_trait.specs.Region.{IsWithin, IsSameOutside, outside}
+use Rattle.disk_trait.proofs.RegionLemmas.{same_wider}
 use Rattle.blsm_model.specs.declared.component.Component.{Component}
 use Rattle.blsm_model.specs.declared.key.Key.{Key}
 use Rattle.blsm_model.specs.Sizes.{Sizes}
@@ -18,8 +21,7 @@ use Rattle.merge_ends.specs.Output.{TakesPages}
 
 -- a head that isn't above the key is no part of what is
 pub stale_left : (at : Option Key) (head : Option (Key × Rec)) (rest : Entries) → head_above at head ≡ false → above at (from_head head rest) ≡ above at rest
-stale_left at None rest is = refl
-stale_left at (Some e) rest is = ap (λ b. cond b (e ∷ above at rest) (above at rest)) is
+stale_left at head rest h1 = grind (arith, common_steps, nat_tests)
 
 -- A cursor that has taken nothing yet, over pages that don't have the run's tag and aren't free.
 pub input_begun : {sizes : Sizes} {file : List ℕ} {space : SpaceState} {role tag : ℕ} {component : Component} {cursor : CursorState} {entries : Entries} {pages : List RunPage} → tag ≡ role → cursor ≡ started component → AreSorted entries

@@ -1,10 +1,12 @@
 -- Which pages a run takes, and the room that it leaves.
-use Rattle.std.proofs.Common.{◌≡◌, ◌≢◌, ◌∙◌, ◌+◌, ◌*◌, ◌<◌, ◌≤◌, ℕ, zero, suc, Bool, true, false, List, [], ◌∷◌, ◌++◌, ◌-◌, ◌/◌, ◌&&◌, length, Option, Result, Ok, Err, refl, ap, sym, subst, inl, inr, ⊎_elim, arith}
+use Rattle.std.proofs.lemmas.Bool.Decides.{nat_tests}
+use Rattle.std.proofs.lemmas.Grind.{common_steps}
+use Rattle.std.proofs.Common.{◌≡◌, ◌≢◌, ◌∙◌, ◌+◌, ◌*◌, ◌<◌, ◌≤◌, ℕ, Bool, true, false, List, [], ◌∷◌, ◌++◌, ◌/◌, length, Option, Result, refl, ap, sym, subst, inl, inr, ⊎_elim, arith}
 use Rattle.std.specs.Prelude.{IsTrue, OnOk, slice_index_or}
 use Rattle.std.specs.List.{AllByRecursion}
 use Rattle.std.specs.List.Sorted.{IsStrictlySortedBy}
 use Rattle.std.specs.declared.cmp.Ordering.TheVariants.{Less}
-use Rattle.std.proofs.lemmas.Bool.{cases_lt, false≢true, lt-ltb, le-leb}
+use Rattle.std.proofs.lemmas.Bool.{false≢true}
 use Rattle.refusal.specs.declared.Failed.{Failed}
 use Rattle.blsm_model.specs.declared.key.Key.{Key}
 use Rattle.blsm_model.specs.Keys.{key_cmp}
@@ -24,14 +26,7 @@ pub takes_none : (role : ℕ) (space : SpaceState) → TakesPages role space spa
 takes_none role space = record { others = λ other differs. refl; pins = refl; pages = refl; kept = λ page has. has; only_free = λ page has. inl has; free = λ page free. free }
 
 pub takes_one : (role page : ℕ) (old new : SpaceState) → IsFree old page → Claims role page old new → TakesPages role old new
-takes_one role page old new free claims = record {
-  others = claims.others;
-  pins = claims.pins;
-  pages = claims.pages;
-  kept = λ other has. (claims.tags role other).1 (inl has);
-  only_free = λ other has. ⊎_elim (λ was. inl was) (λ is. inr (subst (IsFree old) (sym is.1) free)) ((claims.tags role other).0 has);
-  free = λ other is_free. ((claims.free other).0 is_free).0;
-}
+takes_one role page old new h1 h2 = grind (arith, common_steps, nat_tests)
 
 pub takes_run : (role : ℕ) (old mid new : SpaceState) → TakesPages role old mid → TakesPages role mid new → TakesPages role old new
 takes_run role old mid new first second = record {
@@ -47,61 +42,25 @@ takes_run role old mid new first second = record {
 
 -- where there is an open page, and no place in it, it is nearly full
 no_place : (writer : WriterState) (n : ℕ) → has_place writer n ≡ false → 0 < writer.component.pages → 4088 < length writer.buffer.text + n
-no_place writer n none some =
-    elim (cases_lt 4088 (length writer.buffer.text + n)) [
-      | inl above ↦ above
-      | inr le ↦ absurd (false≢true (sym none ∙ λ i. lt-ltb 0 writer.component.pages some i && le-leb (length writer.buffer.text + n) 4088 le i))
-    ]
+no_place writer n h1 h2 = grind (arith, common_steps, nat_tests)
 
 pub room_for_one : (space : SpaceState) (writer : WriterState) (n : ℕ) → IsCounted writer → n ≤ 512 → has_place writer n ≡ false → (room : HasRoom space writer n)
     → room.live + seat_count * room.share < space.pages
-room_for_one space writer n counted light none room =
-    let full : (0 < writer.component.pages) → 4088 < length writer.buffer.text + n = no_place writer n none in
-    few writer.component.pages writer.component.weight (length writer.buffer.text) n room.live (seat_count * room.share) space.pages light full counted.floor room.room
-  where
-    few : (pages weighs used m live pinned all : ℕ) → m ≤ 512 → (0 < pages → 4088 < used + m) → 3577 * (pages - 1) + used ≤ weighs
-        → live + ((weighs + m) / 3577 + 1) + pinned ≤ all + pages → live + pinned < all
-    few pages weighs used m live pinned all light full floor room =
-        elim (cases_lt 0 pages) [
-          | inl some ↦ let near = full some in omega arith
-          | inr none ↦ omega arith
-        ]
+room_for_one space writer n h1 h2 h3 room = grind (arith, common_steps, nat_tests)
 
 -- and there is room for the fence of the page that it takes
 pub fence_for_one : (writer : WriterState) (n reserved fences : ℕ) → IsCounted writer → n ≤ 512 → has_place writer n ≡ false → most_pages (writer.component.weight + n) ≤ reserved
     → fences ≡ writer.component.pages → fences < reserved
-fence_for_one writer n reserved fences counted light none room one_a_page =
-    let most = few writer.component.pages writer.component.weight (length writer.buffer.text) n reserved light (λ some. no_place writer n none some) counted.floor room in
-    omega (arith, most, one_a_page)
-  where
-    few : (pages weighs used m all : ℕ) → m ≤ 512 → (0 < pages → 4088 < used + m) → 3577 * (pages - 1) + used ≤ weighs → (weighs + m) / 3577 + 1 ≤ all → pages < all
-    few pages weighs used m all light full floor room =
-        elim (cases_lt 0 pages) [
-          | inl some ↦ let near = full some in omega arith
-          | inr none ↦ omega arith
-        ]
+fence_for_one writer n reserved fences h1 h2 h3 h4 h5 = grind (arith, common_steps, nat_tests)
 
 pub room_same : (space : SpaceState) (writer new : WriterState) (n left : ℕ) → new.component.weight ≡ writer.component.weight + n → new.component.pages ≡ writer.component.pages
     → HasRoom space writer (n + left) → HasRoom space new left
-room_same space writer new n left weighs pages room = record {
-  live = room.live;
-  share = room.share;
-  within = room.within;
-  room = let sum : new.component.weight + left ≡ writer.component.weight + (n + left) = omega arith in omega (arith, room.room, ap (λ w. w / 3577) sum, pages);
-}
+room_same space writer new n left h1 h2 h3 = grind (arith, common_steps, nat_tests)
 
 -- the sums of five numbers, of which one changed
 one_changed : (old new : ℕ → ℕ) (role p q : ℕ) → role < 5 → new role + p ≡ old role + q → ((k : ℕ) → k ≢ role → new k ≡ old k)
     → new 0 + new 1 + new 2 + new 3 + new 4 + p ≡ old 0 + old 1 + old 2 + old 3 + old 4 + q
-one_changed old new zero p q within this others = omega (arith, this, others 1 (λ is. omega (arith, is)), others 2 (λ is. omega (arith, is)), others 3 (λ is. omega (arith, is)), others 4 (λ is. omega (arith, is)))
-one_changed old new (suc zero) p q within this others = omega (arith, this, others 0 (λ is. omega (arith, is)), others 2 (λ is. omega (arith, is)), others 3 (λ is. omega (arith, is)), others 4 (λ is. omega (arith, is)))
-one_changed old new (suc (suc zero)) p q within this others =
-    omega (arith, this, others 0 (λ is. omega (arith, is)), others 1 (λ is. omega (arith, is)), others 3 (λ is. omega (arith, is)), others 4 (λ is. omega (arith, is)))
-one_changed old new (suc (suc (suc zero))) p q within this others =
-    omega (arith, this, others 0 (λ is. omega (arith, is)), others 1 (λ is. omega (arith, is)), others 2 (λ is. omega (arith, is)), others 4 (λ is. omega (arith, is)))
-one_changed old new (suc (suc (suc (suc zero)))) p q within this others =
-    omega (arith, this, others 0 (λ is. omega (arith, is)), others 1 (λ is. omega (arith, is)), others 2 (λ is. omega (arith, is)), others 3 (λ is. omega (arith, is)))
-one_changed old new (suc (suc (suc (suc (suc k))))) p q within this others = absurd (omega (arith, within))
+one_changed old new role p q h1 h2 h3 = grind (arith, common_steps, nat_tests)
 
 -- The roles have as many pages more as the run has.
 pub within_taken : (live share role p q : ℕ) (old new : SpaceState) → role < role_count → TakesPages role old new → role_size new role + p ≡ role_size old role + q
@@ -125,12 +84,10 @@ room_claimed space after writer new role page n left within free claims weighs p
 -- ---- one entry more
 
 on_ok : {T E P Q : Type 0} (r : Result T E) → (P → Q) → OnOk r P → OnOk r Q
-on_ok (Ok v) so p = so p
-on_ok (Err e) so p = tt
+on_ok r h1 h2 = grind (arith, common_steps, nat_tests)
 
 always : {T E P : Type 0} (r : Result T E) → P → OnOk r P
-always (Ok v) p = p
-always (Err e) p = tt
+always r h1 = grind (arith, common_steps, nat_tests)
 
 -- what a push says of the pages
 abbrev pub Here : Bool → SpaceState → SpaceState → WriterState → WriterState → Key → Rec → Type 0

@@ -1,9 +1,10 @@
 -- A quantum of a merge: groups, one after the other.
-use Rattle.std.proofs.Common.{◌≡◌, ◌∙◌, ◌+◌, ◌*◌, ◌<◌, ◌≤◌, ◌⊎◌, ℕ, true, List, Option, Some, Result, Ok, Err, IsTrue, length, refl, sym, subst, inl, inr, arith}
-use Rattle.std.specs.Prelude.{IfOk, OnOk}
+use Rattle.std.proofs.lemmas.Bool.Decides.{nat_tests}
+use Rattle.std.proofs.lemmas.Grind.{common_steps}
+use Rattle.std.proofs.Common.{◌≡◌, ◌∙◌, ◌+◌, ◌*◌, ◌<◌, ◌≤◌, ◌⊎◌, ℕ, List, Option, Some, Result, Ok, Err, IsTrue, length, refl, sym, subst, inr, arith}
 use Rattle.refusal.specs.Count.{HasRisen}
 use Rattle.disk_trait.specs.Disk.{TellsFaultsBy}
-use Rattle.disk_trait.specs.Effects.{affects_length}
+use Rattle.disk_trait.proofs.EffectLemmas.{affects_length}
 use Rattle.disk_trait.specs.Moments.{IsTimed}
 use Rattle.blsm_model.specs.declared.key.Key.{Key}
 use Rattle.blsm_model.specs.Format.{most_weight}
@@ -11,7 +12,7 @@ use Rattle.blsm_model.specs.Geometry.{page_count, file_length}
 use Rattle.blsm_model.specs.Sizes.{Sizes}
 use Rattle.bloom_bits.specs.Guides.{KeepReserves}
 use Rattle.record_delta.specs.declared.record.Rec.{Rec}
-use Rattle.record_delta.specs.Entries.{Entries, AreSorted, above, entries_weight, is_above}
+use Rattle.record_delta.specs.Entries.{Entries, AreSorted, above, entries_weight}
 use Rattle.page_space.specs.Space.{role_size}
 use Rattle.page_file.specs.declared.file.Broken.{Broken}
 use Rattle.page_file.specs.declared.file.Broken.TheVariants.{Fault, Damaged}
@@ -66,30 +67,14 @@ takes_more old mid new m n first second = record {
 -- nothing is left
 pub takes_nothing : (old : Progress) (newer older : ℕ) (cursors : List CursorState) → newer ≡ old.newer → older ≡ old.older → newer + older ≡ 0
     → TakesGroup old (record old { newer = newer; older = older; cursors = cursors }) 0
-takes_nothing old newer older cursors same_newer same_older none = record {
-  takes = record { of_newer = 0; of_older = 0; taken_is = refl; newer = omega (arith, same_newer); older = omega (arith, same_older); light = omega arith; onward = λ key is. is };
-  light = omega arith;
-  some = inr (refl, none);
-}
+takes_nothing old newer older cursors h1 h2 h3 = grind (arith, common_steps, nat_tests)
 
 -- a group of these lists, which are left of the inputs or the heads of them
 pub takes_group : {above_newer above_older : Entries} {key : Key} {rec : Rec} {taken : ℕ} (old new : Progress) → IsTaken old.at above_newer above_older key rec taken → new.at ≡ Some key
     → new.newer + entries_weight (above old.at above_newer) ≡ old.newer + entries_weight (above (Some key) above_newer)
     → new.older + entries_weight (above old.at above_older) ≡ old.older + entries_weight (above (Some key) above_older)
     → 14 ≤ taken → taken ≤ 1024 → new.writer.component.weight ≤ old.writer.component.weight + taken → TakesGroup old new taken
-takes_group {above_newer} {above_older} {key} {rec} {taken} old new group at newer older some few light = record {
-  takes = record {
-    of_newer = group.of_newer;
-    of_older = group.of_older;
-    taken_is = group.taken_is;
-    newer = omega (arith, newer, group.newer_left);
-    older = omega (arith, older, group.older_left);
-    light = light;
-    onward = λ q is. further old.at key q group.above_at (subst (λ (k : Option Key). is_above k q ≡ true) at is);
-  };
-  light = few;
-  some = inl some;
-}
+takes_group old new h1 h2 h3 h4 h5 h6 h7 = grind (arith, common_steps, nat_tests, further)
 
 -- ---- what a call tells
 
@@ -100,38 +85,14 @@ module _ {sizes : Sizes} {most : ℕ} {Took : Progress → Progress → ℕ → 
       → Counts 0 (pages_ahead old.merge.cursors) (pages_ahead new.merge.cursors) old.merge.writer.component.pages new.merge.writer.component.pages old.disk new.disk
       → new.merge.writer.role ≡ old.merge.writer.role → KeepReserves old.filter new.filter old.fences new.fences → Works sizes old.merge.writer.role most old.space new.space old.disk new.disk
       → new.disk.faults ≡ old.disk.faults → MergesOn sizes most Took old new (Ok n)
-  told_ok {n} takes runs size counted role reserves works calm = record {
-    takes = takes;
-    runs = runs;
-    size = size;
-    counted = counted;
-    counts = record { onward = counted.onward; grows = counted.grows; calls = omega (arith, counted.calls) };
-    role = role;
-    reserves = reserves;
-    works = works;
-    damaged = λ n wrong. absurd cc;
-    faults = record { stands = λ other. calm; failed = λ wrong. absurd (ok_not_fault n wrong) };
-  }
+  told_ok h1 h2 h3 h4 h5 h6 h7 h8 = grind (arith, common_steps, nat_tests)
 
   -- where it failed
   pub told_err : {result : Result ℕ Broken} {broken : Broken} → result ≡ Err broken
       → Counts 1 (pages_ahead old.merge.cursors) (pages_ahead new.merge.cursors) old.merge.writer.component.pages new.merge.writer.component.pages old.disk new.disk
       → new.merge.writer.role ≡ old.merge.writer.role → KeepReserves old.filter new.filter old.fences new.fences → Works sizes old.merge.writer.role most old.space new.space old.disk new.disk
       → ((n : ℕ) → result ≡ Err (Damaged n) → IsTrue old.disk.tells_bytes → MeetsDamage sizes new.merge.cursors n new.disk.bytes) → TellsFaultsBy (Err Fault) result old.disk new.disk → MergesOn sizes most Took old new result
-  told_err {result} {broken} is counts role reserves works damaged faults =
-      let none : (P : Type 0) → OnOk result P = λ P. subst (λ (r : Result ℕ Broken). OnOk r P) (sym is) tt in
-      record {
-        takes = subst (λ (r : Result ℕ Broken). IfOk r (Took old.merge new.merge)) (sym is) tt;
-        runs = none _;
-        size = none _;
-        counted = none _;
-        counts = counts;
-        role = role;
-        reserves = reserves;
-        works = works;
-        damaged = damaged;
-        faults = faults;
-      }
+  told_err h1 h2 h3 h4 h5 h6 h7 = grind (arith, common_steps, nat_tests)
 
 -- ---- on any disk
 
@@ -151,19 +112,7 @@ pub record HasMerged (sizes : Sizes) (most : ℕ) (old new : Stage) (taken : ℕ
 
 pub merged_start : (sizes : Sizes) (most : ℕ) (now : Stage) → IsTimed now.disk → now.space.pages ≡ page_count sizes → (IsTrue now.disk.tells_bytes → length now.disk.bytes ≡ file_length sizes) → MayGoOn sizes now
     → HasMerged sizes most now now 0
-merged_start sizes most now timed pages long runs = record {
-  pages = pages;
-  long = long;
-  runs = runs;
-  takes = takes_none now.merge;
-  bound = omega arith;
-  size = refl;
-  counts = record { onward = omega arith; grows = omega arith; calls = omega arith };
-  role = refl;
-  reserves = record { bits = refl; fences_are = refl; size_is = refl };
-  works = works_start sizes now.merge.writer.role most now.space now.disk timed;
-  faults = refl;
-}
+merged_start sizes most now h1 h2 h3 h4 = grind (arith, common_steps, nat_tests, takes_none, works_start)
 
 module _ {sizes : Sizes} {most : ℕ} {old mid : Stage} {taken : ℕ} (has : HasMerged sizes most old mid taken) where
   -- so it is a quantum, where they weigh one or nothing is left

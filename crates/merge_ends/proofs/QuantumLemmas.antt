@@ -1,4 +1,6 @@
 -- What a merge takes of two lists, group by group.
+use Rattle.std.proofs.lemmas.Bool.Decides.{nat_tests}
+use Rattle.std.proofs.lemmas.Grind.{common_steps}
 use Rattle.std.proofs.Common.{◌≡◌, ◌+◌, ◌<◌, ◌≤◌, ◌⊎◌, ℕ, Option, Some, refl, sym, subst, inl, inr, arith}
 use Rattle.blsm_model.specs.declared.key.Key.{Key}
 use Rattle.record_delta.specs.declared.record.Rec.{Rec}
@@ -24,9 +26,7 @@ has_more goes_on least from mid to a c1 taken group sorted_a sorted_c1 few has n
     })
 
 pub has_same : (least : ℕ) (from mid to : Option Key) (a c1 : Entries) (taken group : ℕ) → to ≡ mid → group ≡ 0 → HasTaken least from mid a c1 taken → HasTaken least from to a c1 (taken + group)
-has_same least from mid to a c1 taken group same none has =
-    let sum : taken ≡ taken + group = omega (arith, none) in
-    subst (λ (n : ℕ). HasTaken least from to a c1 n) sum (subst (λ (k : Option Key). HasTaken least from k a c1 taken) (sym same) has)
+has_same least from mid to a c1 taken group h1 h2 h3 = grind (arith, common_steps, nat_tests)
 
 pub has_step : GoesOn → (least : ℕ) (from mid to : Option Key) (a c1 : Entries) (taken group : ℕ) → AreSorted a → AreSorted c1 → taken < least → HasTaken least from mid a c1 taken
     → IsNext mid to a c1 group ⊎ (NoneAbove mid a c1 × (to ≡ mid) × (group ≡ 0)) → HasTaken least from to a c1 (taken + group)
@@ -34,9 +34,7 @@ has_step goes_on least from mid to a c1 taken group sorted_a sorted_c1 few has (
 has_step goes_on least from mid to a c1 taken group sorted_a sorted_c1 few has (inr none) = has_same least from mid to a c1 taken group none.1 none.2 has
 
 pub some_weight : {P : Type 0} (group : ℕ) → (14 ≤ group) ⊎ ((group ≡ 0) × P) → (group ≡ 0 → ⊥) → 14 ≤ group
-some_weight group (inl some) other = some
-some_weight group (inr none) other = absurd (other none.0)
+some_weight group h1 h2 = grind (arith, common_steps, nat_tests)
 
 pub no_weight : {P : Type 0} (group : ℕ) → (14 ≤ group) ⊎ ((group ≡ 0) × P) → group ≡ 0 → P
-no_weight group (inl some) is = absurd (omega (arith, some, is))
-no_weight group (inr none) is = none.1
+no_weight group h1 h2 = grind (arith, common_steps, nat_tests)

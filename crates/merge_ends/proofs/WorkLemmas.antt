@@ -1,10 +1,13 @@
 -- What a merge does to the disk and to the free-page map, call by call.
-use Rattle.std.proofs.Common.{◌≡◌, ◌+◌, ◌≤◌, ℕ, Bool, List, Option, Result, sym, subst, arith}
+use Rattle.std.proofs.lemmas.Bool.Decides.{nat_tests}
+use Rattle.std.proofs.lemmas.Grind.{common_steps}
+use Rattle.std.proofs.Common.{◌≡◌, ◌+◌, ◌≤◌, ℕ, Bool, List, Option, Result, arith}
 use Rattle.std.specs.Prelude.{IsTrue}
 use Rattle.disk_trait.specs.Disk.{DiskState}
-use Rattle.disk_trait.specs.Effects.{affects_wider, affects_run, affects_start, affects_counted}
-use Rattle.disk_trait.specs.Moments.{IsTimed, no_sync_run, no_sync_start}
-use Rattle.disk_trait.specs.Reads.{OnlyReads, only_reads_same}
+use Rattle.disk_trait.proofs.EffectLemmas.{affects_wider, affects_run, affects_start, affects_counted}
+use Rattle.disk_trait.specs.Moments.{IsTimed}
+use Rattle.disk_trait.proofs.MomentLemmas.{no_sync_run, no_sync_start}
+use Rattle.disk_trait.specs.Reads.{OnlyReads}
 use Rattle.disk_trait.specs.Region.{IsWithin}
 use Rattle.blsm_model.specs.Sizes.{Sizes}
 use Rattle.blsm_model.specs.declared.key.Key.{Key}
@@ -14,7 +17,7 @@ use Rattle.bloom_bits.specs.Fences.{FencesState}
 use Rattle.record_delta.specs.Entries.{Entries}
 use Rattle.page_space.specs.Space.{SpaceState}
 use Rattle.page_file.specs.File.{Writes}
-use Rattle.run_writer.specs.Writer.{WriterState, role_region, Stands, HasPushed}
+use Rattle.run_writer.specs.Writer.{WriterState, role_region, HasPushed}
 use Rattle.merge_ends.specs.Output.{TakesPages, HasRoom, HasRun}
 use Rattle.merge_ends.specs.Quantum.{Works}
 use Rattle.merge_ends.proofs.OutputLemmas.{takes_none, takes_run}
@@ -69,34 +72,14 @@ works_written sizes role most space after old mid new result timed calm so_far t
 
 pub pushed_read : (sizes : Sizes) (honest : Bool) (old new : List ℕ) (space : SpaceState) (writer : WriterState) (filter : BitState) (fences : FencesState) (out : Entries) → (IsTrue honest → new ≡ old)
     → HasPushed sizes honest old space writer filter fences out → HasPushed sizes honest new space writer filter fences out
-pushed_read sizes honest old new space writer filter fences out same has = record {
-  run = has.run;
-  held = has.held;
-  is_run = has.is_run;
-  guide = has.guide;
-  one_a_page = has.one_a_page;
-  counted = has.counted;
-  tagged = has.tagged;
-  entries_are = has.entries_are;
-  stands = λ told. subst (λ (file : List ℕ). Stands sizes has.run file) (sym (same told)) (has.stands told);
-}
+pushed_read sizes honest old new space writer filter fences out h1 h2 = grind (arith, common_steps, nat_tests)
 
 -- and is, behind what only read
 pub run_read : {sizes : Sizes} {end most : ℕ} {old new : DiskState} {space : SpaceState} {writer : WriterState} {filter : BitState} {fences : FencesState} {at : Option Key} → OnlyReads end most old new
     → HasRun sizes old.is_honest old.bytes space writer filter fences at → HasRun sizes new.is_honest new.bytes space writer filter fences at
-run_read {sizes} {end} {most} {old} {new} {space} {writer} {filter} {fences} reads has = record {
-  out = has.out;
-  pushed = subst (λ (h : Bool). HasPushed sizes h new.bytes space writer filter fences has.out) (sym reads.effect.goes_on.is_honest)
-      (pushed_read sizes old.is_honest old.bytes new.bytes space writer filter fences has.out (λ told. only_reads_same reads told) has.pushed);
-  ends = has.ends;
-}
+run_read h1 h2 = grind (arith, common_steps, nat_tests)
 
 -- ---- room
 
 pub room_less : (space : SpaceState) (writer : WriterState) (more left : ℕ) → left ≤ more → HasRoom space writer more → HasRoom space writer left
-room_less space writer more left less room = record {
-  live = room.live;
-  share = room.share;
-  within = room.within;
-  room = omega (arith, room.room, less);
-}
+room_less space writer more left h1 h2 = grind (arith, common_steps, nat_tests)

@@ -5,7 +5,7 @@ use crate::rich::{KEYS, fill_c1x, fill_c2};
 use crate::samples::{add, del, key_of, long, put};
 use crate::stops::calls_of;
 use crate::stores::{admit, made, make, open, quickest, report, work};
-use blsm_model::Annals;
+use blsm_model::{Annals, Op};
 use disk_mem::MemDisk;
 use std::alloc::Global;
 use std::process::Abort;
@@ -51,7 +51,12 @@ fn make_deep(rt: &impl Abort, alloc: Global) -> Core<MemDisk> {
 fn get_from(rt: &impl Abort, alloc: Global, numbers: &[usize]) -> (Annals, u64) {
     let mut core = make_deep(rt, alloc);
     for number in numbers {
-        make(alloc, &mut core, 0, Kind::Get(key_of(rt, *number)));
+        make(
+            alloc,
+            &mut core,
+            0,
+            Kind::Look(Op::Get(key_of(rt, *number))),
+        );
     }
     let (mut disk, annals, totals) = core.end();
     assert_that(rt, totals.stopped.is_none());

@@ -91,7 +91,7 @@ fn get_first(rt: &impl Abort, alloc: Global, keys: usize, last: u8) -> (Annals, 
             alloc,
             &mut core,
             seat_of(number),
-            Kind::Get(wide_key(rt, number, last)),
+            Kind::Look(Op::Get(wide_key(rt, number, last))),
         );
     }
     let (disk, annals, _) = core.end();

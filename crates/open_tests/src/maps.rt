@@ -82,7 +82,7 @@ pub fn told_at(rt: &impl Abort, annals: &Annals, place: u32) -> Option<Value> {
 // Looks up the keys of the numbers below this.
 fn look_up(rt: &impl Abort, alloc: Global, core: &mut Core<MemDisk>, keys: usize) {
     for number in 0..keys {
-        make(alloc, core, 0, Kind::Get(key_of(rt, number)));
+        make(alloc, core, 0, Kind::Look(Op::Get(key_of(rt, number))));
     }
 }
 

@@ -3,7 +3,7 @@ use crate::asserts::{assert_same, assert_that};
 use crate::maps::{Map, follow, map_of};
 use crate::samples::{Draws, add, del, draw_write, key_of, put};
 use crate::stores::{copy, made, make, open, report, smallest, steepest, work, write};
-use blsm_model::{CALLERS, Geometry};
+use blsm_model::{CALLERS, Geometry, Op};
 use disk_mem::MemDisk;
 use page_file::no_component;
 use std::alloc::Global;
@@ -25,7 +25,7 @@ fn draw_kind(rt: &impl Abort, draws: &mut Draws, seat: u32) -> Kind {
     match draws.below(20) {
         0..=6 => Kind::Admit(draw_write(rt, draws, KEYS)),
         7..=13 => Kind::Pay,
-        14..=15 => Kind::Get(key_of(rt, draws.below(KEYS) as usize)),
+        14..=15 => Kind::Look(Op::Get(key_of(rt, draws.below(KEYS) as usize))),
         16..=17 => Kind::WorkTurn,
         _ => Kind::WorkEnd(draws.below(4) as u32),
     }

@@ -23,7 +23,7 @@ use Rattle.record_delta.specs.Records.{record_of}
 use Rattle.gear_sched.specs.Gears.{first_debt, second_debt}
 use Rattle.pacing.specs.Pace.{Pace, with_write as pace_with_write}
 use Rattle.pacing.specs.Kept.{IsPaced}
-use Rattle.pacing.specs.Steps.{Admit, MayAdmit, Lands, deep_settled, ready_for as pace_ready_for}
+use Rattle.pacing.specs.Steps.{Admit, Lands, deep_settled, ready_for as pace_ready_for}
 use Rattle.pacing.proofs.Runs.{step_keeps}
 use Rattle.pacing.proofs.Promises.{moves_keep}
 use Rattle.record_delta.specs.Entries.{AreSorted, Entries, entries_weight, with_record}

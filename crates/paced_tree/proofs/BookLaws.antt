@@ -80,7 +80,7 @@ pay_books book s pace seat quantum paced may some k = by (plan_of (with_forgiven
 -- the numbers that the book sees, after a turn
 turn_books_as : (book : Book) (s : Seats) (pace : Pace) (seat : ℕ) (quantum : Quantum) (move : Move) → IsBooked pace.gears.sizes book s.quanta s.work (pace.work + quanta_of_move move) pace.admitted pace.writes pace.weights pace.quanta
     → IsBookOf book s (turned_by move pace seat quantum)
-turn_books_as book s pace seat quantum move zh1 = grind (arith, common_steps, nat_tests)
+turn_books_as book s pace seat quantum move h1 = grind (arith, common_steps, nat_tests)
 
 pub turn_books : TurnBooks
 turn_books book s pace seat quantum now caller places is k =

@@ -92,10 +92,10 @@ turn_counts m p seat Well k c = counted_turn p (is_worker_seat seat) seat (quant
 turn_counts m p seat NoRoom k c = counted_turn p (is_worker_seat seat) seat (quantum_for_move (turn_of (is_worker_seat seat) p) m) k c
 
 unless_counts : (o : Option Why) (p q : Pace) → IsCounted p → IsCounted q → IsCounted (unless_stopped o p q)
-unless_counts o p q zh1 zh2 = grind (arith, common_steps, nat_tests)
+unless_counts o p q h1 h2 = grind (arith, common_steps, nat_tests)
 
 either_counts : (b : Bool) (p q : Pace) → IsCounted p → IsCounted q → IsCounted (cond b p q)
-either_counts b p q zh1 zh2 = grind (arith, common_steps, nat_tests)
+either_counts b p q h1 h2 = grind (arith, common_steps, nat_tests)
 
 -- a tree that runs after a step ran before it
 ran : (m : Machine) (seat : ℕ) (k : Kind) (outcome : Outcome) → (stepped_as m seat k outcome).state.stopped ≡ None → m.stopped ≡ None
@@ -110,12 +110,7 @@ step_counts m p seat k outcome sound way g counts none = by k none (counts (ran 
     by kind.Pay none c = unless_counts m.stopped p (after_payment m p seat outcome) c (payment_counts m p seat outcome c)
     by kind.WorkTurn none c = unless_counts m.stopped p (after_turn m p seat outcome) c (turn_counts m p seat outcome g.paced c)
     by kind.WorkerTurn none c = unless_counts m.stopped p (cond (is_closed m) p (after_turn m p seat outcome)) c (either_counts (is_closed m) p (after_turn m p seat outcome) c (turn_counts m p seat outcome g.paced c))
-    by (kind.Get key) none c = c
-    by (kind.Hold low high) none c = c
-    by (kind.Next n) none c = c
-    by kind.Release none c = c
-    by (kind.WorkEnd n) none c = c
-    by kind.Leave none c = c
+    by k none c = c
 
 -- ---- also where an admission failed
 
@@ -126,7 +121,7 @@ step_few m p seat k outcome sound way g counts few = by k
     unless q then = grind (arith, common_steps, nat_tests)
 
     either : (b : Bool) (q : Pace) → AreFew q → AreFew (cond b p q)
-    either b q zh1 = grind (arith, common_steps, nat_tests)
+    either b q h1 = grind (arith, common_steps, nat_tests)
 
     admits : (op : Op) → IsCounted p → (e : Outcome) → AreFew (after_admission m p seat op (total_weight (writes_of op)) e)
     admits op c Well = counted_few (admitted seat op (writes_of op) (ready_for (total_weight (writes_of op)) m) p) (written_counts m p seat op sound way g c (writes_of op) (writes_once op))
@@ -145,9 +140,4 @@ step_few m p seat k outcome sound way g counts few = by k
     by kind.Pay = unless (after_payment m p seat outcome) (λ runs. counted_few (after_payment m p seat outcome) (payment_counts m p seat outcome (counts runs)))
     by kind.WorkTurn = unless (after_turn m p seat outcome) (λ runs. counted_few (after_turn m p seat outcome) (turn_counts m p seat outcome g.paced (counts runs)))
     by kind.WorkerTurn = unless (cond (is_closed m) p (after_turn m p seat outcome)) (λ runs. either (is_closed m) (after_turn m p seat outcome) (counted_few (after_turn m p seat outcome) (turn_counts m p seat outcome g.paced (counts runs))))
-    by (kind.Get key) = few
-    by (kind.Hold low high) = few
-    by (kind.Next n) = few
-    by kind.Release = few
-    by (kind.WorkEnd n) = few
-    by kind.Leave = few
+    by k = few

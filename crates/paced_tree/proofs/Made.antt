@@ -5,7 +5,7 @@ use Rattle.std.proofs.lemmas.Bool.Decides.{nat_tests}
 use Rattle.std.specs.Prelude.{◌==◌, nat_lt, nat_le}
 use Rattle.std.specs.List.{AllByRecursion}
 use Rattle.std.proofs.lemmas.Bool.{leb-true}
-use Rattle.blsm_model.specs.Format.{callers, least_weight, most_weight}
+use Rattle.blsm_model.specs.Format.{callers, least_weight, most_weight, most_turns}
 use Rattle.blsm_model.specs.Geometry.{charge_limit}
 use Rattle.blsm_model.specs.Values.{key_of, weight_of}
 use Rattle.blsm_model.specs.Histories.{writes_of}
@@ -33,8 +33,8 @@ use Rattle.tree_machine.specs.Layers.{IsSound, HasWay}
 use Rattle.tree_machine.specs.Machine.{Machine, Worked, seats, charge, is_caller, is_closed, work_of}
 use Rattle.tree_machine.specs.Moves.{goes_to_a, with_write, stop, pass_quantum, deep_quantum}
 use Rattle.tree_machine.specs.Steps as machine
-use Rattle.tree_machine.specs.Steps.{Outcome, Well, FailedAfter, Broken, NoRoom, Paid, Choice, SwapDeep, SwapPass, DeepQuantum, PassQuantum, Begin, Rotate, Rest, ended_as, swaps_due, forgive, ready_for, deep_swapped, replied, unless_stopped as machine_unless, admit, admit_fitting, pay, pay_running, pay_forgiven, pay_planned, do_pay, do_turn, work_turning, worker_turning}
-use Rattle.tree_machine.specs.Plays.{has_room, is_between, may_note, is_even, most_turns, may, stepped_as}
+use Rattle.tree_machine.specs.Steps.{Outcome, Well, FailedAfter, Broken, NoRoom, Paid, Choice, ended_as, swaps_due, forgive, ready_for, deep_swapped, replied, unless_stopped as machine_unless, admit, admit_fitting, pay, pay_forgiven, pay_planned, do_pay, do_turn, work_turning, worker_turning}
+use Rattle.tree_machine.specs.Plays.{has_room, is_between, may_note, is_even, may, stepped_as}
 use Rattle.tree_machine.specs.Stands.{FitsFormat, Stands, WritesFit}
 use Rattle.tree_machine.proofs.LightLemmas.{write_is_light}
 use Rattle.tree_machine.proofs.FoldLemmas.{both_hold}
@@ -159,7 +159,7 @@ turn_made m l seat is_worker outcome sound g is settled = by outcome
     worked = (quantum_for_move (turn_of (is_worker_seat seat) (with_numbers_of m l)) m, record { settled = settled; fits = fits }, refl)
 
     chosen_made : (c : Choice) → due is_worker m l ≡ c → IsTurnedBy (machine.Turn (ended_as c)) seat (with_numbers_of m l) (after_turn m (with_numbers_of m l) seat Well)
-    chosen_made c zh1 = grind (arith, common_steps, nat_tests, moves, worked)
+    chosen_made c h1 = grind (arith, common_steps, nat_tests, moves, worked)
 
     by : (e : Outcome) → IsTurnedBy (machine.Turn (do_turn (due is_worker m l) e seat m).ended) seat (with_numbers_of m l) (after_turn m (with_numbers_of m l) seat e)
     by (FailedAfter commits faults) = refl
@@ -202,12 +202,7 @@ made_of opening m l seat kind.WorkerTurn outcome stands way g ok fits = by m.sto
     by None false =
         let worker = leb-true callers seat (both_hold (nat_le callers seat) (nat_lt seat seats) ok).0 in
         turn_made m l seat true outcome stands.sound g (a_worker seat worker) (no_desk m l seat g.paced worker)
-made_of opening m l seat (kind.Get key) outcome stands way g ok fits = refl
-made_of opening m l seat (kind.Hold low high) outcome stands way g ok fits = refl
-made_of opening m l seat (kind.Next n) outcome stands way g ok fits = refl
-made_of opening m l seat kind.Release outcome stands way g ok fits = refl
-made_of opening m l seat (kind.WorkEnd n) outcome stands way g ok fits = refl
-made_of opening m l seat kind.Leave outcome stands way g ok fits = refl
+made_of opening m l seat k outcome stands way g ok fits = refl
 
 pub step_made : (opening : List (Key × Value)) (m : Machine) (p : Pace) (seat : ℕ) (k : Kind) (outcome : Outcome) → Stands opening m → HasWay m → Goes m p → may m seat k ≡ true → WritesFit k
     → IsMadeBy seat k (stepped_as m seat k outcome).answer p (pace_after m p seat k outcome)

@@ -63,7 +63,7 @@ pass_settled_of m p sound g = of_pace (λ q. IsPaceOf (pass_swapped m) (pass_set
     subst (λ b. IsPaceOf (pass_swapped m) (cond b (with_swap_and_rotation (with_numbers_of m l)) (with_numbers_of m l))) (pass_test m sound) (by l h (pass_done m)))
   where
     by : (l : Pace) → IsPaceOf m (with_numbers_of m l) → (b : Bool) → IsPaceOf (cond b (swap_pass m) m) (cond b (with_swap_and_rotation (with_numbers_of m l)) (with_numbers_of m l))
-    by l zh1 b = grind (arith, common_steps, nat_tests)
+    by l h1 b = grind (arith, common_steps, nat_tests)
 
 begun_of : (m : Machine) (p : Pace) (w : ℕ) → IsPaceOf m p → IsPaceOf (pass_begun_for w m) (begun_for p w)
 begun_of m p w g = of_pace (λ q. IsPaceOf (pass_begun_for w m) (begun_for q w)) (λ q. IsPaceOf m q) m p g.numbers g (λ l h. by l h (not m.gears.pass && nat_lt m.gears.sizes.low (m.spring + w)))

@@ -34,7 +34,6 @@ use Rattle.paced_tree.specs.After.{pace_after}
 use Rattle.blsm_model.specs.Book.{Book}
 use Rattle.blsm_model.specs.Histories.{writes_of}
 use Rattle.blsm_model.specs.Legal.{total_weight, is_del}
-use Rattle.tree_machine.specs.Steps.{is_write_by, last_write}
 use Rattle.paced_tree.specs.Calls.{IsCall, IsRight}
 use Rattle.paced_tree.specs.Kept.{AreComponents, IsPacedTree, paced_one, paced_all, AllFit}
 use Rattle.paced_tree.specs.Bounds.{IsBounded, KeepsPace, PassKeepsUp, NoPassRuns, DeepKeepsUp, quanta_owed_by}

@@ -1,12 +1,11 @@
 -- The counts of merges.
-use Rattle.std.proofs.Common.{◌≡◌, ◌⊎◌, ◌∙◌, refl, sym, ℕ, ◌+◌, ◌<◌, ◌≤◌, ◌&&◌, ◌||◌, not, Bool, true, false, cond, eqb, leb, ltb, List, [], ◌∷◌, inl, inr, arith}
+use Rattle.std.proofs.Common.{◌≡◌, ◌⊎◌, refl, ℕ, ◌+◌, ◌<◌, ◌≤◌, ◌&&◌, ◌||◌, not, Bool, true, false, cond, eqb, ltb, List, [], ◌∷◌, inl, inr, arith}
 use Rattle.std.proofs.lemmas.Grind.{common_steps}
 use Rattle.std.proofs.lemmas.Bool.Decides.{nat_tests}
-use Rattle.std.proofs.lemmas.Bool.{cases_Bool, false≢true, true≢false, cases_lt, cond_both, and_parts, not-true, eqb-true, eqb-false, leb-true, ltb-true, both_ways}
+use Rattle.std.proofs.lemmas.Bool.{cases_Bool, false≢true, true≢false, cases_lt, cond_both, and_parts, not-true, eqb-true, eqb-false, ltb-true}
 use Rattle.blsm_model.specs.Sizes.{Sizes}
 use Rattle.blsm_model.specs.Geometry.{c1_mark}
 use Rattle.gear_sched.specs.declared.Plan.{Plan}
-use Rattle.gear_sched.specs.declared.Plan.TheVariants.{Snow, Deep, Nothing}
 use Rattle.pacing.specs.Pace.{Pace, Quantum, opened, pass_done, deep_done, with_deep_swapped, with_pass_swapped, with_rotation, with_swap_and_rotation, with_pass, with_write, with_snow, with_deep, with_forgiven}
 use Rattle.pacing.specs.Kept.{IsPaced}
 use Rattle.gear_sched.specs.Gears.{deep_is_behind}
@@ -18,61 +17,19 @@ use Rattle.pacing.proofs.Turns.{deep_left, no_deep_left}
 use Rattle.pacing.proofs.Runs.{step_keeps, opened_paced}
 
 deep_swap : (p : Pace) → IsCounted p → p.gears.deep ≡ true → IsCounted (with_deep_swapped p)
-deep_swap p c merges = record {
-  begins = c.begins;
-  running = c.running;
-  resting = c.resting;
-  turns = c.turns;
-  turn_to_come = c.turn_to_come;
-  merging = λ e. absurd (false≢true e);
-  unmerged = λ e. let h = c.merging merges in omega arith;
-}
+deep_swap p h1 h2 = grind (arith, common_steps, nat_tests)
 
 pass_swap : (p : Pace) → IsPaced p → IsCounted p → p.gears.pass ≡ true → IsCounted (with_pass_swapped p)
-pass_swap p k c runs =
-    let run = k.within.running runs in
-    let counts = c.running runs in
-    record {
-      begins = c.begins;
-      running = λ e. absurd (false≢true e);
-      resting = λ e. (counts.0, λ some. counts.1 (omega arith));
-      turns = let h = c.turns in omega arith;
-      turn_to_come = λ some. c.turns;
-      merging = c.merging;
-      unmerged = c.unmerged;
-    }
+pass_swap p h1 h2 h3 = grind (arith, common_steps, nat_tests)
 
 rotation : (p : Pace) → IsCounted p → p.gears.pass ≡ false → p.gears.deep ≡ false → p.rotations ≤ p.passes → IsCounted (with_rotation p)
-rotation p c no_pass no_deep few = record {
-  begins = c.begins;
-  running = c.running;
-  resting = c.resting;
-  turns = omega arith;
-  turn_to_come = λ some. absurd (omega arith);
-  merging = λ e. let h = c.unmerged no_deep in omega arith;
-  unmerged = λ e. absurd (true≢false e);
-}
+rotation p h1 h2 h3 h4 = grind (arith, common_steps, nat_tests)
 
 swap_and_rotation : (p : Pace) → IsPaced p → IsCounted p → p.gears.pass ≡ true → (c1_mark p.gears.sizes ≤ p.made1 → p.gears.deep ≡ false) → IsCounted (with_swap_and_rotation p)
-swap_and_rotation p k c runs way =
-    cond_both (leb (c1_mark p.gears.sizes) p.made1) (with_rotation (with_pass_swapped p)) (with_pass_swapped p) IsCounted
-    (λ full. rotation (with_pass_swapped p) (pass_swap p k c runs) refl (way (leb-true _ _ full)) (let h = c.turns in omega arith))
-    (λ small. pass_swap p k c runs)
+swap_and_rotation p h1 h2 h3 h4 = grind (arith, common_steps, nat_tests)
 
 begin : (p : Pace) → IsPaced p → IsCounted p → p.gears.pass ≡ false → 0 < p.spring → IsCounted (with_pass p)
-begin p k c rests some =
-    let rest = k.within.resting rests in
-    let counts = c.resting rests in
-    let fewer = counts.1 some in
-    record {
-      begins = omega arith;
-      running = λ e. (let h = counts.0 in omega arith, λ behind. absurd (let h = rest.no_lane in omega arith));
-      resting = λ e. absurd (true≢false e);
-      turns = c.turns;
-      turn_to_come = c.turn_to_come;
-      merging = c.merging;
-      unmerged = c.unmerged;
-    }
+begin p h1 h2 h3 h4 = grind (arith, common_steps, nat_tests)
 
 -- what an admission's moves leave before its write, which is still to be counted
 record IsReadyCount (p : Pace) : Type 0 where
@@ -85,61 +42,23 @@ record IsReadyCount (p : Pace) : Type 0 where
   pub unmerged : p.gears.deep ≡ false → p.deeps ≡ p.rotations
 
 begin_or_not : (p : Pace) → IsPaced p → IsCounted p → (test : Bool) → (test ≡ true → p.gears.pass ≡ false) → IsReadyCount (cond test (with_pass p) p)
-begin_or_not p k c true rests =
-    let rest = k.within.resting (rests refl) in
-    let counts = c.resting (rests refl) in
-    record {
-      begins = inr (refl, refl, rest.no_lane, let h = c.begins in omega arith);
-      running = λ e. let h = counts.0 in omega arith;
-      resting = λ e. absurd (true≢false e);
-      turns = c.turns;
-      turn_to_come = c.turn_to_come;
-      merging = c.merging;
-      unmerged = c.unmerged;
-    }
-begin_or_not p k c false rests = record {
-  begins = inl c.begins;
-  running = λ e. let h = c.running e in h.0;
-  resting = λ e. let h = c.resting e in h.0;
-  turns = c.turns;
-  turn_to_come = c.turn_to_come;
-  merging = c.merging;
-  unmerged = c.unmerged;
-}
+begin_or_not p h1 h2 test h3 = grind (arith, common_steps, nat_tests)
 
 begins_after : (p : Pace) → IsReadyCount p → p.begun ≤ p.writes + 1
 begins_after p c = elim c.begins [ inl few ↦ omega arith | inr fresh ↦ fresh.3 ]
 
-behind_after : (p : Pace) (w : ℕ) (ahead : Bool) (weight : ℕ) → IsReadyCount p → Lands p w ahead weight → 0 < cond ahead p.lane_b (p.lane_b + w) → p.begun < p.writes + 1
-behind_after p w ahead weight h1 h2 h3 = grind (arith, common_steps, nat_tests)
-
-rests_after : (p : Pace) → IsReadyCount p → p.gears.pass ≡ false → p.begun < p.writes + 1
-rests_after p c e = elim c.begins [ inl few ↦ omega arith | inr fresh ↦ absurd (both_ways _ e fresh.0) ]
-
 write : (p : Pace) (seat w : ℕ) (ahead : Bool) (weight : ℕ) → IsReadyCount p → Lands p w ahead weight → IsCounted (with_write p seat w ahead weight)
-write p seat w ahead weight c lands = record {
-  begins = begins_after p c;
-  running = λ e. (c.running e, behind_after p w ahead weight c lands);
-  resting = λ e. (c.resting e, λ some. rests_after p c e);
-  turns = c.turns;
-  turn_to_come = c.turn_to_come;
-  merging = c.merging;
-  unmerged = c.unmerged;
-}
+write p seat w ahead weight h1 h2 = grind (arith, common_steps, nat_tests)
 
 -- a deep merge that isn't done keeps a full run from being swapped in
 pub way : (p : Pace) → IsPaced p → p.gears.pass ≡ true → p.gears.pass_taken ≡ p.a + p.c1 → (p.gears.deep ≡ true → p.gears.deep_taken < p.c1x + p.c2) → c1_mark p.gears.sizes ≤ p.made1 → p.gears.deep ≡ false
 way p k runs done going full = grind (arith, common_steps, nat_tests, cases_Bool, makes_way)
 
 settle_deep : (p : Pace) → IsCounted p → IsCounted (deep_settled p)
-settle_deep p c =
-    cond_both (p.gears.deep && deep_done p) (with_deep_swapped p) p IsCounted (λ e. let parts = and_parts p.gears.deep (deep_done p) e in deep_swap p c parts.0) (λ e. c)
+settle_deep p h1 = grind (arith, common_steps, nat_tests)
 
 settle_pass : (p : Pace) → IsPaced p → IsCounted p → (p.gears.deep ≡ true → p.gears.deep_taken < p.c1x + p.c2) → IsCounted (pass_settled p)
-settle_pass p k c going =
-    cond_both (p.gears.pass && pass_done p) (with_swap_and_rotation p) p IsCounted
-    (λ e. let parts = and_parts p.gears.pass (pass_done p) e in swap_and_rotation p k c parts.0 (way p k parts.0 (eqb-true _ _ parts.1) going))
-    (λ e. c)
+settle_pass p h1 h2 h3 = grind (arith, common_steps, nat_tests, cond_both, and_parts, swap_and_rotation, way, eqb-true)
 
 pub admit : (p : Pace) (seat w : ℕ) (ahead : Bool) (weight : ℕ) → IsPaced p → IsCounted p → Lands (ready_for p w) w ahead weight → IsCounted (with_write (ready_for p w) seat w ahead weight)
 admit p seat w ahead weight k c lands =
@@ -151,23 +70,10 @@ admit p seat w ahead weight k c lands =
     (λ e. let parts = and_parts (not (pass_settled (deep_settled p)).gears.pass) (ltb (pass_settled (deep_settled p)).gears.sizes.low ((pass_settled (deep_settled p)).spring + w)) e in not-true _ parts.0)) lands
 
 same_count : (p q : Pace) → IsCounted p → q.gears.pass ≡ p.gears.pass → q.gears.deep ≡ p.gears.deep → q.begun ≡ p.begun → q.writes ≡ p.writes → q.passes ≡ p.passes → q.rotations ≡ p.rotations → q.deeps ≡ p.deeps → q.lane_b ≡ p.lane_b → q.spring ≡ p.spring → q.c1 ≡ p.c1 → IsCounted q
-same_count p q c e1 e2 e3 e4 e5 e6 e7 e8 e9 e10 =
-    let begins = c.begins in
-    let turns = c.turns in
-    record {
-      begins = omega arith;
-      running = λ e. let h = c.running (sym e1 ∙ e) in let same = h.0 in (omega arith, λ some. let less = h.1 (omega arith) in omega arith);
-      resting = λ e. let h = c.resting (sym e1 ∙ e) in let same = h.0 in (omega arith, λ some. let less = h.1 (omega arith) in omega arith);
-      turns = omega arith;
-      turn_to_come = λ some. let h = c.turn_to_come (omega arith) in omega arith;
-      merging = λ e. let h = c.merging (sym e2 ∙ e) in omega arith;
-      unmerged = λ e. let h = c.unmerged (sym e2 ∙ e) in omega arith;
-    }
+same_count p q h1 h2 h3 h4 h5 h6 h7 h8 h9 h10 h11 = grind (arith, common_steps, nat_tests)
 
 pub pay : (plan : Plan) (p : Pace) (seat : ℕ) (quantum : Quantum) → IsCounted p → IsCounted (paid_by plan (with_forgiven p seat) seat quantum)
-pay Snow p seat quantum c = same_count p _ c refl refl refl refl refl refl refl refl refl refl
-pay Deep p seat quantum c = same_count p _ c refl refl refl refl refl refl refl refl refl refl
-pay Nothing p seat quantum c = same_count p _ c refl refl refl refl refl refl refl refl refl refl
+pay plan p seat quantum h1 = grind (arith, common_steps, nat_tests)
 
 -- what a turn's move counts
 abbrev Counts : Pace → ℕ → Quantum → Move → Type 0
@@ -206,26 +112,13 @@ all_count pace [] k c may = c
 all_count pace (event ∷ events) k c may = all_count (after pace event) events (step_keeps pace event k may.0) (step_counts pace event k c may.0) may.1
 
 pub opened_counted : (sizes : Sizes) (c1 c2 : ℕ) → IsCounted (opened sizes c1 c2)
-opened_counted sizes c1 c2 = record {
-  begins = omega arith;
-  running = λ e. absurd (false≢true e);
-  resting = λ e. (refl, λ some. absurd (omega arith));
-  turns = omega arith;
-  turn_to_come = λ some. omega arith;
-  merging = λ e. absurd (false≢true e);
-  unmerged = λ e. refl;
-}
+opened_counted sizes c1 c2 = grind (arith, common_steps, nat_tests)
 
 pub run_counts : RunCounts
 run_counts sizes c1 c2 events opening may = all_count (opened sizes c1 c2) events (opened_paced sizes c1 c2 opening) (opened_counted sizes c1 c2) may
 
 pub few_commits : FewCommits
-few_commits pace c =
-    let begins = c.begins in
-    let turns = c.turns in
-    let passes : pace.passes ≤ pace.begun = elim (cases_Bool pace.gears.pass) [ inl e ↦ let h = c.running e in let same = h.0 in omega arith | inr e ↦ let h = c.resting e in let same = h.0 in omega arith ] in
-    let deeps : pace.deeps ≤ pace.rotations = elim (cases_Bool pace.gears.deep) [ inl e ↦ let h = c.merging e in omega arith | inr e ↦ let h = c.unmerged e in omega arith ] in
-    omega arith
+few_commits = grind (arith, common_steps, nat_tests)
 
 pub merged : (p : Pace) → AreFew p → p.deeps ≤ p.rotations
 merged p few = elim (cases_Bool p.gears.deep) [ inl e ↦ let h = few.merging e in omega arith | inr e ↦ let h = few.unmerged e in omega arith ]
@@ -234,14 +127,7 @@ pub passed : (p : Pace) → AreFew p → p.passes ≤ p.begun
 passed p few = elim (cases_Bool p.gears.pass) [ inl e ↦ let h = few.running e in omega arith | inr e ↦ let h = few.resting e in omega arith ]
 
 pub counted_few : CountedAreFew
-counted_few p c = record {
-  begins = let h = c.begins in omega arith;
-  running = λ e. let h = c.running e in h.0;
-  resting = λ e. let h = c.resting e in h.0;
-  turns = c.turns;
-  merging = c.merging;
-  unmerged = c.unmerged;
-}
+counted_few = grind (arith, common_steps, nat_tests)
 
 ready_few : (p : Pace) → IsReadyCount p → AreFew p
 ready_few p c = record { begins = begins_after p c; running = c.running; resting = c.resting; turns = c.turns; merging = c.merging; unmerged = c.unmerged }

@@ -1,15 +1,13 @@
 -- The fronts of the log's lanes are within the opening's bounds.
-use Rattle.std.proofs.Common.{◌≡◌, refl, ap, ℕ, ◌+◌, ◌≤◌, ◌&&◌, ◌||◌, not, Bool, true, false, cond, eqb, leb, ltb, inl, inr, arith}
+use Rattle.std.proofs.Common.{◌≡◌, refl, ℕ, ◌+◌, ◌&&◌, ◌||◌, not, Bool, true, cond, ltb, arith}
 use Rattle.std.proofs.lemmas.Grind.{common_steps}
 use Rattle.std.proofs.lemmas.Bool.Decides.{nat_tests}
-use Rattle.std.proofs.lemmas.Bool.{cases_Bool, cond_both, and_parts, eqb-true}
-use Rattle.blsm_model.specs.Geometry.{c1_mark, high_mark, capacity}
+use Rattle.std.proofs.lemmas.Bool.{cond_both, and_parts, eqb-true}
 use Rattle.gear_sched.specs.Gears.{deep_is_behind}
 use Rattle.gear_sched.specs.declared.Plan.{Plan}
-use Rattle.gear_sched.specs.declared.Plan.TheVariants.{Snow, Deep, Nothing}
-use Rattle.pacing.specs.Pace.{Pace, Quantum, held, pass_done, deep_done, with_deep_swapped, with_pass_swapped, with_rotation, with_swap_and_rotation, with_pass, with_write, with_forgiven}
+use Rattle.pacing.specs.Pace.{Pace, Quantum, pass_done, deep_done, with_deep_swapped, with_pass_swapped, with_rotation, with_swap_and_rotation, with_pass, with_write, with_forgiven}
 use Rattle.pacing.specs.Kept.{IsPaced}
-use Rattle.pacing.specs.Steps.{Admit, Pay, Turn, Lands, Move, SwapDeep, SwapPass, TakeDeep, TakeSnow, Begin, Rotate, Idle, turn_of, turn_at_rest, turned_by, may_begin, paid_by, plan_of, is_worker_seat, deep_settled, pass_settled, ready_for}
+use Rattle.pacing.specs.Steps.{Admit, Pay, Turn, Lands, Move, SwapDeep, SwapPass, TakeDeep, TakeSnow, turn_of, turn_at_rest, turned_by, paid_by, plan_of, is_worker_seat, deep_settled, pass_settled, ready_for}
 use Rattle.pacing.specs.Fronts.{Fronts, fronts_turned, fronts_written, fronts_ready, fronts_by, AreFronts, OpeningFronts, StepFronts, MovesFronts, FrontsFit}
 use Rattle.pacing.proofs.Admissions.{deep_settled_kept}
 use Rattle.pacing.proofs.Runs.{step_keeps}
@@ -17,41 +15,22 @@ use Rattle.pacing.proofs.Runs.{step_keeps}
 -- ---- moves
 
 deep_swap : (p : Pace) (f : Fronts) → IsPaced p → AreFronts p f → p.gears.deep ≡ true → AreFronts (with_deep_swapped p) f
-deep_swap p f k a merges =
-    let merge = k.within.merging merges in
-    record { table = a.table; high = a.high; full = omega (arith, a.full, merge.made, merge.taken); next = a.next; behind = a.behind }
+deep_swap p f h1 h2 h3 = grind (arith, common_steps, nat_tests)
 
 pass_swap : (p : Pace) (f : Fronts) → IsPaced p → AreFronts p f → p.gears.pass ≡ true → p.gears.pass_taken ≡ p.a + p.c1 → AreFronts (with_pass_swapped p) (fronts_turned f)
-pass_swap p f k a runs done =
-    let run = k.within.running runs in
-    let held_is : held p ≡ p.gears.pass_memory + p.gears.pass_admitted = ap (λ b. cond b (p.gears.pass_memory + p.gears.pass_admitted) (p.a + p.b)) runs in
-    record {
-      table = a.next;
-      high = omega (arith, a.behind, run.behind, run.since);
-      full = omega (arith, a.behind, run.made, done, run.tables, held_is, k.within.full);
-      next = omega arith;
-      behind = omega arith;
-    }
+pass_swap p f h1 h2 h3 h4 = grind (arith, common_steps, nat_tests)
 
 rotation : (p : Pace) (f : Fronts) → AreFronts p f → AreFronts (with_rotation p) f
 rotation p f a = record { table = a.table; high = a.high; full = omega (arith, a.full); next = a.next; behind = a.behind }
 
 swap_and_rotation : (p : Pace) (f : Fronts) → IsPaced p → AreFronts p f → p.gears.pass ≡ true → p.gears.pass_taken ≡ p.a + p.c1 → AreFronts (with_swap_and_rotation p) (fronts_turned f)
-swap_and_rotation p f k a runs done =
-    cond_both (leb (c1_mark p.gears.sizes) p.made1) (with_rotation (with_pass_swapped p)) (with_pass_swapped p) (λ q. AreFronts q (fronts_turned f))
-    (λ full. rotation (with_pass_swapped p) (fronts_turned f) (pass_swap p f k a runs done))
-    (λ small. pass_swap p f k a runs done)
+swap_and_rotation p f h1 h2 h3 h4 = grind (arith, common_steps, nat_tests)
 
 settle_deep : (p : Pace) (f : Fronts) → IsPaced p → AreFronts p f → AreFronts (deep_settled p) f
-settle_deep p f k a =
-    cond_both (p.gears.deep && deep_done p) (with_deep_swapped p) p (λ q. AreFronts q f) (λ e. let parts = and_parts p.gears.deep (deep_done p) e in deep_swap p f k a parts.0) (λ e. a)
+settle_deep p f h1 h2 = grind (arith, common_steps, nat_tests)
 
 settle_pass : (p : Pace) (f : Fronts) → IsPaced p → AreFronts p f → AreFronts (pass_settled p) (cond (p.gears.pass && pass_done p) (fronts_turned f) f)
-settle_pass p f k a = by (p.gears.pass && pass_done p) refl
-  where
-    by : (b : Bool) → (p.gears.pass && pass_done p) ≡ b → AreFronts (cond b (with_swap_and_rotation p) p) (cond b (fronts_turned f) f)
-    by true e = let parts = and_parts p.gears.pass (pass_done p) e in swap_and_rotation p f k a parts.0 (eqb-true _ _ parts.1)
-    by false e = a
+settle_pass p f h1 h2 = grind (arith, common_steps, nat_tests)
 
 ready : (p : Pace) (w : ℕ) (f : Fronts) → IsPaced p → AreFronts p f → AreFronts (ready_for p w) (fronts_ready p f)
 ready p w f k a =
@@ -64,15 +43,8 @@ ready p w f k a =
 
 -- ---- a write
 
--- table A by itself is within the bounds
-table_fits : (q : Pace) → IsPaced q → (q.a ≤ high_mark q.gears.sizes) × (q.c1 + q.c1x + q.c2 + q.a ≤ capacity q.gears.sizes)
-table_fits q k = grind (arith, common_steps, nat_tests)
-
 write : (p : Pace) (seat w : ℕ) (ahead : Bool) (weight : ℕ) (f : Fronts) → AreFronts p f → Lands p w ahead weight → IsPaced (with_write p seat w ahead weight) → AreFronts (with_write p seat w ahead weight) (fronts_written ahead weight f)
-write p seat w true weight f a lands k =
-    let fits = table_fits (with_write p seat w true weight) k in
-    record { table = omega arith; high = omega (arith, a.high, fits.0); full = omega (arith, a.full, fits.1); next = a.next; behind = a.behind }
-write p seat w false weight f a lands k = record { table = a.table; high = a.high; full = a.full; next = omega arith; behind = omega (arith, a.next, a.behind, lands.2) }
+write p seat w ahead weight f h1 h2 h3 = grind (arith, common_steps, nat_tests)
 
 -- ---- a turn
 
@@ -80,19 +52,10 @@ abbrev Turns : Pace → ℕ → Quantum → Fronts → Move → Type 0
 Turns p seat quantum f move = AreFronts (turned_by move p seat quantum) (fronts_by move f)
 
 same : (p q : Pace) (f : Fronts) → q.a ≡ p.a → q.b ≡ p.b → q.c1 ≡ p.c1 → q.c1x ≡ p.c1x → q.c2 ≡ p.c2 → q.lane_b ≡ p.lane_b → q.gears.sizes ≡ p.gears.sizes → AreFronts p f → AreFronts q f
-same p q f e1 e2 e3 e4 e5 e6 e7 a = record {
-  table = omega (arith, e1, a.table);
-  high = omega (arith, a.high, ap high_mark e7);
-  full = omega (arith, e3, e4, e5, a.full, ap capacity e7);
-  next = omega (arith, e2, a.next);
-  behind = omega (arith, e6, a.behind);
-}
+same p q f h1 h2 h3 h4 h5 h6 h7 h8 = grind (arith, common_steps, nat_tests)
 
 turn_rests : (p : Pace) (is_worker : Bool) (seat : ℕ) (quantum : Quantum) (f : Fronts) → AreFronts p f → Turns p seat quantum f (turn_at_rest is_worker p)
-turn_rests p is_worker seat quantum f a =
-    cond_both (may_begin is_worker p) Begin (cond (not is_worker && not (eqb p.c1 0)) Rotate Idle) (Turns p seat quantum f)
-    (λ e. same p (with_pass p) f refl refl refl refl refl refl refl a)
-    (λ e. cond_both (not is_worker && not (eqb p.c1 0)) Rotate Idle (Turns p seat quantum f) (λ g. rotation p f a) (λ g. a))
+turn_rests p is_worker seat quantum f h1 = grind (arith, common_steps, nat_tests)
 
 turn : (p : Pace) (is_worker : Bool) (seat : ℕ) (quantum : Quantum) (f : Fronts) → IsPaced p → AreFronts p f → Turns p seat quantum f (turn_of is_worker p)
 turn p is_worker seat quantum f k a =
@@ -108,9 +71,7 @@ turn p is_worker seat quantum f k a =
     (λ e. turn_rests p is_worker seat quantum f a))))
 
 pay : (plan : Plan) (p : Pace) (seat : ℕ) (quantum : Quantum) (f : Fronts) → AreFronts p f → AreFronts (paid_by plan (with_forgiven p seat) seat quantum) f
-pay Snow p seat quantum f a = same p (paid_by Snow (with_forgiven p seat) seat quantum) f refl refl refl refl refl refl refl a
-pay Deep p seat quantum f a = same p (paid_by Deep (with_forgiven p seat) seat quantum) f refl refl refl refl refl refl refl a
-pay Nothing p seat quantum f a = same p (paid_by Nothing (with_forgiven p seat) seat quantum) f refl refl refl refl refl refl refl a
+pay plan p seat quantum f h1 = grind (arith, common_steps, nat_tests)
 
 -- ---- steps
 
@@ -127,12 +88,4 @@ step_fronts pace (Pay seat quantum) fronts k a may = pay (plan_of (with_forgiven
 step_fronts pace (Turn seat quantum) fronts k a may = turn pace (is_worker_seat seat) seat quantum fronts k a
 
 pub fronts_fit : FrontsFit
-fronts_fit pace fronts k a = elim (cases_Bool pace.gears.pass) [
-  | inl runs ↦
-      let run = k.within.running runs in
-      let held_is : held pace ≡ pace.gears.pass_memory + pace.gears.pass_admitted = ap (λ b. cond b (pace.gears.pass_memory + pace.gears.pass_admitted) (pace.a + pace.b)) runs in
-      record { high_a = a.high; full_a = a.full; high_b = omega (arith, a.behind, run.tables, run.begin, run.since); full_b = omega (arith, a.behind, run.tables, held_is, k.within.full) }
-  | inr rests ↦
-      let rest = k.within.resting rests in
-      record { high_a = a.high; full_a = a.full; high_b = omega (arith, a.behind, rest.no_lane, a.table, a.high); full_b = omega (arith, a.behind, rest.no_lane, a.table, a.full) }
-]
+fronts_fit = grind (arith, common_steps, nat_tests)

@@ -1,5 +1,5 @@
 -- How many quanta there can be.
-use Rattle.std.proofs.Common.{◌≡◌, ◌∙◌, refl, sym, ap, ℕ, ◌+◌, ◌*◌, ◌<◌, ◌≤◌, ◌&&◌, ◌||◌, not, Bool, true, false, cond, eqb, leb, ltb, inl, inr, arith}
+use Rattle.std.proofs.Common.{◌≡◌, refl, ap, ℕ, ◌+◌, ◌*◌, ◌<◌, ◌≤◌, ◌&&◌, ◌||◌, not, Bool, true, false, cond, eqb, leb, ltb, inl, inr, arith}
 use Rattle.std.proofs.lemmas.Grind.{common_steps}
 use Rattle.std.proofs.lemmas.Bool.Decides.{nat_tests}
 use Rattle.std.proofs.lemmas.Bool.{cases_Bool, true≢false, cases_lt, cond_both, and_parts, or_parts, not-true, not-false, eqb-true, eqb-false, leb-true}
@@ -11,7 +11,7 @@ use Rattle.gear_sched.specs.declared.Plan.{Plan}
 use Rattle.gear_sched.specs.declared.Plan.TheVariants.{Snow, Deep, Nothing}
 use Rattle.pacing.specs.Pace.{Pace, Quantum, pass_done, deep_done, pass_over, deep_over, with_deep_swapped, with_pass_swapped, with_rotation, with_swap_and_rotation, with_pass, with_snow, with_deep, with_forgiven, counted}
 use Rattle.pacing.specs.Kept.{IsPaced}
-use Rattle.pacing.specs.Steps.{Admit, Pay, Turn, FitsPlan, FitsMove, IsQuantum, Move, SwapDeep, SwapPass, TakeDeep, TakeSnow, Begin, Rotate, Idle, turn_of, turn_at_rest, turned_by, may_begin, paid_by, plan_of, is_worker_seat, deep_settled, pass_settled, ready_for}
+use Rattle.pacing.specs.Steps.{Admit, Pay, Turn, FitsPlan, FitsMove, IsQuantum, Move, SwapDeep, SwapPass, TakeDeep, TakeSnow, turn_of, turn_at_rest, turned_by, paid_by, plan_of, is_worker_seat, deep_settled, pass_settled, ready_for}
 use Rattle.pacing.specs.Spent.{IsSpent, OpeningSpends, StepSpends, MovesSpend, QuantaAreFew}
 use Rattle.pacing.proofs.Counts.{way, passed}
 use Rattle.pacing.proofs.Admissions.{deep_settled_kept}
@@ -28,52 +28,26 @@ deep_input p k = omega (arith, k.within.full)
 -- ---- moves
 
 deep_swap : (p : Pace) → IsPaced p → IsSpent p → p.gears.deep ≡ true → p.gears.deep_taken ≡ p.c1x + p.c2 → IsSpent (with_deep_swapped p)
-deep_swap p k s merges done = record {
-  some = s.some;
-  inputs = omega (arith, s.inputs, done, deep_input p k, mul-add (capacity p.gears.sizes) p.deeps 1);
-  resting = s.resting;
-  unmerged = λ e. refl;
-}
+deep_swap p h1 h2 h3 h4 = grind (arith, common_steps, nat_tests)
 
 pass_swap : (p : Pace) → IsPaced p → IsSpent p → p.gears.pass ≡ true → p.gears.pass_taken ≡ p.a + p.c1 → IsSpent (with_pass_swapped p)
-pass_swap p k s runs done = record {
-  some = s.some;
-  inputs = omega (arith, s.inputs, done, pass_input p k runs, mul-add (capacity p.gears.sizes) p.passes 1);
-  resting = λ e. refl;
-  unmerged = s.unmerged;
-}
+pass_swap p h1 h2 h3 h4 = grind (arith, common_steps, nat_tests)
 
 rotation : (p : Pace) → IsSpent p → p.gears.deep ≡ false → IsSpent (with_rotation p)
-rotation p s no_deep = record {
-  some = s.some;
-  inputs = omega (arith, s.inputs, s.unmerged no_deep);
-  resting = s.resting;
-  unmerged = λ e. refl;
-}
+rotation p h1 h2 = grind (arith, common_steps, nat_tests)
 
 swap_and_rotation : (p : Pace) → IsPaced p → IsSpent p → p.gears.pass ≡ true → p.gears.pass_taken ≡ p.a + p.c1 → (c1_mark p.gears.sizes ≤ p.made1 → p.gears.deep ≡ false) → IsSpent (with_swap_and_rotation p)
-swap_and_rotation p k s runs done free =
-    cond_both (leb (c1_mark p.gears.sizes) p.made1) (with_rotation (with_pass_swapped p)) (with_pass_swapped p) IsSpent
-    (λ full. rotation (with_pass_swapped p) (pass_swap p k s runs done) (free (leb-true _ _ full)))
-    (λ small. pass_swap p k s runs done)
+swap_and_rotation p h1 h2 h3 h4 h5 = grind (arith, common_steps, nat_tests, cond_both, leb, rotation, pass_swap, leb-true)
 
 begin : (p : Pace) → IsSpent p → p.gears.pass ≡ false → IsSpent (with_pass p)
-begin p s rests = record {
-  some = s.some;
-  inputs = omega (arith, s.inputs, s.resting rests);
-  resting = λ e. absurd (true≢false e);
-  unmerged = s.unmerged;
-}
+begin p h1 h2 = grind (arith, common_steps, nat_tests)
 
 settle_deep : (p : Pace) → IsPaced p → IsSpent p → IsSpent (deep_settled p)
 settle_deep p k s =
     cond_both (p.gears.deep && deep_done p) (with_deep_swapped p) p IsSpent (λ e. let parts = and_parts p.gears.deep (deep_done p) e in deep_swap p k s parts.0 (eqb-true _ _ parts.1)) (λ e. s)
 
 settle_pass : (p : Pace) → IsPaced p → IsSpent p → (p.gears.deep ≡ true → p.gears.deep_taken < p.c1x + p.c2) → IsSpent (pass_settled p)
-settle_pass p k s going =
-    cond_both (p.gears.pass && pass_done p) (with_swap_and_rotation p) p IsSpent
-    (λ e. let parts = and_parts p.gears.pass (pass_done p) e in let done = eqb-true _ _ parts.1 in swap_and_rotation p k s parts.0 done (way p k parts.0 done going))
-    (λ e. s)
+settle_pass p h1 h2 h3 = grind (arith, common_steps, nat_tests, cond_both, and_parts, eqb-true, swap_and_rotation, way)
 
 ready : (p : Pace) (w : ℕ) → IsPaced p → IsSpent p → IsSpent (ready_for p w)
 ready p w k s =
@@ -94,20 +68,10 @@ quantum_some : (p : Pace) → IsPaced p → 0 < p.gears.sizes.quantum
 quantum_some p k = let fits = k.within.sizes.quantum in omega (arith, fits)
 
 snow : (p : Pace) (seat : ℕ) (quantum : Quantum) → IsSpent p → p.gears.pass ≡ true → 1 ≤ quantum.took → IsSpent (with_snow p seat quantum)
-snow p seat quantum s runs took = record {
-  some = omega (arith, s.some, took);
-  inputs = omega (arith, s.inputs);
-  resting = λ e. absurd (true≢false (sym runs ∙ e));
-  unmerged = s.unmerged;
-}
+snow p seat quantum h1 h2 h3 = grind (arith, common_steps, nat_tests)
 
 deep : (p : Pace) (seat : ℕ) (quantum : Quantum) → IsSpent p → p.gears.deep ≡ true → 1 ≤ quantum.took → IsSpent (with_deep p seat quantum)
-deep p seat quantum s merges took = record {
-  some = omega (arith, s.some, took);
-  inputs = omega (arith, s.inputs);
-  resting = s.resting;
-  unmerged = λ e. absurd (true≢false (sym merges ∙ e));
-}
+deep p seat quantum h1 h2 h3 = grind (arith, common_steps, nat_tests)
 
 pub forgave : (p : Pace) (seat : ℕ) → IsSpent p → IsSpent (with_forgiven p seat)
 forgave p seat s = record { some = s.some; inputs = s.inputs; resting = s.resting; unmerged = s.unmerged }
@@ -142,10 +106,7 @@ abbrev Spends : Pace → ℕ → Quantum → Move → Type 0
 Spends p seat quantum move = FitsMove move p quantum → IsSpent (turned_by move p seat quantum)
 
 turn_rests : (p : Pace) (is_worker : Bool) (seat : ℕ) (quantum : Quantum) → IsSpent p → p.gears.pass ≡ false → p.gears.deep ≡ false → Spends p seat quantum (turn_at_rest is_worker p)
-turn_rests p is_worker seat quantum s rests no_deep =
-    cond_both (may_begin is_worker p) Begin (cond (not is_worker && not (eqb p.c1 0)) Rotate Idle) (Spends p seat quantum)
-    (λ e fits. begin p s rests)
-    (λ e. cond_both (not is_worker && not (eqb p.c1 0)) Rotate Idle (Spends p seat quantum) (λ f fits. rotation p s no_deep) (λ f fits. s))
+turn_rests p is_worker seat quantum h1 h2 h3 = grind (arith, common_steps, nat_tests)
 
 turn : (p : Pace) (is_worker : Bool) (seat : ℕ) (quantum : Quantum) → IsPaced p → IsSpent p → Spends p seat quantum (turn_of is_worker p)
 turn p is_worker seat quantum k s =

@@ -1,4 +1,6 @@
 -- Components: the pages of one are of one list at most, stay where others are written, and are apart where their keys rise.
+use Rattle.std.proofs.lemmas.Bool.Decides.{nat_tests}
+use Rattle.std.proofs.lemmas.Grind.{common_steps}
 use Rattle.std.proofs.Common.{◌≡◌, false, ℕ, ◌+◌, ◌≤◌, List, [], ◌∷◌, ◌++◌, length, Option, None, refl, ap, sym, subst, ◌∙◌, append_assoc, length-append, arith}
 use Rattle.record_delta.specs.declared.record.Rec.{Rec}
 use Rattle.record_delta.specs.Entries.{Entries, entries_weight}
@@ -40,8 +42,7 @@ same_chain sizes (p ∷ ps) (q ∷ qs) file few c d first =
 
 -- a chain's first page has a page's number
 first_fits : (sizes : Sizes) (ps : List RunPage) (file : List ℕ) → page_count sizes ≤ no_page → AreChained sizes ps None file → IsNumber (first_number ps None)
-first_fits sizes [] file few c = tt
-first_fits sizes (p ∷ ps) file few c = omega (arith, few, c.0)
+first_fits sizes ps file h1 h2 = grind (arith, common_steps, nat_tests)
 
 pub one_chain : (sizes : Sizes) (ps qs : List RunPage) (file : List ℕ) → page_count sizes ≤ no_page → AreChained sizes ps None file → AreChained sizes qs None file
     → page_number (first_number ps None) ≡ page_number (first_number qs None) → ps ≡ qs
@@ -66,21 +67,12 @@ chain_kept sizes (p ∷ ps) end old new same c =
 
 pub component_kept : (sizes : Sizes) (component : Component) (pages : List RunPage) (old new : List ℕ) → AreSamePages sizes (numbers_of pages) old new
     → ReadsAs sizes component pages old → ReadsAs sizes component pages new
-component_kept sizes component pages old new same c = record {
-  first_is = c.first_is;
-  chained = chain_kept sizes pages None old new same c.chained;
-  rise = c.rise;
-  apart = c.apart;
-  pages_is = c.pages_is;
-  entries_is = c.entries_is;
-  weight_is = c.weight_is;
-}
+component_kept sizes component pages old new h1 h2 = grind (arith, common_steps, nat_tests, chain_kept)
 
 -- ---- a chain behind a chain
 
 pub first_join : (ps qs : List RunPage) (end : Option ℕ) → first_number (ps ++ qs) end ≡ first_number ps (first_number qs end)
-first_join [] qs end = refl
-first_join (p ∷ ps) qs end = refl
+first_join ps qs end = grind (arith, common_steps, nat_tests)
 
 pub chain_join : (sizes : Sizes) (ps qs : List RunPage) (end : Option ℕ) (file : List ℕ) → AreChained sizes ps (first_number qs end) file → AreChained sizes qs end file → AreChained sizes (ps ++ qs) end file
 chain_join sizes [] qs end file c d = d

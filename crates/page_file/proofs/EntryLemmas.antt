@@ -1,11 +1,13 @@
 -- Entries as bytes: how long they are, that none begins another, and that bytes are one list of entries at most.
+use Rattle.std.proofs.lemmas.Bool.Decides.{nat_tests}
+use Rattle.std.proofs.lemmas.Grind.{common_steps}
 use Rattle.std.proofs.Common.{◌≡◌, true, false, ℕ, suc, ◌*◌, ◌^◌, ◌<◌, ◌≤◌, List, [], ◌∷◌, ◌++◌, length, take, drop, refl, ap, sym, subst, ◌∙◌, append_assoc, length-append, arith}
 use Rattle.std.specs.Int.{w16, to_be_bytes, from_be_bytes}
 use Rattle.std.specs.List.{AllByRecursion}
 use Rattle.std.specs.List.Sorted.{IsStrictlySortedBy}
 use Rattle.std.specs.Ordering.{is_le, ordering_reverse}
 use Rattle.std.specs.declared.cmp.Ordering.{Ordering}
-use Rattle.std.specs.declared.cmp.Ordering.TheVariants.{Less, Equal, Greater}
+use Rattle.std.specs.declared.cmp.Ordering.TheVariants.{Less}
 use Rattle.std.proofs.lemmas.Bool.{true≢false}
 use Rattle.std.proofs.lemmas.Cmp.{nat_list_cmp_total}
 use Rattle.std.proofs.lemmas.List.{take_at, drop_at}
@@ -54,9 +56,7 @@ entry_same e f x y re rf same =
 -- ---- the order of keys
 
 reversed : (o : Ordering) → is_le o ≡ false → ordering_reverse o ≡ Less
-reversed Less h = absurd (true≢false h)
-reversed Equal h = absurd (true≢false h)
-reversed Greater h = refl
+reversed o h1 = grind (arith, common_steps, nat_tests)
 
 pub above : (last key : Key) → is_le (key_cmp key last) ≡ false → key_cmp last key ≡ Less
 above last key test = nat_list_cmp_total.antisymm last key ∙ reversed (key_cmp key last) test
@@ -117,8 +117,7 @@ none_left last [] empty = ([], record { each = All-nil IsPageEntry; count_is = r
 none_left last (b ∷ bytes) empty = absurd (omega (arith, empty))
 
 pub left_none : (last bytes : List ℕ) → AreInBytes last 0 bytes → length bytes ≡ 0
-left_none last bytes ([], has) = ap (length {A = ℕ}) has.spelled
-left_none last bytes (e ∷ es, has) = absurd (omega (arith, has.count_is))
+left_none last bytes h1 = grind (arith, common_steps, nat_tests)
 
 -- bytes are one list of entries at most, whatever follows them where there are as many
 pub entries_same : (es fs : Entries) (x y : List ℕ) → AreEntries es → AreEntries fs → length es ≡ length fs → entries_bytes es ++ x ≡ entries_bytes fs ++ y → (es ≡ fs) × (x ≡ y)
@@ -136,8 +135,7 @@ below_all [] each = tt
 below_all (e ∷ es) each = (over_none e.0 (All-head IsPageEntry e es each).key_least, below_all es (All-tail IsPageEntry e es each))
   where
     over_none : (key : Key) → 1 ≤ length key → key_cmp [] key ≡ Less
-    over_none [] least = absurd (omega arith)
-    over_none (b ∷ key) least = refl
+    over_none key h1 = grind (arith, common_steps, nat_tests)
 
 pub rise_from_none : (es : Entries) → AreEntries es → AreRising es → IsStrictlySortedBy key_cmp ([] ∷ keys_of es)
 unfolding IsStrictlySortedBy

@@ -1,11 +1,13 @@
 -- The two words for a list whose keys rise.
-use Rattle.std.proofs.Common.{◌≡◌, Bool, true, false, T, ◌&&◌, List, [], ◌∷◌, refl, sym, subst}
+use Rattle.std.proofs.lemmas.Bool.Decides.{nat_tests}
+use Rattle.std.proofs.lemmas.Grind.{common_steps}
+use Rattle.std.proofs.Common.{◌≡◌, Bool, true, T, ◌&&◌, List, [], ◌∷◌, sym, subst, arith}
 use Rattle.std.specs.Prelude.{◌↔◌}
 use Rattle.std.specs.List.{AllByRecursion}
 use Rattle.std.specs.List.Sorted.{IsStrictlySortedBy}
 use Rattle.std.specs.Ordering.{is_lt}
 use Rattle.std.specs.declared.cmp.Ordering.{Ordering}
-use Rattle.std.specs.declared.cmp.Ordering.TheVariants.{Less, Equal, Greater}
+use Rattle.std.specs.declared.cmp.Ordering.TheVariants.{Less}
 use Rattle.std.specs.FinMap.{is_sorted}
 use Rattle.std.specs.FinMap.Entries.{below_all}
 use Rattle.blsm_model.specs.declared.key.Key.{Key}
@@ -14,25 +16,19 @@ use Rattle.record_delta.specs.declared.record.Rec.{Rec}
 use Rattle.page_file.specs.Entry.{keys_of, AreRising}
 
 left : (a b : Bool) → T (a && b) → T a
-left true b h = tt
-left false b h = absurd h
+left a b h1 = grind (arith, common_steps, nat_tests)
 
 right : (a b : Bool) → T (a && b) → T b
-right true b h = h
-right false b h = absurd h
+right a b h1 = grind (arith, common_steps, nat_tests)
 
 both : (a b : Bool) → T a → T b → T (a && b)
-both true b h k = k
-both false b h k = absurd h
+both a b h1 h2 = grind (arith, common_steps, nat_tests)
 
 less : (o : Ordering) → T (is_lt o) → o ≡ Less
-less Less h = refl
-less Equal h = absurd h
-less Greater h = absurd h
+less o h1 = grind (arith, common_steps, nat_tests)
 
 is_true : (b : Bool) → T b → b ≡ true
-is_true true h = refl
-is_true false h = absurd h
+is_true b h1 = grind (arith, common_steps, nat_tests)
 
 beyond : (key : Key) (es : List (Key × Rec)) → T (below_all key_cmp key es) → AllByRecursion (λ y. key_cmp key y ≡ Less) (keys_of es)
 beyond key [] h = tt

@@ -1,20 +1,21 @@
 -- Pages as bytes: what is read of one, and that bytes are one page at most.
-use Rattle.std.proofs.Common.{◌≡◌, ◌≢◌, ◌↔◌, inl, inr, ℕ, ◌+◌, ◌*◌, ◌-◌, ◌^◌, ◌<◌, ◌≤◌, List, [], ◌∷◌, ◌++◌, length, take, drop, Option, Some, None, refl, ap, sym, subst, ◌∙◌, append_assoc, length-append, arith}
+use Rattle.std.proofs.lemmas.Bool.Decides.{nat_tests}
+use Rattle.std.proofs.lemmas.Grind.{common_steps}
+use Rattle.std.proofs.Common.{◌≡◌, ◌≢◌, ◌↔◌, ℕ, ◌+◌, ◌-◌, ◌^◌, ◌<◌, ◌≤◌, List, [], ◌∷◌, ◌++◌, length, take, drop, Option, refl, ap, sym, subst, ◌∙◌, append_assoc, length-append, arith}
 use Rattle.record_delta.specs.declared.record.Rec.{Rec}
 use Rattle.blsm_model.specs.declared.key.Key.{Key}
 use Rattle.record_delta.specs.Entries.{Entries}
 use Rattle.std.specs.Prelude.{IfSome, replicate}
 use Rattle.std.specs.Int.{w32, w16, to_be_bytes, from_be_bytes}
-use Rattle.std.proofs.lemmas.Bool.{cases_lt}
 use Rattle.std.proofs.lemmas.List.{take_at, drop_at, take-append-drop, length-replicate}
 use Rattle.std.proofs.lemmas.Nat.{from_be_bytes-to_be_bytes_4}
 use Rattle.disk_trait.specs.Disk.{part, overwritten}
-use Rattle.disk_trait.specs.Parts.{part-overwritten}
-use Rattle.disk_trait.specs.Region.{span, outside, AreApart, IsSameOutside, part_apart, same_wider}
+use Rattle.disk_trait.proofs.PartLemmas.{part-overwritten}
+use Rattle.disk_trait.specs.Region.{span, outside, AreApart, IsSameOutside}
+use Rattle.disk_trait.proofs.RegionLemmas.{part_apart, same_wider}
 use Rattle.blsm_model.specs.Format.{page_length}
 use Rattle.blsm_model.specs.Sizes.{Sizes, IsGeometry}
 use Rattle.blsm_model.specs.Geometry.{page_count}
-use Rattle.blsm_model.proofs.GeometryLemmas.{by_half, by_ratio}
 use Rattle.page_file.specs.File.{page_start, page_region, pages_region, AreSamePages}
 use Rattle.page_file.specs.Entry.{entry_bytes, entries_bytes, AreEntriesIn, AreInBytes}
 use Rattle.blsm_model.specs.Components.{no_page}
@@ -28,8 +29,7 @@ unfolding page_head
 length-page_head count used next = refl
 
 cells : (page : List ℕ) → 8 ≤ length page → page ≡ (part page 0 2 ++ part page 2 2 ++ part page 4 4) ++ drop 8 page
-cells (b0 ∷ b1 ∷ b2 ∷ b3 ∷ b4 ∷ b5 ∷ b6 ∷ b7 ∷ rest) long = refl
-cells _ long = absurd (omega arith)
+cells page h1 = grind (arith, common_steps, nat_tests)
 
 -- eight bytes or more begin with the head of the numbers that are read there
 pub head_read : (page : List ℕ) (count used number : ℕ) (next : Option ℕ) → 8 ≤ length page
@@ -47,18 +47,13 @@ abbrev pub IsNumber : Option ℕ → Type 0
 IsNumber next = IfSome next (λ n. n < no_page)
 
 number_fits : (next : Option ℕ) → IsNumber next → page_number next < 2 ^ 32
-number_fits (Some n) below = omega (arith, below)
-number_fits None below = omega arith
+number_fits next h1 = grind (arith, common_steps, nat_tests)
 
 pub number_same : (m n : Option ℕ) → IsNumber m → IsNumber n → page_number m ≡ page_number n → m ≡ n
-number_same (Some m) (Some n) below below' same = ap Some same
-number_same (Some m) None below below' same = absurd (omega (arith, below, same))
-number_same None (Some n) below below' same = absurd (omega (arith, below', same))
-number_same None None below below' same = refl
+number_same m n h1 h2 h3 = grind (arith, common_steps, nat_tests)
 
 pub number_below : (pages : ℕ) (next : Option ℕ) → pages ≤ no_page → IfSome next (λ n. n < pages) → IsNumber next
-number_below pages (Some n) few below = omega (arith, few, below)
-number_below pages None few below = tt
+number_below pages next h1 h2 = grind (arith, common_steps, nat_tests)
 
 -- two heads of the same numbers
 pub record SameHead (count used count' used' : ℕ) (next next' : Option ℕ) (x y : List ℕ) : Type 0 where
@@ -201,11 +196,7 @@ written_reads start old new bytes long inside is =
 
 -- two pages are apart
 pub others_apart : (sizes : Sizes) (m n : ℕ) → m ≢ n → AreApart (page_region sizes m) (page_region sizes n)
-others_apart sizes m n other i one two =
-    elim (cases_lt m n) [
-      | inl lt ↦ omega (arith, lt, one.1, two.0)
-      | inr le ↦ omega (arith, le, other, one.0, two.1)
-    ]
+others_apart sizes m n h1 = grind (arith, common_steps, nat_tests)
 
 -- and the pages from what ends before them
 pub before_apart : (sizes : Sizes) (n at len : ℕ) → at + len ≤ page_start sizes 0 → AreApart (page_region sizes n) (span at len)
@@ -224,9 +215,4 @@ pages_behind sizes numbers at len old new ends same =
 
 -- a store has fewer pages than there are numbers
 pub few_pages : (sizes : Sizes) → IsGeometry sizes → page_count sizes ≤ no_page
-few_pages sizes geometry =
-    let half = geometry.half.1 in
-    let ratio = geometry.ratio.1 in
-    let mark : sizes.ratio * sizes.half ≤ 536870912 = by_half sizes.ratio sizes.half ratio half in
-    let capacity : sizes.ratio * (2 * sizes.ratio * sizes.half) ≤ 8589934592 = by_ratio sizes.ratio (2 * sizes.ratio * sizes.half) ratio (grind (arith, mark)) in
-    omega (arith, capacity)
+few_pages sizes h1 = grind (arith, common_steps, nat_tests)

@@ -1,4 +1,6 @@
 -- Which pages a change frees, and that there is a free page where the sets are small.
+use Rattle.std.proofs.lemmas.Bool.Decides.{nat_tests}
+use Rattle.std.proofs.lemmas.Grind.{common_steps}
 use Rattle.std.proofs.Common.{◌≡◌, ◌≢◌, ◌↔◌, ℕ, zero, suc, ◌+◌, ◌*◌, ◌<◌, ◌≤◌, ◌||◌, Bool, true, false, cond, List, [], ◌∷◌, length, get_or, set, sum_by, refl, ap, sym, ◌∙◌, ◌⊎◌, inl, inr, arith}
 use Rattle.std.proofs.lemmas.Bool.{cases_Bool, cases_eq, or_cases, false≢true}
 use Rattle.std.proofs.lemmas.List.{get_or-set_same, get_or-set_other}
@@ -58,16 +60,13 @@ count_below-sets n (set ∷ sets) =
     omega (arith, count_below-or n (λ k. get_or set k false) (in_some sets), count_below-set n set, count_below-sets n sets, sum_by-cons size set sets)
 
 or_true : (a : Bool) → (a || true) ≡ true
-or_true true = refl
-or_true false = refl
+or_true a = grind (arith, common_steps, nat_tests)
 
 or_left : (a b : Bool) → (a || b) ≡ false → a ≡ false
-or_left true b none = none
-or_left false b none = refl
+or_left a b h1 = grind (arith, common_steps, nat_tests)
 
 or_right : (a b : Bool) → (a || b) ≡ false → b ≡ false
-or_right true b none = absurd (false≢true (sym none))
-or_right false b none = none
+or_right a b h1 = grind (arith, common_steps, nat_tests)
 
 pub in_none : (sets : List Members) (k : ℕ) → in_some sets k ≡ false → (r : ℕ) → IsIn (get_or sets r []) k → ⊥
 in_none [] k none r is_in = false≢true is_in
@@ -135,72 +134,22 @@ had_before old new role page this others r k apart has =
 -- so the tags after a claim are those before it, and the one
 pub tags_after : (old new : SpaceState) (role page : ℕ) → page < length (pages_with old role) → pages_with new role ≡ with_page page (pages_with old role) → KeepsOtherRoles role old new
     → (tag k : ℕ) → HasRole new tag k ↔ (HasRole old tag k ⊎ ((tag ≡ role) × (k ≡ page)))
-tags_after old new role page within this others tag k = (to, from)
-  where
-    to : HasRole new tag k → HasRole old tag k ⊎ ((tag ≡ role) × (k ≡ page))
-    to has =
-        elim (cases_eq k page) [
-          | inr apart ↦ inl (had_before old new role page this others tag k apart has)
-          | inl same ↦
-              elim (cases_eq tag role) [
-                | inl tag_same ↦ inr (tag_same, same)
-                | inr differs ↦ inl (sym (ap (λ (s : Members). get_or s k false) (others tag differs)) ∙ has)
-              ]
-        ]
-
-    from : HasRole old tag k ⊎ ((tag ≡ role) × (k ≡ page)) → HasRole new tag k
-    from (inl had) = has_kept old new role page this others tag k had
-    from (inr given) = ap (λ t. get_or (pages_with new t) k false) given.0 ∙ ap (λ i. get_or (pages_with new role) i false) given.1 ∙ claimed_has old new role page within this
+tags_after old new role page h1 h2 h3 tag k = grind (arith, common_steps, nat_tests, has_kept, get_or, claimed_has)
 
 -- a claim uses up just the page that it is of
 pub free_after_claim : (old new : SpaceState) (role page : ℕ) → page < length (pages_with old role) → pages_with new role ≡ with_page page (pages_with old role) → KeepsOtherRoles role old new → new.pins ≡ old.pins → new.pages ≡ old.pages
     → (other : ℕ) → IsFree new other ↔ (IsFree old other × (other ≢ page))
-free_after_claim old new role page within this others pins pages other = (before, λ both. after both.0 both.1)
-  where
-    before : IsFree new other → IsFree old other × (other ≢ page)
-    before free = (
-      record {
-        in_range = omega (arith, pages, free.in_range);
-        no_role = λ r has. free.no_role r (has_kept old new role page this others r other has);
-        no_pin = λ seat pinned. free.no_pin seat (ap (λ (sets : List Members). get_or (get_or sets seat []) other false) pins ∙ pinned);
-      },
-      λ same. free.no_role role (ap (λ i. get_or (pages_with new role) i false) same ∙ claimed_has old new role page within this),
-    )
-
-    after : IsFree old other → other ≢ page → IsFree new other
-    after free differs =
-        record {
-          in_range = omega (arith, pages, free.in_range);
-          no_role = λ r has. free.no_role r (had_before old new role page this others r other differs has);
-          no_pin = λ seat pinned. free.no_pin seat (sym (ap (λ (sets : List Members). get_or (get_or sets seat []) other false) pins) ∙ pinned);
-        }
+free_after_claim old new role page h1 h2 h3 h4 h5 other = grind (arith, common_steps, nat_tests, has_kept, get_or, claimed_has, had_before)
 
 -- a seat that pins the pages of three roles pins a page just where it has one of these
 pub pinned_just : (a b c : Members) (page : ℕ) → IsIn (union a (union b c)) page ↔ (IsIn a page ⊎ (IsIn b page ⊎ IsIn c page))
-pinned_just a b c page = (to, from)
-  where
-    tests : get_or (union a (union b c)) page false ≡ (get_or a page false || (get_or b page false || get_or c page false))
-    tests = get_or-union a (union b c) page ∙ ap (λ t. get_or a page false || t) (get_or-union b c page)
-
-    to : IsIn (union a (union b c)) page → IsIn a page ⊎ (IsIn b page ⊎ IsIn c page)
-    to is_in =
-        elim (or_cases (get_or a page false) (get_or b page false || get_or c page false) (sym tests ∙ is_in)) [
-          | inl in_a ↦ inl in_a
-          | inr in_others ↦ inr (or_cases (get_or b page false) (get_or c page false) in_others)
-        ]
-
-    from : IsIn a page ⊎ (IsIn b page ⊎ IsIn c page) → IsIn (union a (union b c)) page
-    from (inl in_a) = tests ∙ ap (λ t. t || (get_or b page false || get_or c page false)) in_a
-    from (inr (inl in_b)) = tests ∙ ap (λ t. get_or a page false || (t || get_or c page false)) in_b ∙ or_true (get_or a page false)
-    from (inr (inr in_c)) = tests ∙ ap (λ t. get_or a page false || (get_or b page false || t)) in_c ∙ ap (λ t. get_or a page false || t) (or_true (get_or b page false)) ∙ or_true (get_or a page false)
+pinned_just a b c page = grind (arith, common_steps, nat_tests, get_or, get_or-union, or_cases, or_true)
 
 -- ---- a free page, by how many pages each set has
 
 sum_of_five : (sets : List Members) → length sets ≡ 5
     → sum_by size sets ≡ size (get_or sets 0 []) + size (get_or sets 1 []) + size (get_or sets 2 []) + size (get_or sets 3 []) + size (get_or sets 4 [])
-sum_of_five (a ∷ b ∷ c ∷ d ∷ e ∷ []) five =
-    omega (arith, sum_by-cons size a (b ∷ c ∷ d ∷ e ∷ []), sum_by-cons size b (c ∷ d ∷ e ∷ []), sum_by-cons size c (d ∷ e ∷ []), sum_by-cons size d (e ∷ []), sum_by-cons size e [])
-sum_of_five _ five = absurd (omega (arith, five))
+sum_of_five sets h1 = grind (arith, common_steps, nat_tests)
 
 -- where the roles' pages together and each seat's are few enough, a page is free
 pub free_within : (space : SpaceState) (live share : ℕ) → IsSpace space → IsWithin live share space → live + seat_count * share < space.pages → HasFree space

@@ -1,9 +1,11 @@
 -- What a set of pages is after a write to its words.
+use Rattle.std.proofs.lemmas.Bool.Decides.{nat_tests}
+use Rattle.std.proofs.lemmas.Grind.{common_steps}
 use Rattle.std.proofs.Common.{◌≡◌, ℕ, zero, suc, ◌*◌, ◌/◌, ◌%◌, ◌^◌, max, ◌<◌, Bool, true, false, ◌||◌, nat_eq, List, [], ◌∷◌, length, replicate, get_or, set, bit_and, bit_or, refl, ap, sym, ◌∙◌, inl, inr, arith, w64}
 use Rattle.std.specs.Int.{bit_at}
-use Rattle.std.proofs.lemmas.Bool.{cases_eq, cases_lt}
+use Rattle.std.proofs.lemmas.Bool.{cases_eq}
 use Rattle.std.proofs.lemmas.Nat.Bits.{shr_and_one, bit_at-zero, bit_at-lt, bit_at_or, bit_at_set_same, bit_at_set_other}
-use Rattle.std.proofs.lemmas.List.{length-set, length-replicate, get_or-set_same, get_or-set_other, get_or-replicate, get_or_past, ext_get_or}
+use Rattle.std.proofs.lemmas.List.{length-set, length-replicate, get_or-set_same, get_or-set_other, get_or-replicate, ext_get_or}
 use Rattle.std.proofs.lemmas.List.FromFn.{length-map-range_with_len, get_or-map-range_with_len}
 use Rattle.page_space.specs.PageSet.{Members, members, is_set, none_of, with_page, union, AreFor}
 
@@ -27,11 +29,7 @@ abbrev pub zeros : ℕ → List ℕ
 zeros n = replicate n 0
 
 zero_word : (n i : ℕ) → get_or (zeros n) i 0 ≡ zero
-zero_word n i =
-    elim (cases_lt i n) [
-      | inl below ↦ get_or-replicate n i 0 0 below
-      | inr past ↦ get_or_past (zeros n) i 0 (omega (arith, length-replicate {A = ℕ} n 0))
-    ]
+zero_word n i = grind (arith, common_steps, nat_tests)
 
 pub members_none : (pages n : ℕ) → members pages (zeros n) ≡ none_of pages
 members_none pages n =
@@ -89,8 +87,7 @@ length-union (x ∷ xs) [] same = absurd (omega (arith, same))
 length-union (x ∷ xs) (y ∷ ys) same = ap suc (length-union xs ys (omega (arith, same)))
 
 or_false : (b : Bool) → b ≡ (b || false)
-or_false true = refl
-or_false false = refl
+or_false b = grind (arith, common_steps, nat_tests)
 
 pub get_or-union : (xs ys : Members) (k : ℕ) → get_or (union xs ys) k false ≡ (get_or xs k false || get_or ys k false)
 get_or-union [] ys k = refl
@@ -99,20 +96,13 @@ get_or-union (x ∷ xs) (y ∷ ys) zero = refl
 get_or-union (x ∷ xs) (y ∷ ys) (suc k) = get_or-union xs ys k
 
 max_is_one : (m n : ℕ) → m < 2 → n < 2 → nat_eq (max m n) 1 ≡ (nat_eq m 1 || nat_eq n 1)
-max_is_one zero zero m_bit n_bit = refl
-max_is_one zero (suc zero) m_bit n_bit = refl
-max_is_one zero (suc (suc n)) m_bit n_bit = absurd (omega arith)
-max_is_one (suc zero) zero m_bit n_bit = refl
-max_is_one (suc zero) (suc zero) m_bit n_bit = refl
-max_is_one (suc zero) (suc (suc n)) m_bit n_bit = absurd (omega arith)
-max_is_one (suc (suc m)) n m_bit n_bit = absurd (omega arith)
+max_is_one m n h1 h2 = grind (arith, common_steps, nat_tests)
 
 bit_or_set : (a b place : ℕ) → nat_eq (bit_at (bit_or a b) place) 1 ≡ (nat_eq (bit_at a place) 1 || nat_eq (bit_at b place) 1)
 bit_or_set a b place = ap (λ bit. nat_eq bit 1) (bit_at_or a b place) ∙ max_is_one (bit_at a place) (bit_at b place) (bit_at-lt a place) (bit_at-lt b place)
 
 or_assoc : (a b c : Bool) → ((a || b) || c) ≡ (a || (b || c))
-or_assoc true b c = refl
-or_assoc false b c = refl
+or_assoc a b c = grind (arith, common_steps, nat_tests)
 
 -- words of which each has the bits of three others
 pub members_union : (pages : ℕ) (words a b c : List ℕ) → AreFor pages words → ((i : ℕ) → i < length words → get_or words i 0 ≡ bit_or (bit_or (get_or a i 0) (get_or b i 0)) (get_or c i 0))

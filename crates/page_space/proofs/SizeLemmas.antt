@@ -1,16 +1,15 @@
 -- How many pages a set has.
-use Rattle.std.proofs.Common.{◌≡◌, ℕ, ◌+◌, ◌<◌, ◌≤◌, ◌||◌, Bool, true, false, cond, [], ◌∷◌, length, get_or, ap, inl, inr, arith}
-use Rattle.std.proofs.lemmas.List.Sums.{sum_by-cons, sum_by-set}
-use Rattle.std.proofs.lemmas.Bool.{cases_Bool}
+use Rattle.std.proofs.lemmas.Bool.Decides.{nat_tests}
+use Rattle.std.proofs.lemmas.Grind.{common_steps}
+use Rattle.std.proofs.Common.{◌≡◌, ℕ, ◌+◌, ◌<◌, ◌≤◌, ◌||◌, Bool, cond, [], ◌∷◌, length, arith}
+use Rattle.std.proofs.lemmas.List.Sums.{sum_by-cons}
 use Rattle.page_space.specs.PageSet.{Members, IsIn, size, with_page, union}
 
 pub size-cons : (x : Bool) (xs : Members) → size (x ∷ xs) ≡ cond x 1 0 + size xs
 size-cons x xs = sum_by-cons (λ b. cond b 1 0) x xs
 
 pub or_le : (a b : Bool) → cond (a || b) 1 0 ≤ cond a 1 0 + cond b 1 0
-or_le true true = omega arith
-or_le true false = omega arith
-or_le false b = omega arith
+or_le a b = grind (arith, common_steps, nat_tests)
 
 pub size-union_le : (xs ys : Members) → size (union xs ys) ≤ size xs + size ys
 size-union_le [] ys = omega arith
@@ -19,9 +18,4 @@ size-union_le (x ∷ xs) (y ∷ ys) =
     omega (arith, size-union_le xs ys, or_le x y, size-cons (x || y) (union xs ys), size-cons x xs, size-cons y ys)
 
 pub size-with : (set : Members) (page : ℕ) → page < length set → (IsIn set page → ⊥) → size (with_page page set) ≡ size set + 1
-size-with set page within out =
-    let all = sum_by-set (λ b. cond b 1 0) set page true false within in
-    elim (cases_Bool (get_or set page false)) [
-      | inl is_in ↦ absurd (out is_in)
-      | inr lacks ↦ omega (arith, all, ap {B = ℕ} (λ b. cond b 1 0) lacks)
-    ]
+size-with set page h1 h2 = grind (arith, common_steps, nat_tests)

@@ -1,5 +1,5 @@
 -- What a record stands for after one more write.
-use Rattle.std.proofs.Common.{◌≡◌, ℕ, ◌+◌, ◌%◌, ◌^◌, ◌<◌, ◌≤◌, ◌++◌, zero, suc, List, [], ◌∷◌, Bool, cond, true, false, Some, None, Option, refl, ap, sym, ◌∙◌, ◌⊎◌, inl, inr, length, zero-add, append_assoc, add_assoc, arith}
+use Rattle.std.proofs.Common.{◌≡◌, ℕ, ◌+◌, ◌%◌, ◌^◌, ◌<◌, ◌≤◌, ◌++◌, zero, suc, List, [], ◌∷◌, Bool, cond, true, false, Some, None, Option, refl, ap, sym, ◌∙◌, ◌⊎◌, inl, inr, length, zero-add, append_assoc, arith}
 use Rattle.std.specs.Cmp.Lexicographic.{bytes_decides}
 use Rattle.blsm_model.specs.declared.key.Key.{Key}
 use Rattle.blsm_model.specs.declared.row.Value.{Value}
@@ -7,14 +7,14 @@ use Rattle.blsm_model.specs.declared.op.Write.{Write}
 use Rattle.blsm_model.specs.declared.op.Write.TheVariants.{Put, Add, Tail, Del}
 use Rattle.blsm_model.specs.Format.{most_tail, most_text, most_weight, overhead}
 use Rattle.blsm_model.specs.Keys.{same_key}
-use Rattle.std.proofs.Math.Nat.{mod-eq_of_lt, mod-add-mod, add-mod-mod}
+use Rattle.std.proofs.Math.Nat.{mod-eq_of_lt, mod-add-mod}
 use Rattle.blsm_model.specs.Values.{key_of, base_of, value_at}
 use Rattle.blsm_model.proofs.ValueLemmas.{value_at-put, value_at-add, value_at-tail, value_at-del, value_at-other}
 use Rattle.blsm_model.proofs.TailLemmas.{tails_join, tail_alone, tail_at_least, tail_at_most, tail_within}
 use Rattle.blsm_model.specs.Tails.{with_tail, TailFits}
 use Rattle.record_delta.specs.declared.record.Rec.{Rec}
 use Rattle.record_delta.specs.declared.record.Rec.TheVariants.{Base, Delta, Tomb}
-use Rattle.record_delta.specs.Records.{Change, IsRecord, IsWithin, alone, record_of, settled, text_limit, text_of, weight, writes_of_change, writes_of_record}
+use Rattle.record_delta.specs.Records.{Change, IsRecord, IsWithin, alone, settled, text_limit, text_of, weight, writes_of_change, writes_of_record}
 use Rattle.record_delta.specs.Kinds.{added, tailed}
 use Rattle.record_delta.specs.KindLemmas.{added_twice}
 use Rattle.record_delta.specs.Folding.{change_over, changed, fold, over, StandsFor, kept_after, StandsForMore}

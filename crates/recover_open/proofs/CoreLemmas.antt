@@ -15,7 +15,8 @@ use Rattle.core_pace.specs.Opening.{IsOpened}
 use Rattle.record_delta.specs.Entries.{entries_weight}
 use Rattle.snow_merge.specs.Pass.{SnowState}
 use Rattle.disk_trait.specs.Disk.{DiskState}
-use Rattle.disk_trait.specs.Moments.{IsTimed, leaves_only_start, once_synced_start}
+use Rattle.disk_trait.specs.Moments.{IsTimed}
+use Rattle.disk_trait.proofs.MomentLemmas.{leaves_only_start, once_synced_start}
 use Rattle.page_file.specs.Component.{entries_of}
 use Rattle.pacing.specs.Pace.{opened as pace_opened}
 use Rattle.tree_core.specs.Core.{CoreState}

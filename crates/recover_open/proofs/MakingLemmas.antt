@@ -2,9 +2,12 @@
 use Rattle.std.specs.Prelude.{◌≡◌, ℕ, ◌+◌, IsTrue, List}
 use Rattle.std.proofs.Common.{sym, subst, inl, inr, ⊎_elim, arith}
 use Rattle.disk_trait.specs.Disk.{DiskState}
-use Rattle.disk_trait.specs.Effects.{Affects, affects_more, affects_wider}
-use Rattle.disk_trait.specs.Moments.{IsTimed, IsUnwritten, leaves_only_run, leaves_only_weaken, old_or_behind, once_synced_behind, once_synced_weaken}
-use Rattle.disk_trait.specs.Reads.{OnlyReads, only_reads_each}
+use Rattle.disk_trait.specs.Effects.{Affects}
+use Rattle.disk_trait.proofs.EffectLemmas.{affects_more, affects_wider}
+use Rattle.disk_trait.specs.Moments.{IsTimed, IsUnwritten}
+use Rattle.disk_trait.proofs.MomentLemmas.{leaves_only_run, leaves_only_weaken, old_or_behind, once_synced_behind, once_synced_weaken}
+use Rattle.disk_trait.specs.Reads.{OnlyReads}
+use Rattle.disk_trait.proofs.ReadLemmas.{only_reads_each}
 use Rattle.disk_trait.specs.Region.{span}
 use Rattle.blsm_model.specs.Sizes.{Sizes}
 use Rattle.blsm_model.specs.Geometry.{file_length}

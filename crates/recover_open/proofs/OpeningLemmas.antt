@@ -5,9 +5,11 @@ use Rattle.blsm_model.specs.declared.component.Component.{Component}
 use Rattle.catalog_swap.specs.Text.{IsCatalog, IsComponent, IsEmpty, IsInRange}
 use Rattle.catalog_swap.specs.declared.catalog.Catalog.{Catalog}
 use Rattle.disk_trait.specs.Disk.{DiskState, IsSure, MarksSync, Only, Passes, WritesNothing}
-use Rattle.disk_trait.specs.Effects.{affects_more, affects_nothing, affects_wider}
-use Rattle.disk_trait.specs.Moments.{IsTimed, LeavesOnly, LeavesOnlyOnceSynced, leaves_only_call, leaves_only_run, leaves_only_start, leaves_only_weaken, once_synced_call, once_synced_kept, once_synced_start}
-use Rattle.disk_trait.specs.Reads.{OnlyReads, only_reads_each}
+use Rattle.disk_trait.proofs.EffectLemmas.{affects_more, affects_nothing, affects_wider}
+use Rattle.disk_trait.specs.Moments.{IsTimed, LeavesOnly, LeavesOnlyOnceSynced}
+use Rattle.disk_trait.proofs.MomentLemmas.{leaves_only_call, leaves_only_run, leaves_only_start, leaves_only_weaken, once_synced_call, once_synced_kept, once_synced_start}
+use Rattle.disk_trait.specs.Reads.{OnlyReads}
+use Rattle.disk_trait.proofs.ReadLemmas.{only_reads_each}
 use Rattle.blsm_model.specs.Geometry.{file_length, page_count}
 use Rattle.blsm_model.specs.Sizes.{IsGeometry, Sizes}
 use Rattle.store_file.specs.Layout.{superblock_length}

@@ -9,9 +9,12 @@ use Rattle.blsm_model.specs.Sizes.{Sizes}
 use Rattle.catalog_swap.specs.Slots.{AreSameSlots}
 use Rattle.catalog_swap.specs.declared.catalog.Catalog.{Catalog}
 use Rattle.disk_trait.specs.Disk.{DiskState, Only}
-use Rattle.disk_trait.specs.Effects.{Affects, affects_more, affects_wider}
-use Rattle.disk_trait.specs.Moments.{IsTimed, leaves_only_run, leaves_only_weaken}
-use Rattle.disk_trait.specs.Reads.{OnlyReads, only_reads_each, only_reads_same}
+use Rattle.disk_trait.specs.Effects.{Affects}
+use Rattle.disk_trait.proofs.EffectLemmas.{affects_more, affects_wider}
+use Rattle.disk_trait.specs.Moments.{IsTimed}
+use Rattle.disk_trait.proofs.MomentLemmas.{leaves_only_run, leaves_only_weaken}
+use Rattle.disk_trait.specs.Reads.{OnlyReads}
+use Rattle.disk_trait.proofs.ReadLemmas.{only_reads_each, only_reads_same}
 use Rattle.gated_log.specs.Lane.{blocks}
 use Rattle.record_delta.specs.Entries.{Entries, entries_weight}
 use Rattle.tree_file.specs.Tree.{Tree, HoldsTree, ReadsAsMap, map_of_tree}

@@ -7,8 +7,10 @@ use Rattle.catalog_swap.specs.declared.catalog.Catalog.{Catalog}
 use Rattle.blsm_model.specs.declared.key.Key.{Key}
 use Rattle.blsm_model.specs.declared.row.Value.{Value}
 use Rattle.disk_trait.specs.Disk.{DiskState, TellsFaultsBy}
-use Rattle.disk_trait.specs.Effects.{Affects, affects_more, affects_wider}
-use Rattle.disk_trait.specs.Moments.{IsTimed, LeavesOnly, LeavesOnlyOnceSynced, SyncsLater, leaves_only_kept, leaves_only_run, leaves_only_weaken, once_synced_more, once_synced_weaken}
+use Rattle.disk_trait.specs.Effects.{Affects}
+use Rattle.disk_trait.proofs.EffectLemmas.{affects_more, affects_wider}
+use Rattle.disk_trait.specs.Moments.{IsTimed, LeavesOnly, LeavesOnlyOnceSynced, SyncsLater}
+use Rattle.disk_trait.proofs.MomentLemmas.{leaves_only_kept, leaves_only_run, leaves_only_weaken, once_synced_more, once_synced_weaken}
 use Rattle.refusal.specs.Count.{HasRisen}
 use Rattle.tree_file.specs.Tree.{Tree, FitsSizes, HoldsTree, ReadsAsMap, map_of_tree}
 use Rattle.tree_reading.specs.declared.found.Found.{Found}

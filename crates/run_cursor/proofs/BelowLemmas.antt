@@ -1,4 +1,6 @@
 -- The entry at the front of bytes, as a key is above it or not.
+use Rattle.std.proofs.lemmas.Bool.Decides.{nat_tests}
+use Rattle.std.proofs.lemmas.Grind.{common_steps}
 use Rattle.std.proofs.Common.{◌≡◌, true, false, ℕ, ◌<◌, ◌≤◌, List, ◌++◌, length, drop, ap, sym, ◌∙◌, length-append, arith}
 use Rattle.std.specs.Ordering.{is_lt, ordering_reverse}
 use Rattle.std.specs.declared.cmp.Ordering.TheVariants.{Greater}
@@ -11,7 +13,6 @@ use Rattle.record_delta.specs.declared.record.Rec.{Rec}
 use Rattle.record_delta.specs.Records.{weight}
 use Rattle.entry_codec.specs.Spelling.{spelling, BeginsWith}
 use Rattle.entry_codec.proofs.SpellingLemmas.{length-spelling}
-use Rattle.page_file.specs.Entry.{entry_bytes}
 use Rattle.page_file.proofs.EntryLemmas.{entry_same}
 use Rattle.run_cursor.specs.Below.{BeginsBelow, NoneBelow}
 use Rattle.run_cursor.proofs.CursorLemmas.{less_is}
@@ -48,6 +49,4 @@ first_above bytes key found rec b other = λ entry rest right parts greater.
 
 -- fewer bytes are left behind it
 pub fewer_bytes : (key : Key) (bytes : List ℕ) (len : ℕ) (rest : List ℕ) → BeginsBelow key bytes len rest → length rest < length bytes
-fewer_bytes key bytes len rest b =
-    let least = b.right.key_least in
-    omega (arith, least, ap (length {A = ℕ}) b.parts, length-append (entry_bytes b.entry) rest, length-spelling b.entry.0 b.entry.1)
+fewer_bytes key bytes len rest h1 = grind (arith, common_steps, nat_tests, length-append, length-spelling)

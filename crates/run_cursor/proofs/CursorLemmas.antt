@@ -1,11 +1,13 @@
 -- What a cursor keeps as it goes on.
+use Rattle.std.proofs.lemmas.Bool.Decides.{nat_tests}
+use Rattle.std.proofs.lemmas.Grind.{common_steps}
 use Rattle.std.proofs.Common.{◌≡◌, ◌≢◌, ◌↔◌, Bool, true, false, ℕ, suc, ◌+◌, ◌-◌, ◌<◌, ◌≤◌, List, [], ◌∷◌, ◌++◌, length, take, drop, Option, Some, None, refl, ap, sym, subst, ◌∙◌, append_assoc, length-append, arith}
 use Rattle.std.specs.Prelude.{replicate, IsTrue, IsSome}
 use Rattle.std.specs.List.{between, AllByRecursion}
 use Rattle.std.specs.List.Sorted.{IsStrictlySortedBy}
 use Rattle.std.specs.Ordering.{is_lt}
 use Rattle.std.specs.declared.cmp.Ordering.{Ordering}
-use Rattle.std.specs.declared.cmp.Ordering.TheVariants.{Less, Equal, Greater}
+use Rattle.std.specs.declared.cmp.Ordering.TheVariants.{Less}
 use Rattle.std.proofs.lemmas.Bool.{false≢true}
 use Rattle.std.proofs.lemmas.Cmp.{nat_list_cmp_total}
 use Rattle.std.proofs.lemmas.List.{drop-drop, drop_at, take_at}
@@ -90,11 +92,7 @@ first_of_bytes bytes [] each is some = absurd (omega (arith, some, ap (length {A
 first_of_bytes bytes (e ∷ es) each is some = record { entry = e; more = es; here_is = refl; right = All-head IsPageEntry e es each; parts = is }
 
 pub begins : (bytes : List ℕ) (here : List (Key × Rec)) (first : First bytes here) → BeginsWith bytes first.entry.0 first.entry.1
-begins bytes here first = record {
-  entry = first.right;
-  rest = entries_bytes first.more;
-  parts = first.parts;
-}
+begins bytes here first = grind (arith, common_steps, nat_tests)
 
 -- the first entry is one
 pub record SameFirst (here : List (Key × Rec)) (entry : Key × Rec) (rest : List ℕ) : Type 0 where
@@ -261,24 +259,12 @@ page_some pages next entries page of = let some = of.content.head.some in omega 
 
 pub turned_cursor : (old : CursorState) (pages : ℕ) (next : Option ℕ) (entries : Entries) (page : List ℕ) → 0 < old.pages → IsPageOf pages next entries page → PageGoesOn old next entries
     → IsCursor (turned next entries old)
-turned_cursor old pages next entries page more of goes =
-    let numbers = goes.numbers in
-    record {
-      here = entries;
-      each = of.content.each;
-      behind_is = refl;
-      rise = goes.rise;
-      few = numbers.few;
-      light = numbers.light;
-      all = λ last. numbers.all (omega (arith, last, more));
-    }
+turned_cursor old pages next entries page h1 h2 h3 = grind (arith, common_steps, nat_tests)
 
 -- ---- the first key of a page
 
 pub less_is : (o : Ordering) → is_lt o ≡ true → o ≡ Less
-less_is Less h = refl
-less_is Equal h = absurd (cc)
-less_is Greater h = absurd (cc)
+less_is o h1 = grind (arith, common_steps, nat_tests)
 
 -- the key that is found at a page's front is its first entry's
 pub rises_to : (head : Option (Key × Rec)) (last first : Key × Rec) (pages : ℕ) (next : Option ℕ) (entries : Entries) (page : List ℕ) (test : Bool) → head ≡ Some last
@@ -296,13 +282,7 @@ rises_to head last first pages next entries page test head_is of begins tests =
 -- the numbers that a page's head says are those of its entries
 pub numbers_of_page : (cursor : CursorState) (next : Option ℕ) (entries : Entries) (read : Option ℕ) (count used : ℕ) → (read ≡ next) × (count ≡ length entries) × (used ≡ used_by entries)
     → AreInNumber cursor read count used ↔ AreInNumber cursor next (length entries) (entries_weight entries)
-numbers_of_page cursor next entries read count used (next_is, count_is, used_is) =
-    let weight_is : used ≡ entries_weight entries = used_is ∙ sym (weight_is_length entries) in (
-      λ numbers. subst (λ (o : Option ℕ). AreInNumber cursor o (length entries) (entries_weight entries)) next_is
-          (subst (λ (n : ℕ). AreInNumber cursor read n (entries_weight entries)) count_is (subst (λ (n : ℕ). AreInNumber cursor read count n) weight_is numbers)),
-      λ numbers. subst (λ (n : ℕ). AreInNumber cursor read count n) (sym weight_is)
-          (subst (λ (n : ℕ). AreInNumber cursor read n (entries_weight entries)) (sym count_is) (subst (λ (o : Option ℕ). AreInNumber cursor o (length entries) (entries_weight entries)) (sym next_is) numbers)),
-    )
+numbers_of_page cursor next entries read count used h1 = grind (arith, common_steps, nat_tests, weight_is_length)
 
 -- the fields at the front of a page
 pub taken_is : (head : Option (Key × Rec)) (page was : List ℕ) (at end number pages entries weight_left used next_number : ℕ) (now : CursorState) (all : ℕ) (next : Option ℕ) (es : Entries)
@@ -334,14 +314,7 @@ pub damage_shown : (sizes : Sizes) (cursor : CursorState) (n : ℕ) (page file :
     → page ≡ page_at sizes n file → goes ≡ false
     → ((pages : ℕ) (next : Option ℕ) (entries : Entries) → pages ≤ no_page → IsPageOf pages next entries page → IsTrue goes ↔ PageGoesOn cursor next entries)
     → IsDamageAt sizes cursor n file
-damage_shown sizes cursor n page file goes few is_next none more read wrong tells = record {
-  is_next = is_next;
-  none_left = none;
-  more_pages = more;
-  damaged = λ next entries at.
-      let of = subst (IsPageOf (page_count sizes) next entries) (ap (λ m. page_at sizes m file) (sym is_next) ∙ sym read) at.valid in
-      false≢true (sym wrong ∙ (tells (page_count sizes) next entries few of).1 at.goes_on);
-}
+damage_shown sizes cursor n page file goes h1 h2 h3 h4 h5 h6 h7 = grind (arith, common_steps, nat_tests)
 
 -- ---- what is ahead
 
@@ -385,8 +358,7 @@ stepped_ahead sizes old new head (e ∷ es) file a stepped =
 
 -- at the end nothing is ahead
 no_pages : (coming : List RunPage) → length coming ≡ 0 → coming ≡ []
-no_pages [] none = refl
-no_pages (p ∷ ps) none = absurd (omega (arith, none))
+no_pages coming h1 = grind (arith, common_steps, nat_tests)
 
 pub ended_ahead : (sizes : Sizes) (old : CursorState) (rest : List (Key × Rec)) (file : List ℕ) → (a : HasAhead sizes old rest file) → old.behind ≡ [] → old.pages ≡ 0
     → IsAdvanced sizes (record old { head = None }) (numbers_of a.coming) rest file
@@ -430,8 +402,7 @@ rise_head (Some h) es fs rise = rise_front (h ∷ es) fs rise
 
 -- whether there is a next page, by how many there are
 follows : (ps : List RunPage) (pages : ℕ) → suc (length ps) ≡ pages → IsSome (first_number ps None) ↔ (1 < pages)
-follows [] pages is = (λ some. absurd (false≢true some), λ more. absurd (omega (arith, is, more)))
-follows (p ∷ ps) pages is = (λ some. omega (arith, is), λ more. refl)
+follows ps pages h1 = grind (arith, common_steps, nat_tests)
 
 -- a cursor at a page's end, with pages ahead: its next page goes on, and has the first of what is ahead
 pub record OnNext (sizes : Sizes) (old : CursorState) (rest : List (Key × Rec)) (coming : List RunPage) (file : List ℕ) : Type 0 where
@@ -483,9 +454,7 @@ on_next sizes old rest file (p ∷ ps) first chained rest_is rise pages_is entri
     }
 
 pub ahead_on_next : (sizes : Sizes) (old : CursorState) (rest : List (Key × Rec)) (file : List ℕ) → (a : HasAhead sizes old rest file) → old.behind ≡ [] → 0 < old.pages → OnNext sizes old rest a.coming file
-ahead_on_next sizes old rest file a none more =
-    let here : a.here ≡ [] = none_in_none a.here (sym none ∙ a.behind_is) in
-    on_next sizes old rest file a.coming a.first_is a.chained (a.rest_is ∙ ap (λ (l : List (Key × Rec)). l ++ entries_of a.coming) here) a.rise a.pages_is a.entries_is a.weight_is more
+ahead_on_next sizes old rest file a h1 h2 = grind (arith, common_steps, nat_tests, none_in_none, on_next)
 
 -- what is ahead, on pages among these
 abbrev pub AheadAmong : Sizes → CursorState → List (Key × Rec) → List ℕ → List ℕ → Type 0

@@ -1,5 +1,7 @@
 -- What some entries say of a key whose list they are part of: those that are left of a page, and those of the one page that its fences name.
-use Rattle.std.proofs.Common.{◌≡◌, ◌≢◌, ℕ, ◌+◌, ◌<◌, ◌≤◌, Bool, true, false, List, [], ◌∷◌, ◌++◌, length, Option, Some, None, Result, Ok, Err, IfOk, inr, refl, ap, sym, subst, ◌∙◌, length-append, arith}
+use Rattle.std.proofs.lemmas.Bool.Decides.{nat_tests}
+use Rattle.std.proofs.lemmas.Grind.{common_steps}
+use Rattle.std.proofs.Common.{◌≡◌, ◌≢◌, ℕ, ◌+◌, ◌<◌, ◌≤◌, Bool, true, false, List, [], ◌∷◌, ◌++◌, length, Option, Some, None, Result, Ok, Err, IfOk, refl, ap, sym, subst, ◌∙◌, length-append, arith}
 use Rattle.std.specs.Prelude.{cond}
 use Rattle.std.specs.FinMap.{find as find_in, slice_cmp-IsAntisymmetric, nat_cmp-IsAntisymmetric}
 use Rattle.std.specs.List.{AllByRecursion, Contains, between}
@@ -114,9 +116,7 @@ first_decides key entries rest found rec l none b =
     }
   where
     by : (o : Ordering) → o ≢ Equal → o ≢ Greater → o ≡ Less
-    by Less equal greater = refl
-    by Equal equal greater = absurd (equal refl)
-    by Greater equal greater = absurd (greater refl)
+    by o h1 h2 = grind (arith, common_steps, nat_tests)
 
     less : key_cmp key found ≢ Equal → key_cmp key found ≢ Greater → key_cmp key found ≡ Less
     less equal greater = by (key_cmp key found) equal greater
@@ -172,9 +172,7 @@ above_lesser : (key first x : Key) → key_cmp key first ≢ Less → key_cmp x 
 above_lesser key first x not_below less = nat_list_cmp_total.antisymm key x ∙ ap ordering_reverse (by (key_cmp first key) refl)
   where
     by : (o : Ordering) → key_cmp first key ≡ o → key_cmp x key ≡ Less
-    by Less is = nat_list_cmp_total.trans x first key less is
-    by Equal is = subst (λ (k : Key). key_cmp x k ≡ Less) (tied first key is) less
-    by Greater is = absurd (not_below (nat_list_cmp_total.antisymm key first ∙ ap ordering_reverse is))
+    by o h1 = grind (arith, common_steps, nat_tests, nat_list_cmp_total, less, tied)
 
 -- ---- where no fence isn't above the key
 
@@ -249,9 +247,7 @@ on_page_of sizes key n file pages end chain rise place = (named sizes key n file
 -- ---- what a lookup answers
 
 eq_is : (o : Ordering) → is_eq o ≡ true → o ≡ Equal
-eq_is Less test = absurd (false≢true test)
-eq_is Equal test = refl
-eq_is Greater test = absurd (false≢true test)
+eq_is o h1 = grind (arith, common_steps, nat_tests)
 
 pub same_key : (key found : Key) (order : Ordering) (test : Bool) → order ≡ key_cmp key found → test ≡ is_eq order → test ≡ true → key_cmp key found ≡ Equal
 same_key key found order test is tests holds = eq_is (key_cmp key found) (ap is_eq (sym is) ∙ sym tests ∙ holds)
@@ -260,8 +256,7 @@ pub other_key : (key found : Key) (order : Ordering) (test : Bool) → order ≡
 other_key key found order test is tests fails equal = false≢true (sym fails ∙ tests ∙ ap is_eq (is ∙ equal))
 
 pub no_pages : (key : Key) (pages : List RunPage) (n : ℕ) → length pages ≡ n → n ≡ 0 → find_in key_cmp key (entries_of pages) ≡ None
-no_pages key [] n long none = refl
-no_pages key (p ∷ ps) n long none = absurd (omega (arith, long, none))
+no_pages key pages n h1 h2 = grind (arith, common_steps, nat_tests)
 
 pub some_pages : (pages : List RunPage) (n : ℕ) → length pages ≡ n → (n ≡ 0 → ⊥) → pages ≡ [] → ⊥
 some_pages pages n long some none = some (sym long ∙ ap (length {A = RunPage}) none)
@@ -271,12 +266,7 @@ pub listed : (H : Type 0) (sizes : Sizes) (key : Key) (n : ℕ) (pages : List Ru
     → IfOk result (λ found. H → IsOnPage sizes n key found file)
     → ((m : ℕ) → result ≡ Err (Damaged m) → H → (m ≡ n) × ((next : Option ℕ) (entries : Entries) → n < page_count sizes → IsPageOf (page_count sizes) next entries (page_at sizes n file) → ⊥))
     → result ≢ Err Fault → result ≡ Ok (find_in key_cmp key (entries_of pages))
-listed H sizes key n pages file (Ok found) honest few on told damaged other =
-    let page = told honest in
-    let same = page_same (page_count sizes) page.next on.next page.entries on.entries (page_at sizes n file) few page.valid on.valid in
-    ap Ok (page.found_is ∙ ap (find_in key_cmp key) same.1 ∙ sym on.same)
-listed H sizes key n pages file (Err Fault) honest few on told damaged other = absurd (other refl)
-listed H sizes key n pages file (Err (Damaged m)) honest few on told damaged other = absurd ((damaged m refl honest).1 on.next on.entries on.inside on.valid)
+listed H sizes key n pages file result h1 h2 h3 h4 h5 h6 = grind (arith, common_steps, nat_tests, page_same)
 
 -- ---- whatever filter and fences are
 
@@ -287,8 +277,7 @@ asked_on run filter fences key n some may place = record { pages = some; yes = m
 -- what the page says that is asked was found
 pub asked_told : (H : Type 0) (sizes : Sizes) (run : Component) (filter : BitState) (fences : FencesState) (key : Key) (n calls : ℕ) (file : List ℕ) (result : Result (Option Rec) Broken) → IsAsked run filter fences key n → calls ≤ 1
     → IfOk result (λ found. H → IsOnPage sizes n key found file) → IfOk result (λ found. H → IsFoundBy sizes run filter fences key found calls file)
-asked_told H sizes run filter fences key n calls file (Ok found) asked once told = λ honest. inr (n, asked, told honest, once)
-asked_told H sizes run filter fences key n calls file (Err broken) asked once told = tt
+asked_told H sizes run filter fences key n calls file result h1 h2 h3 = grind (arith, common_steps, nat_tests)
 
 -- the page is the one that is asked, so it is damaged
 pub asked_damaged : (sizes : Sizes) (run : Component) (filter : BitState) (fences : FencesState) (key : Key) (m n : ℕ) (file : List ℕ) → m ≡ n → IsAsked run filter fences key n

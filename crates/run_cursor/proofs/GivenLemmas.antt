@@ -1,4 +1,6 @@
 -- What a cursor has given, as it goes on.
+use Rattle.std.proofs.lemmas.Bool.Decides.{nat_tests}
+use Rattle.std.proofs.lemmas.Grind.{common_steps}
 use Rattle.std.proofs.Common.{◌≡◌, inl, inr, ⊎_elim, ℕ, ◌+◌, ◌<◌, ◌≤◌, List, [], ◌∷◌, ◌++◌, length, Option, Some, None, refl, ap, sym, subst, ◌∙◌, length-append, arith}
 use Rattle.std.specs.Prelude.{IsSome}
 use Rattle.std.specs.List.{last_or}
@@ -126,12 +128,10 @@ one_some : {X : Type 0} {a b : X} → Some a ≡ Some b → a ≡ b
 one_some same = cc
 
 end_some : (end : Option ℕ) (n count : ℕ) → page_number end ≡ n → n < count → count ≤ no_page → end ≡ Some n
-end_some (Some m) n count is inside few = ap Some is
-end_some None n count is inside few = absurd (omega (arith, is, inside, few))
+end_some end n count h1 h2 h3 = grind (arith, common_steps, nat_tests)
 
 not_some : (next : Option ℕ) (n : ℕ) → (IsSome next → 1 < n) → n ≡ 1 → next ≡ None
-not_some (Some m) n more one = absurd (omega (arith, more refl, one))
-not_some None n more one = refl
+not_some next n h1 h2 = grind (arith, common_steps, nat_tests)
 
 -- the cursor went on to the first entry of its next page
 pub given_on : (sizes : Sizes) (run : Component) (old new : CursorState) (given : List (Key × Rec)) (next : Option ℕ) (es : Entries) (e : Key × Rec) (file : List ℕ) → page_count sizes ≤ no_page
@@ -177,45 +177,4 @@ given_on sizes run old new given next es e file few g none more at stepped =
 
 pub given_end : (sizes : Sizes) (run : Component) (old : CursorState) (given : List (Key × Rec)) (file : List ℕ) → page_count sizes ≤ no_page → HasGiven sizes run old given file
     → old.behind ≡ [] → old.pages ≡ 0 → old.entries ≡ 0 → old.weight ≡ 0 → HasList sizes run given file × HasGiven sizes run (record old { head = None }) given file
-given_end sizes run old given file few g none last no_entries no_weight =
-    let here : g.here ≡ [] = none_in_none g.here (sym none ∙ g.behind_is) in
-    let end : g.end ≡ None = g.none_next last in
-    let so_far : given ++ g.here ≡ given = ap (λ (l : List (Key × Rec)). given ++ l) here ∙ append-nil given in
-    let are : entries_of g.pages ≡ given = g.entries_are ∙ so_far in
-    let chained : AreChained sizes g.pages None file = subst (λ (o : Option ℕ). AreChained sizes g.pages o file) end g.chained in
-    let rises : AreRising (entries_of g.pages) = subst AreRising (sym g.entries_are) g.rise in
-    let pages = g.pages_is in
-    let count = g.entries_is in
-    let weighs = g.weight_is in (
-      record {
-        pages = g.pages;
-        reads = record {
-          first_is = ap (λ (o : Option ℕ). page_number (first_number g.pages o)) (sym end) ∙ g.first_is;
-          chained = chained;
-          rise = rises;
-          apart = rising_apart sizes g.pages None file few chained rises;
-          pages_is = omega (arith, pages, last);
-          entries_is = ap (length {A = Key × Rec}) are ∙ omega (arith, count, no_entries);
-          weight_is = ap entries_weight are ∙ omega (arith, weighs, no_weight);
-        };
-        entries_are = are;
-      },
-      record {
-        pages = g.pages;
-        end = g.end;
-        here = g.here;
-        first_is = g.first_is;
-        chained = g.chained;
-        end_is = g.end_is;
-        none_next = g.none_next;
-        each = g.each;
-        behind_is = g.behind_is;
-        entries_are = g.entries_are;
-        on_last = g.on_last;
-        rise = g.rise;
-        head_is = inr last;
-        pages_is = g.pages_is;
-        entries_is = g.entries_is;
-        weight_is = g.weight_is;
-      },
-    )
+given_end sizes run old given file h1 h2 h3 h4 h5 h6 = grind (arith, common_steps, nat_tests, none_in_none, append-nil, rising_apart)

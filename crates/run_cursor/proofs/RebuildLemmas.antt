@@ -1,11 +1,11 @@
 -- How filter and fences grow with a cursor that walks over a component.
-use Rattle.std.proofs.Common.{◌≡◌, ◌≢◌, ◌⊎◌, ℕ, zero, suc, ◌+◌, ◌≤◌, List, [], ◌∷◌, ◌++◌, length, Option, Some, None, refl, ap, sym, subst, ◌∙◌, inl, inr, append_assoc, length-append, arith}
+use Rattle.std.proofs.lemmas.Bool.Decides.{nat_tests}
+use Rattle.std.proofs.lemmas.Grind.{common_steps}
+use Rattle.std.proofs.Common.{◌≡◌, ◌≢◌, ◌⊎◌, ℕ, zero, suc, ◌+◌, ◌≤◌, List, [], ◌∷◌, ◌++◌, length, Option, Some, None, refl, ap, sym, subst, ◌∙◌, inl, append_assoc, length-append, arith}
 use Rattle.std.specs.List.{All, Contains}
 use Rattle.std.specs.declared.cmp.Ordering.TheVariants.{Less}
-use Rattle.std.proofs.lemmas.Bool.{cases_lt}
 use Rattle.std.proofs.lemmas.Cmp.{nat_list_cmp_total}
 use Rattle.std.proofs.lemmas.List.{append-nil, append_cancel_right, map-append}
-use Rattle.std.proofs.lemmas.List.Elements.{All-nil, All-cons, All-append}
 use Rattle.blsm_model.specs.Components.{no_page}
 use Rattle.blsm_model.specs.Geometry.{page_count}
 use Rattle.blsm_model.specs.Keys.{key_cmp}
@@ -33,20 +33,13 @@ UpTo None fences = fences ≡ []
 UpTo (Some h) fences = All (λ f. (key_cmp f.0 h.0 ≡ Less) ⊎ (f.0 ≡ h.0)) fences
 
 pub next_above : (old : Option (Key × Rec)) (e : Key × Rec) (fences : List (Key × ℕ)) → UpTo old fences → Rises old (Some e) → IsAboveAll e.0 fences
-next_above None e fences none rises = subst (IsAboveAll e.0) (sym none) (All-nil (λ (f : Key × ℕ). key_cmp f.0 e.0 ≡ Less))
-next_above (Some h) e fences up rises = λ k d within.
-    elim (up k d within) [
-      | inl less ↦ nat_list_cmp_total.trans _ h.0 e.0 less rises
-      | inr same ↦ subst (λ (q : Key). key_cmp q e.0 ≡ Less) (sym same) rises
-    ]
+next_above old e fences h1 h2 = grind (arith, common_steps, nat_tests, nat_list_cmp_total)
 
 pub up_still : (e : Key × Rec) (fences : List (Key × ℕ)) → IsAboveAll e.0 fences → UpTo (Some e) fences
 up_still e fences above = λ k d within. inl (above k d within)
 
 pub up_more : (e : Key × Rec) (page : ℕ) (fences : List (Key × ℕ)) → IsAboveAll e.0 fences → UpTo (Some e) (fences ++ (e.0, page) ∷ [])
-up_more e page fences above =
-    let P = λ (f : Key × ℕ). (key_cmp f.0 e.0 ≡ Less) ⊎ (f.0 ≡ e.0) in
-    All-append P fences ((e.0, page) ∷ []) (up_still e fences above) (All-cons P (e.0, page) [] (inr refl) (All-nil P))
+up_more e page fences h1 = grind (arith, common_steps, nat_tests)
 
 -- ---- a chain that ends where another does is its end
 
@@ -64,8 +57,7 @@ suffix sizes file few ps [] c d among = (ps, sym (append-nil ps))
 suffix sizes file few ps (q ∷ qs) c d among = ends_with sizes file few ps q qs c d (among q.number (zero, omega arith, refl))
 
 same_by_length : (ps front qs : List RunPage) → ps ≡ front ++ qs → length ps ≡ length qs → ps ≡ qs
-same_by_length ps [] qs is long = is
-same_by_length ps (f ∷ fs) qs is long = absurd (omega (arith, ap (length {A = RunPage}) is, length-append fs qs, long))
+same_by_length ps front qs h1 h2 = grind (arith, common_steps, nat_tests)
 
 one_more : (ps front qs : List RunPage) → ps ≡ front ++ qs → length ps ≡ length qs + 1 → (p : RunPage) × (ps ≡ p ∷ qs)
 one_more ps [] qs is long = absurd (omega (arith, ap (length {A = RunPage}) is, long))
@@ -185,42 +177,22 @@ no_entries : (sizes : Sizes) (file : List ℕ) (ps : List RunPage) → AreChaine
 no_entries sizes file [] chain none = refl
 no_entries sizes file (p ∷ ps) chain none = let some = chain.1.content.head.some in absurd (omega (arith, some, ap (length {A = Key × Rec}) none, length-append p.entries (entries_of ps)))
 
-both_none : {X : Type 0} (xs ys : List X) → [] ≡ xs ++ ys → (xs ≡ []) × (ys ≡ [])
-both_none [] ys is = (refl, sym is)
-both_none (x ∷ xs) ys is = absurd (cc)
-
 none_left : (sizes : Sizes) (new : CursorState) (pages : List ℕ) (rest : Entries) (file : List ℕ) → IsAdvanced sizes new pages rest file → new.head ≡ None → rest ≡ []
-none_left sizes new pages [] file advanced is = refl
-none_left sizes new pages (e ∷ es) file advanced is = absurd (let some = advanced.0 in cc)
+none_left sizes new pages rest file h1 h2 = grind (arith, common_steps, nat_tests)
 
 pub built : (sizes : Sizes) (old new : CursorState) (filter : BitState) (fences : FencesState) (pages : List RunPage) (file : List ℕ) → (b : Building sizes old filter fences pages file)
     → IsAdvanced sizes new (numbers_of b.ahead.coming) b.rest file → new.head ≡ None → Guide filter fences pages
-built sizes old new filter fences pages file b advanced none =
-    let rest_none = none_left sizes new (numbers_of b.ahead.coming) b.rest file advanced none in
-    let parts = both_none b.ahead.here (entries_of b.ahead.coming) (sym rest_none ∙ b.ahead.rest_is) in
-    let coming_none = no_entries sizes file b.ahead.coming b.ahead.chained parts.1 in
-    let pages_are : pages ≡ b.read = b.pages_are ∙ ap (λ ps. b.read ++ ps) coming_none ∙ append-nil b.read in
-    let given : b.given ≡ entries_of pages = sym (append-nil b.given) ∙ ap (λ (l : Entries). b.given ++ l) (sym parts.0) ∙ sym b.given_are ∙ ap entries_of (sym pages_are) in
-    record {
-      keys = subst (λ (l : Entries). HasKeys filter (keys_of l)) given b.keys;
-      fences_are = b.fences_are ∙ ap fences_of (sym pages_are);
-    }
+built sizes old new filter fences pages file b h1 h2 = grind (arith, common_steps, nat_tests)
 
 -- ---- pages that are left, and answers
 
 -- where no page is due, as many are left as before
 pub as_many : (behind : List ℕ) (old new before after : ℕ) → (behind ≡ [] → old ≡ 0) → (behind ≢ [] → new ≡ old) → (old ≡ 0 → after ≡ before) → after + new ≤ before + old → new ≡ old
-as_many [] old new before after none stays calm few = let zero_left = none refl in omega (arith, zero_left, calm zero_left, few)
-as_many (b ∷ bs) old new before after none stays calm few = stays (λ is. cc)
+as_many behind old new before after h1 h2 h3 h4 = grind (arith, common_steps, nat_tests)
 
 pub none_of : (head found : Option (Key × Rec)) → found ≡ head → ((e : Key × Rec) → found ≡ Some e → ⊥) → head ≡ None
-none_of None found is none = refl
-none_of (Some e) found is none = absurd (none e is)
+none_of head found h1 h2 = grind (arith, common_steps, nat_tests)
 
 -- one call for each page that isn't read yet
 pub few_calls : (pages all old mid new : ℕ) → mid + pages ≤ old + all → new ≤ mid + 1 → (pages ≡ 0 → new ≡ mid) → new ≤ old + all
-few_calls pages all old mid new so_far one none =
-    elim (cases_lt 0 pages) [
-      | inl some ↦ omega (arith, some, so_far, one)
-      | inr le ↦ omega (arith, so_far, none (omega (arith, le)))
-    ]
+few_calls pages all old mid new h1 h2 h3 = grind (arith, common_steps, nat_tests)

@@ -1,4 +1,6 @@
 -- The bytes of a buffer's entries, and of the page that they become.
+use Rattle.std.proofs.lemmas.Bool.Decides.{nat_tests}
+use Rattle.std.proofs.lemmas.Grind.{common_steps}
 use Rattle.std.proofs.Common.{◌≡◌, ℕ, zero, ◌+◌, ◌-◌, ◌≤◌, List, ◌++◌, length, take, drop, ap, sym, ◌∙◌, length-append, arith}
 use Rattle.record_delta.specs.Entries.{Entries}
 use Rattle.std.specs.Prelude.{replicate, Option}
@@ -20,16 +22,7 @@ taken_more bytes out entry s used len within written is long =
 -- what is left of so many zeros behind four pieces
 pub zeros_left : (a b c d : List ℕ) (n : ℕ) → length a ≡ 2 → length b ≡ 2 → length c ≡ 4
     → drop (length d) (drop (length c) (drop (length b) (drop (length a) (replicate (8 + n) zero)))) ≡ replicate (n - length d) zero
-zeros_left a b c d n a_long b_long c_long =
-    let za = drop-replicate (length a) (8 + n) zero in
-    let zb = drop-replicate (length b) (8 + n - length a) zero in
-    let zc = drop-replicate (length c) (8 + n - length a - length b) zero in
-    let zd = drop-replicate (length d) (8 + n - length a - length b - length c) zero in
-    ap (λ (l : List ℕ). drop (length d) (drop (length c) (drop (length b) l))) za
-    ∙ ap (λ (l : List ℕ). drop (length d) (drop (length c) l)) zb
-    ∙ ap (λ (l : List ℕ). drop (length d) l) zc
-    ∙ zd
-    ∙ ap (λ k. replicate k zero) (omega (arith, a_long, b_long, c_long))
+zeros_left a b c d n h1 h2 h3 = grind (arith, common_steps, nat_tests, drop-replicate)
 
 -- the page of a buffer that has these entries
 pub sealed-bytes : (next : Option ℕ) (buffer : BufferState) (entries : Entries) → IsBufferOf buffer entries → sealed next buffer ≡ page_bytes next entries

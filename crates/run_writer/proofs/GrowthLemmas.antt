@@ -1,10 +1,12 @@
 -- Runs that grow: their keys rise, no page is there twice, and they don't have all pages.
-use Rattle.std.proofs.Common.{◌≡◌, Bool, false, ℕ, zero, suc, ◌+◌, ◌<◌, ◌≤◌, List, [], ◌∷◌, ◌++◌, length, refl, ap, sym, subst, ◌∙◌, ◌⊎◌, ⊎_elim, inl, inr, length-append, arith}
+use Rattle.std.proofs.lemmas.Bool.Decides.{nat_tests}
+use Rattle.std.proofs.lemmas.Grind.{common_steps}
+use Rattle.std.proofs.Common.{◌≡◌, Bool, false, ℕ, ◌+◌, ◌<◌, ◌≤◌, List, [], ◌∷◌, ◌++◌, length, refl, ap, sym, subst, ◌∙◌, ◌⊎◌, ⊎_elim, inl, inr, length-append, arith}
 use Rattle.record_delta.specs.Entries.{Entries}
 use Rattle.std.specs.List.{Contains, AllByRecursion, IsDistinct}
 use Rattle.std.specs.Prelude.{nat_eq, IsTrue}
-use Rattle.std.proofs.lemmas.Bool.{cases_lt, false≢true, eqb-true, eq-eqb, ne_eqb}
-use Rattle.std.proofs.lemmas.List.{get_or_past, length-map}
+use Rattle.std.proofs.lemmas.Bool.{false≢true, eqb-true, eq-eqb, ne_eqb}
+use Rattle.std.proofs.lemmas.List.{length-map}
 use Rattle.std.proofs.lemmas.List.Elements.{Contains-append_left, Contains-append_right, Contains-append_cases}
 use Rattle.std.proofs.lemmas.Map.Views.{Contains-from_any}
 use Rattle.std.proofs.lemmas.Map.Steps.{length-le_from_distinct_below}
@@ -20,14 +22,12 @@ use Rattle.bloom_bits.specs.Fences.{FencesState, IsAboveAll}
 use Rattle.bloom_bits.specs.Guides.{Guide}
 use Rattle.run_writer.specs.Run.{Run, page_of, pages_of, IsRun, AreTagged}
 use Rattle.run_writer.specs.Writer.{WriterState, IsCounted, Holds, Stands, HasPushed}
-use Rattle.run_writer.proofs.RunLemmas.{empty_run, pushed_here, pushed_on, entries_here, entries_on, no_pages}
+use Rattle.run_writer.proofs.RunLemmas.{empty_run, pushed_here, pushed_on, entries_here, entries_on}
 use Rattle.run_writer.proofs.GuideLemmas.{Adds, guide_here, guide_on, fences_below}
 
 -- a run with pages has an entry in its open page
 pub has_open : (writer : WriterState) (run : Run) → Holds writer run → 0 < writer.component.pages → run.entries ≡ [] → ⊥
-has_open writer run held some none =
-    let same : length (pages_of run) ≡ 0 = ap (λ (es : Entries). length (run.closed ++ page_of run.number es)) none ∙ no_pages run.closed run.number (held.some none) in
-    omega (arith, some, held.pages_is, same)
+has_open writer run h1 h2 h3 = grind (arith, common_steps, nat_tests)
 
 -- the numbers of the pages stay where the open one has more entries
 numbers_here : (closed : List RunPage) (number : ℕ) (es fs : Entries) → (es ≡ [] → ⊥) → numbers_of (closed ++ page_of number (es ++ fs)) ≡ numbers_of (closed ++ page_of number es)
@@ -36,14 +36,10 @@ numbers_here [] number (e ∷ es) fs some = refl
 numbers_here (p ∷ ps) number (e ∷ es) fs some = ap (λ (l : List ℕ). p.number ∷ l) (numbers_here ps number (e ∷ es) fs some)
 
 pub grows_here : (key : Key) (rec : Rec) (run : Run) → IsRun run → (run.entries ≡ [] → ⊥) → AreRising (entries_of (pages_of run) ++ (key, rec) ∷ []) → IsRun (pushed_here key rec run)
-grows_here key rec run is_run some rise = record {
-  rise = subst AreRising (sym (entries_here key rec run)) rise;
-  apart = subst (IsDistinct nat_eq) (sym (numbers_here run.closed run.number run.entries ((key, rec) ∷ []) some)) is_run.apart;
-}
+grows_here key rec run h1 h2 h3 = grind (arith, common_steps, nat_tests, entries_here, numbers_here)
 
 pub tagged_here : (space : SpaceState) (role : ℕ) (key : Key) (rec : Rec) (run : Run) → AreTagged space role run → (run.entries ≡ [] → ⊥) → AreTagged space role (pushed_here key rec run)
-tagged_here space role key rec run tagged some n has =
-    tagged n (subst (λ (l : List ℕ). Contains l n) (numbers_here run.closed run.number run.entries ((key, rec) ∷ []) some) has)
+tagged_here space role key rec run h1 h2 = grind (arith, common_steps, nat_tests, numbers_here)
 
 -- a page more
 numbers_on : (pages : List RunPage) (page : ℕ) (e : Key × Rec) → numbers_of (pages ++ page_of page (e ∷ [])) ≡ numbers_of pages ++ page ∷ []
@@ -78,8 +74,7 @@ grows_on space role page key rec run is_run tagged free rise = record {
 }
 
 pub only_one : (page n : ℕ) → Contains (page ∷ []) n → n ≡ page
-only_one page n (zero, within, is) = sym is
-only_one page n (suc k, within, is) = absurd (omega (arith, within))
+only_one page n h1 = grind (arith, common_steps, nat_tests)
 
 last_of : (P : ℕ → Type 0) (ps : List RunPage) (q : RunPage) → AllByRecursion P (numbers_of (ps ++ q ∷ [])) → P q.number
 last_of P [] q all = all.0
@@ -108,11 +103,7 @@ all_apart [] n fresh = tt
 all_apart (m ∷ ns) n fresh = (ne_eqb n m (λ same. fresh (subst (Contains (m ∷ ns)) (sym same) (here m ns))), all_apart ns n (λ has. fresh (further m ns n has)))
 
 pub in_range : (set : Members) (page : ℕ) → IsIn set page → page < length set
-in_range set page is_in =
-    elim (cases_lt page (length set)) [
-      | inl below ↦ below
-      | inr past ↦ absurd (false≢true (sym (get_or_past set page false past) ∙ is_in))
-    ]
+in_range set page h1 = grind (arith, common_steps, nat_tests)
 
 pub has_room : (space : SpaceState) (role : ℕ) (run : Run) → IsSpace space → role < role_count → HasFree space → AreTagged space role run → IsRun run → length (pages_of run) < space.pages
 unfolding IsDistinct
@@ -199,6 +190,4 @@ more_on sizes honest old_file file old space writer new filter after fences fenc
 -- a key that comes next is above the fences
 pub next_above : (sizes : Sizes) (honest : Bool) (file : List ℕ) (space : SpaceState) (writer : WriterState) (filter : BitState) (fences : FencesState) (entries : Entries) (key : Key) (rec : Rec)
     → HasPushed sizes honest file space writer filter fences entries → AreRising (entries ++ (key, rec) ∷ []) → IsAboveAll key fences.list
-next_above sizes honest file space writer filter fences entries key rec has rise =
-    let rising : AreRising (entries_of (pages_of has.run) ++ (key, rec) ∷ []) = subst (λ (l : Entries). AreRising (l ++ (key, rec) ∷ [])) (sym has.entries_are) rise in
-    subst (IsAboveAll key) (sym has.guide.fences_are) (fences_below key rec (pages_of has.run) rising)
+next_above sizes honest file space writer filter fences entries key rec h1 h2 = grind (arith, common_steps, nat_tests, fences_below)

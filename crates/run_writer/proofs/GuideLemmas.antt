@@ -1,10 +1,12 @@
 -- The filter and the fences of a run that grows.
-use Rattle.std.proofs.Common.{◌≡◌, ℕ, List, [], ◌∷◌, ◌++◌, refl, ap, sym, subst, ◌∙◌, append_assoc}
+use Rattle.std.proofs.lemmas.Bool.Decides.{nat_tests}
+use Rattle.std.proofs.lemmas.Grind.{common_steps}
+use Rattle.std.proofs.Common.{◌≡◌, ℕ, List, [], ◌∷◌, ◌++◌, refl, ap, sym, ◌∙◌, append_assoc, arith}
 use Rattle.std.specs.List.{AllByRecursion}
 use Rattle.std.specs.List.Sorted.{IsStrictlySortedBy}
 use Rattle.std.specs.declared.cmp.Ordering.TheVariants.{Less}
 use Rattle.std.proofs.lemmas.List.{map-append}
-use Rattle.std.proofs.lemmas.List.Elements.{All-nil, All-cons, All-append}
+use Rattle.std.proofs.lemmas.List.Elements.{All-nil, All-append}
 use Rattle.blsm_model.specs.declared.key.Key.{Key}
 use Rattle.blsm_model.specs.Keys.{key_cmp}
 use Rattle.record_delta.specs.declared.record.Rec.{Rec}
@@ -39,17 +41,11 @@ keys_more : (more es : Entries) (key : Key) (rec : Rec) → more ≡ es ++ (key,
 keys_more more es key rec is = sym (ap keys_of is ∙ map-append (λ (e : Key × Rec). e.0) es ((key, rec) ∷ []))
 
 pub guide_here : (filter after : BitState) (fences : FencesState) (key : Key) (rec : Rec) (run : Run) → Adds key filter after → (run.entries ≡ [] → ⊥) → Guide filter fences (pages_of run) → Guide after fences (pages_of (pushed_here key rec run))
-guide_here filter after fences key rec run adds some guide = record {
-  keys = subst (HasKeys after) (keys_more _ _ key rec (entries_here key rec run)) (adds (keys_of (entries_of (pages_of run))) guide.keys);
-  fences_are = guide.fences_are ∙ sym (fences_here run.closed run.number run.entries ((key, rec) ∷ []) some);
-}
+guide_here filter after fences key rec run h1 h2 h3 = grind (arith, common_steps, nat_tests, keys_more, entries_here, fences_here)
 
 pub guide_on : (filter after : BitState) (fences fences_after : FencesState) (page : ℕ) (key : Key) (rec : Rec) (run : Run) → Adds key filter after → fences_after.list ≡ fences.list ++ (key, page) ∷ []
     → Guide filter fences (pages_of run) → Guide after fences_after (pages_of (pushed_on page key rec run))
-guide_on filter after fences fences_after page key rec run adds fenced guide = record {
-  keys = subst (HasKeys after) (keys_more _ _ key rec (entries_on page key rec run)) (adds (keys_of (entries_of (pages_of run))) guide.keys);
-  fences_are = fenced ∙ ap (λ l. l ++ (key, page) ∷ []) guide.fences_are ∙ sym (fences_on (pages_of run) page (key, rec));
-}
+guide_on filter after fences fences_after page key rec run h1 h2 h3 = grind (arith, common_steps, nat_tests, keys_more, entries_on, fences_on)
 
 -- ---- the key that comes next
 
@@ -72,8 +68,7 @@ back P [] ys all = all
 back P (x ∷ xs) ys all = back P xs ys all.1
 
 fence_below : (key : Key) (number : ℕ) (es : Entries) → AllByRecursion (λ (x : Key × Rec). key_cmp x.0 key ≡ Less) es → IsAboveAll key (fence_of number es)
-fence_below key number [] all = All-nil (λ (f : Key × ℕ). key_cmp f.0 key ≡ Less)
-fence_below key number (e ∷ es) all = All-cons (λ (f : Key × ℕ). key_cmp f.0 key ≡ Less) (e.0, number) [] all.0 (All-nil (λ (f : Key × ℕ). key_cmp f.0 key ≡ Less))
+fence_below key number es h1 = grind (arith, common_steps, nat_tests)
 
 each_below : (key : Key) (pages : List RunPage) → AllByRecursion (λ (x : Key × Rec). key_cmp x.0 key ≡ Less) (entries_of pages) → IsAboveAll key (fences_of pages)
 each_below key [] all = All-nil (λ (f : Key × ℕ). key_cmp f.0 key ≡ Less)

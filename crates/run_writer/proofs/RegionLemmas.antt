@@ -1,11 +1,14 @@
 -- Where a writer writes: in its open page, which is one of the run's, and none of the closed ones.
-use Rattle.std.proofs.Common.{◌≡◌, Bool, ℕ, ◌<◌, List, [], ◌∷◌, ◌++◌, Some, refl, sym, subst, ◌∙◌, inl, inr, ⊎_elim, Result, Ok, Err, arith}
+use Rattle.std.proofs.lemmas.Bool.Decides.{nat_tests}
+use Rattle.std.proofs.lemmas.Grind.{common_steps}
+use Rattle.std.proofs.Common.{◌≡◌, Bool, ℕ, ◌<◌, List, [], ◌∷◌, ◌++◌, Some, refl, sym, subst, ◌∙◌, inl, inr, ⊎_elim, Result, arith}
 use Rattle.record_delta.specs.Entries.{Entries}
 use Rattle.std.specs.Prelude.{IsTrue, OnOk, OnErr, IsErr, nat_eq}
 use Rattle.std.specs.List.{Contains, IsDistinct}
 use Rattle.std.proofs.lemmas.Bool.{false≢true}
 use Rattle.std.proofs.lemmas.List.Elements.{Contains-append_cases}
-use Rattle.disk_trait.specs.Region.{IsWithin, AreApart, IsSameOutside, same_wider}
+use Rattle.disk_trait.specs.Region.{IsWithin, AreApart, IsSameOutside}
+use Rattle.disk_trait.proofs.RegionLemmas.{same_wider}
 use Rattle.blsm_model.specs.declared.key.Key.{Key}
 use Rattle.blsm_model.specs.Sizes.{Sizes}
 use Rattle.blsm_model.specs.Geometry.{page_count}
@@ -90,9 +93,7 @@ pushed_kept sizes honest old new space after writer filter fences entries tags s
 
 -- an error gives no value, and what holds anyway holds after it
 pub not_ok : {T E : Type 0} (P : Type 0) (r : Result T E) → IsErr r → OnOk r P
-not_ok P (Ok v) is = absurd (false≢true is)
-not_ok P (Err e) is = tt
+not_ok P r h1 = grind (arith, common_steps, nat_tests)
 
 pub always_err : {T E P : Type 0} (r : Result T E) → P → OnErr r P
-always_err (Ok v) p = tt
-always_err (Err e) p = p
+always_err r h1 = grind (arith, common_steps, nat_tests)

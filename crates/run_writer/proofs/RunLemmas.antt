@@ -1,12 +1,13 @@
 -- A run with one entry more: what the writer holds then, and what stands on the disk.
+use Rattle.std.proofs.lemmas.Bool.Decides.{nat_tests}
+use Rattle.std.proofs.lemmas.Grind.{common_steps}
 use Rattle.std.proofs.Common.{◌≡◌, ℕ, ◌+◌, ◌<◌, ◌≤◌, List, [], ◌∷◌, ◌++◌, length, None, refl, ap, sym, ◌∙◌, append_assoc, length-append, arith}
 use Rattle.record_delta.specs.Entries.{Entries, entries_weight}
 use Rattle.std.specs.List.{IsDistinct}
 use Rattle.std.specs.List.Sorted.{IsStrictlySortedBy}
 use Rattle.std.specs.Prelude.{nat_eq, if◌then◌else◌}
-use Rattle.std.proofs.lemmas.Bool.{ne_eqb}
 use Rattle.std.proofs.lemmas.List.{append-nil}
-use Rattle.std.proofs.lemmas.List.Elements.{All-nil, All-cons, All-append}
+use Rattle.std.proofs.lemmas.List.Elements.{All-nil}
 use Rattle.std.proofs.lemmas.List.Sums.{sum_by-cons}
 use Rattle.blsm_model.specs.Components.{no_page}
 use Rattle.blsm_model.specs.declared.key.Key.{Key}
@@ -18,7 +19,7 @@ use Rattle.page_file.specs.Entry.{IsPageEntry, entries_bytes}
 use Rattle.page_file.specs.Page.{most_used, page_number}
 use Rattle.page_file.specs.Component.{RunPage, entries_of, first_number}
 use Rattle.page_file.proofs.EntryLemmas.{entries_bytes-append}
-use Rattle.page_file.proofs.ComponentLemmas.{first_join, entries_join, weight_join}
+use Rattle.page_file.proofs.ComponentLemmas.{first_join, entries_join}
 use Rattle.run_writer.specs.Buffer.{BufferState, with_entry, empty_buffer, IsBufferOf}
 use Rattle.run_writer.specs.Run.{Run, page_of, pages_of, IsRun}
 use Rattle.run_writer.specs.Writer.{WriterState, started, put_in, turned, Holds}
@@ -46,28 +47,19 @@ one_entry key rec = append-nil (spelling key rec)
 
 has_more : (buffer : BufferState) (entries : Entries) (key : Key) (rec : Rec) → IsBufferOf buffer entries → IsSpelled key rec
     → IsBufferOf (with_entry key rec buffer) (entries ++ (key, rec) ∷ [])
-has_more buffer entries key rec has entry = record {
-  each = All-append IsPageEntry entries ((key, rec) ∷ []) has.each (All-cons IsPageEntry (key, rec) [] entry (All-nil IsPageEntry));
-  count_is = omega (arith, has.count_is, length-append entries ((key, rec) ∷ []));
-  spelled =
-      ap (λ (l : List ℕ). l ++ spelling key rec) has.spelled ∙ ap (λ (l : List ℕ). entries_bytes entries ++ l) (sym (one_entry key rec))
-      ∙ sym (entries_bytes-append entries ((key, rec) ∷ []));
-}
+has_more buffer entries key rec h1 h2 = grind (arith, common_steps, nat_tests, length-append, one_entry, entries_bytes-append)
 
 -- ---- the run's entries and numbers
 
 pub of_page : (number : ℕ) (es : Entries) → entries_of (page_of number es) ≡ es
-of_page number [] = refl
-of_page number (e ∷ es) = append-nil (e ∷ es)
+of_page number es = grind (arith, common_steps, nat_tests)
 
 run_entries : (closed : List RunPage) (number : ℕ) (es : Entries) → entries_of (closed ++ page_of number es) ≡ entries_of closed ++ es
 run_entries closed number es = entries_join closed (page_of number es) ∙ ap (λ (l : Entries). entries_of closed ++ l) (of_page number es)
 
 -- an entry more is one more in the list, wherever it stands
 pub entries_here : (key : Key) (rec : Rec) (run : Run) → entries_of (pages_of (pushed_here key rec run)) ≡ entries_of (pages_of run) ++ (key, rec) ∷ []
-entries_here key rec run =
-    run_entries run.closed run.number (run.entries ++ (key, rec) ∷ []) ∙ sym (append_assoc (entries_of run.closed) run.entries ((key, rec) ∷ []))
-    ∙ ap (λ (l : Entries). l ++ (key, rec) ∷ []) (sym (run_entries run.closed run.number run.entries))
+entries_here key rec run = grind (arith, common_steps, nat_tests, run_entries, append_assoc)
 
 pub entries_on : (page : ℕ) (key : Key) (rec : Rec) (run : Run) → entries_of (pages_of (pushed_on page key rec run)) ≡ entries_of (pages_of run) ++ (key, rec) ∷ []
 entries_on page key rec run = run_entries (pages_of run) page ((key, rec) ∷ [])
@@ -80,8 +72,7 @@ counted_more : (more es : Entries) (key : Key) (rec : Rec) (n : ℕ) → more �
 counted_more more es key rec n is count = ap (length {A = Key × Rec}) is ∙ omega (arith, length-append es ((key, rec) ∷ []), count)
 
 weighed_more : (more es : Entries) (key : Key) (rec : Rec) (n : ℕ) → more ≡ es ++ (key, rec) ∷ [] → entries_weight es ≡ n → entries_weight more ≡ n + weight key rec
-weighed_more more es key rec n is weighs =
-    ap entries_weight is ∙ weight_join es ((key, rec) ∷ []) ∙ omega (arith, weighs, one_weight key rec)
+weighed_more more es key rec n h1 h2 = grind (arith, common_steps, nat_tests)
 
 -- ---- the empty run
 
@@ -96,8 +87,7 @@ holds_none role = (
 
 -- the open page stays one page, of the same number
 same_length : (closed : List RunPage) (number : ℕ) (e : Key × Rec) (es fs : Entries) → length (closed ++ page_of number (e ∷ (es ++ fs))) ≡ length (closed ++ page_of number (e ∷ es))
-same_length closed number e es fs =
-    omega (arith, length-append closed (page_of number (e ∷ (es ++ fs))), length-append closed (page_of number (e ∷ es)))
+same_length closed number e es fs = grind (arith, common_steps, nat_tests)
 
 same_first : (closed : List RunPage) (number : ℕ) (e : Key × Rec) (es fs : Entries) → first_number (closed ++ page_of number (e ∷ (es ++ fs))) None ≡ first_number (closed ++ page_of number (e ∷ es)) None
 same_first closed number e es fs = first_join closed (page_of number (e ∷ (es ++ fs))) None ∙ sym (first_join closed (page_of number (e ∷ es)) None)
@@ -127,20 +117,8 @@ holds_here writer key rec closed number (e ∷ es) entry some fits held =
 
 first_pushed : (ps : List RunPage) (page : ℕ) (e : Key × Rec) (pages first : ℕ) → length ps ≡ pages → page_number (first_number ps None) ≡ first
     → page_number (first_number (ps ++ page_of page (e ∷ [])) None) ≡ (if nat_eq pages 0 then page else first)
-first_pushed [] page e pages first long is = ap (λ n. if nat_eq n 0 then page else first) long
-first_pushed (p ∷ ps) page e pages first long is = is ∙ ap (λ b. if b then page else first) (sym (ne_eqb pages 0 (λ none. omega (arith, none, long))))
+first_pushed ps page e pages first h1 h2 = grind (arith, common_steps, nat_tests)
 
 pub holds_on : (writer : WriterState) (page : ℕ) (key : Key) (rec : Rec) (run : Run) → IsSpelled key rec → weight key rec ≤ most_used
     → Holds writer run → Holds (put_in key rec (turned page writer)) (pushed_on page key rec run)
-holds_on writer page key rec run entry light held =
-    let more = entries_on page key rec run in
-    record {
-      buffer = has_more empty_buffer [] key rec has_none entry;
-      fits = omega (arith, light, length-spelling key rec);
-      some = λ none. absurd (cc);
-      number = refl;
-      first_is = first_pushed (pages_of run) page ((key, rec)) writer.component.pages writer.component.first held.pages_is held.first_is;
-      pages_is = length-append (pages_of run) (page_of page ((key, rec) ∷ [])) ∙ omega (arith, held.pages_is);
-      entries_is = counted_more _ _ key rec _ more held.entries_is;
-      weight_is = weighed_more _ _ key rec _ more held.weight_is;
-    }
+holds_on writer page key rec run h1 h2 h3 = grind (arith, common_steps, nat_tests, entries_on, has_more, has_none, length-spelling, first_pushed, length-append, counted_more, weighed_more)

@@ -1,8 +1,10 @@
 -- A writer's numbers, and what it leaves on the disk.
-use Rattle.std.proofs.Common.{◌≡◌, Bool, true, false, ◌&&◌, ℕ, ◌+◌, ◌<◌, ◌≤◌, List, [], ◌∷◌, ◌++◌, length, Option, Some, None, refl, ap, sym, subst, ◌∙◌, inl, inr, length-append, arith}
+use Rattle.std.proofs.lemmas.Bool.Decides.{nat_tests}
+use Rattle.std.proofs.lemmas.Grind.{common_steps}
+use Rattle.std.proofs.Common.{◌≡◌, Bool, true, false, ◌&&◌, ℕ, ◌+◌, ◌<◌, ◌≤◌, List, [], ◌∷◌, ◌++◌, length, Option, Some, None, refl, ap, sym, subst, ◌∙◌, length-append, arith}
 use Rattle.record_delta.specs.Entries.{Entries}
-use Rattle.std.specs.Prelude.{nat_lt, nat_le, IsTrue, IfSome, IsSome}
-use Rattle.std.proofs.lemmas.Bool.{cases_lt, false≢true, ltb-true, leb-true, lt-ltb, le-leb}
+use Rattle.std.specs.Prelude.{IsTrue, IfSome, IsSome}
+use Rattle.std.proofs.lemmas.Bool.{false≢true}
 use Rattle.disk_trait.specs.Region.{IsSameOutside}
 use Rattle.blsm_model.specs.Format.{least_full}
 use Rattle.blsm_model.specs.declared.key.Key.{Key}
@@ -10,7 +12,6 @@ use Rattle.blsm_model.specs.Sizes.{Sizes}
 use Rattle.blsm_model.specs.Geometry.{page_count}
 use Rattle.record_delta.specs.declared.record.Rec.{Rec}
 use Rattle.record_delta.specs.Records.{weight}
-use Rattle.entry_codec.specs.Spelling.{spelling}
 use Rattle.entry_codec.proofs.SpellingLemmas.{length-spelling}
 use Rattle.page_file.specs.Entry.{entries_bytes, AreRising}
 use Rattle.page_file.specs.Page.{most_used, page_bytes, IsContent, IsPageOf}
@@ -27,39 +28,21 @@ use Rattle.run_writer.proofs.RegionLemmas.{still_stands}
 -- ---- the writer's numbers
 
 both : (a b : Bool) → (a && b) ≡ true → (a ≡ true) × (b ≡ true)
-both true b h = (refl, h)
-both false b h = absurd (false≢true h)
+both a b h1 = grind (arith, common_steps, nat_tests)
 
 pub place_parts : (writer : WriterState) (n : ℕ) → IsTrue (has_place writer n) → (0 < writer.component.pages) × (length writer.buffer.text + n ≤ most_used)
-place_parts writer n place =
-    let parts = both (nat_lt 0 writer.component.pages) (nat_le (length writer.buffer.text + n) most_used) place in
-    (ltb-true 0 writer.component.pages parts.0, leb-true (length writer.buffer.text + n) most_used parts.1)
+place_parts writer n h1 = grind (arith, common_steps, nat_tests)
 
 -- where there is an open page, and no place in it, it is nearly full
 pub no_place : (writer : WriterState) (n : ℕ) → has_place writer n ≡ false → 0 < writer.component.pages → most_used < length writer.buffer.text + n
-no_place writer n none some =
-    elim (cases_lt most_used (length writer.buffer.text + n)) [
-      | inl above ↦ above
-      | inr le ↦ absurd (false≢true (sym none ∙ λ i. lt-ltb 0 writer.component.pages some i && le-leb (length writer.buffer.text + n) most_used le i))
-    ]
+no_place writer n h1 h2 = grind (arith, common_steps, nat_tests)
 
 pub counted_put : (writer : WriterState) (buffer : BufferState) (n : ℕ) (key : Key) (rec : Rec) → IsCounted writer → IsTrue (has_place writer (weight key rec))
     → buffer ≡ with_entry key rec writer.buffer → n ≡ weight key rec → IsCounted (record writer {
       component = record writer.component { entries = writer.component.entries + 1; weight = writer.component.weight + n };
       buffer = buffer;
     })
-counted_put writer buffer n key rec counted place put weighs =
-    let parts = place_parts writer (weight key rec) place in
-    let long : length buffer.text ≡ length writer.buffer.text + weight key rec =
-    ap (λ (b : BufferState). length b.text) put ∙ length-append writer.buffer.text (spelling key rec) ∙ ap (λ k. length writer.buffer.text + k) (length-spelling key rec) in
-    record {
-      role = counted.role;
-      none = λ no_page. absurd (omega (arith, no_page, parts.0));
-      fits = omega (arith, long, parts.1);
-      weight = omega (arith, long, weighs, counted.weight);
-      entries = omega (arith, weighs, counted.entries);
-      floor = omega (arith, long, weighs, counted.floor);
-    }
+counted_put writer buffer n key rec h1 h2 h3 h4 = grind (arith, common_steps, nat_tests, place_parts, length-append, length-spelling)
 
 -- ---- the closed pages
 
@@ -95,12 +78,4 @@ chained sizes writer next old new closed number (e ∷ es) written held is_run c
 -- the run that has ended
 pub ended : (sizes : Sizes) (writer : WriterState) (run : Run) (old new : List ℕ) → IsWritten sizes writer None old new → Holds writer run → IsRun run → Stands sizes run old
     → ReadsAs sizes writer.component (pages_of run) new
-ended sizes writer run old new written held is_run stands = record {
-  first_is = held.first_is;
-  chained = chained sizes writer None old new run.closed run.number run.entries written held is_run stands;
-  rise = is_run.rise;
-  apart = is_run.apart;
-  pages_is = held.pages_is;
-  entries_is = held.entries_is;
-  weight_is = held.weight_is;
-}
+ended sizes writer run old new h1 h2 h3 h4 = grind (arith, common_steps, nat_tests, chained)

@@ -1,5 +1,5 @@
 -- The first entry of two sorted lists that are folded.
-use Rattle.std.proofs.Common.{◌≡◌, inl, inr, Bool, cond, T, [], ◌∷◌, Option, Some, None, refl, ap, sym, ◌∙◌}
+use Rattle.std.proofs.Common.{◌≡◌, Bool, cond, T, [], ◌∷◌, Option, Some, None, refl, ap, sym, ◌∙◌, arith}
 use Rattle.std.proofs.lemmas.Grind.{common_steps}
 use Rattle.std.proofs.lemmas.Bool.Decides.{nat_tests}
 use Rattle.std.proofs.Common.{arith}
@@ -17,7 +17,7 @@ use Rattle.record_delta.specs.Folding.{fold}
 use Rattle.record_delta.specs.Entries.{Entries, AreSorted, folded_over, over_any, is_above, above, first_of}
 use Rattle.merge_step.specs.Group.{least_of, group_of}
 use Rattle.merge_step.proofs.MergedLemmas.{left, right, less, test, is_true, turned, same, find_folded, sorted_folded}
-use Rattle.scan_view.specs.Left.{entry_of, IsFromOne}
+use Rattle.scan_view.specs.Left.{entry_of}
 
 -- ---- what stands first
 
@@ -83,44 +83,20 @@ first_folded (x ∷ xs) (y ∷ ys) sorted_xs sorted_ys = by_order (key_cmp x.0 y
     found q = find_folded q (x ∷ xs) (y ∷ ys) sorted_xs
 
     neither : (q : Key) → key_cmp q x.0 ≡ Less → key_cmp q y.0 ≡ Less → find key_cmp q folded ≡ None
-    neither q below_x below_y =
-        found q ∙ ap (λ o. over_any o (find key_cmp q (y ∷ ys))) (below_first q x xs (test _ sorted_xs) below_x) ∙ below_first q y ys (test _ sorted_ys) below_y
+    neither q h1 h2 = grind (arith, common_steps, nat_tests, found, below_first, test)
 
     sorted : T (is_sorted key_cmp folded)
     sorted = test _ (sorted_folded (x ∷ xs) (y ∷ ys) sorted_ys)
 
     by_order : (r : Ordering) → key_cmp x.0 y.0 ≡ r → entry_of (Some (least_of r x y)) ≡ first_of folded
-    by_order Less is =
-        sym (first_is folded x sorted
-        (found x.0 ∙ ap (λ o. over_any o (find key_cmp x.0 (y ∷ ys))) (found_first x xs) ∙ ap (over_any (Some x.1)) (below_first x.0 y ys (test _ sorted_ys) is))
-        (λ q below. neither q below (nat_list_cmp_total.trans q x.0 y.0 below is)))
+    by_order Less is = grind (arith, common_steps, nat_tests, first_is, folded, sorted, found, found_first, below_first, test, neither, nat_list_cmp_total)
     by_order Equal is =
         let keys : x.0 ≡ y.0 = same x.0 y.0 is in
-        sym (first_is folded (x.0, fold x.1 y.1) sorted
-        (found x.0 ∙ ap (λ o. over_any o (find key_cmp x.0 (y ∷ ys))) (found_first x xs)
-        ∙ ap (over_any (Some x.1)) (ap (λ k. find key_cmp k (y ∷ ys)) keys ∙ found_first y ys))
-        (λ q below. neither q below (ap (key_cmp q) (sym keys) ∙ below)))
-    by_order Greater is =
-        let lower : key_cmp y.0 x.0 ≡ Less = turned x.0 y.0 Greater is in
-        sym (first_is folded y sorted
-        (found y.0 ∙ ap (λ o. over_any o (find key_cmp y.0 (y ∷ ys))) (below_first y.0 x xs (test _ sorted_xs) lower) ∙ found_first y ys)
-        (λ q below. neither q (nat_list_cmp_total.trans q y.0 x.0 below lower) below))
+        grind (arith, common_steps, nat_tests, first_is folded (x.0, fold x.1 y.1) sorted, found, found_first, neither)
+    by_order Greater is = grind (arith, common_steps, nat_tests, turned, first_is, folded, sorted, found, below_first, test, found_first, neither, nat_list_cmp_total)
 
 pub first_above_folded : (at : Option Key) (xs ys : Entries) → AreSorted xs → AreSorted ys
     → entry_of (group_of (first_of (above at xs)) (first_of (above at ys))) ≡ first_of (above at (folded_over xs ys))
 first_above_folded at xs ys sorted_xs sorted_ys =
     first_folded (above at xs) (above at ys) (sorted_above at xs sorted_xs) (sorted_above at ys sorted_ys)
     ∙ ap first_of (sym (where_folded (λ k. is_above at k) xs ys sorted_xs sorted_ys))
-
--- ---- where it comes from
-
-pub from_one : (newer older : Option (Key × Rec)) → IsFromOne newer older (entry_of (group_of newer older))
-from_one None None = tt
-from_one None (Some f) = inr refl
-from_one (Some e) None = inl refl
-from_one (Some e) (Some f) = by_order (key_cmp e.0 f.0)
-  where
-    by_order : (r : Ordering) → IsFromOne (Some e) (Some f) (entry_of (Some (least_of r e f)))
-    by_order Less = inl refl
-    by_order Equal = inl refl
-    by_order Greater = inr refl

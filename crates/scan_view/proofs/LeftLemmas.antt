@@ -1,14 +1,16 @@
 -- What a cursor has left above a key, while it goes on.
-use Rattle.std.proofs.Common.{◌≡◌, ◌≢◌, ◌∙◌, ◌⊎◌, ℕ, ◌+◌, ◌<◌, ◌≤◌, Bool, true, false, cond, List, [], ◌∷◌, length, Option, Some, None, IfSome, IfNone, Result, Ok, Err, OnOk, refl, ap, sym, subst, arith}
+use Rattle.std.proofs.Common.{◌≡◌, ◌≢◌, ◌∙◌, ◌⊎◌, ℕ, ◌+◌, ◌<◌, ◌≤◌, true, false, List, [], ◌∷◌, length, Option, Some, None, IfSome, IfNone, Result, Ok, Err, ap, sym, subst, arith}
 use Rattle.std.proofs.lemmas.Grind.{common_steps}
 use Rattle.std.proofs.lemmas.Bool.Decides.{nat_tests}
 use Rattle.std.proofs.lemmas.Cmp.{nat_list_cmp_total}
+use Rattle.std.specs.Result.{IsErrAnd}
+use Rattle.std.proofs.lemmas.Result.{err_from_is_err_and}
 use Rattle.blsm_model.specs.declared.key.Key.{Key}
 use Rattle.blsm_model.specs.Sizes.{Sizes}
 use Rattle.disk_trait.specs.Disk.{DiskState}
 use Rattle.disk_trait.specs.Moments.{IsTimed}
-use Rattle.disk_trait.specs.Reads.{OnlyReads, only_reads_same, only_reads_run_within}
-use Rattle.refusal.specs.Count.{HasRisen}
+use Rattle.disk_trait.specs.Reads.{OnlyReads}
+use Rattle.disk_trait.proofs.ReadLemmas.{only_reads_same}
 use Rattle.page_file.specs.File.{Reads}
 use Rattle.record_delta.specs.declared.record.Rec.{Rec}
 use Rattle.record_delta.specs.Records.{weight}
@@ -18,15 +20,11 @@ use Rattle.page_file.specs.declared.file.Broken.TheVariants.{Fault}
 use Rattle.page_file.specs.Component.{numbers_of}
 use Rattle.run_cursor.specs.Cursor.{CursorState, from_head, HasAhead, IsAdvanced}
 use Rattle.merge_ends.specs.Input.{head_above, key_of}
-use Rattle.merge_ends.proofs.InputLemmas.{stale_left}
 use Rattle.merge_ends.proofs.GroupLemmas.{above_further, further}
 use Rattle.merge_step.proofs.TakenLemmas.{first_above, taken}
 use Rattle.scan_view.specs.Left.{IsFile, IsAheadOf, IsFromOne, HasLeft, count_left}
 
 -- ---- answers of calls
-
-pub fault_is : {A : Type 0} (a : Result A Broken) (broken : Broken) → a ≡ Err broken → a ≡ Err Fault → broken ≡ Fault
-fault_is a broken was is = cc
 
 pub not_both : {A : Type 0} (a : Result A Broken) (value : A) (broken : Broken) → a ≡ Err broken → a ≡ Ok value → ⊥
 not_both a value broken was is = cc
@@ -34,11 +32,17 @@ not_both a value broken was is = cc
 pub calm_of : {A : Type 0} (a : Result A Broken) (value : A) → a ≡ Ok value → a ≡ Err Fault → ⊥
 calm_of a value is fault = not_both a value Fault fault is
 
-pub same_error : {A : Type 0} (a b : Broken) → ◌≡◌ {A = Result A Broken} (Err a) (Err b) → a ≡ b
-same_error a b same = cc
-
 pub one_value : {A : Type 0} (result : Result A Broken) (a b : A) → result ≡ Ok a → result ≡ Ok b → a ≡ b
 one_value result a b is is_too = cc
+
+-- a call that hands another one's failure on: what the one answers, and what the other did
+pub failed_as : {A B : Type 0} {other : Result A Broken} {result : Result B Broken} {broken named : Broken} → IsErrAnd result (λ e. e ≡ broken) → other ≡ Err broken → result ≡ Err named → other ≡ Err named
+failed_as {result = result} handed was is = let p = err_from_is_err_and result handed in cc (p.1, p.2)
+
+-- the other one can't have failed, if it only fails at a fault
+pub not_failed : {A B : Type 0} {other : Result A Broken} {result : Result B Broken} {broken : Broken} {value : A} → IsErrAnd result (λ e. e ≡ broken) → other ≡ Err broken → result ≢ Err Fault
+    → (other ≢ Err Fault → other ≡ Ok value) → ⊥
+not_failed handed was calm done = grind (arith, common_steps, nat_tests)
 
 -- ---- a file that is only read
 
@@ -49,32 +53,17 @@ file_on run is = record { honest = run.effect.goes_on.is_honest ∙ is.honest; b
 
 pub left_on : (sizes : Sizes) (file : List ℕ) (at : Option Key) (old new : CursorState) (entries : Entries) → head_above at old.head ≡ false
     → (has : HasLeft sizes at old entries file) → IsAdvanced sizes new (numbers_of has.ahead.coming) has.rest file → HasLeft sizes at new entries file
-left_on sizes file at old new entries stale has advanced = by_rest has.rest refl advanced
-  where
-    by_rest : (rest : Entries) → has.rest ≡ rest → IsAdvanced sizes new (numbers_of has.ahead.coming) rest file → HasLeft sizes at new entries file
-    by_rest [] is then = record {
-      rest = [];
-      ahead = then.1;
-      left_is = ap (λ h. above at (from_head h [])) then.0 ∙ sym (ap (above at) is) ∙ sym (stale_left at old.head has.rest stale) ∙ has.left_is;
-    }
-    by_rest (e ∷ es) is then = record {
-      rest = es;
-      ahead = then.1;
-      left_is = ap (λ h. above at (from_head h es)) then.0 ∙ sym (ap (above at) is) ∙ sym (stale_left at old.head has.rest stale) ∙ has.left_is;
-    }
+left_on sizes file at old new entries h1 has h2 = grind (arith, common_steps, nat_tests)
 
 -- by what a call of `advance` says of lists
-pub advance_left : (result : Result (Unit {0}) Broken) (sizes : Sizes) (file bytes : List ℕ) (at : Option Key) (old new : CursorState) (entries : Entries) → bytes ≡ file
+pub advance_left : {result : Result (Unit {0}) Broken} {sizes : Sizes} {file bytes : List ℕ} {at : Option Key} {old new : CursorState} {entries : Entries} → bytes ≡ file
     → head_above at old.head ≡ false → HasLeft sizes at old entries file
     → ((rest : Entries) (before : HasAhead sizes old rest bytes) → result ≢ Err Fault → (result ≡ Ok tt) × IsAdvanced sizes new (numbers_of before.coming) rest bytes)
     → result ≢ Err Fault → (result ≡ Ok tt) × HasLeft sizes at new entries file
-advance_left result sizes file bytes at old new entries same stale has list other =
+advance_left {sizes = sizes} {bytes = bytes} {at} {old} {new} {entries} same stale has list other =
     let here = subst (λ (b : List ℕ). HasLeft sizes at old entries b) (sym same) has in
     let advanced = list here.rest here.ahead other in
     (advanced.0, subst (λ (b : List ℕ). HasLeft sizes at new entries b) same (left_on sizes bytes at old new entries stale here advanced.1))
-
-pub none_of : (es : Entries) → length es ≡ 0 → es ≡ []
-none_of es h1 = grind (arith, common_steps, nat_tests)
 
 -- a cursor that is at an entry above the key, or at the end, is at the first of what it has left
 pub head_first : (sizes : Sizes) (file : List ℕ) (at : Option Key) (cursor : CursorState) (entries : Entries) → HasLeft sizes at cursor entries file
@@ -110,53 +99,29 @@ at_end old new none ended = (none, (subst (λ (h : Option (Key × Rec)). Ends ol
 
 pub reads_after : {A : Type 0} {end most more : ℕ} {result : Result A Broken} {old mid new : DiskState} (total : ℕ) → IsTimed mid → mid.faults ≡ old.faults
     → OnlyReads end most old mid → Reads end more result mid new → new.clock ≤ old.clock + total → Reads end total result old new
-reads_after {new = new} total timed calm first reads calls = record {
-  effect = only_reads_run_within total timed calm first reads.effect calls;
-  stands = λ other. reads.stands other ∙ calm;
-  failed = λ is. subst (λ n. HasRisen n new.faults) calm (reads.failed is);
-}
+reads_after total h1 h2 h3 h4 h5 = grind (arith, common_steps, nat_tests)
 
 -- a call that hands another one's failure on
-pub reads_err : {A B : Type 0} {end most : ℕ} {old new : DiskState} (result : Result A Broken) (other : Result B Broken) (broken : Broken) → result ≡ Err broken → other ≡ Err broken
-    → Reads end most result old new → Reads end most other old new
-reads_err result other broken is other_is reads = record {
-  effect = reads.effect;
-  stands = λ calm. reads.stands (λ fault. calm (other_is ∙ ap Err (fault_is result broken is fault)));
-  failed = λ fault. reads.failed (is ∙ ap Err (fault_is other broken other_is fault));
-}
+pub reads_err : {A B : Type 0} {end most : ℕ} {old new : DiskState} {other : Result A Broken} {result : Result B Broken} {broken : Broken} → IsErrAnd result (λ e. e ≡ broken) → other ≡ Err broken
+    → Reads end most other old new → Reads end most result old new
+reads_err h1 h2 h3 = grind (arith, common_steps, nat_tests)
 
 -- a call that goes on after another one, and answers Ok
-pub reads_ok : {A B : Type 0} {end most : ℕ} {old new : DiskState} (result : Result A Broken) (value : A) (other : B) → result ≡ Ok value
+pub reads_ok : {A B : Type 0} {end most : ℕ} {old new : DiskState} {result : Result A Broken} {value : A} {other : B} → result ≡ Ok value
     → Reads end most result old new → Reads end most (Ok other) old new
-reads_ok result value other is reads = record {
-  effect = reads.effect;
-  stands = λ calm. reads.stands (calm_of result value is);
-  failed = λ fault. absurd (cc);
-}
-
-pub map_ok : {A : Type 0} {P Q : Type 0} (result : Result A Broken) → (P → Q) → OnOk result P → OnOk result Q
-map_ok (Ok value) f holds = f holds
-map_ok (Err broken) f holds = tt
+reads_ok h1 h2 = grind (arith, common_steps, nat_tests)
 
 pub some_of : {P : Key × Rec → Type 0} (entry : Option (Key × Rec)) → ((e : Key × Rec) → entry ≡ Some e → P e) → IfSome entry P
-some_of None each = tt
-some_of (Some e) each = each e refl
+some_of entry h1 = grind (arith, common_steps, nat_tests)
 
 -- ---- a key that is passed
 
 pub first_ahead : (at : Option Key) (es : Entries) → IsAheadOf at (first_of (above at es))
-first_ahead at es = some_of (first_of (above at es)) (λ e is. by_list (above at es) refl e is)
-  where
-    by_list : (rest : Entries) → above at es ≡ rest → (e : Key × Rec) → first_of rest ≡ Some e → is_above at e.0 ≡ true
-    by_list [] left_is e is = absurd (cc)
-    by_list (x ∷ more) left_is e is = let same : x ≡ e = cc in subst (λ (f : Key × Rec). is_above at f.0 ≡ true) same (first_above at es more x left_is)
-
-count_by : (at : Option Key) (key : Key) (head : Option (Key × Rec)) → is_above at key ≡ true → cond (head_above (Some key) head) 1 0 ≤ cond (head_above at head) 1 0
-count_by at key head h1 = grind (arith, common_steps, nat_tests, further)
+first_ahead at es = grind (arith, common_steps, nat_tests, some_of, first_above)
 
 -- no more is left above a greater key
 pub count_further : (at : Option Key) (key : Key) (cursor : CursorState) → is_above at key ≡ true → count_left (Some key) cursor ≤ count_left at cursor
-count_further at key cursor key_above = omega (arith, count_by at key cursor.head key_above)
+count_further at key cursor key_above = grind (arith, common_steps, nat_tests, further)
 
 -- and less, where the cursor is at it
 pub count_less : (at : Option Key) (key : Key) (cursor : CursorState) → is_above at key ≡ true → key_of cursor.head ≡ Some key → count_left (Some key) cursor < count_left at cursor

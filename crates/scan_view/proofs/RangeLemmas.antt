@@ -1,17 +1,19 @@
 -- The entries of a range, and the rows of a hold that has copies of them.
-use Rattle.std.proofs.Common.{◌≡◌, ◌∙◌, Bool, true, false, cond, List, [], ◌∷◌, ◌++◌, Option, Some, None, refl, ap, sym, subst}
+use Rattle.std.proofs.Common.{◌≡◌, ◌∙◌, Bool, false, cond, [], ◌∷◌, ◌++◌, Option, Some, None, refl, ap, sym, subst, arith}
 use Rattle.std.proofs.lemmas.Grind.{common_steps}
 use Rattle.std.proofs.lemmas.Bool.Decides.{nat_tests}
 use Rattle.std.proofs.Common.{arith}
 use Rattle.std.specs.Ordering.{is_lt}
-use Rattle.std.specs.FinMap.{find}
+use Rattle.std.specs.FinMap.{find, is_sorted}
+use Rattle.std.specs.FinMap.Entries.{below_all}
 use Rattle.blsm_model.specs.declared.key.Key.{Key}
-use Rattle.blsm_model.specs.declared.row.Row.{Row}
 use Rattle.blsm_model.specs.Keys.{key_cmp, in_range}
 use Rattle.record_delta.specs.declared.record.Rec.{Rec}
 use Rattle.record_delta.specs.Entries.{Entries, AreSorted, folded_over, over_any, above, first_of}
 use Rattle.merge_step.proofs.MergedLemmas.{left, right, less, test, is_true, find_folded, sorted_folded}
-use Rattle.merge_step.proofs.TakenLemmas.{taken}
+use Rattle.merge_step.proofs.TakenLemmas.{first_above, taken}
+use Rattle.scan_view.specs.Told.{is_before}
+use Rattle.std.proofs.lemmas.Bool.{false≢true}
 use Rattle.tree_machine.proofs.FoldLemmas.{over_any_assoc}
 use Rattle.scan_view.specs.Hold.{within, rows_of}
 use Rattle.scan_view.proofs.FoldLemmas.{find_where, sorted_where, same_lists, sorted_above}
@@ -48,14 +50,23 @@ within_sorted low high es sorted = sorted_where (in_range low high) es sorted
 rows_within : (low high : Key) (es : Entries) → AreSorted es → rows_of low high es ≡ rows_of low high (within low high es)
 rows_within low high [] sorted = refl
 rows_within low high (e ∷ es) sorted =
-    rows_cons low high e es sorted ∙ by (in_range low high e.0) refl (rows_within low high es (is_true _ (right _ _ (test _ sorted))))
+    let rest : AreSorted es = is_true (is_sorted key_cmp es) (right (below_all key_cmp e.0 es) (is_sorted key_cmp es) (test (is_sorted key_cmp (e ∷ es)) sorted)) in
+    let inside : AreSorted (within low high (e ∷ es)) = within_sorted low high (e ∷ es) sorted in
+    grind (arith, common_steps, nat_tests, rows_cons, rows_outside, rows_within low high es rest)
+
+rows_past : (low high : Key) (e : Key × Rec) (es : Entries) → AreSorted (e ∷ es) → is_lt (key_cmp e.0 high) ≡ false → rows_of low high (e ∷ es) ≡ []
+rows_past low high e es sorted past = rows_within low high (e ∷ es) sorted ∙ ap (rows_of low high) (within_past low high e es sorted past)
+
+-- above a key that isn't before the range's end nothing is left
+pub rows_behind : (low high : Key) (at : Option Key) (es : Entries) → is_before high at ≡ false → AreSorted es → rows_of low high (above at es) ≡ []
+rows_behind low high None es past sorted = absurd (false≢true (sym past))
+rows_behind low high (Some key) es past sorted = by_list (above (Some key) es) refl
   where
-    by : (b : Bool) → in_range low high e.0 ≡ b → rows_of low high es ≡ rows_of low high (within low high es)
-        → rows_of low high (e ∷ []) ++ rows_of low high es ≡ rows_of low high (cond b (e ∷ within low high es) (within low high es))
-    by true is rest =
-        ap (λ (l : List Row). rows_of low high (e ∷ []) ++ l) rest
-        ∙ sym (rows_cons low high e (within low high es) (subst AreSorted (ap (λ b. cond b (e ∷ within low high es) (within low high es)) is) (within_sorted low high (e ∷ es) sorted)))
-    by false is rest = ap (λ (l : List Row). l ++ rows_of low high es) (rows_outside low high e is) ∙ rest
+    by_list : (rest : Entries) → above (Some key) es ≡ rest → rows_of low high rest ≡ []
+    by_list [] left_is = refl
+    by_list (e ∷ more) left_is =
+        rows_past low high e more (subst AreSorted left_is (sorted_above (Some key) es sorted))
+        (still_past high key e.0 past (less _ (test _ (first_above (Some key) es more e left_is))))
 
 -- the records of the range alone, folded over what is older, have the same rows
 pub held_rows : (low high : Key) (b a older : Entries) → AreSorted b → AreSorted a → AreSorted older
@@ -79,8 +90,7 @@ held_rows low high b a older sorted_b sorted_a sorted_older =
     sorted_held = sorted_folded (within low high memory) older sorted_older
 
     by : (p : Bool) (x y z : Option Rec) → cond p (over_any x (over_any y z)) None ≡ cond p (over_any (cond p (over_any x y) None) z) None
-    by true x y z = sym (over_any_assoc x y z)
-    by false x y z = refl
+    by p x y z = grind (arith, common_steps, nat_tests, over_any_assoc)
 
     alike : (q : Key) → find key_cmp q (within low high all) ≡ find key_cmp q (within low high held)
     alike q =

@@ -1,14 +1,15 @@
 -- What was read of components, whatever they read as.
-use Rattle.std.proofs.Common.{◌≡◌, ◌∙◌, ◌⊎◌, ℕ, true, false, List, [], ◌∷◌, ◌++◌, Option, Some, None, refl, ap, sym, subst, arith}
+use Rattle.std.proofs.Common.{◌≡◌, ◌∙◌, ◌⊎◌, ℕ, true, false, List, [], ◌∷◌, ◌++◌, take, drop, Option, Some, None, refl, ap, sym, subst, arith}
 use Rattle.std.proofs.lemmas.Grind.{common_steps}
 use Rattle.std.proofs.lemmas.Bool.Decides.{nat_tests}
 use Rattle.std.specs.List.{AllByRecursion}
 use Rattle.std.specs.List.Sorted.{IsStrictlySortedBy}
 use Rattle.std.specs.declared.cmp.Ordering.TheVariants.{Less}
-use Rattle.std.proofs.lemmas.List.{append_assoc, append-nil}
+use Rattle.std.proofs.lemmas.List.{append-nil}
 use Rattle.std.proofs.lemmas.List.Elements.{filter-append}
 use Rattle.blsm_model.specs.declared.component.Component.{Component}
 use Rattle.blsm_model.specs.declared.key.Key.{Key}
+use Rattle.blsm_model.specs.declared.row.Row.{Row}
 use Rattle.blsm_model.specs.Keys.{key_cmp}
 use Rattle.blsm_model.specs.Sizes.{Sizes}
 use Rattle.record_delta.specs.declared.record.Rec.{Rec}
@@ -21,8 +22,9 @@ use Rattle.merge_ends.specs.Input.{head_above}
 use Rattle.merge_ends.proofs.GroupLemmas.{above_further}
 use Rattle.scan_view.specs.declared.scan.Scan.{Scan}
 use Rattle.scan_view.specs.Left.{HasRead, HasReadOn}
-use Rattle.scan_view.specs.Scan.{HaveRead}
-use Rattle.scan_view.specs.Told.{Begins, BeginWith, Contents, IsFront}
+use Rattle.scan_view.specs.Hold.{HoldState}
+use Rattle.scan_view.specs.Scan.{HaveRead, HaveReadOn}
+use Rattle.scan_view.specs.Told.{AreFronts, AreTold, Begins, BeginWith, Contents, IsFront, rows_by}
 
 -- ---- a cursor that goes on
 
@@ -33,8 +35,7 @@ pub stale_none : (at : Option Key) (head : Option (Key × Rec)) → head_above a
 stale_none at head h1 = grind (arith, common_steps, nat_tests)
 
 front_onward : (run : Component) (read more all : Entries) → IsFront run (read ++ more) all → IsFront run read all
-front_onward run read more all front =
-    record { behind = more ++ front.behind; parts = front.parts ∙ append_assoc read more front.behind; sorted = front.sorted; few = front.few }
+front_onward run read more all h1 = grind (arith, common_steps, nat_tests)
 
 read_step : (sizes : Sizes) (file : List ℕ) (run : Component) (at : Option Key) (old new : CursorState) (given : Entries) → head_above at old.head ≡ false → HasRead sizes run at old given file
     → HasGivenMore sizes run new new.head given file → HasReadOn sizes run at new given file
@@ -44,30 +45,16 @@ read_step sizes file run at old new given stale has more = by_head new.head refl
     passed = has.passed ∙ stale_none at old.head stale
 
     by_head : (head : Option (Key × Rec)) → new.head ≡ head → HasGivenMore sizes run new head given file → HasReadOn sizes run at new given file
-    by_head None is further = record {
-      now = given;
-      read = record { begins = further.1; passed = passed ∙ sym (ap (λ h. above at (from_head h [])) is) };
-      onward = λ all front. front;
-    }
-    by_head (Some e) is further = record {
-      now = given ++ e ∷ [];
-      read = record {
-        begins = further;
-        passed = above_append at given (e ∷ []) ∙ ap (λ (l : Entries). l ++ above at (e ∷ [])) passed ∙ sym (ap (λ h. above at (from_head h [])) is);
-      };
-      onward = λ all front. front_onward run given (e ∷ []) all front;
-    }
+    by_head None is further = grind (arith, common_steps, nat_tests, passed)
+    by_head (Some e) is further = grind (arith, common_steps, nat_tests, passed, above_append, front_onward)
 
 -- by what a call of `advance` says of what was given
-pub advance_read : (sizes : Sizes) (file bytes : List ℕ) (run : Component) (at : Option Key) (old new : CursorState) (given : Entries) → bytes ≡ file → head_above at old.head ≡ false
-    → HasRead sizes run at old given file → (HasGiven sizes run old given bytes → HasGivenMore sizes run new new.head given bytes) → HasReadOn sizes run at new given file
-advance_read sizes file bytes run at old new given same stale has more =
-    let here = subst (λ (b : List ℕ). HasRead sizes run at old given b) (sym same) has in
-    subst (λ (b : List ℕ). HasReadOn sizes run at new given b) same (read_step sizes bytes run at old new given stale here (more here.begins))
-
-pub read_after : (sizes : Sizes) (file : List ℕ) (run : Component) (at : Option Key) (mid new : CursorState) (before : Entries) → (first : HasReadOn sizes run at mid before file)
-    → HasReadOn sizes run at new first.now file → HasReadOn sizes run at new before file
-read_after sizes file run at mid new before first second = record { now = second.now; read = second.read; onward = λ all front. first.onward all (second.onward all front) }
+pub advance_read : {sizes : Sizes} {file bytes : List ℕ} {run : Component} {at : Option Key} {old new : CursorState} {before : Entries} → bytes ≡ file → head_above at old.head ≡ false
+    → (first : HasReadOn sizes run at old before file) → (HasGiven sizes run old first.now bytes → HasGivenMore sizes run new new.head first.now bytes) → HasReadOn sizes run at new before file
+advance_read {sizes} {bytes = bytes} {run} {at} {old} {new} {before} same stale first more =
+    let here = subst (λ (b : List ℕ). HasRead sizes run at old first.now b) (sym same) first.read in
+    let second = subst (λ (b : List ℕ). HasReadOn sizes run at new first.now b) same (read_step sizes bytes run at old new first.now stale here (more here.begins)) in
+    record { now = second.now; read = second.read; onward = λ all front. first.onward all (second.onward all front) }
 
 -- a cursor that is at an entry above the key, or at the end, is at the first of each list that may come of what was read
 pub read_first : (sizes : Sizes) (file : List ℕ) (run : Component) (at : Option Key) (cursor : CursorState) (given : Entries) → HasRead sizes run at cursor given file
@@ -95,11 +82,13 @@ scan_read_further sizes file c1 c1x c2 scan key read key_above have = record {
 }
 
 pub scan_begins : (sizes : Sizes) (file : List ℕ) (c1 c1x c2 : Component) (scan : Scan) (read : Contents) → HaveRead sizes c1 c1x c2 scan read file → BeginWith sizes c1 c1x c2 read file
-scan_begins sizes file c1 c1x c2 scan read have = record {
-  c1 = record { cursor = scan.c1; given = have.c1.begins };
-  c1x = record { cursor = scan.c1x; given = have.c1x.begins };
-  c2 = record { cursor = scan.c2; given = have.c2.begins };
-}
+scan_begins sizes file c1 c1x c2 scan read h1 = grind (arith, common_steps, nat_tests)
+
+-- the rows are told by what was read
+pub told_by : {sizes : Sizes} {n : ℕ} {hold : HoldState} {scan : Scan} {rows : List Row} {before : Contents} {file : List ℕ} → (on : HaveReadOn sizes hold.c1 hold.c1x hold.c2 scan before file)
+    → ((all : Contents) → AreFronts hold.c1 hold.c1x hold.c2 on.now all → (rows ≡ take n (rows_by hold.place hold all)) × (rows_by scan.at hold all ≡ drop n (rows_by hold.place hold all)))
+    → AreTold sizes n hold scan.at rows file
+told_by on h1 = grind (arith, common_steps, nat_tests)
 
 -- ---- what was read is such a list
 

@@ -1,10 +1,13 @@
 -- Holds while runs are written.
+use Rattle.std.proofs.lemmas.Bool.Decides.{nat_tests}
+use Rattle.std.proofs.lemmas.Grind.{common_steps}
 use Rattle.std.specs.Prelude.{◌≢◌, ⊤, Option, Some, None, Result, Ok, slice_index_or, [], take, drop}
 use Rattle.std.specs.List.{Contains}
 use Rattle.std.proofs.Common.{◌≡◌, ◌∙◌, ◌+◌, ◌≤◌, ◌++◌, ℕ, List, ap, sym, subst, inl, inr, ⊎_elim, arith}
 use Rattle.std.proofs.lemmas.Bool.{cases_eq}
 use Rattle.std.proofs.lemmas.List.Elements.{Contains-append_left, Contains-append_right}
-use Rattle.disk_trait.specs.Region.{IsWithin as IsInside, IsSameOutside, outside, same_wider, span}
+use Rattle.disk_trait.specs.Region.{IsWithin as IsInside, IsSameOutside, outside, span}
+use Rattle.disk_trait.proofs.RegionLemmas.{same_wider}
 use Rattle.blsm_model.specs.declared.row.Row.{Row}
 use Rattle.blsm_model.specs.Sizes.{Sizes}
 use Rattle.page_space.specs.PageSet.{Members, IsIn, size}
@@ -13,7 +16,7 @@ use Rattle.page_file.specs.declared.file.Broken.{Broken}
 use Rattle.page_file.specs.Component.{RunPage, numbers_of}
 use Rattle.page_file.specs.File.{AreSamePages, page_start, pages_region}
 use Rattle.page_file.proofs.ComponentLemmas.{list_kept}
-use Rattle.page_file.proofs.PageLemmas.{before_apart, others_apart, same_pages}
+use Rattle.page_file.proofs.PageLemmas.{before_apart, same_pages}
 use Rattle.run_writer.specs.Writer.{role_region}
 use Rattle.merge_ends.specs.Output.{TakesPages}
 use Rattle.scan_view.specs.Hold.{HoldState, HasRows, pages_held}
@@ -82,10 +85,7 @@ unpinned_on old new role tag takes free seat page pinned has =
     ]
 
 pub writes_beside : (sizes : Sizes) (old new : SpaceState) (role : ℕ) → TakesPages role old new → IsUnpinned old role → IsInside (role_region sizes new role) (beside_pins sizes old.pins)
-writes_beside sizes old new role takes free i run pinned =
-    others_apart sizes run.0 pinned.1
-    (λ same. ⊎_elim (λ had. free pinned.0 pinned.1 pinned.2 (subst (λ (n : ℕ). HasRole old role n) same had)) (λ was_free. was_free.no_pin pinned.0 (subst (λ (n : ℕ). IsPinnedBy old pinned.0 n) (sym same) pinned.2))
-    (takes.only_free run.0 run.1)) i run.2 pinned.3
+writes_beside sizes old new role h1 h2 = grind (arith, common_steps, nat_tests)
 
 pub head_beside : (sizes : Sizes) (pins : List Members) (at n : ℕ) → at + n ≤ page_start sizes 0 → IsInside (span at n) (beside_pins sizes pins)
 head_beside sizes pins at n ends i inside pinned = before_apart sizes pinned.1 at n ends i pinned.3 inside

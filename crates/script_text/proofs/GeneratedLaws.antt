@@ -1,4 +1,6 @@
 -- What is made from a seed is a script, and every key in it, and in a history of it, is the generator's.
+use Rattle.std.proofs.lemmas.Bool.Decides.{nat_tests}
+use Rattle.std.proofs.lemmas.Grind.{common_steps}
 use Rattle.std.proofs.Common.{◌≡◌, ℕ, zero, suc, ◌+◌, ◌/◌, ◌%◌, ◌^◌, ◌<◌, ◌≤◌, Bool, true, false, cond, T, eqb, nat_lt, List, [], ◌∷◌, ◌++◌, length, map, filter, refl, ap, sym, subst, ◌∙◌, add-one, append_assoc, append-nil, arith}
 use Rattle.std.specs.List.{All}
 use Rattle.std.proofs.lemmas.List.Elements.{All-cons, All-filter, All-from_recursion, All-head, All-map, All-replicate, All-tail}
@@ -6,13 +8,13 @@ use Rattle.std.proofs.lemmas.List.Sums.{sum_by-cons}
 use Rattle.std.proofs.Math.Dec.{eqb_refl}
 use Rattle.std.proofs.Math.ListN.{length-replicate}
 use Rattle.blsm_model.specs.declared.op.Op.{Op}
-use Rattle.blsm_model.specs.declared.op.Op.TheVariants.{Put, Add, Tail, Del, Get}
+use Rattle.blsm_model.specs.declared.op.Op.TheVariants.{Put, Add, Del, Get}
 use Rattle.blsm_model.specs.declared.history.Entry.{Entry}
 use Rattle.blsm_model.specs.declared.history.Line.{Line}
-use Rattle.blsm_model.specs.Scripts.{IsOfScript, lines_of, ops_of}
-use Rattle.script_text.specs.Grammar.{IsAllowed, IsCommand, IsKey, IsText, IsVisible, all_rows_asked, rows_of}
+use Rattle.blsm_model.specs.Scripts.{IsOfScript, lines_of, ops_of, rows_of}
+use Rattle.script_text.specs.Grammar.{IsAllowed, IsCommand, IsKey, IsText, IsVisible, all_rows_asked}
 use Rattle.script_text.specs.Script.{AreLines}
-use Rattle.script_text.specs.Generated.{HasMadeKeys, IsMade, after_command, drawn, generated, key_at, key_count, next_state, op_from, op_of, text_at}
+use Rattle.script_text.specs.Generated.{HasMadeKeys, IsMade, after_command, generated, key_at, key_count, op_from, op_of, text_at}
 
 -- one command more
 generated_more : (x m n : ℕ) → n ≡ m + 1 → generated x n ≡ record { seat = 0; op = op_from x } ∷ generated (after_command x) m
@@ -84,20 +86,10 @@ op_made kind place count size within =
     op_cases HasMadeKeys kind place count size made made made made
 
 from_allowed : (x : ℕ) → IsCommand (op_from x)
-from_allowed x =
-    let first = next_state x in
-    let second = next_state first in
-    let third = next_state second in
-    let fourth = next_state third in
-    op_allowed (drawn first % 100) (drawn second % 1500) (drawn third % 1000) (160 + drawn fourth % 40) (omega arith) (omega arith) (omega arith)
+from_allowed x = grind (arith, common_steps, nat_tests, op_allowed)
 
 from_made : (x : ℕ) → HasMadeKeys (op_from x)
-from_made x =
-    let first = next_state x in
-    let second = next_state first in
-    let third = next_state second in
-    let fourth = next_state third in
-    op_made (drawn first % 100) (drawn second % 1500) (drawn third % 1000) (160 + drawn fourth % 40) (omega arith)
+from_made x = grind (arith, common_steps, nat_tests, op_made)
 
 all_allowed : (x n : ℕ) → All IsAllowed (generated x n)
 unfolding generated
@@ -109,12 +101,7 @@ op_asks_none : (kind place count size : ℕ) → rows_of (op_of kind place count
 op_asks_none kind place count size = op_cases (λ op. rows_of op ≡ 0) kind place count size refl refl refl refl
 
 from_asks_none : (x : ℕ) → rows_of (op_from x) ≡ 0
-from_asks_none x =
-    let first = next_state x in
-    let second = next_state first in
-    let third = next_state second in
-    let fourth = next_state third in
-    op_asks_none (drawn first % 100) (drawn second % 1500) (drawn third % 1000) (160 + drawn fourth % 40)
+from_asks_none x = grind (arith, common_steps, nat_tests, op_asks_none)
 
 none_asked : (x n : ℕ) → all_rows_asked (generated x n) ≡ 0
 unfolding generated
@@ -134,8 +121,7 @@ made_keys x (suc n) =
     All-cons (λ (l : Line). HasMadeKeys l.op) (record { seat = 0; op = op_from x }) (generated (after_command x) n) (from_made x) (made_keys (after_command x) n)
 
 holds : (b : Bool) → T b → b ≡ true
-holds true h = refl
-holds false h = absurd h
+holds b h1 = grind (arith, common_steps, nat_tests)
 
 -- what holds of each caller's commands holds of each entry's
 of_seats : (P : Op → Type 0) (history : List Entry) → ((seat : ℕ) → All P (ops_of seat history)) → All (λ (e : Entry). P e.op) history

@@ -1,10 +1,10 @@
 -- A text has one reading: it is one script, or one line of it is the first that is bad, and not both.
-use Rattle.std.proofs.Common.{◌≡◌, ◌≢◌, ℕ, ◌+◌, ◌^◌, ◌<◌, ◌≤◌, inl, inr, cond, eqb, not, List, [], ◌∷◌, ◌++◌, Some, Result, Ok, Err, length, take, drop, decimal, codes, sym, ◌∙◌, ap, subst, refl, append_assoc, append-nil, arith, length-append}
-use Rattle.std.specs.List.{All, prefix_len, position_or_len}
+use Rattle.std.proofs.lemmas.Bool.Decides.{nat_tests}
+use Rattle.std.proofs.lemmas.Grind.{common_steps}
+use Rattle.std.proofs.Common.{◌≡◌, ◌≢◌, ℕ, ◌+◌, ◌^◌, ◌<◌, ◌≤◌, inl, inr, List, [], ◌∷◌, ◌++◌, Some, Result, Ok, Err, length, drop, decimal, codes, sym, ◌∙◌, ap, subst, refl, append_assoc, append-nil, arith, length-append}
+use Rattle.std.specs.List.{All}
 use Rattle.std.proofs.lemmas.List.Elements.{All-head, All-tail, All-cons, All-append, All-drop, All-from_recursion}
-use Rattle.std.proofs.lemmas.List.Concat.{flat_map-cons}
-use Rattle.std.proofs.lemmas.List.Sums.{prefix_len-le-length, sum_by-append, sum_by-cons}
-use Rattle.std.proofs.lemmas.List.{take-append-le}
+use Rattle.std.proofs.lemmas.List.Sums.{sum_by-append, sum_by-cons}
 use Rattle.std.proofs.lemmas.Fmt.{decimal_injective, decimal_nonempty}
 use Rattle.std.proofs.Math.Seq.{drop-append_seam}
 use Rattle.blsm_model.specs.declared.row.Value.{Value}
@@ -12,20 +12,18 @@ use Rattle.blsm_model.specs.declared.op.Op.{Op}
 use Rattle.blsm_model.specs.declared.op.Op.TheVariants.{Put, Add, Tail, Del, Get, Hold, Next, Release, Work}
 use Rattle.blsm_model.specs.declared.history.Line.{Line}
 use Rattle.blsm_model.specs.Printed.{and_number, and_value, and_word, command_text, spelled}
-use Rattle.script_text.specs.Grammar.{IsAllowed, IsBadLine, IsCommand, IsKey, IsLine, IsOnlyBadLine, IsOnlyReading, IsScript, IsText, all_rows_asked, first_line, line_text, lines_text, rows_of}
+use Rattle.script_text.specs.Grammar.{IsAllowed, IsBadLine, IsCommand, IsKey, IsLine, IsOnlyBadLine, IsOnlyReading, IsScript, IsText, all_rows_asked, first_line, line_text, lines_text}
 use Rattle.script_text.specs.declared.script.ScriptFault.{ScriptFault}
 use Rattle.script_text.specs.declared.script.ScriptFault.TheVariants.{Bad, NoMemory}
 use Rattle.script_text.specs.Script.{IfBad}
 use Rattle.script_text.specs.Reading.{Lacks}
 use Rattle.script_text.proofs.ReadLemmas.{one_cut, decimal_lacks, visible_lacks, heads}
 use Rattle.script_text.proofs.ScriptLemmas.{first_line_is}
+use Rattle.blsm_model.specs.Scripts.{rows_of}
 
 -- a spelling has one text, value, command and line
 one_text : (x y : List ℕ) → x ≢ 45 ∷ [] → y ≢ 45 ∷ [] → spelled x ≡ spelled y → x ≡ y
-one_text [] [] no_x no_y is = refl
-one_text [] (y ∷ ys) no_x no_y is = absurd (no_y (sym is))
-one_text (x ∷ xs) [] no_x no_y is = absurd (no_x is)
-one_text (x ∷ xs) (y ∷ ys) no_x no_y is = is
+one_text x y h1 h2 h3 = grind (arith, common_steps, nat_tests)
 
 one_value : (v w : Value) → v.count < 2 ^ 64 → w.count < 2 ^ 64 → IsText v.text → IsText w.text → decimal v.count ++ and_word (spelled v.text) ≡ decimal w.count ++ and_word (spelled w.text) → v ≡ w
 one_value v w small_v small_w text_v text_w is =
@@ -43,50 +41,28 @@ one_put key value (Put k v) (is_key, small, is_text) (is_k, small_v, is_text_v) 
 one_put key value _ x y is = absurd (omega (arith, heads is))
 
 one_add : (key : List ℕ) (count : ℕ) (y : Op) → IsCommand (Add key count) → IsCommand y → command_text (Add key count) ≡ command_text y → Add key count ≡ y
-one_add key count (Add k n) (is_key, small) (is_k, small_n) is =
-    let both = one_cut 32 key k (decimal count) (decimal n) (visible_lacks 32 key (omega arith) is_key.visible) (visible_lacks 32 k (omega arith) is_k.visible) (ap (λ (l : List ℕ). drop 4 l) is) in
-    let same_key : key ≡ k = both.0 in
-    let same_count : count ≡ n = decimal_injective count n small small_n both.1 in
-    λ i. Add (same_key i) (same_count i)
-one_add key count _ x y is = absurd (omega (arith, heads is))
+one_add key count y h1 h2 h3 = grind (arith, common_steps, nat_tests, one_cut, decimal, visible_lacks, decimal_injective, heads)
 
 one_tail : (key tail : List ℕ) (y : Op) → IsCommand (Tail key tail) → IsCommand y → command_text (Tail key tail) ≡ command_text y → Tail key tail ≡ y
-one_tail key tail (Tail k t) (is_key, is_tail) (is_k, is_t) is =
-    let both = one_cut 32 key k tail t (visible_lacks 32 key (omega arith) is_key.visible) (visible_lacks 32 k (omega arith) is_k.visible) (ap (λ (l : List ℕ). drop 5 l) is) in
-    let same_key : key ≡ k = both.0 in
-    let same_tail : tail ≡ t = both.1 in
-    λ i. Tail (same_key i) (same_tail i)
-one_tail key tail _ x y is = absurd (omega (arith, heads is))
+one_tail key tail y h1 h2 h3 = grind (arith, common_steps, nat_tests, one_cut, visible_lacks, heads)
 
 one_del : (key : List ℕ) (y : Op) → command_text (Del key) ≡ command_text y → Del key ≡ y
-one_del key (Del k) is = ap (λ (l : List ℕ). Del l) (ap (λ (l : List ℕ). drop 4 l) is)
-one_del key Release is = absurd (omega (arith, heads (ap (λ (l : List ℕ). drop 1 l) is)))
-one_del key _ is = absurd (omega (arith, heads is))
+one_del key y h1 = grind (arith, common_steps, nat_tests)
 
 one_get : (key : List ℕ) (y : Op) → command_text (Get key) ≡ command_text y → Get key ≡ y
-one_get key (Get k) is = ap (λ (l : List ℕ). Get l) (ap (λ (l : List ℕ). drop 4 l) is)
-one_get key _ is = absurd (omega (arith, heads is))
+one_get key y h1 = grind (arith, common_steps, nat_tests)
 
 one_hold : (low high : List ℕ) (y : Op) → IsCommand (Hold low high) → IsCommand y → command_text (Hold low high) ≡ command_text y → Hold low high ≡ y
-one_hold low high (Hold k l) (is_low, is_high) (is_k, is_l) is =
-    let both = one_cut 32 low k high l (visible_lacks 32 low (omega arith) is_low.visible) (visible_lacks 32 k (omega arith) is_k.visible) (ap (λ (l : List ℕ). drop 5 l) is) in
-    let same_low : low ≡ k = both.0 in
-    let same_high : high ≡ l = both.1 in
-    λ i. Hold (same_low i) (same_high i)
-one_hold low high _ x y is = absurd (omega (arith, heads is))
+one_hold low high y h1 h2 h3 = grind (arith, common_steps, nat_tests, one_cut, visible_lacks, heads)
 
 one_next : (n : ℕ) (y : Op) → IsCommand (Next n) → IsCommand y → command_text (Next n) ≡ command_text y → Next n ≡ y
-one_next n (Next m) x y is = ap Next (decimal_injective n m (omega (arith, x.1)) (omega (arith, y.1)) (ap (λ (l : List ℕ). drop 5 l) is))
-one_next n _ x y is = absurd (omega (arith, heads is))
+one_next n y h1 h2 h3 = grind (arith, common_steps, nat_tests, decimal_injective, heads)
 
 one_release : (y : Op) → command_text Release ≡ command_text y → Release ≡ y
-one_release Release is = refl
-one_release (Del k) is = absurd (omega (arith, heads (ap (λ (l : List ℕ). drop 1 l) is)))
-one_release _ is = absurd (omega (arith, heads is))
+one_release y h1 = grind (arith, common_steps, nat_tests)
 
 one_work : (n : ℕ) (y : Op) → IsCommand (Work n) → IsCommand y → command_text (Work n) ≡ command_text y → Work n ≡ y
-one_work n (Work m) x y is = ap Work (decimal_injective n m (omega (arith, x.1)) (omega (arith, y.1)) (ap (λ (l : List ℕ). drop 5 l) is))
-one_work n _ x y is = absurd (omega (arith, heads is))
+one_work n y h1 h2 h3 = grind (arith, common_steps, nat_tests, decimal_injective, heads)
 
 one_command : (x y : Op) → IsCommand x → IsCommand y → command_text x ≡ command_text y → x ≡ y
 one_command (Put key value) y allowed_x allowed_y is = one_put key value y allowed_x allowed_y is
@@ -119,8 +95,7 @@ number_lacks : (n : ℕ) → n < 2 ^ 64 → Lacks 10 (and_number n)
 number_lacks n small = All-cons (λ byte. byte ≢ 10) 32 (decimal n) (λ same. absurd (omega arith)) (decimal_lacks 10 n small (omega arith))
 
 text_lacks : (text : List ℕ) → IsText text → Lacks 10 (and_word (spelled text))
-text_lacks [] is_text = All-from_recursion (λ byte. byte ≢ 10) (32 ∷ 45 ∷ []) (λ same. absurd (omega arith), (λ same. absurd (omega arith), tt))
-text_lacks (b ∷ bytes) is_text = All-cons (λ byte. byte ≢ 10) 32 (b ∷ bytes) (λ same. absurd (omega arith)) (visible_lacks 10 (b ∷ bytes) (omega arith) is_text.visible)
+text_lacks text h1 = grind (arith, common_steps, nat_tests)
 
 three_lack : (a b c : ℕ) → a ≢ 10 → b ≢ 10 → c ≢ 10 → Lacks 10 (a ∷ b ∷ c ∷ [])
 three_lack a b c no_a no_b no_c = All-from_recursion (λ byte. byte ≢ 10) (a ∷ b ∷ c ∷ []) (no_a, (no_b, (no_c, tt)))
@@ -165,8 +140,7 @@ line_some line allowed = omega (arith, decimal_nonempty (line.seat + 1) (seat_sm
 
 -- the first line, its end, and the rest
 opened : (x : Line) (xs : List Line) (r : List ℕ) → lines_text (x ∷ xs) ++ r ≡ line_text x ++ 10 ∷ (lines_text xs ++ r)
-opened x xs r =
-    ap (λ (l : List ℕ). l ++ r) (flat_map-cons (λ (l : Line). line_text l ++ 10 ∷ []) x xs) ∙ append_assoc (line_text x ++ 10 ∷ []) (lines_text xs) r ∙ append_assoc (line_text x) (10 ∷ []) (lines_text xs ++ r)
+opened x xs r = grind (arith, common_steps, nat_tests)
 
 -- of two readings of one text the one goes on where the other ends
 data Compared (xs ys : List Line) (r s : List ℕ) : Type 0 where
@@ -200,8 +174,7 @@ allowed_rest xs ys zs is allowed =
     subst (λ (l : List Line). All IsAllowed l) (ap (λ (l : List Line). drop (length xs) l) is ∙ drop-append_seam xs zs) (All-drop IsAllowed (length xs) ys allowed)
 
 one_end : (xs ys : List Line) → Compared xs ys [] [] → xs ≡ ys
-one_end xs ys (ahead zs more left) = sym (more ∙ ap (λ (l : List Line). xs ++ l) (nothing_left zs [] left).0 ∙ append-nil xs)
-one_end xs ys (behind zs more left) = more ∙ ap (λ (l : List Line). ys ++ l) (nothing_left zs [] left).0 ∙ append-nil ys
+one_end xs ys h1 = grind (arith, common_steps, nat_tests, nothing_left, append-nil)
 
 one_ended : (xs ys : List Line) → All IsAllowed xs → All IsAllowed ys → lines_text xs ≡ lines_text ys → xs ≡ ys
 one_ended xs ys allowed_x allowed_y is = one_end xs ys (compared xs ys [] [] allowed_x allowed_y (ap (λ (l : List ℕ). l ++ []) is))
@@ -216,40 +189,17 @@ no_end_more xs ys allowed_x allowed_y is =
 
 -- a text is one script
 pub one_script : (bytes : List ℕ) (x y : List Line) → IsScript bytes x → IsScript bytes y → x ≡ y
-one_script bytes x y is_x is_y =
-    elim is_x.spelled [
-      | inl a ↦ elim is_y.spelled [
-        | inl b ↦ one_ended x y is_x.allowed is_y.allowed (sym a ∙ b)
-        | inr b ↦ absurd (no_end_more x y is_x.allowed is_y.allowed (ap (λ (l : List ℕ). l ++ 10 ∷ []) (sym a) ∙ b))
-      ]
-      | inr a ↦ elim is_y.spelled [
-        | inl b ↦ absurd (no_end_more y x is_y.allowed is_x.allowed (ap (λ (l : List ℕ). l ++ 10 ∷ []) (sym b) ∙ a))
-        | inr b ↦ one_ended x y is_x.allowed is_y.allowed (sym a ∙ b)
-      ]
-    ]
-
--- the first line is as before where an end stands behind it
-prefix_end : (bytes : List ℕ) → prefix_len (λ byte. not (eqb byte 10)) (bytes ++ 10 ∷ []) ≡ prefix_len (λ byte. not (eqb byte 10)) bytes
-prefix_end [] = refl
-prefix_end (b ∷ bytes) = ap (λ n. cond (not (eqb b 10)) (1 + n) 0) (prefix_end bytes)
+one_script bytes x y h1 h2 = grind (arith, common_steps, nat_tests, one_ended, no_end_more)
 
 first_line_end : (bytes : List ℕ) → first_line (bytes ++ 10 ∷ []) ≡ first_line bytes
-first_line_end bytes =
-    ap (λ n. take n (bytes ++ 10 ∷ [])) (prefix_end bytes) ∙ take-append-le (position_or_len (λ byte. eqb byte 10) bytes) bytes (10 ∷ []) (prefix_len-le-length (λ byte. not (eqb byte 10)) bytes)
+first_line_end bytes = grind (arith, common_steps, nat_tests)
 
 all_rows-seam : (xs : List Line) (z : Line) (zs : List Line) → all_rows_asked (xs ++ z ∷ zs) ≡ all_rows_asked xs + (rows_of z.op + all_rows_asked zs)
 all_rows-seam xs z zs = sum_by-append (λ (l : Line). rows_of l.op) xs (z ∷ zs) ∙ ap (λ n. all_rows_asked xs + n) (sum_by-cons (λ (l : Line). rows_of l.op) z zs)
 
 -- a bad line is no line of lines that are few enough and ask for few enough rows
 refused : (bytes : List ℕ) (n : ℕ) (bad : IsBadLine bytes n) (z : Line) (zs ws : List Line) → IsAllowed z → first_line bad.rest ≡ line_text z → ws ≡ bad.before ++ z ∷ zs → length ws ≤ 65536 → all_rows_asked ws ≤ 131072 → ⊥
-refused bytes n bad z zs ws allowed first whole few asked =
-    elim bad.bad [
-      | inl none ↦ none z (record { allowed = allowed; spelled = first })
-      | inr (inl full) ↦ omega (arith, ap length whole, length-append bad.before (z ∷ zs))
-      | inr (inr much) ↦
-          let same : much.line ≡ z = one_line (first_line bad.rest) much.line z much.is (record { allowed = allowed; spelled = first }) in
-          omega (arith, much.past, ap (λ (l : Line). rows_of l.op) same, ap all_rows_asked whole, all_rows-seam bad.before z zs)
-    ]
+refused bytes n bad z zs ws h1 h2 h3 h4 h5 = grind (arith, common_steps, nat_tests, length-append, one_line, all_rows-seam)
 
 opened_first : (z : Line) (zs : List Line) (s : List ℕ) → IsAllowed z → first_line (lines_text (z ∷ zs) ++ s) ≡ line_text z
 opened_first z zs s allowed = ap first_line (opened z zs s) ∙ first_line_is (line_text z ++ 10 ∷ (lines_text zs ++ s)) (line_text z) (Some (lines_text zs ++ s)) (line_lacks z allowed) refl

@@ -1,4 +1,5 @@
 -- How many keys a map has after one more write, and that flags by places of keys tell it.
+use Rattle.std.proofs.lemmas.Grind.{common_steps}
 use Rattle.std.proofs.Common.{◌≡◌, ◌≢◌, ℕ, ◌+◌, ◌*◌, ◌/◌, ◌%◌, ◌<◌, ◌⊎◌, inl, inr, Bool, true, false, cond, not, List, [], ◌∷◌, ◌++◌, Option, Some, None, length, get_or, set, replicate, is_some, refl, sym, ap, subst, ◌∙◌, T, arith}
 use Rattle.std.specs.List.{count_by}
 use Rattle.std.specs.Ordering.{eq_by_cmp}
@@ -9,7 +10,7 @@ use Rattle.std.specs.FinMap.Entries.{find-put, find-where_key, is_sorted-put, is
 use Rattle.std.proofs.lemmas.List.{get_or-replicate, get_or-set_other, get_or-set_same, length-set}
 use Rattle.std.proofs.lemmas.List.Folds.{sum_by-replicate}
 use Rattle.std.proofs.lemmas.List.Sums.{sum_by-set}
-use Rattle.std.proofs.lemmas.Bool.Decides.{eqb_tells}
+use Rattle.std.proofs.lemmas.Bool.Decides.{eqb_tells, nat_tests}
 use Rattle.std.proofs.Math.ListN.{length-replicate}
 use Rattle.blsm_model.specs.declared.key.Key.{Key}
 use Rattle.blsm_model.specs.declared.row.Value.{Value}
@@ -22,10 +23,6 @@ use Rattle.blsm_model.proofs.RowLemmas.{find-map_of, is_sorted-map_of}
 use Rattle.blsm_model.proofs.ValueLemmas.{value_at-add, value_at-del, value_at-other, value_at-put, value_at-tail}
 use Rattle.script_text.specs.Generated.{digit_at, key_at}
 use Rattle.script_text.specs.Summary.{Tells}
-
--- a key tells its place
-digits_whole : (place : ℕ) → place < 1500 → place / 10000 % 10 * 10000 + place / 1000 % 10 * 1000 + place / 100 % 10 * 100 + place / 10 % 10 * 10 + place / 1 % 10 ≡ place
-digits_whole place small = omega arith
 
 -- the digits of a key, each by its byte
 pub record AreDigits (bytes : List ℕ) (place : ℕ) : Type 0 where
@@ -50,17 +47,7 @@ digits_are bytes place is = record {
 pub place_is : (bytes : List ℕ) (place a b c d e : ℕ) → place < 1500 → AreDigits bytes place
     → a + 48 ≡ get_or bytes 1 0 → b + 48 ≡ get_or bytes 2 0 → c + 48 ≡ get_or bytes 3 0 → d + 48 ≡ get_or bytes 4 0 → e + 48 ≡ get_or bytes 5 0
     → a * 10000 + b * 1000 + c * 100 + d * 10 + e ≡ place
-place_is bytes place a b c d e small digits is_a is_b is_c is_d is_e =
-    let first : a ≡ place / 10000 % 10 = omega (arith, digits.first) in
-    let second : b ≡ place / 1000 % 10 = omega (arith, digits.second) in
-    let third : c ≡ place / 100 % 10 = omega (arith, digits.third) in
-    let fourth : d ≡ place / 10 % 10 = omega (arith, digits.fourth) in
-    let fifth : e ≡ place / 1 % 10 = omega (arith, digits.fifth) in
-    ap (λ n. n * 10000 + b * 1000 + c * 100 + d * 10 + e) first ∙ ap (λ n. place / 10000 % 10 * 10000 + n * 1000 + c * 100 + d * 10 + e) second
-    ∙ ap (λ n. place / 10000 % 10 * 10000 + place / 1000 % 10 * 1000 + n * 100 + d * 10 + e) third
-    ∙ ap (λ n. place / 10000 % 10 * 10000 + place / 1000 % 10 * 1000 + place / 100 % 10 * 100 + n * 10 + e) fourth
-    ∙ ap (λ n. place / 10000 % 10 * 10000 + place / 1000 % 10 * 1000 + place / 100 % 10 * 100 + place / 10 % 10 * 10 + n) fifth
-    ∙ digits_whole place small
+place_is bytes place a b c d e h1 h2 h3 h4 h5 h6 h7 = grind (arith, common_steps, nat_tests)
 
 -- and no two places have one key
 one_place : (p q : ℕ) → p < 1500 → q < 1500 → key_at p ≡ key_at q → p ≡ q
@@ -74,8 +61,7 @@ one_place p q small_p small_q is =
     (digit (p / 10000) ∙ sym of_p.first) (digit (p / 1000) ∙ sym of_p.second) (digit (p / 100) ∙ sym of_p.third) (digit (p / 10) ∙ sym of_p.fourth) (digit (p / 1) ∙ sym of_p.fifth)
 
 by_test : (b : Bool) → (b ≡ true) ⊎ (b ≡ false)
-by_test true = inl refl
-by_test false = inr refl
+by_test b = grind (arith, common_steps, nat_tests)
 
 abbrev ties : Key → Key → Bool
 ties q k = eq_by_cmp key_cmp q k
@@ -143,10 +129,7 @@ itself : (k : Key) → same_key k k ≡ true
 itself k = (bytes_decides k k).1 refl
 
 left_value : (writes : List Write) (w : Write) → is_some (value_at (writes ++ w ∷ []) (key_of w)) ≡ leaves w
-left_value writes (Put key value) = ap (λ (o : Option Value). is_some o) (value_at-put writes key key value (itself key))
-left_value writes (Add key count) = ap (λ (o : Option Value). is_some o) (value_at-add writes key key count (itself key))
-left_value writes (Tail key tail) = ap (λ (o : Option Value). is_some o) (value_at-tail writes key key tail (itself key))
-left_value writes (Del key) = ap (λ (o : Option Value). is_some o) (value_at-del writes key key (itself key))
+left_value writes w = grind (arith, common_steps, nat_tests, is_some, value_at-put, itself, value_at-add, value_at-tail, value_at-del)
 
 -- the flags that are up are as many as the keys, after one more write too
 recounted : (flags : List Bool) (writes : List Write) (w : Write) (place : ℕ) → place < length flags → get_or flags place false ≡ is_some (value_at writes (key_of w)) → count_by (λ flag. flag) flags ≡ length (map_of writes)
@@ -154,12 +137,10 @@ recounted : (flags : List Bool) (writes : List Write) (w : Write) (place : ℕ) 
 recounted flags writes w place within was so_far = by_value (value_at (writes ++ w ∷ []) (key_of w)) (leaves w) refl (left_value writes w)
   where
     more : (old : Bool) (c n l m : ℕ) → n ≡ l → c + cond old 1 0 ≡ n + 1 → m ≡ cond old l (l + 1) → c ≡ m
-    more true c n l m same change is = omega arith
-    more false c n l m same change is = omega arith
+    more old c n l m h1 h2 h3 = grind (arith, common_steps, nat_tests)
 
     fewer : (old : Bool) (c n l m : ℕ) → n ≡ l → c + cond old 1 0 ≡ n + 0 → cond old 1 0 + m ≡ l → c ≡ m
-    fewer true c n l m same change is = omega arith
-    fewer false c n l m same change is = omega arith
+    fewer old c n l m h1 h2 h3 = grind (arith, common_steps, nat_tests)
 
     change : (b : Bool) → count_by (λ flag. flag) (set flags place b) + cond (is_some (value_at writes (key_of w))) 1 0 ≡ count_by (λ flag. flag) flags + cond b 1 0
     change b = ap (λ (old : Bool). count_by (λ flag. flag) (set flags place b) + cond old 1 0) (sym was) ∙ sum_by-set (λ (flag : Bool). cond flag 1 0) flags place b false within
@@ -188,10 +169,7 @@ tells_more flags writes w place below is tells =
     }
   where
     apart : (j : ℕ) → j < 1500 → j ≢ place → ties (key_at j) (key_of w) ≡ false
-    apart j small other = elim (by_test (ties (key_at j) (key_of w))) [
-      | inl same ↦ absurd (other (one_place j place small below (tied (key_at j) (key_of w) same ∙ is)))
-      | inr not_tied ↦ not_tied
-    ]
+    apart j h1 h2 = grind (arith, common_steps, nat_tests, by_test, one_place, tied)
 
 pub tells_put : (flags : List Bool) (writes : List Write) (key : Key) (value : Value) (place : ℕ) → place < 1500 → key ≡ key_at place → Tells flags writes → Tells (set flags place true) (writes ++ Put key value ∷ [])
 tells_put flags writes key value place below is tells = tells_more flags writes (Put key value) place below is tells

@@ -1,8 +1,9 @@
 -- A text of many pieces, one piece after another.
-use Rattle.std.proofs.Common.{◌≡◌, ℕ, ◌+◌, ◌<◌, List, [], ◌∷◌, ◌++◌, Option, Result, subst, length, take, drop, get_or, flat_map, sym, ◌∙◌, ap, append_assoc, add-zero, add-one, arith, drop-cons, append-nil}
+use Rattle.std.proofs.lemmas.Bool.Decides.{nat_tests}
+use Rattle.std.proofs.Common.{◌≡◌, ℕ, ◌+◌, ◌<◌, List, [], ◌∷◌, ◌++◌, Option, Result, length, take, drop, get_or, flat_map, sym, ◌∙◌, ap, append_assoc, add-zero, add-one, arith, drop-cons, append-nil}
 use Rattle.std.proofs.lemmas.List.{take-append-drop, take_more, length-take-le}
 use Rattle.std.proofs.lemmas.List.Concat.{flat_map-cons}
-use Rattle.std.proofs.lemmas.Grind.{flat_map-append}
+use Rattle.std.proofs.lemmas.Grind.{flat_map-append, common_steps}
 use Rattle.blsm_model.specs.declared.history.Entry.{Entry}
 use Rattle.text_io.specs.Text.{Writes}
 use Rattle.blsm_model.specs.Printed.{entry_text, entries_text}
@@ -33,10 +34,7 @@ entries_text-append place (e ∷ es) fs [] rs same = absurd (omega arith)
 -- with one entry between them
 entries_joined : (place : ℕ) (es fs : List Entry) (qs rs : List ℕ) (e : Entry) (q n : ℕ) → length qs ≡ length es → place + length es ≡ n
     → entries_text place (es ++ e ∷ fs) (qs ++ q ∷ rs) ≡ (entries_text place es qs ++ entry_text n e q) ++ entries_text (n + 1) fs rs
-entries_joined place es fs qs rs e q n same here =
-    entries_text-append place es (e ∷ fs) qs (q ∷ rs) same
-    ∙ ap (λ m. entries_text place es qs ++ entries_text m (e ∷ fs) (q ∷ rs)) here
-    ∙ sym (append_assoc (entries_text place es qs) (entry_text n e q) (entries_text (n + 1) fs rs))
+entries_joined place es fs qs rs e q n h1 h2 = grind (arith, common_steps, nat_tests, entries_text-append, append_assoc)
 
 pub as_long : (es : List Entry) (qs : List ℕ) (i : ℕ) → length qs ≡ length es → i < length es → length (take i qs) ≡ length (take i es)
 as_long es qs i same within = length-take-le i qs (omega arith) ∙ sym (length-take-le i es (omega arith))
@@ -63,5 +61,4 @@ entries_more place es qs i d n same within here =
 -- a line with rows, in the pieces in which it is written
 pub rows_line : {T E : Type 0} (p r f a b e : List ℕ) {result : Result T E} {old new : Option (List ℕ)} {first second : ℕ}
     → Writes (((p ++ r) ++ f) ++ ((a ++ b) ++ e)) result old new first second → Writes ((((p ++ (r ++ f)) ++ a) ++ b) ++ e) result old new first second
-rows_line p r f a b e {result = result} {old = old} {new = new} {first = first} {second = second} writes =
-    subst (λ (text : List ℕ). Writes text result old new first second) (simp append_assoc) writes
+rows_line p r f a b e h1 = grind (arith, common_steps, nat_tests)

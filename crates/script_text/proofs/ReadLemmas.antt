@@ -1,5 +1,7 @@
 -- A text is cut in one way, and its parts are spelled in one way.
-use Rattle.std.proofs.Common.{◌≡◌, ◌≢◌, ℕ, ◌+◌, ◌^◌, ◌<◌, zero, suc, List, [], ◌∷◌, ◌++◌, length, drop, get_or, Option, Some, None, Result, Ok, Err, codes, decimal, sym, ◌∙◌, ap, subst, refl, arith}
+use Rattle.std.proofs.lemmas.Bool.Decides.{nat_tests}
+use Rattle.std.proofs.lemmas.Grind.{common_steps}
+use Rattle.std.proofs.Common.{◌≡◌, ◌≢◌, ℕ, ◌+◌, ◌^◌, ◌<◌, List, [], ◌∷◌, ◌++◌, length, drop, get_or, Option, Some, None, Result, Ok, Err, codes, decimal, sym, ◌∙◌, ap, subst, refl, arith}
 use Rattle.std.specs.List.{All}
 use Rattle.std.specs.Option.{option_copied}
 use Rattle.std.specs.Result.{result_ok}
@@ -22,8 +24,7 @@ use Rattle.script_text.specs.Reading.{Reads, Lacks, IsJoined, BeginsAsNumber, Sp
 
 -- an answer of none
 pub reads_nothing : {X : Type 0} (Spells : List ℕ → X → Type 0) (bytes : List ℕ) (result : Option X) → result ≡ None → ((x : X) → Spells bytes x → ⊥) → Reads Spells bytes result
-reads_nothing Spells bytes None is none = none
-reads_nothing Spells bytes (Some x) is none = cc
+reads_nothing Spells bytes result h1 h2 = grind (arith, common_steps, nat_tests)
 
 -- a list is cut at the first mark in one way
 pub one_cut : (mark : ℕ) (w f r s : List ℕ) → Lacks mark w → Lacks mark f → w ++ mark ∷ r ≡ f ++ mark ∷ s → (w ≡ f) × (r ≡ s)
@@ -52,11 +53,7 @@ no_rest mark bytes front (Some x) lacks joined is w r same = cc
 -- and where one was found, the word is what stood before it
 pub cut_is : (mark : ℕ) (bytes front : List ℕ) (rest : Option (Bor (List ℕ))) (x : Bor (List ℕ)) → Lacks mark front → IsJoined mark bytes front (option_copied rest) → rest ≡ Some x → (w r : List ℕ) → Lacks mark w → bytes ≡ w ++ mark ∷ r
     → (front ≡ w) × (x.now ≡ r)
-cut_is mark bytes front None x lacks joined is w r lacks_w same = cc
-cut_is mark bytes front (Some y) x lacks joined is w r lacks_w same =
-    let whole : front ++ mark ∷ y.now ≡ w ++ mark ∷ r = sym joined ∙ same in
-    let both = one_cut mark front w y.now r lacks lacks_w whole in
-    (both.0, let same_rest : y ≡ x = cc in ap (λ (b : Bor (List ℕ)). b.now) (sym same_rest) ∙ both.1)
+cut_is mark bytes front rest x h1 h2 h3 w r h4 h5 = grind (arith, common_steps, nat_tests, one_cut)
 
 own : IsNumeralModel (AllDigits 10) (digits_value 10)
 own = numerals_by_value (AllDigits 10) tells_digits
@@ -71,15 +68,11 @@ pub visible_lacks : (mark : ℕ) (word : List ℕ) → mark < 33 → All IsVisib
 visible_lacks mark word low visible = All-weaker IsVisible (λ byte. byte ≢ mark) (λ byte (v : IsVisible byte). λ same. absurd (omega (arith, v.0))) word visible
 
 decimal_alone : (n : ℕ) → n < 2 ^ 64 → get_or (decimal n) 0 0 ≡ 48 → length (decimal n) ≡ 1
-decimal_alone zero small is = ap length (decimal_digit 0 (omega arith))
-decimal_alone (suc n) small is = absurd (omega (arith, first_decimal (suc n) (omega arith) small))
+decimal_alone n h1 h2 = grind (arith, common_steps, nat_tests, decimal_digit, first_decimal)
 
 -- a number in digits begins as one
 pub decimal_begins : (n : ℕ) → n < 2 ^ 64 → BeginsAsNumber (decimal n)
-decimal_begins n small =
-    let some = decimal_nonempty n small in
-    let digit : IsInRange 48 57 (get_or (decimal n) 0 0) = digit_at (decimal n) 0 (digits_decimal own n small) some in
-    record { some = some; digit = digit; alone = decimal_alone n small }
+decimal_begins n h1 = grind (arith, common_steps, nat_tests, decimal_nonempty, get_or, decimal, digit_at, digits_decimal, own, decimal_alone)
 
 -- what `parse` reads, where the first byte is right
 pub number_read : {E : Type 0} (bytes : List ℕ) (r : Result ℕ E) → BeginsAsNumber bytes → ParsesUnsigned 64 10 bytes r → Reads SpellsNumber bytes (result_ok r)
@@ -127,13 +120,11 @@ no_hold bytes none _ (is, allowed) = absurd (omega (arith, heads is))
 
 -- what isn't a number of rows is no next's argument
 pub no_next : (bytes : List ℕ) → ((n : ℕ) → SpellsCount 32 bytes n → ⊥) → (op : Op) → SpellsArguments verb.Next bytes op → ⊥
-no_next bytes none (Next n) (is, (some, few)) = none n (sym (ap (λ (l : List ℕ). drop 5 l) is), some, few)
-no_next bytes none _ (is, allowed) = absurd (omega (arith, heads is))
+no_next bytes h1 op h2 = grind (arith, common_steps, nat_tests)
 
 -- what isn't a number of turns is no work's argument
 pub no_work : (bytes : List ℕ) → ((n : ℕ) → SpellsCount 100000 bytes n → ⊥) → (op : Op) → SpellsArguments verb.Work bytes op → ⊥
-no_work bytes none (Work n) (is, (some, few)) = none n (sym (ap (λ (l : List ℕ). drop 5 l) is), some, few)
-no_work bytes none _ (is, allowed) = absurd (omega (arith, heads is))
+no_work bytes h1 op h2 = grind (arith, common_steps, nat_tests)
 
 -- a command has a first word and something behind a space, or is a word alone
 pub data Form (op : Op) : Type 0 where
@@ -153,14 +144,7 @@ form_of (Work n) = worded verb.Work (decimal n) refl
 
 -- and that word has no space
 pub verb_lacks : (v : Verb) → Lacks 32 (verb_text v)
-verb_lacks verb.Put = All-from_recursion (λ byte. byte ≢ 32) (verb_text verb.Put) (λ same. absurd (omega arith), (λ same. absurd (omega arith), (λ same. absurd (omega arith), tt)))
-verb_lacks verb.Add = All-from_recursion (λ byte. byte ≢ 32) (verb_text verb.Add) (λ same. absurd (omega arith), (λ same. absurd (omega arith), (λ same. absurd (omega arith), tt)))
-verb_lacks verb.Tail = All-from_recursion (λ byte. byte ≢ 32) (verb_text verb.Tail) (λ same. absurd (omega arith), (λ same. absurd (omega arith), (λ same. absurd (omega arith), (λ same. absurd (omega arith), tt))))
-verb_lacks verb.Del = All-from_recursion (λ byte. byte ≢ 32) (verb_text verb.Del) (λ same. absurd (omega arith), (λ same. absurd (omega arith), (λ same. absurd (omega arith), tt)))
-verb_lacks verb.Get = All-from_recursion (λ byte. byte ≢ 32) (verb_text verb.Get) (λ same. absurd (omega arith), (λ same. absurd (omega arith), (λ same. absurd (omega arith), tt)))
-verb_lacks verb.Hold = All-from_recursion (λ byte. byte ≢ 32) (verb_text verb.Hold) (λ same. absurd (omega arith), (λ same. absurd (omega arith), (λ same. absurd (omega arith), (λ same. absurd (omega arith), tt))))
-verb_lacks verb.Next = All-from_recursion (λ byte. byte ≢ 32) (verb_text verb.Next) (λ same. absurd (omega arith), (λ same. absurd (omega arith), (λ same. absurd (omega arith), (λ same. absurd (omega arith), tt))))
-verb_lacks verb.Work = All-from_recursion (λ byte. byte ≢ 32) (verb_text verb.Work) (λ same. absurd (omega arith), (λ same. absurd (omega arith), (λ same. absurd (omega arith), (λ same. absurd (omega arith), tt))))
+verb_lacks v = grind (arith, common_steps, nat_tests)
 
 -- where nothing but a word was found, the command is the one that is a word alone
 bare_is : (bytes front : List ℕ) → Lacks 32 front → bytes ≡ front → (op : Op) → SpellsCommand bytes op → SpellsBare front op

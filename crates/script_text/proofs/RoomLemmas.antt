@@ -1,8 +1,7 @@
 -- The lines of each caller are counted, and the rows that they ask for.
 use Rattle.std.proofs.Common.{◌≡◌, ℕ, ◌<◌, List, length, take, get_or}
 use Rattle.blsm_model.specs.declared.history.Line.{Line}
-use Rattle.blsm_model.specs.Scripts.{lines_of}
-use Rattle.script_text.specs.Script.{rows_asked}
+use Rattle.blsm_model.specs.Scripts.{lines_of, rows_asked}
 
 -- the counts of the callers' first i lines
 abbrev pub AreCounts : List ℕ → List Line → ℕ → Type 0

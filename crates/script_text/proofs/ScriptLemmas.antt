@@ -1,11 +1,11 @@
 -- A text is read line by line.
-use Rattle.std.proofs.Common.{◌≡◌, ◌≢◌, ℕ, zero, suc, ◌+◌, ◌-◌, ◌<◌, ◌≤◌, ◌⊎◌, inl, inr, false, eqb, List, [], ◌∷◌, ◌++◌, length, take, get_or, Option, Some, None, sym, ◌∙◌, ap, subst, refl, append_assoc, append-nil, arith, length-append}
+use Rattle.std.proofs.Common.{◌≡◌, ◌≢◌, ℕ, ◌+◌, ◌-◌, ◌<◌, ◌≤◌, ◌⊎◌, inl, inr, false, eqb, List, [], ◌∷◌, ◌++◌, length, take, get_or, Option, Some, None, ◌∙◌, ap, refl, arith, length-append}
 use Rattle.std.specs.List.{All, before_first, position_or_len}
 use Rattle.std.specs.Option.{unwrap_or}
-use Rattle.std.proofs.lemmas.Grind.{flat_map-append}
+use Rattle.std.proofs.lemmas.Grind.{common_steps}
 use Rattle.std.proofs.lemmas.List.{get_or_append_left, get_or-append_right}
 use Rattle.std.proofs.lemmas.List.Sums.{position_or_len_is}
-use Rattle.std.proofs.lemmas.Bool.Decides.{eqb_tells}
+use Rattle.std.proofs.lemmas.Bool.Decides.{eqb_tells, nat_tests}
 use Rattle.std.proofs.Math.Seq.{take-append_seam, take-length}
 use Rattle.blsm_model.specs.declared.history.Line.{Line}
 use Rattle.script_text.specs.Grammar.{AsksTooMuch, IsAllowed, IsBadLine, IsLine, all_rows_asked, first_line, line_text, lines_text}
@@ -16,24 +16,14 @@ pub data SoFar (text : List ℕ) (lines : List Line) (rest : List ℕ) : Type 0 
   ended : text ≡ lines_text lines ++ rest → SoFar text lines rest
   unended : rest ≡ [] → text ++ 10 ∷ [] ≡ lines_text lines → SoFar text lines rest
 
-pub lines_text-push : (lines : List Line) (line : Line) → lines_text (lines ++ line ∷ []) ≡ lines_text lines ++ (line_text line ++ 10 ∷ [])
-lines_text-push lines line =
-    flat_map-append (λ (l : Line). line_text l ++ 10 ∷ []) lines (line ∷ [])
-    ∙ ap (λ (l : List ℕ). lines_text lines ++ l) (append-nil (line_text line ++ 10 ∷ []))
-
 -- where something is left, each line had its end
 pub so_far_whole : (text : List ℕ) (lines : List Line) (rest : List ℕ) → SoFar text lines rest → 0 < length rest → text ≡ lines_text lines ++ rest
-so_far_whole text lines rest (ended is) some = is
-so_far_whole text lines rest (unended nothing is) some = absurd (omega (arith, ap length nothing))
+so_far_whole text lines rest h1 h2 = grind (arith, common_steps, nat_tests)
 
 -- one line more
 pub so_far_more : (text : List ℕ) (lines : List Line) (rest front : List ℕ) (behind : Option (List ℕ)) (line : Line) → text ≡ lines_text lines ++ rest → IsJoined 10 rest front behind → front ≡ line_text line
     → SoFar text (lines ++ line ∷ []) (unwrap_or behind [])
-so_far_more text lines rest front (Some more) line is joined spelled =
-    ended (is ∙ ap (λ (l : List ℕ). lines_text lines ++ l) (joined ∙ ap (λ (l : List ℕ). l ++ 10 ∷ more) spelled ∙ sym (append_assoc (line_text line) (10 ∷ []) more))
-    ∙ sym (append_assoc (lines_text lines) (line_text line ++ 10 ∷ []) more) ∙ ap (λ (l : List ℕ). l ++ more) (sym (lines_text-push lines line)))
-so_far_more text lines rest front None line is joined spelled =
-    unended refl (ap (λ (l : List ℕ). l ++ 10 ∷ []) (is ∙ ap (λ (l : List ℕ). lines_text lines ++ l) (joined ∙ spelled)) ∙ append_assoc (lines_text lines) (line_text line) (10 ∷ []) ∙ sym (lines_text-push lines line))
+so_far_more text lines rest front behind line h1 h2 h3 = grind (arith, common_steps, nat_tests)
 
 eqb_is_false : (a b : ℕ) → a ≢ b → eqb a b ≡ false
 eqb_is_false a b other = elim (eqb_tells a b) [ inl both ↦ absurd (other both.1) | inr both ↦ both.0 ]
@@ -61,25 +51,12 @@ first_line_is bytes front (Some rest) lacks joined = ap first_line joined ∙ fr
 -- the next line is the first that is bad, where what was cut off is none or asks for too much
 pub bad_line : (text : List ℕ) (lines : List Line) (rest front : List ℕ) (behind : Option (List ℕ)) (n : ℕ) → SoFar text lines rest → 0 < length rest → Lacks 10 front → IsJoined 10 rest front behind → All IsAllowed lines → length lines ≤ 65536
     → all_rows_asked lines ≤ 131072 → n ≡ length lines + 1 → ((line : Line) → IsLine front line → ⊥) ⊎ (length lines ≡ 65536) ⊎ AsksTooMuch lines front → IsBadLine text n
-bad_line text lines rest front behind n so_far some lacks joined allowed few asked place bad =
-    record {
-      before = lines;
-      rest = rest;
-      split = so_far_whole text lines rest so_far some;
-      allowed = allowed;
-      few = few;
-      asked = asked;
-      place = place;
-      there = some;
-      bad = subst (λ (bytes : List ℕ). ((line : Line) → IsLine bytes line → ⊥) ⊎ (length lines ≡ 65536) ⊎ AsksTooMuch lines bytes) (sym (first_line_is rest front behind lacks joined)) bad;
-    }
+bad_line text lines rest front behind n h1 h2 h3 h4 h5 h6 h7 h8 h9 = grind (arith, common_steps, nat_tests, so_far_whole, first_line_is)
 
 -- a list that isn't empty has an element
 pub not_empty : (n : ℕ) → eqb n 0 ≡ false → 0 < n
-not_empty zero is = cc
-not_empty (suc n) is = omega arith
+not_empty n h1 = grind (arith, common_steps, nat_tests)
 
 -- less is left
 pub shorter : (bytes front : List ℕ) (behind : Option (List ℕ)) → IsJoined 10 bytes front behind → 0 < length bytes → length (unwrap_or behind []) < length bytes
-shorter bytes front None joined some = some
-shorter bytes front (Some rest) joined some = omega (arith, ap length joined, length-append front (10 ∷ rest))
+shorter bytes front behind h1 h2 = grind (arith, common_steps, nat_tests)

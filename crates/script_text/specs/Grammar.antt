@@ -1,11 +1,12 @@
 -- The grammar of scripts: which lines there are, how each is spelled, and which line of a text is the first that is wrong.
 use Rattle.std.specs.Prelude.{◌≡◌, ◌≢◌, ⊤, ℕ, ◌+◌, ◌^◌, ◌<◌, ◌≤◌, ◌⊎◌, ◌==◌, List, [], ◌∷◌, ◌++◌, length, decimal, flat_map, sum_by}
 use Rattle.std.specs.List.{All, before_first}
-use Rattle.blsm_model.specs.Format.{callers, most_key, most_lines, most_rows, most_rows_asked, most_tail, most_text}
+use Rattle.blsm_model.specs.Format.{callers, most_key, most_lines, most_rows, most_rows_asked, most_tail, most_text, most_turns}
 use Rattle.blsm_model.specs.declared.op.Op.{Op}
 use Rattle.blsm_model.specs.declared.op.Op.TheVariants.{Put, Add, Tail, Del, Get, Hold, Next, Release, Work}
 use Rattle.blsm_model.specs.declared.history.Line.{Line}
 use Rattle.blsm_model.specs.Printed.{and_word, command_text}
+use Rattle.blsm_model.specs.Scripts.{rows_of}
 
 -- a byte that a word of a script may have
 abbrev pub IsVisible : ℕ → Type 0
@@ -27,10 +28,6 @@ pub record IsTail (tail : List ℕ) : Type 0 where
   pub fits : length tail ≤ most_tail
   pub visible : All IsVisible tail
   pub no_dash : tail ≢ 45 ∷ []
-
--- how many turns of merging a command may ask for
-abbrev pub most_turns : ℕ
-most_turns = 100000
 
 -- a command that a script may have
 abbrev pub IsCommand : Op → Type 0
@@ -57,11 +54,6 @@ line_text line = decimal (line.seat + 1) ++ and_word (command_text line.op)
 pub record IsLine (bytes : List ℕ) (line : Line) : Type 0 where
   pub allowed : IsAllowed line
   pub spelled : bytes ≡ line_text line
-
--- how many rows a command asks for
-abbrev pub rows_of : Op → ℕ
-rows_of (Next n) = n
-rows_of _ = 0
 
 -- how many rows these lines ask for together
 abbrev pub all_rows_asked : List Line → ℕ

@@ -1,12 +1,12 @@
 -- What a script is, and what is wrong with one.
-use Rattle.std.specs.Prelude.{ℕ, ◌≤◌, List, length, sum_by, Result, Ok, Err}
+use Rattle.std.specs.Prelude.{ℕ, ◌≤◌, List, length, Result, Ok, Err}
 use Rattle.std.specs.List.{All}
 use Rattle.blsm_model.specs.Format.{most_lines, most_rows_asked}
 use Rattle.blsm_model.specs.declared.history.Line.{Line}
 use Rattle.blsm_model.specs.Scripts.{lines_of}
 use Rattle.script_text.specs.declared.script.ScriptFault.{ScriptFault}
 use Rattle.script_text.specs.declared.script.ScriptFault.TheVariants.{Bad, NoMemory}
-use Rattle.script_text.specs.Grammar.{IsAllowed, all_rows_asked, rows_of}
+use Rattle.script_text.specs.Grammar.{IsAllowed, all_rows_asked}
 
 -- the lines of a script
 pub record AreLines (lines : List Line) : Type 0 where
@@ -19,7 +19,3 @@ abbrev pub IfBad : {T : Type 0} → Result T ScriptFault → (ℕ → Type 0) �
 IfBad (Err (Bad n)) P = P n
 IfBad (Err NoMemory) P = Unit {0}
 IfBad (Ok value) P = Unit {0}
-
--- how many rows the lines of one caller ask for
-abbrev pub rows_asked : ℕ → List Line → ℕ
-rows_asked seat script = sum_by rows_of (lines_of seat script)

@@ -3,9 +3,9 @@ ghost use Rattle.std.specs.Prelude.{◌≡◌, ℕ, ◌<◌, ◌≤◌, [], IfOk
 ghost use Rattle.std.specs.Option.{option_copied, unwrap_or};
 ghost use Rattle.std.specs.List.{All};
 ghost use Rattle.blsm_model.specs.Format.{callers, most_lines, most_rows_asked};
-ghost use Rattle.blsm_model.specs.Scripts.{lines_of};
-ghost use Rattle.script_text.specs.Grammar.{IsAllowed, IsBadLine, IsOnlyBadLine, IsOnlyReading, IsScript, all_rows_asked, rows_of};
-ghost use Rattle.script_text.specs.Script.{AreLines, IfBad, rows_asked};
+ghost use Rattle.blsm_model.specs.Scripts.{lines_of, rows_of, rows_asked};
+ghost use Rattle.script_text.specs.Grammar.{IsAllowed, IsBadLine, IsOnlyBadLine, IsOnlyReading, IsScript, all_rows_asked};
+ghost use Rattle.script_text.specs.Script.{AreLines, IfBad};
 ghost use Rattle.script_text.specs.declared.script.ScriptFault.TheVariants.{NoMemory};
 
 use crate::read_line::{cut, read_line};

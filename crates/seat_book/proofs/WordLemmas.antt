@@ -2,7 +2,7 @@
 use Rattle.std.proofs.Common.{◌≡◌, ℕ, ◌≤◌, not, ◌&&◌, Option, Some, None, refl, IsTrue, length, arith}
 use Rattle.std.proofs.lemmas.Grind.{common_steps}
 use Rattle.std.proofs.lemmas.Bool.Decides.{nat_tests}
-use Rattle.std.specs.Prelude.{◌==◌, is_some, nat_lt, nat_le, slice_index}
+use Rattle.std.specs.Prelude.{◌==◌, nat_lt, nat_le, slice_index}
 use Rattle.std.proofs.lemmas.Bool.{ltb-true, leb-true}
 use Rattle.blsm_model.specs.Format.{callers}
 use Rattle.blsm_model.specs.Book.{HasRoom, rows_given}
@@ -10,14 +10,12 @@ use Rattle.blsm_model.specs.declared.op.Op.{Op}
 use Rattle.blsm_model.specs.declared.history.Why.{Why}
 use Rattle.blsm_model.specs.declared.history.Reply.{Reply}
 use Rattle.record_delta.specs.Entries.{entries_weight}
-use Rattle.tree_machine.specs.Merges.{Merge}
 use Rattle.tree_machine.specs.Lists.{memory_weight}
 use Rattle.tree_machine.specs.Machine.{Machine, pass_done, deep_done, is_caller}
-use Rattle.tree_machine.specs.Moves.{swap_pass, pass_quantum_of, deep_quantum_of}
 use Rattle.tree_machine.specs.Steps.{Outcome, Choice, choice, chosen, deep_swapped, ready_for, do_turn, work_turning, work_turn}
 use Rattle.tree_machine.specs.Plays.{has_room}
 use Rattle.tree_machine.proofs.FoldLemmas.{both_hold}
-use Rattle.seat_book.specs.State.{BookState, book_of, work_in, may_note_in, pass_counted_in, deep_counted_in, quantum_counted_in, turned_in}
+use Rattle.seat_book.specs.State.{BookState, book_of, work_in, may_note_in, pass_counted_in, deep_counted_in, turned_in}
 use Rattle.seat_book.specs.Words.{ReadsBook, MovesBook, StepsBook, Runs, chosen_in, counted_if}
 
 pub reads_book : (m : Machine) → ReadsBook m

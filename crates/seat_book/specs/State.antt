@@ -1,7 +1,7 @@
 -- The machine's book: what its seats did, the history, the counts and the stop. Each word here is the machine's own, on these four
 -- parts alone.
 use Rattle.std.specs.Prelude.{ℕ, ◌+◌, ◌-◌, Bool, true, ◌&&◌, length, take, drop, sum, max, Option, Some, None, slice_index, slice_index_or, slice_set, if◌then◌else◌, nat_lt, ◌==◌}
-use Rattle.blsm_model.specs.Format.{callers}
+use Rattle.blsm_model.specs.Format.{callers, most_turns}
 use Rattle.blsm_model.specs.declared.op.Op.{Op}
 use Rattle.blsm_model.specs.declared.op.Op.TheVariants.{Work}
 use Rattle.blsm_model.specs.declared.history.Why.{Why}
@@ -11,7 +11,7 @@ use Rattle.blsm_model.specs.Book.{Book, noted, counted_up}
 use Rattle.tree_machine.specs.Machine.{Machine, Seats, Counts, WorkSoFar, Turned, no_work, fresh_seats, all_true, is_caller, turn_more}
 use Rattle.tree_machine.specs.Moves.{count_quantum}
 use Rattle.tree_machine.specs.Steps.{is_idle, last_write, work_reply}
-use Rattle.tree_machine.specs.Plays.{most_turns, has_room, is_finished}
+use Rattle.tree_machine.specs.Plays.{has_room, is_finished}
 
 pub record BookState : Type 0 where
   pub book : Book

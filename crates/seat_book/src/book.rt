@@ -1,6 +1,6 @@
 //! The book.
 ghost use Rattle.std.specs.Prelude.{◌≡◌, ℕ, ◌+◌, ◌-◌, ◌<◌, ◌≤◌, ◌^◌, ◌&&◌, [], IsTrue, if◌then◌else◌, length, sum, take, drop, option_map, slice_index, slice_set};
-ghost use Rattle.blsm_model.specs.Format.{callers, most_rows};
+ghost use Rattle.blsm_model.specs.Format.{callers, most_rows, most_turns};
 ghost use Rattle.blsm_model.specs.Book.{HasRoom};
 ghost use Rattle.blsm_model.specs.Stored.{as_reply};
 ghost use Rattle.blsm_model.specs.Histories.{is_done};
@@ -8,7 +8,7 @@ ghost use Rattle.blsm_model.specs.Legal.{is_write};
 ghost use Rattle.blsm_model.specs.declared.history.Reply.TheVariants.{Rows, Stopped};
 ghost use Rattle.tree_machine.specs.Machine.{all_true, seats};
 ghost use Rattle.tree_machine.specs.Steps.{last_write, work_reply};
-ghost use Rattle.tree_machine.specs.Plays.{has_room, most_turns};
+ghost use Rattle.tree_machine.specs.Plays.{has_room};
 ghost use Rattle.seat_book.specs.Turns.{turned_of};
 ghost use Rattle.seat_book.specs.Places.{HasWrite, HasPlaces};
 ghost use Rattle.seat_book.specs.State.{opened_in, work_in, is_closed_in, may_note_in, may_turn_in, may_end_in, totals_in, noted_in, stopped_in, peaked_in, pass_counted_in, deep_counted_in, quantum_counted_in, paid_in, turned_in, helped_in, ended_in, left_in};

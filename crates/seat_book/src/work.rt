@@ -1,9 +1,10 @@
 //! A caller's work since its last entry.
 ghost use Rattle.std.specs.Prelude.{◌≡◌, ◌<◌, ◌≤◌};
+ghost use Rattle.blsm_model.specs.Format.{most_turns};
 ghost use Rattle.blsm_model.specs.Stored.{as_reply};
 ghost use Rattle.tree_machine.specs.Machine.{no_work};
 ghost use Rattle.tree_machine.specs.Steps.{work_reply};
-ghost use Rattle.tree_machine.specs.Plays.{is_finished, most_turns};
+ghost use Rattle.tree_machine.specs.Plays.{is_finished};
 ghost use Rattle.seat_book.specs.Turns.{turned_of};
 ghost use Rattle.seat_book.specs.State.{with_ended};
 
@@ -23,7 +24,7 @@ pub struct Work {
 impl Model for Work {
     ghost use Rattle.std.specs.Prelude.{◌≤◌};
     ghost use Rattle.tree_machine.specs.Machine.{WorkSoFar};
-    ghost use Rattle.tree_machine.specs.Plays.{most_turns};
+    ghost use Rattle.blsm_model.specs.Format.{most_turns};
     ghost use Rattle.seat_book.specs.Turns.{turned_of, code_of, code_of-turned_of};
 
     ghost Value = { WorkSoFar };

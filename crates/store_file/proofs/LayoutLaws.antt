@@ -4,7 +4,8 @@ use Rattle.std.specs.Int.{w32, to_be_bytes, from_be_bytes}
 use Rattle.std.proofs.Common.{sym, ◌∙◌, ap, arith}
 use Rattle.std.proofs.lemmas.Nat.{from_be_bytes-to_be_bytes_4}
 use Rattle.disk_trait.specs.Disk.{part}
-use Rattle.disk_trait.specs.Region.{Region, span, AreApart, IsSameOutside, part_apart, same_no_longer}
+use Rattle.disk_trait.specs.Region.{Region, span, AreApart, IsSameOutside}
+use Rattle.disk_trait.proofs.RegionLemmas.{part_apart, same_no_longer}
 use Rattle.gated_write.specs.Gated.{open_byte}
 use Rattle.blsm_model.specs.Sizes.{Sizes, IsGeometry}
 use Rattle.blsm_model.specs.Geometry.{file_length}

@@ -1,11 +1,13 @@
 -- What stands where in the file that making writes, and which files are no store.
-use Rattle.std.proofs.Common.{◌≡◌, ◌⊎◌, inl, inr, ⊎_elim, ℕ, zero, suc, ◌+◌, ◌-◌, ◌*◌, ◌<◌, ◌≤◌, true, false, List, [], ◌∷◌, ◌++◌, length, take, drop, bytes_eq, refl, sym, ◌∙◌, ap, subst, arith, append_assoc, length-append}
+use Rattle.std.proofs.lemmas.Bool.Decides.{nat_tests}
+use Rattle.std.proofs.lemmas.Grind.{common_steps}
+use Rattle.std.proofs.Common.{◌≡◌, ◌⊎◌, inl, inr, ⊎_elim, ℕ, zero, suc, ◌+◌, ◌-◌, ◌*◌, ◌<◌, ◌≤◌, List, [], ◌∷◌, ◌++◌, length, take, drop, refl, sym, ◌∙◌, ap, subst, arith, append_assoc, length-append}
 use Rattle.std.specs.Int.{w32, from_be_bytes}
-use Rattle.std.proofs.lemmas.Slice.Eq.{bytes_eq-Decides}
 use Rattle.std.proofs.lemmas.List.{append-nil, drop_at, drop-drop, take-take, length-replicate, take-replicate, drop-replicate, replicate-append-replicate}
 use Rattle.std.proofs.lemmas.Nat.{from_be_bytes-to_be_bytes_4}
 use Rattle.disk_trait.specs.Disk.{part, overwritten}
-use Rattle.disk_trait.specs.Region.{span, IsSameOutside, same_no_longer, same_bytes}
+use Rattle.disk_trait.specs.Region.{span, IsSameOutside}
+use Rattle.disk_trait.proofs.RegionLemmas.{same_no_longer, same_bytes}
 use Rattle.gated_write.specs.Gated.{open_byte, IsClosed}
 use Rattle.blsm_model.specs.Lanes.{region_start}
 use Rattle.gated_log.specs.Lane.{HasEntries}
@@ -13,7 +15,6 @@ use Rattle.blsm_model.specs.Format.{head_length}
 use Rattle.blsm_model.specs.Sizes.{Sizes, IsGeometry}
 use Rattle.blsm_model.specs.Geometry.{file_length, IsFirstFault}
 use Rattle.blsm_model.specs.declared.geometry.GeometryFault.{GeometryFault}
-use Rattle.blsm_model.specs.declared.geometry.GeometryFault.TheVariants.{Half, Ratio, Low, Quantum}
 use Rattle.catalog_swap.specs.Text.{slot_text, first_catalog, body_text, component_text}
 use Rattle.store_file.specs.Layout.{superblock_text, superblock, IsStore, zeros, IsMade, first_file}
 use Rattle.store_file.proofs.LayoutLaws.{sizes_same}
@@ -52,16 +53,7 @@ head_inside sizes = omega arith
 
 -- a store is longer than its first block
 pub store_length : (sizes : Sizes) → IsGeometry sizes → head_length + 12 * 17408 ≤ file_length sizes
-store_length sizes geometry =
-    let half = geometry.half.0 in
-    omega (arith, half)
-
-pub short_no_store : (file : List ℕ) → IsShort file → IsStore file → ⊥
-short_no_store file short store =
-    let least = store_length store.0 store.1.geometry in
-    let long = store.1.long in
-    let no_longer = short.no_longer in
-    omega (arith, least, long, no_longer)
+store_length sizes h1 = grind (arith, common_steps, nat_tests)
 
 pub shut_no_store : (end : ℕ) (file : List ℕ) → IsShut end file → IsStore file → ⊥
 shut_no_store end file shut store = shut.closed (sym (take-take 1 27 file (omega arith)) ∙ ap (take 1) store.1.begins)
@@ -71,16 +63,10 @@ zero_is_open same = cc
 
 -- the first block, of zeros
 pub block_shut : (end : ℕ) (file : List ℕ) → head_length ≤ end → file ≡ zeros head_length → IsShut end file
-block_shut end file fits blank = record {
-  closed = λ opened. zero_is_open (sym (ap (λ (l : List ℕ). part l 0 1) blank) ∙ opened);
-  no_longer = omega (arith, ap (length {A = ℕ}) blank, length-replicate {A = ℕ} head_length 0);
-}
+block_shut end file h1 h2 = grind (arith, common_steps, nat_tests)
 
 pub short_half : (sizes : Sizes) (file : List ℕ) → IsShort file → IsHalfMade sizes file
-short_half sizes file short =
-    let least = head_inside sizes in
-    let no_longer = short.no_longer in
-    record { store = inl (short_no_store file short); no_longer = omega (arith, least, no_longer) }
+short_half sizes file h1 = grind (arith, common_steps, nat_tests)
 
 pub shut_half : (sizes : Sizes) (file : List ℕ) → IsShut (file_length sizes) file → IsHalfMade sizes file
 shut_half sizes file shut = record { store = inl (shut_no_store (file_length sizes) file shut); no_longer = shut.no_longer }
@@ -148,23 +134,13 @@ first_file_made sizes geometry =
 
 -- ---- how it is written
 
-drop_nothing : (n : ℕ) → drop {A = ℕ} n [] ≡ []
-drop_nothing zero = refl
-drop_nothing (suc n) = refl
-
 -- over an empty file
 pub overwritten_empty : (file bytes : List ℕ) → length file ≡ 0 → overwritten file 0 bytes ≡ bytes
-overwritten_empty [] bytes none = ap (λ (l : List ℕ). bytes ++ l) (drop_nothing (0 + length bytes)) ∙ append-nil bytes
-overwritten_empty (b ∷ file) bytes none = absurd (omega (arith, none))
+overwritten_empty file bytes h1 = grind (arith, common_steps, nat_tests)
 
 -- zeros behind zeros
 pub zeros_more : (at n : ℕ) → overwritten (zeros at) at (zeros n) ≡ zeros (at + n)
-zeros_more at n =
-    let long = length-replicate {A = ℕ} at 0 in
-    ap (λ (l : List ℕ). l ++ zeros n ++ drop (at + length (zeros n)) (zeros at)) (take-replicate at at 0 (omega arith))
-    ∙ ap (λ (l : List ℕ). zeros at ++ zeros n ++ l) (drop-replicate (at + length (zeros n)) at 0 ∙ ap zeros (let none : at - (at + length (zeros n)) ≡ 0 = omega arith in none))
-    ∙ ap (λ (l : List ℕ). l ++ []) (replicate-append-replicate at n 0)
-    ∙ append-nil (zeros (at + n))
+zeros_more at n = grind (arith, common_steps, nat_tests, length-replicate, take-replicate, drop-replicate, replicate-append-replicate, append-nil)
 
 over_front : (text catalogue tail : List ℕ) → length text ≡ 26
     → take 1 (zeros 512 ++ catalogue ++ tail) ++ text ++ drop (1 + length text) (zeros 512 ++ catalogue ++ tail) ≡ (0 ∷ text) ++ zeros 485 ++ catalogue ++ tail
@@ -193,11 +169,7 @@ gate_opened sizes = refl
 
 -- the gate is open, or it isn't
 gate_cases : (file : List ℕ) → (part file 0 1 ≡ open_byte ∷ []) ⊎ IsClosed 0 file
-gate_cases file =
-    elim (bytes_eq (part file 0 1) (open_byte ∷ [])) as (λ b. bytes_eq (part file 0 1) (open_byte ∷ []) ≡ b → (part file 0 1 ≡ open_byte ∷ []) ⊎ IsClosed 0 file) [
-      | true ↦ λ same. inl ((bytes_eq-Decides (part file 0 1) (open_byte ∷ [])).0 same)
-      | false ↦ λ other. inr (λ same. let is = (bytes_eq-Decides (part file 0 1) (open_byte ∷ [])).1 same in absurd (cc (other, is)))
-    ] refl
+gate_cases file = grind (arith, common_steps, nat_tests)
 
 behind_gate : (sizes : Sizes) (i : ℕ) → part (first_file 0 sizes) (suc i) 1 ≡ part (first_file open_byte sizes) (suc i) 1
 unfolding first_file
@@ -251,7 +223,4 @@ sizes_read block sizes geometry same =
 
 -- numbers in range have no fault
 pub no_fault : (sizes : Sizes) (fault : GeometryFault) → IsGeometry sizes → IsFirstFault sizes fault → ⊥
-no_fault sizes Half geometry wrong = wrong geometry.half
-no_fault sizes Ratio geometry wrong = wrong.1 geometry.ratio
-no_fault sizes Low geometry wrong = wrong.2 geometry.low
-no_fault sizes Quantum geometry wrong = wrong.3 geometry.quantum
+no_fault sizes fault h1 h2 = grind (arith, common_steps, nat_tests)

@@ -1,13 +1,17 @@
 -- What each image has, and how the disk reads, run by run, while a store is made.
+use Rattle.std.proofs.lemmas.Bool.Decides.{nat_tests}
+use Rattle.std.proofs.lemmas.Grind.{common_steps}
 use Rattle.std.proofs.Common.{◌≡◌, inl, inr, ⊎_elim, ℕ, ◌-◌, IsTrue, List, length, sym, subst, ◌∙◌, arith}
 use Rattle.disk_trait.specs.Disk.{DiskState, Only, HasWritten}
 use Rattle.disk_trait.specs.Effects.{Affects}
-use Rattle.disk_trait.specs.Moments.{IsTimed, LeavesOnly, IsOldOr, leaves_only_run, leaves_only_weaken, leaves_only_now, once_synced_more, once_synced_weaken}
-use Rattle.disk_trait.specs.Region.{Region, span, IsSameOutside, part_apart, same_no_longer}
+use Rattle.disk_trait.specs.Moments.{IsTimed, LeavesOnly, IsOldOr}
+use Rattle.disk_trait.proofs.MomentLemmas.{leaves_only_run, leaves_only_weaken, leaves_only_now, once_synced_more, once_synced_weaken}
+use Rattle.disk_trait.specs.Region.{Region, span, IsSameOutside}
+use Rattle.disk_trait.proofs.RegionLemmas.{part_apart, same_no_longer}
 use Rattle.blsm_model.specs.Sizes.{Sizes, IsGeometry}
 use Rattle.blsm_model.specs.Geometry.{file_length}
 use Rattle.store_file.specs.Layout.{zeros, first_file}
-use Rattle.store_file.proofs.LayoutLemmas.{IsShut, head_inside, overwritten_empty, short_half, block_shut, shut_half, gate_torn}
+use Rattle.store_file.proofs.LayoutLemmas.{IsShut, head_inside, short_half, block_shut, shut_half, gate_torn}
 use Rattle.blsm_model.specs.Format.{head_length}
 use Rattle.store_file.specs.Making.{IsHalfMade, LeavesOldOr}
 
@@ -48,12 +52,7 @@ module _ (sizes : Sizes) (start : DiskState) (honest : IsTrue start.is_honest) w
 
   pub making_blank : {region : Region} {end most : ℕ} {d : DiskState} (bytes : List ℕ) → bytes ≡ zeros head_length → length start.bytes ≡ 0 → LeavesOldOr start d (IsHalfMade sizes) → Affects region end most start d
       → HasWritten 0 bytes start d → IsBlank d
-  making_blank bytes value none first effect written = record {
-    making = first;
-    still = subst IsTrue (sym effect.goes_on.is_honest) honest;
-    blank = written.bytes honest ∙ overwritten_empty start.bytes bytes none ∙ value;
-    only = written.durable honest;
-  }
+  making_blank bytes h1 h2 h3 h4 h5 = grind (arith, common_steps, nat_tests)
 
   -- all but the gate was written behind it, or failed to be: in each image now the gate is closed
   pub record IsBehind (d : DiskState) : Type 0 where

@@ -8,7 +8,8 @@ use Rattle.blsm_model.specs.declared.key.Key.{Key}
 use Rattle.blsm_model.specs.declared.row.Row.{Row}
 use Rattle.blsm_model.specs.declared.row.Value.{Value}
 use Rattle.disk_trait.specs.Disk.{DiskState}
-use Rattle.disk_trait.specs.Moments.{IsOldOr, IsTimed, LeavesOnly, LeavesOnlyOnceSynced, SyncsLater, leaves_only_run, leaves_only_weaken, once_synced_more, once_synced_weaken}
+use Rattle.disk_trait.specs.Moments.{IsOldOr, IsTimed, LeavesOnly, LeavesOnlyOnceSynced, SyncsLater}
+use Rattle.disk_trait.proofs.MomentLemmas.{leaves_only_run, leaves_only_weaken, once_synced_more, once_synced_weaken}
 use Rattle.pacing.specs.Pace.{Pace}
 use Rattle.paced_tree.specs.Kept.{paced_all}
 use Rattle.seat_book.specs.State.{BookState}

@@ -8,7 +8,8 @@ use Rattle.blsm_model.specs.declared.history.Why.{Why}
 use Rattle.blsm_model.specs.declared.history.Why.TheVariants as why
 use Rattle.core_pace.specs.Opening.{IsOpened}
 use Rattle.disk_trait.specs.Disk.{DiskState, TellsFaultsBy}
-use Rattle.disk_trait.specs.Moments.{LeavesOnly, goes_on_run, syncs_later_run}
+use Rattle.disk_trait.specs.Moments.{LeavesOnly}
+use Rattle.disk_trait.proofs.MomentLemmas.{goes_on_run, syncs_later_run}
 use Rattle.recover_open.specs.Opening.{SparesImages, StaysInside}
 use Rattle.refusal.specs.Count.{HasRisen, HasRisenBy}
 use Rattle.seat_book.specs.State.{BookState}

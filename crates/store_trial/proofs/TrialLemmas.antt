@@ -1,5 +1,5 @@
 -- What a run over an empty store is, by what it was served.
-use Rattle.std.proofs.Common.{◌≡◌, ◌≤◌, ◌↔◌, ◌∙◌, ◌||◌, ℕ, Bool, true, false, List, [], Option, Some, None, Result, Ok, Err, IfOk, IfErr, IsErr, is_err, ap, sym, subst, refl, arith, lit≤, take}
+use Rattle.std.proofs.Common.{◌≡◌, ◌≤◌, ◌↔◌, ◌||◌, ℕ, Bool, true, false, List, [], Option, Some, None, Result, Ok, Err, IfOk, IfErr, IsErr, is_err, ap, sym, subst, refl, arith, lit≤, take}
 use Rattle.std.proofs.Math.Seq.{take-nil}
 use Rattle.std.specs.List.{list_any}
 use Rattle.disk_trait.specs.Disk.{DiskState, TellsFaultsBy}

@@ -2,14 +2,13 @@
 use Rattle.std.specs.Prelude.{◌≡◌, ℕ, ◌<◌, None, List, [], length, slice_index}
 use Rattle.blsm_model.specs.Geometry.{file_length}
 use Rattle.blsm_model.specs.Format.{callers}
-use Rattle.blsm_model.specs.Scripts.{lines_of}
+use Rattle.blsm_model.specs.Scripts.{lines_of, rows_asked}
 use Rattle.blsm_model.specs.Sizes.{default_sizes}
 use Rattle.blsm_model.specs.declared.history.Line.{Line}
 use Rattle.blsm_model.specs.declared.room.Room.{Room}
 use Rattle.disk_mem.specs.Faultless.{Faultless, faultless_state}
 use Rattle.recover_open.specs.Making.{IsEmptyStore}
 use Rattle.script_text.specs.Generated.{generated}
-use Rattle.script_text.specs.Script.{rows_asked}
 use Rattle.tree_session.specs.Faults.{faults_told}
 use Rattle.store_run.specs.Run.{Run, IsRunInOrder}
 use Rattle.store_run.specs.Headline.{IsServed}

@@ -19,7 +19,8 @@ use Rattle.blsm_model.specs.declared.op.Op.{Op}
 use Rattle.blsm_model.specs.declared.op.Write.{Write}
 use Rattle.blsm_model.specs.declared.row.Value.{Value}
 use Rattle.disk_trait.specs.Disk.{DiskState}
-use Rattle.disk_trait.specs.Effects.{Affects, affects_start}
+use Rattle.disk_trait.specs.Effects.{Affects}
+use Rattle.disk_trait.proofs.EffectLemmas.{affects_start}
 use Rattle.disk_trait.specs.Moments.{IsTimed}
 use Rattle.gear_sched.specs.Gears.{first_debt, second_debt}
 use Rattle.paced_tree.specs.Made.{IsReplied}

@@ -25,7 +25,8 @@ use Rattle.blsm_model.specs.Legal.{total_weight, is_del}
 use Rattle.blsm_model.specs.Values.{added_count, key_of, text_written}
 use Rattle.blsm_model.specs.Format.{most_key, most_text}
 use Rattle.disk_trait.specs.Disk.{DiskState}
-use Rattle.disk_trait.specs.Moments.{IsTimed, LeavesOnly, leaves_only_weaken, leaves_only_now}
+use Rattle.disk_trait.specs.Moments.{IsTimed, LeavesOnly}
+use Rattle.disk_trait.proofs.MomentLemmas.{leaves_only_weaken, leaves_only_now}
 use Rattle.pacing.specs.Pace.{Pace}
 use Rattle.paced_tree.specs.After.{pace_after}
 use Rattle.paced_tree.specs.Kept.{IsPacedTree}
@@ -64,7 +65,7 @@ use Rattle.tree_core.specs.declared.admission.Taking.TheVariants.{Failed}
 use Rattle.tree_core.proofs.BoundLemmas.{rose}
 use Rattle.blsm_model.specs.Tails.{TailFits}
 use Rattle.tree_core.proofs.TakingLists.{tells_of}
-use Rattle.disk_trait.specs.Reads.{only_reads_start}
+use Rattle.disk_trait.proofs.ReadLemmas.{only_reads_start}
 use Rattle.tree_core.proofs.QuietLemmas.{quiet_step}
 
 -- a command's write fits the format

@@ -15,7 +15,8 @@ use Rattle.blsm_model.specs.Book.{HasRoom, rows_given}
 use Rattle.blsm_model.specs.Facts.{Follows}
 use Rattle.disk_trait.specs.Disk.{DiskState}
 use Rattle.disk_trait.specs.Moments.{IsTimed}
-use Rattle.disk_trait.specs.Reads.{OnlyReads, only_reads_start}
+use Rattle.disk_trait.specs.Reads.{OnlyReads}
+use Rattle.disk_trait.proofs.ReadLemmas.{only_reads_start}
 use Rattle.pacing.specs.Pace.{Pace}
 use Rattle.seat_book.specs.State.{BookState, book_of, ended_in, left_in, work_in, may_end_in}
 use Rattle.seat_book.specs.Seats.{KeepsSeats}

@@ -19,7 +19,8 @@ use Rattle.blsm_model.specs.declared.history.Reply.{Reply}
 use Rattle.blsm_model.specs.declared.history.Reply.TheVariants as reply
 use Rattle.disk_trait.specs.Disk.{DiskState}
 use Rattle.disk_trait.specs.Moments.{IsTimed}
-use Rattle.disk_trait.specs.Reads.{OnlyReads, only_reads_start}
+use Rattle.disk_trait.specs.Reads.{OnlyReads}
+use Rattle.disk_trait.proofs.ReadLemmas.{only_reads_start}
 use Rattle.pacing.specs.Pace.{Pace}
 use Rattle.page_file.specs.Component.{entries_of}
 use Rattle.record_delta.specs.Entries.{Entries, replayed}

@@ -1,12 +1,12 @@
 -- Steps that are none of a hold leave the callers' holds as they are, those of the machine and those of the core.
-use Rattle.std.specs.Prelude.{◌≢◌, ◌≤◌, nat_le, nat_lt, not, ◌==◌, replicate, IsErr, IfOk, Ok, Err}
+use Rattle.std.specs.Prelude.{◌≢◌, ◌≤◌, nat_lt, not, ◌==◌, replicate, IsErr, IfOk, Ok, Err}
 use Rattle.std.proofs.lemmas.Grind.{common_steps}
 use Rattle.std.proofs.lemmas.Bool.Decides.{nat_tests}
 use Rattle.std.specs.declared.result.Result.{Result}
 use Rattle.std.proofs.Common.{◌≡◌, ◌∙◌, ⊎_elim, ℕ, ◌+◌, Bool, true, false, cond, List, Option, None, Some, refl, ap, sym, subst, arith}
 use Rattle.std.proofs.lemmas.Option.{none-some}
 use Rattle.blsm_model.specs.Format.{callers}
-use Rattle.blsm_model.specs.Geometry.{c1_mark, charge_limit}
+use Rattle.blsm_model.specs.Geometry.{charge_limit}
 use Rattle.blsm_model.specs.Histories.{writes_of}
 use Rattle.blsm_model.specs.Legal.{total_weight, is_del}
 use Rattle.blsm_model.specs.Sizes.{Sizes}
@@ -17,7 +17,8 @@ use Rattle.blsm_model.specs.declared.op.Op.{Op}
 use Rattle.blsm_model.specs.declared.op.Write.{Write}
 use Rattle.blsm_model.specs.declared.history.Why.{Why}
 use Rattle.disk_trait.specs.Disk.{DiskState}
-use Rattle.disk_trait.specs.Effects.{Affects, affects_wider}
+use Rattle.disk_trait.specs.Effects.{Affects}
+use Rattle.disk_trait.proofs.EffectLemmas.{affects_wider}
 use Rattle.disk_trait.specs.Reads.{OnlyReads}
 use Rattle.disk_trait.specs.Region.{Region, IsSameOutside}
 use Rattle.gear_sched.specs.declared.Plan.{Plan}
@@ -35,7 +36,7 @@ use Rattle.tree_machine.specs.declared.step.Kind.{Kind}
 use Rattle.tree_machine.specs.declared.step.Kind.TheVariants as kind
 use Rattle.tree_machine.specs.Lists.{memory_weight}
 use Rattle.tree_machine.specs.Machine.{Machine, charge, deep_done}
-use Rattle.tree_machine.specs.Moves.{end_pass, output_of, rotate, swap_deep, swap_pass}
+use Rattle.tree_machine.specs.Moves.{swap_deep}
 use Rattle.tree_machine.specs.Plays.{stepped_as}
 use Rattle.tree_machine.specs.Steps.{Answer, Broken as AtPage, Choice, FailedAfter, NoRoom, Outcome, Well, Stepped, admit, admit_fitting, choice, deep_swapped, do_turn, pay, ready_for, swaps_due, taken_once, unless_stopped, work_turning, worker_turning}
 use Rattle.tree_machine.proofs.FrameLemmas.{step_stays}

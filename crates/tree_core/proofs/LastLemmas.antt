@@ -15,7 +15,8 @@ use Rattle.disk_trait.specs.Disk.{DiskState, GoesOn}
 use Rattle.disk_trait.specs.Effects.{Affects}
 use Rattle.scan_view.specs.Hold.{HoldState}
 use Rattle.scan_view.specs.Pins.{beside_pins}
-use Rattle.disk_trait.specs.Moments.{IsTimed, goes_on_start, goes_on_run}
+use Rattle.disk_trait.specs.Moments.{IsTimed}
+use Rattle.disk_trait.proofs.MomentLemmas.{goes_on_start, goes_on_run}
 use Rattle.pacing.specs.Pace.{Pace}
 use Rattle.blsm_model.specs.Legal.{is_write}
 use Rattle.blsm_model.specs.declared.op.Op.{Op}

@@ -3,7 +3,7 @@ mod ToldLemmas
 mod VersionLemmas
 pub mod QuietLemmas
 mod BookSteps
-mod LookupSteps
+pub mod LookupSteps
 mod OpeningSteps
 mod SettlingLemmas
 mod KeepLemmas

@@ -1,5 +1,5 @@
 -- A lookup is a step that only reads, and notes what it found.
-use Rattle.std.specs.Prelude.{◌≡◌, ◌≢◌, ℕ, ◌<◌, ◌≤◌, ◌^◌, true, false, List, Option, None, IsTrue, is_some, length, not, ◌&&◌}
+use Rattle.std.specs.Prelude.{◌≡◌, ◌≢◌, ℕ, ◌<◌, ◌≤◌, ◌^◌, true, false, List, Option, None, IsTrue, is_some, length, not, ◌&&◌, IsSome}
 use Rattle.std.proofs.lemmas.Grind.{common_steps}
 use Rattle.std.proofs.lemmas.Bool.Decides.{nat_tests}
 use Rattle.std.proofs.Common.{◌∙◌, inl, inr, refl, ap, sym, subst, arith}
@@ -25,7 +25,7 @@ use Rattle.tree_machine.specs.Machine.{Machine}
 use Rattle.tree_machine.specs.Moves.{note}
 use Rattle.tree_machine.specs.Outcomes.{IsPossible, is_broken}
 use Rattle.tree_machine.specs.Plays.{may}
-use Rattle.tree_machine.specs.Steps.{Outcome, Well, FailedAfter, Replied, get, replied, reply_unless, unless_stopped}
+use Rattle.tree_machine.specs.Steps.{Outcome, Well, FailedAfter, Replied, replied, reply_unless, unless_stopped, look}
 use Rattle.tree_machine.specs.declared.step.Kind.TheVariants as kind
 use Rattle.tree_file.specs.Tree.{Tree, HoldsTree}
 use Rattle.tree_runs.specs.Holding.{AreGuided}
@@ -39,8 +39,8 @@ use Rattle.core_lists.proofs.ShowingLemmas.{quiet_entry_counts_none}
 use Rattle.tree_core.specs.declared.answers.Lookup.{Lookup}
 use Rattle.tree_core.specs.declared.answers.Lookup.TheVariants as lookup
 use Rattle.tree_core.specs.Answers.{reply_to_get, found_in, newest_in}
-use Rattle.tree_core.specs.Calls.{BesideHolds, Gets, GoesOnAs}
-use Rattle.tree_core.specs.Causes.{FindsBecause, LooksNone}
+use Rattle.tree_core.specs.Calls.{BesideHolds, Gets, GoesOnAs, Looks}
+use Rattle.tree_core.specs.Causes.{FindsBecause, LooksNone, IsLookOn}
 use Rattle.tree_core.specs.Core.{CoreState, IsCore}
 use Rattle.tree_core.specs.Standing.{AnyRows, StandsFor}
 use Rattle.tree_core.specs.Steps.{IsStep}
@@ -61,25 +61,25 @@ get_has_room seat key found b can = note_has_room b seat 0 (Get key) (reply_to_g
 
 -- The machine's step, where it notes this reply.
 get_step : {end most : ℕ} {d d2 : DiskState} (opening : List (Key × Value)) (seat : ℕ) (key : Key) (r : Reply) (outcome : Outcome) (held : Held) (m : Machine) (pace : Pace) → OnlyReads end most d d2 → IsTrue d.is_honest
-    → StandsFor AnyRows opening held m pace d → may m seat (kind.Get key) ≡ true → get m seat key outcome ≡ replied seat (Get key) r m
-    → IsPossible m seat (kind.Get key) outcome d.faults d2.faults → is_broken outcome ≡ false
-    → IsStep AnyRows opening seat (kind.Get key) (Replied r) (with_book (noted_in seat (Get key) r held.book) held) d d2 m pace
+    → StandsFor AnyRows opening held m pace d → may m seat (kind.Look (Get key)) ≡ true → look m seat (Get key) outcome ≡ replied seat (Get key) r m
+    → IsPossible m seat (kind.Look (Get key)) outcome d.faults d2.faults → is_broken outcome ≡ false
+    → IsStep AnyRows opening seat (kind.Look (Get key)) (Replied r) (with_book (noted_in seat (Get key) r held.book) held) d d2 m pace
 get_step opening seat key r outcome held m pace reads honest s can is possible whole =
     let entry : Entry = record { seat = seat; op = Get key; reply = r } in
-    quiet_step opening seat (kind.Get key) outcome (Replied r) held held.runs.space (noted_in seat (Get key) r held.book) m (note seat (Get key) r m) pace reads honest s can tt possible whole refl is
+    quiet_step opening seat (kind.Look (Get key)) outcome (Replied r) held held.runs.space (noted_in seat (Get key) r held.book) m (note seat (Get key) r m) pace reads honest s can tt possible whole refl is
     (record { same = record { lists = refl; merges = refl; gears = refl; spring = refl; catalogue = refl }; counts = record { charge = refl; peak = refl; quanta = refl }; book = (moves_book m).note seat (Get key) r ∙ ap (noted_in seat (Get key) r) s.book; stopped = refl; noted = inr (entry, refl, quiet_entry_counts_none entry (inl refl)) }) (λ tree table file of. of) (λ none. tt)
 
 get_steps : {end most : ℕ} {d d2 : DiskState} (opening : List (Key × Value)) (seat : ℕ) (key : Key) (found : Lookup) (held : Held) (m : Machine) (pace : Pace) → OnlyReads end most d d2 → IsTrue d.is_honest
     → FindsBecause found key held d d2 → (found ≡ lookup.Fault → d2.faults < 2 ^ 64)
     → ((tree : Tree) → HoldsTree held.runs.sizes tree d.bytes → tree.catalogue ≡ held.runs.catalogue → AreGuided held.runs.guides held.runs.tags tree → held.book.stopped ≡ None → found ≢ lookup.Fault → reply_to_get found ≡ answer_to_get (found_in key held tree))
-    → StandsFor AnyRows opening held m pace d → may m seat (kind.Get key) ≡ true
-    → IsStep AnyRows opening seat (kind.Get key) (Replied (reply_to_get found)) (with_book (noted_in seat (Get key) (reply_to_get found) held.book) held) d d2 m pace
+    → StandsFor AnyRows opening held m pace d → may m seat (kind.Look (Get key)) ≡ true
+    → IsStep AnyRows opening seat (kind.Look (Get key)) (Replied (reply_to_get found)) (with_book (noted_in seat (Get key) (reply_to_get found) held.book) held) d d2 m pace
 get_steps {end} {most} {d} {d2} opening seat key found held m pace reads honest because counted value s can = by found because counted value
   where
     stopped_is : m.stopped ≡ held.book.stopped
     stopped_is = ap (λ (b : BookState). b.stopped) s.book
 
-    running : (outcome : Outcome) → held.book.stopped ≡ None → get m seat key outcome ≡ replied seat (Get key) (reply_unless outcome (answer_to_get (value_in m.lists key))) m
+    running : (outcome : Outcome) → held.book.stopped ≡ None → look m seat (Get key) outcome ≡ replied seat (Get key) (reply_unless outcome (answer_to_get (value_in m.lists key))) m
     running outcome none = ap (λ (o : Option Why). unless_stopped o seat (Get key) m (replied seat (Get key) (reply_unless outcome (answer_to_get (value_in m.lists key))) m)) (stopped_is ∙ none)
 
     -- what was found is what the machine has
@@ -91,12 +91,12 @@ get_steps {end} {most} {d} {d2} opening seat key found held m pace reads honest 
         ∙ ap answer_to_get (lookup_is_the_machines held over.tree m d.bytes key (record { are_of = over.over.are_of; holds = over.holds }))
 
     well : (r : Reply) → held.book.stopped ≡ None → r ≡ answer_to_get (value_in m.lists key)
-        → IsStep AnyRows opening seat (kind.Get key) (Replied r) (with_book (noted_in seat (Get key) r held.book) held) d d2 m pace
+        → IsStep AnyRows opening seat (kind.Look (Get key)) (Replied r) (with_book (noted_in seat (Get key) r held.book) held) d d2 m pace
     well r none is = get_step opening seat key r Well held m pace reads honest s can (running Well none ∙ ap (λ (x : Reply). replied seat (Get key) x m) (sym is)) tt refl
 
     by : (f : Lookup) → FindsBecause f key held d d2 → (f ≡ lookup.Fault → d2.faults < 2 ^ 64)
         → ((tree : Tree) → HoldsTree held.runs.sizes tree d.bytes → tree.catalogue ≡ held.runs.catalogue → AreGuided held.runs.guides held.runs.tags tree → held.book.stopped ≡ None → f ≢ lookup.Fault → reply_to_get f ≡ answer_to_get (found_in key held tree))
-        → IsStep AnyRows opening seat (kind.Get key) (Replied (reply_to_get f)) (with_book (noted_in seat (Get key) (reply_to_get f) held.book) held) d d2 m pace
+        → IsStep AnyRows opening seat (kind.Look (Get key)) (Replied (reply_to_get f)) (with_book (noted_in seat (Get key) (reply_to_get f) held.book) held) d d2 m pace
     by (lookup.Is x) because counted is = well (reply.Is x) because.0 (there (reply.Is x) because.0 (λ tree holds catalogue guided. is tree holds catalogue guided because.0 (λ same. cc same)))
     by lookup.Absent because counted is = well reply.Absent because.0 (there reply.Absent because.0 (λ tree holds catalogue guided. is tree holds catalogue guided because.0 (λ same. cc same)))
     by (lookup.Damaged page) because counted is = well (reply.Damaged page) because.0 (there (reply.Damaged page) because.0 (λ tree holds catalogue guided. is tree holds catalogue guided because.0 (λ same. cc same)))
@@ -119,8 +119,28 @@ get_does {D} state seat key found old disk b core timed stay can because counted
     subst (λ (x : BookState). Gets state seat key found old (record { disk = disk; held = with_book x old.held; holds = old.holds })) (sym is)
     (record { goes = goes.0; beside = goes.1; cause = because; held = refl; reads = reads; hidden = hidden; untouched = untouched })
   where
-    goes : GoesOnAs state seat (kind.Get key) (Replied (reply_to_get found)) old (record { disk = disk; held = with_book (noted_in seat (Get key) (reply_to_get found) old.held.book) old.held; holds = old.holds }) × BesideHolds state seat (kind.Get key) (Replied (reply_to_get found)) old (record { disk = disk; held = with_book (noted_in seat (Get key) (reply_to_get found) old.held.book) old.held; holds = old.holds })
-    goes = book_goes state seat (kind.Get key) (Replied (reply_to_get found)) old disk (noted_in seat (Get key) (reply_to_get found) old.held.book) 1 core timed reads (reads_on old.held stay reads) refl refl can (omega arith)
+    goes : GoesOnAs state seat (kind.Look (Get key)) (Replied (reply_to_get found)) old (record { disk = disk; held = with_book (noted_in seat (Get key) (reply_to_get found) old.held.book) old.held; holds = old.holds }) × BesideHolds state seat (kind.Look (Get key)) (Replied (reply_to_get found)) old (record { disk = disk; held = with_book (noted_in seat (Get key) (reply_to_get found) old.held.book) old.held; holds = old.holds })
+    goes = book_goes state seat (kind.Look (Get key)) (Replied (reply_to_get found)) old disk (noted_in seat (Get key) (reply_to_get found) old.held.book) 1 core timed reads (reads_on old.held stay reads) refl refl can (omega arith)
         (note_keeps seat (Get key) (reply_to_get found) old.held.book) refl refl
         (λ pace told. entry_is_told old.held.book pace seat (Get key) (reply_to_get found) (λ done. refl) (get_has_room seat key found old.held.book can) told) (λ pace. refl)
         (λ opening m pace honest s ok. get_steps opening seat key found old.held m pace reads honest because counted (λ tree holds catalogue guided. value tree honest holds catalogue guided) s ok)
+
+-- ---- as a command that only looks
+
+get_told : (found : Lookup) (key : Key) (held : Held) (before after : DiskState) → FindsBecause found key held before after → IsLookOn (reply_to_get found) held before after
+get_told found key held before after because = grind (arith, common_steps, nat_tests)
+
+get_rests : (found : Lookup) (key : Key) (held : Held) (before after : DiskState) → FindsBecause found key held before after → IsSome held.book.stopped → LooksNone found
+get_rests found key held before after because some = grind (arith, common_steps, nat_tests)
+
+pub get_looks : {D : Type 0} (state : D → DiskState) (seat : ℕ) (key : Key) (found : Lookup) (old new : CoreState D) → Gets state seat key found old new → Looks state seat (Get key) (reply_to_get found) old new
+get_looks state seat key found old new call = record {
+  goes = call.goes;
+  beside = call.beside;
+  call = (found, refl, call);
+  cause = (found, refl, call.cause);
+  told = get_told found key old.held (state old.disk) (state new.disk) call.cause;
+  held = call.held;
+  reads = call.reads;
+  rests = λ some. call.untouched (get_rests found key old.held (state old.disk) (state new.disk) call.cause some);
+}

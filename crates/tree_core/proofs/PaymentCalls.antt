@@ -10,7 +10,8 @@ use Rattle.blsm_model.specs.declared.history.Why.TheVariants.{Faulted, BadPage}
 use Rattle.blsm_model.specs.declared.key.Key.{Key}
 use Rattle.blsm_model.specs.declared.row.Value.{Value}
 use Rattle.disk_trait.specs.Disk.{DiskState, TellsFaultsBy}
-use Rattle.disk_trait.specs.Effects.{Affects, affects_start}
+use Rattle.disk_trait.specs.Effects.{Affects}
+use Rattle.disk_trait.proofs.EffectLemmas.{affects_start}
 use Rattle.disk_trait.specs.Moments.{IsTimed}
 use Rattle.gear_sched.specs.Gears.{first_debt, plan_for, second_debt}
 use Rattle.gear_sched.specs.declared.Plan.{Plan}

@@ -9,7 +9,8 @@ use Rattle.blsm_model.specs.declared.row.Value.{Value}
 use Rattle.blsm_model.specs.declared.history.Why.{Why}
 use Rattle.blsm_model.specs.declared.history.Why.TheVariants.{Faulted}
 use Rattle.disk_trait.specs.Disk.{DiskState}
-use Rattle.disk_trait.specs.Moments.{IsTimed, leaves_only_start}
+use Rattle.disk_trait.specs.Moments.{IsTimed}
+use Rattle.disk_trait.proofs.MomentLemmas.{leaves_only_start}
 use Rattle.gear_sched.specs.Gears.{GearState, first_debt, second_debt, plan_for}
 use Rattle.gear_sched.specs.declared.Plan.{Plan}
 use Rattle.gear_sched.specs.declared.Plan.TheVariants.{Nothing}
@@ -48,7 +49,7 @@ use Rattle.tree_core.proofs.QuantumLemmas.{charge_kept}
 use Rattle.tree_core.proofs.QuantumSteps.{RunsAt, stands_running, running_at, steady_at, shows_at, leaves_same, step_by}
 use Rattle.tree_core.proofs.VersionLemmas.{one_commits, version_of}
 use Rattle.tree_core.proofs.PaymentLemmas.{Took, FailedToTake, book_stopped, kept_of, takes_in, payment_runs}
-use Rattle.disk_trait.specs.Reads.{only_reads_start}
+use Rattle.disk_trait.proofs.ReadLemmas.{only_reads_start}
 use Rattle.tree_core.proofs.QuietLemmas.{quiet_step}
 
 -- ---- a store that is stopped

@@ -13,7 +13,8 @@ use Rattle.blsm_model.specs.declared.row.Value.{Value}
 use Rattle.blsm_model.specs.declared.history.Entry.{Entry}
 use Rattle.blsm_model.specs.Sizes.{Sizes}
 use Rattle.disk_trait.specs.Disk.{DiskState, GoesOn}
-use Rattle.disk_trait.specs.Moments.{IsTimed, LeavesOnly, goes_on_start, leaves_only_run, leaves_only_weaken}
+use Rattle.disk_trait.specs.Moments.{IsTimed, LeavesOnly}
+use Rattle.disk_trait.proofs.MomentLemmas.{goes_on_start, leaves_only_run, leaves_only_weaken}
 use Rattle.pacing.specs.Pace.{Pace}
 use Rattle.seat_book.specs.State.{book_of}
 use Rattle.tree_machine.specs.declared.step.Kind.{Kind}

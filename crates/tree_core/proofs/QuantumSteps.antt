@@ -10,7 +10,8 @@ use Rattle.blsm_model.specs.declared.row.Value.{Value}
 use Rattle.blsm_model.specs.declared.history.Entry.{Entry}
 use Rattle.blsm_model.specs.Sizes.{Sizes}
 use Rattle.disk_trait.specs.Disk.{DiskState}
-use Rattle.disk_trait.specs.Moments.{LeavesOnly, leaves_only_weaken}
+use Rattle.disk_trait.specs.Moments.{LeavesOnly}
+use Rattle.disk_trait.proofs.MomentLemmas.{leaves_only_weaken}
 use Rattle.gear_sched.specs.Gears.{GearState}
 use Rattle.pacing.specs.Pace.{Pace}
 use Rattle.pacing.specs.Fronts.{Fronts}

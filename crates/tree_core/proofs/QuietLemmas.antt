@@ -12,8 +12,10 @@ use Rattle.blsm_model.specs.declared.history.Why.{Why}
 use Rattle.blsm_model.specs.Sizes.{Sizes}
 use Rattle.blsm_model.specs.Images.{counted_with}
 use Rattle.disk_trait.specs.Disk.{DiskState}
-use Rattle.disk_trait.specs.Reads.{OnlyReads, only_reads_each}
-use Rattle.disk_trait.specs.Moments.{IsTimed, LeavesOnly, leaves_only_start, leaves_only_weaken}
+use Rattle.disk_trait.specs.Reads.{OnlyReads}
+use Rattle.disk_trait.proofs.ReadLemmas.{only_reads_each}
+use Rattle.disk_trait.specs.Moments.{IsTimed, LeavesOnly}
+use Rattle.disk_trait.proofs.MomentLemmas.{leaves_only_start, leaves_only_weaken}
 use Rattle.gear_sched.specs.Gears.{GearState}
 use Rattle.pacing.specs.Pace.{Pace}
 use Rattle.page_space.specs.Space.{SpaceState}

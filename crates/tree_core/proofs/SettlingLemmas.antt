@@ -1,7 +1,8 @@
 -- What stands where no swap is due.
 use Rattle.std.proofs.Common.{Bool, inl}
 use Rattle.disk_trait.specs.Disk.{DiskState}
-use Rattle.disk_trait.specs.Moments.{IsTimed, leaves_only_start}
+use Rattle.disk_trait.specs.Moments.{IsTimed}
+use Rattle.disk_trait.proofs.MomentLemmas.{leaves_only_start}
 use Rattle.record_delta.specs.Entries.{Entries}
 use Rattle.tree_file.specs.Tree.{Tree}
 use Rattle.tree_file.specs.Places.{HoldsEither}

@@ -5,7 +5,8 @@ use Rattle.std.proofs.lemmas.Bool.Decides.{nat_tests}
 use Rattle.std.proofs.Common.{◌≡◌, ◌∙◌, ℕ, ◌+◌, ◌≤◌, List, [], ◌∷◌, true, false, ap, sym, subst, arith}
 use Rattle.refusal.specs.Count.{HasRisen}
 use Rattle.disk_trait.specs.Disk.{DiskState, TellsFaults}
-use Rattle.disk_trait.specs.Effects.{Affects, affects_more}
+use Rattle.disk_trait.specs.Effects.{Affects}
+use Rattle.disk_trait.proofs.EffectLemmas.{affects_more}
 use Rattle.disk_trait.specs.Moments.{IsTimed}
 use Rattle.disk_trait.specs.Region.{IsWithin}
 use Rattle.page_space.specs.PageSet.{Members}

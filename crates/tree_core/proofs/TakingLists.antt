@@ -16,7 +16,8 @@ use Rattle.blsm_model.specs.Histories.{writes_of}
 use Rattle.blsm_model.specs.Legal.{total_weight, is_del}
 use Rattle.blsm_model.specs.Values.{key_of}
 use Rattle.disk_trait.specs.Disk.{DiskState}
-use Rattle.disk_trait.specs.Moments.{LeavesOnly, leaves_only_run, leaves_only_weaken}
+use Rattle.disk_trait.specs.Moments.{LeavesOnly}
+use Rattle.disk_trait.proofs.MomentLemmas.{leaves_only_run, leaves_only_weaken}
 use Rattle.record_delta.specs.declared.record.Rec.{Rec}
 use Rattle.record_delta.specs.Records.{record_of}
 use Rattle.record_delta.specs.Entries.{Entries}

@@ -6,7 +6,7 @@ use Rattle.std.specs.Prelude.{⊤, IfOk, OnOk, IsErr, IsTrue, length, nat_lt, re
 use Rattle.std.specs.declared.result.Result.{Result}
 use Rattle.std.proofs.lemmas.Bool.{ltb-true}
 use Rattle.tree_machine.proofs.FoldLemmas.{both_hold}
-use Rattle.blsm_model.specs.Format.{callers}
+use Rattle.blsm_model.specs.Format.{callers, most_turns}
 use Rattle.blsm_model.specs.Facts.{Follows}
 use Rattle.blsm_model.specs.declared.history.Why.{Why}
 use Rattle.blsm_model.specs.declared.history.Why.TheVariants.{Faulted}
@@ -22,7 +22,6 @@ use Rattle.paced_tree.specs.Booking.{quanta_of_move}
 use Rattle.paced_tree.specs.Made.{IsMadeBy}
 use Rattle.tree_machine.specs.Machine as machine
 use Rattle.tree_machine.specs.Machine.{Turned, is_caller, seats}
-use Rattle.tree_machine.specs.Plays.{most_turns}
 use Rattle.tree_machine.proofs.PlayLemmas.{of_replicate}
 use Rattle.tree_machine.specs.Steps.{Turn}
 use Rattle.seat_book.specs.State.{BookState, helped_in, may_turn_in, stopped_in, turned_in, work_in}

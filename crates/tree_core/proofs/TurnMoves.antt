@@ -7,7 +7,8 @@ use Rattle.std.specs.Prelude.{IfOk, OnOk, OnErr, IsErr, is_ok}
 use Rattle.std.specs.declared.result.Result.{Result}
 use Rattle.blsm_model.specs.Geometry.{file_length}
 use Rattle.disk_trait.specs.Disk.{DiskState, TellsFaults, TellsFaultsBy}
-use Rattle.disk_trait.specs.Moments.{IsTimed, LeavesOnly, leaves_only_start, leaves_only_weaken}
+use Rattle.disk_trait.specs.Moments.{IsTimed, LeavesOnly}
+use Rattle.disk_trait.proofs.MomentLemmas.{leaves_only_start, leaves_only_weaken}
 use Rattle.page_file.specs.declared.file.Broken.{Broken}
 use Rattle.page_file.specs.declared.file.Broken.TheVariants.{Fault, Damaged}
 use Rattle.pacing.specs.Steps.{Move}

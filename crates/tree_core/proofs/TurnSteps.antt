@@ -60,7 +60,7 @@ use Rattle.tree_core.proofs.QuantumSteps.{RunsAt, stands_running, standing_at, s
 use Rattle.tree_core.specs.Turning.{counted_by}
 use Rattle.tree_core.proofs.VersionLemmas.{either_commits, moved_version, version_of}
 use Rattle.tree_core.proofs.TurnLemmas.{Turns, Ends, KeepsOpen, counted_book, counted_stops, moved_open, ended_moves}
-use Rattle.disk_trait.specs.Reads.{only_reads_start}
+use Rattle.disk_trait.proofs.ReadLemmas.{only_reads_start}
 use Rattle.tree_core.proofs.QuietLemmas.{quiet_step}
 use Rattle.tree_machine.specs.Stands.{WritesFit}
 

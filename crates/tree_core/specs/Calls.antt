@@ -1,5 +1,5 @@
 -- What the core's contracts say of one call, and of the calls since a start, one after another.
-use Rattle.std.specs.Prelude.{◌≡◌, ◌+◌, ◌/◌, ◌≤◌, ℕ, List, [], ◌∷◌, None, IsTrue, false, true}
+use Rattle.std.specs.Prelude.{◌≡◌, ◌+◌, ◌/◌, ◌≤◌, ℕ, List, [], ◌∷◌, None, IsTrue, false, true, IsSome}
 use Rattle.blsm_model.specs.Facts.{Follows}
 use Rattle.blsm_model.specs.Geometry.{file_length}
 use Rattle.blsm_model.specs.declared.history.Reply.{Reply}
@@ -23,7 +23,7 @@ use Rattle.tree_runs.specs.Lookups.{HidesOlder}
 use Rattle.tree_runs.specs.Runs.{page_share}
 use Rattle.core_moves.specs.Moves.{with_book}
 use Rattle.tree_core.specs.Answers.{answer_to_pay, newest_in, reply_to_drop, reply_to_get, reply_to_hold, reply_to_next, reply_to_write}
-use Rattle.tree_core.specs.Causes.{AdmitsBecause, CallsNone, DropsBecause, FindsBecause, HasBegun, HoldsBecause, LooksNone, PaysBecause, PaysNone, ScansBecause, ScansNone, TurnsBecause, TurnsNone, calls_to_admit}
+use Rattle.tree_core.specs.Causes.{AdmitsBecause, CallsNone, DropsBecause, FindsBecause, HasBegun, HoldsBecause, LooksNone, PaysBecause, PaysNone, ScansBecause, ScansNone, TurnsBecause, TurnsNone, calls_to_admit, IsLookOn}
 use Rattle.tree_core.specs.Core.{CoreState, HoldsPace, facts_of_held}
 use Rattle.tree_core.specs.Holds.{KeepsHolds, LeavesOthers, StandsWhole}
 use Rattle.tree_core.specs.Notes.{CountsPayment, CountsTurn, HasLeft, HelpsOnce, Lessens, NotesNone, NotesOne, OwesNothing, Settles, CountsCommits, rotations}
@@ -73,14 +73,39 @@ pub record Pays {D : Type 0} (state : D → DiskState) (seat : ℕ) (answer : Pa
   pub effect : Affects (beside_pins old.held.runs.sizes old.held.runs.space.pins) (file_length old.held.runs.sizes) (old.held.runs.sizes.quantum / 4 + 3) (state old.disk) (state new.disk)
   pub untouched : PaysNone answer → new.disk ≡ old.disk
 
+-- What each reply is due to: a call's answer, with its cause. A work tells of its last turn.
+abbrev pub RepliesBecause : {D : Type 0} → (D → DiskState) → ℕ → Op → Reply → CoreState D → CoreState D → Type 0
+RepliesBecause state seat (op.Get key) reply old new = (answer : Lookup) × (reply ≡ reply_to_get answer) × FindsBecause answer key old.held (state old.disk) (state new.disk)
+RepliesBecause state seat (op.Hold low high) reply old new = (answer : Holding) × (reply ≡ reply_to_hold answer) × HoldsBecause answer seat low high old new
+RepliesBecause state seat (op.Next n) reply old new = (answer : Scanned) × (reply ≡ reply_to_next answer) × ScansBecause answer seat n old new (state old.disk) (state new.disk)
+RepliesBecause state seat op.Release reply old new = (answer : Release) × (reply ≡ reply_to_drop answer) × DropsBecause answer seat old new
+RepliesBecause state seat (op.Work n) reply old new = reply ≡ work_reply (work_in seat old.held.book) old.held.book.stopped
+RepliesBecause state seat write reply old new = (answer : Admission) × (reply ≡ reply_to_write answer) × AdmitsBecause answer seat write old.held new.held (state old.disk) (state new.disk)
+
 pub record Gets {D : Type 0} (state : D → DiskState) (seat : ℕ) (key : Key) (answer : Lookup) (old new : CoreState D) : Type 0 where
-  pub goes : GoesOnAs state seat (kind.Get key) (Replied (reply_to_get answer)) old new
-  pub beside : BesideHolds state seat (kind.Get key) (Replied (reply_to_get answer)) old new
+  pub goes : GoesOnAs state seat (kind.Look (op.Get key)) (Replied (reply_to_get answer)) old new
+  pub beside : BesideHolds state seat (kind.Look (op.Get key)) (Replied (reply_to_get answer)) old new
   pub cause : FindsBecause answer key old.held (state old.disk) (state new.disk)
   pub held : new.held ≡ with_book (noted_in seat (op.Get key) (reply_to_get answer) old.held.book) old.held
   pub reads : OnlyReads (file_length old.held.runs.sizes) 3 (state old.disk) (state new.disk)
   pub hidden : HidesOlder (newest_in key old.held) → new.disk ≡ old.disk
   pub untouched : LooksNone answer → new.disk ≡ old.disk
+
+-- the call that answered a command that only looks
+abbrev pub AnswersLook : {D : Type 0} → (D → DiskState) → ℕ → Op → Reply → CoreState D → CoreState D → Type 0
+AnswersLook state seat (op.Get key) reply old new = (answer : Lookup) × (reply ≡ reply_to_get answer) × Gets state seat key answer old new
+AnswersLook state seat _ reply old new = ⊥
+
+-- What each such command says, whatever it asks.
+pub record Looks {D : Type 0} (state : D → DiskState) (seat : ℕ) (op : Op) (reply : Reply) (old new : CoreState D) : Type 0 where
+  pub goes : GoesOnAs state seat (kind.Look op) (Replied reply) old new
+  pub beside : BesideHolds state seat (kind.Look op) (Replied reply) old new
+  pub call : AnswersLook state seat op reply old new
+  pub cause : RepliesBecause state seat op reply old new
+  pub told : IsLookOn reply old.held (state old.disk) (state new.disk)
+  pub held : new.held ≡ with_book (noted_in seat op reply old.held.book) old.held
+  pub reads : OnlyReads (file_length old.held.runs.sizes) 3 (state old.disk) (state new.disk)
+  pub rests : IsSome old.held.book.stopped → new.disk ≡ old.disk
 
 pub record HoldsRange {D : Type 0} (state : D → DiskState) (seat : ℕ) (low high : Key) (answer : Holding) (old new : CoreState D) : Type 0 where
   pub goes : GoesOnAs state seat (kind.Hold low high) (Replied (reply_to_hold answer)) old new
@@ -143,7 +168,7 @@ pub record Leaves {D : Type 0} (state : D → DiskState) (seat : ℕ) (old new :
 abbrev pub IsCall : {D : Type 0} → (D → DiskState) → ℕ → Kind → CoreState D → CoreState D → Type 0
 IsCall state seat (kind.Admit op) old new = (answer : Admission) × Admits state seat op answer old new
 IsCall state seat kind.Pay old new = (answer : Payment) × Pays state seat answer old new
-IsCall state seat (kind.Get key) old new = (answer : Lookup) × Gets state seat key answer old new
+IsCall state seat (kind.Look op) old new = (reply : Reply) × Looks state seat op reply old new
 IsCall state seat (kind.Hold low high) old new = (answer : Holding) × HoldsRange state seat low high answer old new
 IsCall state seat (kind.Next n) old new = (answer : Scanned) × ReadsOn state seat n answer old new
 IsCall state seat kind.Release old new = (answer : Release) × LetsGo state seat answer old new

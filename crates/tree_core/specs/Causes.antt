@@ -45,6 +45,7 @@ use Rattle.tree_core.specs.Answers.{newest_in}
 use Rattle.tree_core.specs.Core.{CoreState}
 use Rattle.tree_core.specs.declared.answers.Payment.{Payment}
 use Rattle.tree_core.specs.declared.answers.Payment.TheVariants as payment
+use Rattle.blsm_model.specs.declared.history.Reply.{Reply}
 
 -- the store ran, no call failed, and it runs on
 pub record RanOn (old new : Held) (before after : DiskState) : Type 0 where
@@ -171,6 +172,14 @@ FindsBecause (lookup.Damaged page) key old before after =
     (old.book.stopped ≡ None) × (after.faults ≡ before.faults)
     × (IsTrue before.is_honest → IsDamageBelow old.runs.sizes key before.bytes (from_newest old.runs.catalogue old.runs.guides old.runs.tags) (newest_in key old) page)
 FindsBecause (lookup.Stopped why) key old before after = (old.book.stopped ≡ Some why) × (after.faults ≡ before.faults)
+
+-- Whatever a command that only looks asks: no call of the disk failed unless its reply says so, and a stopped store replies that it is.
+abbrev pub IsLookOn : Reply → Held → DiskState → DiskState → Type 0
+IsLookOn reply.Fault old before after = (old.book.stopped ≡ None) × HasRisen before.faults after.faults
+IsLookOn (reply.Stopped why) old before after = (old.book.stopped ≡ Some why) × (after.faults ≡ before.faults)
+IsLookOn reply.FaultLost old before after = ⊥
+IsLookOn reply.FaultUnsure old before after = ⊥
+IsLookOn _ old before after = after.faults ≡ before.faults
 
 -- ---- holds
 

@@ -1,7 +1,7 @@
 -- What a call of the core is: one step of the pacing on every disk, and one step of the machine on an honest one.
 use Rattle.std.specs.Prelude.{◌≡◌, ℕ, ◌+◌, ◌≤◌, IsTrue, Bool, false, not, ◌&&◌, ◌||◌, nat_le, nat_lt, is_some, List, Option, length, map, true, filter}
 use mathlib.Core.List.{IsPrefix}
-use Rattle.blsm_model.specs.Legal.{is_write}
+use Rattle.blsm_model.specs.Legal.{is_look, is_write}
 use Rattle.gear_sched.specs.Gears.{first_debt, second_debt}
 use Rattle.seat_book.specs.State.{may_note_in, may_turn_in, may_end_in}
 use Rattle.blsm_model.specs.declared.key.Key.{Key}
@@ -62,7 +62,7 @@ is_even_in seat held = not (nat_lt 0 (first_debt held.gears seat + second_debt h
 abbrev pub may_in : Held → ℕ → Kind → Bool
 may_in held seat (kind.Admit op) = is_write op && may_note_in seat 0 held.book && is_even_in seat held
 may_in held seat kind.Pay = is_caller seat
-may_in held seat (kind.Get key) = may_note_in seat 0 held.book
+may_in held seat (kind.Look op) = is_look op && may_note_in seat 0 held.book
 may_in held seat (kind.Hold low high) = may_note_in seat 0 held.book
 may_in held seat (kind.Next n) = may_note_in seat n held.book && nat_lt 0 n && nat_le n most_rows
 may_in held seat kind.Release = may_note_in seat 0 held.book

@@ -6,12 +6,14 @@ ghost use Rattle.blsm_model.specs.Format.{callers};
 ghost use Rattle.disk_trait.specs.Disk.{GoesOn};
 ghost use Rattle.pacing.specs.Pace.{Pace};
 ghost use Rattle.tree_machine.specs.Machine.{Machine};
+ghost use Rattle.tree_machine.specs.declared.step.Kind.TheVariants as kind;
+ghost use Rattle.tree_core.specs.Calls.{IsCall};
 ghost use Rattle.tree_core.specs.Core.{CoreState};
 ghost use Rattle.tree_core.specs.Holds.{StandsWhole};
 ghost use Rattle.tree_core.specs.Steps.{IsPlayed, StandsSince, admits_fit, is_even_in, may_in, those_that_fit};
 
 use crate::Core;
-use blsm_model::{CALLERS, RowList};
+use blsm_model::{CALLERS, Op, RowList};
 use disk_trait::Disk;
 use std::alloc::Global;
 use tree_machine::{Kind, Step};
@@ -48,13 +50,24 @@ impl<D: Disk + Drop> Core<D> {
                 op.is_write() && self.held.book.may_note(seat, 0) && self.is_even(seat)
             }
             Kind::Pay | Kind::Leave => seat < CALLERS,
-            Kind::Get(_) | Kind::Hold(..) | Kind::Release => self.held.book.may_note(seat, 0),
+            Kind::Look(op) => op.is_look() && self.held.book.may_note(seat, 0),
+            Kind::Hold(..) | Kind::Release => self.held.book.may_note(seat, 0),
             Kind::Next(n) => self.held.book.may_note(seat, *n)
                 && 0 < *n
                 && *n as usize <= RowList::MAX_LEN,
             Kind::WorkTurn => self.held.book.may_turn(seat) && self.is_even(seat),
             Kind::WorkEnd(n) => self.held.book.may_end(seat, *n),
             Kind::WorkerTurn => CALLERS <= seat && seat < SEATS,
+        }
+    }
+
+    // Answers a command that only looks.
+    fn look(&mut self, seat: u32, op: &Op)
+        requires may { IsTrue (may_in self.old.held seat (kind.Look op.now)) }
+        ensures { IsCall D.state seat (kind.Look op.now) self.old self.new }
+    {
+        if let Op::Get(key) = op {
+            let _ = self.get(seat, key);
         }
     }
 
@@ -75,9 +88,7 @@ impl<D: Disk + Drop> Core<D> {
             Kind::Pay => {
                 let _ = self.pay(seat);
             }
-            Kind::Get(key) => {
-                let _ = self.get(seat, key);
-            }
+            Kind::Look(op) => self.look(seat, op),
             Kind::Hold(low, high) => {
                 let _ = self.hold(alloc, seat, low, high);
             }

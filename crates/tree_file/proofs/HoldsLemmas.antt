@@ -5,7 +5,8 @@ use Rattle.std.proofs.lemmas.Bool.Decides.{nat_tests}
 use Rattle.std.specs.List.{Contains}
 use Rattle.std.proofs.Common.{inl, inr, ⊎_elim, sym, subst, arith}
 use Rattle.std.proofs.lemmas.List.Elements.{Contains-append_left, Contains-append_right}
-use Rattle.disk_trait.specs.Region.{Region, span, IsWithin, AreApart, IsSameOutside, part_apart}
+use Rattle.disk_trait.specs.Region.{Region, span, IsWithin, AreApart, IsSameOutside}
+use Rattle.disk_trait.proofs.RegionLemmas.{part_apart}
 use Rattle.blsm_model.specs.Format.{page_length}
 use Rattle.blsm_model.specs.Sizes.{Sizes}
 use Rattle.blsm_model.specs.Geometry.{page_count, file_length}
@@ -19,7 +20,7 @@ use Rattle.gated_log.specs.Lane.{HasEntries, lane_region}
 use Rattle.gated_log.proofs.LaneLaws.{entries_apart, lanes_apart}
 use Rattle.gated_log.proofs.LaneLemmas.{region_inside}
 use Rattle.catalog_swap.specs.Slots.{slot_of, slot_length, IsNewest}
-use Rattle.catalog_swap.specs.Laws.{newest_same, slots_apart}
+use Rattle.catalog_swap.proofs.FileLemmas.{newest_same, slots_apart}
 use Rattle.store_file.specs.Layout.{IsStoreOf, superblock_length}
 use Rattle.store_file.proofs.LayoutLaws.{store_apart}
 use Rattle.tree_file.specs.Tree.{Tree, HoldsTree, live_pages}

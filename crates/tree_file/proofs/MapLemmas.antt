@@ -1,17 +1,13 @@
 -- Trees whose lists say the same of each key show one map.
 use Rattle.std.specs.Prelude.{◌≡◌, [], None, refl}
-use Rattle.std.proofs.lemmas.Grind.{common_steps}
-use Rattle.std.proofs.lemmas.Bool.Decides.{nat_tests}
-use Rattle.std.proofs.Common.{arith}
 use Rattle.std.specs.FinMap.{find}
 use Rattle.blsm_model.specs.declared.key.Key.{Key}
 use Rattle.blsm_model.specs.Keys.{key_cmp}
 use Rattle.record_delta.specs.Records.{settled}
 use Rattle.record_delta.specs.Entries.{Entries, AreSorted, record_of_key}
-use Rattle.tree_machine.specs.Lists.{Lists, map_in, settled_pairs, value_in}
+use Rattle.tree_machine.specs.Lists.{Lists, settled_pairs}
 use Rattle.tree_machine.specs.Machine.{Merges}
 use Rattle.tree_machine.specs.Layers.{AreLayered}
-use Rattle.tree_machine.proofs.FoldLemmas.{find-folded_over, sorted_folded_over}
 use Rattle.tree_machine.proofs.MapLemmas.{find-map_in}
 
 -- a list by itself, as C2 of a tree that has nothing else

@@ -5,8 +5,10 @@ use Rattle.std.proofs.lemmas.Bool.Decides.{nat_tests}
 use Rattle.std.proofs.Common.{inl, inr, ⊎_elim, sym, subst, arith}
 use Rattle.disk_trait.specs.Disk.{DiskState}
 use Rattle.disk_trait.specs.Effects.{Affects}
-use Rattle.disk_trait.specs.Moments.{IsTimed, LeavesOnly, leaves_only_run, leaves_only_weaken, leaves_only_now}
-use Rattle.disk_trait.specs.Reads.{OnlyReads, only_reads_each, only_reads_same}
+use Rattle.disk_trait.specs.Moments.{IsTimed, LeavesOnly}
+use Rattle.disk_trait.proofs.MomentLemmas.{leaves_only_run, leaves_only_weaken, leaves_only_now}
+use Rattle.disk_trait.specs.Reads.{OnlyReads}
+use Rattle.disk_trait.proofs.ReadLemmas.{only_reads_each, only_reads_same}
 use Rattle.disk_trait.specs.Region.{Region, span, IsSameOutside, IsOldOutside}
 use Rattle.std.proofs.lemmas.Bool.{false≢true}
 use Rattle.blsm_model.specs.Sizes.{Sizes}
@@ -21,7 +23,7 @@ use Rattle.gated_log.proofs.LaneLemmas.{region_inside}
 use Rattle.catalog_swap.specs.declared.catalog.Catalog.{Catalog}
 use Rattle.catalog_swap.specs.Slots.{AreSameSlots, slot_of, other_slot, slot_length, IsNewest}
 use Rattle.catalog_swap.specs.Swap.{spare_start, prepared, IsSettled, IsPrepared, IsReady, IsNext, IsEither}
-use Rattle.catalog_swap.specs.Laws.{settled_only, settled_apart, settled_each, ready_prepared}
+use Rattle.catalog_swap.proofs.FileLemmas.{settled_only, settled_apart, settled_each, ready_prepared}
 use Rattle.tree_file.specs.Tree.{Tree, HoldsTree, live_pages}
 use Rattle.tree_file.specs.Places.{IsBesideBody, IsBeside, HoldsEither, StandsOn, StandsOnEither, Stays, Becomes, ReadsNext, KeepsRoles, TurnsRoles, appended_a, appended_b}
 use Rattle.tree_file.proofs.HoldsLemmas.{HasBody, body_holds, body_beside, holds_beside_body, holds_beside, beside_within, beside_both, head_beside, lane_beside, lane_pages, lane_slots, pages_after, reads_next_beside, roles_of, Role, as_a, as_b, lane_of, entries_in, with_entries, has_entries, entries_changed, same_entries}

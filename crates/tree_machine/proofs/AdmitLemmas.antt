@@ -31,7 +31,7 @@ use Rattle.tree_machine.specs.Merges.{Merge}
 use Rattle.tree_machine.specs.Machine.{Machine, in_pass, charge, memory_charge}
 use Rattle.tree_machine.specs.Moves.{goes_to_a, with_write, take_write, with_peak, note, stop}
 use Rattle.tree_machine.specs.Steps.{Outcome, Well, FailedAfter, Broken, NoRoom, replied, deep_swapped, swaps_due, ready_for, taken_once, admit, admit_fitting}
-use Rattle.tree_machine.specs.Stands.{FitsFormat, IsTold, Stands}
+use Rattle.tree_machine.specs.Stands.{FitsFormat, Stands}
 use Rattle.tree_machine.proofs.CarryLemmas.{carries_itself, deep_swapped_carries, ready_carries}
 use Rattle.tree_machine.proofs.LightLemmas.{light_write}
 use Rattle.tree_machine.proofs.WriteLemmas.{write_layered, value_in-write, behind_kept}

@@ -1,24 +1,24 @@
 -- The version rises by no more than the swaps and the rotations.
-use Rattle.std.proofs.Common.{◌≡◌, ap, ℕ, ◌+◌, Bool, cond, true, false, List, Option, None, arith}
+use Rattle.std.proofs.Common.{ℕ, ◌+◌, Bool, cond, true, false, List, Option, None, arith}
 use Rattle.std.proofs.lemmas.Grind.{common_steps}
 use Rattle.std.proofs.lemmas.Bool.Decides.{nat_tests}
 use Rattle.std.specs.Prelude.{◌==◌, nat_lt}
 use Rattle.blsm_model.specs.declared.key.Key.{Key}
 use Rattle.blsm_model.specs.declared.row.Row.{Row}
 use Rattle.blsm_model.specs.declared.op.Op.{Op}
-use Rattle.blsm_model.specs.declared.op.Op.TheVariants.{Get, Hold, Next, Release}
+use Rattle.blsm_model.specs.declared.op.Op.TheVariants.{Hold, Next, Release}
 use Rattle.blsm_model.specs.declared.history.Why.{Why}
 use Rattle.blsm_model.specs.declared.history.Why.TheVariants.{Faulted}
 use Rattle.blsm_model.specs.declared.history.Reply.TheVariants.{Full, FaultLost, FaultUnsure}
 use Rattle.blsm_model.specs.Geometry.{charge_limit}
-use Rattle.blsm_model.specs.Histories.{writes_of, answer_to_get, answer_to_release}
+use Rattle.blsm_model.specs.Histories.{writes_of, answer_to_release, answer_to_look}
 use Rattle.blsm_model.specs.Legal.{total_weight, is_del}
 use Rattle.tree_machine.specs.declared.step.Kind.{Kind}
 use Rattle.tree_machine.specs.declared.step.Kind.TheVariants as kind
-use Rattle.tree_machine.specs.Lists.{value_in}
-use Rattle.tree_machine.specs.Machine.{Machine, in_deep, charge, held_by}
-use Rattle.tree_machine.specs.Moves.{rotate, swap_pass, swap_deep, end_pass, pass_quantum, deep_quantum, with_peak, stop}
-use Rattle.tree_machine.specs.Steps.{one_if, Outcome, Well, FailedAfter, Broken, NoRoom, Stepped, choice, chosen, replied, unless_stopped, swaps_due, admit, admit_fitting, deep_swapped, ready_for, taken_once, reply_unless, do_hold, do_next, holding, pay, do_turn, work_turn, worker_turn}
+use Rattle.tree_machine.specs.Lists.{contents_in}
+use Rattle.tree_machine.specs.Machine.{Machine, charge, held_by}
+use Rattle.tree_machine.specs.Moves.{with_peak, stop}
+use Rattle.tree_machine.specs.Steps.{Outcome, Well, FailedAfter, Broken, NoRoom, Stepped, replied, unless_stopped, swaps_due, admit, admit_fitting, deep_swapped, ready_for, taken_once, reply_unless, do_hold, do_next, holding, pay, work_turn, worker_turn}
 use Rattle.tree_machine.specs.Plays.{stepped_as}
 use Rattle.tree_machine.specs.Layers.{IsSound}
 use Rattle.tree_machine.specs.Laws.{IsVersion}
@@ -88,7 +88,7 @@ next_commits first m seat n outcome held h1 = grind (arith, common_steps, nat_te
 pub step_commits : (first : ℕ) (m : Machine) (seat : ℕ) (k : Kind) (outcome : Outcome) → IsSound m → IsVersion first m → IsVersion first (stepped_as m seat k outcome).state
 step_commits first m seat (kind.Admit op) outcome sound v = admit_commits first m seat op outcome sound v
 step_commits first m seat kind.Pay outcome sound v = pay_commits first m seat outcome v
-step_commits first m seat (kind.Get key) outcome sound v = unless_commits first seat (Get key) m m.stopped (replied seat (Get key) (reply_unless outcome (answer_to_get (value_in m.lists key))) m) v v
+step_commits first m seat (kind.Look op) outcome sound v = unless_commits first seat op m m.stopped (replied seat op (reply_unless outcome (answer_to_look op (contents_in m.lists))) m) v v
 step_commits first m seat (kind.Hold low high) outcome sound v = unless_commits first seat (Hold low high) m m.stopped (do_hold m seat low high outcome) v (hold_commits first m seat low high outcome v)
 step_commits first m seat (kind.Next n) outcome sound v = unless_commits first seat (Next n) m m.stopped (do_next m seat n outcome (held_by seat m)) v (next_commits first m seat n outcome (held_by seat m) v)
 step_commits first m seat kind.Release outcome sound v = unless_commits first seat Release m m.stopped (replied seat Release (answer_to_release (held_by seat m)) (holding seat None m)) v v

@@ -1,29 +1,28 @@
 -- What a step leaves as it was, and which merge a quantum moves.
-use Rattle.std.proofs.Common.{◌≤◌, ◌≡◌, ◌⊎◌, inl, refl, ap, sym, ℕ, zero, suc, ◌+◌, Bool, cond, true, false, not, List, [], ◌∷◌, Option, Some, None}
+use Rattle.std.proofs.Common.{◌≡◌, ◌⊎◌, inl, refl, ap, ℕ, ◌+◌, Bool, cond, true, false, not, List, [], Option, Some, None}
 use Rattle.std.proofs.lemmas.Grind.{common_steps}
 use Rattle.std.proofs.lemmas.Bool.Decides.{nat_tests}
 use Rattle.std.proofs.Common.{arith}
-use Rattle.std.specs.Prelude.{◌==◌, nat_lt, slice_set, slice_index_or}
+use Rattle.std.specs.Prelude.{◌==◌, nat_lt}
 use Rattle.blsm_model.specs.declared.key.Key.{Key}
 use Rattle.blsm_model.specs.declared.row.Row.{Row}
 use Rattle.blsm_model.specs.declared.op.Op.{Op}
-use Rattle.blsm_model.specs.declared.op.Op.TheVariants.{Get, Hold, Next, Release}
+use Rattle.blsm_model.specs.declared.op.Op.TheVariants.{Hold, Next, Release}
 use Rattle.blsm_model.specs.declared.history.Why.{Why}
 use Rattle.blsm_model.specs.declared.history.Why.TheVariants as why
 use Rattle.blsm_model.specs.declared.history.Why.TheVariants.{Faulted}
 use Rattle.blsm_model.specs.declared.history.Reply.TheVariants.{Done, Full, FaultLost, FaultUnsure, Stopped}
-use Rattle.blsm_model.specs.Geometry.{c1_mark, charge_limit}
-use Rattle.blsm_model.specs.Histories.{writes_of, answer_to_get, answer_to_release}
+use Rattle.blsm_model.specs.Geometry.{charge_limit}
+use Rattle.blsm_model.specs.Histories.{writes_of, answer_to_release, answer_to_look}
 use Rattle.blsm_model.specs.Legal.{total_weight, is_del}
 use Rattle.blsm_model.specs.declared.op.Write.{Write}
 use Rattle.record_delta.specs.Entries.{entries_weight}
 use Rattle.tree_machine.specs.declared.step.Kind.{Kind}
 use Rattle.tree_machine.specs.declared.step.Kind.TheVariants as kind
-use Rattle.tree_machine.specs.Lists.{memory_weight, value_in}
-use Rattle.tree_machine.specs.Merges.{begun}
+use Rattle.tree_machine.specs.Lists.{memory_weight, contents_in}
 use Rattle.tree_machine.specs.Machine.{Machine, pass_done, deep_done, charge, held_by}
-use Rattle.tree_machine.specs.Moves.{swap_pass, output_of, pass_quantum, deep_quantum, with_peak, note, stop}
-use Rattle.tree_machine.specs.Steps.{Outcome, Well, FailedAfter, Broken, NoRoom, Stepped, choice, chosen, replied, unless_stopped, swaps_due, admit, admit_fitting, deep_swapped, pass_swapped, pass_begun_for, ready_for, taken_once, reply_unless, hold, do_hold, next_rows, do_next, drop_hold, holding, forgive, pay, do_turn, work_turning, work_turn, worker_turn, work_end, leave}
+use Rattle.tree_machine.specs.Moves.{with_peak, note, stop}
+use Rattle.tree_machine.specs.Steps.{Outcome, Well, FailedAfter, Broken, NoRoom, Stepped, choice, chosen, replied, unless_stopped, swaps_due, admit, admit_fitting, deep_swapped, ready_for, taken_once, reply_unless, hold, do_hold, next_rows, do_next, drop_hold, holding, pay, do_turn, work_turning, work_turn, worker_turn, work_end, leave}
 use Rattle.tree_machine.specs.Plays.{stepped_as}
 use Rattle.tree_machine.specs.Layers.{IsSound, HasWay}
 use Rattle.tree_machine.specs.Effects.{LeavesAll, LeaveAll, MergeStands, Rests, TakesQuantum}
@@ -155,7 +154,7 @@ next_works m seat n outcome held = grind (arith, common_steps, nat_tests)
 pub step_works : (m : Machine) (seat : ℕ) (k : Kind) (outcome : Outcome) → IsSound m → HasWay m → Rests m (stepped_as m seat k outcome).state ⊎ TakesQuantum seat m (stepped_as m seat k outcome).state
 step_works m seat (kind.Admit op) outcome sound way = admit_works m seat op outcome sound way
 step_works m seat kind.Pay outcome sound way = pay_works m seat outcome
-step_works m seat (kind.Get key) outcome sound way = unless_quiet seat (Get key) m m.stopped (replied seat (Get key) (reply_unless outcome (answer_to_get (value_in m.lists key))) m) (quiet seat m (note seat (Get key) (reply_unless outcome (answer_to_get (value_in m.lists key))) m) refl refl)
+step_works m seat (kind.Look op) outcome sound way = unless_quiet seat op m m.stopped (replied seat op (reply_unless outcome (answer_to_look op (contents_in m.lists))) m) (quiet seat m (note seat op (reply_unless outcome (answer_to_look op (contents_in m.lists))) m) refl refl)
 step_works m seat (kind.Hold low high) outcome sound way = unless_quiet seat (Hold low high) m m.stopped (do_hold m seat low high outcome) (hold_works m seat low high outcome)
 step_works m seat (kind.Next n) outcome sound way = unless_quiet seat (Next n) m m.stopped (do_next m seat n outcome (held_by seat m)) (next_works m seat n outcome (held_by seat m))
 step_works m seat kind.Release outcome sound way = unless_quiet seat Release m m.stopped (replied seat Release (answer_to_release (held_by seat m)) (holding seat None m)) (quiet seat m (note seat Release (answer_to_release (held_by seat m)) (holding seat None m)) refl refl)

@@ -12,11 +12,9 @@ use Rattle.std.proofs.lemmas.Cmp.{nat_list_cmp_total}
 use Rattle.blsm_model.specs.declared.key.Key.{Key}
 use Rattle.blsm_model.specs.Keys.{key_cmp}
 use Rattle.record_delta.specs.declared.record.Rec.{Rec}
-use Rattle.record_delta.specs.Records.{settled}
 use Rattle.record_delta.specs.Folding.{over}
 use Rattle.record_delta.proofs.FoldingLemmas.{fold_associative}
 use Rattle.record_delta.specs.Entries.{AreSorted, Entries, folded_over, over_any, record_of_key, with_record}
-use Rattle.tree_machine.specs.Layers.{as_base}
 
 pub by_test : (b : Bool) → (b ≡ true) ⊎ (b ≡ false)
 by_test b = grind (arith, common_steps, nat_tests)

@@ -1,10 +1,9 @@
 -- What each part of a step leaves to the other seats.
-use Rattle.std.proofs.Common.{◌≡◌, ◌≢◌, ℕ, zero, suc, ◌+◌, ◌-◌, ◌≤◌, ◌⊎◌, Bool, cond, true, false, not, List, [], ◌∷◌, replicate, Some, None, Option, refl, ap, ◌∙◌, arith}
+use Rattle.std.proofs.Common.{◌≡◌, ◌≢◌, ℕ, zero, suc, ◌+◌, ◌-◌, ◌≤◌, ◌⊎◌, Bool, cond, true, false, not, List, [], ◌∷◌, Some, None, Option, refl, ap, ◌∙◌, arith}
 use Rattle.std.proofs.lemmas.Grind.{common_steps}
 use Rattle.std.proofs.lemmas.Bool.Decides.{nat_tests}
 use Rattle.std.specs.Prelude.{◌==◌, sum, nat_lt, slice_index, slice_index_or, slice_set, is_some}
 use Rattle.std.proofs.lemmas.List.{get_or-set_other}
-use Rattle.std.proofs.lemmas.List.Sums.{sum_by-cons}
 use Rattle.blsm_model.specs.declared.key.Key.{Key}
 use Rattle.blsm_model.specs.declared.row.Row.{Row}
 use Rattle.blsm_model.specs.declared.op.Op.{Op}
@@ -12,30 +11,28 @@ use Rattle.blsm_model.specs.declared.op.Write.{Write}
 use Rattle.blsm_model.specs.declared.history.Why.{Why}
 use Rattle.blsm_model.specs.declared.history.Why.TheVariants as why
 use Rattle.blsm_model.specs.declared.history.Why.TheVariants.{Faulted}
-use Rattle.blsm_model.specs.declared.op.Op.TheVariants.{Get, Hold, Release}
+use Rattle.blsm_model.specs.declared.op.Op.TheVariants.{Hold, Release}
 use Rattle.blsm_model.specs.declared.history.Reply.TheVariants.{Done, Held, Full, FaultLost, FaultUnsure}
 use Rattle.blsm_model.specs.Format.{callers}
-use Rattle.blsm_model.specs.Book.{counted_up}
-use Rattle.blsm_model.specs.Histories.{writes_of, answer_to_get, answer_to_release}
+use Rattle.blsm_model.specs.Histories.{writes_of, answer_to_release, answer_to_look}
 use Rattle.blsm_model.specs.Legal.{total_weight, is_del}
 use Rattle.tree_machine.specs.declared.step.Kind.{Kind}
 use Rattle.tree_machine.specs.declared.step.Kind.TheVariants as kind
 use Rattle.blsm_model.specs.declared.history.Reply.{Reply}
 use Rattle.blsm_model.specs.Geometry.{charge_limit}
 use Rattle.record_delta.specs.Entries.{entries_weight}
-use Rattle.tree_machine.specs.Lists.{memory_weight, value_in, rows_in}
+use Rattle.tree_machine.specs.Lists.{memory_weight, rows_in, contents_in}
 use Rattle.gear_sched.specs.Gears.{plan_for, first_debt, second_debt}
 use Rattle.gear_sched.specs.declared.Plan.{Plan}
 use Rattle.gear_sched.specs.declared.Plan.TheVariants.{Snow, Deep, Nothing}
 use Rattle.tree_machine.specs.Machine.{Machine, WorkSoFar, is_worked, is_closed, all_true, charge, held_by, work_of, turn_more}
-use Rattle.tree_machine.specs.Moves.{begin_pass, rotate, rotate_alone, swap_pass, swap_deep, end_pass, pass_quantum, deep_quantum, take_write, with_peak, note, stop}
+use Rattle.tree_machine.specs.Moves.{begin_pass, rotate_alone, swap_pass, swap_deep, pass_quantum, deep_quantum, with_peak, note, stop}
 use Rattle.tree_machine.specs.Steps.{Choice, SwapDeep, SwapPass, DeepQuantum, PassQuantum, Begin, Rotate, Rest, chosen, deep_swapped, pass_swapped, swapped, pass_begun_for, ready_for, taken_once, forgive, count_for_write, holding, work_noted, Outcome, Well, FailedAfter, Broken, NoRoom, Stepped, replied, unless_stopped, swaps_due, admit, admit_fitting, do_pay, pay_planned, pay, pay_running, reply_unless, hold, do_hold, next_rows, choice, do_turn, work_turning, worker_turning, with_turn, work_turn, worker_turn, work_end, leave}
 use Rattle.tree_machine.specs.Plays.{stepped_as, may, is_help}
 use Rattle.tree_machine.proofs.FoldLemmas.{both_hold, both}
 use Rattle.blsm_model.specs.Facts.{Follows}
 use Rattle.tree_machine.specs.Frames.{facts_of, turns_of}
 use Rattle.tree_machine.proofs.GrowLemmas.{notes, step_grows}
-use Rattle.tree_machine.proofs.PlayLemmas.{of_replicate}
 
 -- What a step of one seat leaves to the others, with at most so many quanta more.
 pub record Apart (seat more : ℕ) (old new : Machine) : Type 0 where
@@ -254,8 +251,8 @@ leave_apart m seat = grind (arith, common_steps, nat_tests, still_all, get_or-se
 pub step_apart : (m : Machine) (seat : ℕ) (k : Kind) (outcome : Outcome) → (is_help k ≡ true → callers ≤ seat) → Apart seat 1 m (stepped_as m seat k outcome).state
 step_apart m seat (kind.Admit op) outcome worker = apart_more seat 0 1 (omega arith) (admit_apart m seat op outcome)
 step_apart m seat kind.Pay outcome worker = pay_apart m seat outcome
-step_apart m seat (kind.Get key) outcome worker = apart_more seat 0 1 (omega arith)
-    (unless_apart seat (Get key) m (replied seat (Get key) (reply_unless outcome (answer_to_get (value_in m.lists key))) m) (λ none. note_apart seat (Get key) (reply_unless outcome (answer_to_get (value_in m.lists key))) m))
+step_apart m seat (kind.Look op) outcome worker = apart_more seat 0 1 (omega arith)
+    (unless_apart seat op m (replied seat op (reply_unless outcome (answer_to_look op (contents_in m.lists))) m) (λ none. note_apart seat op (reply_unless outcome (answer_to_look op (contents_in m.lists))) m))
 step_apart m seat (kind.Hold low high) outcome worker = apart_more seat 0 1 (omega arith) (hold_apart m seat low high outcome)
 step_apart m seat (kind.Next n) outcome worker = apart_more seat 0 1 (omega arith) (next_apart m seat n outcome)
 step_apart m seat kind.Release outcome worker = apart_more seat 0 1 (omega arith)

@@ -2,10 +2,10 @@
 use Rattle.std.proofs.Common.{◌≡◌, ◌<◌, ◌⊎◌, ℕ, ◌+◌, ◌-◌, length, arith, inl, inr, Bool, cond, true, false, ◌&&◌, List, [], ◌∷◌, ◌++◌, None, Option, refl, ap, ◌∙◌}
 use Rattle.std.proofs.lemmas.Grind.{common_steps}
 use Rattle.std.proofs.lemmas.Bool.Decides.{nat_tests}
-use Rattle.std.specs.Prelude.{◌==◌, nat_lt, nat_le, sum, slice_index, slice_set}
+use Rattle.std.specs.Prelude.{◌==◌, nat_lt, nat_le, sum, slice_index}
 use Rattle.std.proofs.lemmas.Bool.{ltb-true}
 use Rattle.blsm_model.specs.Format.{most_rows}
-use Rattle.blsm_model.specs.Legal.{is_write, is_del}
+use Rattle.blsm_model.specs.Legal.{is_write, is_del, is_look}
 use Rattle.blsm_model.specs.declared.room.Room.{Room}
 use Rattle.blsm_model.specs.declared.history.Entry.{Entry}
 use Rattle.tree_machine.specs.Plays.{has_room, is_between, may_note, is_even, is_finished, may}
@@ -13,20 +13,20 @@ use Rattle.tree_machine.proofs.FoldLemmas.{both_hold}
 use Rattle.blsm_model.specs.declared.key.Key.{Key}
 use Rattle.blsm_model.specs.declared.row.Row.{Row}
 use Rattle.blsm_model.specs.declared.op.Op.{Op}
-use Rattle.blsm_model.specs.declared.op.Op.TheVariants.{Get, Hold, Next, Release, Work}
+use Rattle.blsm_model.specs.declared.op.Op.TheVariants.{Hold, Next, Release, Work}
 use Rattle.blsm_model.specs.declared.history.Why.TheVariants.{Faulted}
 use Rattle.blsm_model.specs.declared.history.Reply.{Reply}
 use Rattle.blsm_model.specs.declared.history.Reply.TheVariants.{Done, Full, FaultLost, FaultUnsure}
 use Rattle.blsm_model.specs.Book.{Book, room_after}
 use Rattle.blsm_model.specs.Geometry.{charge_limit}
-use Rattle.blsm_model.specs.Histories.{writes_of, answer_to_get, answer_to_release}
+use Rattle.blsm_model.specs.Histories.{writes_of, answer_to_release, answer_to_look}
 use Rattle.blsm_model.specs.Legal.{total_weight}
 use Rattle.tree_machine.specs.declared.step.Kind.{Kind}
 use Rattle.tree_machine.specs.declared.step.Kind.TheVariants as kind
-use Rattle.tree_machine.specs.Lists.{value_in}
+use Rattle.tree_machine.specs.Lists.{contents_in}
 use Rattle.tree_machine.specs.Machine.{Machine, is_caller, is_closed, charge, held_by, work_of}
-use Rattle.tree_machine.specs.Moves.{swap_pass, pass_quantum, deep_quantum, with_peak, note, stop}
-use Rattle.tree_machine.specs.Steps.{Choice, chosen, deep_swapped, ready_for, taken_once, holding, Outcome, Well, FailedAfter, Broken, NoRoom, Stepped, replied, unless_stopped, swaps_due, admit, admit_fitting, pay, reply_unless, do_hold, do_next, do_turn, work_turning, worker_turning, work_reply}
+use Rattle.tree_machine.specs.Moves.{pass_quantum, deep_quantum, with_peak, note, stop}
+use Rattle.tree_machine.specs.Steps.{Choice, deep_swapped, ready_for, taken_once, holding, Outcome, Well, FailedAfter, Broken, NoRoom, Stepped, replied, unless_stopped, swaps_due, admit, admit_fitting, pay, reply_unless, do_hold, do_next, do_turn, work_turning, worker_turning, work_reply}
 use Rattle.tree_machine.specs.Plays.{stepped_as}
 use Rattle.blsm_model.specs.Facts.{Notes}
 use Rattle.blsm_model.specs.declared.op.Write.{Write}
@@ -116,9 +116,9 @@ worker_book m seat outcome = grind (arith, common_steps, nat_tests)
 pub step_grows : (m : Machine) (seat : ℕ) (k : Kind) (outcome : Outcome) → Grows seat m (stepped_as m seat k outcome).state
 step_grows m seat (kind.Admit op) outcome = admit_grows m seat op outcome
 step_grows m seat kind.Pay outcome = inl (pay_keeps m seat outcome)
-step_grows m seat (kind.Get key) outcome =
-    unless_grows seat (Get key) m (replied seat (Get key) (reply_unless outcome (answer_to_get (value_in m.lists key))) m)
-    (noted_grows seat (Get key) (reply_unless outcome (answer_to_get (value_in m.lists key))) m m refl)
+step_grows m seat (kind.Look op) outcome =
+    unless_grows seat op m (replied seat op (reply_unless outcome (answer_to_look op (contents_in m.lists))) m)
+    (noted_grows seat op (reply_unless outcome (answer_to_look op (contents_in m.lists))) m m refl)
 step_grows m seat (kind.Hold low high) outcome = unless_grows seat (Hold low high) m (do_hold m seat low high outcome) (hold_grows m seat low high outcome)
 step_grows m seat (kind.Next n) outcome = unless_grows seat (Next n) m (do_next m seat n outcome (held_by seat m)) (next_grows m seat n outcome (held_by seat m))
 step_grows m seat kind.Release outcome =
@@ -148,7 +148,7 @@ pub step_room : (m : Machine) (seat : ℕ) (k : Kind) (outcome : Outcome) → ma
 step_room m seat (kind.Admit op) outcome ok =
     grown seat m (stepped_as m seat (kind.Admit op) outcome).state (noting m seat 0 (both_hold (is_write op) (may_note seat 0 m) (both_hold (is_write op && may_note seat 0 m) (is_even seat m) ok).0).1) (step_grows m seat (kind.Admit op) outcome)
 step_room m seat kind.Pay outcome ok = kept m (pay m seat outcome).state (pay_keeps m seat outcome)
-step_room m seat (kind.Get key) outcome ok = grown seat m (stepped_as m seat (kind.Get key) outcome).state (noting m seat 0 ok) (step_grows m seat (kind.Get key) outcome)
+step_room m seat (kind.Look op) outcome ok = grown seat m (stepped_as m seat (kind.Look op) outcome).state (noting m seat 0 (both_hold (is_look op) (may_note seat 0 m) ok).1) (step_grows m seat (kind.Look op) outcome)
 step_room m seat (kind.Hold low high) outcome ok = grown seat m (stepped_as m seat (kind.Hold low high) outcome).state (noting m seat 0 ok) (step_grows m seat (kind.Hold low high) outcome)
 step_room m seat (kind.Next n) outcome ok =
     grown seat m (stepped_as m seat (kind.Next n) outcome).state (noting m seat n (both_hold (may_note seat n m) (nat_lt 0 n) (both_hold (may_note seat n m && nat_lt 0 n) (nat_le n most_rows) ok).0).0) (step_grows m seat (kind.Next n) outcome)

@@ -11,7 +11,7 @@ use Rattle.blsm_model.specs.Tails.{TailFits}
 use Rattle.blsm_model.specs.Keys.{key_cmp}
 use Rattle.blsm_model.specs.Values.{added_count, key_of, text_written, weight_of}
 use Rattle.record_delta.specs.declared.record.Rec.{Rec}
-use Rattle.record_delta.specs.Records.{record_of, text_limit, text_of, weight, settle, IsWithin}
+use Rattle.record_delta.specs.Records.{record_of, weight, settle, IsWithin}
 use Rattle.record_delta.specs.Folding.{over}
 use Rattle.record_delta.proofs.FoldingLemmas.{within_is_light}
 use Rattle.record_delta.specs.Entries.{Entries, folded_over, record_of_key, settled_base, settled_entries, with_record}

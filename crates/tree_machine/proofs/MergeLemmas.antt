@@ -206,9 +206,6 @@ module _ (quantum : ℕ) (merge : Merge) (newer older : Entries) (sorted_newer :
           ∙ by (is_above merge.cursor q) (is_above (cursor_after merge.cursor (quantum_of quantum merge newer older).groups) q) (over_any (record_of_key q newer) (record_of_key q older))
           (λ past. still_ahead merge.cursor (quantum_of quantum merge newer older).groups q groups_sorted groups_ahead past)
         where
-          first_kept : (x : Option Rec) → first_of x None ≡ x
-          first_kept x = grind (arith, common_steps, nat_tests)
-
           by : (was is : Bool) (x : Option Rec) → (is ≡ true → was ≡ true) → first_of (cond was None (kept x)) (kept (cond is None (cond was x None))) ≡ cond is None (kept x)
           by was is x h1 = grind (arith, common_steps, nat_tests)
 

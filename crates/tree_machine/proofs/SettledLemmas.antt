@@ -7,24 +7,23 @@ use Rattle.std.proofs.lemmas.Bool.{false≢true}
 use Rattle.blsm_model.specs.declared.key.Key.{Key}
 use Rattle.blsm_model.specs.declared.row.Row.{Row}
 use Rattle.blsm_model.specs.declared.op.Op.{Op}
-use Rattle.blsm_model.specs.declared.op.Op.TheVariants.{Get, Hold, Next, Release}
+use Rattle.blsm_model.specs.declared.op.Op.TheVariants.{Hold, Next, Release}
 use Rattle.blsm_model.specs.declared.history.Reply.{Reply}
 use Rattle.blsm_model.specs.declared.history.Why.{Why}
 use Rattle.blsm_model.specs.declared.history.Why.TheVariants.{Faulted}
 use Rattle.blsm_model.specs.declared.history.Reply.TheVariants.{Done, Full, FaultLost, FaultUnsure}
 use Rattle.blsm_model.specs.Geometry.{c1_mark, charge_limit}
-use Rattle.blsm_model.specs.Histories.{writes_of, answer_to_get, answer_to_release}
+use Rattle.blsm_model.specs.Histories.{writes_of, answer_to_release, answer_to_look}
 use Rattle.blsm_model.specs.Legal.{total_weight, is_del}
-use Rattle.record_delta.specs.declared.record.Rec.{Rec}
-use Rattle.record_delta.specs.Entries.{Entries, entries_weight, settled_entries}
+use Rattle.record_delta.specs.Entries.{Entries, settled_entries}
 use Rattle.gear_sched.specs.Gears.{plan_for, first_debt, second_debt, deep_is_behind}
 use Rattle.gear_sched.specs.declared.Plan.{Plan}
 use Rattle.tree_machine.specs.declared.step.Kind.{Kind}
 use Rattle.tree_machine.specs.declared.step.Kind.TheVariants as kind
-use Rattle.tree_machine.specs.Lists.{Lists, value_in}
-use Rattle.tree_machine.specs.Merges.{Merge, is_empty}
+use Rattle.tree_machine.specs.Lists.{contents_in}
+use Rattle.tree_machine.specs.Merges.{is_empty}
 use Rattle.tree_machine.specs.Machine.{Machine, in_pass, in_deep, pass_done, deep_done, is_closed, charge, held_by}
-use Rattle.tree_machine.specs.Moves.{begin_pass, rotate, swap_pass, swap_deep, pass_quantum, deep_quantum, with_write, with_peak, note, stop}
+use Rattle.tree_machine.specs.Moves.{begin_pass, swap_pass, swap_deep, with_peak, note, stop}
 use Rattle.tree_machine.specs.Steps.{Outcome, Well, FailedAfter, Broken, NoRoom, Stepped, SwapDeep, SwapPass, DeepQuantum, PassQuantum, Begin, Rotate, Rest, choice, chosen, replied, unless_stopped, swaps_due, admit, admit_fitting, deep_swapped, swapped, ready_for, taken_once, reply_unless, do_hold, do_next, holding, forgive, pay, pay_running, pay_planned, do_pay, do_turn, worker_turning, work_turn, worker_turn}
 use Rattle.tree_machine.specs.Plays.{stepped_as}
 use Rattle.tree_machine.specs.Layers.{IsSound, AreBases, AreSettled}
@@ -168,8 +167,8 @@ next_settles m seat n outcome held h1 = grind (arith, common_steps, nat_tests)
 pub step_settles : (m : Machine) (seat : ℕ) (k : Kind) (outcome : Outcome) → IsSound m → 0 < c1_mark m.gears.sizes → AreSettled m → AreSettled (stepped_as m seat k outcome).state
 step_settles m seat (kind.Admit op) outcome sound mark s = admit_settles m seat op outcome sound mark s
 step_settles m seat kind.Pay outcome sound mark s = pay_settles m seat outcome s
-step_settles m seat (kind.Get key) outcome sound mark s =
-    unless_settles seat (Get key) m m.stopped (replied seat (Get key) (reply_unless outcome (answer_to_get (value_in m.lists key))) m) s (record { bases = s.bases; merging = s.merging })
+step_settles m seat (kind.Look op) outcome sound mark s =
+    unless_settles seat op m m.stopped (replied seat op (reply_unless outcome (answer_to_look op (contents_in m.lists))) m) s (record { bases = s.bases; merging = s.merging })
 step_settles m seat (kind.Hold low high) outcome sound mark s = unless_settles seat (Hold low high) m m.stopped (do_hold m seat low high outcome) s (hold_settles m seat low high outcome s)
 step_settles m seat (kind.Next n) outcome sound mark s = unless_settles seat (Next n) m m.stopped (do_next m seat n outcome (held_by seat m)) s (next_settles m seat n outcome (held_by seat m) s)
 step_settles m seat kind.Release outcome sound mark s =

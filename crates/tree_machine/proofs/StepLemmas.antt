@@ -4,7 +4,7 @@ use Rattle.std.proofs.lemmas.Grind.{common_steps}
 use Rattle.std.proofs.lemmas.Bool.Decides.{nat_tests}
 use Rattle.std.specs.Prelude.{nat_lt, nat_le, slice_set, option_map, unwrap_or}
 use Rattle.std.proofs.lemmas.Bool.{ltb-true}
-use Rattle.blsm_model.specs.Format.{callers, most_rows}
+use Rattle.blsm_model.specs.Format.{callers, most_rows, most_turns}
 use Rattle.blsm_model.specs.declared.key.Key.{Key}
 use Rattle.blsm_model.specs.declared.row.Value.{Value}
 use Rattle.blsm_model.specs.declared.op.Op.TheVariants.{Work}
@@ -13,8 +13,8 @@ use Rattle.blsm_model.specs.declared.history.Reply.{Reply}
 use Rattle.blsm_model.specs.declared.history.Reply.TheVariants.{Did, Fault, Damaged, Stopped}
 use Rattle.blsm_model.specs.Book.{counted_up}
 use Rattle.blsm_model.specs.Geometry.{limits_of}
-use Rattle.blsm_model.specs.Histories.{Object, after, object_after, is_refusal}
-use Rattle.blsm_model.specs.Legal.{MayReply, is_running, none_stopping, is_write}
+use Rattle.blsm_model.specs.Histories.{object_after, is_refusal}
+use Rattle.blsm_model.specs.Legal.{MayReply, none_stopping, is_write, is_look}
 use Rattle.blsm_model.proofs.HoldLemmas.{held-refusal, held-still}
 use Rattle.tree_machine.specs.declared.step.Kind.{Kind}
 use Rattle.tree_machine.specs.declared.step.Kind.TheVariants as kind
@@ -22,11 +22,11 @@ use Rattle.tree_machine.specs.Layers.{HasWay}
 use Rattle.tree_machine.specs.Machine.{Machine, WorkSoFar, Turned, Failed, BadPage, no_work, work_of, is_caller}
 use Rattle.tree_machine.specs.Moves.{note}
 use Rattle.tree_machine.specs.Steps.{Outcome, reply_by, work_noted, work_reply, work_end, leave}
-use Rattle.tree_machine.specs.Plays.{has_room, is_between, may_note, is_even, is_finished, most_turns, may, stepped_as}
+use Rattle.tree_machine.specs.Plays.{has_room, is_between, may_note, is_even, is_finished, may, stepped_as}
 use Rattle.tree_machine.specs.Stands.{AreWorks, Stands, WritesFit, work_at, is_failing}
 use Rattle.tree_machine.proofs.FoldLemmas.{both_hold}
 use Rattle.tree_machine.proofs.ToldLemmas.{none_is_some, note_told}
-use Rattle.tree_machine.proofs.StandLemmas.{entry_of, note_stands, quiet_ready, running_told, stopped_stands, get_stands, hold_stands, next_stands, drop_stands}
+use Rattle.tree_machine.proofs.StandLemmas.{entry_of, note_stands, quiet_ready, running_told, stopped_stands, hold_stands, next_stands, drop_stands, look_stands}
 use Rattle.tree_machine.proofs.AdmitLemmas.{admit_stands}
 use Rattle.tree_machine.proofs.TurnLemmas.{pay_stands, work_turn_stands, worker_turn_stands}
 
@@ -95,7 +95,7 @@ pub step_stands : (opening : List (Key × Value)) (m : Machine) (seat : ℕ) (k 
     → Stands opening (stepped_as m seat k outcome).state
 step_stands opening m seat (kind.Admit op) outcome stands ok way fit = admit_stands opening m seat op outcome stands way (both_hold (is_write op) (may_note seat 0 m) (both_hold (is_write op && may_note seat 0 m) (is_even seat m) ok).0).0 fit
 step_stands opening m seat kind.Pay outcome stands ok way fit = pay_stands opening m seat outcome stands
-step_stands opening m seat (kind.Get key) outcome stands ok way fit = get_stands opening m seat key outcome stands
+step_stands opening m seat (kind.Look op) outcome stands ok way fit = look_stands opening m seat op outcome stands (both_hold (is_look op) (may_note seat 0 m) ok).0
 step_stands opening m seat (kind.Hold low high) outcome stands ok way fit = hold_stands opening m seat low high outcome stands (noting_below m seat 0 ok)
 step_stands opening m seat (kind.Next n) outcome stands ok way fit = next_stands opening m seat n outcome stands (noting_below m seat n (both_hold (may_note seat n m) (nat_lt 0 n) (both_hold (may_note seat n m && nat_lt 0 n) (nat_le n most_rows) ok).0).0)
 step_stands opening m seat kind.Release outcome stands ok way fit = drop_stands opening m seat stands (noting_below m seat 0 ok)

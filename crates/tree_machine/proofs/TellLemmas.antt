@@ -2,12 +2,12 @@
 use Rattle.std.proofs.Common.{◌≡◌, ◌⊎◌, inl, inr, refl, ap, sym, subst, ◌∙◌, ℕ, ◌+◌, ◌≤◌, Bool, cond, true, false, not, List, [], ◌∷◌, ◌++◌, Option, Some, None, arith}
 use Rattle.std.proofs.lemmas.Grind.{common_steps}
 use Rattle.std.proofs.lemmas.Bool.Decides.{nat_tests}
-use Rattle.std.specs.Prelude.{◌==◌, nat_lt, sum_by, unwrap_or, slice_set, slice_index_or}
+use Rattle.std.specs.Prelude.{◌==◌, nat_lt, unwrap_or, slice_set, slice_index_or}
 use Rattle.std.specs.List.{AllByRecursion}
 use Rattle.blsm_model.specs.declared.key.Key.{Key}
 use Rattle.blsm_model.specs.declared.row.Row.{Row}
 use Rattle.blsm_model.specs.declared.op.Op.{Op}
-use Rattle.blsm_model.specs.declared.op.Op.TheVariants.{Get, Hold, Next, Release}
+use Rattle.blsm_model.specs.declared.op.Op.TheVariants.{Hold, Next, Release}
 use Rattle.blsm_model.specs.declared.history.Why.{Why}
 use Rattle.blsm_model.specs.declared.history.Why.TheVariants as why
 use Rattle.blsm_model.specs.declared.history.Reply.{Reply}
@@ -16,9 +16,8 @@ use Rattle.blsm_model.specs.declared.history.Entry.{Entry}
 use Rattle.blsm_model.specs.Book.{Book}
 use Rattle.blsm_model.specs.declared.op.Write.{Write}
 use Rattle.blsm_model.specs.Geometry.{charge_limit}
-use Rattle.blsm_model.specs.Histories.{writes_of, answer_to_get, answer_to_release}
+use Rattle.blsm_model.specs.Histories.{writes_of, answer_to_release, answer_to_look, is_refusal}
 use Rattle.blsm_model.specs.Legal.{total_weight, is_del, may_look}
-use Rattle.blsm_model.specs.declared.row.Value.{Value}
 use Rattle.record_delta.specs.Entries.{entries_weight}
 use Rattle.gear_sched.specs.Gears.{plan_for, first_debt, second_debt}
 use Rattle.gear_sched.specs.declared.Plan.{Plan}
@@ -26,14 +25,15 @@ use Rattle.gear_sched.specs.declared.Plan.TheVariants.{Snow, Deep, Nothing}
 use Rattle.tree_machine.specs.declared.step.Kind.{Kind}
 use Rattle.tree_machine.specs.declared.step.Kind.TheVariants as kind
 use Rattle.tree_machine.specs.declared.step.Step.{Step}
-use Rattle.tree_machine.specs.Lists.{memory_weight, value_in}
+use Rattle.tree_machine.specs.Lists.{memory_weight, contents_in}
 use Rattle.tree_machine.specs.Machine.{Machine, WorkSoFar, no_work, is_closed, charge, held_by, work_of}
 use Rattle.tree_machine.specs.Moves.{pass_quantum, deep_quantum, with_peak, note, stop}
 use Rattle.tree_machine.specs.Steps.{Outcome, Well, FailedAfter, Broken, NoRoom, Stepped, Choice, DeepQuantum, PassQuantum, choice, chosen, ended_as, replied, unless_stopped, swaps_due, one_if, admit, admit_fitting, deep_swapped, ready_for, taken_once, reply_unless, do_hold, do_next, holding, forgive, pay, pay_running, pay_planned, do_pay, do_turn, work_turning, worker_turning, with_turn, work_turn, worker_turn, work_end, leave}
 use Rattle.tree_machine.specs.Plays.{may_step, stepped, stepped_as, played, played_one}
-use Rattle.tree_machine.specs.Outcomes.{Rose, last_count, IsPossible, AreTold, is_failed_lookup, is_faulted, faults_told, is_damaged, is_bad_page, is_by_page, is_broken, FindsNone, FaultsAreCounted, StopsNameMore, NoneDamaged, ReachesOnBy}
+use Rattle.tree_machine.specs.Outcomes.{Rose, last_count, IsPossible, AreTold, is_failed_lookup, faults_told, is_damaged, is_bad_page, is_by_page, is_broken, FindsNone, FaultsAreCounted, StopsNameMore, NoneDamaged, ReachesOnBy}
 use Rattle.tree_machine.proofs.ToldLemmas.{some_or_none}
 use Rattle.tree_machine.proofs.GrowLemmas.{taken_book, ready_book, pass_quantum_book, deep_quantum_book}
+use Rattle.blsm_model.proofs.LookLemmas.{look_answers}
 
 abbrev is_failed : Outcome → Bool
 is_failed (FailedAfter commits faults) = true
@@ -142,9 +142,9 @@ pay_tells m seat outcome = by m.stopped refl
     by (Some cause) is = still m seat outcome m refl refl
     by None is = planned is (plan_for (first_debt (forgive seat m).gears seat) (second_debt (forgive seat m).gears seat))
 
--- a get tells what its outcome does
-get_tells : (m : Machine) (seat : ℕ) (key : Key) (value : Option Value) (outcome : Outcome) → Tells m seat outcome (note seat (Get key) (reply_unless outcome (answer_to_get value)) m)
-get_tells m seat key value outcome = grind (arith, common_steps, nat_tests)
+-- a command that only looks tells what its outcome does
+look_tells : (m : Machine) (seat : ℕ) (op : Op) (reply : Reply) (outcome : Outcome) → is_refusal reply ≡ false → Tells m seat outcome (note seat op (reply_unless outcome reply) m)
+look_tells m seat op reply outcome none = grind (arith, common_steps, nat_tests)
 
 hold_tells : (m : Machine) (seat : ℕ) (low high : Key) (outcome : Outcome) → Tells m seat outcome (do_hold m seat low high outcome).state
 hold_tells m seat low high outcome = grind (arith, common_steps, nat_tests)
@@ -178,8 +178,9 @@ work_end_tells m seat n outcome = grind (arith, common_steps, nat_tests, no_look
 step_tells : (m : Machine) (seat : ℕ) (k : Kind) (outcome : Outcome) → Tells m seat outcome (stepped_as m seat k outcome).state
 step_tells m seat (kind.Admit op) outcome = admit_tells m seat op outcome
 step_tells m seat kind.Pay outcome = pay_tells m seat outcome
-step_tells m seat (kind.Get key) outcome =
-    unless_tells m seat outcome (Get key) (replied seat (Get key) (reply_unless outcome (answer_to_get (value_in m.lists key))) m) (λ cause. refl) (λ none. get_tells m seat key (value_in m.lists key) outcome)
+step_tells m seat (kind.Look op) outcome =
+    unless_tells m seat outcome op (replied seat op (reply_unless outcome (answer_to_look op (contents_in m.lists))) m) (λ cause. refl)
+    (λ none. look_tells m seat op (answer_to_look op (contents_in m.lists)) outcome (look_answers op (contents_in m.lists)))
 step_tells m seat (kind.Hold low high) outcome = unless_tells m seat outcome (Hold low high) (do_hold m seat low high outcome) (λ cause. refl) (λ none. hold_tells m seat low high outcome)
 step_tells m seat (kind.Next n) outcome = unless_tells m seat outcome (Next n) (do_next m seat n outcome (held_by seat m)) (λ cause. refl) (λ none. next_tells m seat n outcome (held_by seat m))
 step_tells m seat kind.Release outcome =
@@ -320,7 +321,7 @@ works_sound m seat kind.WorkerTurn outcome whole were s = ap (λ ws. is_bad_page
     turning_work o b = grind (arith, common_steps, nat_tests)
 works_sound m seat (kind.Admit op) outcome whole were s = ap (λ ws. is_bad_page (slice_index_or ws s no_work).last) (admit_work m seat op outcome) ∙ were s
 works_sound m seat kind.Pay outcome whole were s = ap (λ ws. is_bad_page (slice_index_or ws s no_work).last) (pay_work m seat outcome) ∙ were s
-works_sound m seat (kind.Get key) outcome whole were s = ap (λ ws. is_bad_page (slice_index_or ws s no_work).last) (unless_work m seat (Get key) m.stopped (replied seat (Get key) (reply_unless outcome (answer_to_get (value_in m.lists key))) m) refl) ∙ were s
+works_sound m seat (kind.Look op) outcome whole were s = ap (λ ws. is_bad_page (slice_index_or ws s no_work).last) (unless_work m seat op m.stopped (replied seat op (reply_unless outcome (answer_to_look op (contents_in m.lists))) m) refl) ∙ were s
 works_sound m seat (kind.Hold low high) outcome whole were s = ap (λ ws. is_bad_page (slice_index_or ws s no_work).last) (unless_work m seat (Hold low high) m.stopped (do_hold m seat low high outcome) (hold_work m seat low high outcome)) ∙ were s
 works_sound m seat (kind.Next n) outcome whole were s = ap (λ ws. is_bad_page (slice_index_or ws s no_work).last) (unless_work m seat (Next n) m.stopped (do_next m seat n outcome (held_by seat m)) (next_work m seat n outcome (held_by seat m))) ∙ were s
 works_sound m seat kind.Release outcome whole were s = ap (λ ws. is_bad_page (slice_index_or ws s no_work).last) (unless_work m seat Release m.stopped (replied seat Release (answer_to_release (held_by seat m)) (holding seat None m)) refl) ∙ were s

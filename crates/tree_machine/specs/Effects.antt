@@ -2,14 +2,14 @@
 use Rattle.std.specs.Prelude.{◌≡◌, ◌⊎◌, ◌+◌, ◌-◌, ℕ, Bool, true, false, Option, Some, None, IsTrue}
 use Rattle.blsm_model.specs.declared.key.Key.{Key}
 use Rattle.blsm_model.specs.declared.op.Op.{Op}
-use Rattle.blsm_model.specs.declared.op.Op.TheVariants.{Get, Hold, Next, Release}
+use Rattle.blsm_model.specs.declared.op.Op.TheVariants.{Hold, Next, Release}
 use Rattle.blsm_model.specs.declared.history.Reply.{Reply}
 use Rattle.blsm_model.specs.declared.history.Reply.TheVariants.{Done, Is, Absent, NoHold, Full, NoMemory, Fault, Damaged, Stopped}
 use Rattle.record_delta.specs.Entries.{Entries, entries_weight, up_to}
 use Rattle.tree_machine.specs.Merges.{Merge, begun}
 use Rattle.tree_machine.specs.Machine.{Machine, pass_done, deep_done}
 use Rattle.tree_machine.specs.Moves.{note, count_quantum, pass_quantum, deep_quantum}
-use Rattle.tree_machine.specs.Steps.{Outcome, Answer, Replied, Stepped, admit, get, hold, next_rows, drop_hold}
+use Rattle.tree_machine.specs.Steps.{Outcome, Answer, Replied, Stepped, admit, look, hold, next_rows, drop_hold}
 
 -- ---- refusals
 
@@ -36,7 +36,7 @@ LeavesAll m seat op made = IsTrue (is_bare (reply_of made.answer)) → made.stat
 -- Commands that are refused, or that only look, leave all but the entry: also a lookup that failed, which stops nothing.
 pub record LeaveAll (m : Machine) (seat : ℕ) (outcome : Outcome) : Type 0 where
   pub admit : (op : Op) → LeavesAll m seat op (admit m seat op outcome)
-  pub get : (key : Key) → LeavesAll m seat (Get key) (get m seat key outcome)
+  pub look : (op : Op) → LeavesAll m seat op (look m seat op outcome)
   pub hold : (low high : Key) → LeavesAll m seat (Hold low high) (hold m seat low high outcome)
   pub next : (n : ℕ) → LeavesAll m seat (Next n) (next_rows m seat n outcome)
   pub drop : LeavesAll m seat Release (drop_hold m seat)

@@ -4,6 +4,7 @@ use Rattle.std.specs.Prelude.{ℕ, ◌+◌, List, [], ◌∷◌, Option, filter,
 use Rattle.blsm_model.specs.declared.key.Key.{Key}
 use Rattle.blsm_model.specs.declared.row.Value.{Value}
 use Rattle.blsm_model.specs.declared.row.Row.{Row}
+use Rattle.blsm_model.specs.Histories.{Contents}
 use Rattle.blsm_model.specs.Keys.{in_range}
 use Rattle.blsm_model.specs.Rows.{with_value}
 use Rattle.record_delta.specs.declared.record.Rec.{Rec}
@@ -47,3 +48,6 @@ map_in lists = settled_pairs (folded_over lists.b (folded_over lists.a (folded_o
 -- its rows from low on, without high
 abbrev pub rows_in : Lists → Key → Key → List Row
 rows_in lists low high = map (λ p. record { key = p.0; value = p.1 }) (filter (λ p. in_range low high p.0) (map_in lists))
+
+abbrev pub contents_in : Lists → Contents
+contents_in lists = record { value = value_in lists; rows = rows_in lists }

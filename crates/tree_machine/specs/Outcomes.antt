@@ -43,7 +43,7 @@ reads_pages _ = false
 abbrev pub calls : Machine → ℕ → Kind → Bool
 calls m seat (kind.Admit op) = not (nat_lt (charge_limit m.gears.sizes (is_del op)) (charge m + total_weight (writes_of op)))
 calls m seat kind.Pay = owes seat (forgive seat m)
-calls m seat (kind.Get key) = true
+calls m seat (kind.Look op) = true
 calls m seat (kind.Next n) = is_some (held_by seat m)
 calls m seat kind.WorkTurn = calls_disk (work_choice m)
 calls m seat kind.WorkerTurn = not (is_closed m) && calls_disk (worker_choice m)
@@ -52,7 +52,7 @@ calls m seat _ = false
 -- a step that reads pages of the components
 abbrev pub reads : Machine → ℕ → Kind → Bool
 reads m seat kind.Pay = owes seat (forgive seat m)
-reads m seat (kind.Get key) = true
+reads m seat (kind.Look op) = true
 reads m seat (kind.Next n) = is_some (held_by seat m)
 reads m seat kind.WorkTurn = reads_pages (work_choice m)
 reads m seat kind.WorkerTurn = not (is_closed m) && reads_pages (worker_choice m)

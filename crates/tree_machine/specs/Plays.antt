@@ -1,20 +1,17 @@
 -- Lists of steps, and the states that they reach.
 use Rattle.std.specs.Prelude.{⊤, ℕ, Bool, true, false, ◌&&◌, ◌||◌, not, List, [], ◌∷◌, is_some, slice_index, if◌then◌else◌, nat_lt, nat_le, ◌==◌, fold}
-use Rattle.blsm_model.specs.Format.{most_rows}
+use Rattle.blsm_model.specs.Format.{most_rows, most_turns}
 use Rattle.blsm_model.specs.declared.room.Room.{Room}
-use Rattle.blsm_model.specs.Legal.{is_write}
+use Rattle.blsm_model.specs.Legal.{is_look, is_write}
 use Rattle.tree_machine.specs.declared.step.Kind.{Kind}
 use Rattle.tree_machine.specs.declared.step.Kind.TheVariants as kind
 use Rattle.tree_machine.specs.declared.step.Step.{Step}
 use Rattle.tree_machine.specs.Layers.{HasWay}
 use Rattle.tree_machine.specs.Stands.{WritesFit}
 use Rattle.tree_machine.specs.Machine.{Machine, WorkSoFar, is_worked, is_caller, is_worker, work_of, owes}
-use Rattle.tree_machine.specs.Steps.{Outcome, Stepped, admit, pay, get, hold, next_rows, drop_hold, work_turn, work_end, worker_turn, leave}
+use Rattle.tree_machine.specs.Steps.{Outcome, Stepped, admit, pay, look, hold, next_rows, drop_hold, work_turn, work_end, worker_turn, leave}
 
 -- ---- when a step may be made
-
-abbrev pub most_turns : ℕ
-most_turns = 100000
 
 -- the seat has room for one entry more, and for so many rows
 abbrev pub has_room : Room → ℕ → ℕ → Bool
@@ -39,7 +36,7 @@ is_finished n work = (work.turns == n) || (nat_lt 0 work.turns && nat_lt work.tu
 abbrev pub may : Machine → ℕ → Kind → Bool
 may m seat (kind.Admit op) = is_write op && may_note seat 0 m && is_even seat m
 may m seat kind.Pay = is_caller seat
-may m seat (kind.Get key) = may_note seat 0 m
+may m seat (kind.Look op) = is_look op && may_note seat 0 m
 may m seat (kind.Hold low high) = may_note seat 0 m
 may m seat (kind.Next n) = may_note seat n m && nat_lt 0 n && nat_le n most_rows
 may m seat kind.Release = may_note seat 0 m
@@ -61,7 +58,7 @@ may_step m step = may m step.seat step.kind
 abbrev pub stepped_as : Machine → ℕ → Kind → Outcome → Stepped
 stepped_as m seat (kind.Admit op) outcome = admit m seat op outcome
 stepped_as m seat kind.Pay outcome = pay m seat outcome
-stepped_as m seat (kind.Get key) outcome = get m seat key outcome
+stepped_as m seat (kind.Look op) outcome = look m seat op outcome
 stepped_as m seat (kind.Hold low high) outcome = hold m seat low high outcome
 stepped_as m seat (kind.Next n) outcome = next_rows m seat n outcome
 stepped_as m seat kind.Release outcome = drop_hold m seat

@@ -7,7 +7,7 @@ use Rattle.blsm_model.specs.declared.key.Key.{Key}
 use Rattle.blsm_model.specs.declared.row.Row.{Row}
 use Rattle.blsm_model.specs.declared.op.Write.{Write}
 use Rattle.blsm_model.specs.declared.op.Op.{Op}
-use Rattle.blsm_model.specs.declared.op.Op.TheVariants.{Get, Hold, Next, Release, Work}
+use Rattle.blsm_model.specs.declared.op.Op.TheVariants.{Hold, Next, Release, Work}
 use Rattle.blsm_model.specs.declared.history.Why.{Why}
 use Rattle.blsm_model.specs.declared.history.Why.TheVariants as why
 use Rattle.blsm_model.specs.declared.history.Reply.{Reply}
@@ -15,10 +15,10 @@ use Rattle.blsm_model.specs.declared.history.Reply.TheVariants.{Done, Held, Rows
 use Rattle.blsm_model.specs.declared.history.Entry.{Entry}
 use Rattle.blsm_model.specs.Book.{counted_up}
 use Rattle.blsm_model.specs.Geometry.{charge_limit}
-use Rattle.blsm_model.specs.Histories.{is_done, writes_of, answer_to_get, answer_to_release}
+use Rattle.blsm_model.specs.Histories.{is_done, writes_of, answer_to_look, answer_to_release}
 use Rattle.blsm_model.specs.Legal.{is_write, total_weight, is_del}
 use Rattle.record_delta.specs.Entries.{entries_weight}
-use Rattle.tree_machine.specs.Lists.{memory_weight, value_in, rows_in}
+use Rattle.tree_machine.specs.Lists.{contents_in, memory_weight, rows_in}
 use Rattle.gear_sched.specs.Gears.{forgiven, deep_is_behind, plan_for, first_debt, second_debt}
 use Rattle.gear_sched.specs.declared.Plan.{Plan}
 use Rattle.gear_sched.specs.declared.Plan.TheVariants.{Snow, Deep, Nothing}
@@ -154,9 +154,9 @@ reply_unless (FailedAfter commits faults) reply = Fault
 reply_unless (Broken page) reply = Damaged page
 reply_unless _ reply = reply
 
-abbrev pub get : Machine → ℕ → Key → Outcome → Stepped
-get m seat key outcome =
-    unless_stopped m.stopped seat (Get key) m (replied seat (Get key) (reply_unless outcome (answer_to_get (value_in m.lists key))) m)
+abbrev pub look : Machine → ℕ → Op → Outcome → Stepped
+look m seat op outcome =
+    unless_stopped m.stopped seat op m (replied seat op (reply_unless outcome (answer_to_look op (contents_in m.lists))) m)
 
 -- the seat's rows to come
 abbrev pub holding : ℕ → Option (List Row) → Machine → Machine

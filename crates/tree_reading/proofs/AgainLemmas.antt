@@ -1,5 +1,5 @@
 -- A second walk over a component that didn't read: its pages' entries and weight are below all bounds, so it stops at the first damaged page.
-use Rattle.std.proofs.Common.{◌≡◌, ◌⊎◌, ℕ, zero, ◌+◌, ◌*◌, ◌^◌, ◌<◌, ◌≤◌, List, [], ◌∷◌, ◌++◌, length, refl, ap, sym, subst, ◌∙◌, arith, inl, inr, ⊎_elim, Bool, Option, Some, None, Result, Ok, Err, append-nil, append_assoc, length-append}
+use Rattle.std.proofs.Common.{◌≡◌, ◌⊎◌, ℕ, zero, ◌+◌, ◌*◌, ◌^◌, ◌<◌, ◌≤◌, List, [], ◌∷◌, ◌++◌, length, ap, sym, subst, ◌∙◌, arith, inl, inr, ⊎_elim, Bool, Option, Some, None, Result, Ok, Err, append-nil, append_assoc, length-append}
 use Rattle.std.proofs.lemmas.Grind.{common_steps}
 use Rattle.std.proofs.lemmas.Bool.Decides.{nat_tests}
 use Rattle.std.specs.Prelude.{nat_eq, IsSome, IsErr, IfErr}
@@ -32,20 +32,14 @@ pub record HoldLittle (entries : Entries) (pages : ℕ) : Type 0 where
   pub light : entries_weight entries ≤ most_used * pages
 
 page_holds : (pages : ℕ) (next : Option ℕ) (es : Entries) (bytes : List ℕ) → IsPageOf pages next es bytes → HoldLittle es 1
-page_holds pages next es bytes page = record {
-  few = omega (arith, page.content.head.fits, few_entries es page.content.each);
-  light = omega (arith, page.content.head.fits, weight_is_length es);
-}
+page_holds pages next es bytes h1 = grind (arith, common_steps, nat_tests, few_entries, weight_is_length)
 
 chain_holds : (sizes : Sizes) (ps : List RunPage) (end : Option ℕ) (file : List ℕ) → AreChained sizes ps end file → HoldLittle (entries_of ps) (length ps)
 chain_holds sizes [] end file chained = record { few = omega arith; light = omega arith }
 chain_holds sizes (p ∷ ps) end file chained =
     let one = page_holds (page_count sizes) (first_number ps end) p.entries _ chained.1 in
     let more = chain_holds sizes ps end file chained.2 in
-    record {
-      few = omega (arith, one.few, more.few, length-append p.entries (entries_of ps));
-      light = omega (arith, one.light, more.light, weight_join p.entries (entries_of ps));
-    }
+    grind (arith, common_steps, nat_tests, length-append p.entries (entries_of ps), weight_join p.entries (entries_of ps))
 
 -- ---- a page that goes on
 
@@ -55,11 +49,7 @@ goes_on_within : (sizes : Sizes) (run : Component) (only : Bool) (pages : List R
 goes_on_within sizes run only pages end n next es file small chained more go =
     let before = chain_holds sizes pages end file chained in
     let this = page_holds (page_count sizes) next es _ go.valid in
-    record {
-      goes_on = record { inside = go.inside; valid = go.valid; rise = go.rise; follows = go.follows; all = λ last. absurd (omega (arith, last, more)); allowed = go.allowed };
-      few = omega (arith, before.few, this.few, more, small);
-      light = omega (arith, before.light, this.light, more, small);
-    }
+    grind (arith, common_steps, nat_tests)
 
 none_next : (next : Option ℕ) → (IsSome next → ⊥) → next ≡ None
 none_next next h1 = grind (arith, common_steps, nat_tests)
@@ -99,9 +89,7 @@ reads_whole sizes run only earlier pages n next es file b not last go = record {
     joined = entries_join pages (p ∷ []) ∙ ap (λ (l : Entries). entries_of pages ++ l) (append-nil es)
 
     apart : IsDistinct nat_eq (earlier ++ numbers_of (pages ++ p ∷ []))
-    apart =
-        subst (λ (l : List ℕ). IsDistinct nat_eq l) (append_assoc earlier (numbers_of pages) (n ∷ []) ∙ ap (λ (l : List ℕ). earlier ++ l) (sym (numbers_push pages p)))
-        (distinct_push (earlier ++ numbers_of pages) n b.apart not)
+    apart = grind (arith, common_steps, nat_tests, append_assoc, numbers_push, p, distinct_push)
 
 -- ---- where the walks stop
 
@@ -130,14 +118,7 @@ stop_is_damage sizes run only earlier named n file few small first d = record {
 }
   where
     begins : BeginsWith sizes run only earlier d.pages n file
-    begins = record {
-      first_is = d.begins.first_is;
-      chained = d.begins.chained;
-      rise = d.begins.rise;
-      apart = d.begins.apart;
-      allowed = d.begins.allowed;
-      pages_few = d.begins.pages_few;
-    }
+    begins = grind (arith, common_steps, nat_tests)
 
     goes : (next : Option ℕ) (es : Entries) → (Contains (earlier ++ numbers_of d.pages) n → ⊥) → GoesOnBehind sizes run only d.pages n next es file → ⊥
     goes next es not go =
@@ -165,5 +146,4 @@ again_ends sizes run only earlier role named old new file small walked = no_end 
 -- a refusal's word is the answer's
 pub refused_tells : (sizes : Sizes) (run : Component) (only : Bool) (earlier : List ℕ) (role : ℕ) (old new : SpaceState) (bytes file : List ℕ) (r : Result (Unit {0}) Broken) → bytes ≡ file → IsErr r
     → IfErr r (λ broken. TellsBroken sizes run only earlier bytes broken) → TellsPages sizes run only earlier role old new file r
-refused_tells sizes run only earlier role old new bytes file (Ok done) same refused tells = absurd (false≢true refused)
-refused_tells sizes run only earlier role old new bytes file (Err broken) same refused tells = subst (λ (b : List ℕ). TellsBroken sizes run only earlier b broken) same tells
+refused_tells sizes run only earlier role old new bytes file r h1 h2 h3 = grind (arith, common_steps, nat_tests)

@@ -1,5 +1,8 @@
 -- The walks over three components, one behind the other.
-use Rattle.std.proofs.Common.{◌≡◌, ◌⊎◌, ◌≢◌, ◌↔◌, ℕ, List, [], ◌++◌, refl, ap, sym, subst, ◌∙◌, arith, inr, ⊎_elim, Bool, true, false, Result, Err}
+use Rattle.std.proofs.lemmas.Bool.Decides.{nat_tests}
+use Rattle.std.proofs.lemmas.Grind.{common_steps}
+use Rattle.std.proofs.Common.{◌≡◌, ◌⊎◌, ◌≢◌, ◌↔◌, ℕ, List, [], ◌++◌, refl, sym, subst, ◌∙◌, arith, ⊎_elim, Bool, true, false, Result, Err}
+use mathlib.Core.Path.{subst₂}
 use Rattle.std.specs.List.{Contains}
 use Rattle.blsm_model.specs.declared.component.Component.{Component}
 use Rattle.blsm_model.specs.Sizes.{Sizes}
@@ -40,10 +43,7 @@ none_in_third pages tag k first second third is one two differs too has = none_i
 
 tag_is : (tag k : ℕ) (old new last : SpaceState) (numbers : List ℕ) → pages_with last tag ≡ pages_with new tag → (HasRole old tag k → ⊥) → HasRole new tag k ↔ (HasRole old tag k ⊎ Contains numbers k)
     → HasRole last tag k ↔ Contains numbers k
-tag_is tag k old new last numbers same not tags = (
-  λ has. ⊎_elim (λ was. absurd (not was)) (λ among. among) (tags.0 (subst (λ (set : Members). IsIn set k) same has)),
-  λ among. subst (λ (set : Members). IsIn set k) (sym same) (tags.1 (inr among)),
-)
+tag_is tag k old new last numbers h1 h2 h3 = grind (arith, common_steps, nat_tests)
 
 pub tagged_of : (sizes : Sizes) (catalogue : Catalog) (first second third last : SpaceState) (file : List ℕ) → first ≡ unused (page_count sizes) → TakesFree 0 catalogue.c1.pages first second
     → TakesFree 1 catalogue.c1x.pages second third → TakesFree 2 catalogue.c2.pages third last → (c1 : IsWalked sizes catalogue.c1 false [] 0 first second file)
@@ -61,23 +61,18 @@ tagged_of sizes catalogue first second third last file is one two three c1 c1x c
 
 -- ---- answers
 
-pub walked_in : (sizes : Sizes) (run : Component) (only : Bool) (earlier : List ℕ) (tag is_tag : ℕ) (old new : SpaceState) (bytes file : List ℕ) → tag ≡ is_tag → bytes ≡ file
+pub walked_in : {sizes : Sizes} {run : Component} {only : Bool} {earlier : List ℕ} {tag is_tag : ℕ} {old new : SpaceState} {bytes file : List ℕ} → tag ≡ is_tag → bytes ≡ file
     → IsWalked sizes run only earlier tag old new bytes → IsWalked sizes run only earlier is_tag old new file
-walked_in sizes run only earlier tag is_tag old new bytes file is same walked =
-    subst (λ t. IsWalked sizes run only earlier t old new file) is (subst (λ (b : List ℕ). IsWalked sizes run only earlier tag old new b) same walked)
+walked_in {sizes} {run} {only} {earlier} {old = old} {new} is same walked = subst₂ (λ t (b : List ℕ). IsWalked sizes run only earlier t old new b) is same walked
 
 pub damaged_in : (sizes : Sizes) (run : Component) (only : Bool) (earlier : List ℕ) (tag : ℕ) (old new : SpaceState) (bytes file : List ℕ) (broken : Broken) → bytes ≡ file
     → TellsPages sizes run only earlier tag old new bytes (Err broken) → (n : ℕ) → broken ≡ Damaged n → IsDamagedPage sizes run only earlier n file
-damaged_in sizes run only earlier tag old new bytes file broken same tells n is =
-    subst (λ (b : List ℕ). IsDamagedPage sizes run only earlier n b) same (subst (λ (w : Broken). TellsPages sizes run only earlier tag old new bytes (Err w)) is tells)
+damaged_in sizes run only earlier tag old new bytes file broken h1 h2 n h3 = grind (arith, common_steps, nat_tests)
 
-pub tells_run : (sizes : Sizes) (catalogue : Catalog) (space : SpaceState) (file : List ℕ) (r : Result (Unit {0}) Broken) (broken : Broken) → r ≡ Err broken
+pub tells_run : {sizes : Sizes} {catalogue : Catalog} (space : SpaceState) {file : List ℕ} {r : Result (Unit {0}) Broken} {broken : Broken} → r ≡ Err broken
     → ((n : ℕ) → broken ≡ Damaged n → IsDamagedRun sizes catalogue n file) → TellsComponents sizes catalogue space file r
-tells_run sizes catalogue space file r broken is damage = subst (λ (x : Result (Unit {0}) Broken). TellsComponents sizes catalogue space file x) (sym is) (told broken damage)
+tells_run {sizes} {catalogue} space {file} {broken = broken} is damage = subst (λ (x : Result (Unit {0}) Broken). TellsComponents sizes catalogue space file x) (sym is) (told broken damage)
   where
     told : (b : Broken) → ((n : ℕ) → b ≡ Damaged n → IsDamagedRun sizes catalogue n file) → TellsComponents sizes catalogue space file (Err b)
     told Fault run = tt
     told (Damaged n) run = run n refl
-
-pub same_answer : (r a : Result (Unit {0}) Broken) (p b : Broken) → r ≡ Err p → p ≡ b → a ≡ Err b → r ≡ a
-same_answer r a p b is same was = is ∙ ap Err same ∙ sym was

@@ -1,17 +1,25 @@
 -- What an answer tells of the count of faults, through an answer of another type, and behind calls that didn't fail.
-use Rattle.std.proofs.Common.{◌≡◌, ◌∙◌, ap, sym, subst, Result, Ok, Err}
+use Rattle.std.proofs.lemmas.Bool.Decides.{nat_tests}
+use Rattle.std.proofs.lemmas.Grind.{common_steps}
+use Rattle.std.proofs.Common.{◌≡◌, ◌∙◌, ap, sym, subst, Result, Ok, Err, arith}
+use Rattle.std.specs.Result.{IsErrAnd}
+use Rattle.std.proofs.lemmas.Result.{err_from_is_err_and}
 use Rattle.refusal.specs.Count.{HasRisen}
 use Rattle.disk_trait.specs.Disk.{DiskState, TellsFaultsBy}
 
 pub same_error : {A E : Type 0} (a b : E) → ◌≡◌ {A = Result A E} (Err a) (Err b) → a ≡ b
 same_error a b same = cc
 
-pub faults_as : {A B E : Type 0} {old new : DiskState} {fault : E} (r : Result A E) (a : Result B E) (p b : E) → r ≡ Err p → p ≡ b → a ≡ Err b
+-- an answer that hands another one's failure on
+pub handed_on : {A E : Type 0} {r : Result A E} {b : E} → IsErrAnd r (λ e. e ≡ b) → r ≡ Err b
+handed_on {r = r} {b} handed = let p = err_from_is_err_and r handed in p.1 ∙ ap Err p.2
+
+pub named_by : {A E : Type 0} {r : Result A E} {b named : E} → IsErrAnd r (λ e. e ≡ b) → r ≡ Err named → b ≡ named
+named_by {A} {b = b} {named} handed is = same_error {A = A} b named (sym (handed_on handed) ∙ is)
+
+pub faults_as : {A B E : Type 0} {old new : DiskState} {fault b : E} {r : Result A E} {a : Result B E} → IsErrAnd r (λ e. e ≡ b) → a ≡ Err b
     → TellsFaultsBy {R = Result B E} (Err fault) a old new → TellsFaultsBy {R = Result A E} (Err fault) r old new
-faults_as {A} {B} {fault = fault} r a p b is same was told = record {
-  stands = λ other. told.stands (λ failed. other (is ∙ ap Err (same ∙ same_error {A = B} b fault (sym was ∙ failed))));
-  failed = λ failed. told.failed (was ∙ ap Err (sym same ∙ same_error {A = A} p fault (sym is ∙ failed)));
-}
+faults_as h1 h2 h3 = grind (arith, common_steps, nat_tests)
 
 pub faults_then : {A E : Type 0} {old mid new : DiskState} {fault : E} (r : Result A E) → mid.faults ≡ old.faults → TellsFaultsBy {R = Result A E} (Err fault) r mid new
     → TellsFaultsBy {R = Result A E} (Err fault) r old new

@@ -15,6 +15,6 @@ pub within_room : (sizes : Sizes) (room : ℕ) (entries table : Entries) (end : 
 within_room sizes room entries table end is =
     subst (λ (l : Entries). entries_weight l ≤ room) (sym is.table_is) (subst (λ (l : Entries). entries_weight (replayed l) ≤ room) (all_taken entries) (is.within (length entries)))
 
-pub lane_damage : (sizes : Sizes) (lane room : ℕ) (table : Entries) (honest : Bool) (file : List ℕ) (broken : LaneBroken) (n : ℕ) → broken ≡ Damaged n → TellsReplay sizes lane room table honest file (Err broken)
+pub lane_damage : (sizes : Sizes) (lane room : ℕ) (table : Entries) (honest : Bool) (file : List ℕ) {broken : LaneBroken} (n : ℕ) → broken ≡ Damaged n → TellsReplay sizes lane room table honest file (Err broken)
     → (n ≡ lane) × (IsTrue honest → IsDamagedLane sizes lane room file)
-lane_damage sizes lane room table honest file broken n is told = subst (λ (b : LaneBroken). TellsReplay sizes lane room table honest file (Err b)) is told
+lane_damage sizes lane room table honest file n is told = subst (λ (b : LaneBroken). TellsReplay sizes lane room table honest file (Err b)) is told

@@ -1,5 +1,5 @@
 -- Chains of pages from one first page, and where one is damaged.
-use Rattle.std.proofs.Common.{◌≡◌, ◌⊎◌, ℕ, zero, suc, ◌+◌, ◌<◌, ◌≤◌, List, [], ◌∷◌, ◌++◌, length, refl, ap, sym, subst, ◌∙◌, arith, inl, inr, ⊎_elim, Bool, true, false, Option, Some, None, append_assoc, length-append}
+use Rattle.std.proofs.Common.{◌≡◌, ◌⊎◌, ◌↔◌, ℕ, ◌+◌, ◌<◌, ◌≤◌, List, [], ◌∷◌, ◌++◌, length, refl, ap, sym, subst, ◌∙◌, arith, inl, inr, ⊎_elim, Bool, true, false, Option, Some, None, append-nil, append_assoc, length-append}
 use Rattle.std.proofs.lemmas.Grind.{common_steps}
 use Rattle.std.proofs.lemmas.Bool.Decides.{nat_tests}
 use Rattle.std.specs.Prelude.{nat_eq, IsSome}
@@ -7,7 +7,7 @@ use Rattle.std.specs.List.{AllByRecursion, Contains, IsDistinct}
 use Rattle.std.specs.declared.cmp.Ordering.TheVariants.{Less}
 use Rattle.std.specs.List.Sorted.{IsStrictlySortedBy}
 use Rattle.std.proofs.lemmas.Bool.{eqb-false}
-use Rattle.std.proofs.lemmas.List.{map-append}
+use Rattle.std.proofs.lemmas.List.{map-append, nil_from_length}
 use Rattle.std.proofs.lemmas.List.Elements.{Contains-append_cases}
 use Rattle.blsm_model.specs.declared.component.Component.{Component}
 use Rattle.blsm_model.specs.declared.key.Key.{Key}
@@ -22,7 +22,7 @@ use Rattle.page_file.specs.File.{page_at}
 use Rattle.page_file.specs.Component.{RunPage, ReadsAs, AreChained, entries_of, first_number, numbers_of}
 use Rattle.page_file.proofs.PageLemmas.{page_same}
 use Rattle.page_file.proofs.ComponentLemmas.{chain_split, entries_join, weight_join}
-use Rattle.tree_reading.specs.Pages.{AreAllowed, IsDamagedPage}
+use Rattle.tree_reading.specs.Pages.{AreAllowed, GoesOnBehind, IsDamagedPage}
 use Rattle.tree_reading.specs.Walk.{IsStoppedAt}
 
 -- ---- two chains from one first page
@@ -45,6 +45,18 @@ front_of_chain sizes (p ∷ ps) (q ∷ qs) end other file few c d first =
       | inl more ↦ inl (record { rest = more.rest; parts = (λ i. sym same i ∷ more.parts i); on = more.on })
       | inr more ↦ inr (record { rest = more.rest; parts = (λ i. same i ∷ more.parts i); on = more.on })
     ]
+
+-- and they are the same, where they are as long
+pub same_pages : (sizes : Sizes) (ps qs : List RunPage) (end other : Option ℕ) (file : List ℕ) → page_count sizes ≤ no_page → AreChained sizes ps end file → AreChained sizes qs other file
+    → page_number (first_number ps end) ≡ page_number (first_number qs other) → length ps ≡ length qs → ps ≡ qs
+same_pages sizes ps qs end other file few c d first long =
+    elim (front_of_chain sizes ps qs end other file few c d first) [
+      | inl b ↦ sym (b.parts ∙ none_behind ps b.rest (ap (λ (l : List RunPage). length l) (sym b.parts) ∙ sym long))
+      | inr b ↦ b.parts ∙ none_behind qs b.rest (ap (λ (l : List RunPage). length l) (sym b.parts) ∙ long)
+    ]
+  where
+    none_behind : (xs rest : List RunPage) → length (xs ++ rest) ≡ length xs → xs ++ rest ≡ xs
+    none_behind xs rest is = ap (λ (l : List RunPage). xs ++ l) (nil_from_length rest (omega (arith, is, length-append xs rest))) ∙ append-nil xs
 
 pub is_some : (end : Option ℕ) (n : ℕ) → page_number end ≡ n → n < no_page → end ≡ Some n
 is_some end n h1 h2 = grind (arith, common_steps, nat_tests)
@@ -102,14 +114,37 @@ unfolding IsDistinct
 distinct_back [] ys apart = apart
 distinct_back (x ∷ xs) ys apart = distinct_back xs ys apart.1
 
+-- ---- a page that others are read behind
+
+-- it goes on behind those before it, and isn't met earlier
+goes_behind : (sizes : Sizes) (run : Component) (only : Bool) (earlier : List ℕ) (n : ℕ) (ps rest qs : List RunPage) (p : RunPage) (end : Option ℕ) (file : List ℕ) → qs ≡ ps ++ p ∷ rest → p.number ≡ n
+    → AreChained sizes qs end file → AreRising (entries_of qs) → IsDistinct nat_eq (earlier ++ numbers_of qs) → AreAllowed only (entries_of qs) → IsSome (first_number rest end) ↔ (length ps + 1 < run.pages)
+    → (length ps + 1 ≡ run.pages → (length (entries_of ps) + length p.entries ≡ run.entries) × (entries_weight (entries_of ps) + entries_weight p.entries ≡ run.weight))
+    → (Contains (earlier ++ numbers_of ps) n → ⊥) × GoesOnBehind sizes run only ps n (first_number rest end) p.entries file
+goes_behind sizes run only earlier n ps rest qs p end file parts number chained rise apart allowed follows all =
+    let joined : entries_of qs ≡ entries_of ps ++ (p.entries ++ entries_of rest) = ap entries_of parts ∙ entries_join ps (p ∷ rest) in
+    let here = (chain_split sizes ps (p ∷ rest) end file (subst (λ (l : List RunPage). AreChained sizes l end file) parts chained)).1 in
+    subst (λ k. (Contains (earlier ++ numbers_of ps) k → ⊥) × GoesOnBehind sizes run only ps k (first_number rest end) p.entries file) number (
+      distinct_behind (earlier ++ numbers_of ps) p.number (numbers_of rest)
+          (subst (λ (l : List ℕ). IsDistinct nat_eq l)
+          (ap (λ (l : List ℕ). earlier ++ l) (ap numbers_of parts ∙ map-append (λ (q : RunPage). q.number) ps (p ∷ rest)) ∙ sym (append_assoc earlier (numbers_of ps) (numbers_of (p ∷ rest)))) apart),
+      record {
+        inside = here.0;
+        valid = here.1;
+        rise = rise_front (entries_of ps ++ p.entries) (entries_of rest) (subst AreRising (joined ∙ sym (append_assoc (entries_of ps) p.entries (entries_of rest))) rise);
+        follows = follows;
+        all = all;
+        allowed = allowed_front only p.entries (entries_of rest) (allowed_back only (entries_of ps) (p.entries ++ entries_of rest) (subst (λ (l : Entries). AreAllowed only l) joined allowed));
+      },
+    )
+
 -- ---- a component that reads stops no walk, and has no damaged page
 
 some_first : (ps : List RunPage) → IsSome (first_number ps None) → 0 < length ps
 some_first ps h1 = grind (arith, common_steps, nat_tests)
 
 first_some : (ps : List RunPage) → 0 < length ps → IsSome (first_number ps None)
-first_some [] some = absurd (omega (arith, some))
-first_some (p ∷ ps) some = refl
+first_some ps h1 = grind (arith, common_steps, nat_tests)
 
 pub no_stopped_page : (sizes : Sizes) (run : Component) (only : Bool) (earlier : List ℕ) (n : ℕ) (qs : List RunPage) (file : List ℕ) → page_count sizes ≤ no_page → ReadsAs sizes run qs file
     → IsDistinct nat_eq (earlier ++ numbers_of qs) → AreAllowed only (entries_of qs) → IsStoppedAt sizes run only earlier n file → ⊥
@@ -119,49 +154,21 @@ no_stopped_page sizes run only earlier n qs file few reads apart allowed d =
       | inr b ↦ omega (arith, d.more, reads.pages_is, ap (λ (l : List RunPage). length l) b.parts, length-append qs b.rest)
     ]
   where
-    no_rest : (rest : List RunPage) → length rest ≡ 0 → rest ≡ []
-    no_rest rest h1 = grind (arith, common_steps, nat_tests)
-
     behind : (rest : List RunPage) → qs ≡ d.pages ++ rest → page_number (first_number rest None) ≡ n → ⊥
     behind [] parts on = omega (arith, d.more, reads.pages_is, ap (λ (l : List RunPage). length l) parts, length-append {A = RunPage} d.pages [])
     behind (p ∷ rest) parts on =
-        let number : p.number ≡ n = on in
-        let chained = chain_split sizes d.pages (p ∷ rest) None file (subst (λ (l : List RunPage). AreChained sizes l None file) parts reads.chained) in
         let joined : entries_of qs ≡ entries_of d.pages ++ (p.entries ++ entries_of rest) = ap entries_of parts ∙ entries_join d.pages (p ∷ rest) in
-        let grouped : entries_of qs ≡ (entries_of d.pages ++ p.entries) ++ entries_of rest = joined ∙ sym (append_assoc (entries_of d.pages) p.entries (entries_of rest)) in
         let many : length qs ≡ length d.pages + (1 + length rest) = omega (arith, ap (λ (l : List RunPage). length l) parts, length-append d.pages (p ∷ rest)) in
         let counts : length (entries_of qs) ≡ length (entries_of d.pages) + (length p.entries + length (entries_of rest)) =
         ap (λ (l : Entries). length l) joined ∙ length-append (entries_of d.pages) (p.entries ++ entries_of rest) ∙ ap (λ k. length (entries_of d.pages) + k) (length-append p.entries (entries_of rest)) in
         let weighs : entries_weight (entries_of qs) ≡ entries_weight (entries_of d.pages) + (entries_weight p.entries + entries_weight (entries_of rest)) =
         ap entries_weight joined ∙ weight_join (entries_of d.pages) (p.entries ++ entries_of rest) ∙ ap (λ k. entries_weight (entries_of d.pages) + k) (weight_join p.entries (entries_of rest)) in
-        elim d.stopped [
-          | inl met ↦
-              distinct_behind (earlier ++ numbers_of d.pages) n (numbers_of rest)
-              (subst (λ (l : List ℕ). IsDistinct nat_eq l)
-              (ap (λ (l : List ℕ). earlier ++ l) (ap numbers_of parts ∙ map-append (λ (q : RunPage). q.number) d.pages (p ∷ rest)) ∙ sym (append_assoc earlier (numbers_of d.pages) (numbers_of (p ∷ rest)))
-              ∙ ap (λ k. (earlier ++ numbers_of d.pages) ++ k ∷ numbers_of rest) number)
-              apart)
-              met
-          | inr none ↦
-              none (first_number rest None) p.entries
-              (record {
-                goes_on = record {
-                  inside = subst (λ k. k < page_count sizes) number chained.1.0;
-                  valid = subst (λ k. IsPageOf (page_count sizes) (first_number rest None) p.entries (page_at sizes k file)) number chained.1.1;
-                  rise = rise_front (entries_of d.pages ++ p.entries) (entries_of rest) (subst AreRising grouped reads.rise);
-                  follows = (
-                    λ some. omega (arith, some_first rest some, many, reads.pages_is),
-                    λ lt. first_some rest (omega (arith, lt, many, reads.pages_is)),
-                  );
-                  all = λ last.
-                      let bare : rest ≡ [] = no_rest rest (omega (arith, last, many, reads.pages_is)) in
-                      (omega (arith, counts, reads.entries_is, ap (λ (l : List RunPage). length (entries_of l)) bare), omega (arith, weighs, reads.weight_is, ap (λ (l : List RunPage). entries_weight (entries_of l)) bare));
-                  allowed = allowed_front only p.entries (entries_of rest) (allowed_back only (entries_of d.pages) (p.entries ++ entries_of rest) (subst (λ (l : Entries). AreAllowed only l) joined allowed));
-                };
-                few = omega (arith, counts, reads.entries_is);
-                light = omega (arith, weighs, reads.weight_is);
-              })
-        ]
+        let here = goes_behind sizes run only earlier n d.pages rest qs p None file parts on reads.chained reads.rise apart allowed
+        (λ some. omega (arith, some_first rest some, many, reads.pages_is), λ lt. first_some rest (omega (arith, lt, many, reads.pages_is)))
+        (λ last.
+        let bare : rest ≡ [] = nil_from_length rest (omega (arith, last, many, reads.pages_is)) in
+        (omega (arith, counts, reads.entries_is, ap (λ (l : List RunPage). length (entries_of l)) bare), omega (arith, weighs, reads.weight_is, ap (λ (l : List RunPage). entries_weight (entries_of l)) bare))) in
+        ⊎_elim here.0 (λ none. none _ _ (record { goes_on = here.1; few = omega (arith, counts, reads.entries_is); light = omega (arith, weighs, reads.weight_is) })) d.stopped
 
 pub no_damaged_page : (sizes : Sizes) (run : Component) (only : Bool) (earlier : List ℕ) (n : ℕ) (qs : List RunPage) (file : List ℕ) → page_count sizes ≤ no_page → ReadsAs sizes run qs file
     → IsDistinct nat_eq (earlier ++ numbers_of qs) → AreAllowed only (entries_of qs) → IsDamagedPage sizes run only earlier n file → ⊥
@@ -171,50 +178,23 @@ no_damaged_page sizes run only earlier n qs file few reads apart allowed d =
 
 -- ---- no two pages are damaged
 
--- a page that others were read behind goes on
-behind_damaged : (sizes : Sizes) (run : Component) (only : Bool) (earlier : List ℕ) (m n : ℕ) (file : List ℕ) (c : IsDamagedPage sizes run only earlier m file) (d : IsDamagedPage sizes run only earlier n file)
-    (p : RunPage) (rest : List RunPage) → d.pages ≡ c.pages ++ p ∷ rest → p.number ≡ m → ⊥
-behind_damaged sizes run only earlier m n file c d p rest parts number =
-    let chained = chain_split sizes c.pages (p ∷ rest) (Some n) file (subst (λ (l : List RunPage). AreChained sizes l (Some n) file) parts d.begins.chained) in
-    let joined : entries_of d.pages ≡ entries_of c.pages ++ (p.entries ++ entries_of rest) = ap entries_of parts ∙ entries_join c.pages (p ∷ rest) in
-    let grouped : entries_of d.pages ≡ (entries_of c.pages ++ p.entries) ++ entries_of rest = joined ∙ sym (append_assoc (entries_of c.pages) p.entries (entries_of rest)) in
+-- the one comes behind the pages that were read before the other
+one_behind : (sizes : Sizes) (run : Component) (only : Bool) (earlier : List ℕ) (m n : ℕ) (file : List ℕ) (c : IsDamagedPage sizes run only earlier m file) (d : IsDamagedPage sizes run only earlier n file)
+    (rest : List RunPage) → d.pages ≡ c.pages ++ rest → page_number (first_number rest (Some n)) ≡ m → n ≡ m
+one_behind sizes run only earlier m n file c d [] parts on = on
+one_behind sizes run only earlier m n file c d (p ∷ rest) parts on =
     let many : length d.pages ≡ length c.pages + (1 + length rest) = omega (arith, ap (λ (l : List RunPage). length l) parts, length-append c.pages (p ∷ rest)) in
-    elim c.damaged [
-      | inl met ↦
-          distinct_behind (earlier ++ numbers_of c.pages) m (numbers_of rest)
-          (subst (λ (l : List ℕ). IsDistinct nat_eq l)
-          (ap (λ (l : List ℕ). earlier ++ l) (ap numbers_of parts ∙ map-append (λ (q : RunPage). q.number) c.pages (p ∷ rest)) ∙ sym (append_assoc earlier (numbers_of c.pages) (numbers_of (p ∷ rest)))
-          ∙ ap (λ k. (earlier ++ numbers_of c.pages) ++ k ∷ numbers_of rest) number)
-          d.begins.apart)
-          met
-      | inr none ↦
-          none (first_number rest (Some n)) p.entries
-          (record {
-            inside = subst (λ k. k < page_count sizes) number chained.1.0;
-            valid = subst (λ k. IsPageOf (page_count sizes) (first_number rest (Some n)) p.entries (page_at sizes k file)) number chained.1.1;
-            rise = rise_front (entries_of c.pages ++ p.entries) (entries_of rest) (subst AreRising grouped d.begins.rise);
-            follows = (λ some. omega (arith, many, d.more), λ lt. some_named rest);
-            all = λ last. absurd (omega (arith, last, many, d.more));
-            allowed = allowed_front only p.entries (entries_of rest) (allowed_back only (entries_of c.pages) (p.entries ++ entries_of rest) (subst (λ (l : Entries). AreAllowed only l) joined d.begins.allowed));
-          })
-    ]
+    let here = goes_behind sizes run only earlier m c.pages rest d.pages p (Some n) file parts on d.begins.chained d.begins.rise d.begins.apart d.begins.allowed
+    (λ some. omega (arith, many, d.more), λ lt. some_named rest) (λ last. absurd (omega (arith, last, many, d.more))) in
+    absurd (⊎_elim here.0 (λ none. none _ _ here.1) c.damaged)
   where
     some_named : (ps : List RunPage) → IsSome (first_number ps (Some n))
-    some_named [] = refl
-    some_named (q ∷ ps) = refl
+    some_named ps = grind (arith, common_steps, nat_tests)
 
 pub one_damaged_page : (sizes : Sizes) (run : Component) (only : Bool) (earlier : List ℕ) (m n : ℕ) (file : List ℕ) → page_count sizes ≤ no_page → IsDamagedPage sizes run only earlier m file
     → IsDamagedPage sizes run only earlier n file → m ≡ n
 one_damaged_page sizes run only earlier m n file few c d =
     elim (front_of_chain sizes c.pages d.pages (Some m) (Some n) file few c.begins.chained d.begins.chained (c.begins.first_is ∙ sym d.begins.first_is)) [
-      | inl b ↦ first b.rest b.parts b.on
-      | inr b ↦ second b.rest b.parts b.on
+      | inl b ↦ sym (one_behind sizes run only earlier m n file c d b.rest b.parts b.on)
+      | inr b ↦ one_behind sizes run only earlier n m file d c b.rest b.parts b.on
     ]
-  where
-    first : (rest : List RunPage) → d.pages ≡ c.pages ++ rest → page_number (first_number rest (Some n)) ≡ m → m ≡ n
-    first [] parts on = sym on
-    first (p ∷ rest) parts on = absurd (behind_damaged sizes run only earlier m n file c d p rest parts on)
-
-    second : (rest : List RunPage) → c.pages ≡ d.pages ++ rest → page_number (first_number rest (Some m)) ≡ n → m ≡ n
-    second [] parts on = on
-    second (p ∷ rest) parts on = absurd (behind_damaged sizes run only earlier n m file d c p rest parts on)

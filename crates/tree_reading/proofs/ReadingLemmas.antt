@@ -1,14 +1,14 @@
 -- What was found of a store is a tree that fits.
-use Rattle.std.proofs.Common.{◌≡◌, ℕ, ◌+◌, ◌-◌, ◌≤◌, List, Bool, IsTrue, take, refl, sym, subst, arith, Result, Ok, Err, IfOk}
+use Rattle.std.proofs.lemmas.Bool.Decides.{nat_tests}
+use Rattle.std.proofs.lemmas.Grind.{common_steps}
+use Rattle.std.proofs.Common.{◌≡◌, ℕ, ◌+◌, ◌-◌, ◌≤◌, List, Bool, IsTrue, take, refl, subst, arith, Result, IfOk}
 use Rattle.std.specs.Prelude.{min}
 use Rattle.disk_trait.specs.Disk.{DiskState}
-use Rattle.disk_trait.specs.Reads.{only_reads_wider}
+use Rattle.disk_trait.proofs.ReadLemmas.{only_reads_wider}
 use Rattle.blsm_model.specs.Sizes.{Sizes}
 use Rattle.blsm_model.specs.Geometry.{capacity, high_mark}
-use Rattle.blsm_model.specs.Lanes.{a_of, b_of}
 use Rattle.record_delta.specs.Entries.{Entries, entries_weight, replayed}
 use Rattle.catalog_swap.specs.declared.catalog.Catalog.{Catalog}
-use Rattle.gated_log.specs.Lane.{HasEntries}
 use Rattle.tree_reading.specs.declared.found.Found.{Found}
 use Rattle.tree_reading.specs.declared.lane.LaneEnd.{LaneEnd}
 use Rattle.tree_reading.specs.Damage.{HasCatalogue, catalogue_weight}
@@ -17,8 +17,7 @@ use Rattle.tree_reading.proofs.LanesLemmas.{within_room}
 
 -- what holds at all is so of each value of Ok
 pub on_any_ok : {A E : Type 0} {P : Type 0} (r : Result A E) → P → IfOk r (λ a. P)
-on_any_ok (Ok a) holds = holds
-on_any_ok (Err e) holds = tt
+on_any_ok r h1 = grind (arith, common_steps, nat_tests)
 
 pub looked_more : {most more : Sizes → ℕ} {old new : DiskState} → ((s : Sizes) → most s ≤ more s) → HasLooked most old new → HasLooked more old new
 looked_more less (at_superblock reads) = at_superblock reads
@@ -82,18 +81,9 @@ fits_found found honest file sure is has tagged =
 pub replayed_at : (sizes : Sizes) (catalogue : Catalog) (a b : Entries) (end_a end_b : LaneEnd) (at_a at_b : ℕ) (honest : Bool) (file : List ℕ) → AreReplayed sizes catalogue a b end_a end_b honest file
     → at_a ≡ end_a.place → at_b ≡ end_b.place
     → AreReplayed sizes catalogue a b (record { place = at_a; records = end_a.records }) (record { place = at_b; records = end_b.records }) honest file
-replayed_at sizes catalogue a b end_a end_b at_a at_b honest file r one two =
-    subst (λ n. AreReplayed sizes catalogue a b (record { place = n; records = end_a.records }) (record { place = at_b; records = end_b.records }) honest file) (sym one)
-    (subst (λ n. AreReplayed sizes catalogue a b end_a (record { place = n; records = end_b.records }) honest file) (sym two) r)
+replayed_at sizes catalogue a b end_a end_b at_a at_b honest file h1 h2 h3 = grind (arith, common_steps, nat_tests)
 
 -- the lanes, as an earlier state of the disk has them, which reads the same where it is honest
 pub replayed_in : (sizes : Sizes) (catalogue : Catalog) (a b : Entries) (end_a end_b : LaneEnd) (honest was : Bool) (bytes file : List ℕ) → AreReplayed sizes catalogue a b end_a end_b honest bytes
     → (IsTrue was → IsTrue honest) → (IsTrue was → bytes ≡ file) → AreReplayed sizes catalogue a b end_a end_b was file
-replayed_in sizes catalogue a b end_a end_b honest was bytes file r still same = record {
-  lane_a = r.lane_a;
-  lane_b = r.lane_b;
-  a_is = r.a_is;
-  b_is = r.b_is;
-  has_a = λ sure. subst (λ (l : List ℕ). HasEntries sizes (a_of catalogue.lanes) r.lane_a l) (same sure) (r.has_a (still sure));
-  has_b = λ sure. subst (λ (l : List ℕ). HasEntries sizes (b_of catalogue.lanes) r.lane_b l) (same sure) (r.has_b (still sure));
-}
+replayed_in sizes catalogue a b end_a end_b honest was bytes file h1 h2 h3 = grind (arith, common_steps, nat_tests)

@@ -1,5 +1,5 @@
 -- A walk over a component's pages, entry by entry.
-use Rattle.std.proofs.Common.{◌≡◌, ◌⊎◌, ◌≢◌, ◌↔◌, ℕ, zero, ◌+◌, ◌-◌, ◌*◌, ◌<◌, ◌≤◌, List, [], ◌∷◌, ◌++◌, length, refl, ap, sym, subst, ◌∙◌, arith, inl, inr, ⊎_elim, Bool, true, false, Option, Some, None, Result, Ok, Err, append-nil, append_assoc, length-append}
+use Rattle.std.proofs.Common.{◌≡◌, ◌⊎◌, ◌≢◌, ◌↔◌, ℕ, ◌+◌, ◌-◌, ◌*◌, ◌<◌, ◌≤◌, List, [], ◌∷◌, ◌++◌, length, refl, ap, sym, subst, ◌∙◌, arith, inl, inr, ⊎_elim, Bool, true, false, Option, Some, None, Err, append-nil, append_assoc, length-append}
 use Rattle.std.proofs.lemmas.Grind.{common_steps}
 use Rattle.std.proofs.lemmas.Bool.Decides.{nat_tests}
 use Rattle.std.specs.Prelude.{nat_eq, IsSome, IfSome, IfNone, ◌||◌}
@@ -7,8 +7,7 @@ use Rattle.std.specs.List.{Contains, IsDistinct, last_or, list_any}
 use Rattle.std.specs.List.Sorted.{IsStrictlySortedBy}
 use Rattle.std.proofs.lemmas.Map.Keys.{IsDistinct-push}
 use Rattle.std.proofs.lemmas.Cmp.{nat_eq_equiv}
-use Rattle.std.proofs.lemmas.Bool.{cases_lt, eqb-true, eqb-false, ne_eqb}
-use Rattle.std.proofs.lemmas.List.{map-append}
+use Rattle.std.proofs.lemmas.List.{map-append, nil_from_length}
 use Rattle.std.proofs.lemmas.List.Elements.{Contains-append_left, Contains-append_right, Contains-push, Contains-push_cases}
 use Rattle.blsm_model.specs.declared.component.Component.{Component}
 use Rattle.blsm_model.specs.declared.key.Key.{Key}
@@ -34,21 +33,14 @@ use Rattle.tree_runs.specs.Laws.{TakesFree}
 use Rattle.tree_runs.specs.Runs.{IsFilled}
 use Rattle.tree_reading.specs.Pages.{AreAllowed, BeginsWith}
 use Rattle.tree_reading.specs.Walk.{Enters, GoesOnWithin, ChangesOnly, IsEntered, IsRefused, IsStoppedAt, IsWalked, TakesUp, TellsStop, due, not_free, nowhere, on}
-use Rattle.tree_reading.proofs.PagesLemmas.{front_of_chain, is_some, allowed_back, allowed_front, distinct_front, rise_front}
+use Rattle.tree_reading.proofs.PagesLemmas.{front_of_chain, same_pages, is_some, allowed_back, allowed_front, distinct_front, rise_front}
 
 -- ---- the pages that a cursor has read
 
 -- none of them is empty, so the one that has the head is the last
 pub pages_stay : (sizes : Sizes) (run : Component) (old new : CursorState) (given more : Entries) (file : List ℕ) → page_count sizes ≤ no_page
     → (g : HasGiven sizes run old given file) → (h : HasGiven sizes run new more file) → new.pages ≡ old.pages → h.pages ≡ g.pages
-pages_stay sizes run old new given more file few g h same =
-    elim (front_of_chain sizes g.pages h.pages g.end h.end file few g.chained h.chained (g.first_is ∙ sym h.first_is)) [
-      | inl b ↦ b.parts ∙ ap (λ (l : List RunPage). g.pages ++ l) (none b.rest (omega (arith, g.pages_is, h.pages_is, same, ap (λ (l : List RunPage). length l) b.parts, length-append g.pages b.rest))) ∙ append-nil g.pages
-      | inr b ↦ sym (b.parts ∙ ap (λ (l : List RunPage). h.pages ++ l) (none b.rest (omega (arith, g.pages_is, h.pages_is, same, ap (λ (l : List RunPage). length l) b.parts, length-append h.pages b.rest))) ∙ append-nil h.pages)
-    ]
-  where
-    none : (rest : List RunPage) → length rest ≡ 0 → rest ≡ []
-    none rest h1 = grind (arith, common_steps, nat_tests)
+pages_stay sizes run old new given more file h1 g h h2 = grind (arith, common_steps, nat_tests, same_pages)
 
 -- where a page less is left, the next one was read
 pub record HasTurned (old : CursorState) (before after : List RunPage) : Type 0 where
@@ -85,9 +77,7 @@ distinct_push xs y apart not = IsDistinct-push nat_eq_equiv xs y apart (not_any 
 pub takes_push : (numbers : List ℕ) (role n : ℕ) (old new : SpaceState) → TakesUp numbers old → IsFree old n → Claims role n old new → TakesUp (numbers ++ n ∷ []) new
 takes_push numbers role n old new takes free claims = record {
   apart = distinct_push numbers n takes.apart (λ has. takes.each n has free);
-  each = λ k has now.
-      let was = (claims.free k).0 now in
-      ⊎_elim (λ before. takes.each k before was.0) (λ same. was.1 (sym same)) (Contains-push_cases numbers n k has);
+  each = λ k has now. grind (arith, common_steps, nat_tests, Contains-push_cases numbers n k has, takes.each k, claims.free k);
   others = λ k below.
       elim (same_or_not k n) [
         | inl same ↦ inr (subst (Contains (numbers ++ n ∷ [])) (sym same) (Contains-push numbers n))
@@ -111,18 +101,11 @@ pub record HasWalked (sizes : Sizes) (run : Component) (only : Bool) (earlier : 
   pub at_first : has.pages ≡ [] → page ≡ run.first
 
 pub taken_start : (earlier : List ℕ) (role page : ℕ) (space : SpaceState) → TakesUp earlier space → ArePagesTaken earlier role space [] page space
-taken_start earlier role page space takes = record {
-  takes = subst (λ (l : List ℕ). TakesUp l space) (sym (append-nil earlier)) takes;
-  tags = λ k. (inl, λ either. ⊎_elim (λ has. has) (λ none. absurd (omega (arith, none.1))) either);
-  page_is = λ last is. absurd (cc);
-}
+taken_start earlier role page space h1 = grind (arith, common_steps, nat_tests)
 
 last_push : (o : Option RunPage) (ps : List RunPage) (p : RunPage) → last_or o (ps ++ p ∷ []) ≡ Some p
 last_push o [] p = refl
 last_push o (q ∷ ps) p = last_push (Some q) ps p
-
-one_some : {a b : RunPage} → Some a ≡ Some b → a ≡ b
-one_some same = cc
 
 pub numbers_push : (ps : List RunPage) (p : RunPage) → numbers_of (ps ++ p ∷ []) ≡ numbers_of ps ++ p.number ∷ []
 numbers_push ps p = map-append (λ (q : RunPage). q.number) ps (p ∷ [])
@@ -131,19 +114,15 @@ taken_turned : (earlier : List ℕ) (role page n : ℕ) (old space now : SpaceSt
     → IsFree space n → Claims role n space now → ArePagesTaken earlier role old qs n now
 taken_turned earlier role page n old space now ps qs p was parts number free claims = record {
   takes = subst (λ (l : List ℕ). TakesUp l now) (append_assoc earlier (numbers_of ps) (n ∷ []) ∙ ap (λ (l : List ℕ). earlier ++ l) (sym numbers)) (takes_push (earlier ++ numbers_of ps) role n space now was.takes free claims);
-  tags = λ k. (
-    λ has.
-        ⊎_elim
-        (λ before. ⊎_elim (λ was_so. inl was_so) (λ among. inr (subst (λ (l : List ℕ). Contains l k) (sym numbers) (Contains-append_left (numbers_of ps) (n ∷ []) k among))) ((was.tags k).0 before))
-        (λ this. inr (subst (λ (l : List ℕ). Contains l k) (sym numbers) (subst (Contains (numbers_of ps ++ n ∷ [])) (sym this.1) (Contains-push (numbers_of ps) n))))
-        ((claims.tags role k).0 has),
-    λ either.
-        (claims.tags role k).1
-        (⊎_elim (λ was_so. inl ((was.tags k).1 (inl was_so)))
-        (λ among. ⊎_elim (λ before. inl ((was.tags k).1 (inr before))) (λ same. inr (refl, sym same)) (Contains-push_cases (numbers_of ps) n k (subst (λ (l : List ℕ). Contains l k) numbers among)))
-        either),
-  );
-  page_is = λ last is. ap (λ (q : RunPage). q.number) (one_some (sym is ∙ ap (last_or None) parts ∙ last_push None ps p)) ∙ number;
+  tags = λ k.
+      let among : Contains (numbers_of qs) k → Contains (numbers_of ps) k ⊎ (n ≡ k) = λ has. Contains-push_cases (numbers_of ps) n k (subst (λ (l : List ℕ). Contains l k) numbers has) in
+      let before : Contains (numbers_of ps) k → Contains (numbers_of qs) k = λ has. subst (λ (l : List ℕ). Contains l k) (sym numbers) (Contains-append_left (numbers_of ps) (n ∷ []) k has) in
+      let this : Contains (numbers_of qs) n = subst (λ (l : List ℕ). Contains l n) (sym numbers) (Contains-push (numbers_of ps) n) in (
+        λ has. ⊎_elim (λ was_so. ⊎_elim inl (λ first. inr (before first)) ((was.tags k).0 was_so)) (λ same. inr (subst (Contains (numbers_of qs)) (sym same.1) this)) ((claims.tags role k).0 has),
+        λ either. (claims.tags role k).1 (⊎_elim (λ old_so. inl ((was.tags k).1 (inl old_so)))
+            (λ has. ⊎_elim (λ first. inl ((was.tags k).1 (inr first))) (λ same. inr (refl, sym same)) (among has)) either),
+      );
+  page_is = λ last is. grind (arith, common_steps, nat_tests, last_push);
 }
   where
     numbers : numbers_of qs ≡ numbers_of ps ++ n ∷ []
@@ -211,17 +190,6 @@ goes_at sizes run only cursor given file next es g none more within =
       };
     }
 
--- the page that is due isn't free
-met_again : (sizes : Sizes) (run : Component) (only : Bool) (earlier : List ℕ) (role : ℕ) (old : SpaceState) (cursor : CursorState) (page n : ℕ) (space : SpaceState) (file : List ℕ) → page_count sizes ≤ no_page
-    → HasWalked sizes run only earlier role old cursor page space file → space.pages ≡ page_count sizes → cursor.behind ≡ [] → 0 < cursor.pages → n ≡ cursor.next → n < space.pages
-    → (IsFree space n → ⊥) → IsStoppedAt sizes run only earlier n file
-met_again sizes run only earlier role old cursor page n space file few w count none some next below not = record {
-  pages = w.has.pages;
-  begins = begins_at sizes run only earlier cursor w.given n file few w.has none next (omega (arith, below, count)) w.taken.takes.apart w.allowed;
-  more = omega (arith, w.has.pages_is, some);
-  stopped = inl (⊎_elim (λ free. absurd (not free)) (λ has. has) (w.taken.takes.others n below));
-}
-
 -- the page that is read next was entered
 entered_inside : (cursor : CursorState) (page role n : ℕ) (old new : SpaceState) → IsEntered cursor page role n old new → cursor.behind ≡ [] → 0 < cursor.pages → cursor.next < old.pages
 entered_inside cursor page role n old new h1 h2 h3 = grind (arith, common_steps, nat_tests)
@@ -240,15 +208,15 @@ damage_at sizes run only earlier role old cursor page m n space now file few w c
           (goes_at sizes run only cursor w.given file next es w.has damage.none_left damage.more_pages (subst (λ k. GoesOnWithin sizes run only w.has.pages k next es file) damage.is_next go)));
     }
 
--- what a list that begins as another has of that
-front_short : (xs ys gs zs : Entries) → xs ++ ys ≡ gs ++ zs → length xs ≤ length gs → (rest : Entries) × (gs ≡ xs ++ rest)
-front_short [] ys gs zs same short = (gs, refl)
-front_short (x ∷ xs) ys [] zs same short = absurd (omega (arith, short))
-front_short (x ∷ xs) ys (g ∷ gs) zs same short =
-    let first : g ≡ x = cc in
-    let back : xs ++ ys ≡ gs ++ zs = cc in
-    let more = front_short xs ys gs zs back (omega (arith, short)) in
-    (more.0, λ i. first i ∷ more.1 i)
+-- what a list has that begins as another
+allowed_short : (only : Bool) (es last given rest : Entries) → es ++ last ≡ given ++ rest → length es ≤ length given → AreAllowed only given → AreAllowed only es
+allowed_short false es last given rest same short allowed = tt
+allowed_short true [] last given rest same short allowed = tt
+allowed_short true (e ∷ es) last [] rest same short allowed = absurd (omega (arith, short))
+allowed_short true (e ∷ es) last (g ∷ given) rest same short allowed =
+    let first : g ≡ e = cc in
+    let back : es ++ last ≡ given ++ rest = cc in
+    ((subst (λ (x : Key × Rec). AreAllowed true (x ∷ [])) first (allowed.0, tt)).0, allowed_short true es last given rest back (omega (arith, short)) allowed.1)
 
 pub allowed_join : (only : Bool) (es fs : Entries) → AreAllowed only es → AreAllowed only fs → AreAllowed only (es ++ fs)
 allowed_join false es fs one other = tt
@@ -263,25 +231,19 @@ unsnoc (q ∷ l) =
       | inr some ↦ inr (q ∷ some.0, some.1, ap (λ (m : List RunPage). q ∷ m) some.2)
     ]
 
-last_whole : (ps : List RunPage) (p : RunPage) (pages : List RunPage) (given : Entries) → pages ≡ ps ++ p ∷ [] → entries_of pages ≡ given → entries_of ps ++ p.entries ≡ given
-last_whole ps p pages given parts are = sym (entries_join ps (p ∷ []) ∙ ap (λ (l : Entries). entries_of ps ++ l) (append-nil p.entries)) ∙ ap entries_of (sym parts) ∙ are
-
--- the pages before the last one have entries that were given
-allowed_before : (only : Bool) (es last given rest : Entries) → es ++ last ≡ given ++ rest → length rest ≤ length last → AreAllowed only given → AreAllowed only es
-allowed_before only es last given rest whole short allowed =
-    let front = front_short es last given rest whole (omega (arith, short, length-append es last, ap (λ (l : Entries). length l) whole, length-append given rest)) in
-    allowed_front only es front.0 (subst (λ (l : Entries). AreAllowed only l) front.1 allowed)
-
--- the last of the pages that were read stops the walk, if it doesn't go on behind the others
-last_stops : (sizes : Sizes) (run : Component) (only : Bool) (earlier : List ℕ) (role : ℕ) (old : SpaceState) (cursor : CursorState) (given : Entries) (page : ℕ) (space : SpaceState) (file : List ℕ)
+-- the last of the pages that were read stops the walk, if it doesn't go on behind the others: these have entries that were given, which the component may have
+last_stops : (sizes : Sizes) (run : Component) (only : Bool) (earlier : List ℕ) (role : ℕ) (old : SpaceState) (cursor : CursorState) (given front back : Entries) (page : ℕ) (space : SpaceState) (file : List ℕ)
     (ps : List RunPage) (p : RunPage) → page_count sizes ≤ no_page → (h : HasGiven sizes run cursor given file) → ArePagesTaken earlier role old h.pages page space → h.pages ≡ ps ++ p ∷ []
-    → AreAllowed only (entries_of ps)
-    → ((next : Option ℕ) (es : Entries) → next ≡ h.end → es ≡ p.entries → IsPageOf (page_count sizes) next es (page_at sizes page file) → GoesOnWithin sizes run only ps page next es file → ⊥)
+    → given ++ h.here ≡ front ++ back → length back ≤ length h.here + 1 → AreAllowed only front
+    → ((next : Option ℕ) (es : Entries) → next ≡ h.end → AreAllowed only (front ++ back) → IsPageOf (page_count sizes) next es (page_at sizes page file) → GoesOnWithin sizes run only ps page next es file → ⊥)
     → IsStoppedAt sizes run only earlier page file
-last_stops sizes run only earlier role old cursor given page space file ps p few h taken parts allowed not =
+last_stops sizes run only earlier role old cursor given front back page space file ps p few h taken parts split short allowed not =
     let last : last_or None h.pages ≡ Some p = ap (last_or None) parts ∙ last_push None ps p in
     let number : p.number ≡ page = taken.page_is p last in
-    let whole : entries_of ps ++ p.entries ≡ given ++ h.here = last_whole ps p h.pages (given ++ h.here) parts h.entries_are in
+    let whole : entries_of ps ++ p.entries ≡ front ++ back =
+    sym (entries_join ps (p ∷ []) ∙ ap (λ (l : Entries). entries_of ps ++ l) (append-nil p.entries)) ∙ ap entries_of (sym parts) ∙ h.entries_are ∙ split in
+    let before : AreAllowed only (entries_of ps) = allowed_short only (entries_of ps) p.entries front back whole
+    (omega (arith, short, h.on_last p last, length-append (entries_of ps) p.entries, ap (λ (l : Entries). length l) whole, length-append front back)) allowed in
     let chained = chain_split sizes ps (p ∷ []) h.end file (subst (λ (l : List RunPage). AreChained sizes l h.end file) parts h.chained) in
     let many : length h.pages ≡ length ps + 1 = omega (arith, ap (λ (l : List RunPage). length l) parts, length-append ps (p ∷ [])) in
     record {
@@ -291,18 +253,19 @@ last_stops sizes run only earlier role old cursor given page space file ps p few
             ap (λ k. page_number (first_number ps (Some k))) (sym number)
             ∙ sym (ap (λ (l : List RunPage). page_number (first_number l h.end)) parts ∙ ap page_number (first_join ps (p ∷ []) h.end)) ∙ h.first_is;
         chained = subst (λ k. AreChained sizes ps (Some k) file) number chained.0;
-        rise = rise_front (entries_of ps) p.entries (subst AreRising (sym whole) h.rise);
+        rise = rise_front (entries_of ps) p.entries (subst AreRising (sym (whole ∙ sym split)) h.rise);
         apart =
             distinct_front (earlier ++ numbers_of ps) (p.number ∷ [])
             (subst (λ (l : List ℕ). IsDistinct nat_eq l) (ap (λ (l : List ℕ). earlier ++ l) (ap numbers_of parts ∙ numbers_push ps p) ∙ sym (append_assoc earlier (numbers_of ps) (p.number ∷ []))) taken.takes.apart);
-        allowed = allowed;
+        allowed = before;
         pages_few = omega (arith, many, h.pages_is);
       };
       more = omega (arith, many, h.pages_is);
       stopped = inr (λ next es go.
           let there = subst (λ k. IsPageOf (page_count sizes) next es (page_at sizes k file)) (sym number) go.goes_on.valid in
           let same = page_same (page_count sizes) next h.end es p.entries (page_at sizes p.number file) few there chained.1.1 in
-          not next es same.0 same.1 go.goes_on.valid go);
+          let here : AreAllowed only p.entries = subst (λ (l : Entries). AreAllowed only l) same.1 go.goes_on.allowed in
+          not next es same.0 (subst (λ (l : Entries). AreAllowed only l) whole (allowed_join only (entries_of ps) p.entries before here)) go.goes_on.valid go);
     }
 
 pub some_pages : (sizes : Sizes) (run : Component) (new : CursorState) (given : Entries) (e : Key × Rec) (file : List ℕ) → (h : HasGiven sizes run new (given ++ e ∷ []) file) → h.pages ≡ [] → ⊥
@@ -315,25 +278,14 @@ pub not_allowed : (sizes : Sizes) (run : Component) (only : Bool) (earlier : Lis
 not_allowed sizes run only earlier role old new given e page space file few h taken allowed not =
     elim (unsnoc h.pages) [
       | inl none ↦ absurd (some_pages sizes run new given e file h none)
-      | inr some ↦ behind some.0 some.1 some.2
+      | inr some ↦ last_stops sizes run only earlier role old new (given ++ e ∷ []) given ((e ∷ []) ++ h.here) page space file some.0 some.1 few h taken some.2 (append_assoc given (e ∷ []) h.here) (omega arith) allowed
+          (λ next es next_is all valid go. not (allowed_front only (e ∷ []) h.here (allowed_back only given ((e ∷ []) ++ h.here) all)))
     ]
-  where
-    behind : (ps : List RunPage) (p : RunPage) → h.pages ≡ ps ++ p ∷ [] → IsStoppedAt sizes run only earlier page file
-    behind ps p parts =
-        let whole : entries_of ps ++ p.entries ≡ given ++ ((e ∷ []) ++ h.here) = last_whole ps p h.pages _ parts h.entries_are ∙ append_assoc given (e ∷ []) h.here in
-        let before : AreAllowed only (entries_of ps) =
-        allowed_before only (entries_of ps) p.entries given ((e ∷ []) ++ h.here) whole (omega (arith, h.on_last p (ap (last_or None) parts ∙ last_push None ps p))) allowed in
-        last_stops sizes run only earlier role old new (given ++ e ∷ []) page space file ps p few h taken parts before
-        (λ next es next_is es_is valid go.
-        let here : AreAllowed only p.entries = subst (λ (l : Entries). AreAllowed only l) es_is go.goes_on.allowed in
-        let both : AreAllowed only (given ++ ((e ∷ []) ++ h.here)) = subst (λ (l : Entries). AreAllowed only l) whole (allowed_join only (entries_of ps) p.entries before here) in
-        not (allowed_front only (e ∷ []) h.here (allowed_back only given ((e ∷ []) ++ h.here) both)))
 
 -- ---- a page that names none of the store
 
 none_allowed : (only : Bool) → AreAllowed only []
-none_allowed true = tt
-none_allowed false = tt
+none_allowed only = grind (arith, common_steps, nat_tests)
 
 none_rise : AreRising []
 unfolding IsStrictlySortedBy
@@ -367,24 +319,21 @@ nowhere_on sizes run only earlier role old cursor page space file few w some pas
       | inl none ↦
           first_nowhere sizes run only earlier page file (distinct_front earlier (numbers_of w.has.pages) w.taken.takes.apart) (w.at_first none)
           (omega (arith, w.at_first none, past, w.has.end_is, ap (λ (l : List RunPage). page_number (first_number l w.has.end)) none, w.has.first_is)) (omega (arith, w.has.pages_is, some))
-      | inr more ↦ behind more.0 more.1 more.2
+      | inr more ↦ last_stops sizes run only earlier role old cursor w.given w.given w.has.here page space file more.0 more.1 few w.has w.taken more.2 refl (omega arith) w.allowed
+          (λ next es next_is all valid go.
+          none_named (page_count sizes) next valid.content.head.next_is (omega (arith, ap page_number next_is, w.has.end_is, past))
+          (go.goes_on.follows.1 (omega (arith, w.has.pages_is, some, ap (λ (l : List RunPage). length l) more.2, length-append more.0 (more.1 ∷ [])))))
     ]
-  where
-    behind : (ps : List RunPage) (p : RunPage) → w.has.pages ≡ ps ++ p ∷ [] → IsStoppedAt sizes run only earlier page file
-    behind ps p parts =
-        let whole = last_whole ps p w.has.pages _ parts w.has.entries_are in
-        let before : AreAllowed only (entries_of ps) =
-        allowed_before only (entries_of ps) p.entries w.given w.has.here whole (omega (arith, w.has.on_last p (ap (last_or None) parts ∙ last_push None ps p))) w.allowed in
-        last_stops sizes run only earlier role old cursor w.given page space file ps p few w.has w.taken parts before
-        (λ next es next_is es_is valid go.
-        none_named (page_count sizes) next valid.content.head.next_is (omega (arith, ap page_number next_is, w.has.end_is, past))
-        (go.goes_on.follows.1 (omega (arith, w.has.pages_is, some, ap (λ (l : List RunPage). length l) parts, length-append ps (p ∷ [])))))
 
 -- the page that is due was refused
 pub refused_damage : (sizes : Sizes) (run : Component) (only : Bool) (earlier : List ℕ) (role : ℕ) (old : SpaceState) (cursor : CursorState) (page n : ℕ) (space : SpaceState) (file : List ℕ) → page_count sizes ≤ no_page
     → HasWalked sizes run only earlier role old cursor page space file → space.pages ≡ page_count sizes → IsRefused cursor page n space → IsStoppedAt sizes run only earlier n file
-refused_damage sizes run only earlier role old cursor page n space file few w count (not_free none some next below not) =
-    met_again sizes run only earlier role old cursor page n space file few w count none some next below not
+refused_damage sizes run only earlier role old cursor page n space file few w count (not_free none some next below not) = record {
+  pages = w.has.pages;
+  begins = begins_at sizes run only earlier cursor w.given n file few w.has none next (omega (arith, below, count)) w.taken.takes.apart w.allowed;
+  more = omega (arith, w.has.pages_is, some);
+  stopped = inl (⊎_elim (λ free. absurd (not free)) (λ has. has) (w.taken.takes.others n below));
+}
 refused_damage sizes run only earlier role old cursor page n space file few w count (nowhere none some is past) =
     subst (λ k. IsStoppedAt sizes run only earlier k file) (sym is) (nowhere_on sizes run only earlier role old cursor page space file few w some (omega (arith, past, count)))
 
@@ -393,27 +342,7 @@ refused_damage sizes run only earlier role old cursor page n space file few w co
 pub walked_end : (sizes : Sizes) (run : Component) (only : Bool) (earlier : List ℕ) (role : ℕ) (old : SpaceState) (new : CursorState) (given : Entries) (page : ℕ) (space : SpaceState) (file : List ℕ)
     → page_count sizes ≤ no_page → HasList sizes run given file → (h : HasGiven sizes run new given file) → new.pages ≡ 0 → ArePagesTaken earlier role old h.pages page space → AreAllowed only given
     → IsWalked sizes run only earlier role old space file
-walked_end sizes run only earlier role old new given page space file few list h last taken allowed =
-    let same = all_pages in
-    record {
-      pages = list.pages;
-      reads = list.reads;
-      allowed = subst (λ (l : Entries). AreAllowed only l) (sym list.entries_are) allowed;
-      takes = subst (λ (l : List RunPage). TakesUp (earlier ++ numbers_of l) space) (sym same) taken.takes;
-      tags = subst (λ (l : List RunPage). (k : ℕ) → HasRole space role k ↔ (HasRole old role k ⊎ Contains (numbers_of l) k)) (sym same) taken.tags;
-    }
-  where
-    none : (rest : List RunPage) → length rest ≡ 0 → rest ≡ []
-    none rest h1 = grind (arith, common_steps, nat_tests)
-
-    all_pages : list.pages ≡ h.pages
-    all_pages =
-        elim (front_of_chain sizes list.pages h.pages None h.end file few list.reads.chained h.chained (list.reads.first_is ∙ sym h.first_is)) [
-          | inl b ↦ sym (b.parts ∙ ap (λ (l : List RunPage). list.pages ++ l)
-              (none b.rest (omega (arith, h.pages_is, last, list.reads.pages_is, ap (λ (l : List RunPage). length l) b.parts, length-append list.pages b.rest))) ∙ append-nil list.pages)
-          | inr b ↦ b.parts ∙ ap (λ (l : List RunPage). h.pages ++ l)
-              (none b.rest (omega (arith, h.pages_is, last, list.reads.pages_is, ap (λ (l : List RunPage). length l) b.parts, length-append h.pages b.rest))) ∙ append-nil h.pages
-        ]
+walked_end sizes run only earlier role old new given page space file h1 h2 h h3 h4 h5 = grind (arith, common_steps, nat_tests, same_pages)
 
 -- ---- on any disk
 
@@ -428,15 +357,7 @@ pub record IsClaiming (role all left : ℕ) (old new : SpaceState) : Type 0 wher
   pub size : role_size new role + left ≡ role_size old role + all
 
 pub claiming_start : (role all : ℕ) (space : SpaceState) → IsSpace space → IsClaiming role all all space space
-claiming_start role all space shape = record {
-  pages = refl;
-  shape = shape;
-  pins = refl;
-  others = λ other apart. refl;
-  fresh = λ k has. inl has;
-  none_freed = λ k free. free;
-  size = refl;
-}
+claiming_start role all space h1 = grind (arith, common_steps, nat_tests)
 
 -- with one more
 pub claiming_more : (role all left n : ℕ) (first old new : SpaceState) → IsClaiming role all (left + 1) first old → IsFree old n → Claims role n old new → IsClaiming role all left first new
@@ -464,22 +385,11 @@ changed_within role all left old new was = record { pages = was.pages; pins = wa
 
 -- before the next one is read
 pub changed_entered : (role all page n : ℕ) (first space now : SpaceState) (old : CursorState) → IsClaiming role all old.pages first space → IsEntered old page role n space now → ChangesOnly role first now
-changed_entered role all page n first space now old was (due none some is free claims) =
-    changed_within role all (old.pages - 1) first now
-    (claiming_more role all (old.pages - 1) n first space now (subst (λ k. IsClaiming role all k first space) (omega (arith, some)) was) free claims)
-changed_entered role all page n first space now old was (on none is same) =
-    changed_within role all old.pages first now (subst (λ (s : SpaceState). IsClaiming role all old.pages first s) (sym same) was)
+changed_entered role all page n first space now old h1 h2 = grind (arith, common_steps, nat_tests)
 
 -- none is left
 pub taken_all : (role all left : ℕ) (old new : SpaceState) → IsClaiming role all left old new → left ≡ 0 → TakesFree role all old new
-taken_all role all left old new was last = record {
-  pages = was.pages;
-  shape = was.shape;
-  pins = was.pins;
-  others = was.others;
-  fresh = was.fresh;
-  size = omega (arith, was.size, last);
-}
+taken_all role all left old new h1 h2 = grind (arith, common_steps, nat_tests)
 
 -- ---- what the pages weigh, on any disk
 
@@ -494,29 +404,12 @@ filling_start run cursor full all = record { full = full; last = λ none. subst 
 -- once the last page is due, the others are full
 pub filling_on : (run : Component) (page role n : ℕ) (space now : SpaceState) (old new : CursorState) → IsFilling run old → AreFull run new → IsEntered old page role n space now
     → (old.behind ≡ [] → 0 < old.pages → old.pages ≡ new.pages + 1) → (old.behind ≢ [] → new.pages ≡ old.pages) → new.pages ≤ old.pages → IsFilling run new
-filling_on run page role n space now old new was full (due none some is free claims) turns stays fewer = record {
-  full = full;
-  last = λ last.
-      let one : old.pages ≡ 1 = omega (arith, turns none some, last) in
-      let more = subst (λ k. least_full * (run.pages - k) + old.weight ≤ run.weight + length old.behind) one (was.full.more some) in
-      omega (arith, more, ap (λ (l : List ℕ). length l) none);
-}
-filling_on run page role n space now old new was full (on none is same) turns stays fewer =
-    record { full = full; last = λ last. was.last (omega (arith, still old.behind old.pages new.pages none stays fewer, last)) }
+filling_on run page role n space now old new h1 h2 h3 h4 h5 h6 = grind (arith, common_steps, nat_tests)
 
 pub filled_end : (run : Component) (cursor : CursorState) → (run.pages ≡ 0 → run ≡ empty_component) → IsFilling run cursor → cursor.pages ≡ 0 → IsFilled run
 filled_end run cursor none was last = record { none = none; full = was.last last }
 
 -- ---- answers
-
-pub fault_is : (a : Result (Unit {0}) Broken) (broken : Broken) → a ≡ Err broken → a ≡ Err Fault → broken ≡ Fault
-fault_is a broken was is = cc
-
-pub not_both : (a : Result (Unit {0}) Broken) (broken : Broken) → a ≡ Err broken → a ≡ Ok tt → ⊥
-not_both a broken was is = cc
-
-pub same_error : (a b : Broken) → ◌≡◌ {A = Result (Unit {0}) Broken} (Err a) (Err b) → a ≡ b
-same_error a b same = cc
 
 pub not_fault : (n : ℕ) → Damaged n ≡ Fault → ⊥
 not_fault n same = cc
@@ -535,13 +428,11 @@ pub record IsEnterRefused (cursor : CursorState) (page : ℕ) (old new : SpaceSt
   pub refused : IsRefused cursor page number old
 
 pub entered_err : (cursor : CursorState) (page role : ℕ) (old new : SpaceState) (broken : Broken) → Enters cursor page role old new (Err broken) → IsEnterRefused cursor page old new broken
-entered_err cursor page role old new Fault enters = absurd (enters)
-entered_err cursor page role old new (Damaged n) enters = record { number = n; broken_is = refl; same = enters.0; refused = enters.1 }
+entered_err cursor page role old new broken h1 = grind (arith, common_steps, nat_tests)
 
 pub tells_broken : (sizes : Sizes) (run : Component) (only : Bool) (earlier : List ℕ) (role : ℕ) (old new : SpaceState) (file : List ℕ) (broken : Broken)
     → ((n : ℕ) → broken ≡ Damaged n → IsStoppedAt sizes run only earlier n file) → TellsStop sizes run only earlier role old new file (Err broken)
-tells_broken sizes run only earlier role old new file Fault damage = tt
-tells_broken sizes run only earlier role old new file (Damaged n) damage = damage n refl
+tells_broken sizes run only earlier role old new file broken h1 = grind (arith, common_steps, nat_tests)
 
 -- at the end no page is left
 pub ended_pages : (old cursor : CursorState) → cursor.head ≡ None → IfNone cursor.head ((old.weight ≡ 0) × (cursor.entries ≡ 0) × (cursor.weight ≡ 0) × (cursor.pages ≡ 0)) → cursor.pages ≡ 0
@@ -554,8 +445,5 @@ walked_start sizes run only earlier role space cursor page file g all first take
   has = g;
   allowed = none_allowed only;
   at_first = λ none. first;
-  taken = subst (λ (l : List RunPage). ArePagesTaken earlier role space l page space) (sym (no_pages g.pages (omega (arith, g.pages_is, all)))) (taken_start earlier role page space takes);
+  taken = subst (λ (l : List RunPage). ArePagesTaken earlier role space l page space) (sym (nil_from_length g.pages (omega (arith, g.pages_is, all)))) (taken_start earlier role page space takes);
 }
-  where
-    no_pages : (ps : List RunPage) → length ps ≡ 0 → ps ≡ []
-    no_pages ps h1 = grind (arith, common_steps, nat_tests)

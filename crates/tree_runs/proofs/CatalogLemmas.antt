@@ -1,5 +1,5 @@
 -- The next catalogue is one that a slot may have: each of its components is empty, or within the store's pages.
-use Rattle.std.specs.Prelude.{◌≡◌, ◌⊎◌, ℕ, ◌+◌, ◌<◌, ◌≤◌, ◌^◌, List, [], ◌∷◌, length, Option}
+use Rattle.std.specs.Prelude.{◌≡◌, ◌⊎◌, ℕ, ◌+◌, ◌<◌, ◌≤◌, ◌^◌, Bool, List, [], ◌∷◌, length, Option, if◌then◌else◌}
 use Rattle.std.proofs.lemmas.Grind.{common_steps}
 use Rattle.std.proofs.lemmas.Bool.Decides.{nat_tests}
 use Rattle.std.proofs.Common.{⊎_elim, sym, subst, ap, ◌∙◌, arith, length-append}
@@ -19,6 +19,7 @@ use Rattle.page_file.proofs.ComponentLemmas.{weight_join, weight_is_length}
 use Rattle.page_file.proofs.PageLemmas.{few_pages}
 use Rattle.run_writer.specs.Writer.{WriterState, IsCounted}
 use Rattle.tree_file.specs.Places.{KeepsRoles, TurnsRoles}
+use Rattle.tree_runs.specs.Holding.{is_full, with_pass_run}
 
 -- what a catalogue of these sizes may say of a component
 pub record Suits (sizes : Sizes) (component : Component) : Type 0 where
@@ -42,8 +43,7 @@ c2_suits is = record { numbers = is.fits.c2; is = is.c2 }
 
 -- its entries weigh at least as much as the lightest one
 page_weighs : (sizes : Sizes) (next : Option ℕ) (entries : Entries) (bytes : List ℕ) → IsPageOf (page_count sizes) next entries bytes → (14 ≤ entries_weight entries) × (1 ≤ length entries)
-page_weighs sizes next entries bytes is =
-    (omega (arith, few_entries entries is.content.each, is.content.head.some, weight_is_length entries), is.content.head.some)
+page_weighs sizes next entries bytes h1 = grind (arith, common_steps, nat_tests, few_entries, weight_is_length)
 
 pub run_in_range : (sizes : Sizes) (component : Component) (run : List RunPage) (file : List ℕ) → ReadsAs sizes component run file → component.pages ≤ page_count sizes → IsComponent (page_count sizes) component
 run_in_range sizes component run file h1 h2 = grind (arith, common_steps, nat_tests, page_weighs, length-append, weight_join)
@@ -72,22 +72,40 @@ run_suits sizes writer component run file geometry counted is reads few = record
 pub roles_turned : (roles : List ℕ) → AreRoles roles → AreRoles (b_of roles ∷ spare_of roles ∷ a_of roles ∷ [])
 roles_turned roles are = grind (arith, common_steps, nat_tests)
 
-pub may_be_next : (sizes : Sizes) (now next : Catalog) → IsCatalog sizes now → next.version ≡ now.version + 1 → now.version + 1 < 2 ^ 64 → KeepsRoles now next ⊎ TurnsRoles now next
-    → Suits sizes next.c1 → Suits sizes next.c1x → Suits sizes next.c2 → IsNext sizes now next
-may_be_next sizes now next is follows few lanes c1 c1x c2 = record {
-  fits = record {
-    fits = record {
-      version = omega (arith, follows, few);
-      lanes = ⊎_elim (λ (keeps : KeepsRoles now next). ap (λ (l : List ℕ). length l) keeps ∙ is.fits.lanes) (λ (turns : TurnsRoles now next). ap (λ (l : List ℕ). length l) turns) lanes;
-      c1 = c1.numbers;
-      c1x = c1x.numbers;
-      c2 = c2.numbers;
-    };
-    some_version = omega (arith, follows);
-    lanes = ⊎_elim (λ (keeps : KeepsRoles now next). subst (λ (l : List ℕ). AreRoles l) (sym keeps) is.lanes) (λ (turns : TurnsRoles now next). subst (λ (l : List ℕ). AreRoles l) (sym turns) (roles_turned now.lanes is.lanes)) lanes;
-    c1 = c1.is;
-    c1x = c1x.is;
-    c2 = c2.is;
-  };
-  follows = follows;
-}
+-- the components of a catalogue
+pub record HasParts (next : Catalog) (c1 c1x c2 : Component) : Type 0 where
+  pub c1_is : next.c1 ≡ c1
+  pub c1x_is : next.c1x ≡ c1x
+  pub c2_is : next.c2 ≡ c2
+
+pub parts_of_pass : {next : Catalog} (sizes : Sizes) (made : Component) (now : Catalog) (b : Bool) → next ≡ with_pass_run sizes made now → is_full sizes made ≡ b
+    → HasParts next (if b then empty_component else made) (if b then made else now.c1x) now.c2
+parts_of_pass sizes made now b h1 h2 = grind (arith, common_steps, nat_tests)
+
+pub parts_of : {made : Catalog} {next : Catalog} → next ≡ made → HasParts next made.c1 made.c1x made.c2
+parts_of is = record { c1_is = ap (λ (k : Catalog). k.c1) is; c1x_is = ap (λ (k : Catalog). k.c1x) is; c2_is = ap (λ (k : Catalog). k.c2) is }
+
+-- components that suit make a catalogue that may be next
+pub may_be_next : {c1 c1x c2 : Component} (sizes : Sizes) (now next : Catalog) → HasParts next c1 c1x c2 → IsCatalog sizes now → next.version ≡ now.version + 1 → now.version + 1 < 2 ^ 64 → KeepsRoles now next ⊎ TurnsRoles now next
+    → Suits sizes c1 → Suits sizes c1x → Suits sizes c2 → IsNext sizes now next
+may_be_next sizes now next parts is follows few lanes c1 c1x c2 =
+    let first = subst (λ (k : Component). Suits sizes k) (sym parts.c1_is) c1 in
+    let second = subst (λ (k : Component). Suits sizes k) (sym parts.c1x_is) c1x in
+    let third = subst (λ (k : Component). Suits sizes k) (sym parts.c2_is) c2 in
+    record {
+      fits = record {
+        fits = record {
+          version = omega (arith, follows, few);
+          lanes = ⊎_elim (λ (keeps : KeepsRoles now next). ap (λ (l : List ℕ). length l) keeps ∙ is.fits.lanes) (λ (turns : TurnsRoles now next). ap (λ (l : List ℕ). length l) turns) lanes;
+          c1 = first.numbers;
+          c1x = second.numbers;
+          c2 = third.numbers;
+        };
+        some_version = omega (arith, follows);
+        lanes = ⊎_elim (λ (keeps : KeepsRoles now next). subst (λ (l : List ℕ). AreRoles l) (sym keeps) is.lanes) (λ (turns : TurnsRoles now next). subst (λ (l : List ℕ). AreRoles l) (sym turns) (roles_turned now.lanes is.lanes)) lanes;
+        c1 = first.is;
+        c1x = second.is;
+        c2 = third.is;
+      };
+      follows = follows;
+    }

@@ -6,7 +6,7 @@ use Rattle.std.proofs.Common.{◌∙◌, inl, inr, ap, sym, subst, refl, arith}
 use Rattle.refusal.specs.Count.{HasRisen}
 use Rattle.disk_trait.specs.Disk.{DiskState}
 use Rattle.disk_trait.specs.Moments.{IsTimed}
-use Rattle.disk_trait.specs.Reads.{only_reads_more, only_reads_wider, only_reads_same}
+use Rattle.disk_trait.proofs.ReadLemmas.{only_reads_more, only_reads_same}
 use Rattle.blsm_model.specs.declared.component.Component.{Component}
 use Rattle.blsm_model.specs.declared.key.Key.{Key}
 use Rattle.blsm_model.specs.Sizes.{Sizes}
@@ -22,9 +22,10 @@ use Rattle.bloom_bits.specs.Filter.{MayHave}
 use Rattle.catalog_swap.specs.declared.catalog.Catalog.{Catalog}
 use Rattle.tree_machine.proofs.FoldLemmas.{over_any_assoc}
 use Rattle.tree_file.specs.Tree.{Tree, HoldsTree}
-use Rattle.tree_runs.specs.Lookups.{CountsAsked, CountsYes, HidesOlder}
-use Rattle.tree_runs.specs.Runs.{GuideState, Tags, guide_at}
+use Rattle.tree_runs.specs.Lookups.{AreAsked, CountsAsked, CountsYes, HidesOlder, from_newest}
+use Rattle.tree_runs.specs.Runs.{GuideState, RunsState, filter_of, guide_at}
 use Rattle.tree_runs.specs.Holding.{AreGuided, IsGuidedBy}
+use Rattle.tree_runs.proofs.ToldLemmas.{Tells, TellsOne, tells_behind, tells_failed, tells_last}
 
 -- the component's record of the key, in this file, where filter and fences are those of its pages
 abbrev pub IsRecordIn : Sizes → Component → GuideState → Key → List ℕ → Option Rec → Type 0
@@ -74,102 +75,7 @@ looks_behind {First} {Second} {newer} {found} {result} {old} {mid} {new} sizes p
 -- a lookup that failed, before another
 pub looks_failed : {First Second : List ℕ → Option Rec → Type 0} {newer : Option Rec} {broken : Broken} {result : Result (Option Rec) Broken} {old new : DiskState} (sizes : Sizes) (p q : ℕ)
     → Looks sizes p First newer (Err broken) old new → result ≡ Err broken → Looks sizes (p + q) (AreBoth First Second) newer result old new
-looks_failed {First} {Second} {newer} {broken} {result} {old} {new} sizes p q one is = record {
-  list = λ older honest has other.
-      absurd (failed (over_any newer has.0) (one.list has.0 honest has.2 (λ fault. other (is ∙ fault))));
-  reads = record {
-    effect = only_reads_wider (omega arith) (omega arith) one.reads.effect;
-    stands = λ other. one.reads.stands (λ fault. other (is ∙ fault));
-    failed = λ fault. one.reads.failed (sym is ∙ fault);
-  };
-}
-  where
-    failed : (found : Option Rec) → ◌≡◌ {A = Result (Option Rec) Broken} (Err broken) (Ok found) → ⊥
-    failed found wrong = cc
-
--- ---- all three
-
--- how often each component may be asked, where its filter says yes or no
-pub record Calls : Type 0 where
-  pub c1 : ℕ
-  pub c1x : ℕ
-  pub c2 : ℕ
-
--- each where what is newer doesn't hide it
-pub record AreCounted (calls : Calls) (guides : List GuideState) (tags : Tags) (key : Key) (newer above below : Option Rec) : Type 0 where
-  pub c1 : CountsAsked newer (guide_at guides tags.c1).filter key calls.c1
-  pub c1x : CountsAsked above (guide_at guides tags.c1x).filter key calls.c1x
-  pub c2 : CountsAsked below (guide_at guides tags.c2).filter key calls.c2
-
--- once each
-abbrev pub each_once : Calls
-each_once = record { c1 = 1; c1x = 1; c2 = 1 }
-
-pub once_is_enough : (guides : List GuideState) (tags : Tags) (key : Key) (newer above below : Option Rec) → AreCounted each_once guides tags key newer above below
-once_is_enough guides tags key newer above below = record { c1 = inr (inl (omega arith)); c1x = inr (inl (omega arith)); c2 = inr (inl (omega arith)) }
-
--- what a lookup in C1, C1' and C2 gives
-abbrev pub LooksUp : Calls → Sizes → Catalog → List GuideState → Tags → Key → Option Rec → Result (Option Rec) Broken → DiskState → DiskState → Type 0
-LooksUp calls sizes now guides tags key newer result old new =
-    Looks sizes (calls.c1 + calls.c1x + calls.c2)
-    (AreBoth (AreBoth (IsRecordIn sizes now.c1 (guide_at guides tags.c1) key) (IsRecordIn sizes now.c1x (guide_at guides tags.c1x) key)) (IsRecordIn sizes now.c2 (guide_at guides tags.c2) key))
-    newer result old new
-
-pub looked_up : {newer : Option Rec} {result : Result (Option Rec) Broken} {old new : DiskState} (calls : Calls) (sizes : Sizes) (now : Catalog) (guides : List GuideState) (tags : Tags) (key : Key)
-    → LooksUp calls sizes now guides tags key newer result old new
-    → (tree : Tree) → IsTrue old.is_honest → HoldsTree sizes tree old.bytes → tree.catalogue ≡ now → AreGuided guides tags tree → result ≢ Err Fault
-    → result ≡ Ok (over_any newer (over_any (record_of_key key (entries_of tree.c1)) (over_any (record_of_key key (entries_of tree.c1x)) (record_of_key key (entries_of tree.c2)))))
-looked_up {newer} {result} {old} {new} calls sizes now guides tags key looks tree honest holds is guided other =
-    looks.list (over_any (over_any one two) three) honest (
-      over_any one two,
-      three,
-      (
-        one,
-        two,
-        has tree.c1 now.c1 (guide_at guides tags.c1) (subst (λ (k : Catalog). ReadsAs sizes k.c1 tree.c1 old.bytes) is holds.c1) guided.c1,
-        has tree.c1x now.c1x (guide_at guides tags.c1x) (subst (λ (k : Catalog). ReadsAs sizes k.c1x tree.c1x old.bytes) is holds.c1x) guided.c1x,
-        refl,
-      ),
-      has tree.c2 now.c2 (guide_at guides tags.c2) (subst (λ (k : Catalog). ReadsAs sizes k.c2 tree.c2 old.bytes) is holds.c2) guided.c2,
-      refl,
-    ) other
-    ∙ ap (λ (o : Option Rec). Ok (over_any newer o)) (over_any_assoc one two three)
-  where
-    one : Option Rec
-    one = record_of_key key (entries_of tree.c1)
-
-    two : Option Rec
-    two = record_of_key key (entries_of tree.c1x)
-
-    three : Option Rec
-    three = record_of_key key (entries_of tree.c2)
-
-    has : (pages : List RunPage) (component : Component) (guide : GuideState) → ReadsAs sizes component pages old.bytes → IsGuidedBy guide pages
-        → IsRecordIn sizes component guide key old.bytes (record_of_key key (entries_of pages))
-    has pages component guide reads guided = (pages, reads, guided, refl)
-
--- what was found in C1, and then in C1', of a tree that is read
-pub found_first : {found : Option Rec} {file : List ℕ} (newer : Option Rec) (sizes : Sizes) (was now : Catalog) (guides : List GuideState) (before tags : Tags) (key : Key) (tree : Tree)
-    → was ≡ now → before ≡ tags → HoldsTree sizes tree file → tree.catalogue ≡ now → AreGuided guides tags tree
-    → ((pages : List RunPage) → ReadsAs sizes was.c1 pages file → IsGuidedBy (guide_at guides before.c1) pages
-    → ◌≡◌ {A = Result (Option Rec) Broken} (Ok found) (Ok (over_any newer (record_of_key key (entries_of pages)))))
-    → found ≡ over_any newer (record_of_key key (entries_of tree.c1))
-found_first {found} {file} newer sizes was now guides before tags key tree same same_tags holds is guided finds =
-    same_found found (over_any newer (record_of_key key (entries_of tree.c1)))
-    (finds tree.c1 (subst (λ (k : Catalog). ReadsAs sizes k.c1 tree.c1 file) (is ∙ sym same) holds.c1)
-    (subst (λ (t : Tags). IsGuidedBy (guide_at guides t.c1) tree.c1) (sym same_tags) guided.c1))
-
-pub found_second : {found : Option Rec} {file after : List ℕ} (newer above : Option Rec) (sizes : Sizes) (was now : Catalog) (guides : List GuideState) (before tags : Tags) (key : Key) (tree : Tree)
-    → was ≡ now → before ≡ tags → after ≡ file → HoldsTree sizes tree file → tree.catalogue ≡ now → AreGuided guides tags tree → above ≡ newer
-    → ((pages : List RunPage) → ReadsAs sizes was.c1x pages after → IsGuidedBy (guide_at guides before.c1x) pages
-    → ◌≡◌ {A = Result (Option Rec) Broken} (Ok found) (Ok (over_any above (record_of_key key (entries_of pages)))))
-    → found ≡ over_any newer (record_of_key key (entries_of tree.c1x))
-found_second {found} {file} {after} newer above sizes was now guides before tags key tree same same_tags stays holds is guided so_far finds =
-    let here = record_of_key key (entries_of tree.c1x) in
-    same_found found (over_any above here)
-    (finds tree.c1x (subst (λ (f : List ℕ). ReadsAs sizes was.c1x tree.c1x f) (sym stays) (subst (λ (k : Catalog). ReadsAs sizes k.c1x tree.c1x file) (is ∙ sym same) holds.c1x))
-    (subst (λ (t : Tags). IsGuidedBy (guide_at guides t.c1x) tree.c1x) (sym same_tags) guided.c1x))
-    ∙ ap (λ (r : Option Rec). over_any r here) so_far
+looks_failed sizes p q h1 h2 = grind (arith, common_steps, nat_tests)
 
 -- ---- how often one is asked
 
@@ -183,15 +89,140 @@ pub asked_below : {A : Type 0} {end : ℕ} {result : Result A Broken} {old new :
 asked_below newer filter key n timed reads none (inl hides) = asked timed n (inr (none hides)) (reads 1 (inl (omega arith)))
 asked_below newer filter key n timed reads none (inr counts) = reads n counts
 
+-- ---- one component
+
+-- what the lookup in one component ensures, whose pages have this tag
+pub record FindsBelow (runs : RunsState) (component : Component) (tag : ℕ) (key : Key) (newer : Option Rec) (result : Result (Option Rec) Broken) (old new : DiskState) : Type 1 where
+  pub list : (pages : List RunPage) → IsTrue old.is_honest → ReadsAs runs.sizes component pages old.bytes → IsGuidedBy (guide_at runs.guides tag) pages → result ≢ Err Fault
+      → result ≡ Ok (over_any newer (record_of_key key (entries_of pages)))
+  pub told : TellsOne runs.sizes key (component, guide_at runs.guides tag) newer result old
+  pub reads : (n : ℕ) → CountsYes (filter_of runs tag) key n → Reads (file_length runs.sizes) n result old new
+  pub none : HidesOlder newer → new ≡ old
+
+looks_below : {component : Component} {tag : ℕ} {newer : Option Rec} {result : Result (Option Rec) Broken} {old new : DiskState} (runs : RunsState) (key : Key) → IsTimed old
+    → FindsBelow runs component tag key newer result old new → (n : ℕ) → CountsAsked newer (filter_of runs tag) key n
+    → Looks runs.sizes n (IsRecordIn runs.sizes component (guide_at runs.guides tag) key) newer result old new
+looks_below {component} {tag} {newer} runs key timed one n counts =
+    looks_in runs.sizes n component (guide_at runs.guides tag) key one.list (asked_below newer (filter_of runs tag) key n timed one.reads one.none counts)
+
+-- where components and tags are those of equal runs
+pub finds_where : {before runs : RunsState} {key : Key} {newer : Option Rec} {result : Result (Option Rec) Broken} {old new : DiskState} (component : RunsState → Component) (tag : RunsState → ℕ) → before ≡ runs
+    → FindsBelow runs (component before) (tag before) key newer result old new → FindsBelow runs (component runs) (tag runs) key newer result old new
+finds_where {runs = runs} {key = key} {newer = newer} {result = result} {old = old} {new = new} component tag is finds = subst (λ (s : RunsState). FindsBelow runs (component s) (tag s) key newer result old new) is finds
+
+-- what was found there
+found_in : {component : Component} {tag : ℕ} {key : Key} {newer found : Option Rec} {old new : DiskState} {runs : RunsState} → FindsBelow runs component tag key newer (Ok found) old new → IsTrue old.is_honest
+    → (pages : List RunPage) → ReadsAs runs.sizes component pages old.bytes → IsGuidedBy (guide_at runs.guides tag) pages → found ≡ over_any newer (record_of_key key (entries_of pages))
+found_in {found = found} one honest pages reads guided = same_found found _ (one.list pages honest reads guided (no_fault found))
+
+-- ---- all three
+
+-- what a lookup in C1, C1' and C2 gives
+abbrev pub LooksUp : RunsState → Key → ℕ → Option Rec → Result (Option Rec) Broken → DiskState → DiskState → Type 0
+LooksUp runs key calls newer result old new =
+    Looks runs.sizes calls
+    (AreBoth (AreBoth (IsRecordIn runs.sizes runs.catalogue.c1 (guide_at runs.guides runs.tags.c1) key) (IsRecordIn runs.sizes runs.catalogue.c1x (guide_at runs.guides runs.tags.c1x) key))
+    (IsRecordIn runs.sizes runs.catalogue.c2 (guide_at runs.guides runs.tags.c2) key))
+    newer result old new
+
+pub record FindsAll (runs : RunsState) (key : Key) (newer : Option Rec) (result : Result (Option Rec) Broken) (old new : DiskState) : Type 0 where
+  pub looks : (c1 c1x c2 : ℕ) → CountsYes (filter_of runs runs.tags.c1) key c1 → CountsYes (filter_of runs runs.tags.c1x) key c1x → CountsYes (filter_of runs runs.tags.c2) key c2
+      → LooksUp runs key (c1 + c1x + c2) newer result old new
+  pub ends : (tree : Tree) (c1 c1x c2 : ℕ) → IsTrue old.is_honest → HoldsTree runs.sizes tree old.bytes → tree.catalogue ≡ runs.catalogue → AreGuided runs.guides runs.tags tree → AreAsked newer key runs tree c1 c1x c2
+      → Reads (file_length runs.sizes) (c1 + c1x + c2) result old new
+  pub tells : Tells runs.sizes key (from_newest runs.catalogue runs.guides runs.tags) newer result old
+
+-- C1 wasn't read
+pub finds_failed : {newer : Option Rec} {broken : Broken} {result : Result (Option Rec) Broken} {old new : DiskState} (runs : RunsState) (key : Key) → IsTimed old
+    → FindsBelow runs runs.catalogue.c1 runs.tags.c1 key newer (Err broken) old new → result ≡ Err broken → FindsAll runs key newer result old new
+finds_failed {newer} {broken} {result} {old} {new} runs key timed one is = record {
+  looks = λ c1 c1x c2 asked others last. looks c1 c1x c2 (inr asked);
+  ends = λ tree c1 c1x c2 honest holds now guided asked. (looks c1 c1x c2 asked.first).reads;
+  tells = tells_failed runs.sizes key _ _ one.told is;
+}
+  where
+    looks : (c1 c1x c2 : ℕ) → CountsAsked newer (filter_of runs runs.tags.c1) key c1 → LooksUp runs key (c1 + c1x + c2) newer result old new
+    looks c1 c1x c2 asked = looks_failed runs.sizes (c1 + c1x) c2 (looks_failed runs.sizes c1 c1x (looks_below runs key timed one c1 asked) refl) is
+
+module _ (runs : RunsState) (key : Key) {newer found : Option Rec} {old mid : DiskState} (timed : IsTimed old) (one : FindsBelow runs runs.catalogue.c1 runs.tags.c1 key newer (Ok found) old mid) (timed_too : IsTimed mid) where
+  -- what was found in C1 of a tree that is read hides C1' or doesn't
+  found_first : (tree : Tree) (n : ℕ) → IsTrue old.is_honest → HoldsTree runs.sizes tree old.bytes → tree.catalogue ≡ runs.catalogue → AreGuided runs.guides runs.tags tree
+      → CountsAsked (over_any newer (record_of_key key (entries_of tree.c1))) (filter_of runs runs.tags.c1x) key n → CountsAsked found (filter_of runs runs.tags.c1x) key n
+  found_first tree n honest holds is guided asked =
+      subst (λ (r : Option Rec). CountsAsked r (filter_of runs runs.tags.c1x) key n) (sym (found_in one honest tree.c1 (subst (λ (k : Catalog). ReadsAs runs.sizes k.c1 tree.c1 old.bytes) is holds.c1) guided.c1)) asked
+
+  -- C1 was, and C1' wasn't
+  pub finds_failed_second : {broken : Broken} {result : Result (Option Rec) Broken} {new : DiskState} → FindsBelow runs runs.catalogue.c1x runs.tags.c1x key found (Err broken) mid new → result ≡ Err broken → FindsAll runs key newer result old new
+  finds_failed_second {broken} {result} {new} two is = record {
+    looks = λ c1 c1x c2 asked others last. looks c1 c1x c2 (inr asked) (inr others);
+    ends = λ tree c1 c1x c2 honest holds now guided asked. (looks c1 c1x c2 asked.first (found_first tree c1x honest holds now guided asked.second)).reads;
+    tells = tells_behind runs.sizes key _ _ one.told (one.reads 1 (inl (omega arith))).effect (tells_failed runs.sizes key _ _ two.told is);
+  }
+    where
+      looks : (c1 c1x c2 : ℕ) → CountsAsked newer (filter_of runs runs.tags.c1) key c1 → CountsAsked found (filter_of runs runs.tags.c1x) key c1x → LooksUp runs key (c1 + c1x + c2) newer result old new
+      looks c1 c1x c2 asked others = looks_failed runs.sizes (c1 + c1x) c2 (looks_behind runs.sizes c1 c1x timed_too (looks_below runs key timed one c1 asked) (looks_below runs key timed_too two c1x others)) is
+
+  -- both were
+  pub finds_all : {found' : Option Rec} {result : Result (Option Rec) Broken} {then new : DiskState} → FindsBelow runs runs.catalogue.c1x runs.tags.c1x key found (Ok found') mid then → IsTimed then
+      → FindsBelow runs runs.catalogue.c2 runs.tags.c2 key found' result then new → FindsAll runs key newer result old new
+  finds_all {found'} {result} {then} {new} two timed_last three = record {
+    looks = λ c1 c1x c2 asked others last. looks c1 c1x c2 (inr asked) (inr others) (inr last);
+    ends = λ tree c1 c1x c2 honest holds now guided asked.
+        let read = (one.reads 1 (inl (omega arith))).effect in
+        let reads = subst (λ (file : List ℕ). ReadsAs runs.sizes runs.catalogue.c1x tree.c1x file) (sym (only_reads_same read honest)) (subst (λ (k : Catalog). ReadsAs runs.sizes k.c1x tree.c1x old.bytes) now holds.c1x) in
+        let below = found_in two (subst IsTrue (sym read.effect.goes_on.is_honest) honest) tree.c1x reads guided.c1x
+        ∙ ap (λ (r : Option Rec). over_any r (record_of_key key (entries_of tree.c1x))) (found_in one honest tree.c1 (subst (λ (k : Catalog). ReadsAs runs.sizes k.c1 tree.c1 old.bytes) now holds.c1) guided.c1) in
+        (looks c1 c1x c2 asked.first (found_first tree c1x honest holds now guided asked.second) (subst (λ (r : Option Rec). CountsAsked r (filter_of runs runs.tags.c2) key c2) (sym below) asked.third)).reads;
+    tells = tells_behind runs.sizes key _ _ one.told (one.reads 1 (inl (omega arith))).effect
+        (tells_behind runs.sizes key _ _ two.told (two.reads 1 (inl (omega arith))).effect (tells_last runs.sizes key _ three.told));
+  }
+    where
+      looks : (c1 c1x c2 : ℕ) → CountsAsked newer (filter_of runs runs.tags.c1) key c1 → CountsAsked found (filter_of runs runs.tags.c1x) key c1x → CountsAsked found' (filter_of runs runs.tags.c2) key c2
+          → LooksUp runs key (c1 + c1x + c2) newer result old new
+      looks c1 c1x c2 asked others last =
+          looks_behind runs.sizes (c1 + c1x) c2 timed_last
+          (looks_behind runs.sizes c1 c1x timed_too (looks_below runs key timed one c1 asked) (looks_below runs key timed_too two c1x others)) (looks_below runs key timed_last three c2 last)
+
+module _ {runs : RunsState} {key : Key} {newer : Option Rec} {result : Result (Option Rec) Broken} {old new : DiskState} (all : FindsAll runs key newer result old new) where
+  -- each was asked once at most
+  pub once_each : LooksUp runs key 3 newer result old new
+  once_each = all.looks 1 1 1 (inl (omega arith)) (inl (omega arith)) (inl (omega arith))
+
+  pub looked_up : (tree : Tree) → IsTrue old.is_honest → HoldsTree runs.sizes tree old.bytes → tree.catalogue ≡ runs.catalogue → AreGuided runs.guides runs.tags tree → result ≢ Err Fault
+      → result ≡ Ok (over_any newer (over_any (record_of_key key (entries_of tree.c1)) (over_any (record_of_key key (entries_of tree.c1x)) (record_of_key key (entries_of tree.c2)))))
+  looked_up tree honest holds is guided other =
+      once_each.list (over_any (over_any one two) three) honest (
+        over_any one two,
+        three,
+        (
+          one,
+          two,
+          (tree.c1, subst (λ (k : Catalog). ReadsAs runs.sizes k.c1 tree.c1 old.bytes) is holds.c1, guided.c1, refl),
+          (tree.c1x, subst (λ (k : Catalog). ReadsAs runs.sizes k.c1x tree.c1x old.bytes) is holds.c1x, guided.c1x, refl),
+          refl,
+        ),
+        (tree.c2, subst (λ (k : Catalog). ReadsAs runs.sizes k.c2 tree.c2 old.bytes) is holds.c2, guided.c2, refl),
+        refl,
+      ) other
+      ∙ ap (λ (o : Option Rec). Ok (over_any newer o)) (over_any_assoc one two three)
+    where
+      one : Option Rec
+      one = record_of_key key (entries_of tree.c1)
+
+      two : Option Rec
+      two = record_of_key key (entries_of tree.c1x)
+
+      three : Option Rec
+      three = record_of_key key (entries_of tree.c2)
+
+-- ---- what was found, and what was not
+
 -- a record that hides all older ones is what the lookup goes on with
 pub hides_still : {newer found : Option Rec} → ◌≡◌ {A = Result (Option Rec) Broken} (Ok found) (Ok newer) → HidesOlder newer → HidesOlder found
 hides_still {newer} {found} is hides = subst HidesOlder (sym (same_found found newer is)) hides
 
 pub not_failed : {A : Type 0} {newer : A} {broken : Broken} → ◌≡◌ {A = Result A Broken} (Err broken) (Ok newer) → ⊥
 not_failed is = cc
-
-same_broken : {A : Type 0} (broken other : Broken) → ◌≡◌ {A = Result A Broken} (Err broken) (Err other) → broken ≡ other
-same_broken broken other is = cc
 
 -- what a filter that was asked says of its lookup's calls
 pub answered : {A : Type 0} {end : ℕ} {result : Result A Broken} {old new : DiskState} (filter other : BitState) (key : Key) (n : ℕ) → other ≡ filter
@@ -203,36 +234,15 @@ answered {A} {end} {result} {old} {new} filter other key n is quiet timed (inr q
 -- the same calls, told otherwise
 pub reads_failed : {A B : Type 0} {end n : ℕ} {broken : Broken} {result : Result A Broken} {old new : DiskState} (outcome : Result B Broken) → result ≡ Err broken → outcome ≡ Err broken → Reads end n result old new
     → Reads end n outcome old new
-reads_failed {A} {B} {end} {n} {broken} {result} {old} {new} outcome was is reads = record {
-  effect = reads.effect;
-  stands = λ other. reads.stands (λ fault. other (is ∙ ap (λ (b : Broken). Err b) (same_broken {A = A} broken Fault (sym was ∙ fault))));
-  failed = λ fault. reads.failed (was ∙ ap (λ (b : Broken). Err b) (same_broken {A = B} broken Fault (sym is ∙ fault)));
-}
+reads_failed outcome h1 h2 h3 = grind (arith, common_steps, nat_tests)
 
 pub reads_found : {A B : Type 0} {end n : ℕ} {found : A} {result : Result A Broken} {old new : DiskState} (other : B) → result ≡ Ok found → Reads end n result old new → Reads end n (Ok other) old new
-reads_found {A} {B} {end} {n} {found} {result} {old} {new} other was reads = record {
-  effect = reads.effect;
-  stands = λ well. reads.stands (λ fault. not_both found (sym was ∙ fault));
-  failed = λ fault. absurd (not_both other fault);
-}
-  where
-    not_both : {C : Type 0} (value : C) → ◌≡◌ {A = Result C Broken} (Ok value) (Err Fault) → ⊥
-    not_both value wrong = cc
+reads_found other h1 h2 = grind (arith, common_steps, nat_tests)
 
 -- calls that went well, and others
 pub reads_then : {A B : Type 0} {end m n total : ℕ} {value : A} {result : Result B Broken} {old mid new : DiskState} → IsTimed mid → Reads end m (Ok value) old mid → Reads end n result mid new → m + n ≤ total
     → Reads end total result old new
-reads_then {A} {B} {end} {m} {n} {total} {value} {result} {old} {mid} {new} timed one two most = record {
-  effect = only_reads_more timed calm one.effect two.effect (omega arith) most;
-  stands = λ other. two.stands other ∙ calm;
-  failed = λ is. subst (λ (k : ℕ). HasRisen k new.faults) calm (two.failed is);
-}
-  where
-    well : ◌≡◌ {A = Result A Broken} (Ok value) (Err Fault) → ⊥
-    well wrong = cc
-
-    calm : mid.faults ≡ old.faults
-    calm = one.stands well
+reads_then h1 h2 h3 h4 = grind (arith, common_steps, nat_tests)
 
 -- the file stays as long
 pub reads_long : {A : Type 0} {end n : ℕ} {result : Result A Broken} {old new : DiskState} → Reads end n result old new → (IsTrue old.tells_bytes → length old.bytes ≡ end) → IsTrue new.tells_bytes → length new.bytes ≡ end

@@ -1,15 +1,14 @@
 -- Filters and fences by tag, when those of one tag are written.
 use Rattle.std.specs.Prelude.{◌≡◌, ◌≢◌, ℕ, ◌<◌, ◌≤◌, List, get_or, length, slice_set}
-use Rattle.std.proofs.lemmas.List.{get_or_read}
 use Rattle.std.proofs.lemmas.Grind.{common_steps}
 use Rattle.std.proofs.lemmas.Bool.Decides.{nat_tests}
-use Rattle.std.proofs.Common.{◌∙◌, ap, sym, subst, arith}
+use Rattle.std.proofs.Common.{sym, subst, arith}
 use Rattle.blsm_model.specs.Sizes.{Sizes}
 use Rattle.page_space.specs.Space.{role_count}
 use Rattle.page_file.specs.Component.{RunPage}
 use Rattle.merge_ends.specs.Output.{most_pages}
 use Rattle.tree_file.specs.Tree.{Tree}
-use Rattle.tree_runs.specs.Runs.{GuideState, AreGuides, Tags, guide_at, no_guide}
+use Rattle.tree_runs.specs.Runs.{GuideState, AreGuides, Tags, guide_at}
 use Rattle.tree_runs.specs.Holding.{AreGuided, IsGuidedBy, KeepsOtherGuides}
 
 -- ---- room
@@ -25,14 +24,13 @@ pub record WritesGuide (sizes : Sizes) (tag : ℕ) (old new : List GuideState) (
   pub reserved : AreGuides sizes new
 
 -- where a number names the tag, and these are the filters and fences by number, of which one was read
-module _ {sizes : Sizes} {tag number : ℕ} {guides items : List GuideState} (are : AreGuides sizes guides) (had : items ≡ guides) (named : number ≡ tag) (below : number < role_count) {was : GuideState} where
-  pub guide_named : {read : GuideState} → was ≡ read → read ≡ get_or items number read → was ≡ guide_at guides tag
-  guide_named {read} is value =
-      let there : number < length items = omega (arith, are.five, ap (λ (gs : List GuideState). length gs) had, below) in
-      is ∙ get_or_read items number read there value no_guide ∙ ap (λ (gs : List GuideState). guide_at gs number) had ∙ ap (λ (n : ℕ). guide_at guides n) named
+pub guide_named : {tag number : ℕ} {guides items : List GuideState} {was read : GuideState} → length guides ≡ role_count → items ≡ guides → number ≡ tag → number < role_count → was ≡ read → read ≡ get_or items number read
+    → was ≡ guide_at guides tag
+guide_named h1 h2 h3 h4 h5 h6 = grind (arith, common_steps, nat_tests)
 
-  pub writes_guide : (guide : GuideState) → was ≡ guide_at guides tag → guide.filter.reserved ≡ was.filter.reserved → guide.fences.reserved ≡ was.fences.reserved → WritesGuide sizes tag guides (slice_set items number guide) guide
-  writes_guide guide is bits pages = grind (arith, common_steps, nat_tests)
+pub writes_guide : {sizes : Sizes} {tag number : ℕ} {guides items : List GuideState} (was guide : GuideState) → AreGuides sizes guides → items ≡ guides → number ≡ tag → number < role_count → was ≡ guide_at guides tag
+    → guide.filter.reserved ≡ was.filter.reserved → guide.fences.reserved ≡ was.fences.reserved → WritesGuide sizes tag guides (slice_set items number guide) guide
+writes_guide was guide are had named below is bits pages = grind (arith, common_steps, nat_tests)
 
 -- ---- what the components' are of
 

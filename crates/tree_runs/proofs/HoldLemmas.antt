@@ -1,12 +1,12 @@
 -- What the components and the merges keep when a seat pins other pages.
-use Rattle.std.specs.Prelude.{◌≡◌, ◌≢◌, ℕ, ◌+◌, ◌<◌, ◌≤◌, Bool, List, [], ◌++◌, Some, Result, Ok, Err, IfOk, OnOk, OnErr, slice_index_or, refl}
+use Rattle.std.specs.Prelude.{◌≡◌, ◌≢◌, ℕ, ◌+◌, ◌<◌, ◌≤◌, Bool, List, [], Some, Result, Ok, Err, IfOk, OnOk, OnErr, slice_index_or, refl}
 use Rattle.std.proofs.lemmas.Grind.{common_steps}
 use Rattle.std.proofs.lemmas.Bool.Decides.{nat_tests}
 use Rattle.std.specs.List.{Contains}
 use Rattle.std.proofs.Common.{⊎_elim, inl, inr, sym, subst, ap, ◌∙◌, arith}
 use Rattle.std.proofs.lemmas.Bool.{cases_eq}
-use Rattle.std.proofs.lemmas.List.Elements.{Contains-append_cases}
-use Rattle.disk_trait.specs.Region.{nowhere, same_file}
+use Rattle.disk_trait.specs.Region.{nowhere}
+use Rattle.disk_trait.proofs.RegionLemmas.{same_file}
 use Rattle.blsm_model.specs.Geometry.{capacity}
 use Rattle.blsm_model.specs.Sizes.{Sizes}
 use Rattle.blsm_model.specs.declared.key.Key.{Key}
@@ -14,13 +14,13 @@ use Rattle.blsm_model.specs.declared.row.Row.{Row}
 use Rattle.record_delta.specs.Entries.{Entries}
 use Rattle.page_space.specs.PageSet.{Members, IsIn, none_of, size}
 use Rattle.page_space.specs.Space.{SpaceState, HasRole, IsPinnedBy, IsSpace, KeepsOtherPins, pin_size, pins_of, role_size, seat_count}
-use Rattle.page_file.specs.Component.{numbers_of}
 use Rattle.scan_view.specs.Hold.{HoldState, HasRows, held_from, pages_held}
 use Rattle.scan_view.specs.Holds.{pages_behind}
 use Rattle.scan_view.specs.Pins.{IsUnpinned, HasHeld, Pins}
 use Rattle.tree_file.specs.Tree.{Tree, live_pages}
 use Rattle.tree_runs.specs.Runs.{RunsState, AreRuns, AreRunning, guide_at, page_share}
 use Rattle.tree_runs.specs.Holding.{AreOf}
+use Rattle.tree_runs.proofs.StayLemmas.{live_tagged}
 use Rattle.tree_runs.proofs.KeptMerges.{KeepsRun, KeepsPages, KeepsPushed, KeepsAhead, pass_runs_still, deep_runs_still, pass_over_still, deep_over_still}
 use Rattle.tree_runs.proofs.BesideLemmas.{tag_of_pass, tag_of_deep, pass_has_it, deep_has_it}
 
@@ -158,9 +158,9 @@ pub live_pinned : (runs : RunsState) (after : SpaceState) (seat : ℕ) (tree : T
 live_pinned runs after seat tree a file pins of page has =
     (pins.pinned page).1
     (⊎_elim
-    (λ front. ⊎_elim (λ first. inl (of.c1 page first)) (λ second. inr (inl (of.c1x page second))) (Contains-append_cases (numbers_of tree.c1) (numbers_of tree.c1x) page front))
+    (λ front. ⊎_elim (λ first. inl (of.c1 page first)) (λ second. inr (inl (of.c1x page second))) front)
     (λ third. inr (inr (of.c2 page third)))
-    (Contains-append_cases (numbers_of tree.c1 ++ numbers_of tree.c1x) (numbers_of tree.c2) page has))
+    (live_tagged tree page has))
 
 -- ---- a hold that is dropped
 

@@ -10,14 +10,9 @@ use Rattle.page_space.specs.Space.{SpaceState, role_size}
 use Rattle.deep_merge.specs.Merge.{DeepState, started as deep_started}
 use Rattle.tree_runs.specs.Runs.{GuideState, RunsState, Tags, AreGuides, AreRuns, AreTags, HasOneTag, IsFilled, IsHeld, RestsEmpty, made_by_pass, made_by_deep}
 use Rattle.tree_runs.proofs.ReleasedTags.{Released, has_before, size_still, sizes_released}
+use Rattle.tree_runs.proofs.CatalogLemmas.{HasParts}
 use Rattle.tree_runs.proofs.CountLemmas.{pins_same}
 use Rattle.tree_runs.proofs.PinLemmas.{unpinned_still, released_unpinned}
-
--- the components of a catalogue
-pub record HasParts (next : Catalog) (c1 c1x c2 : Component) : Type 0 where
-  pub c1_is : next.c1 ≡ c1
-  pub c1x_is : next.c1x ≡ c1x
-  pub c2_is : next.c2 ≡ c2
 
 -- ---- which tags are which
 

@@ -5,7 +5,8 @@ use Rattle.std.proofs.lemmas.Bool.Decides.{nat_tests}
 use Rattle.std.proofs.Common.{arith}
 use Rattle.std.specs.List.{Contains}
 use Rattle.std.proofs.Common.{inr, sym, subst}
-use Rattle.disk_trait.specs.Region.{Region, nowhere, AreApart, IsSameOutside, same_file, same_wider, part_apart}
+use Rattle.disk_trait.specs.Region.{Region, nowhere, AreApart, IsSameOutside}
+use Rattle.disk_trait.proofs.RegionLemmas.{same_file, same_wider, part_apart}
 use Rattle.blsm_model.specs.Format.{page_length}
 use Rattle.blsm_model.specs.declared.key.Key.{Key}
 use Rattle.blsm_model.specs.Sizes.{Sizes}
@@ -62,12 +63,10 @@ module _ (pushed_kept : KeepsPushed) {sizes : Sizes} {honest : Bool} {region : R
 
   -- on any disk
   pub pass_runs_still : (tag : ℕ) (guide : GuideState) (snow : Option SnowState) → KeepsRun sizes honest region old new space after tag → PassHasTag tag snow → PassRuns sizes honest old space guide snow → PassRuns sizes honest new after guide snow
-  pass_runs_still tag guide None keeps role runs = tt
-  pass_runs_still tag guide (Some snow) keeps role runs = record { run = run_still keeps role runs.run; behind = runs.behind }
+  pass_runs_still tag guide snow h1 h2 h3 = grind (arith, common_steps, nat_tests, run_still)
 
   pub deep_runs_still : (tag : ℕ) (guide : GuideState) (merge : Option DeepState) → KeepsRun sizes honest region old new space after tag → DeepHasTag tag merge → DeepRuns sizes honest old space guide merge → DeepRuns sizes honest new after guide merge
-  deep_runs_still tag guide None keeps role runs = tt
-  deep_runs_still tag guide (Some merge) keeps role runs = record { run = run_still keeps role runs.run; behind = runs.behind }
+  deep_runs_still tag guide merge h1 h2 h3 = grind (arith, common_steps, nat_tests, run_still)
 
 -- the lists, on an honest disk
 module _ (pushed_kept : KeepsPushed) (ahead_kept : KeepsAhead) {sizes : Sizes} {region : Region} {old new : List ℕ} {space after : SpaceState} where

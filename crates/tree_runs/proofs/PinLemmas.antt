@@ -1,5 +1,5 @@
 -- The pages that seats pin: no run that is written has one, and nothing is written there.
-use Rattle.std.specs.Prelude.{◌≡◌, ℕ, zero, suc, ◌<◌, true, false, List, [], ◌∷◌, slice_index_or}
+use Rattle.std.specs.Prelude.{◌≡◌, ℕ, zero, suc, ◌<◌, List, [], ◌∷◌, slice_index_or}
 use Rattle.std.proofs.lemmas.Grind.{common_steps}
 use Rattle.std.proofs.lemmas.Bool.Decides.{nat_tests}
 use Rattle.std.proofs.Common.{subst, arith}
@@ -7,9 +7,8 @@ use Rattle.disk_trait.specs.Region.{IsWithin}
 use Rattle.blsm_model.specs.Sizes.{Sizes, IsGeometry}
 use Rattle.blsm_model.specs.Lanes.{AreRoles}
 use Rattle.catalog_swap.specs.declared.catalog.Catalog.{Catalog}
-use Rattle.page_space.specs.PageSet.{Members, IsIn, size}
+use Rattle.page_space.specs.PageSet.{Members, IsIn}
 use Rattle.page_space.specs.Space.{SpaceState, IsPinnedBy, IsSpace, pin_size, seat_count}
-use Rattle.page_space.proofs.SizeLemmas.{size-cons}
 use Rattle.run_writer.specs.Writer.{role_region}
 use Rattle.scan_view.specs.Pins.{IsUnpinned, beside_pins}
 use Rattle.tree_runs.specs.Holding.{commit_region, swap_region}

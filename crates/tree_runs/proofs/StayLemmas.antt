@@ -4,7 +4,6 @@ use Rattle.std.proofs.lemmas.Grind.{common_steps}
 use Rattle.std.proofs.lemmas.Bool.Decides.{nat_tests}
 use Rattle.std.specs.List.{Contains}
 use Rattle.std.proofs.Common.{sym, subst, inl, inr, ⊎_elim, refl, arith}
-use Rattle.std.proofs.lemmas.Bool.{cases_eq}
 use Rattle.std.proofs.lemmas.List.Elements.{Contains-append_left, Contains-append_cases}
 use Rattle.disk_trait.specs.Region.{AreApart, IsSameOutside}
 use Rattle.blsm_model.specs.Components.{empty_component}
@@ -13,7 +12,7 @@ use Rattle.blsm_model.specs.Geometry.{page_count}
 use Rattle.bloom_bits.specs.BitSet.{BitState}
 use Rattle.bloom_bits.specs.Fences.{FencesState}
 use Rattle.record_delta.specs.Entries.{Entries}
-use Rattle.page_space.specs.Space.{SpaceState, IsSpace, IsFree, HasRole, pages_with, role_count}
+use Rattle.page_space.specs.Space.{SpaceState, IsSpace, IsFree, HasRole, KeepsOtherRoles, pages_with, role_count}
 use Rattle.page_space.specs.PageSet.{Members, IsIn}
 use Rattle.page_file.specs.File.{page_region, pages_region}
 use Rattle.page_file.specs.Component.{numbers_of}
@@ -36,18 +35,11 @@ pub tag_kept : {old new : SpaceState} {role : ℕ} → TakesPages role old new �
 tag_kept takes other differs page has = subst (λ (set : Members). IsIn set page) (sym (takes.others other differs)) has
 
 -- The pages that a tag takes had none, so no page has two tags.
-pub one_tag_after : {old new : SpaceState} {role : ℕ} → TakesPages role old new → HasOneTag old → HasOneTag new
-one_tag_after {old} {new} {role} takes before page one other has also = by (cases_eq one role) (cases_eq other role)
-  where
-    first : (tag : ℕ) → (tag ≡ role → ⊥) → HasRole new tag page → HasRole new role page → tag ≡ role
-    first tag differs tagged taken =
-        ⊎_elim
-        (λ (was : HasRole old role page). before page tag role (other_tag takes tag differs page tagged) was)
-        (λ (free : IsFree old page). absurd (free.no_role tag (other_tag takes tag differs page tagged)))
-        (takes.only_free page taken)
+pub one_tag_taken : (role : ℕ) (old new : SpaceState) → KeepsOtherRoles role old new → ((page : ℕ) → HasRole new role page → HasRole old role page ⊎ IsFree old page) → HasOneTag old → HasOneTag new
+one_tag_taken role old new h1 h2 h3 = grind (arith, common_steps, nat_tests)
 
-    by : (one ≡ role) ⊎ (one ≡ role → ⊥) → (other ≡ role) ⊎ (other ≡ role → ⊥) → one ≡ other
-    by h1 h2 = grind (arith, common_steps, nat_tests)
+pub one_tag_after : {old new : SpaceState} {role : ℕ} → TakesPages role old new → HasOneTag old → HasOneTag new
+one_tag_after {old} {new} {role} takes before = one_tag_taken role old new takes.others takes.only_free before
 
 -- ---- what isn't the tag's
 
@@ -98,7 +90,7 @@ role_is_beside sizes tree space role file holds shape pages below others = recor
         (λ m is. omega (arith, role_below space role n shape below has, only n m is, pages))
 
 -- each page of the tree has one of three tags
-live_tagged : (tree : Tree) (n : ℕ) → Contains (live_pages tree) n → (Contains (numbers_of tree.c1) n ⊎ Contains (numbers_of tree.c1x) n) ⊎ Contains (numbers_of tree.c2) n
+pub live_tagged : (tree : Tree) (n : ℕ) → Contains (live_pages tree) n → (Contains (numbers_of tree.c1) n ⊎ Contains (numbers_of tree.c1x) n) ⊎ Contains (numbers_of tree.c2) n
 live_tagged tree n live =
     ⊎_elim
     (λ (front : Contains (numbers_of tree.c1 ++ numbers_of tree.c1x) n). inl (Contains-append_cases (numbers_of tree.c1) (numbers_of tree.c1x) n front))

@@ -1,56 +1,44 @@
 -- What a swap leaves of the tree that stood.
-use Rattle.std.specs.Prelude.{◌≡◌, ◌≢◌, ℕ, ◌<◌, Bool, IsTrue, List, [], ◌∷◌}
+use Rattle.std.specs.Prelude.{◌≡◌, ◌≢◌, ℕ, Bool, IsTrue, List, [], ◌∷◌}
 use Rattle.std.proofs.lemmas.Grind.{common_steps}
 use Rattle.std.proofs.lemmas.Bool.Decides.{nat_tests}
 use Rattle.std.specs.List.{Contains}
-use Rattle.std.proofs.Common.{inl, inr, sym, arith}
+use Rattle.std.proofs.Common.{inl, inr, arith}
 use Rattle.std.proofs.lemmas.List.{append-nil}
 use Rattle.disk_trait.specs.Disk.{DiskState}
-use Rattle.disk_trait.specs.Effects.{Affects, affects_wider, affects_more}
-use Rattle.disk_trait.specs.Moments.{IsTimed, LeavesOnly, leaves_only_weaken}
+use Rattle.disk_trait.specs.Effects.{Affects}
+use Rattle.disk_trait.proofs.EffectLemmas.{affects_wider, affects_more}
+use Rattle.disk_trait.specs.Moments.{IsTimed, LeavesOnly}
+use Rattle.disk_trait.proofs.MomentLemmas.{leaves_only_weaken}
 use Rattle.blsm_model.specs.Lanes.{AreRoles}
 use Rattle.record_delta.specs.Entries.{Entries, settled_entries}
-use Rattle.page_space.specs.Space.{HasRole, role_count}
+use Rattle.page_space.specs.Space.{HasRole}
 use Rattle.page_file.specs.Component.{RunPage, entries_of}
 use Rattle.run_writer.specs.Writer.{role_region}
 use Rattle.tree_machine.specs.Layers.{AreBases}
 use Rattle.tree_file.specs.Tree.{Tree, HoldsTree, live_pages}
 use Rattle.tree_file.specs.Places.{StandsOn, Becomes}
-use Rattle.tree_file.proofs.HoldsLemmas.{roles_of}
 use Rattle.tree_file.proofs.StandLemmas.{stands_beside, becomes_behind}
 use Rattle.tree_runs.specs.Runs.{RunsState, AreRuns}
 use Rattle.tree_runs.specs.Holding.{AreOf, StandOver, LeavesSwapped, swap_region}
 use Rattle.tree_runs.specs.Holding.{commit_region}
 use Rattle.tree_runs.proofs.KeptMerges.{KeepsRun, KeepsPages}
-use Rattle.tree_runs.proofs.SwapRegions.{swap_apart, tagged_below, tagged_beside, not_live}
+use Rattle.tree_runs.proofs.SwapRegions.{swap_apart}
+use Rattle.tree_runs.proofs.StayLemmas.{not_live, role_is_beside}
+use Rattle.tree_runs.proofs.QuantumLemmas.{IsRunTag}
 
 -- ---- a tag that is no component's
 
-pub record IsRunTag (runs : RunsState) (tag : ℕ) : Type 0 where
-  pub below : tag < role_count
-  pub not_c1 : tag ≢ runs.tags.c1
-  pub not_c1x : tag ≢ runs.tags.c1x
-  pub not_c2 : tag ≢ runs.tags.c2
-
-pub deep_tag : (runs : RunsState) → AreRuns runs → IsRunTag runs runs.tags.deep
-deep_tag runs are = record { below = are.tags.deep_below; not_c1 = λ is. are.tags.c1_deep (sym is); not_c1x = λ is. are.tags.c1x_deep (sym is); not_c2 = λ is. are.tags.c2_deep (sym is) }
-
-pub pass_tag : (runs : RunsState) → AreRuns runs → IsRunTag runs runs.tags.pass
-pass_tag runs are = record { below = are.tags.pass_below; not_c1 = λ is. are.tags.c1_pass (sym is); not_c1x = λ is. are.tags.c1x_pass (sym is); not_c2 = λ is. are.tags.c2_pass (sym is) }
-
 -- the run's pages aren't the tree's
-pub run_others : {tree : Tree} {a : Entries} {file : List ℕ} (runs : RunsState) (tag : ℕ) → AreRuns runs → IsRunTag runs tag → AreOf runs tree a file
+pub run_others : {tree : Tree} {a : Entries} {file : List ℕ} (runs : RunsState) (tag : ℕ) → AreRuns runs → IsRunTag runs.tags tag → AreOf runs tree a file
     → (n : ℕ) → HasRole runs.space tag n → Contains (live_pages tree) n → ⊥
-run_others {tree} runs tag are is of = not_live runs.space tree tag are.one_tag of.c1 of.c1x of.c2 is.not_c1 is.not_c1x is.not_c2
+run_others {tree} runs tag are is of = not_live runs.tags tree runs.space tag are.one_tag is.c1 is.c1x is.c2 of.c1 of.c1x of.c2
 
 -- Once the run is finished the disk stands on the tree still.
-pub stands_finished : {tree : Tree} {a : Entries} {end most : ℕ} {old new : DiskState} (runs : RunsState) (tag : ℕ) → AreRuns runs → IsRunTag runs tag → StandOver runs tree a old
+pub stands_finished : {tree : Tree} {a : Entries} {end most : ℕ} {old new : DiskState} (runs : RunsState) (tag : ℕ) → AreRuns runs → IsRunTag runs.tags tag → StandOver runs tree a old
     → Affects (role_region runs.sizes runs.space tag) end most old new → IsTrue old.is_honest → IsTimed new → StandsOn runs.sizes tree new × LeavesOnly old new (HoldsTree runs.sizes tree)
-stands_finished {tree} runs tag are is over effect honest timed =
-    stands_beside runs.sizes tree effect
-    (tagged_beside runs.sizes tree runs.space tag (roles_of over.are_of.holds) (run_others runs tag are is over.are_of)
-    (λ n has. omega (arith, tagged_below runs.space tag n are.shape is.below has, are.pages)))
-    honest timed over.stands
+stands_finished {tree} {old = old} runs tag are is over effect honest timed =
+    stands_beside runs.sizes tree effect (role_is_beside runs.sizes tree runs.space tag old.bytes over.stands.reads are.shape are.pages is.below (run_others runs tag are is over.are_of)) honest timed over.stands
 
 -- ---- what is said of both
 

@@ -2,29 +2,31 @@
 use Rattle.std.specs.Prelude.{◌≡◌, ℕ, ◌+◌, ◌<◌, ◌≤◌, ◌^◌, Bool, true, false, IsTrue, List, [], Option, Some, None, Result, is_ok, refl}
 use Rattle.std.proofs.lemmas.Grind.{common_steps}
 use Rattle.std.proofs.lemmas.Bool.Decides.{nat_tests}
-use Rattle.std.specs.List.{Contains}
 use Rattle.std.proofs.Common.{sym, subst, ap, ◌∙◌, arith}
 use Rattle.disk_trait.specs.Disk.{DiskState}
 use Rattle.disk_trait.specs.Effects.{Affects}
 use Rattle.disk_trait.specs.Moments.{IsTimed, LeavesOnly}
+use Rattle.disk_trait.proofs.MomentLemmas.{leaves_only_start}
 use Rattle.blsm_model.specs.declared.component.Component.{Component}
 use Rattle.blsm_model.specs.Sizes.{Sizes}
 use Rattle.blsm_model.specs.Geometry.{page_count}
+use Rattle.bloom_bits.specs.Guides.{Guide}
 use Rattle.catalog_swap.specs.declared.catalog.Catalog.{Catalog}
 use Rattle.record_delta.specs.Entries.{Entries, folded_over, settled_entries}
 use Rattle.page_space.specs.Space.{role_count, role_size}
-use Rattle.page_file.specs.Component.{RunPage, ReadsAs, HasList, entries_of, numbers_of}
+use Rattle.page_file.specs.Component.{RunPage, ReadsAs, HasList, entries_of}
 use Rattle.run_writer.specs.Writer.{role_region}
 use Rattle.snow_merge.specs.Pass.{SnowState}
 use Rattle.deep_merge.specs.Merge.{DeepState}
-use Rattle.tree_file.specs.Tree.{Tree, HoldsTree, live_pages}
-use Rattle.tree_file.specs.Places.{StandsOn, Becomes, ReadsNext, with_components, with_pass}
-use Rattle.tree_runs.specs.Runs.{RunsState, AreRuns, AreRunning, PassRuns, DeepRuns, guide_at, made_by_pass, made_by_deep}
-use Rattle.tree_runs.specs.Holding.{AreTagged, AreOf, StandOver, IsDeepSwapped, IsPassSwapped, is_full, with_deep_run, with_pass_run, with_rotation}
+use Rattle.tree_file.specs.Tree.{Tree, HoldsTree}
+use Rattle.tree_file.specs.Places.{StandsOn, Becomes, ReadsNext, with_components}
+use Rattle.tree_runs.specs.Runs.{RunsState, AreRuns, AreRunning, PassRuns, DeepRuns, fences_of_tag, filter_of, guide_at, made_by_pass, made_by_deep}
+use Rattle.tree_runs.specs.Holding.{AreTagged, AreOf, StandOver, IsDeepSwapped, IsPassSwapped, IsRotated, is_full, with_deep_run, with_pass_run, with_rotation}
 use Rattle.tree_runs.specs.Swaps.{MayFollow}
-use Rattle.tree_runs.proofs.SwapLemmas.{deep_tag, pass_tag, run_others, stands_finished, one_page, one_page_entries}
+use Rattle.tree_runs.proofs.QuantumLemmas.{deep_is_run, pass_is_run}
+use Rattle.tree_runs.proofs.SwapLemmas.{run_others, stands_finished, one_page, one_page_entries}
 use Rattle.tree_runs.proofs.CatalogLemmas.{Suits, empty_suits, run_suits}
-use Rattle.tree_runs.proofs.NextTrees.{IsReadyFor, ready_for_deep, ready_for_pass, ready_for_rotated_pass, ready_for_rotation}
+use Rattle.tree_runs.proofs.NextTrees.{pass_tree, ready_for_deep, ready_for_pass, ready_for_rotation}
 
 -- what the commit of the next catalogue ensures
 pub record Switches {T E : Type 0} (sizes : Sizes) (now next : Catalog) (result : Result T E) (old new : DiskState) : Type 0 where
@@ -82,63 +84,84 @@ version_of_next runs tree next of is = is ∙ ap (λ (k : Catalog). k.version + 
 abbrev pub next_version : Catalog → Catalog
 next_version now = record now { version = now.version + 1 }
 
+-- the run and what its swap makes of the tree
+pub record DeepCommitted (runs : RunsState) (tree : Tree) (made : Component) (next : Catalog) (done : Bool) (old mid new : DiskState) : Type 0 where
+  pub list : HasList runs.sizes made (settled_entries (folded_over (entries_of tree.c1x) (entries_of tree.c2))) mid.bytes
+  pub tagged : AreTagged runs.space runs.tags.deep list.pages
+  pub guided : Guide (filter_of runs runs.tags.deep) (fences_of_tag runs runs.tags.deep) list.pages
+  pub swapped : IsDeepSwapped tree (with_components next tree.c1 [] list.pages tree)
+  pub first : LeavesOnly old mid (HoldsTree runs.sizes tree)
+  pub becomes : Becomes runs.sizes tree (with_components next tree.c1 [] list.pages tree) done mid new
+
 pub deep_becomes : {T E : Type 0} {result : Result T E} {a : Entries} {old mid new : DiskState} (runs : RunsState) (tree : Tree) (made : Component) (next : Catalog)
     → IsFinished runs tree a runs.tags.deep old mid → made ≡ made_by_deep runs.deep → (list : HasList runs.sizes made (settled_entries (folded_over (entries_of tree.c1x) (entries_of tree.c2))) mid.bytes)
-    → AreTagged runs.space runs.tags.deep list.pages → next ≡ with_deep_run made runs.catalogue → Switches runs.sizes runs.catalogue next result mid new
-    → LeavesOnly old mid (HoldsTree runs.sizes tree) × Becomes runs.sizes tree (with_components next tree.c1 [] list.pages tree) (is_ok result) mid new
-deep_becomes {T} {E} {result} {a} {old} {mid} {new} runs tree made next is made_is list tagged next_is switches =
+    → AreTagged runs.space runs.tags.deep list.pages → Guide (filter_of runs runs.tags.deep) (fences_of_tag runs runs.tags.deep) list.pages → next ≡ with_deep_run made runs.catalogue
+    → Switches runs.sizes runs.catalogue next result mid new → DeepCommitted runs tree made next (is_ok result) old mid new
+deep_becomes {old = old} {mid = mid} runs tree made next is made_is list tagged guided next_is switches =
     let are = is.running.in_order in
     let of = is.over.are_of in
-    let stands = stands_finished runs runs.tags.deep are (deep_tag runs are) is.over is.effect is.honest is.timed in
+    let stands = stands_finished runs runs.tags.deep are (deep_is_run runs are) is.over is.effect is.honest is.timed in
     let suits = deep_suits {now = mid.bytes} old.is_honest old.bytes runs made list.pages are is.running.deep made_is list.reads in
     let ready = ready_for_deep runs.sizes tree mid.bytes stands.0.reads (few_of_tree runs tree of is.few) next made (folded_over (entries_of tree.c1x) (entries_of tree.c2)) list suits
-    (subst (λ (k : Catalog). next ≡ with_deep_run made k) (sym of.catalogue) next_is) (λ n has. run_others runs runs.tags.deep are (deep_tag runs are) of n (tagged n has)) in
-    (stands.1, switches.becomes tree (with_components next tree.c1 [] list.pages tree) (subst IsTrue (sym is.effect.goes_on.is_honest) is.honest) of.catalogue refl ready.may stands.0 ready.reads)
-
-pub deep_swapped : {sizes : Sizes} {made : Component} {file : List ℕ} (tree : Tree) (next : Catalog) (list : HasList sizes made (settled_entries (folded_over (entries_of tree.c1x) (entries_of tree.c2))) file)
-    → next.version ≡ tree.catalogue.version + 1 → IsDeepSwapped tree (with_components next tree.c1 [] list.pages tree)
-deep_swapped tree next list version = record { version = version; c1 = refl; c1x = refl; c2 = list.entries_are; lane_a = refl; lane_b = refl }
+    (subst (λ (k : Catalog). next ≡ with_deep_run made k) (sym of.catalogue) next_is) (λ n has. run_others runs runs.tags.deep are (deep_is_run runs are) of n (tagged n has)) in
+    record {
+      list = list;
+      tagged = tagged;
+      guided = guided;
+      swapped = record { version = version_of_next runs tree next of (ap (λ (k : Catalog). k.version) next_is); c1 = refl; c1x = refl; c2 = list.entries_are; lane_a = refl; lane_b = refl };
+      first = stands.1;
+      becomes = switches.becomes tree (with_components next tree.c1 [] list.pages tree) (subst IsTrue (sym is.effect.goes_on.is_honest) is.honest) of.catalogue refl ready.may stands.0 ready.reads;
+    }
 
 -- where the run's end wasn't written
 pub deep_unswapped : (tree : Tree) → IsDeepSwapped tree (with_components (next_version tree.catalogue) tree.c1 [] (one_page (settled_entries (folded_over (entries_of tree.c1x) (entries_of tree.c2)))) tree)
 deep_unswapped tree = record { version = refl; c1 = refl; c1x = refl; c2 = one_page_entries (settled_entries (folded_over (entries_of tree.c1x) (entries_of tree.c2))); lane_a = refl; lane_b = refl }
 
--- the tree that a pass leaves
-abbrev pub pass_tree : Bool → Catalog → List RunPage → Tree → Tree
-pass_tree true next run tree = with_pass next [] run tree.c2 tree
-pass_tree false next run tree = with_pass next run tree.c1x tree.c2 tree
-
-ready_pass : {made : Component} {file : List ℕ} (sizes : Sizes) (tree : Tree) (next : Catalog) (out : Entries) (b : Bool) → is_full sizes made ≡ b → HoldsTree sizes tree file → tree.catalogue.version + 1 < 2 ^ 64
-    → (list : HasList sizes made out file) → Suits sizes made → next ≡ with_pass_run sizes made tree.catalogue
-    → ((n : ℕ) → Contains (numbers_of list.pages) n → Contains (live_pages tree) n → ⊥) → IsReadyFor sizes tree (pass_tree b next list.pages tree) file
-ready_pass {made} {file} sizes tree next out true full holds few list suits is others = ready_for_rotated_pass sizes tree file holds few next made out list suits is full others
-ready_pass {made} {file} sizes tree next out false full holds few list suits is others = ready_for_pass sizes tree file holds few next made out list suits is full others
-
-pub pass_becomes : {T E : Type 0} {result : Result T E} {a : Entries} {old mid new : DiskState} (runs : RunsState) (tree : Tree) (made : Component) (next : Catalog) (b : Bool) → is_full runs.sizes made ≡ b
-    → IsFinished runs tree a runs.tags.pass old mid → made ≡ made_by_pass runs.pass → (list : HasList runs.sizes made (folded_over a (entries_of tree.c1)) mid.bytes)
-    → AreTagged runs.space runs.tags.pass list.pages → next ≡ with_pass_run runs.sizes made runs.catalogue → Switches runs.sizes runs.catalogue next result mid new
-    → LeavesOnly old mid (HoldsTree runs.sizes tree) × Becomes runs.sizes tree (pass_tree b next list.pages tree) (is_ok result) mid new
-pass_becomes {T} {E} {result} {a} {old} {mid} {new} runs tree made next b full is made_is list tagged next_is switches =
-    let are = is.running.in_order in
-    let of = is.over.are_of in
-    let stands = stands_finished runs runs.tags.pass are (pass_tag runs are) is.over is.effect is.honest is.timed in
-    let suits = pass_suits {now = mid.bytes} old.is_honest old.bytes runs made list.pages are is.running.pass made_is list.reads in
-    let ready = ready_pass runs.sizes tree next (folded_over a (entries_of tree.c1)) b full stands.0.reads (few_of_tree runs tree of is.few) list suits
-    (subst (λ (k : Catalog). next ≡ with_pass_run runs.sizes made k) (sym of.catalogue) next_is) (λ n has. run_others runs runs.tags.pass are (pass_tag runs are) of n (tagged n has)) in
-    (stands.1, switches.becomes tree (pass_tree b next list.pages tree) (subst IsTrue (sym is.effect.goes_on.is_honest) is.honest) of.catalogue (catalogue_of b) ready.may stands.0 ready.reads)
-  where
-    catalogue_of : (b : Bool) → (pass_tree b next list.pages tree).catalogue ≡ next
-    catalogue_of true = refl
-    catalogue_of false = refl
+-- the run and what its swap makes of the tree
+pub record PassCommitted (runs : RunsState) (tree : Tree) (a : Entries) (b : Bool) (made : Component) (next : Catalog) (done : Bool) (old mid new : DiskState) : Type 0 where
+  pub list : HasList runs.sizes made (folded_over a (entries_of tree.c1)) mid.bytes
+  pub tagged : AreTagged runs.space runs.tags.pass list.pages
+  pub guided : Guide (filter_of runs runs.tags.pass) (fences_of_tag runs runs.tags.pass) list.pages
+  pub swapped : IsPassSwapped (is_full runs.sizes (made_by_pass runs.pass)) a tree (pass_tree b next list.pages tree)
+  pub first : LeavesOnly old mid (HoldsTree runs.sizes tree)
+  pub becomes : Becomes runs.sizes tree (pass_tree b next list.pages tree) done mid new
 
 pub pass_swapped : (b : Bool) (a : Entries) (tree : Tree) (next : Catalog) (run : List RunPage) → entries_of run ≡ folded_over a (entries_of tree.c1) → next.version ≡ tree.catalogue.version + 1
     → IsPassSwapped b a tree (pass_tree b next run tree)
 pass_swapped b a tree next run h1 h2 = grind (arith, common_steps, nat_tests)
 
-pub rotation_becomes : {T E : Type 0} {result : Result T E} {a : Entries} {old new : DiskState} (runs : RunsState) (tree : Tree) (next : Catalog) → StandOver runs tree a old → IsTrue old.is_honest
+pub pass_becomes : {T E : Type 0} {result : Result T E} {a : Entries} {old mid new : DiskState} (runs : RunsState) (tree : Tree) (made : Component) (next : Catalog) (b : Bool) → is_full runs.sizes (made_by_pass runs.pass) ≡ b
+    → IsFinished runs tree a runs.tags.pass old mid → made ≡ made_by_pass runs.pass → (list : HasList runs.sizes made (folded_over a (entries_of tree.c1)) mid.bytes)
+    → AreTagged runs.space runs.tags.pass list.pages → Guide (filter_of runs runs.tags.pass) (fences_of_tag runs runs.tags.pass) list.pages → next ≡ with_pass_run runs.sizes made runs.catalogue
+    → Switches runs.sizes runs.catalogue next result mid new → PassCommitted runs tree a b made next (is_ok result) old mid new
+pass_becomes {a = a} {old = old} {mid = mid} runs tree made next b full is made_is list tagged guided next_is switches =
+    let are = is.running.in_order in
+    let of = is.over.are_of in
+    let stands = stands_finished runs runs.tags.pass are (pass_is_run runs are) is.over is.effect is.honest is.timed in
+    let suits = pass_suits {now = mid.bytes} old.is_honest old.bytes runs made list.pages are is.running.pass made_is list.reads in
+    let ready = ready_for_pass runs.sizes tree mid.bytes stands.0.reads (few_of_tree runs tree of is.few) b next made (folded_over a (entries_of tree.c1)) list suits
+    (subst (λ (k : Catalog). next ≡ with_pass_run runs.sizes made k) (sym of.catalogue) next_is) (ap (λ (k : Component). is_full runs.sizes k) made_is ∙ full) (λ n has. run_others runs runs.tags.pass are (pass_is_run runs are) of n (tagged n has)) in
+    record {
+      list = list;
+      tagged = tagged;
+      guided = guided;
+      swapped = subst (λ (f : Bool). IsPassSwapped f a tree (pass_tree b next list.pages tree)) (sym full)
+          (pass_swapped b a tree next list.pages list.entries_are (version_of_next runs tree next of (ap (λ (k : Catalog). k.version) next_is)));
+      first = stands.1;
+      becomes = switches.becomes tree (pass_tree b next list.pages tree) (subst IsTrue (sym is.effect.goes_on.is_honest) is.honest) of.catalogue (catalogue_of b) ready.may stands.0 ready.reads;
+    }
+  where
+    catalogue_of : (b : Bool) → (pass_tree b next list.pages tree).catalogue ≡ next
+    catalogue_of true = refl
+    catalogue_of false = refl
+
+pub rotation_becomes : {T E : Type 0} {result : Result T E} {a : Entries} {old new : DiskState} (runs : RunsState) (tree : Tree) (next : Catalog) → StandOver runs tree a old → IsTrue old.is_honest → IsTimed old
     → runs.catalogue.version + 1 < 2 ^ 64 → next ≡ with_rotation runs.catalogue → Switches runs.sizes runs.catalogue next result old new
-    → Becomes runs.sizes tree (with_components next [] tree.c1 tree.c2 tree) (is_ok result) old new
-rotation_becomes {T} {E} {result} {a} {old} {new} runs tree next over honest few next_is switches =
+    → IsRotated tree (with_components next [] tree.c1 tree.c2 tree) × LeavesOnly old old (HoldsTree runs.sizes tree) × Becomes runs.sizes tree (with_components next [] tree.c1 tree.c2 tree) (is_ok result) old new
+rotation_becomes {old = old} runs tree next over honest timed few next_is switches =
     let of = over.are_of in
-    let ready = ready_for_rotation runs.sizes tree old.bytes over.stands.reads (few_of_tree runs tree of few) next (subst (λ (k : Catalog). next ≡ with_rotation k) (sym of.catalogue) next_is) in
-    switches.becomes tree (with_components next [] tree.c1 tree.c2 tree) honest of.catalogue refl ready.may over.stands ready.reads
+    let ready = ready_for_rotation runs.sizes tree old.bytes over.stands.reads (few_of_tree runs tree of few) next (subst (λ (k : Catalog). next ≡ with_rotation k) (sym of.catalogue) next_is) in (
+      record { version = version_of_next runs tree next of (ap (λ (k : Catalog). k.version) next_is); c1 = refl; c1x = refl; c2 = refl; lane_a = refl; lane_b = refl },
+      leaves_only_start old (λ f. HoldsTree runs.sizes tree f) timed over.stands.each,
+      switches.becomes tree (with_components next [] tree.c1 tree.c2 tree) honest of.catalogue refl ready.may over.stands ready.reads,
+    )

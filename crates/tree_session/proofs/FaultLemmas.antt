@@ -17,7 +17,7 @@ use Rattle.blsm_model.specs.declared.history.Why.TheVariants.{Faulted, BadPage}
 use Rattle.blsm_model.specs.Sizes.{Sizes}
 use Rattle.disk_trait.specs.Disk.{DiskState}
 use Rattle.disk_trait.specs.Effects.{Affects}
-use Rattle.disk_trait.specs.Moments.{syncs_later_run, syncs_later_start, goes_on_run, goes_on_start}
+use Rattle.disk_trait.proofs.MomentLemmas.{syncs_later_run, syncs_later_start, goes_on_run, goes_on_start}
 use Rattle.disk_trait.specs.Region.{Region}
 use Rattle.tree_machine.specs.Machine as machine
 use Rattle.tree_machine.specs.Machine.{Turned}

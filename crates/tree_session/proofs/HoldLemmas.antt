@@ -1,8 +1,7 @@
 -- Holds, which are made and dropped in memory alone, and read: each command notes its entry and moves no merge.
-use Rattle.std.specs.Prelude.{Option}
 use Rattle.std.proofs.lemmas.Grind.{common_steps}
 use Rattle.std.proofs.lemmas.Bool.Decides.{nat_tests}
-use Rattle.std.proofs.Common.{◌≡◌, ◌∙◌, ℕ, ◌+◌, ◌<◌, ◌≤◌, List, length, ap, sym, subst, arith}
+use Rattle.std.proofs.Common.{◌≡◌, ◌∙◌, ℕ, ◌+◌, ◌<◌, ◌≤◌, length, ap, sym, subst, arith}
 use Rattle.blsm_model.specs.Book.{noted, rows_given}
 use Rattle.blsm_model.specs.Format.{callers}
 use Rattle.blsm_model.specs.Geometry.{file_length}
@@ -10,11 +9,8 @@ use Rattle.blsm_model.specs.declared.history.Entry.{Entry}
 use Rattle.blsm_model.specs.declared.history.Reply.{Reply}
 use Rattle.blsm_model.specs.declared.key.Key.{Key}
 use Rattle.blsm_model.specs.declared.op.Op.{Op}
-use Rattle.blsm_model.specs.declared.row.Row.{Row}
 use Rattle.disk_trait.specs.Disk.{DiskState}
 use Rattle.gear_sched.specs.Gears.{GearState, first_debt, second_debt}
-use Rattle.scan_view.specs.Hold.{HoldState}
-use Rattle.scan_view.specs.Holds.{AreGivenBy}
 use Rattle.seat_book.specs.State.{BookState, noted_in, work_in}
 use Rattle.tree_machine.specs.Steps.{Answer}
 use Rattle.tree_machine.specs.declared.step.Kind.{Kind}
@@ -32,11 +28,12 @@ use Rattle.tree_core.specs.declared.answers.Release.TheVariants as release
 use Rattle.tree_core.specs.Scanned.{Scanned}
 use Rattle.tree_core.specs.Scanned as scanned
 use Rattle.tree_session.specs.Faults.{NamesStop, Reaches, TellsFaults, TellsNone, faults_of}
-use Rattle.tree_session.specs.Lines.{Rests, rows_of}
+use Rattle.tree_session.specs.Lines.{Rests}
 use Rattle.tree_session.specs.Session.{Performs, most_calls}
 use Rattle.tree_session.proofs.BookLemmas.{count_none}
 use Rattle.tree_session.proofs.FaultLemmas.{none_told, proceeds_by, reaches_none, tells_quiet}
 use Rattle.tree_session.proofs.MadeLemmas.{made_by}
+use Rattle.blsm_model.specs.Scripts.{rows_of}
 
 -- ---- a command that notes its entry alone
 

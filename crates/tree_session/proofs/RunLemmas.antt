@@ -7,7 +7,7 @@ use Rattle.std.proofs.lemmas.Grind.{common_steps}
 use Rattle.std.proofs.lemmas.List.{map-append}
 use Rattle.blsm_model.specs.Book.{Book, room_after, rows_given}
 use Rattle.blsm_model.specs.Format.{callers}
-use Rattle.blsm_model.specs.Scripts.{lines_of}
+use Rattle.blsm_model.specs.Scripts.{lines_of, rows_of, rows_asked}
 use Rattle.blsm_model.specs.Sizes.{Sizes}
 use Rattle.blsm_model.specs.declared.history.Entry.{Entry}
 use Rattle.blsm_model.specs.declared.history.Line.{Line}
@@ -18,7 +18,7 @@ use Rattle.core_moves.specs.declared.held.Held.{Held}
 use Rattle.tree_core.specs.Causes.{swaps_due_in}
 use Rattle.tree_core.specs.Core.{CoreState}
 use Rattle.tree_session.specs.Faults.{NamesStop, Proceeds, TellsFaults, TellsNone, faults_of, faults_told}
-use Rattle.tree_session.specs.Lines.{HasRoomFor, Rests, rows_asked, rows_of}
+use Rattle.tree_session.specs.Lines.{HasRoomFor, Rests}
 use Rattle.tree_session.specs.Session.{AreDone, Performs, Runs, TookFew, calls_for, most_calls, most_quanta}
 use Rattle.tree_session.proofs.BookLemmas.{end_counted}
 use Rattle.tree_session.proofs.MadeLemmas.{made_none, made_then}

@@ -24,11 +24,12 @@ use Rattle.tree_core.specs.Steps.{StandsSince}
 use Rattle.tree_core.specs.declared.answers.Admission.{Admission}
 use Rattle.tree_core.specs.declared.answers.Admission.TheVariants as admission
 use Rattle.tree_session.specs.Faults.{Proceeds, faults_of}
-use Rattle.tree_session.specs.Lines.{Rests, rows_of}
+use Rattle.tree_session.specs.Lines.{Rests}
 use Rattle.tree_session.specs.Session.{PaysOff, Performs, most_calls}
 use Rattle.tree_session.proofs.BookLemmas.{all_even, count_none, last_is, of_write, paid_few}
 use Rattle.tree_session.proofs.MadeLemmas.{made_by, made_then}
 use Rattle.tree_session.proofs.FaultLemmas.{admit_calm, admit_names, admit_tells, eases_by, eases_then, none_told, proceeds_by, proceeds_then, proceeds_wider, reaches_by}
+use Rattle.blsm_model.specs.Scripts.{rows_of}
 
 -- a write that isn't admitted leaves no debt
 refused_even : {D : Type 0} (state : D → DiskState) (seat : ℕ) (op : Op) (answer : Admission) (old new : CoreState D) → (answer ≡ admission.Admitted → ⊥) → Admits state seat op answer old new

@@ -1,15 +1,14 @@
 -- Which lines a session does, the room that they need, and when it may do one.
-use Rattle.std.specs.Prelude.{◌≡◌, ℕ, ◌<◌, ◌≤◌, None, List, All, length, slice_index, sum_by}
-use Rattle.blsm_model.specs.Format.{callers, most_rows}
+use Rattle.std.specs.Prelude.{◌≡◌, ℕ, ◌<◌, ◌≤◌, None, List, All, length, slice_index}
+use Rattle.blsm_model.specs.Format.{callers, most_rows, most_turns}
 use Rattle.blsm_model.specs.Legal.{TailsFit}
-use Rattle.blsm_model.specs.Scripts.{lines_of}
+use Rattle.blsm_model.specs.Scripts.{lines_of, rows_asked}
 use Rattle.blsm_model.specs.declared.history.Line.{Line}
 use Rattle.blsm_model.specs.declared.op.Op.{Op}
 use Rattle.blsm_model.specs.declared.op.Op.TheVariants.{Next, Work}
 use Rattle.blsm_model.specs.declared.room.Room.{Room}
 use Rattle.seat_book.specs.State.{work_in}
 use Rattle.tree_machine.specs.Machine.{no_work}
-use Rattle.tree_machine.specs.Plays.{most_turns}
 use Rattle.core_moves.specs.declared.held.Held.{Held}
 use Rattle.tree_core.specs.Notes.{OwesNothing}
 
@@ -26,14 +25,6 @@ pub record IsRunnable (line : Line) : Type 0 where
 
 abbrev pub AreRunnable : List Line → Type 0
 AreRunnable lines = All IsRunnable lines
-
--- how many rows a command may give, and the lines of one caller
-abbrev pub rows_of : Op → ℕ
-rows_of (Next n) = n
-rows_of op = 0
-
-abbrev pub rows_asked : ℕ → List Line → ℕ
-rows_asked seat lines = sum_by rows_of (lines_of seat lines)
 
 -- each caller has room for its lines, and for the rows that they may give
 pub record HasRoomFor (room : Room) (lines : List Line) : Type 0 where

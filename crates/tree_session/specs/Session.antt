@@ -6,7 +6,7 @@ use Rattle.blsm_model.specs.Format.{callers}
 use Rattle.blsm_model.specs.Geometry.{work_bound}
 use Rattle.blsm_model.specs.Histories.{writes_of}
 use Rattle.blsm_model.specs.Legal.{total_weight}
-use Rattle.blsm_model.specs.Scripts.{asked, asked_in, lines_of}
+use Rattle.blsm_model.specs.Scripts.{asked, asked_in, lines_of, rows_of}
 use Rattle.blsm_model.specs.Sizes.{Sizes}
 use Rattle.blsm_model.specs.declared.history.Entry.{Entry}
 use Rattle.blsm_model.specs.declared.history.Line.{Line}
@@ -27,7 +27,7 @@ use Rattle.tree_core.specs.Core.{CoreState, IsCore}
 use Rattle.tree_core.specs.Notes.{OwesNothing}
 use Rattle.tree_core.specs.Steps.{StandsSince}
 use Rattle.tree_session.specs.Faults.{NamesStop, Proceeds, TellsNone, faults_of, faults_of_turn, faults_told, is_by_fault}
-use Rattle.tree_session.specs.Lines.{Rests, rows_of}
+use Rattle.tree_session.specs.Lines.{Rests}
 
 -- ---- one command
 

@@ -2,8 +2,9 @@
 ghost use Rattle.std.specs.Prelude.{◌<◌, ◌≤◌, IsTrue, slice_index};
 ghost use Rattle.blsm_model.specs.declared.op.Op.TheVariants.{Get};
 ghost use Rattle.seat_book.specs.State.{may_note_in};
-ghost use Rattle.tree_session.specs.Lines.{AreRunnable, HasRoomFor, IsRunnable, Rests, rows_of};
+ghost use Rattle.tree_session.specs.Lines.{AreRunnable, HasRoomFor, IsRunnable, Rests};
 ghost use Rattle.tree_session.specs.Session.{Performs, Runs};
+ghost use Rattle.blsm_model.specs.Scripts.{rows_of};
 
 use crate::holds::{hold, let_go, read_on};
 use crate::works::work;

@@ -2,7 +2,7 @@
 ghost use Rattle.std.specs.Prelude.{◌<◌, ◌≤◌, IsTrue};
 ghost use Rattle.blsm_model.specs.declared.op.Op.TheVariants.{Work};
 ghost use Rattle.seat_book.specs.State.{may_note_in};
-ghost use Rattle.tree_machine.specs.Plays.{most_turns};
+ghost use Rattle.blsm_model.specs.Format.{most_turns};
 ghost use Rattle.tree_session.specs.Lines.{Rests};
 ghost use Rattle.tree_session.specs.Session.{Performs, Turns};
 

@@ -1,5 +1,7 @@
 -- A deep merge that is gone on with to its end and swapped in.
-use Rattle.std.proofs.Common.{◌≡◌, ◌∙◌, ℕ, ◌+◌, ◌≤◌, Bool, List, Option, refl, ap, sym, subst, arith, length}
+use Rattle.std.proofs.lemmas.Grind.{common_steps}
+use Rattle.std.proofs.lemmas.Bool.Decides.{nat_tests}
+use Rattle.std.proofs.Common.{◌≡◌, ◌∙◌, ℕ, ◌+◌, ◌≤◌, Bool, List, Option, refl, ap, sym, subst, arith}
 use Rattle.std.specs.Prelude.{IsTrue}
 use Rattle.disk_trait.specs.Disk.{DiskState}
 use Rattle.disk_trait.specs.Effects.{Affects}
@@ -11,9 +13,8 @@ use Rattle.blsm_model.specs.declared.key.Key.{Key}
 use Rattle.blsm_model.specs.declared.row.Value.{Value}
 use Rattle.catalog_swap.specs.declared.catalog.Catalog.{Catalog}
 use Rattle.deep_merge.specs.Merge.{DeepState}
-use Rattle.gated_log.specs.Lane.{blocks}
 use Rattle.mem_table.specs.Tables.{Contents}
-use Rattle.record_delta.specs.Entries.{Entries, replayed}
+use Rattle.record_delta.specs.Entries.{Entries}
 use Rattle.tree_file.specs.Tree.{Tree, HoldsTree, FitsSizes}
 use Rattle.tree_file.specs.Places.{HoldsEither}
 use Rattle.tree_log.specs.Log.{LogState, IsLogOf, weight_of_tables}
@@ -36,15 +37,9 @@ pub record IsDeepSwap (done : Bool) (a : Contents) (runs mid new : RunsState) (l
 
 -- the log of a tree of the same lanes
 log_keeps : (old new : Tree) (log : LogState) → new.catalogue.lanes ≡ old.catalogue.lanes → new.lane_a ≡ old.lane_a → new.lane_b ≡ old.lane_b → IsLogOf old log → IsLogOf new log
-log_keeps old new log roles a b is = record {
-  roles = is.roles ∙ sym roles;
-  end_a = is.end_a ∙ ap (λ (l : Entries). length (blocks l)) (sym a);
-  end_b = is.end_b ∙ ap (λ (l : Entries). length (blocks l)) (sym b);
-  a = is.a ∙ ap replayed (sym a);
-  b = is.b ∙ ap replayed (sym b);
-}
+log_keeps old new log roles a b is = grind (arith, common_steps, nat_tests)
 
-module _ (done : Bool) (a : Contents) (runs mid new : RunsState) (log : LogState) (before d after : DiskState) (swap : IsDeepSwap done a runs mid new log before d after) where
+module _ {done : Bool} {a : Contents} {runs mid new : RunsState} {log : LogState} {before d after : DiskState} (swap : IsDeepSwap done a runs mid new log before d after) where
   -- the disk still stands on the tree before the swap
   over_mid : (pairs : List (Key × Value)) → IsTrue before.is_honest → (shows : ShowsMap runs log pairs before) → StandOver mid shows.tree a.entries d
   over_mid pairs honest shows = swap.goes.stands shows.tree honest (subst (λ (t : Contents). StandOver runs shows.tree t.entries before) (sym swap.table) shows.over)
@@ -70,7 +65,7 @@ module _ (done : Bool) (a : Contents) (runs mid new : RunsState) (log : LogState
         (subst (λ (s : Sizes). LeavesOnly d after (HoldsEither s shows.tree x.0)) swap.goes.sizes x.2.each)
         (subst (λ (s : Sizes). HoldsEither s shows.tree x.0 after.bytes) swap.goes.sizes x.2.either.reads);
     calls = swap.goes.well.calls + swap.calls;
-    effect = well_then (file_length runs.sizes) (file_length mid.sizes) before d after swap.timed (ap file_length swap.goes.sizes) swap.goes.well swap.effect;
+    effect = well_then swap.timed (ap file_length swap.goes.sizes) swap.goes.well swap.effect;
   }
 
   pub deep_shows : IsTrue done → SwapsDeep mid new → (pairs : List (Key × Value)) → IsTrue before.is_honest → ShowsMap runs log pairs before → ShowsMap new log pairs after

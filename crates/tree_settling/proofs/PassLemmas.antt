@@ -73,14 +73,7 @@ next_below sizes made now some = grind (arith, common_steps, nat_tests)
 
 -- the lanes' roles turn
 roles_turned : (roles : List ℕ) → AreRoles roles → AreRoles (b_of roles ∷ spare_of roles ∷ a_of roles ∷ [])
-roles_turned roles are = record {
-  a_below = are.b_below;
-  b_below = are.spare_below;
-  spare_below = are.a_below;
-  a_not_b = are.b_not_spare;
-  a_not_spare = λ same. are.a_not_b (sym same);
-  b_not_spare = λ same. are.a_not_spare (sym same);
-}
+roles_turned roles are = grind (arith, common_steps, nat_tests)
 
 -- the deep merge that begins has all of C1' and C2 before it
 next_deep : (sizes : Sizes) (tag : ℕ) (made : Component) (now : Catalog) (deep : Option DeepState) → deep ≡ None
@@ -106,7 +99,7 @@ pub record IsPassSwap (done : Bool) (memory : ℕ) (a : Contents) (runs begun mi
   pub calls : ℕ
   pub effect : Affects anywhere (file_length mid.sizes) calls d after
 
-module _ (done : Bool) (memory : ℕ) (a : Contents) (runs begun mid new : RunsState) (log : LogState) (before d after : DiskState) (swap : IsPassSwap done memory a runs begun mid new log before d after) where
+module _ {done : Bool} {memory : ℕ} {a : Contents} {runs begun mid new : RunsState} {log : LogState} {before d after : DiskState} (swap : IsPassSwap done memory a runs begun mid new log before d after) where
   pub same_sizes : mid.sizes ≡ runs.sizes
   same_sizes = swap.goes.sizes ∙ ap (λ (r : RunsState). r.sizes) swap.begins
 
@@ -155,7 +148,7 @@ module _ (done : Bool) (memory : ℕ) (a : Contents) (runs begun mid new : RunsS
     calls = swap.goes.well.calls + swap.calls;
     effect =
         subst (λ (s : Sizes). Affects anywhere (file_length s) (swap.goes.well.calls + swap.calls) before after) (ap (λ (r : RunsState). r.sizes) swap.begins)
-        (well_then (file_length begun.sizes) (file_length mid.sizes) before d after swap.timed (ap file_length swap.goes.sizes) swap.goes.well swap.effect);
+        (well_then swap.timed (ap file_length swap.goes.sizes) swap.goes.well swap.effect);
   }
 
   -- the log turns with the tree
@@ -225,12 +218,12 @@ module _ (done : Bool) (memory : ℕ) (a : Contents) (runs begun mid new : RunsS
 
 -- ---- where it failed before the swap
 
-pub begun_left : (memory : ℕ) (runs begun : RunsState) (log : LogState) (a : Contents) (old new : DiskState) → begun ≡ pass_begun memory runs
+pub begun_left : {runs begun : RunsState} {log : LogState} {a : Contents} {old new : DiskState} (memory : ℕ) → begun ≡ pass_begun memory runs
     → ((tree : Tree) (a : Entries) (file : List ℕ) → AreOf runs tree a file → AreOf begun tree a file) → a ≡ log.a
     → ((tree : Tree) → IsTrue old.is_honest → StandOver begun tree a.entries old → StandsOn begun.sizes tree new × LeavesOnly old new (HoldsTree begun.sizes tree))
     → (calls : ℕ) × Affects anywhere (file_length begun.sizes) calls old new → LeavesMaps runs log old new
-begun_left memory runs begun log a old new begins lists table keeps effect =
-    left_map runs log a old new table
+begun_left {runs} {begun} {a = a} {old = old} {new = new} memory begins lists table keeps effect =
+    left_map table
     (λ tree honest over. subst (λ (s : Sizes). StandsOn s tree new × LeavesOnly old new (HoldsTree s tree)) same (keeps tree honest (begun_over memory runs begun tree a.entries old begins lists over)))
     (effect.0, subst (λ (s : Sizes). Affects anywhere (file_length s) effect.0 old new) same effect.1)
   where

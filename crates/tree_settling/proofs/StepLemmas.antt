@@ -5,8 +5,10 @@ use Rattle.std.proofs.lemmas.Bool.Decides.{nat_tests}
 use Rattle.std.specs.Prelude.{IsTrue, length}
 use Rattle.std.specs.declared.result.Result.{Result}
 use Rattle.disk_trait.specs.Disk.{DiskState, TellsFaultsBy}
-use Rattle.disk_trait.specs.Effects.{Affects, affects_start, affects_more, affects_wider}
-use Rattle.disk_trait.specs.Moments.{IsTimed, LeavesOnly, leaves_only_start, leaves_only_run, leaves_only_weaken}
+use Rattle.disk_trait.specs.Effects.{Affects}
+use Rattle.disk_trait.proofs.EffectLemmas.{affects_start, affects_more, affects_wider}
+use Rattle.disk_trait.specs.Moments.{IsTimed, LeavesOnly}
+use Rattle.disk_trait.proofs.MomentLemmas.{leaves_only_start, leaves_only_run, leaves_only_weaken}
 use Rattle.disk_trait.specs.Region.{Region}
 use Rattle.blsm_model.specs.Sizes.{Sizes}
 use Rattle.blsm_model.specs.Geometry.{file_length}
@@ -61,10 +63,10 @@ kept_swapped sizes tree next pairs old mid new fits is follows first second read
     either c holds = ⊎_elim (reads_shown sizes tree pairs c fits is) (reads_next sizes tree next pairs c follows is) holds
 
 -- where a merge that went on failed the tree stands still
-pub left_map : (runs : RunsState) (log : LogState) (a : Contents) (old new : DiskState) → a ≡ log.a
+pub left_map : {runs : RunsState} {log : LogState} {a : Contents} {old new : DiskState} → a ≡ log.a
     → ((tree : Tree) → IsTrue old.is_honest → StandOver runs tree a.entries old → StandsOn runs.sizes tree new × LeavesOnly old new (HoldsTree runs.sizes tree))
     → (calls : ℕ) × Affects anywhere (file_length runs.sizes) calls old new → LeavesMaps runs log old new
-left_map runs log a old new is keeps effect = record {
+left_map {runs} {old = old} {new = new} is keeps effect = record {
   keeps = λ pairs honest shows.
       let now = keeps shows.tree honest (subst (λ (t : Contents). StandOver runs shows.tree t.entries old) (sym is) shows.over) in
       kept_standing runs.sizes shows.tree pairs old new shows.fits shows.map_is now.1 now.0.reads;
@@ -103,8 +105,8 @@ calls_all old one first second third = omega (arith, first, second, third)
 
 -- ---- one after the other
 
-pub settles_start : (runs : RunsState) (log : LogState) (d : DiskState) → IsTimed d → MaySettle runs log d → SettlesOn runs runs log log d d
-settles_start runs log d timed may = record {
+pub settles_start : {runs : RunsState} {log : LogState} {d : DiskState} → IsTimed d → MaySettle runs log d → SettlesOn runs runs log log d d
+settles_start {runs} {d = d} timed may = record {
   leaves = record {
     keeps = λ pairs honest shows.
         kept_standing runs.sizes shows.tree pairs d d shows.fits shows.map_is (leaves_only_start d (HoldsTree runs.sizes shows.tree) timed (λ c left. shows.over.stands.each c left)) shows.over.stands.reads;
@@ -118,8 +120,8 @@ settles_start runs log d timed may = record {
   calm = refl;
 }
 
-pub leaves_run : (old mid : RunsState) (log log' : LogState) (before d after : DiskState) → IsTimed d → SettlesOn old mid log log' before d → LeavesMaps mid log' d after → LeavesMaps old log before after
-leaves_run old mid log log' before d after timed step rest = record {
+pub leaves_run : {old mid : RunsState} {log log' : LogState} {before d after : DiskState} → IsTimed d → SettlesOn old mid log log' before d → LeavesMaps mid log' d after → LeavesMaps old log before after
+leaves_run {d = d} {after = after} timed step rest = record {
   keeps = λ pairs honest shows.
       let first = step.leaves.keeps pairs honest shows in
       let second = subst (λ (s : Sizes). KeepsMap s pairs d after) step.sizes (rest.keeps pairs (honest_still step.leaves.effect honest) (step.shows pairs honest shows)) in
@@ -128,10 +130,10 @@ leaves_run old mid log log' before d after timed step rest = record {
   effect = affects_more timed step.calm step.leaves.effect rest.effect (λ i here. here) (omega (arith, ap file_length step.sizes)) (omega arith);
 }
 
-pub settles_run : (old mid new : RunsState) (log log' log'' : LogState) (before d after : DiskState) → IsTimed d → SettlesOn old mid log log' before d → SettlesOn mid new log' log'' d after
+pub settles_run : {old mid new : RunsState} {log log' log'' : LogState} {before d after : DiskState} → IsTimed d → SettlesOn old mid log log' before d → SettlesOn mid new log' log'' d after
     → SettlesOn old new log log'' before after
-settles_run old mid new log log' log'' before d after timed step rest = record {
-  leaves = leaves_run old mid log log' before d after timed step rest.leaves;
+settles_run timed step rest = record {
+  leaves = leaves_run timed step rest.leaves;
   shows = λ pairs honest shows. rest.shows pairs (honest_still step.leaves.effect honest) (step.shows pairs honest shows);
   may = rest.may;
   light = omega (arith, step.light, rest.light);
@@ -139,12 +141,12 @@ settles_run old mid new log log' log'' before d after timed step rest = record {
   calm = rest.calm ∙ step.calm;
 }
 
-pub ends_run : (result : Result Unit Broken) (old mid : RunsState) (log log' : LogState) (before d : DiskState) → SettlesOn old mid log log' before d → EndsWell result mid log' d
+pub ends_run : {old mid : RunsState} {log log' : LogState} {before d : DiskState} (result : Result Unit Broken) → SettlesOn old mid log log' before d → EndsWell result mid log' d
     → EndsWell result old log before
-ends_run result old mid log log' before d step ends = λ pairs honest shows other. ends pairs (honest_still step.leaves.effect honest) (step.shows pairs honest shows) other
+ends_run result step ends = λ pairs honest shows other. ends pairs (honest_still step.leaves.effect honest) (step.shows pairs honest shows) other
 
-pub told_run : (result : Result Unit Broken) (old mid new : DiskState) → mid.faults ≡ old.faults → TellsFaultsBy (Err Fault) result mid new → TellsFaultsBy (Err Fault) result old new
-told_run result old mid new calm told = record {
+pub told_run : {result : Result Unit Broken} {old mid new : DiskState} → mid.faults ≡ old.faults → TellsFaultsBy (Err Fault) result mid new → TellsFaultsBy (Err Fault) result old new
+told_run {new = new} calm told = record {
   stands = λ other. told.stands other ∙ calm;
   failed = λ fault. subst (λ (n : ℕ). HasRisen n new.faults) calm (told.failed fault);
 }

@@ -4,8 +4,10 @@ use Rattle.std.proofs.lemmas.Grind.{common_steps}
 use Rattle.std.proofs.lemmas.Bool.Decides.{nat_tests}
 use Rattle.std.specs.Prelude.{IsTrue}
 use Rattle.disk_trait.specs.Disk.{DiskState}
-use Rattle.disk_trait.specs.Effects.{Affects, affects_start, affects_more}
-use Rattle.disk_trait.specs.Moments.{IsTimed, LeavesOnly, leaves_only_start, leaves_only_run}
+use Rattle.disk_trait.specs.Effects.{Affects}
+use Rattle.disk_trait.proofs.EffectLemmas.{affects_start, affects_more}
+use Rattle.disk_trait.specs.Moments.{IsTimed, LeavesOnly}
+use Rattle.disk_trait.proofs.MomentLemmas.{leaves_only_start, leaves_only_run}
 use Rattle.disk_trait.specs.Region.{Region}
 use Rattle.blsm_model.specs.Sizes.{QuantumFits, Sizes}
 use Rattle.blsm_model.specs.Geometry.{capacity, file_length}
@@ -23,15 +25,15 @@ use Rattle.tree_settling.specs.Settling.{CallsFew, MergesGoOn, RunsWell, anywher
 pub well_start : (end : ℕ) (d : DiskState) → IsTimed d → RunsWell end d d
 well_start end d timed = record { calls = 0; effect = affects_start d timed; calm = refl }
 
-pub well_then : {region : Region} {most : ℕ} (end end' : ℕ) (old mid new : DiskState) → IsTimed mid → end' ≡ end → (well : RunsWell end old mid) → Affects region end' most mid new
+pub well_then : {region : Region} {most end end' : ℕ} {old mid new : DiskState} → IsTimed mid → end' ≡ end → (well : RunsWell end old mid) → Affects region end' most mid new
     → Affects anywhere end (well.calls + most) old new
-well_then end end' old mid new timed same well run = affects_more timed well.calm well.effect run (λ i here. tt) (omega (arith, same)) (omega arith)
+well_then timed same well run = affects_more timed well.calm well.effect run (λ i here. tt) (omega (arith, same)) (omega arith)
 
-pub well_more : {region : Region} {most : ℕ} (end end' : ℕ) (old mid new : DiskState) → IsTimed mid → end' ≡ end → RunsWell end old mid → Affects region end' most mid new → new.faults ≡ mid.faults
+pub well_more : {region : Region} {most end end' : ℕ} {old mid new : DiskState} → IsTimed mid → end' ≡ end → RunsWell end old mid → Affects region end' most mid new → new.faults ≡ mid.faults
     → RunsWell end old new
-well_more {region} {most} end end' old mid new timed same well run calm = record {
+well_more {most = most} timed same well run calm = record {
   calls = well.calls + most;
-  effect = well_then end end' old mid new timed same well run;
+  effect = well_then timed same well run;
   calm = calm ∙ well.calm;
 }
 
@@ -93,8 +95,8 @@ quantum_few sizes mid most same fits few = grind (arith, common_steps, nat_tests
 
 -- ---- merges that go on
 
-pub begun : (a : Entries) (runs : RunsState) (d : DiskState) → IsTimed d → AreRunning d.is_honest d.bytes runs → MergesGoOn a runs runs d d
-begun a runs d timed running = record {
+pub begun : {a : Entries} {runs : RunsState} {d : DiskState} → IsTimed d → AreRunning d.is_honest d.bytes runs → MergesGoOn a runs runs d d
+begun {runs = runs} {d = d} timed running = record {
   running = running;
   sizes = refl;
   catalogue = refl;
@@ -106,28 +108,28 @@ begun a runs d timed running = record {
 }
 
 -- what a call that leaves a tree standing has left of it from the start on
-pub left_standing : (a : Entries) (old mid : RunsState) (before d after : DiskState) → MergesGoOn a old mid before d
+pub left_standing : {a : Entries} {old mid : RunsState} {before d : DiskState} (after : DiskState) → MergesGoOn a old mid before d
     → ((tree : Tree) → IsTrue d.is_honest → StandOver mid tree a d → StandsOn mid.sizes tree after × LeavesOnly d after (HoldsTree mid.sizes tree))
     → (tree : Tree) → IsTrue before.is_honest → StandOver old tree a before → StandsOn old.sizes tree after × LeavesOnly before after (HoldsTree old.sizes tree)
-left_standing a old mid before d after so_far stands tree honest over =
+left_standing {d = d} after so_far stands tree honest over =
     let now = stands tree (well_honest so_far.well honest) (so_far.stands tree honest over) in (
       subst (λ (s : Sizes). StandsOn s tree after) so_far.sizes now.0,
       leaves_only_run (so_far.leaves tree honest over) (subst (λ (s : Sizes). LeavesOnly d after (HoldsTree s tree)) so_far.sizes now.1),
     )
 
 -- one quantum more
-pub more : {region : Region} {most : ℕ} (a : Entries) (old mid new : RunsState) (before d after : DiskState) → IsTimed d → MergesGoOn a old mid before d
+pub more : {region : Region} {most : ℕ} {a : Entries} {old mid new : RunsState} {before d after : DiskState} → IsTimed d → MergesGoOn a old mid before d
     → new.sizes ≡ mid.sizes → new.catalogue ≡ mid.catalogue → due_to_pass new a ≤ due_to_pass mid a → due_to_deep new ≤ due_to_deep mid
     → ((tree : Tree) → IsTrue d.is_honest → StandOver mid tree a d → StandsOn mid.sizes tree after × LeavesOnly d after (HoldsTree mid.sizes tree))
     → ((tree : Tree) → IsTrue d.is_honest → StandOver mid tree a d → StandOver new tree a after)
     → AreRunning after.is_honest after.bytes new → Affects region (file_length mid.sizes) most d after → after.faults ≡ d.faults → MergesGoOn a old new before after
-more {region} {most} a old mid new before d after timed so_far sizes catalogue pass deep stands lists running effect calm = record {
+more {after = after} timed so_far sizes catalogue pass deep stands lists running effect calm = record {
   running = running;
   sizes = sizes ∙ so_far.sizes;
   catalogue = catalogue ∙ so_far.catalogue;
   pass = omega (arith, pass, so_far.pass);
   deep = omega (arith, deep, so_far.deep);
   stands = λ tree honest over. lists tree (well_honest so_far.well honest) (so_far.stands tree honest over);
-  leaves = λ tree honest over. (left_standing a old mid before d after so_far stands tree honest over).1;
-  well = well_more (file_length old.sizes) (file_length mid.sizes) before d after timed (ap file_length so_far.sizes) so_far.well effect calm;
+  leaves = λ tree honest over. (left_standing after so_far stands tree honest over).1;
+  well = well_more timed (ap file_length so_far.sizes) so_far.well effect calm;
 }

@@ -1,22 +1,29 @@
 -- What a call hands on of one that failed behind calls that went well.
-use Rattle.std.proofs.Common.{◌≡◌, ◌≢◌, ◌∙◌, ℕ, Bool, true, false, Ok, Err, sym, subst}
-use Rattle.std.specs.Prelude.{◌↔◌, IsTrue}
+use Rattle.std.proofs.Common.{◌≡◌, ◌≢◌, ◌∙◌, ℕ, Bool, true, false, Ok, Err, ap, sym, subst}
+use Rattle.std.specs.Prelude.{◌↔◌, IsErrAnd, IsTrue}
+use Rattle.std.proofs.lemmas.Result.{err_from_is_err_and}
 use Rattle.std.specs.declared.result.Result.{Result}
 use Rattle.disk_trait.specs.Disk.{DiskState, TellsFaultsBy}
 use Rattle.page_file.specs.declared.file.Broken.{Broken}
 use Rattle.page_file.specs.declared.file.Broken.TheVariants.{Fault}
 use Rattle.refusal.specs.Count.{HasRisen}
 
-pub told_then : {T : Type 0} (e : Broken) (result : Result Unit Broken) (inner : Result T Broken) (old mid new : DiskState) → mid.faults ≡ old.faults → inner ≡ Err e → result ≡ Err e
-    → TellsFaultsBy (Err Fault) inner mid new → TellsFaultsBy (Err Fault) result old new
-told_then e result inner old mid new calm was is told = record {
-  stands = λ other. told.stands (λ same. other (cc)) ∙ calm;
-  failed = λ fault. subst (λ (n : ℕ). HasRisen n new.faults) calm (told.failed (cc));
-}
+is_err : {e : Broken} {result : Result Unit Broken} → IsErrAnd result (λ (x : Broken). x ≡ e) → result ≡ Err e
+is_err {e} {result} failed = let p = err_from_is_err_and result failed in p.1 ∙ ap (λ (x : Broken). Err x) p.2
 
-pub ends_then : {T : Type 0} (e : Broken) (result : Result Unit Broken) (inner : Result T Broken) → inner ≡ Err e → result ≡ Err e → (inner ≢ Err Fault → (n : T) × (inner ≡ Ok n)) → result ≢ Err Fault
+pub told_then : {T : Type 0} {e : Broken} {result : Result Unit Broken} {inner : Result T Broken} {old mid new : DiskState} → mid.faults ≡ old.faults → inner ≡ Err e → IsErrAnd result (λ (x : Broken). x ≡ e)
+    → TellsFaultsBy (Err Fault) inner mid new → TellsFaultsBy (Err Fault) result old new
+told_then {new = new} calm was failed told =
+    let is = is_err failed in
+    record {
+      stands = λ other. told.stands (λ same. other (cc)) ∙ calm;
+      failed = λ fault. subst (λ (n : ℕ). HasRisen n new.faults) calm (told.failed (cc));
+    }
+
+pub ends_then : {T : Type 0} {e : Broken} {result : Result Unit Broken} {inner : Result T Broken} → inner ≡ Err e → IsErrAnd result (λ (x : Broken). x ≡ e) → (inner ≢ Err Fault → (n : T) × (inner ≡ Ok n)) → result ≢ Err Fault
     → result ≡ Ok tt
-ends_then {T} e result inner was is well other =
+ends_then {T} {e} {result} {inner} was failed well other =
+    let is = is_err failed in
     let got : (n : T) × (inner ≡ Ok n) = well (λ same. other (cc)) in
     let never : Err e ≡ Ok got.0 = sym was ∙ got.1 in
     absurd (cc (never))
@@ -29,12 +36,12 @@ still_left false left is iff runs none = let never : IsTrue false = iff.1 (runs,
 pub ok_is_no_err : {T : Type 0} (value : T) → Ok value ≢ Err Fault
 ok_is_no_err value same = absurd (cc (same))
 
-pub ends_from : (e : Broken) (result inner : Result Unit Broken) → inner ≡ Err e → result ≡ Err e → (inner ≢ Err Fault → inner ≡ Ok tt) → result ≢ Err Fault → result ≡ Ok tt
-ends_from e result inner was is well other = let same : result ≡ inner = is ∙ sym was in same ∙ well (λ fault. other (same ∙ fault))
+pub ends_from : {e : Broken} {result inner : Result Unit Broken} → inner ≡ Err e → IsErrAnd result (λ (x : Broken). x ≡ e) → (inner ≢ Err Fault → inner ≡ Ok tt) → result ≢ Err Fault → result ≡ Ok tt
+ends_from {result = result} {inner = inner} was failed well other = let same : result ≡ inner = is_err failed ∙ sym was in same ∙ well (λ fault. other (same ∙ fault))
 
 -- a call that fails by a fault alone
-pub fault_then : (result : Result Unit Broken) (old mid new : DiskState) → mid.faults ≡ old.faults → result ≡ Err Fault → HasRisen mid.faults new.faults → TellsFaultsBy (Err Fault) result old new
-fault_then result old mid new calm is rises = record { stands = λ other. absurd (other is); failed = λ same. subst (λ (n : ℕ). HasRisen n new.faults) calm rises }
+pub fault_then : {result : Result Unit Broken} {old new : DiskState} (mid : DiskState) → mid.faults ≡ old.faults → IsErrAnd result (λ (x : Broken). x ≡ Fault) → HasRisen mid.faults new.faults → TellsFaultsBy (Err Fault) result old new
+fault_then {new = new} mid calm failed rises = record { stands = λ other. absurd (other (is_err failed)); failed = λ same. subst (λ (n : ℕ). HasRisen n new.faults) calm rises }
 
 pub well_told : (old new : DiskState) → new.faults ≡ old.faults → TellsFaultsBy {R = Result Unit Broken} (Err Fault) (Ok tt) old new
 well_told old new calm = record { stands = λ other. calm; failed = λ same. absurd (ok_is_no_err tt same) }

@@ -1,5 +1,5 @@
 -- Commands, turn by turn.
-use Rattle.std.proofs.Common.{◌≡◌, ◌∙◌, ⊎_elim, inl, inr, ℕ, ◌+◌, ◌≤◌, List, [], ◌∷◌, length, refl, ap, sym, subst, arith}
+use Rattle.std.proofs.Common.{◌≡◌, ◌∙◌, ⊎_elim, inl, inr, ℕ, ◌+◌, ◌≤◌, List, [], ◌∷◌, length, refl, sym, subst, arith}
 use Rattle.std.proofs.lemmas.Grind.{common_steps}
 use Rattle.std.proofs.lemmas.Bool.Decides.{nat_tests}
 use Rattle.blsm_model.specs.Stored.{as_reply}
@@ -11,11 +11,10 @@ use Rattle.disk_trait.specs.Disk.{DiskState}
 use Rattle.turn_lock.specs.Callers.{Held as Caller, Lock}
 use Rattle.turn_lock.specs.Plays.{renewed}
 use Rattle.turn_lock.specs.Tallies.{IsOf}
-use Rattle.turn_lock.specs.Views.{size}
 use Rattle.turn_lock.proofs.TurnLemmas.{did_then, went_same, went_then}
 use Rattle.tree_core.specs.Calls.{CameSince}
 use Rattle.tree_core.specs.Core.{CoreState}
-use Rattle.tree_session.specs.Lines.{rows_of}
+use Rattle.blsm_model.specs.Scripts.{rows_of}
 use Rattle.tree_shared.specs.Runs.{DoesLine}
 use Rattle.tree_shared.specs.Seats.{DidOn, KnowsOf, WentOn, IsFree, IsWorking, facts_of}
 use Rattle.tree_shared.specs.Told.{IsAnswered}
@@ -32,9 +31,6 @@ module _ {D : Type 0} (state : D → DiskState) where
 
   long_as : (b : CoreState D) (ps : List (ℕ × CoreState D)) → length (renewed facts_of b ps) ≡ length ps
   long_as b ps = grind (arith, common_steps, nat_tests)
-
-  pub sized_went : (c d : Caller (CoreState D)) (es : List Entry) → WentOn state c es d → size d.me.0 ≡ size c.me.0
-  sized_went c d es went = grind (arith, common_steps, nat_tests)
 
   -- one turn more that notes nothing
   pub went_on : (c d e : Caller (CoreState D)) → WentOn state c [] d → DidOn state d [] e → WentOn state c [] e

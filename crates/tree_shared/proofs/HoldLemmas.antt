@@ -1,7 +1,7 @@
 -- One hold of the lock: what may be called by what the caller knows, and that it is a turn whose value came from the start.
 use Rattle.std.proofs.Common.{◌≡◌, ◌∙◌, ℕ, ◌+◌, ◌<◌, true, None, Some, ap, sym, subst}
 use Rattle.blsm_model.specs.Facts.{Follows}
-use Rattle.blsm_model.specs.Format.{callers}
+use Rattle.blsm_model.specs.Format.{callers, most_turns}
 use Rattle.disk_trait.specs.Disk.{DiskState}
 use Rattle.gear_sched.specs.Gears.{first_debt, second_debt}
 use Rattle.turn_lock.specs.Callers.{Held as Caller, HasTaken, HasTurn, GaveBack}
@@ -9,7 +9,6 @@ use Rattle.turn_lock.specs.Plays.{Finds}
 use Rattle.turn_lock.specs.Turns.{TookTurn}
 use Rattle.turn_lock.proofs.TurnLemmas.{part_found, took_turn}
 use Rattle.seat_book.specs.State.{may_end_in, may_note_in, may_turn_in}
-use Rattle.tree_machine.specs.Plays.{most_turns}
 use Rattle.tree_machine.specs.declared.step.Kind.{Kind}
 use Rattle.tree_machine.specs.declared.step.Kind.TheVariants as kind
 use Rattle.tree_core.specs.Calls.{CameSince, IsCall}
@@ -19,6 +18,7 @@ use Rattle.tree_core.proofs.CallLemmas.{came_more}
 use Rattle.tree_shared.specs.Seats.{KnowsOf, IsFinished, IsFree, IsWorking, facts_of}
 use Rattle.tree_shared.proofs.SeatLemmas.{even_by, may_note_by}
 use Rattle.tree_shared.proofs.WorkLemmas.{may_end_by, may_turn_by}
+use Rattle.core_chain.proofs.LinkLemmas.{goes_of}
 
 module _ {D : Type 0} (state : D → DiskState) (c : Caller (CoreState D)) (b : CoreState D) (finds : Finds facts_of (CameSince state) c.me.0 b) where
   pub note_ok : (rows : ℕ) → c.number < callers → KnowsOf (IsFree 1 rows) c → may_note_in c.number rows b.held.book ≡ true
@@ -39,28 +39,10 @@ module _ {D : Type 0} (state : D → DiskState) (c : Caller (CoreState D)) (b : 
 -- What every call says, whichever it is.
 module _ {D : Type 0} (state : D → DiskState) (seat : ℕ) (b w : CoreState D) where
   call_follows : (k : Kind) → IsCall state seat k b w → Follows seat (facts_of b) (facts_of w)
-  call_follows (kind.Admit op) call = call.1.goes.follows
-  call_follows kind.Pay call = call.1.goes.follows
-  call_follows (kind.Get key) call = call.1.goes.follows
-  call_follows (kind.Hold low high) call = call.1.goes.follows
-  call_follows (kind.Next n) call = call.1.goes.follows
-  call_follows kind.Release call = call.1.goes.follows
-  call_follows kind.WorkTurn call = call.1.goes.follows
-  call_follows (kind.WorkEnd n) call = call.1.goes.follows
-  call_follows kind.WorkerTurn call = call.1.goes.follows
-  call_follows kind.Leave call = call.goes.follows
+  call_follows k call = (goes_of state seat k b w call).1.follows
 
   call_lasts : (k : Kind) → IsCall state seat k b w → (start : CoreState D) → StandsSince state start b → StandsSince state start w
-  call_lasts (kind.Admit op) call start since = call.1.goes.lasts start since
-  call_lasts kind.Pay call start since = call.1.goes.lasts start since
-  call_lasts (kind.Get key) call start since = call.1.goes.lasts start since
-  call_lasts (kind.Hold low high) call start since = call.1.goes.lasts start since
-  call_lasts (kind.Next n) call start since = call.1.goes.lasts start since
-  call_lasts kind.Release call start since = call.1.goes.lasts start since
-  call_lasts kind.WorkTurn call start since = call.1.goes.lasts start since
-  call_lasts (kind.WorkEnd n) call start since = call.1.goes.lasts start since
-  call_lasts kind.WorkerTurn call start since = call.1.goes.lasts start since
-  call_lasts kind.Leave call start since = call.goes.lasts start since
+  call_lasts k call start since = (goes_of state seat k b w call).1.lasts start since
 
 module _ {D : Type 0} (state : D → DiskState) (c t : Caller (CoreState D)) (b w : CoreState D) (taken : HasTaken facts_of (CameSince state) c b t) (seat : ℕ) (same : seat ≡ c.number) (k : Kind) (call : IsCall state seat k b w) where
   -- the caller has its turn still, and gives back what follows

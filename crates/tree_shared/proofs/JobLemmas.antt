@@ -1,14 +1,13 @@
 -- What a job leaves: of a caller's, and of a worker's.
-use Rattle.std.proofs.Common.{◌≡◌, ◌∙◌, ⊎_elim, inl, inr, ℕ, zero, suc, ◌+◌, ◌-◌, ◌<◌, ◌≤◌, Bool, true, false, cond, ◌==◌, List, [], ◌∷◌, ◌++◌, length, map, filter, ne_eqb, refl, ap, sym, subst, arith}
+use Rattle.std.proofs.Common.{◌≡◌, ◌∙◌, ⊎_elim, inl, inr, ℕ, zero, suc, ◌+◌, ◌-◌, ◌<◌, ◌≤◌, Bool, false, cond, ◌==◌, List, [], ◌∷◌, ◌++◌, length, map, filter, ne_eqb, refl, ap, sym, subst, arith}
 use Rattle.std.proofs.lemmas.Grind.{common_steps}
 use Rattle.std.proofs.lemmas.Bool.Decides.{nat_tests}
-use Rattle.std.specs.Prelude.{◌^◌, nat_lt, slice_index}
-use Rattle.std.proofs.lemmas.Bool.{ltb-true}
+use Rattle.std.specs.Prelude.{◌^◌, slice_index}
 use Rattle.std.proofs.lemmas.List.{append-nil}
 use Rattle.std.proofs.lemmas.List.Elements.{All-head, All-tail}
 use Rattle.blsm_model.specs.Facts.{Part, entries_of}
 use Rattle.blsm_model.specs.Format.{callers}
-use Rattle.blsm_model.specs.Scripts.{lines_of}
+use Rattle.blsm_model.specs.Scripts.{lines_of, rows_asked}
 use Rattle.blsm_model.specs.declared.history.Entry.{Entry}
 use Rattle.blsm_model.specs.declared.history.Line.{Line}
 use Rattle.disk_trait.specs.Disk.{DiskState}
@@ -20,7 +19,7 @@ use Rattle.turn_lock.proofs.TurnLemmas.{went_then}
 use Rattle.tree_machine.specs.Machine.{WorkSoFar, is_caller, turn_more}
 use Rattle.tree_core.specs.Calls.{CameSince}
 use Rattle.tree_core.specs.Core.{CoreState}
-use Rattle.tree_session.specs.Lines.{AreRunnable, IsRunnable, rows_asked}
+use Rattle.tree_session.specs.Lines.{AreRunnable, IsRunnable}
 use Rattle.tree_shared.specs.Seats.{DidOn, KnowsOf, WentOn, HasHelped, IsFree, IsGone, facts_of}
 use Rattle.tree_shared.specs.Runs.{Helped, IsFresh, IsNew, RanLines, TellsEnd, turns_after}
 use Rattle.tree_shared.proofs.SeatLemmas.{caller_turns, is_a_caller}

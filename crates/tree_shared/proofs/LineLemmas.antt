@@ -1,13 +1,11 @@
 -- A caller goes over the lines of a script, and does its own.
 use Rattle.std.proofs.Common.{◌≡◌, ◌≢◌, ◌∙◌, ⊎_elim, inl, inr, ℕ, suc, ◌+◌, ◌<◌, Bool, cond, ◌==◌, List, [], ◌∷◌, ◌++◌, length, map, filter, take, drop, eq-eqb, ne_eqb, refl, ap, sym, subst, arith}
-use Rattle.std.proofs.lemmas.Grind.{common_steps}
-use Rattle.std.proofs.lemmas.Bool.Decides.{nat_tests}
 use Rattle.std.specs.Prelude.{sum_by, slice_index_or}
 use Rattle.std.proofs.lemmas.Bool.{cases_eq}
 use Rattle.std.proofs.lemmas.List.{append-nil, drop_more, map-append, take_more}
 use Rattle.std.proofs.lemmas.List.Elements.{filter-append}
 use Rattle.std.proofs.lemmas.List.Sums.{sum_by-cons}
-use Rattle.blsm_model.specs.Scripts.{lines_of}
+use Rattle.blsm_model.specs.Scripts.{lines_of, rows_of, rows_asked}
 use Rattle.blsm_model.specs.declared.history.Entry.{Entry}
 use Rattle.blsm_model.specs.declared.history.Line.{Line}
 use Rattle.blsm_model.specs.declared.op.Op.{Op}
@@ -16,7 +14,6 @@ use Rattle.turn_lock.specs.Callers.{Held as Caller}
 use Rattle.turn_lock.proofs.TurnLemmas.{went_then}
 use Rattle.tree_core.specs.Calls.{CameSince}
 use Rattle.tree_core.specs.Core.{CoreState}
-use Rattle.tree_session.specs.Lines.{rows_asked, rows_of}
 use Rattle.tree_shared.specs.Seats.{DidOn, KnowsOf, IsFree, facts_of}
 use Rattle.tree_shared.specs.Runs.{DoesLine, RanLines}
 use Rattle.tree_shared.proofs.CommandLemmas.{frees_less}
@@ -38,9 +35,6 @@ pub record Going {D : Type 0} (state : D → DiskState) (script : List Line) (i 
 module _ {D : Type 0} (state : D → DiskState) (script : List Line) (c : Caller (CoreState D)) where
   pub going_none : KnowsOf (IsFree (length (lines_of c.number script)) (rows_asked c.number script)) c → Going state script 0 c c
   going_none k = record { ran = record { entries = []; went = inl (refl, refl); ops = refl }; free = k }
-
-  pub going_all : (d : Caller (CoreState D)) → Going state script (length script) c d → take (length script) script ≡ script → drop (length script) script ≡ [] → RanLines state script c d × KnowsOf (IsFree 0 0) d
-  going_all d going whole none = grind (arith, common_steps, nat_tests)
 
   module _ (i : ℕ) (line : Line) (below : i < length script) (is : line ≡ slice_index_or script i line) where
     -- the lines that are left begin with this one, and those before it end with it

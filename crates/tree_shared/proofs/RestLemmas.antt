@@ -16,7 +16,7 @@ use Rattle.turn_lock.specs.Views.{Each, Fits, counted_up, first_of, joined, rest
 use Rattle.tree_machine.specs.Machine.{seats}
 use Rattle.tree_core.specs.Core.{CoreState}
 use Rattle.tree_shared.specs.Seats.{IsGone, facts_of}
-use Rattle.tree_shared.specs.Runs.{Ends, HasEnded, IsNew, Starts, TellsEnd}
+use Rattle.tree_shared.specs.Runs.{Ends, HasEnded, Starts, TellsEnd}
 use Rattle.tree_shared.proofs.SeatLemmas.{or_left, or_right}
 
 in_left : {A : Type 0} (p : A) (xs ys : List A) → In p xs → In p (xs ++ ys)
@@ -56,21 +56,11 @@ module _ {D : Type 0} (st : CoreState D → CoreState D → Type 0) (lines : Lis
   own_of_other : (m : ℕ) (c o : Caller (CoreState D)) → Starts lock (suc m) c → IsSplitOff c o → o.me.0.own ≡ (o.number, lock.start) ∷ []
   own_of_other m c o s a = ap (λ (x : Sat (CoreState D)). x.0.own) a.me ∙ (ap first_of (s.spare ∙ up_one c.next lock.start (omega (arith, s.last))) ∙ ap (λ (n : ℕ). (n, lock.start) ∷ []) (sym a.number))
 
-  new_other : (m : ℕ) (c o : Caller (CoreState D)) → Starts lock (suc m) c → IsSplitOff c o → IsNew lock o
-  new_other m c o s a = record {
-    of_lock = (a.table ∙ s.new.of_lock.0, ap (λ (x : Sat (CoreState D)). x.0.start) a.me ∙ s.new.of_lock.1, (ap (λ (x : Sat (CoreState D)). x.0.stage) a.me, ap (λ (x : Sat (CoreState D)). x.1) a.me));
-    number = omega (arith, a.number, s.last);
-    own = own_of_other m c o s a;
-  }
-
   one_more : (more : ℕ) → 0 < more → more ≡ suc (more - 1)
   one_more more some = omega (arith, some)
 
   pub starts_less : (more : ℕ) (c d : Caller (CoreState D)) → 0 < more → Starts lock more c → GaveAway c d → Starts lock (more - 1) d
   starts_less more c d some s a = starts_rest (more - 1) c d (subst (λ (n : ℕ). Starts lock n c) (one_more more some) s) a
-
-  pub new_less : (more : ℕ) (c o : Caller (CoreState D)) → 0 < more → Starts lock more c → IsSplitOff c o → IsNew lock o
-  new_less more c o some s b = new_other (more - 1) c o (subst (λ (n : ℕ). Starts lock n c) (one_more more some) s) b
 
   -- ---- coming together
 

@@ -1,21 +1,19 @@
 -- What is known of a seat's part tells which calls may be made for it, and what they leave of it.
-use Rattle.std.proofs.Common.{◌≡◌, ◌∙◌, ⊎_elim, ℕ, zero, suc, ◌+◌, ◌-◌, ◌<◌, ◌≤◌, Bool, true, false, cond, ◌==◌, ◌&&◌, ◌||◌, List, [], ◌∷◌, None, length, eq-eqb, refl, ap, sym, arith}
+use Rattle.std.proofs.Common.{◌≡◌, ◌∙◌, ⊎_elim, ℕ, zero, suc, ◌+◌, ◌-◌, ◌<◌, Bool, true, cond, ◌==◌, ◌&&◌, ◌||◌, List, [], ◌∷◌, None, length, eq-eqb, refl, ap, arith}
 use Rattle.std.proofs.lemmas.Grind.{common_steps}
 use Rattle.std.proofs.lemmas.Bool.Decides.{nat_tests}
-use Rattle.std.specs.Prelude.{is_some, nat_le, nat_lt, slice_index, slice_index_or, slice_set}
-use Rattle.std.proofs.lemmas.Bool.{false≢true, le-leb, lt-ltb}
-use Rattle.blsm_model.specs.Book.{Book, rows_given}
+use Rattle.std.specs.Prelude.{is_some, slice_index, slice_set}
+use Rattle.std.proofs.lemmas.Bool.{false≢true, lt-ltb}
+use Rattle.blsm_model.specs.Book.{rows_given}
 use Rattle.blsm_model.specs.Facts.{Eases, Part, entries_of}
 use Rattle.blsm_model.specs.Format.{callers}
 use Rattle.blsm_model.specs.declared.history.Entry.{Entry}
 use Rattle.blsm_model.specs.declared.history.Reply.{Reply}
 use Rattle.blsm_model.specs.declared.op.Op.{Op}
-use Rattle.blsm_model.specs.declared.room.Room.{Room}
 use Rattle.gear_sched.specs.Gears.{first_debt, second_debt}
 use Rattle.seat_book.specs.State.{BookState, may_note_in, work_in}
 use Rattle.seat_book.specs.Seats.{turns_in}
-use Rattle.tree_machine.specs.Machine.{WorkSoFar, is_caller, no_work}
-use Rattle.tree_machine.specs.Plays.{has_room}
+use Rattle.tree_machine.specs.Machine.{is_caller}
 use Rattle.core_moves.specs.declared.held.Held.{Held}
 use Rattle.tree_core.specs.Core.{facts_of_held}
 use Rattle.tree_core.specs.Notes.{NotesOne}

@@ -1,13 +1,13 @@
 -- The turns of a caller's work, and of a worker.
-use Rattle.std.proofs.Common.{◌≡◌, ◌⊎◌, ◌∙◌, ⊎_elim, inl, inr, ℕ, ◌+◌, ◌-◌, ◌<◌, ◌≤◌, Bool, true, false, not, ◌==◌, ◌&&◌, ◌||◌, [], ◌∷◌, ◌++◌, Option, None, Some, length, eq-eqb, refl, ap, sym, subst, arith}
+use Rattle.std.proofs.Common.{◌≡◌, ◌⊎◌, ◌∙◌, ⊎_elim, inl, inr, ℕ, ◌+◌, ◌-◌, ◌<◌, ◌≤◌, Bool, true, false, ◌||◌, [], ◌∷◌, ◌++◌, Option, None, Some, length, refl, ap, sym, subst, arith}
 use Rattle.std.proofs.lemmas.Grind.{common_steps}
 use Rattle.std.proofs.lemmas.Bool.Decides.{nat_tests}
-use Rattle.std.specs.Prelude.{is_some, nat_lt, nat_le, slice_index}
-use Rattle.std.proofs.lemmas.Bool.{cases_eq, le-leb, lt-ltb}
+use Rattle.std.specs.Prelude.{is_some, slice_index}
+use Rattle.std.proofs.lemmas.Bool.{cases_eq}
 use Rattle.std.proofs.lemmas.List.{append-nil}
 use Rattle.blsm_model.specs.Book.{Book, rows_given, noted}
 use Rattle.blsm_model.specs.Facts.{Eases, Part}
-use Rattle.blsm_model.specs.Format.{callers}
+use Rattle.blsm_model.specs.Format.{callers, most_turns}
 use Rattle.blsm_model.specs.declared.history.Entry.{Entry}
 use Rattle.blsm_model.specs.declared.history.Why.{Why}
 use Rattle.blsm_model.specs.declared.op.Op.TheVariants.{Work}
@@ -17,14 +17,13 @@ use Rattle.turn_lock.specs.Callers.{Held as Caller}
 use Rattle.turn_lock.specs.Turns.{TookTurn}
 use Rattle.turn_lock.proofs.TurnLemmas.{did_turn, knows_after}
 use Rattle.seat_book.specs.State.{BookState, ended_in, may_end_in, may_turn_in, work_in}
-use Rattle.tree_machine.specs.Machine.{Turned, WorkSoFar, is_caller, is_worked, no_work}
-use Rattle.tree_machine.specs.Plays.{has_room, is_finished, most_turns}
+use Rattle.tree_machine.specs.Machine.{Turned, WorkSoFar, is_worked, no_work}
 use Rattle.core_moves.specs.declared.held.Held.{Held}
 use Rattle.tree_core.specs.Calls.{CameSince, EndsWork, TurnsOnce}
 use Rattle.tree_core.specs.Core.{CoreState, facts_of_held}
 use Rattle.tree_session.proofs.BookLemmas.{ended_empty, work_says}
 use Rattle.tree_shared.specs.Seats.{DidOn, KnowsOf, HasRoomFor, IsEven, IsFinished, IsFree, IsWorking, facts_of}
-use Rattle.tree_shared.proofs.SeatLemmas.{both, caller_turns, is_a_caller, its_own, less_there, or_left, or_right}
+use Rattle.tree_shared.proofs.SeatLemmas.{caller_turns, is_a_caller, its_own, less_there, or_right}
 use Rattle.tree_shared.proofs.NoteLemmas.{still_even}
 
 -- ---- what may be done

@@ -2,7 +2,7 @@
 use Rattle.std.specs.Prelude.{◌≡◌, ◌⊎◌, ◌≢◌, ℕ, zero, suc, ◌+◌, ◌-◌, ◌<◌, ◌≤◌, Bool, true, None, List, [], ◌∷◌, map, slice_index}
 use Rattle.blsm_model.specs.Facts.{entries_of}
 use Rattle.blsm_model.specs.Format.{callers}
-use Rattle.blsm_model.specs.Scripts.{IsOfScript, lines_of}
+use Rattle.blsm_model.specs.Scripts.{IsOfScript, lines_of, rows_of}
 use Rattle.blsm_model.specs.declared.history.Entry.{Entry}
 use Rattle.blsm_model.specs.declared.history.Line.{Line}
 use Rattle.blsm_model.specs.declared.history.Reply.{Reply}
@@ -16,7 +16,7 @@ use Rattle.tree_machine.specs.Machine.{seats, turn_more}
 use Rattle.tree_core.specs.Calls.{CameSince}
 use Rattle.tree_core.specs.Core.{CoreState, IsCore}
 use Rattle.tree_core.specs.Notes.{HasLeft, OwesNothing}
-use Rattle.tree_session.specs.Lines.{HasRoomFor, Rests, rows_of}
+use Rattle.tree_session.specs.Lines.{HasRoomFor, Rests}
 use Rattle.tree_shared.specs.Seats.{DidOn, WentOn, KnowsOf, HasHelped, IsFree, IsGone, facts_of}
 
 -- ---- one job

@@ -1,14 +1,14 @@
 //! Commands of a caller, in as many holds of the lock as they have steps.
 ghost use Rattle.std.specs.Prelude.{◌≡◌, ◌+◌, ◌<◌, ◌≤◌, ℕ, [], ◌∷◌, IsTrue, false};
-ghost use Rattle.blsm_model.specs.Format.{callers, most_rows};
+ghost use Rattle.blsm_model.specs.Format.{callers, most_rows, most_turns};
 ghost use Rattle.blsm_model.specs.Legal.{is_write, TailsFit};
 ghost use Rattle.blsm_model.specs.Stored.{as_reply};
 ghost use Rattle.blsm_model.specs.declared.op.Op.TheVariants as op;
 ghost use Rattle.turn_lock.specs.Tallies.{IsOf};
-ghost use Rattle.tree_machine.specs.Plays.{most_turns};
-ghost use Rattle.tree_session.specs.Lines.{IsCommand, rows_of};
+ghost use Rattle.tree_session.specs.Lines.{IsCommand};
 ghost use Rattle.tree_shared.specs.Seats.{DidOn, WentOn, KnowsOf, IsFinished, IsFree, IsOwing};
 ghost use Rattle.tree_shared.specs.Told.{IsAnswered};
+ghost use Rattle.blsm_model.specs.Scripts.{rows_of};
 
 use crate::Told;
 use crate::holds::{admit, end_work, get, hold, let_go, pay, read_on, turn};

@@ -1,12 +1,11 @@
 //! One hold of the lock each: the value is taken, one call of the core is made, and the value is given back.
 ghost use Rattle.std.specs.Prelude.{◌≡◌, ◌≢◌, ◌+◌, ◌<◌, ◌≤◌, ℕ, List, [], ◌∷◌, IsTrue, true};
-ghost use Rattle.blsm_model.specs.Format.{callers, most_rows};
+ghost use Rattle.blsm_model.specs.Format.{callers, most_rows, most_turns};
 ghost use Rattle.blsm_model.specs.Stored.{as_reply};
 ghost use Rattle.blsm_model.specs.declared.op.Op.TheVariants as op;
 ghost use Rattle.blsm_model.specs.declared.row.Row.{Row};
 ghost use Rattle.seat_book.specs.declared.turned.Turned.TheVariants.{Worked, Idle};
 ghost use Rattle.tree_machine.specs.Machine.{seats, turn_more};
-ghost use Rattle.tree_machine.specs.Plays.{most_turns};
 ghost use Rattle.blsm_model.specs.Legal.{is_write, TailsFit};
 ghost use Rattle.turn_lock.specs.Tallies.{IsOf};
 ghost use Rattle.tree_core.specs.Answers.{reply_to_drop, reply_to_get, reply_to_hold, reply_to_next, reply_to_write};

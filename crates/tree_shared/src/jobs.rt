@@ -2,11 +2,11 @@
 ghost use Rattle.std.specs.Prelude.{◌≡◌, ◌+◌, ◌-◌, ◌<◌, ◌≤◌, ℕ, length, MatchResult};
 ghost use Rattle.std.specs.Thread.{IsSync};
 ghost use Rattle.blsm_model.specs.Format.{callers};
-ghost use Rattle.blsm_model.specs.Scripts.{lines_of};
+ghost use Rattle.blsm_model.specs.Scripts.{lines_of, rows_of, rows_asked};
 ghost use Rattle.turn_lock.specs.Tallies.{IsOf};
 ghost use Rattle.turn_lock.specs.Views.{size};
 ghost use Rattle.tree_machine.specs.Machine.{seats};
-ghost use Rattle.tree_session.specs.Lines.{AreRunnable, IsCommand, rows_asked, rows_of};
+ghost use Rattle.tree_session.specs.Lines.{AreRunnable, IsCommand};
 ghost use Rattle.tree_shared.specs.Seats.{KnowsOf, HasHelped, IsFree, IsGone};
 ghost use Rattle.tree_shared.specs.Runs.{DoesLine, Ends, Helped, IsFresh, IsNew, RanLines, RunsAll, Starts, TellsEnd};
 

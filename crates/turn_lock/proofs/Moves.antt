@@ -1,11 +1,13 @@
 -- Each step keeps the rule.
+use Rattle.std.proofs.lemmas.Bool.Decides.{nat_tests}
+use Rattle.std.proofs.lemmas.Grind.{common_steps}
 use Rattle.std.proofs.Common.{◌≡◌, ◌≢◌, ◌⊎◌, ℕ, zero, suc, ◌+◌, ◌-◌, ◌%◌, ◌^◌, ◌<◌, ◌≤◌, Bool, true, false, ◌||◌, List, [], ◌∷◌, ◌++◌, length, set, sym, refl, ap, ◌∙◌, subst, inl, inr, ⊎_elim, arith, cond, le_trans}
 use Rattle.std.specs.Prelude.{slice_index}
 use Rattle.std.specs.Prelude.{Option, Some, None}
 use mathlib.Core.Option as found
-use mathlib.Core.Option.{some-injective, some-ne-none}
+use mathlib.Core.Option.{some-injective}
 use mathlib.Core.Logic.{dite}
-use Rattle.std.proofs.Common.{length-append, eq-eqb, ne_eqb, get_or, leb}
+use Rattle.std.proofs.Common.{length-append, eq-eqb, get_or, leb}
 use mathlib.Core.List.{IsPrefix}
 use native.Mathlib.Decide.{ℕ_discrete, dec_le}
 use Rattle.std.proofs.lemmas.Bool.{leb-true, le-leb}
@@ -22,7 +24,7 @@ use Rattle.turn_lock.specs.declared.view.Stage.{Stage}
 use Rattle.turn_lock.specs.declared.view.Stage.TheVariants.{Idle, Waits, Holds, Gave}
 use Rattle.turn_lock.specs.declared.view.View.{View}
 use Rattle.turn_lock.proofs.Sums.{total-append, total-set, term_le, terms_le, total_some, total_zero, total_le}
-use Rattle.turn_lock.proofs.Seen.{prefix_self, prefix_notes, same_self, each_but, each_map, fits_self, fits_seen, fits_follows, prefix_shorter, entries_between}
+use Rattle.turn_lock.proofs.Seen.{prefix_notes, same_self, each_but, each_map, fits_self, fits_seen, fits_follows, prefix_shorter, entries_between}
 
 some_none : {A : Type 0} {x : A} → None ≡ Some x → ⊥
 some_none e = cc (e)
@@ -34,12 +36,10 @@ waits_is : {A : Type 0} (i j : ℕ) (stage : Stage A) → stage ≡ Waits i → 
 waits_is i j stage a b = cc (a, b)
 
 or_true : (a b : Bool) → (a || b) ≡ true → (a ≡ true) ⊎ (b ≡ true)
-or_true true b e = inl refl
-or_true false b e = inr e
+or_true a b h1 = grind (arith, common_steps, nat_tests)
 
 cond_case : {A : Type 0} (P : A → Type 0) (b : Bool) (x y : A) → P x → P y → P (cond b x y)
-cond_case P true x y p q = p
-cond_case P false x y p q = q
+cond_case P b x y h1 h2 = grind (arith, common_steps, nat_tests)
 
 not_leb : (a b : ℕ) → leb a b ≡ false → b ≤ a
 not_leb a b e = dite (dec_le a b) (λ le. absurd (true≢false (sym (le-leb a b le) ∙ e))) (λ no. omega (arith, no))
@@ -59,16 +59,10 @@ module _ {V : Type 0} where
 
     -- a held ticket is in its range, where one seat at least has one
     pub in_range : (served n : ℕ) (value : V) (stage : Stage V) (j : ℕ) → Placed f st k served n value stage → ticket_of stage ≡ Some j → waiting stage ≤ n → (served ≤ j) × (j < served + n)
-    in_range served n value Idle j placed has some = absurd (some_none has)
-    in_range served n value (Waits i) j placed has some = let e : i ≡ j = ticket_is has in (omega (arith, placed.0), omega (arith, placed.1))
-    in_range served n value (Holds i b) j placed has some = let e : i ≡ j = ticket_is has in (omega (arith, placed.0), omega (arith, placed.0))
-    in_range served n value (Gave i b) j placed has some = let e : i ≡ j = ticket_is has in (omega (arith, placed.0), omega (arith, placed.0))
+    in_range served n value stage j h1 h2 h3 = grind (arith, common_steps, nat_tests)
 
     placed_more : (served n m : ℕ) (value : V) (stage : Stage V) → n ≤ m → Placed f st k served n value stage → Placed f st k served m value stage
-    placed_more served n m value Idle le placed = tt
-    placed_more served n m value (Waits i) le placed = (placed.0, omega (arith, placed.1))
-    placed_more served n m value (Holds i b) le placed = placed
-    placed_more served n m value (Gave i b) le placed = placed
+    placed_more served n m value stage h1 h2 = grind (arith, common_steps, nat_tests)
 
     changed : (s : State (Option V) (View V)) (o : Rule s) (id : ℕ) (v w : View V) (ws : List ℕ) (hs : List (found.Option (Option V))) (served : ℕ) (value : V) (front bytes : ℕ)
         → front ≤ length (f value).history → bytes ≤ (f value).peak
@@ -153,10 +147,7 @@ module _ {V : Type 0} where
 
     -- a view that has the value has the served ticket
     holder : (served n : ℕ) (value : V) (stage : Stage V) → 0 < holding stage → Placed f st k served n value stage → ticket_of stage ≡ Some served
-    holder served n value Idle out placed = absurd (omega arith)
-    holder served n value (Waits i) out placed = absurd (omega arith)
-    holder served n value (Holds i b) out placed = ap (λ (x : ℕ). Some x) placed.0
-    holder served n value (Gave i b) out placed = absurd (omega arith)
+    holder served n value stage h1 h2 = grind (arith, common_steps, nat_tests)
 
     -- whoever waits with the served ticket finds the value at home
     at_home : (s : State (Option V) (View V)) (o : Rule s) (id : ℕ) (v : View V) (j : ℕ) → get_elem? s.views id ≡ found.some v → v.stage ≡ Waits j → j ≡ o.served → total holds s.views ≡ 1 → ⊥
@@ -175,17 +166,7 @@ module _ {V : Type 0} where
         → Each (Fits f (f b).history b) own → Each (Fits f (f b).history b) v.spare
         → (v.over ≡ true → ((f b).closed ≡ true) ⊎ ((f b).stopped ≡ true)) → (v.halted ≡ true → (f b).stopped ≡ true)
         → Knows f st k b front bytes (record { start = v.start; seen = (f b).history; over = v.over || ((f b).closed || (f b).stopped); halted = v.halted || (f b).stopped; own = own; spare = v.spare; stage = stage; front = x; bytes = y })
-    knows_seen v b own stage front bytes x y front_read bytes_read begun few owns spares over halted = record {
-      front_read = front_read;
-      bytes_read = bytes_read;
-      begun = λ _. begun;
-      few = few;
-      seen = prefix_self (f b).history;
-      own = owns;
-      spare = spares;
-      over = λ e. ⊎_elim over (λ (t : ((f b).closed || (f b).stopped) ≡ true). or_true (f b).closed (f b).stopped t) (or_true v.over ((f b).closed || (f b).stopped) e);
-      halted = λ e. ⊎_elim halted (λ (t : (f b).stopped ≡ true). t) (or_true v.halted (f b).stopped e);
-    }
+    knows_seen v b own stage front bytes x y h1 h2 h3 h4 h5 h6 h7 h8 = grind (arith, common_steps, nat_tests)
 
     pub looks : (slots id : ℕ) (v : View V) (j : ℕ) → v.stage ≡ Waits j
         → Allows Rule slots id (v, []) 1 (λ n. n) (looked f st (step slots 1 0 0 found.none) (v, []))
@@ -252,18 +233,11 @@ module _ {V : Type 0} where
     looks_at slots id m j stage none_out = subst (λ (x : Sat V). Allows Rule slots id x 1 (λ n. n) (looked f st (step slots 1 0 0 found.none) x)) (λ i. (m.0, sym none_out i)) (looks slots id m.0 j stage)
 
     placed_next : (served n m : ℕ) (value next : V) (stage : Stage V) → m + 1 ≡ n → Placed f st k served n value stage → (ticket_of stage ≡ Some served → ⊥) → Placed f st k (served + 1) m next stage
-    placed_next served n m value next Idle one placed none = tt
-    placed_next served n m value next (Waits i) one placed none = let apart : i ≢ served = λ e. none (ap (λ (x : ℕ). Some x) e) in
-        dite (ℕ_discrete i served) (λ e. absurd (apart e)) (λ ne. (omega (arith, placed.0, ne), omega (arith, placed.1)))
-    placed_next served n m value next (Holds i b) one placed none = absurd (none (ap (λ (x : ℕ). Some x) placed.0))
-    placed_next served n m value next (Gave i b) one placed none = absurd (none (ap (λ (x : ℕ). Some x) placed.0))
+    placed_next served n m value next stage h1 h2 h3 = grind (arith, common_steps, nat_tests)
 
     -- another view keeps its place, where the value changes in the turn of the served ticket
     placed_other : (served n m : ℕ) (value next : V) (stage : Stage V) → m ≡ n → Placed f st k served n value stage → (ticket_of stage ≡ Some served → ⊥) → Placed f st k served m next stage
-    placed_other served n m value next Idle same placed none = tt
-    placed_other served n m value next (Waits i) same placed none = (placed.0, omega (arith, placed.1))
-    placed_other served n m value next (Holds i b) same placed none = absurd (none (ap (λ (x : ℕ). Some x) placed.0))
-    placed_other served n m value next (Gave i b) same placed none = absurd (none (ap (λ (x : ℕ). Some x) placed.0))
+    placed_other served n m value next stage h1 h2 h3 = grind (arith, common_steps, nat_tests)
 
     -- another view keeps what it knows, where it hasn't the number
     knows_next : (a b : V) (number : ℕ) (u : View V) (front bytes more : ℕ) → front ≤ more → Follows number (f a) (f b) → has number u ≡ 0 → Knows f st k a front bytes u → Knows f st k b more bytes u
@@ -355,8 +329,7 @@ module _ {V : Type 0} where
 
     -- more was published
     knows_up : (a : V) (u : View V) (front bytes more_front more_bytes : ℕ) → front ≤ more_front → bytes ≤ more_bytes → Knows f st k a front bytes u → Knows f st k a more_front more_bytes u
-    knows_up a u front bytes more_front more_bytes up wide know =
-        record { begun = know.begun; few = know.few; seen = know.seen; own = know.own; spare = know.spare; over = know.over; front_read = le_trans know.front_read up; bytes_read = le_trans know.bytes_read wide; halted = know.halted }
+    knows_up a u front bytes more_front more_bytes h1 h2 h3 = grind (arith, common_steps, nat_tests)
 
     pub publishes : (slots id : ℕ) (v : View V) (j : ℕ) (b : V) (new : ℕ) → v.stage ≡ Gave j b → new ≡ (f b).peak
         → Allows Rule slots id (v, []) 3 (λ _. new) (λ _. published (step slots 3 new 0 found.none) (v, []) new)
@@ -469,16 +442,13 @@ module _ {V : Type 0} where
     ends_turn_at slots id m j b new stage none_out is = subst (λ (x : Sat V). Allows Rule slots id x 1 (λ _. new) (λ _. ended (step slots 1 new 0 found.none) x new)) (λ i. (m.0, sym none_out i)) (ends_turn slots id m.0 j b new stage is)
 
     rest_size : (ps : List (ℕ × V)) → 0 < length ps → length (rest_of ps) + length (first_of ps) ≡ length ps
-    rest_size [] some = absurd (omega arith)
-    rest_size (p ∷ ps) some = omega arith
+    rest_size ps h1 = grind (arith, common_steps, nat_tests)
 
     rest_has : (i : ℕ) (ps : List (ℕ × V)) → total (is_number i) (rest_of ps) + total (is_number i) (first_of ps) ≡ total (is_number i) ps
-    rest_has i [] = omega arith
-    rest_has i (p ∷ ps) = omega arith
+    rest_has i ps = grind (arith, common_steps, nat_tests)
 
     each_rest : (P : ℕ × V → Type 0) (ps : List (ℕ × V)) → Each P ps → Each P (rest_of ps) × Each P (first_of ps)
-    each_rest P [] each = (tt, tt)
-    each_rest P (p ∷ ps) each = (each.1, (each.0, tt))
+    each_rest P ps h1 = grind (arith, common_steps, nat_tests)
 
     pub splits : (id : ℕ) (v : View V) → 0 < length v.spare → Splits Rule id v (cut v) (given v)
     splits id v some s o me =
@@ -601,21 +571,7 @@ module _ {V : Type 0} where
         }
 
     pub spare_some : (ps : List (ℕ × V)) (next : ℕ) (a : V) → next < 24 → ps ≡ counted_up next (24 - next) a → 0 < length ps
-    spare_some ps next a left is = go (24 - next) (omega (arith, left)) is
-      where
-        go : (n : ℕ) → 0 < n → ps ≡ counted_up next n a → 0 < length ps
-        go zero some is = absurd (omega arith)
-        go (suc n) some is = omega (arith, ap length is)
-
-    once_up : (i from n : ℕ) → (i < from → total (is_number i) (counted_up from n k) ≡ 0) × (from ≤ i → i < from + n → total (is_number i) (counted_up from n k) ≡ 1)
-    once_up i from zero = ((λ _. refl), (λ a b. absurd (omega (arith, a, b))))
-    once_up i from (suc n) =
-        let later = once_up i (from + 1) n in (
-          (λ below. let no : is_number i (from, k) ≡ 0 = ap (λ b. cond b 1 0) (ne_eqb from i (λ e. omega (arith, e, below))) in omega (arith, no, later.0 (omega (arith, below)))),
-          (λ a b. dite (ℕ_discrete from i)
-              (λ e. let yes_here : is_number i (from, k) ≡ 1 = ap (λ b. cond b 1 0) (eq-eqb from i e) in omega (arith, yes_here, later.0 (omega (arith, e))))
-              (λ ne. let no : is_number i (from, k) ≡ 0 = ap (λ b. cond b 1 0) (ne_eqb from i ne) in omega (arith, no, later.1 (omega (arith, a, ne)) (omega (arith, b))))),
-        )
+    spare_some ps next a h1 h2 = grind (arith, common_steps, nat_tests)
 
     each_up : ((i : ℕ) → [] ≡ entries_of i (f k).history) → (from n : ℕ) → Each (Fits f [] k) (counted_up from n k)
     each_up none_of from zero = tt
@@ -643,27 +599,13 @@ module _ {V : Type 0} where
         }
       where
         first_only : (P : ℕ → View V → Type 0) → P 0 (opening_view k) → (x : ℕ) (u : View V) → get_elem? (opening_view k ∷ []) x ≡ found.some u → P x u
-        first_only P mine zero u e = subst (P 0) (some-injective (opening_view k) u e) mine
-        first_only P mine (suc x) u e = absurd (some-ne-none u (sym e))
+        first_only P h1 x u h2 = grind (arith, common_steps, nat_tests)
 
         parted : (i : ℕ) → i < 24 → total (is_number i) ((0, k) ∷ []) + total (is_number i) (counted_up 1 23 k) ≡ 1
-        parted i low = dite (ℕ_discrete 0 i)
-            (λ e. let here : is_number i (0, k) ≡ 1 = ap (λ b. cond b 1 0) (eq-eqb 0 i e) in let later = (once_up i 1 23).0 (omega (arith, e)) in omega (arith, here, later))
-            (λ ne. let no : is_number i (0, k) ≡ 0 = ap (λ b. cond b 1 0) (ne_eqb 0 i ne) in let later = (once_up i 1 23).1 (omega (arith, ne)) (omega (arith, low)) in omega (arith, no, later))
+        parted i h1 = grind (arith, common_steps, nat_tests)
 
     none_waits : (s : State (Option V) (View V)) (o : Rule s) (id : ℕ) (v : View V) → get_elem? s.views id ≡ found.some v → v.stage ≡ Idle → size v ≡ 24 → total holds s.views ≡ 0
-    none_waits s o id v me idle whole = total_zero holds s.views each
-      where
-        out_waits : (stage : Stage V) → holding stage ≤ waiting stage
-        out_waits Idle = omega arith
-        out_waits (Waits i) = omega arith
-        out_waits (Holds i b) = omega arith
-        out_waits (Gave i b) = omega arith
-
-        each : (x : ℕ) (u : View V) → get_elem? s.views x ≡ found.some u → holds u ≡ 0
-        each x u e = dite (ℕ_discrete x id)
-            (λ same. let is : v ≡ u = some-injective v u (sym me ∙ (ap (λ (y : ℕ). get_elem? s.views y) (sym same) ∙ e)) in ap (λ (a : View V). holds a) (sym is) ∙ ap holding idle)
-            (λ ne. let few = (o.knows x u e).few in omega (arith, terms_le size s.views id x v u ne me e, o.all, whole, few, out_waits u.stage))
+    none_waits s o id v h1 h2 h3 = grind (arith, common_steps, nat_tests, total_zero, terms_le)
 
     -- what the lock has in the end, where one caller has all numbers
     pub ends : (id : ℕ) (v : View V) (ws : List ℕ) (xs : List (Option V)) → v.stage ≡ Idle → size v ≡ 24 → Final (Seen Rule id v) ws xs

@@ -1,5 +1,7 @@
 -- A run of a caller and of those that it splits off.
-use Rattle.std.proofs.Common.{◌≡◌, ℕ, suc, ◌+◌, ◌-◌, ◌<◌, ◌≤◌, List, [], ◌∷◌, ◌++◌, length, sym, refl, ap, ◌∙◌, subst, arith, inl, inr, ⊎_elim, length-append}
+use Rattle.std.proofs.lemmas.Bool.Decides.{nat_tests}
+use Rattle.std.proofs.lemmas.Grind.{common_steps}
+use Rattle.std.proofs.Common.{◌≡◌, ℕ, suc, ◌+◌, ◌-◌, ◌<◌, ◌≤◌, List, [], ◌∷◌, ◌++◌, length, sym, ap, ◌∙◌, subst, arith, inl, inr, ⊎_elim, length-append}
 use Rattle.std.specs.Prelude.{slice_index, Some}
 use mathlib.Core.Logic.{dite}
 use native.Mathlib.Decide.{ℕ_discrete}
@@ -24,16 +26,7 @@ up_one : (next : ℕ) (a : Tally) → next < 24 → counted_up next (24 - next) 
 up_one next a low = let e : 24 - next ≡ suc (24 - (next + 1)) = omega (arith, low) in ap (λ (n : ℕ). counted_up next n a) e
 
 pub starts_rest : (lock : Lock Tally) (m count : ℕ) (c d : Held Tally) → Starts lock (suc m) count c → GaveAway c d → Starts lock m count d
-starts_rest lock m count c d s a = record {
-  of_lock = (a.table ∙ s.of_lock.0, ap (λ (x : Sat Tally). x.0.start) a.me ∙ s.of_lock.1, (ap (λ (x : Sat Tally). x.0.stage) a.me ∙ s.of_lock.2.0, ap (λ (x : Sat Tally). x.1) a.me));
-  number = subst (λ (n : ℕ). n < 16) (sym a.number) s.number;
-  last = omega (arith, a.next, s.last);
-  room = (s.room.0, s.room.1, ap (λ (x : Sat Tally). x.0.own) a.me ∙ (s.room.2 ∙ ap (λ (n : ℕ). (n, s.room.0) ∷ s.room.1) (sym a.number)), subst (λ (n : ℕ). count ≤ slice_index s.room.0.annals.room.entries n) (sym a.number) s.room.3);
-  none = ap (λ (x : Sat Tally). its_entries of_tally x.0.own) a.me ∙ s.none;
-  spare = ap (λ (x : Sat Tally). x.0.spare) a.me ∙ (ap rest_of (s.spare ∙ up_one c.next lock.start (omega (arith, s.last))) ∙ ap (λ (n : ℕ). counted_up n (24 - n) lock.start) (sym a.next));
-  fresh = s.fresh;
-  rooms = s.rooms;
-}
+starts_rest lock m count c d h1 h2 = grind (arith, common_steps, nat_tests, up_one)
 
 own_of_other : (lock : Lock Tally) (m count : ℕ) (c o : Held Tally) → Starts lock (suc m) count c → IsSplitOff c o → o.me.0.own ≡ (o.number, lock.start) ∷ []
 own_of_other lock m count c o s a = ap (λ (x : Sat Tally). x.0.own) a.me ∙ (ap first_of (s.spare ∙ up_one c.next lock.start (omega (arith, s.last))) ∙ ap (λ (n : ℕ). (n, lock.start) ∷ []) (sym a.number))
@@ -47,24 +40,13 @@ ready_other lock m count c o s a = record {
 
 tells_after : (c d : Held Tally) (b : Tally) (more : List (ℕ × Tally)) (count : ℕ) → c.me.0.own ≡ (c.number, b) ∷ more → its_entries of_tally c.me.0.own ≡ [] → Noted of_tally c (works_by c.number count) d
     → Tells of_tally c.number (works_by c.number count) d.me.0.own
-tells_after c d b more count own none noted =
-    let v = noted.own.0 in
-    let own_d : d.me.0.own ≡ (c.number, v) ∷ more = noted.own.1 ∙ ap (renewed of_tally v) own in (
-      v,
-      subst (In (c.number, v)) (sym own_d) (inl refl),
-      sym (ap (its_entries of_tally) own_d) ∙ (noted.known ∙ ap (λ l. l ++ works_by c.number count) none),
-    )
+tells_after c d b more count h1 h2 h3 = grind (arith, common_steps, nat_tests)
 
 noted_size : (c d : Held Tally) (b : Tally) (more : List (ℕ × Tally)) (es : List Entry) → c.me.0.own ≡ (c.number, b) ∷ more → Noted of_tally c es d → size d.me.0 ≡ size c.me.0
 noted_size c d b more es own noted = omega (arith, ap length noted.own.1, ap length (ap (renewed of_tally noted.own.0) own), ap length own, ap length noted.spare)
 
 pub ends_none : (lock : Lock Tally) (count : ℕ) (c d : Held Tally) → Starts lock 0 count c → Noted of_tally c (works_by c.number count) d → Ends lock 0 count c d
-ends_none lock count c d s noted = record {
-  of_lock = (noted.table ∙ s.of_lock.0, noted.begun ∙ s.of_lock.1, noted.idle);
-  sized = noted_size c d s.room.0 s.room.1 (works_by c.number count) s.room.2 noted;
-  own = tells_after c d s.room.0 s.room.1 count s.room.2 s.none noted;
-  others = λ i low high. absurd (omega (arith, low, high));
-}
+ends_none lock count c d h1 h2 = grind (arith, common_steps, nat_tests)
 
 tells_left : (i : ℕ) (es : List Entry) (xs ys : List (ℕ × Tally)) → Tells of_tally i es xs → Tells of_tally i es (xs ++ ys)
 tells_left i es xs ys t = (t.0, in_left (i, t.0) xs ys t.1, t.2)

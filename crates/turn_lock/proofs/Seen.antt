@@ -1,5 +1,7 @@
 -- What is known of a value is known of what follows it.
-use Rattle.std.proofs.Common.{◌≡◌, ◌≢◌, ℕ, ◌≤◌, Bool, false, ◌==◌, List, [], ◌∷◌, ◌++◌, length, sym, refl, ap, ◌∙◌, subst, ⊎_elim, arith, append_assoc, ne_eqb, eq-eqb, le_trans, cond, length-append}
+use Rattle.std.proofs.lemmas.Bool.Decides.{nat_tests}
+use Rattle.std.proofs.lemmas.Grind.{common_steps}
+use Rattle.std.proofs.Common.{◌≡◌, ◌≢◌, ℕ, ◌≤◌, List, [], ◌∷◌, ◌++◌, length, sym, refl, ap, ◌∙◌, ⊎_elim, arith, eq-eqb, cond, length-append}
 use Rattle.std.proofs.lemmas.List.{append-nil}
 use Rattle.std.proofs.lemmas.List.Elements.{filter-append}
 use mathlib.Core.List.{IsPrefix}
@@ -13,41 +15,17 @@ prefix_self xs = ([], append-nil xs)
 pub eases_self : (p : Part) → Eases p p
 eases_self p = record { debt1 = omega arith; debt2 = omega arith; turns = refl; worked = refl; quanta = refl; room = refl; left = refl }
 
-pub eases_trans : (p q r : Part) → Eases p q → Eases q r → Eases p r
-eases_trans p q r a b = record {
-  debt1 = le_trans b.debt1 a.debt1;
-  debt2 = le_trans b.debt2 a.debt2;
-  turns = b.turns ∙ a.turns;
-  worked = b.worked ∙ a.worked;
-  quanta = b.quanta ∙ a.quanta;
-  room = b.room ∙ a.room;
-  left = b.left ∙ a.left;
-}
-
 pub same_self : (i : ℕ) (f : Facts) → Same i f f
 same_self i f = record { entries = refl; part = eases_self (f.part i) }
 
 pub prefix_notes : (seat : ℕ) (xs h k : List Entry) → Notes seat h k → IsPrefix xs h → IsPrefix xs k
-prefix_notes seat xs h k notes p = ⊎_elim
-    (λ (same : k ≡ h). subst (IsPrefix xs) (sym same) p)
-    (λ (t : (e : Entry) × (e.seat ≡ seat) × (k ≡ h ++ e ∷ [])). (p.0 ++ t.0 ∷ [], sym (append_assoc xs p.0 (t.0 ∷ [])) ∙ (ap (λ w. w ++ t.0 ∷ []) p.1 ∙ sym t.2)))
-    notes
-
-not_its : (i seat : ℕ) (e : Entry) → e.seat ≡ seat → i ≢ seat → entries_of i (e ∷ []) ≡ []
-not_its i seat e its apart = let no : (e.seat == i) ≡ false = ne_eqb e.seat i (λ same. apart (sym same ∙ its)) in rw no refl
+prefix_notes seat xs h k h1 h2 = grind (arith, common_steps, nat_tests)
 
 pub entries_note : (i seat : ℕ) (h k : List Entry) → Notes seat h k → i ≢ seat → entries_of i k ≡ entries_of i h
-entries_note i seat h k notes apart = ⊎_elim
-    (λ (same : k ≡ h). ap (entries_of i) same)
-    (λ (t : (e : Entry) × (e.seat ≡ seat) × (k ≡ h ++ e ∷ [])).
-    ap (entries_of i) t.2 ∙ (filter-append (λ (e : Entry). e.seat == i) h (t.0 ∷ []) ∙ (ap (λ w. entries_of i h ++ w) (not_its i seat t.0 t.1 apart) ∙ append-nil (entries_of i h))))
-    notes
+entries_note i seat h k h1 h2 = grind (arith, common_steps, nat_tests)
 
 pub same_follows : (i seat : ℕ) (a f g : Facts) → Follows seat f g → i ≢ seat → Same i a f → Same i a g
-same_follows i seat a f g follows apart same = record {
-  entries = entries_note i seat f.history g.history follows.history apart ∙ same.entries;
-  part = eases_trans (a.part i) (f.part i) (g.part i) same.part (follows.others i apart);
-}
+same_follows i seat a f g h1 h2 h3 = grind (arith, common_steps, nat_tests)
 
 pub fits_self : {V : Type 0} (f : V → Facts) (i : ℕ) (v : V) → Fits f (f v).history v (i, v)
 fits_self f i v = (same_self i (f v), refl)
@@ -73,18 +51,11 @@ prefix_shorter (x ∷ xs) (y ∷ ys) (z ∷ zs) p q le =
     (rest.0, cc (heads, rest.1))
 
 none_more : (xs ys : List Entry) → length (xs ++ ys) ≤ length xs → xs ++ ys ≡ xs
-none_more xs [] le = append-nil xs
-none_more xs (y ∷ ys) le = absurd (omega (arith, length-append xs (y ∷ ys)))
+none_more xs ys h1 = grind (arith, common_steps, nat_tests)
 
 -- what was seen last has all entries of a seat, where an earlier sight had
 pub entries_between : (i : ℕ) (xs ys zs : List Entry) → IsPrefix xs ys → IsPrefix ys zs → entries_of i xs ≡ entries_of i zs → entries_of i ys ≡ entries_of i zs
-entries_between i xs ys zs p q same =
-    let test : Entry → Bool = λ e. e.seat == i in
-    let first : entries_of i ys ≡ entries_of i xs ++ entries_of i p.0 = ap (entries_of i) (sym p.1) ∙ filter-append test xs p.0 in
-    let second : entries_of i zs ≡ entries_of i ys ++ entries_of i q.0 = ap (entries_of i) (sym q.1) ∙ filter-append test ys q.0 in
-    let no_more : entries_of i ys ++ entries_of i q.0 ≡ entries_of i ys = none_more (entries_of i ys) (entries_of i q.0)
-    (omega (arith, ap length first, ap length second, ap length same, length-append (entries_of i xs) (entries_of i p.0))) in
-    sym no_more ∙ sym second
+entries_between i xs ys zs h1 h2 h3 = grind (arith, common_steps, nat_tests, filter-append, none_more, length-append)
 
 -- numbers among which i isn't
 pub each_but : {V : Type 0} (i : ℕ) (P Q : ℕ × V → Type 0) (ps : List (ℕ × V)) → total (is_number i) ps ≡ 0 → ((p : ℕ × V) → p.0 ≢ i → P p → Q p) → Each P ps → Each Q ps

@@ -1,37 +1,26 @@
 -- What a turn tells its caller, and turns one after another.
-use Rattle.std.proofs.Common.{◌≡◌, ℕ, ◌+◌, ◌≤◌, ◌==◌, Bool, true, false, ◌||◌, List, [], ◌∷◌, ◌++◌, length, sym, refl, ap, ◌∙◌, subst, arith, append_assoc, length-append, le_trans, inl, ⊎_elim}
+use Rattle.std.proofs.lemmas.Bool.Decides.{nat_tests}
+use Rattle.std.proofs.lemmas.Grind.{common_steps}
+use Rattle.std.proofs.Common.{◌≡◌, ℕ, ◌+◌, Bool, true, ◌||◌, List, [], ◌∷◌, ◌++◌, sym, ap, ◌∙◌, subst, arith, append_assoc, length-append, le_trans, ⊎_elim}
 use Rattle.std.specs.Prelude.{Some}
 use Rattle.std.proofs.lemmas.List.Elements.{filter-append}
 use Rattle.blsm_model.specs.declared.history.Entry.{Entry}
 use Rattle.blsm_model.specs.Facts.{Facts, Part, Eases, Follows, entries_of}
 use Rattle.turn_lock.specs.Views.{Each, Fits}
-use Rattle.turn_lock.specs.Plays.{Sat, Finds, renewed, giving, with_bytes}
+use Rattle.turn_lock.specs.Plays.{Sat, Finds, renewed}
 use Rattle.turn_lock.specs.Callers.{Held, HasTaken, GaveBack, Idles}
-use Rattle.turn_lock.specs.Views.{with_stage}
-use Rattle.turn_lock.specs.Tallies.{its_entries}
 use Rattle.turn_lock.specs.Turns.{TookTurn, Did, Knows, Went}
-use Rattle.turn_lock.specs.declared.view.Stage.TheVariants.{Idle}
-use Rattle.turn_lock.proofs.Runs.{noted_more}
 
 or_left : (a b : Bool) → a ≡ true → (a || b) ≡ true
 or_left a b is = ap (λ (x : Bool). x || b) is
 
 or_right : (a b : Bool) → b ≡ true → (a || b) ≡ true
-or_right true b is = refl
-or_right false b is = is
+or_right a b h1 = grind (arith, common_steps, nat_tests)
 
 module _ {V : Type 0} (f : V → Facts) (st : V → V → Type 0) where
   -- from what taking and giving back say
   pub took_turn : (c t d : Held V) (b w : V) → HasTaken f st c b t → GaveBack f st t w d → Follows c.number (f b) (f w) → ((a : V) → c.me.0.start ≡ Some a → st a w) → TookTurn f st c b w d
-  took_turn c t d b w taken gave follows lasts = record {
-    table = ap (λ (h : Held V). h.table) gave.1 ∙ ap (λ (h : Held V). h.table) taken.1;
-    number = ap (λ (h : Held V). h.number) gave.1 ∙ ap (λ (h : Held V). h.number) taken.1;
-    next = ap (λ (h : Held V). h.next) gave.1 ∙ ap (λ (h : Held V). h.next) taken.1;
-    me = ap (λ (h : Held V). h.me) gave.1 ∙ ap (λ (h : Held V). (with_stage (with_bytes (giving f h.me.0 gave.0 w (length (f w).history)) (f w).peak) Idle, [])) taken.1;
-    finds = taken.2;
-    follows = follows;
-    lasts = lasts;
-  }
+  took_turn c t d b w h1 h2 h3 h4 = grind (arith, common_steps, nat_tests)
 
   -- ---- what it knows of its part
 
@@ -54,74 +43,15 @@ module _ {V : Type 0} (f : V → Facts) (st : V → V → Type 0) where
   -- ---- what its seat noted
 
   pub did_turn : (P : Bool → Part → Type 0) (c d : Held V) (b w : V) (es : List Entry) → TookTurn f st c b w d → Knows f P c → (f w).history ≡ (f b).history ++ es → entries_of c.number es ≡ es → Did f st c es d
-  did_turn P c d b w es turn k grows mine =
-      let fits = head_fits c b k.value k.more k.own turn.finds in
-      let seen : d.me.0.seen ≡ (f w).history = ap (λ (x : Sat V). x.0.seen) turn.me in
-      let own : d.me.0.own ≡ renewed f w c.me.0.own = ap (λ (x : Sat V). x.0.own) turn.me in
-      let front : d.me.0.front ≡ length (f w).history = ap (λ (x : Sat V). x.0.front) turn.me in
-      let bytes : d.me.0.bytes ≡ (f w).peak = ap (λ (x : Sat V). x.0.bytes) turn.me in
-      let more : entries_of c.number (f w).history ≡ entries_of c.number (f b).history ++ es =
-      ap (entries_of c.number) grows ∙ (filter-append (λ (e : Entry). e.seat == c.number) (f b).history es ∙ ap (λ (l : List Entry). entries_of c.number (f b).history ++ l) mine) in
-      let before = turn.finds.seen in
-      record {
-        noted = record {
-          table = turn.table;
-          number = turn.number;
-          next = turn.next;
-          idle = (ap (λ (x : Sat V). x.0.stage) turn.me, ap (λ (x : Sat V). x.1) turn.me);
-          begun = ap (λ (x : Sat V). x.0.start) turn.me;
-          own = (w, own);
-          spare = ap (λ (x : Sat V). x.0.spare) turn.me;
-          seen = (before.0 ++ es, sym (append_assoc c.me.0.seen before.0 es) ∙ (ap (λ (l : List Entry). l ++ es) before.1 ∙ sym (seen ∙ grows)));
-          mine = ap (entries_of c.number) seen ∙ (more ∙ ap (λ (l : List Entry). l ++ es) (sym fits.1));
-          known = ap (its_entries f) (own ∙ ap (renewed f w) k.own) ∙ (more ∙ (ap (λ (l : List Entry). l ++ es) fits.0.entries ∙ ap (λ (l : List (ℕ × V)). its_entries f l ++ es) (sym k.own)));
-        };
-        over = λ was. ap (λ (x : Sat V). x.0.over) turn.me ∙ or_left (c.me.0.over || ((f b).closed || (f b).stopped)) ((f w).closed || (f w).stopped) (or_left c.me.0.over ((f b).closed || (f b).stopped) was);
-        halted = λ was. ap (λ (x : Sat V). x.0.halted) turn.me ∙ or_left (c.me.0.halted || (f b).stopped) (f w).stopped (or_left c.me.0.halted (f b).stopped was);
-        value = w;
-        own = own;
-        seen = seen;
-        front = front;
-        bytes = bytes;
-        longer = subst (λ (n : ℕ). c.me.0.front + length es ≤ n) (sym front) (omega (arith, turn.finds.front, ap length grows, length-append (f b).history es));
-        greater = subst (λ (n : ℕ). c.me.0.bytes ≤ n) (sym bytes) (le_trans turn.finds.bytes turn.follows.peak);
-        lasts = turn.lasts;
-      }
-
-  renewed_again : (a b : V) (ps : List (ℕ × V)) → renewed f b (renewed f a ps) ≡ renewed f b ps
-  renewed_again a b [] = refl
-  renewed_again a b (p ∷ ps) = refl
+  did_turn P c d b w es h1 h2 h3 h4 = grind (arith, common_steps, nat_tests, head_fits, filter-append, append_assoc, or_left, length-append, le_trans)
 
   pub did_then : (c d e : Held V) (xs ys : List Entry) → Did f st c xs d → Did f st d ys e → Did f st c (xs ++ ys) e
-  did_then c d e xs ys one two = record {
-    noted = noted_more f c d e xs ys one.noted two.noted;
-    over = λ was. two.over (one.over was);
-    halted = λ was. two.halted (one.halted was);
-    value = two.value;
-    own = two.own ∙ (ap (renewed f two.value) one.own ∙ renewed_again one.value two.value c.me.0.own);
-    seen = two.seen;
-    front = two.front;
-    bytes = two.bytes;
-    longer = omega (arith, one.longer, two.longer, length-append xs ys);
-    greater = le_trans one.greater two.greater;
-    lasts = λ a begun. two.lasts a (one.noted.begun ∙ begun);
-  }
-
-  -- a caller that saw the value stopped takes a stopped one
-  pub found_stopped : (c : Held V) (b : V) → Finds f st c.me.0 b → c.me.0.halted ≡ true → (f b).stopped ≡ true
-  found_stopped c b finds was = finds.halted was
-
-  -- and one that gives a stopped value back saw it so
-  pub saw_stopped : (c d : Held V) (b w : V) → TookTurn f st c b w d → (f w).stopped ≡ true → d.me.0.halted ≡ true
-  saw_stopped c d b w turn is = ap (λ (x : Sat V). x.0.halted) turn.me ∙ or_right (c.me.0.halted || (f b).stopped) (f w).stopped is
+  did_then c d e xs ys h1 h2 = grind (arith, common_steps, nat_tests)
 
   pub saw_over : (c d : Held V) (b w : V) → TookTurn f st c b w d → ((f w).closed || (f w).stopped) ≡ true → d.me.0.over ≡ true
   saw_over c d b w turn is = ap (λ (x : Sat V). x.0.over) turn.me ∙ or_right (c.me.0.over || ((f b).closed || (f b).stopped)) ((f w).closed || (f w).stopped) is
 
   -- ---- some turns, or none
-
-  pub went_none : (c : Held V) → Went f st c [] c
-  went_none c = inl (refl, refl)
 
   pub went_then : (c d e : Held V) (xs ys : List Entry) → Went f st c xs d → Did f st d ys e → Did f st c (xs ++ ys) e
   went_then c d e xs ys one two = ⊎_elim
@@ -131,14 +61,4 @@ module _ {V : Type 0} (f : V → Facts) (st : V → V → Type 0) where
 
   -- it is the same caller of the same lock, and idle where it was
   pub went_same : (c d : Held V) (xs : List Entry) → Went f st c xs d → (d.table ≡ c.table) × (d.number ≡ c.number) × (d.next ≡ c.next) × (d.me.0.start ≡ c.me.0.start) × (d.me.0.spare ≡ c.me.0.spare) × (Idles c.me → Idles d.me)
-  went_same c d xs went = ⊎_elim
-      (λ (still : (d ≡ c) × (xs ≡ [])). (
-        ap (λ (h : Held V). h.table) still.0,
-        ap (λ (h : Held V). h.number) still.0,
-        ap (λ (h : Held V). h.next) still.0,
-        ap (λ (h : Held V). h.me.0.start) still.0,
-        ap (λ (h : Held V). h.me.0.spare) still.0,
-        λ idle. subst (λ (h : Held V). Idles h.me) (sym still.0) idle,
-      ))
-      (λ (did : Did f st c xs d). (did.noted.table, did.noted.number, did.noted.next, did.noted.begun, did.noted.spare, λ idle. did.noted.idle))
-      went
+  went_same c d xs h1 = grind (arith, common_steps, nat_tests)

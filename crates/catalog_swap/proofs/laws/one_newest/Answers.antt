@@ -1,6 +1,6 @@
 use Rattle.catalog_swap.proofs.SlotLemmas.{one_newest, not_damaged}
 use Rattle.catalog_swap.proofs.Decide.{some_newest}
-use Rattle.catalog_swap.specs.Laws.{newest_same}
+use Rattle.catalog_swap.proofs.FileLemmas.{newest_same}
 use Rattle.catalog_swap.proofs.laws.one_newest.Goals as goal
 
 pub returns-clause-same : goal.returns-clause-same

@@ -1,6 +1,6 @@
 use Rattle.std.proofs.Common.{◌≡◌, sym, subst, List, ℕ, IsTrue, Option, Result, Ok, Err, arith}
 use Rattle.disk_trait.specs.Disk.{DiskState, TellsFaultsBy}
-use Rattle.disk_trait.specs.Reads.{only_reads_run, only_reads_wider}
+use Rattle.disk_trait.proofs.ReadLemmas.{only_reads_run, only_reads_wider}
 use Rattle.catalog_swap.specs.declared.catalog.Catalog.{Catalog}
 use Rattle.catalog_swap.specs.declared.slots.SlotsBroken.{SlotsBroken}
 use Rattle.catalog_swap.specs.declared.slots.SlotsBroken.TheVariants.{Fault}

@@ -1,7 +1,7 @@
 use Rattle.std.proofs.Common.{◌∙◌, ◌≡◌, ap, List, ℕ, length, arith}
 use Rattle.std.proofs.lemmas.Slice.{between_to_end}
 use Rattle.disk_trait.specs.Disk.{part}
-use Rattle.disk_trait.specs.Reads.{only_reads_call}
+use Rattle.disk_trait.proofs.ReadLemmas.{only_reads_call}
 use Rattle.catalog_swap.proofs.SlotLemmas.{read_has, read_broken}
 use Rattle.catalog_swap.proofs.slots.read_slot.Goals as goal
 

@@ -1,5 +1,6 @@
 use Rattle.std.proofs.Common.{length, ◌∙◌, ap, arith, length-append}
-use Rattle.disk_mem.specs.Calls.{written_len, events, events-push, written_len-push}
+use Rattle.disk_mem.specs.Calls.{written_len, events}
+use Rattle.disk_mem.proofs.CallLemmas.{events-push, written_len-push}
 use Rattle.disk_mem.proofs.Noted.{went_well}
 use Rattle.disk_mem.proofs.recorder.keep.Goals as goal
 

@@ -40,21 +40,15 @@ add_under-right-requires t c =
       ),
     )
 
-pub settle-requires-clause-may : goal.settle-requires-clause-may
-settle-requires-clause-may t c =
+pub settle-requires : goal.settle-requires
+settle-requires t c =
     let fork = forked c.args.nodes.now c.args.store.now.slots c.args.root c.requires.tree c.if-root-eq-NONE.false in
-    may_left c.args.nodes.now c.args.store.now.slots c.args.root _ _ c.args.new fork c.requires.new c.add_under-left.new.nodes c.add_under-left.result c.requires.balanced c.add_under-left.auto.nodes c.add_under-left.ensures
-
-pub settle-requires-clause-differ : goal.settle-requires-clause-differ
-settle-requires-clause-differ t c =
-    let fork = forked c.args.nodes.now c.args.store.now.slots c.args.root c.requires.tree c.if-root-eq-NONE.false in
-    differ_left c.args.nodes.now c.args.store.now.slots c.args.root _ _ c.args.new fork c.requires.new c.add_under-left.new.nodes c.add_under-left.result c.requires.balanced c.add_under-left.auto.nodes c.add_under-left.ensures
-
-pub settle-requires-clause-low : goal.settle-requires-clause-low
-settle-requires-clause-low t c =
-    let fork = forked c.args.nodes.now c.args.store.now.slots c.args.root c.requires.tree c.if-root-eq-NONE.false in
-    low_left c.args.nodes.now c.args.store.now.slots c.args.root _ _ c.args.new fork c.requires.new c.add_under-left.new.nodes c.add_under-left.result c.requires.balanced c.add_under-left.auto.nodes c.add_under-left.ensures 4294967296
-    (omega (arith, c.requires.low, stored c.args.nodes.now c.args.root (tree_at c.args.nodes.now c.args.root) c.requires.tree.few c.requires.tree.holds))
+    record {
+      may = may_left c.args.nodes.now c.args.store.now.slots c.args.root _ _ c.args.new fork c.requires.new c.add_under-left.new.nodes c.add_under-left.result c.requires.balanced c.add_under-left.auto.nodes c.add_under-left.ensures;
+      differ = differ_left c.args.nodes.now c.args.store.now.slots c.args.root _ _ c.args.new fork c.requires.new c.add_under-left.new.nodes c.add_under-left.result c.requires.balanced c.add_under-left.auto.nodes c.add_under-left.ensures;
+      low = low_left c.args.nodes.now c.args.store.now.slots c.args.root _ _ c.args.new fork c.requires.new c.add_under-left.new.nodes c.add_under-left.result c.requires.balanced c.add_under-left.auto.nodes c.add_under-left.ensures 4294967296
+          (omega (arith, c.requires.low, stored c.args.nodes.now c.args.root (tree_at c.args.nodes.now c.args.root) c.requires.tree.few c.requires.tree.holds));
+    }
 
 pub settle-requires-in_default : goal.settle-requires-in_default
 settle-requires-in_default t c =

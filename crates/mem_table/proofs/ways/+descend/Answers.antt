@@ -1,6 +1,5 @@
-use Rattle.std.proofs.Common.{ℕ, Option, IfSome, IfNone, sym, subst, ◌∙◌, arith}
-use Rattle.mem_table.specs.Shapes.{places, tree_at}
-use Rattle.mem_table.specs.Ways.{IsPlaced, AreWithout, tree_entries, place_of}
+use Rattle.std.proofs.Common.{ℕ, sym, ◌∙◌, arith}
+use Rattle.mem_table.specs.Ways.{place_of}
 use Rattle.mem_table.proofs.WayLemmas.{forked, answer_left, answer_right, answer_here, answer_none, place_there}
 use Rattle.mem_table.proofs.ways.+descend.Goals as goal
 
@@ -23,56 +22,35 @@ descend-requires-in-Greater g t c =
     let fork = forked c.args.nodes.now c.args.store.now.slots c.args.root c.requires c.if-root-eq-NONE.false in
     λ κs lives. (omega (arith, fork.lower_right, c.decreases), (lives, fork.right_tree))
 
-pub returns-in-Less-clause-found : goal.returns-in-Less-clause-found
-returns-in-Less-clause-found g t c =
+pub returns-in-Less : goal.returns-in-Less
+returns-in-Less g t c =
     let fork = forked c.args.nodes.now c.args.store.now.slots c.args.root c.requires c.if-root-eq-NONE.false in
-    (answer_left c.args.nodes.now c.args.store.now.slots c.args.root _ _ c.args.key.now fork (place_of c.descend.result)
-    (sym c.compare.ensures.order ∙ c.in-Less.is)
-    (record { found = c.descend.ensures.found; absent = c.descend.ensures.absent })).found
+    let a = answer_left c.args.nodes.now c.args.store.now.slots c.args.root _ _ c.args.key.now fork (place_of c.descend.result) (sym c.compare.ensures.order ∙ c.in-Less.is) (record { found = c.descend.ensures.found; absent = c.descend.ensures.absent }) in
+    record {
+      found = a.found;
+      absent = a.absent;
+      more = omega (arith, c.descend.ensures.more, c.compare.ensures.step);
+      few = omega (arith, c.descend.ensures.few, c.compare.ensures.step, fork.lower_left);
+    }
 
-pub returns-in-Less-clause-absent : goal.returns-in-Less-clause-absent
-returns-in-Less-clause-absent g t c =
+pub returns-in-Equal : goal.returns-in-Equal
+returns-in-Equal g t c =
     let fork = forked c.args.nodes.now c.args.store.now.slots c.args.root c.requires c.if-root-eq-NONE.false in
-    (answer_left c.args.nodes.now c.args.store.now.slots c.args.root _ _ c.args.key.now fork (place_of c.descend.result)
-    (sym c.compare.ensures.order ∙ c.in-Less.is)
-    (record { found = c.descend.ensures.found; absent = c.descend.ensures.absent })).absent
+    record {
+      found = rw (place_there c.args.root c.if-root-eq-NONE.false) (answer_here c.args.nodes.now c.args.store.now.slots c.args.root _ _ c.args.key.now fork (sym c.compare.ensures.order ∙ c.in-Equal.is)).found;
+      absent = rw (place_there c.args.root c.if-root-eq-NONE.false) tt;
+      more = omega (arith, c.compare.ensures.step);
+      few = omega (arith, c.compare.ensures.step, fork.lower_left);
+    }
 
-pub returns-in-Less-clause-few : goal.returns-in-Less-clause-few
-returns-in-Less-clause-few g t c =
+pub returns-in-Greater : goal.returns-in-Greater
+returns-in-Greater g t c =
     let fork = forked c.args.nodes.now c.args.store.now.slots c.args.root c.requires c.if-root-eq-NONE.false in
-    omega (arith, c.descend.ensures.few, c.compare.ensures.step, fork.lower_left)
-
-pub returns-in-Greater-clause-few : goal.returns-in-Greater-clause-few
-returns-in-Greater-clause-few g t c =
-    let fork = forked c.args.nodes.now c.args.store.now.slots c.args.root c.requires c.if-root-eq-NONE.false in
-    omega (arith, c.descend-in-Greater.ensures.few, c.compare.ensures.step, fork.lower_right)
-
-pub returns-in-Equal-clause-few : goal.returns-in-Equal-clause-few
-returns-in-Equal-clause-few g t c =
-    let fork = forked c.args.nodes.now c.args.store.now.slots c.args.root c.requires c.if-root-eq-NONE.false in
-    omega (arith, c.compare.ensures.step, fork.lower_left)
-
-pub returns-in-Equal-clause-found : goal.returns-in-Equal-clause-found
-returns-in-Equal-clause-found g t c =
-    let fork = forked c.args.nodes.now c.args.store.now.slots c.args.root c.requires c.if-root-eq-NONE.false in
-    subst (λ (r : Option ℕ). IfSome r (IsPlaced c.args.store.now.slots (places (tree_at c.args.nodes.now c.args.root)) c.args.key.now)) (sym (place_there c.args.root c.if-root-eq-NONE.false))
-    (answer_here c.args.nodes.now c.args.store.now.slots c.args.root _ _ c.args.key.now fork
-    (sym c.compare.ensures.order ∙ c.in-Equal.is)).found
-
-pub returns-in-Equal-clause-absent : goal.returns-in-Equal-clause-absent
-returns-in-Equal-clause-absent g t c =
-    subst (λ (r : Option ℕ). IfNone r (AreWithout c.args.key.now (tree_entries c.args.nodes.now c.args.store.now.slots c.args.root))) (sym (place_there c.args.root c.if-root-eq-NONE.false)) tt
-
-pub returns-in-Greater-clause-found : goal.returns-in-Greater-clause-found
-returns-in-Greater-clause-found g t c =
-    let fork = forked c.args.nodes.now c.args.store.now.slots c.args.root c.requires c.if-root-eq-NONE.false in
-    (answer_right c.args.nodes.now c.args.store.now.slots c.args.root _ _ c.args.key.now fork (place_of c.descend-in-Greater.result)
-    (sym c.compare.ensures.order ∙ c.in-Greater.is)
-    (record { found = c.descend-in-Greater.ensures.found; absent = c.descend-in-Greater.ensures.absent })).found
-
-pub returns-in-Greater-clause-absent : goal.returns-in-Greater-clause-absent
-returns-in-Greater-clause-absent g t c =
-    let fork = forked c.args.nodes.now c.args.store.now.slots c.args.root c.requires c.if-root-eq-NONE.false in
-    (answer_right c.args.nodes.now c.args.store.now.slots c.args.root _ _ c.args.key.now fork (place_of c.descend-in-Greater.result)
-    (sym c.compare.ensures.order ∙ c.in-Greater.is)
-    (record { found = c.descend-in-Greater.ensures.found; absent = c.descend-in-Greater.ensures.absent })).absent
+    let d = c.descend-in-Greater.ensures in
+    let a = answer_right c.args.nodes.now c.args.store.now.slots c.args.root _ _ c.args.key.now fork (place_of c.descend-in-Greater.result) (sym c.compare.ensures.order ∙ c.in-Greater.is) (record { found = d.found; absent = d.absent }) in
+    record {
+      found = a.found;
+      absent = a.absent;
+      more = omega (arith, d.more, c.compare.ensures.step);
+      few = omega (arith, d.few, c.compare.ensures.step, fork.lower_right);
+    }

@@ -1,5 +1,5 @@
 use Rattle.std.proofs.Common.{◌∙◌, ℕ, List, Result, IsErr, refl, sym, subst}
-use Rattle.disk_trait.specs.Reads.{only_reads_same}
+use Rattle.disk_trait.proofs.ReadLemmas.{only_reads_same}
 use Rattle.page_file.specs.declared.file.Broken.{Broken}
 use Rattle.run_cursor.specs.Cursor.{CursorState, IsDamageAt}
 use Rattle.merge_ends.specs.Input.{IsInput}

@@ -1,5 +1,5 @@
 use Rattle.std.proofs.Common.{◌<◌, ℕ, length, subst, arith}
-use Rattle.disk_trait.specs.Effects.{affects_wider}
+use Rattle.disk_trait.proofs.EffectLemmas.{affects_wider}
 use Rattle.record_delta.specs.Records.{weight}
 use Rattle.run_writer.specs.Writer.{has_place}
 use Rattle.merge_ends.proofs.OutputLemmas.{fence_for_one, room_for_one, room_put, takes_put}

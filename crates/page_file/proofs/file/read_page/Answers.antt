@@ -1,7 +1,7 @@
 use Rattle.std.proofs.Common.{◌∙◌, ⊎_elim, Err, ap, refl, arith}
 use Rattle.std.proofs.lemmas.Result.{err_from_is_err_and}
 use Rattle.disk_trait.specs.Disk.{part}
-use Rattle.disk_trait.specs.Reads.{only_reads_call}
+use Rattle.disk_trait.proofs.ReadLemmas.{only_reads_call}
 use Rattle.page_file.proofs.file.read_page.Goals as goal
 
 pub returns-then-is_page-clause-bytes : goal.returns-then-is_page-clause-bytes

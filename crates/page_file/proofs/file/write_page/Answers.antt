@@ -1,7 +1,8 @@
 use Rattle.std.proofs.Common.{◌∙◌, ℕ, ◌+◌, ◌≤◌, length, ⊎_elim, ap, subst, arith}
 use Rattle.std.proofs.lemmas.Result.{on_ok_weaker}
 use Rattle.disk_trait.specs.Disk.{overwritten}
-use Rattle.disk_trait.specs.Effects.{Affects, affects_write}
+use Rattle.disk_trait.specs.Effects.{Affects}
+use Rattle.disk_trait.proofs.EffectLemmas.{affects_write}
 use Rattle.disk_trait.specs.Region.{span}
 use Rattle.blsm_model.specs.Format.{page_length}
 use Rattle.blsm_model.specs.Geometry.{file_length}

@@ -1,10 +1,9 @@
-use Rattle.std.proofs.Common.{◌∙◌, ◌+◌, Err, ap, sym, subst, arith}
+use Rattle.std.proofs.Common.{◌∙◌, Err, ap, sym, subst}
 use Rattle.std.proofs.lemmas.Result.{err_from_is_err_and}
-use Rattle.std.specs.Prelude.{IfErr, length, IsTrue}
+use Rattle.std.specs.Prelude.{length, IsTrue}
 use Rattle.blsm_model.specs.Geometry.{file_length}
-use Rattle.catalog_swap.specs.declared.catalog.Catalog.{Catalog}
-use Rattle.disk_trait.specs.Effects.{affects_length}
-use Rattle.disk_trait.specs.Reads.{only_reads_each}
+use Rattle.disk_trait.proofs.EffectLemmas.{affects_length}
+use Rattle.disk_trait.proofs.ReadLemmas.{only_reads_each}
 use Rattle.blsm_model.specs.Sizes.{Sizes}
 use Rattle.tree_settling.specs.Settling.{CallsFew, settling_calls}
 use Rattle.recover_open.proofs.SettledLemmas.{IsSettledBehind, both_few, first_few, keeps_reading, may_settle, reads_anywhere, settled_effect, settled_keeps, settled_ready, settled_spares, settled_stands, settled_why}

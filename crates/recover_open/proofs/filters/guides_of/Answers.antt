@@ -1,6 +1,6 @@
 use Rattle.std.proofs.Common.{◌*◌, refl}
 use Rattle.blsm_model.specs.Geometry.{page_count}
-use Rattle.disk_trait.specs.Reads.{only_reads_start}
+use Rattle.disk_trait.proofs.ReadLemmas.{only_reads_start}
 use Rattle.recover_open.proofs.OpeningLemmas.{guides_few, none_few}
 use Rattle.recover_open.proofs.filters.guides_of.Goals as goal
 

@@ -1,5 +1,5 @@
 use Rattle.std.proofs.Common.{IsTrue, sym, subst}
-use Rattle.disk_trait.specs.Reads.{only_reads_call}
+use Rattle.disk_trait.proofs.ReadLemmas.{only_reads_call}
 use Rattle.recover_open.proofs.MakingLemmas.{leaves_behind, unsynced_behind, effect_behind, made_empty}
 use Rattle.recover_open.proofs.making.make_store.Goals as goal
 

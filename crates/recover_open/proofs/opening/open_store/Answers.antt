@@ -1,6 +1,7 @@
 use Rattle.std.proofs.Common.{◌∙◌, ap, sym, subst, IsTrue, Some, None}
 use Rattle.disk_trait.specs.Disk.{TellsFaultsBy}
-use Rattle.disk_trait.specs.Moments.{LeavesOnly, leaves_only_start}
+use Rattle.disk_trait.specs.Moments.{LeavesOnly}
+use Rattle.disk_trait.proofs.MomentLemmas.{leaves_only_start}
 use Rattle.blsm_model.specs.Geometry.{file_length}
 use Rattle.tree_runs.specs.Runs.{RunsState}
 use Rattle.tree_reading.specs.declared.found.Unreadable.{Unreadable}

@@ -1,5 +1,5 @@
 use Rattle.std.proofs.Common.{◌∙◌, IsTrue, sym, subst}
-use Rattle.disk_trait.specs.Reads.{only_reads_same}
+use Rattle.disk_trait.proofs.ReadLemmas.{only_reads_same}
 use Rattle.recover_open.proofs.OpeningLemmas.{reads_inside, sync_inside, synced_few, synced_inside, synced_kept, once_synced, still_long, still_only, was_long, when_done}
 use Rattle.recover_open.proofs.opening.read_synced.Goals as goal
 

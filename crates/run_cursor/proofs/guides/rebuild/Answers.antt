@@ -3,7 +3,7 @@ use Rattle.std.proofs.lemmas.Result.{err_from_is_err_and}
 use Rattle.blsm_model.specs.declared.key.Key.{Key}
 use Rattle.bloom_bits.specs.BitSet.{BitState}
 use Rattle.bloom_bits.specs.Fences.{FencesState}
-use Rattle.disk_trait.specs.Reads.{only_reads_start, only_reads_run_within, only_reads_same}
+use Rattle.disk_trait.proofs.ReadLemmas.{only_reads_start, only_reads_run_within, only_reads_same}
 use Rattle.record_delta.specs.declared.record.Rec.{Rec}
 use Rattle.page_file.specs.declared.file.Broken.{Broken}
 use Rattle.page_file.specs.declared.file.Broken.TheVariants.{Fault}

@@ -10,8 +10,8 @@ use Rattle.bloom_bits.specs.Fences.{FencesState}
 use Rattle.bloom_bits.specs.Guides.{Guide}
 use Rattle.page_file.specs.Component.{RunPage, HasList}
 use Rattle.record_delta.specs.declared.record.Rec.{Rec}
-use Rattle.disk_trait.specs.Effects.{affects_length}
-use Rattle.disk_trait.specs.Moments.{goes_on_start, goes_on_run}
+use Rattle.disk_trait.proofs.EffectLemmas.{affects_length}
+use Rattle.disk_trait.proofs.MomentLemmas.{goes_on_start, goes_on_run}
 use Rattle.page_space.specs.Space.{SpaceState, HasFree}
 use Rattle.page_file.specs.Entry.{AreRising}
 use Rattle.record_delta.specs.Records.{weight}

@@ -1,5 +1,5 @@
 use Rattle.std.proofs.Common.{◌<◌, length, arith}
-use Rattle.text_io.specs.Writing.{writes_then, writes_stopped}
+use Rattle.text_io.proofs.WritingLemmas.{writes_then, writes_stopped}
 use Rattle.blsm_model.specs.Printed.{and_row}
 use Rattle.script_text.proofs.PrintLemmas.{pieces_split}
 use Rattle.script_text.proofs.print.print_each_row.Goals as goal

@@ -1,5 +1,5 @@
 use Rattle.std.proofs.Common.{◌+◌, arith}
-use Rattle.text_io.specs.Writing.{writes_then, writes_stopped}
+use Rattle.text_io.proofs.WritingLemmas.{writes_then, writes_stopped}
 use Rattle.blsm_model.specs.Book.{no_entry}
 use Rattle.script_text.proofs.PrintLemmas.{entries_split, entries_more}
 use Rattle.script_text.proofs.print.print_entries.Goals as goal

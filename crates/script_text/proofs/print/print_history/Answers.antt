@@ -1,4 +1,4 @@
-use Rattle.text_io.specs.Writing.{writes_cut, writes_stopped, writes_then}
+use Rattle.text_io.proofs.WritingLemmas.{writes_cut, writes_stopped, writes_then}
 use Rattle.script_text.proofs.print.print_history.Goals as goal
 
 pub returns-in_err-print_charge : goal.returns-in_err-print_charge

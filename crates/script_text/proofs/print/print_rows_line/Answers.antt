@@ -1,5 +1,5 @@
 use Rattle.std.proofs.Common.{◌++◌, ◌∷◌, [], codes, decimal, flat_map, length}
-use Rattle.text_io.specs.Writing.{writes_cut, writes_stopped, writes_then}
+use Rattle.text_io.proofs.WritingLemmas.{writes_cut, writes_stopped, writes_then}
 use Rattle.blsm_model.specs.Printed.{and_number, and_row}
 use Rattle.script_text.proofs.PrintLemmas.{rows_line}
 use Rattle.script_text.proofs.print.print_rows_line.Goals as goal

@@ -2,9 +2,10 @@ use Rattle.std.proofs.Common.{length, inl, inr, sym, arith, ◌∙◌}
 use Rattle.std.proofs.lemmas.List.Elements.{All-push}
 use Rattle.std.proofs.lemmas.List.Sums.{sum_by_push}
 use Rattle.blsm_model.specs.declared.history.Line.{Line}
-use Rattle.script_text.specs.Grammar.{IsAllowed, rows_of}
+use Rattle.script_text.specs.Grammar.{IsAllowed}
 use Rattle.script_text.proofs.ScriptLemmas.{so_far_whole, so_far_more, bad_line, not_empty}
 use Rattle.script_text.proofs.script.read_lines.Goals as goal
+use Rattle.blsm_model.specs.Scripts.{rows_of}
 
 pub returns-in-None-clause-bad : goal.returns-in-None-clause-bad
 returns-in-None-clause-bad c =

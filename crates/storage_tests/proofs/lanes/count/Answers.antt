@@ -3,7 +3,7 @@ use Rattle.std.proofs.lemmas.Result.{err_from_is_err_and}
 use Rattle.blsm_model.specs.declared.key.Key.{Key}
 use Rattle.blsm_model.specs.Geometry.{file_length}
 use Rattle.record_delta.specs.declared.record.Rec.{Rec}
-use Rattle.disk_trait.specs.Reads.{only_reads_start, only_reads_more}
+use Rattle.disk_trait.proofs.ReadLemmas.{only_reads_start, only_reads_more}
 use Rattle.gated_log.specs.declared.replay.LaneBroken.{LaneBroken}
 use Rattle.blsm_model.specs.Sizes.{Sizes}
 use Rattle.gated_log.specs.declared.replay.LaneBroken.TheVariants.{Damaged}

@@ -1,9 +1,10 @@
 use Rattle.std.proofs.Common.{◌≡◌, ◌∙◌, ◌+◌, ◌-◌, ◌/◌, IsTrue, List, [], ◌∷◌, ℕ, sym, ap, subst, arith, inr}
 use Rattle.gated_write.specs.Gated.{open_byte}
 use Rattle.disk_trait.specs.Disk.{overwritten}
-use Rattle.disk_trait.specs.Effects.{Affects, affects_wider, affects_more}
+use Rattle.disk_trait.specs.Effects.{Affects}
+use Rattle.disk_trait.proofs.EffectLemmas.{affects_wider, affects_more}
 use Rattle.disk_trait.specs.Region.{span}
-use Rattle.disk_trait.specs.Moments.{goes_on_run}
+use Rattle.disk_trait.proofs.MomentLemmas.{goes_on_run}
 use Rattle.blsm_model.specs.Geometry.{file_length}
 use Rattle.store_file.specs.Layout.{IsMade, first_file}
 use Rattle.store_file.proofs.LayoutLemmas.{head_inside, overwritten_empty, gate_opened, first_file_made}

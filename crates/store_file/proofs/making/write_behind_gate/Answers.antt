@@ -1,6 +1,7 @@
 use Rattle.std.proofs.Common.{◌≡◌, ◌∙◌, ◌+◌, ◌-◌, ◌/◌, IsTrue, List, ℕ, length, sym, ap, subst, arith}
 use Rattle.disk_trait.specs.Disk.{overwritten}
-use Rattle.disk_trait.specs.Effects.{Affects, affects_wider, affects_write_more}
+use Rattle.disk_trait.specs.Effects.{Affects}
+use Rattle.disk_trait.proofs.EffectLemmas.{affects_wider, affects_write_more}
 use Rattle.disk_trait.specs.Region.{span}
 use Rattle.blsm_model.specs.Geometry.{file_length}
 use Rattle.store_file.specs.Layout.{zeros, superblock_text}

@@ -1,6 +1,8 @@
 use Rattle.std.proofs.Common.{◌∙◌, IsTrue, List, ℕ, length, sym, subst, inl, inr}
-use Rattle.disk_trait.specs.Moments.{LeavesOnly, IsOldOr, leaves_only_start, leaves_only_call, leaves_only_run, once_synced_start, once_synced_call, once_synced_more, leaves_only_weaken}
-use Rattle.disk_trait.specs.Region.{span, IsSameOutside, same_file}
+use Rattle.disk_trait.specs.Moments.{LeavesOnly, IsOldOr}
+use Rattle.disk_trait.proofs.MomentLemmas.{leaves_only_start, leaves_only_call, leaves_only_run, once_synced_start, once_synced_call, once_synced_more, leaves_only_weaken}
+use Rattle.disk_trait.specs.Region.{span, IsSameOutside}
+use Rattle.disk_trait.proofs.RegionLemmas.{same_file}
 use Rattle.store_file.proofs.making.write_between_syncs.Goals as goal
 
 pub returns-clause-leaves : goal.returns-clause-leaves

@@ -1,6 +1,6 @@
 use Rattle.std.proofs.Common.{◌≡◌, ◌≤◌, ◌<◌, ◌+◌, ◌*◌, ◌-◌, ◌/◌, ◌∙◌, rules, arith, IsTrue, List, ℕ, length, subst, sym, ap}
 use Rattle.disk_trait.specs.Disk.{overwritten}
-use Rattle.disk_trait.specs.Effects.{affects_start, affects_write_more}
+use Rattle.disk_trait.proofs.EffectLemmas.{affects_start, affects_write_more}
 use Rattle.store_file.specs.Layout.{zeros}
 use Rattle.store_file.proofs.LayoutLemmas.{zeros_more}
 use Rattle.store_file.proofs.making.write_zeros.Goals as goal

@@ -1,7 +1,7 @@
 use Rattle.std.specs.Prelude.{true}
 use Rattle.std.proofs.Common.{◌≡◌, ◌∙◌, ap, arith, refl, sym}
 use Rattle.std.proofs.lemmas.Bool.{false≢true}
-use Rattle.disk_trait.specs.Effects.{affects_wider}
+use Rattle.disk_trait.proofs.EffectLemmas.{affects_wider}
 use Rattle.tree_core.specs.Causes.{is_deep_due, one_where}
 use Rattle.tree_core.proofs.BegunLemmas.{deep_is}
 use Rattle.tree_core.proofs.SettlingLemmas.{rests_over}

@@ -2,7 +2,7 @@ use Rattle.std.specs.Prelude.{◌≡◌, IsTrue, is_some, true}
 use Rattle.std.proofs.Common.{◌∙◌, inl, inr, ap, arith, refl, sym, subst}
 use Rattle.std.proofs.lemmas.Bool.{false≢true}
 use Rattle.std.proofs.lemmas.Result.{on_ok_weaker}
-use Rattle.disk_trait.specs.Effects.{affects_wider}
+use Rattle.disk_trait.proofs.EffectLemmas.{affects_wider}
 use Rattle.mem_table.specs.Tables.{Contents}
 use Rattle.tree_runs.specs.Runs.{left_for_pass}
 use Rattle.tree_core.specs.Causes.{is_pass_due, one_where}

@@ -1,6 +1,6 @@
 use Rattle.std.proofs.Common.{◌∙◌, Err, sym, subst, arith}
 use Rattle.std.proofs.lemmas.Bool.{false≢true}
-use Rattle.disk_trait.specs.Reads.{only_reads_wider}
+use Rattle.disk_trait.proofs.ReadLemmas.{only_reads_wider}
 use Rattle.catalog_swap.specs.declared.slots.SlotsBroken.{SlotsBroken}
 use Rattle.catalog_swap.specs.Reading.{TellsNewest}
 use Rattle.tree_reading.specs.Damage.{broken, heavy}

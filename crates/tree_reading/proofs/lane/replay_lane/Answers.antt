@@ -1,6 +1,6 @@
 use Rattle.std.proofs.Common.{◌≡◌, ◌≤◌, ◌<◌, ◌+◌, [], ◌∷◌, ◌++◌, length-append, IsTrue, Ok, Err, Some, refl, ap, sym, subst, ◌∙◌, arith}
-use Rattle.std.proofs.lemmas.Result.{err_from_is_err_and}
-use Rattle.disk_trait.specs.Reads.{only_reads_start, only_reads_more}
+use Rattle.disk_trait.specs.Reads.{OnlyReads}
+use Rattle.disk_trait.proofs.ReadLemmas.{only_reads_start, only_reads_more}
 use Rattle.blsm_model.specs.Geometry.{file_length}
 use Rattle.blsm_model.specs.Lanes.{region_length}
 use Rattle.blsm_model.specs.declared.key.Key.{Key}
@@ -9,9 +9,34 @@ use Rattle.record_delta.specs.Records.{weight}
 use Rattle.record_delta.specs.Entries.{Entries, entries_weight, replayed, with_record}
 use Rattle.gated_log.specs.declared.replay.LaneBroken.TheVariants.{Damaged}
 use Rattle.gated_log.specs.Replay.{Answer, HasGiven, ReplayState, IsStep, replay_after}
-use Rattle.tree_reading.specs.Lane.{TellsReplay, heavy}
-use Rattle.tree_reading.proofs.LaneLemmas.{replayed_push, within_push, within_start, ends_push, given_push, front_push, same_error, calls_within}
+use Rattle.tree_reading.specs.Lane.{TellsReplay, heavy, lane_calls}
+use Rattle.tree_reading.proofs.LaneLemmas.{replayed_push, within_push, within_start, ends_push, given_push, front_push, calls_within}
+use Rattle.tree_reading.proofs.CallsLemmas.{still_then}
+use Rattle.tree_reading.proofs.FaultLemmas.{handed_on, same_error}
 use Rattle.tree_reading.proofs.lane.replay_lane.Goals as goal
+use Rattle.tree_reading.proofs.lane.replay_lane.Goals.{After-next, After-take}
+
+calls : (g : _) (c : After-next g) → OnlyReads (file_length c.args.geo.now) (lane_calls c.args.geo.now) (g.D.Disk.state c.args.disk.now) (g.D.Disk.state c.next.new.disk)
+calls g c =
+    let inv = c.loop-key.invariant in
+    calls_within c.args.geo.now c.loop-key.replay.sizes c.loop-key.records _ _ _ (g.met.D.Disk.timed c.loop-key.disk) inv.stands inv.sizes inv.few inv.effect c.next.ensures.effect
+
+-- one entry more
+found : (g : _) (c : After-take g) → c.next.result ≡ Ok (Some (c.in-Some.key, c.in-Some.rec))
+found g c = search
+
+table : (g : _) (c : After-take g) → c.take.new.table.entries ≡ replayed (c.loop-key.invariant.entries ++ (c.in-Some.key, c.in-Some.rec) ∷ [])
+table g c = c.take.ensures.folded ∙ ap (with_record c.in-Some.key c.in-Some.rec) c.loop-key.invariant.table_is ∙ sym (replayed_push c.loop-key.invariant.entries (c.in-Some.key, c.in-Some.rec))
+
+given : (g : _) (c : After-take g) → IsTrue (g.D.Disk.state c.args.disk.now).is_honest
+    → HasGiven c.next.new.self (c.loop-key.invariant.entries ++ (c.in-Some.key, c.in-Some.rec) ∷ []) (g.D.Disk.state c.args.disk.now).bytes
+given g c honest =
+    let inv = c.loop-key.invariant in
+    let same = still_then inv.effect c.next.ensures.effect honest in
+    given_push c.loop-key.replay c.next.new.self inv.entries (c.in-Some.key, c.in-Some.rec) c.next.result (g.D.Disk.state c.args.disk.now).bytes (g.D.Disk.state c.next.new.disk).bytes (found g c) c.next.ensures.moved same.2
+    (c.next.ensures.told inv.entries (g.met.D.Disk.honest_tells c.loop-key.disk same.0) (subst (λ b. HasGiven c.loop-key.replay inv.entries b) (sym same.2) (inv.given honest)))
+
+-- ---- the goals
 
 pub loop-key-init : goal.loop-key-init
 loop-key-init g c =
@@ -36,59 +61,35 @@ loop-key-init g c =
     }
 
 pub returns-in_err-key-clause-effect : goal.returns-in_err-key-clause-effect
-returns-in_err-key-clause-effect g c =
-    let inv = c.loop-key.invariant in
-    calls_within c.args.geo.now c.loop-key.replay.sizes c.loop-key.records _ _ _ (g.met.D.Disk.timed c.loop-key.disk) inv.stands inv.sizes inv.few inv.effect c.next.ensures.effect
+returns-in_err-key-clause-effect g c = calls g (goal.at.returns-in_err-key-clause-effect g c).After-next
 
 pub returns-in_err-take-clause-effect : goal.returns-in_err-take-clause-effect
-returns-in_err-take-clause-effect g c =
-    let inv = c.loop-key.invariant in
-    calls_within c.args.geo.now c.loop-key.replay.sizes c.loop-key.records _ _ _ (g.met.D.Disk.timed c.loop-key.disk) inv.stands inv.sizes inv.few inv.effect c.next.ensures.effect
+returns-in_err-take-clause-effect g c = calls g (goal.at.returns-in_err-take-clause-effect g c).After-next
 
 pub returns-clause-effect : goal.returns-clause-effect
-returns-clause-effect g c =
-    let inv = c.loop-key.invariant in
-    calls_within c.args.geo.now c.loop-key.replay.sizes c.loop-key.records _ _ _ (g.met.D.Disk.timed c.loop-key.disk) inv.stands inv.sizes inv.few inv.effect c.next.ensures.effect
+returns-clause-effect g c = calls g (goal.at.returns-clause-effect g c).After-next
 
 pub returns-in_err-take-clause-tells : goal.returns-in_err-take-clause-tells
 returns-in_err-take-clause-tells g c =
     let first = g.D.Disk.state c.args.disk.now in
-    let mid = g.D.Disk.state c.loop-key.disk in
-    let new = g.D.Disk.state c.next.new.disk in
     let inv = c.loop-key.invariant in
-    let next = c.next.ensures in
-    let e : Key × Rec = (c.in-Some.key, c.in-Some.rec) in
-    let found : c.next.result ≡ Ok (Some e) = search in
-    let told = err_from_is_err_and c.from_residual-in_err-take.result c.from_residual-in_err-take.ensures.1 in
-    let broken : c.in_err-take.field-0.0 ≡ Damaged c.args.lane = same_error _ _ c.in_err-take.ensures.lane in
-    subst (λ r. TellsReplay c.args.geo.now c.args.lane c.args.room c.take.new.table.entries first.is_honest first.bytes r) (sym (told.1 ∙ ap Err (told.2 ∙ broken))) (
+    let arm = (goal.at.returns-in_err-take-clause-tells g c).After-take in
+    let broken : c.in_err-take.field-0.0 ≡ Damaged c.args.lane = same_error {A = Unit {0}} _ _ c.in_err-take.ensures.lane in
+    subst (λ r. TellsReplay c.args.geo.now c.args.lane c.args.room c.take.new.table.entries first.is_honest first.bytes r) (sym (handed_on c.from_residual-in_err-take.ensures.1 ∙ ap Err broken)) (
       refl,
-      λ honest.
-          let honest' : IsTrue mid.is_honest = inv.effect.effect.goes_on.is_honest ∙ honest in
-          let bytes : new.bytes ≡ first.bytes = next.effect.same.same.bytes honest' ∙ inv.effect.same.same.bytes honest in
-          let given = given_push c.loop-key.replay c.next.new.self inv.entries e c.next.result first.bytes new.bytes found next.moved bytes
-          (next.told inv.entries (g.met.D.Disk.honest_tells c.loop-key.disk honest') (subst (λ b. HasGiven c.loop-key.replay inv.entries b) (sym bytes) (inv.given honest))) in
-          let table : c.take.new.table.entries ≡ replayed (inv.entries ++ e ∷ []) =
-          c.take.ensures.folded ∙ ap (with_record e.0 e.1) inv.table_is ∙ sym (replayed_push inv.entries e) in
-          heavy (inv.entries ++ e ∷ [])
-          (front_push c.args.geo.now c.args.lane c.next.new.self (inv.entries ++ e ∷ []) first.bytes (ap (λ (r : ReplayState). r.sizes) next.moved ∙ inv.sizes)
-          (ap (λ (r : ReplayState). r.lane) next.moved ∙ inv.lane) given)
-          (subst (λ (l : Entries). c.args.room < entries_weight l) table c.in_err-take.ensures.heavy),
+      λ honest. heavy _ (front_push c.args.geo.now c.args.lane c.next.new.self _ first.bytes (ap (λ (r : ReplayState). r.sizes) c.next.ensures.moved ∙ inv.sizes)
+          (ap (λ (r : ReplayState). r.lane) c.next.ensures.moved ∙ inv.lane) (given g arm honest))
+          (subst (λ (l : Entries). c.args.room < entries_weight l) (table g arm) c.in_err-take.ensures.heavy),
     )
 
 pub loop-key-preserved : goal.loop-key-preserved
 loop-key-preserved g c =
-    let first = g.D.Disk.state c.args.disk.now in
-    let mid = g.D.Disk.state c.loop-key.disk in
-    let new = g.D.Disk.state c.next.new.disk in
     let inv = c.loop-key.invariant in
     let next = c.next.ensures in
     let e : Key × Rec = (c.in-Some.key, c.in-Some.rec) in
-    let found : c.next.result ≡ Ok (Some e) = search in
-    let moved : c.next.new.self.end ≡ c.loop-key.replay.end + 1 + weight e.0 e.1 = ap (λ (r : ReplayState). r.end) (next.moved ∙ ap (λ (a : Answer). replay_after a c.loop-key.replay) found) in
-    let step = subst (λ (a : Answer). IsStep c.loop-key.replay a) found next.step in
-    let table : c.take.new.table.entries ≡ replayed (inv.entries ++ e ∷ []) =
-    c.take.ensures.folded ∙ ap (with_record e.0 e.1) inv.table_is ∙ sym (replayed_push inv.entries e) in
+    let arm = (goal.at.loop-key-preserved g c).After-take in
+    let moved : c.next.new.self.end ≡ c.loop-key.replay.end + 1 + weight e.0 e.1 = ap (λ (r : ReplayState). r.end) (next.moved ∙ ap (λ (a : Answer). replay_after a c.loop-key.replay) (found g arm)) in
+    let step = subst (λ (a : Answer). IsStep c.loop-key.replay a) (found g arm) next.step in
     record {
       sizes = ap (λ (r : ReplayState). r.sizes) next.moved ∙ inv.sizes;
       lane = ap (λ (r : ReplayState). r.lane) next.moved ∙ inv.lane;
@@ -96,17 +97,13 @@ loop-key-preserved g c =
       short = inv.short;
       counted = omega (arith, moved, inv.counted, step.0);
       few = omega (arith, inv.counted, step.0, step.1, ap region_length inv.sizes);
-      stands = next.faults.stands (λ wrong. cc (sym found ∙ wrong)) ∙ inv.stands;
+      stands = next.faults.stands (λ wrong. cc (sym (found g arm) ∙ wrong)) ∙ inv.stands;
       light = c.in_ok-take.ensures.within;
       entries = inv.entries ++ e ∷ [];
-      table_is = table;
+      table_is = table g arm;
       place_is = ends_push inv.entries e c.loop-key.replay.end inv.place_is ∙ sym moved;
       records_is = omega (arith, length-append inv.entries (e ∷ []), inv.records_is);
-      within = within_push c.args.room inv.entries e inv.within (subst (λ (l : Entries). entries_weight l ≤ c.args.room) table c.in_ok-take.ensures.within);
-      given = λ honest.
-          let honest' : IsTrue mid.is_honest = inv.effect.effect.goes_on.is_honest ∙ honest in
-          let bytes : new.bytes ≡ first.bytes = next.effect.same.same.bytes honest' ∙ inv.effect.same.same.bytes honest in
-          given_push c.loop-key.replay c.next.new.self inv.entries e c.next.result first.bytes new.bytes found next.moved bytes
-          (next.told inv.entries (g.met.D.Disk.honest_tells c.loop-key.disk honest') (subst (λ b. HasGiven c.loop-key.replay inv.entries b) (sym bytes) (inv.given honest)));
+      within = within_push c.args.room inv.entries e inv.within (subst (λ (l : Entries). entries_weight l ≤ c.args.room) (table g arm) c.in_ok-take.ensures.within);
+      given = given g arm;
       effect = only_reads_more {total = c.loop-key.records + 1} (g.met.D.Disk.timed c.loop-key.disk) inv.stands inv.effect next.effect (omega (arith, ap file_length inv.sizes)) (omega arith);
     }

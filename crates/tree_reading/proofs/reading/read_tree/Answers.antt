@@ -1,11 +1,11 @@
-use Rattle.std.proofs.Common.{◌∙◌, ℕ, List, IsTrue, IfErr, Result, Err, ap, refl, sym, subst, arith}
-use Rattle.std.proofs.lemmas.Result.{err_from_is_err_and}
-use Rattle.disk_trait.specs.Reads.{only_reads_more, only_reads_same, only_reads_wider}
+use Rattle.std.proofs.Common.{◌∙◌, ℕ, List, IfErr, Result, ap, refl, sym, subst, arith}
+use Rattle.tree_reading.proofs.CallsLemmas.{still}
+use Rattle.disk_trait.proofs.ReadLemmas.{only_reads_more, only_reads_same, only_reads_wider}
 use Rattle.tree_reading.specs.Damage.{HasCatalogue}
 use Rattle.tree_reading.specs.declared.found.Unreadable.{Unreadable}
 use Rattle.tree_reading.specs.Reading.{AreTagged, IsWhy, within}
 use Rattle.mem_table.specs.Tables.{Contents}
-use Rattle.tree_reading.proofs.FaultLemmas.{calm, faults_as, faults_none, faults_then}
+use Rattle.tree_reading.proofs.FaultLemmas.{calm, faults_as, faults_none, faults_then, handed_on}
 use Rattle.tree_reading.proofs.ReadingLemmas.{fits_found, looked_more, replayed_at, replayed_in}
 use Rattle.tree_reading.proofs.reading.read_tree.Goals as goal
 
@@ -18,27 +18,20 @@ returns-in_default-clause-looked g c = λ is.
 
 pub returns-in_err-ends-clause-refused : goal.returns-in_err-ends-clause-refused
 returns-in_err-ends-clause-refused g c = λ honest.
-    let first = g.D.Disk.state c.args.disk.now in
-    let mid = g.D.Disk.state c.read_head.new.disk in
+    let bytes = (g.D.Disk.state c.args.disk.now).bytes in
     let head = c.in_ok-head.head in
-    let p = err_from_is_err_and c.from_residual-in_err-ends.result c.from_residual-in_err-ends.ensures.1 in
-    let effect = c.in_ok-head.ensures.effect in
-    let honest' : IsTrue mid.is_honest = effect.effect.goes_on.is_honest ∙ honest in
-    let bytes = only_reads_same effect honest in
-    subst (λ (r : Result _ Unreadable). IfErr r (λ why. IsWhy why first.bytes)) (sym (p.1 ∙ ap Err p.2))
-    (subst (λ (b : List ℕ). HasCatalogue head.geometry head.catalogue b → IsWhy c.in_err-ends.field-0.0 b) bytes (c.in_err-ends.ensures.refused honest') (c.in_ok-head.ensures.found honest))
+    let same = still c.in_ok-head.ensures.effect honest in
+    subst (λ (r : Result _ Unreadable). IfErr r (λ why. IsWhy why bytes)) (sym (handed_on c.from_residual-in_err-ends.ensures.1))
+    (subst (λ (b : List ℕ). HasCatalogue head.geometry head.catalogue b → IsWhy c.in_err-ends.field-0.0 b) same.1 (c.in_err-ends.ensures.refused same.0) (c.in_ok-head.ensures.found honest))
 
 pub returns-in_err-ends-clause-looked : goal.returns-in_err-ends-clause-looked
 returns-in_err-ends-clause-looked g c = λ is.
-    let head = c.in_ok-head.head in
-    within head.geometry c.in_ok-head.ensures.fits.geometry c.in_ok-head.ensures.length
-    (only_reads_more (g.met.D.Disk.timed c.read_head.new.disk) (c.in_ok-head.ensures.faults.stands (λ wrong. absurd (cc))) c.in_ok-head.ensures.effect c.read_parts.ensures.effect (omega arith) (omega arith))
+    within c.in_ok-head.head.geometry c.in_ok-head.ensures.fits.geometry c.in_ok-head.ensures.length
+    (only_reads_more (g.met.D.Disk.timed c.read_head.new.disk) (calm _ c.in_ok-head.ensures.faults) c.in_ok-head.ensures.effect c.read_parts.ensures.effect (omega arith) (omega arith))
 
 pub returns-in_err-ends-clause-faults : goal.returns-in_err-ends-clause-faults
 returns-in_err-ends-clause-faults g c =
-    let p = err_from_is_err_and c.from_residual-in_err-ends.result c.from_residual-in_err-ends.ensures.1 in
-    faults_then c.from_residual-in_err-ends.result (calm _ c.in_ok-head.ensures.faults)
-    (faults_as c.from_residual-in_err-ends.result c.read_parts.result p.0 c.in_err-ends.field-0.0 p.1 p.2 c.in_err-ends.was c.read_parts.ensures.faults)
+    faults_then c.from_residual-in_err-ends.result (calm _ c.in_ok-head.ensures.faults) (faults_as c.from_residual-in_err-ends.ensures.1 c.in_err-ends.was c.read_parts.ensures.faults)
 
 pub returns-clause-found : goal.returns-clause-found
 returns-clause-found g c =
@@ -64,17 +57,15 @@ returns-clause-found g c =
 
 pub returns-clause-holds : goal.returns-clause-holds
 returns-clause-holds g c = λ honest.
-    let first = g.D.Disk.state c.args.disk.now in
-    let mid = g.D.Disk.state c.read_head.new.disk in
+    let bytes = (g.D.Disk.state c.args.disk.now).bytes in
     let head = c.in_ok-head.head in
-    let effect = c.in_ok-head.ensures.effect in
-    let honest' : IsTrue mid.is_honest = effect.effect.goes_on.is_honest ∙ honest in
-    fits_found _ first.is_honest first.bytes honest (returns-clause-found g c) (c.in_ok-head.ensures.found honest)
-    (subst (λ (b : List ℕ). AreTagged head.geometry head.catalogue c.read_parts.new.room.space b) (only_reads_same effect honest) (c.in_ok-ends.ensures.tagged honest'))
+    let same = still c.in_ok-head.ensures.effect honest in
+    fits_found _ (g.D.Disk.state c.args.disk.now).is_honest bytes honest (returns-clause-found g c) (c.in_ok-head.ensures.found honest)
+    (subst (λ (b : List ℕ). AreTagged head.geometry head.catalogue c.read_parts.new.room.space b) same.1 (c.in_ok-ends.ensures.tagged same.0))
 
 pub returns-clause-faults : goal.returns-clause-faults
 returns-clause-faults g c = faults_none _ (calm _ c.in_ok-ends.ensures.faults ∙ calm _ c.in_ok-head.ensures.faults)
 
 pub returns-clause-effect : goal.returns-clause-effect
 returns-clause-effect g c =
-    only_reads_more (g.met.D.Disk.timed c.read_head.new.disk) (c.in_ok-head.ensures.faults.stands (λ wrong. absurd (cc))) c.in_ok-head.ensures.effect c.read_parts.ensures.effect (omega arith) (omega arith)
+    only_reads_more (g.met.D.Disk.timed c.read_head.new.disk) (calm _ c.in_ok-head.ensures.faults) c.in_ok-head.ensures.effect c.read_parts.ensures.effect (omega arith) (omega arith)

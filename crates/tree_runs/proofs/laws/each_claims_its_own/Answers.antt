@@ -1,29 +1,26 @@
-use Rattle.std.proofs.Common.{◌≡◌, ◌≢◌, ◌∙◌, ℕ, List, [], ◌*◌, ◌<◌, Bool, false, cond, inl, inr, sym, subst, ap, arith}
+use Rattle.std.proofs.lemmas.Bool.Decides.{nat_tests}
+use Rattle.std.proofs.lemmas.Grind.{common_steps}
+use Rattle.std.proofs.Common.{◌≡◌, ◌≢◌, ◌∙◌, ℕ, List, [], ◌<◌, false, inl, inr, sym, subst, ap, arith}
 use Rattle.std.specs.Prelude.{slice_index_or}
 use Rattle.blsm_model.specs.Geometry.{page_count}
-use Rattle.std.proofs.lemmas.Bool.{cases_Bool, cases_eq, cases_lt, false≢true}
+use Rattle.std.proofs.lemmas.Bool.{cases_Bool, cases_eq, false≢true}
 use Rattle.std.proofs.lemmas.List.{get_or-replicate, get_or_past, length-replicate}
 use Rattle.std.proofs.lemmas.List.Folds.{sum_by-replicate}
-use Rattle.page_space.specs.PageSet.{Members, IsIn, none_of, size}
+use Rattle.page_space.specs.PageSet.{Members, none_of, size}
 use Rattle.page_space.specs.Space.{SpaceState, HasRole, IsFree, pages_with, pin_size, role_count, role_size, seat_count, unused}
 use Rattle.tree_runs.specs.Runs.{HasOneTag}
 use Rattle.tree_runs.specs.Laws.{TakesFree}
 use Rattle.tree_runs.proofs.ReleasedTags.{none_has}
+use Rattle.tree_runs.proofs.StayLemmas.{one_tag_taken}
 use Rattle.tree_runs.proofs.laws.each_claims_its_own.Goals as goal
 
 -- ---- no page is in use
 
 none_in : (pages : ℕ) → size (none_of pages) ≡ 0
-none_in pages =
-    let all : size (none_of pages) ≡ pages * 0 = sum_by-replicate (λ (b : Bool). cond b 1 0) pages false in
-    omega (arith, all)
+none_in pages = grind (arith, common_steps, nat_tests, sum_by-replicate)
 
 unused_tags : (pages tag page : ℕ) → HasRole (unused pages) tag page → ⊥
-unused_tags pages tag page has =
-    elim (cases_lt tag role_count) [
-      | inl below ↦ none_has pages page (pages_with (unused pages) tag) (get_or-replicate role_count tag (none_of pages) [] below) has
-      | inr past ↦ none_has 0 page (pages_with (unused pages) tag) (get_or_past (unused pages).roles tag [] (omega (arith, past, length-replicate role_count (none_of pages)))) has
-    ]
+unused_tags pages tag page has = grind (arith, common_steps, nat_tests, none_has, get_or-replicate, get_or_past, length-replicate)
 
 unused_sizes : (pages tag : ℕ) → tag < role_count → role_size (unused pages) tag ≡ 0
 unused_sizes pages tag below = ap size (get_or-replicate role_count tag (none_of pages) [] below) ∙ none_in pages
@@ -36,42 +33,9 @@ unused_pins pages seat below = ap size (get_or-replicate seat_count seat (none_o
 other_still : {tag count : ℕ} {old new : SpaceState} → TakesFree tag count old new → (other : ℕ) → other ≢ tag → role_size new other ≡ role_size old other
 other_still takes other differs = ap size (takes.others other differs)
 
-one_tag_taken : {tag count : ℕ} {old new : SpaceState} → TakesFree tag count old new → HasOneTag old → HasOneTag new
-one_tag_taken {tag} {count} {old} {new} takes once page one other has also =
-    elim (cases_eq one tag) [
-      | inl first ↦
-          elim (cases_eq other tag) [
-            | inl second ↦ first ∙ sym second
-            | inr differs ↦ mixed one other first differs has also
-          ]
-      | inr first ↦
-          elim (cases_eq other tag) [
-            | inl second ↦ sym (mixed other one second first also has)
-            | inr differs ↦ once page one other (back one first has) (back other differs also)
-          ]
-    ]
-  where
-    back : (k : ℕ) → k ≢ tag → HasRole new k page → HasRole old k page
-    back k differs now = subst (λ (set : Members). IsIn set page) (takes.others k differs) now
-
-    mixed : (k m : ℕ) → k ≡ tag → m ≢ tag → HasRole new k page → HasRole new m page → k ≡ m
-    mixed k m is differs k_has m_has =
-        elim (takes.fresh page (subst (λ (t : ℕ). HasRole new t page) is k_has)) [
-          | inl had ↦ is ∙ once page tag m had (back m differs m_has)
-          | inr free ↦ absurd (free.no_role m (back m differs m_has))
-        ]
-
 -- what is free after it, and hadn't the tag before, was free
 free_before : {tag count : ℕ} {old new : SpaceState} → TakesFree tag count old new → (page : ℕ) → IsFree new page → (HasRole old tag page → ⊥) → IsFree old page
-free_before {tag} {count} {old} {new} takes page free lacks = record {
-  in_range = omega (arith, free.in_range, takes.pages);
-  no_role = λ role has.
-      elim (cases_eq role tag) [
-        | inl is ↦ lacks (subst (λ (t : ℕ). HasRole old t page) is has)
-        | inr differs ↦ free.no_role role (subst (λ (set : Members). IsIn set page) (sym (takes.others role differs)) has)
-      ];
-  no_pin = λ seat has. free.no_pin seat (subst (λ (pins : List Members). IsIn (slice_index_or pins seat []) page) (sym takes.pins) has);
-}
+free_before takes page free lacks = grind (arith, common_steps, nat_tests, cases_eq)
 
 pub returns-clause-adds : goal.returns-clause-adds
 returns-clause-adds c = λ tag count page old mid new takes free claims. record {
@@ -99,7 +63,7 @@ returns-clause-read c = λ sizes catalogue s1 s2 s3 geometry c1 c1x c2 first sec
       geometry = geometry;
       pages = third.pages ∙ second.pages ∙ first.pages;
       shape = third.shape;
-      one_tag = one_tag_taken third (one_tag_taken second (one_tag_taken first start));
+      one_tag = one_tag_taken 2 s2 s3 third.others third.fresh (one_tag_taken 1 s1 s2 second.others second.fresh (one_tag_taken 0 (unused pages) s1 first.others first.fresh start));
       c1 = record {
         filled = c1;
         size = omega (arith, first.size, unused_sizes pages 0 (omega arith), other_still second 0 (omega arith), other_still third 0 (omega arith));

@@ -2,7 +2,8 @@ use Rattle.std.proofs.lemmas.Result.{err_from_is_err_and}
 use Rattle.std.proofs.lemmas.Bool.{false≢true}
 use Rattle.std.proofs.Common.{◌∙◌, ℕ, sym, ap, subst, IsTrue, inl, inr, arith}
 use Rattle.std.specs.Prelude.{is_ok}
-use Rattle.disk_trait.specs.Effects.{Affects, affects_wider, affects_more}
+use Rattle.disk_trait.specs.Effects.{Affects}
+use Rattle.disk_trait.proofs.EffectLemmas.{affects_wider, affects_more}
 use Rattle.disk_trait.specs.Region.{span}
 use Rattle.blsm_model.specs.Geometry.{file_length}
 use Rattle.catalog_swap.specs.declared.catalog.Catalog.{Catalog}

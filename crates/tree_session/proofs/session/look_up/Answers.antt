@@ -15,6 +15,7 @@ use Rattle.tree_session.proofs.FaultLemmas.{get_names, get_tells, proceeds_by, r
 use Rattle.tree_session.proofs.MadeLemmas.{made_by}
 use Rattle.tree_session.proofs.GetLemmas.{get_rows}
 use Rattle.tree_session.proofs.session.look_up.Goals as goal
+use Rattle.tree_core.proofs.LookupSteps.{get_looks}
 
 pub returns : goal.returns
 returns g c =
@@ -37,5 +38,5 @@ returns g c =
       begins = e.goes.begins;
       rests = subst (λ (h : Held). Rests h) (sym e.held) (record { idle = λ seat. c.requires.rests.idle seat; even = λ runs seat. c.requires.rests.even runs seat });
       proceeds = proceeds_by state (faults_of (reply_to_get answer)) 3 old new (note_has_room old.held.book seat 0 (Get key) Done c.requires.note (omega arith)).seat c.kept.ensures.begins e.goes (reaches_by e.reads.effect) (get_tells state seat key answer old new e);
-      made = made_by state seat (kind.Get key) old new (answer, e);
+      made = made_by state seat (kind.Look (Get key)) old new (reply_to_get answer, get_looks state seat key answer old new e);
     }

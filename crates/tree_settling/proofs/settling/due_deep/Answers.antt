@@ -3,7 +3,7 @@ use Rattle.tree_settling.proofs.StepLemmas.{no_calls, settles_start}
 use Rattle.tree_settling.proofs.settling.due_deep.Goals as goal
 
 pub returns-else-in_deep-clause-on : goal.returns-else-in_deep-clause-on
-returns-else-in_deep-clause-on g c = settles_start c.args.runs.now c.args.log.now (g.D.Disk.state c.args.disk.now) (g.met.D.Disk.timed c.args.disk.now) c.requires.may
+returns-else-in_deep-clause-on g c = settles_start (g.met.D.Disk.timed c.args.disk.now) c.requires.may
 
 pub returns-else-in_deep-clause-leaves : goal.returns-else-in_deep-clause-leaves
 returns-else-in_deep-clause-leaves g c = (returns-else-in_deep-clause-on g c).leaves

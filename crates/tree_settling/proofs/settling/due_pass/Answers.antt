@@ -1,5 +1,5 @@
-use Rattle.std.proofs.Common.{◌∙◌, ◌*◌, Err, ap, arith, subst}
-use Rattle.std.proofs.lemmas.Result.{err_from_is_err_and, on_ok_weaker}
+use Rattle.std.proofs.Common.{◌∙◌, ◌*◌, arith, subst}
+use Rattle.std.proofs.lemmas.Result.{on_ok_weaker}
 use Rattle.blsm_model.specs.Sizes.{Sizes}
 use Rattle.tree_settling.specs.Settling.{CallsFew, merge_calls}
 use Rattle.tree_settling.proofs.EmptyLemmas.{empty_a, empty_b}
@@ -8,7 +8,7 @@ use Rattle.tree_settling.proofs.ToldLemmas.{ends_from}
 use Rattle.tree_settling.proofs.settling.due_pass.Goals as goal
 
 pub returns-then-is_empty-clause-on : goal.returns-then-is_empty-clause-on
-returns-then-is_empty-clause-on g c = settles_start c.args.runs.now c.args.log.now (g.D.Disk.state c.args.disk.now) (g.met.D.Disk.timed c.args.disk.now) c.requires.may
+returns-then-is_empty-clause-on g c = settles_start (g.met.D.Disk.timed c.args.disk.now) c.requires.may
 
 pub returns-then-is_empty-clause-leaves : goal.returns-then-is_empty-clause-leaves
 returns-then-is_empty-clause-leaves g c = (returns-then-is_empty-clause-on g c).leaves
@@ -21,25 +21,21 @@ returns-then-is_empty-clause-b g c = empty_b c.args.log.now (c.is_empty.ensures.
 
 pub returns-in_err-finish_pass-clause-ends : goal.returns-in_err-finish_pass-clause-ends
 returns-in_err-finish_pass-clause-ends g c = λ pairs honest shows.
-    let failed = err_from_is_err_and c.from_residual.result c.from_residual.ensures.1 in
-    ends_from c.in_err-finish_pass.field-0.0 c.from_residual.result c.finish_pass.result c.in_err-finish_pass.was (failed.1 ∙ ap (λ e. Err e) failed.2) (c.finish_pass.ensures.ends pairs honest shows)
+    ends_from c.in_err-finish_pass.was c.from_residual.ensures.1 (c.finish_pass.ensures.ends pairs honest shows)
 
 pub returns-clause-leaves : goal.returns-clause-leaves
 returns-clause-leaves g c =
-    leaves_run c.args.runs.now c.finish_pass.new.runs c.args.log.now c.finish_pass.new.log (g.D.Disk.state c.args.disk.now) (g.D.Disk.state c.finish_pass.new.disk) (g.D.Disk.state c.due_deep.new.disk)
-    (g.met.D.Disk.timed c.finish_pass.new.disk) c.in_ok-finish_pass.ensures.on c.due_deep.ensures.leaves
+    leaves_run (g.met.D.Disk.timed c.finish_pass.new.disk) c.in_ok-finish_pass.ensures.on c.due_deep.ensures.leaves
 
 pub returns-clause-on : goal.returns-clause-on
 returns-clause-on g c =
     on_ok_weaker c.due_deep.result
-    (settles_run c.args.runs.now c.finish_pass.new.runs c.due_deep.new.runs c.args.log.now c.finish_pass.new.log c.finish_pass.new.log (g.D.Disk.state c.args.disk.now)
-    (g.D.Disk.state c.finish_pass.new.disk) (g.D.Disk.state c.due_deep.new.disk) (g.met.D.Disk.timed c.finish_pass.new.disk) c.in_ok-finish_pass.ensures.on)
+    (settles_run (g.met.D.Disk.timed c.finish_pass.new.disk) c.in_ok-finish_pass.ensures.on)
     c.due_deep.ensures.on
 
 pub returns-clause-ends : goal.returns-clause-ends
 returns-clause-ends g c =
-    ends_run c.due_deep.result c.args.runs.now c.finish_pass.new.runs c.args.log.now c.finish_pass.new.log (g.D.Disk.state c.args.disk.now) (g.D.Disk.state c.finish_pass.new.disk)
-    c.in_ok-finish_pass.ensures.on c.due_deep.ensures.ends
+    ends_run c.due_deep.result c.in_ok-finish_pass.ensures.on c.due_deep.ensures.ends
 
 pub returns-clause-a : goal.returns-clause-a
 returns-clause-a g c = on_ok_weaker c.due_deep.result (λ on none. c.in_ok-finish_pass.ensures.a ∙ none) c.due_deep.ensures.on
@@ -52,7 +48,7 @@ returns-clause-version g c = on_ok_weaker c.due_deep.result (λ more. omega (ari
 
 pub returns-clause-faults : goal.returns-clause-faults
 returns-clause-faults g c =
-    told_run c.due_deep.result (g.D.Disk.state c.args.disk.now) (g.D.Disk.state c.finish_pass.new.disk) (g.D.Disk.state c.due_deep.new.disk) c.in_ok-finish_pass.ensures.on.calm c.due_deep.ensures.faults
+    told_run c.in_ok-finish_pass.ensures.on.calm c.due_deep.ensures.faults
 
 pub returns-then-is_empty-clause-calls : goal.returns-then-is_empty-clause-calls
 returns-then-is_empty-clause-calls g c = no_calls (g.D.Disk.state c.args.disk.now) (2 * merge_calls c.args.runs.now.sizes)

@@ -1,5 +1,5 @@
-use Rattle.std.proofs.Common.{◌∙◌, true, false, Err, refl, ap, sym, subst}
-use Rattle.std.proofs.lemmas.Result.{err_from_is_err_and}
+use Rattle.std.specs.Prelude.{is_ok}
+use Rattle.std.proofs.Common.{◌∙◌, ap, sym, subst}
 use Rattle.mem_table.specs.Tables.{Contents}
 use Rattle.tree_runs.specs.Runs.{RunsState}
 use Rattle.tree_runs.specs.Holding.{StandOver}
@@ -8,6 +8,7 @@ use Rattle.tree_settling.proofs.PassLemmas.{IsPassSwap, begun_fits, begun_left, 
 use Rattle.tree_settling.proofs.StepLemmas.{affects_anywhere, calls_and, calls_then}
 use Rattle.tree_settling.proofs.ToldLemmas.{ends_from, fault_then, well_told}
 use Rattle.tree_settling.proofs.settling.finish_pass.Goals as goal
+use Rattle.tree_settling.proofs.settling.finish_pass.Goals.{After-swap_pass}
 
 pub take_pass-requires-clause-running : goal.take_pass-requires-clause-running
 take_pass-requires-clause-running g c = c.begin_pass.ensures.running (g.D.Disk.state c.args.disk.now).is_honest (g.D.Disk.state c.args.disk.now).bytes c.requires.may.running
@@ -17,74 +18,50 @@ take_pass-requires-clause-fits g c = begun_fits c.weight_of_a.result c.args.runs
 
 pub returns-in_err-take_pass-clause-leaves : goal.returns-in_err-take_pass-clause-leaves
 returns-in_err-take_pass-clause-leaves g c =
-    begun_left c.weight_of_a.result c.args.runs.now c.begin_pass.new.self c.args.log.now c.a-a.result.now (g.D.Disk.state c.args.disk.now) (g.D.Disk.state c.take_pass.new.disk) c.begin_pass.ensures.begun
-    c.begin_pass.ensures.lists c.a-a.ensures c.take_pass.ensures.keeps c.take_pass.ensures.effect
+    begun_left c.weight_of_a.result c.begin_pass.ensures.begun c.begin_pass.ensures.lists c.a-a.ensures c.take_pass.ensures.keeps c.take_pass.ensures.effect
 
 pub returns-in_err-take_pass-clause-ends : goal.returns-in_err-take_pass-clause-ends
 returns-in_err-take_pass-clause-ends g c = λ pairs honest shows.
-    let failed = err_from_is_err_and c.from_residual.result c.from_residual.ensures.1 in
-    ends_from c.in_err-take_pass.field-0.0 c.from_residual.result c.take_pass.result c.in_err-take_pass.was (failed.1 ∙ ap (λ e. Err e) failed.2)
+    ends_from c.in_err-take_pass.was c.from_residual.ensures.1
     (c.take_pass.ensures.ends shows.tree honest
     (begun_over c.weight_of_a.result c.args.runs.now c.begin_pass.new.self shows.tree c.a-a.result.now.entries (g.D.Disk.state c.args.disk.now) c.begin_pass.ensures.begun c.begin_pass.ensures.lists
     (subst (λ (t : Contents). StandOver c.args.runs.now shows.tree t.entries (g.D.Disk.state c.args.disk.now)) (sym c.a-a.ensures) shows.over)))
 
+-- the swap, however it ended
+swap : (g : _) (c : After-swap_pass g) → IsPassSwap (is_ok c.swap_pass.result) c.weight_of_a.result c.a-a.result.now c.args.runs.now c.begin_pass.new.self c.take_pass.new.runs c.swap_pass.new.self c.args.log.now
+    (g.D.Disk.state c.args.disk.now) (g.D.Disk.state c.take_pass.new.disk) (g.D.Disk.state c.swap_pass.new.disk)
+swap g c = record {
+  timed = g.met.D.Disk.timed c.take_pass.new.disk;
+  table = c.a-a.ensures;
+  rests = c.requires.rests;
+  begins = c.begin_pass.ensures.begun;
+  begun_lists = c.begin_pass.ensures.lists;
+  goes = c.in_ok-take_pass.ensures.goes_on;
+  deep = c.in_ok-take_pass.ensures.deep;
+  some = c.in_ok-take_pass.ensures.done.0;
+  none = c.in_ok-take_pass.ensures.done.1;
+  lists = c.swap_pass.ensures.lists;
+  calls = 9;
+  effect = affects_anywhere c.swap_pass.ensures.effect;
+}
+
 pub returns-in_err-swap_pass-clause-leaves : goal.returns-in_err-swap_pass-clause-leaves
-returns-in_err-swap_pass-clause-leaves g c =
-    pass_leaves false c.weight_of_a.result c.a-a.result.now c.args.runs.now c.begin_pass.new.self c.take_pass.new.runs c.swap_pass.new.self c.args.log.now (g.D.Disk.state c.args.disk.now) (g.D.Disk.state c.take_pass.new.disk)
-    (g.D.Disk.state c.swap_pass.new.disk)
-    (record {
-      timed = g.met.D.Disk.timed c.take_pass.new.disk;
-      table = c.a-a.ensures;
-      rests = c.requires.rests;
-      begins = c.begin_pass.ensures.begun;
-      begun_lists = c.begin_pass.ensures.lists;
-      goes = c.in_ok-take_pass.ensures.goes_on;
-      deep = c.in_ok-take_pass.ensures.deep;
-      some = c.in_ok-take_pass.ensures.done.0;
-      none = c.in_ok-take_pass.ensures.done.1;
-      lists = c.in_err-swap_pass.ensures.lists;
-      calls = 9;
-      effect = affects_anywhere c.swap_pass.ensures.effect;
-    })
+returns-in_err-swap_pass-clause-leaves g c = pass_leaves (swap g (goal.at.returns-in_err-swap_pass-clause-leaves g c).After-swap_pass)
 
 pub returns-in_err-swap_pass-clause-faults : goal.returns-in_err-swap_pass-clause-faults
 returns-in_err-swap_pass-clause-faults g c =
-    let failed = err_from_is_err_and c.from_residual-in_err-swap_pass.result c.from_residual-in_err-swap_pass.ensures.1 in
-    fault_then c.from_residual-in_err-swap_pass.result (g.D.Disk.state c.args.disk.now) (g.D.Disk.state c.take_pass.new.disk) (g.D.Disk.state c.swap_pass.new.disk)
-    c.in_ok-take_pass.ensures.goes_on.well.calm (failed.1 ∙ ap (λ e. Err e) failed.2) c.in_err-swap_pass.ensures.faults
+    fault_then (g.D.Disk.state c.take_pass.new.disk) c.in_ok-take_pass.ensures.goes_on.well.calm c.from_residual-in_err-swap_pass.ensures.1 c.in_err-swap_pass.ensures.faults
 
 pub returns-clause-on : goal.returns-clause-on
 returns-clause-on g c =
-    let before = g.D.Disk.state c.args.disk.now in
-    let mid = g.D.Disk.state c.take_pass.new.disk in
-    let after = g.D.Disk.state c.swap_pass.new.disk in
-    let swap : IsPassSwap true c.weight_of_a.result c.a-a.result.now c.args.runs.now c.begin_pass.new.self c.take_pass.new.runs c.swap_pass.new.self c.args.log.now before mid after =
+    let swap = swap g (goal.at.returns-clause-on g c).After-swap_pass in
+    let swaps = c.in_ok-swap_pass.ensures.swaps in
     record {
-      timed = g.met.D.Disk.timed c.take_pass.new.disk;
-      table = c.a-a.ensures;
-      rests = c.requires.rests;
-      begins = c.begin_pass.ensures.begun;
-      begun_lists = c.begin_pass.ensures.lists;
-      goes = c.in_ok-take_pass.ensures.goes_on;
-      deep = c.in_ok-take_pass.ensures.deep;
-      some = c.in_ok-take_pass.ensures.done.0;
-      none = c.in_ok-take_pass.ensures.done.1;
-      lists = c.in_ok-swap_pass.ensures.lists;
-      calls = 9;
-      effect = affects_anywhere c.swap_pass.ensures.effect;
-    } in
-    record {
-      leaves = pass_leaves true c.weight_of_a.result c.a-a.result.now c.args.runs.now c.begin_pass.new.self c.take_pass.new.runs c.swap_pass.new.self c.args.log.now before mid after swap;
-      shows =
-          pass_shows true c.weight_of_a.result c.a-a.result.now c.args.runs.now c.begin_pass.new.self c.take_pass.new.runs c.swap_pass.new.self c.args.log.now before mid after swap c.turn.new.self refl
-          c.in_ok-swap_pass.ensures.swaps c.turn.ensures.is_of;
-      may =
-          pass_may true c.weight_of_a.result c.a-a.result.now c.args.runs.now c.begin_pass.new.self c.take_pass.new.runs c.swap_pass.new.self c.args.log.now before mid after swap c.turn.new.self c.requires.may
-          c.in_ok-swap_pass.ensures.swaps c.turn.ensures.is_of c.turn.ensures.log c.in_ok-swap_pass.ensures.running;
-      light =
-          pass_light true c.weight_of_a.result c.a-a.result.now c.args.runs.now c.begin_pass.new.self c.take_pass.new.runs c.swap_pass.new.self c.args.log.now before mid after swap c.turn.new.self
-          c.in_ok-swap_pass.ensures.swaps c.turn.ensures.log;
-      sizes = c.in_ok-swap_pass.ensures.swaps.sizes ∙ same_sizes true c.weight_of_a.result c.a-a.result.now c.args.runs.now c.begin_pass.new.self c.take_pass.new.runs c.swap_pass.new.self c.args.log.now before mid after swap;
+      leaves = pass_leaves swap;
+      shows = pass_shows swap c.turn.new.self (ap is_ok c.in_ok-swap_pass.was) swaps c.turn.ensures.is_of;
+      may = pass_may swap c.turn.new.self c.requires.may swaps c.turn.ensures.is_of c.turn.ensures.log c.in_ok-swap_pass.ensures.running;
+      light = pass_light swap c.turn.new.self swaps c.turn.ensures.log;
+      sizes = swaps.sizes ∙ same_sizes swap;
       calm = c.in_ok-swap_pass.ensures.faults ∙ c.in_ok-take_pass.ensures.goes_on.well.calm;
     }
 

@@ -1,5 +1,4 @@
-use Rattle.std.proofs.Common.{◌∙◌, ◌+◌, ◌/◌, Option, Err, refl, ap, subst, arith}
-use Rattle.std.proofs.lemmas.Result.{err_from_is_err_and}
+use Rattle.std.proofs.Common.{◌∙◌, ◌+◌, ◌/◌, Option, refl, ap, subst, arith}
 use Rattle.blsm_model.specs.Sizes.{Sizes}
 use Rattle.tree_file.specs.Places.{StandsOn}
 use Rattle.blsm_model.specs.Geometry.{file_length}
@@ -13,7 +12,7 @@ pub loop-runs-init : goal.loop-runs-init
 loop-runs-init g c = record {
   runs = c.requires.runs;
   deep = refl;
-  goes_on = begun c.args.a.now.entries c.args.runs.now (g.D.Disk.state c.args.disk.now) (g.met.D.Disk.timed c.args.disk.now) c.requires.running;
+  goes_on = begun (g.met.D.Disk.timed c.args.disk.now) c.requires.running;
   calls = calls_none c.args.runs.now.sizes (left_for_pass c.args.runs.now.pass c.args.a.now.entries) (g.D.Disk.state c.args.disk.now);
 }
 
@@ -24,41 +23,37 @@ loop-runs-smaller g c =
     (still_left c.is_pass_done.result (left_for_pass c.loop-runs.runs.pass c.args.a.now.entries) c.loop-runs-test.true c.is_pass_done.ensures c.loop-runs.invariant.runs) took.1 took.2
 
 pub loop-runs-preserved : goal.loop-runs-preserved
-loop-runs-preserved g c = record {
-  runs = c.pass_quantum.ensures.runs;
-  deep = c.pass_quantum.ensures.others.deep ∙ c.loop-runs.invariant.deep;
-  goes_on =
-      more c.args.a.now.entries c.args.runs.now c.loop-runs.runs c.pass_quantum.new.self (g.D.Disk.state c.args.disk.now) (g.D.Disk.state c.loop-runs.disk) (g.D.Disk.state c.pass_quantum.new.disk)
-      (g.met.D.Disk.timed c.loop-runs.disk) c.loop-runs.invariant.goes_on c.pass_quantum.ensures.others.sizes c.pass_quantum.ensures.others.catalogue
-      (pass_took c.loop-runs.runs.pass c.pass_quantum.new.self.pass c.args.a.now.entries c.loop-runs.runs.sizes.quantum c.in_ok-pass_quantum.field-0 c.in_ok-pass_quantum.ensures.takes).0
-      (rested (λ (o : Option DeepState). (made_by_deep o).weight + left_for_deep o) c.pass_quantum.ensures.others.deep)
-      c.pass_quantum.ensures.told.stands
-      (λ tree honest over. (c.in_ok-pass_quantum.ensures.told.lists tree honest over (λ same. ok_is_no_err c.in_ok-pass_quantum.field-0 same)).2)
-      c.in_ok-pass_quantum.ensures.told.running c.pass_quantum.ensures.told.effect (c.in_ok-pass_quantum.ensures.told.faults.stands (λ same. ok_is_no_err c.in_ok-pass_quantum.field-0 same));
-  calls =
-      calls_more c.args.runs.now.sizes (left_for_pass c.args.runs.now.pass c.args.a.now.entries) (left_for_pass c.loop-runs.runs.pass c.args.a.now.entries) (left_for_pass c.pass_quantum.new.self.pass c.args.a.now.entries) c.in_ok-pass_quantum.field-0 (c.loop-runs.runs.sizes.quantum / 7 + 2) c.loop-runs.runs.sizes.quantum (g.D.Disk.state c.args.disk.now) (g.D.Disk.state c.loop-runs.disk) (g.D.Disk.state c.pass_quantum.new.disk)
-      c.loop-runs.invariant.calls (still_left c.is_pass_done.result (left_for_pass c.loop-runs.runs.pass c.args.a.now.entries) c.loop-runs-test.true c.is_pass_done.ensures c.loop-runs.invariant.runs) c.pass_quantum.ensures.told.effect.calls
-      (quantum_few c.args.runs.now.sizes c.loop-runs.runs.sizes (c.loop-runs.runs.sizes.quantum / 7 + 2) c.loop-runs.invariant.goes_on.sizes c.requires.running.in_order.geometry.quantum (omega arith)).0
-      (quantum_few c.args.runs.now.sizes c.loop-runs.runs.sizes (c.loop-runs.runs.sizes.quantum / 7 + 2) c.loop-runs.invariant.goes_on.sizes c.requires.running.in_order.geometry.quantum (omega arith)).1
-      (pass_took c.loop-runs.runs.pass c.pass_quantum.new.self.pass c.args.a.now.entries c.loop-runs.runs.sizes.quantum c.in_ok-pass_quantum.field-0 c.in_ok-pass_quantum.ensures.takes).1 (pass_took c.loop-runs.runs.pass c.pass_quantum.new.self.pass c.args.a.now.entries c.loop-runs.runs.sizes.quantum c.in_ok-pass_quantum.field-0 c.in_ok-pass_quantum.ensures.takes).2;
-}
+loop-runs-preserved g c =
+    let took = pass_took c.loop-runs.runs.pass c.pass_quantum.new.self.pass c.args.a.now.entries c.loop-runs.runs.sizes.quantum c.in_ok-pass_quantum.field-0 c.in_ok-pass_quantum.ensures.takes in
+    let few = quantum_few c.args.runs.now.sizes c.loop-runs.runs.sizes (c.loop-runs.runs.sizes.quantum / 7 + 2) c.loop-runs.invariant.goes_on.sizes c.requires.running.in_order.geometry.quantum (omega arith) in
+    record {
+      runs = c.pass_quantum.ensures.runs;
+      deep = c.pass_quantum.ensures.others.deep ∙ c.loop-runs.invariant.deep;
+      goes_on =
+          more (g.met.D.Disk.timed c.loop-runs.disk) c.loop-runs.invariant.goes_on c.pass_quantum.ensures.others.sizes c.pass_quantum.ensures.others.catalogue
+          took.0 (rested (λ (o : Option DeepState). (made_by_deep o).weight + left_for_deep o) c.pass_quantum.ensures.others.deep)
+          c.pass_quantum.ensures.told.stands
+          (λ tree honest over. (c.in_ok-pass_quantum.ensures.told.lists tree honest over (λ same. ok_is_no_err c.in_ok-pass_quantum.field-0 same)).2)
+          c.in_ok-pass_quantum.ensures.told.running c.pass_quantum.ensures.told.effect (c.in_ok-pass_quantum.ensures.told.faults.stands (λ same. ok_is_no_err c.in_ok-pass_quantum.field-0 same));
+      calls =
+          calls_more c.args.runs.now.sizes (left_for_pass c.args.runs.now.pass c.args.a.now.entries) (left_for_pass c.loop-runs.runs.pass c.args.a.now.entries) (left_for_pass c.pass_quantum.new.self.pass c.args.a.now.entries) c.in_ok-pass_quantum.field-0 (c.loop-runs.runs.sizes.quantum / 7 + 2) c.loop-runs.runs.sizes.quantum (g.D.Disk.state c.args.disk.now) (g.D.Disk.state c.loop-runs.disk) (g.D.Disk.state c.pass_quantum.new.disk)
+          c.loop-runs.invariant.calls (still_left c.is_pass_done.result (left_for_pass c.loop-runs.runs.pass c.args.a.now.entries) c.loop-runs-test.true c.is_pass_done.ensures c.loop-runs.invariant.runs) c.pass_quantum.ensures.told.effect.calls
+          few.0 few.1 took.1 took.2;
+    }
 
 pub returns-in_err-pass_quantum-clause-keeps : goal.returns-in_err-pass_quantum-clause-keeps
 returns-in_err-pass_quantum-clause-keeps g c =
-    left_standing c.args.a.now.entries c.args.runs.now c.loop-runs.runs (g.D.Disk.state c.args.disk.now) (g.D.Disk.state c.loop-runs.disk) (g.D.Disk.state c.pass_quantum.new.disk) c.loop-runs.invariant.goes_on
-    c.pass_quantum.ensures.told.stands
+    left_standing (g.D.Disk.state c.pass_quantum.new.disk) c.loop-runs.invariant.goes_on c.pass_quantum.ensures.told.stands
 
 pub returns-in_err-pass_quantum-clause-ends : goal.returns-in_err-pass_quantum-clause-ends
 returns-in_err-pass_quantum-clause-ends g c = λ tree honest over.
-    let failed = err_from_is_err_and c.from_residual.result c.from_residual.ensures.1 in
-    ends_then c.in_err-pass_quantum.field-0.0 c.from_residual.result c.pass_quantum.result c.in_err-pass_quantum.was (failed.1 ∙ ap (λ e. Err e) failed.2)
+    ends_then c.in_err-pass_quantum.was c.from_residual.ensures.1
     (λ other. let got = c.pass_quantum.ensures.told.lists tree (well_honest c.loop-runs.invariant.goes_on.well honest) (c.loop-runs.invariant.goes_on.stands tree honest over) other in (got.0, got.1))
 
 pub returns-in_err-pass_quantum-clause-effect : goal.returns-in_err-pass_quantum-clause-effect
 returns-in_err-pass_quantum-clause-effect g c = (
   _,
-  well_then (file_length c.args.runs.now.sizes) (file_length c.loop-runs.runs.sizes) (g.D.Disk.state c.args.disk.now) (g.D.Disk.state c.loop-runs.disk) (g.D.Disk.state c.pass_quantum.new.disk)
-      (g.met.D.Disk.timed c.loop-runs.disk) (ap file_length c.loop-runs.invariant.goes_on.sizes) c.loop-runs.invariant.goes_on.well c.pass_quantum.ensures.told.effect,
+  well_then (g.met.D.Disk.timed c.loop-runs.disk) (ap file_length c.loop-runs.invariant.goes_on.sizes) c.loop-runs.invariant.goes_on.well c.pass_quantum.ensures.told.effect,
 )
 
 pub returns-in_err-pass_quantum-clause-calls : goal.returns-in_err-pass_quantum-clause-calls
@@ -69,9 +64,7 @@ returns-in_err-pass_quantum-clause-calls g c =
 
 pub returns-in_err-pass_quantum-clause-faults : goal.returns-in_err-pass_quantum-clause-faults
 returns-in_err-pass_quantum-clause-faults g c =
-    let failed = err_from_is_err_and c.from_residual.result c.from_residual.ensures.1 in
-    told_then c.in_err-pass_quantum.field-0.0 c.from_residual.result c.pass_quantum.result (g.D.Disk.state c.args.disk.now) (g.D.Disk.state c.loop-runs.disk) (g.D.Disk.state c.pass_quantum.new.disk)
-    c.loop-runs.invariant.goes_on.well.calm c.in_err-pass_quantum.was (failed.1 ∙ ap (λ e. Err e) failed.2) c.pass_quantum.ensures.told.faults
+    told_then c.loop-runs.invariant.goes_on.well.calm c.in_err-pass_quantum.was c.from_residual.ensures.1 c.pass_quantum.ensures.told.faults
 
 pub returns-clause-keeps : goal.returns-clause-keeps
 returns-clause-keeps g c = λ tree honest over. (

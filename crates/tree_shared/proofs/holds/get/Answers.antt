@@ -13,6 +13,7 @@ use Rattle.tree_shared.proofs.NoteLemmas.{note_did, note_frees_none, notes_one}
 use Rattle.tree_core.specs.declared.answers.Lookup.{Lookup}
 use Rattle.tree_core.specs.declared.answers.Lookup.TheVariants as lookup
 use Rattle.tree_shared.proofs.holds.get.Goals as goal
+use Rattle.tree_core.proofs.LookupSteps.{get_looks}
 
 gives_none : (answer : Lookup) → length (rows_given (reply_to_get answer)) ≡ 0
 gives_none (lookup.Is value) = refl
@@ -26,10 +27,10 @@ get-answer-requires g c =
     subst (λ (n : ℕ). may_note_in n 0 c.take-core.result.held.book ≡ true) (sym c.number-seat.ensures) (note_ok g.D.Disk.state c.args.caller.now c.take-core.result c.take-core.ensures.2 0 c.requires.number c.requires.free)
 
 pub give-requires-clause-turn : goal.give-requires-clause-turn
-give-requires-clause-turn g c = turn_given g.D.Disk.state c.args.caller.now c.take-core.new.caller c.take-core.result c.get-answer.new.self c.take-core.ensures c.number-seat.result c.number-seat.ensures (kind.Get c.args.key.now) (c.get-answer.result, c.get-answer.ensures)
+give-requires-clause-turn g c = turn_given g.D.Disk.state c.args.caller.now c.take-core.new.caller c.take-core.result c.get-answer.new.self c.take-core.ensures c.number-seat.result c.number-seat.ensures (kind.Look (op.Get c.args.key.now)) (reply_to_get c.get-answer.result, get_looks g.D.Disk.state c.number-seat.result c.args.key.now c.get-answer.result c.take-core.result c.get-answer.new.self c.get-answer.ensures)
 
 pub give-requires-clause-lasts : goal.give-requires-clause-lasts
-give-requires-clause-lasts g c = came_given g.D.Disk.state c.args.caller.now c.take-core.new.caller c.take-core.result c.get-answer.new.self c.take-core.ensures c.number-seat.result c.number-seat.ensures (kind.Get c.args.key.now) (c.get-answer.result, c.get-answer.ensures)
+give-requires-clause-lasts g c = came_given g.D.Disk.state c.args.caller.now c.take-core.new.caller c.take-core.result c.get-answer.new.self c.take-core.ensures c.number-seat.result c.number-seat.ensures (kind.Look (op.Get c.args.key.now)) (reply_to_get c.get-answer.result, get_looks g.D.Disk.state c.number-seat.result c.args.key.now c.get-answer.result c.take-core.result c.get-answer.new.self c.get-answer.ensures)
 
 pub returns-clause-did : goal.returns-clause-did
 returns-clause-did g c =
@@ -37,7 +38,7 @@ returns-clause-did g c =
     let caller = c.args.caller.now in
     let b = c.take-core.result in
     let w = c.get-answer.new.self in
-    let turn = turn_by state caller c.take-core.new.caller c.take-core.result c.get-answer.new.self c.take-core.ensures c.number-seat.result c.number-seat.ensures (kind.Get c.args.key.now) (c.get-answer.result, c.get-answer.ensures) c.give.new.caller c.give.ensures in
+    let turn = turn_by state caller c.take-core.new.caller c.take-core.result c.get-answer.new.self c.take-core.ensures c.number-seat.result c.number-seat.ensures (kind.Look (op.Get c.args.key.now)) (reply_to_get c.get-answer.result, get_looks g.D.Disk.state c.number-seat.result c.args.key.now c.get-answer.result c.take-core.result c.get-answer.new.self c.get-answer.ensures) c.give.new.caller c.give.ensures in
     let its = subst (λ (n : ℕ). Gets state n c.args.key.now c.get-answer.result b w) c.number-seat.ensures c.get-answer.ensures in
     note_did state caller c.give.new.caller (op.Get c.args.key.now) (reply_to_get c.get-answer.result) b w c.requires.number turn (notes_one caller.number (op.Get c.args.key.now) (reply_to_get c.get-answer.result) b.held.book w.held.book (ap (λ (h : Held). h.book) its.held)) (ap (λ (h : Held). h.gears) its.held) (IsFree 1 0) c.requires.free
 
@@ -47,6 +48,6 @@ returns-clause-free g c =
     let caller = c.args.caller.now in
     let b = c.take-core.result in
     let w = c.get-answer.new.self in
-    let turn = turn_by state caller c.take-core.new.caller c.take-core.result c.get-answer.new.self c.take-core.ensures c.number-seat.result c.number-seat.ensures (kind.Get c.args.key.now) (c.get-answer.result, c.get-answer.ensures) c.give.new.caller c.give.ensures in
+    let turn = turn_by state caller c.take-core.new.caller c.take-core.result c.get-answer.new.self c.take-core.ensures c.number-seat.result c.number-seat.ensures (kind.Look (op.Get c.args.key.now)) (reply_to_get c.get-answer.result, get_looks g.D.Disk.state c.number-seat.result c.args.key.now c.get-answer.result c.take-core.result c.get-answer.new.self c.get-answer.ensures) c.give.new.caller c.give.ensures in
     let its = subst (λ (n : ℕ). Gets state n c.args.key.now c.get-answer.result b w) c.number-seat.ensures c.get-answer.ensures in
     note_frees_none state caller c.give.new.caller (op.Get c.args.key.now) (reply_to_get c.get-answer.result) b w c.requires.number turn (notes_one caller.number (op.Get c.args.key.now) (reply_to_get c.get-answer.result) b.held.book w.held.book (ap (λ (h : Held). h.book) its.held)) (ap (λ (h : Held). h.gears) its.held) (gives_none c.get-answer.result)

@@ -8,7 +8,8 @@ use Rattle.blsm_model.specs.Sizes.{Sizes}
 use Rattle.blsm_model.specs.Geometry.{file_length}
 use Rattle.blsm_model.specs.declared.key.Key.{Key}
 use Rattle.record_delta.specs.declared.record.Rec.{Rec}
-use Rattle.disk_trait.specs.Effects.{Affects, affects_wider}
+use Rattle.disk_trait.specs.Effects.{Affects}
+use Rattle.disk_trait.proofs.EffectLemmas.{affects_wider}
 use Rattle.gated_log.specs.Lane.{lane_region}
 use Rattle.snow_merge.specs.Pass.{SnowState}
 use Rattle.tree_file.specs.Places.{StandsOn, Becomes}

@@ -1,7 +1,7 @@
 use Rattle.std.proofs.Common.{◌≡◌, [], ◌∷◌, ℕ, Bool, sym, subst, arith}
 use Rattle.std.specs.Prelude.{IfOk}
 use Rattle.std.specs.List.{Contains}
-use Rattle.disk_trait.specs.Effects.{affects_wider}
+use Rattle.disk_trait.proofs.EffectLemmas.{affects_wider}
 use Rattle.bloom_bits.specs.Guides.{Guide}
 use Rattle.record_delta.specs.Entries.{folded_over, settled_entries}
 use Rattle.page_space.specs.Space.{HasRole}

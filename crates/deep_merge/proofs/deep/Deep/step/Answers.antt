@@ -1,6 +1,6 @@
 use Rattle.std.proofs.Common.{rules, ◌≡◌, ◌∙◌, ◌+◌, ◌≤◌, ℕ, IsTrue, Bool, true, List, [], ◌∷◌, ◌++◌, Option, Some, Ok, Err, refl, ap, sym, subst, inl, inr, arith}
 use Rattle.std.proofs.lemmas.Result.{err_from_is_err_and}
-use Rattle.disk_trait.specs.Reads.{only_reads_same}
+use Rattle.disk_trait.proofs.ReadLemmas.{only_reads_same}
 use Rattle.blsm_model.specs.declared.key.Key.{Key}
 use Rattle.record_delta.specs.declared.record.Rec.{Rec}
 use Rattle.record_delta.specs.Entries.{Entries, first_of, folded_over, settled_entries, above, up_to}

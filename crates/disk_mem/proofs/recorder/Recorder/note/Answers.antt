@@ -1,6 +1,7 @@
 use Rattle.std.proofs.Common.{arith, map}
 use Rattle.disk_mem.specs.Changes.{change_of}
-use Rattle.disk_mem.specs.Calls.{event, events, record_size-events}
+use Rattle.disk_mem.specs.Calls.{event, events}
+use Rattle.disk_mem.proofs.CallLemmas.{record_size-events}
 use Rattle.disk_mem.proofs.Noted.{record_size-push, event_size-whole, replayed_note}
 use Rattle.disk_mem.proofs.recorder.Recorder.note.Goals as goal
 

@@ -1,7 +1,8 @@
 use Rattle.std.proofs.Common.{◌∙◌, ap, arith, map, ◌++◌, ◌∷◌, []}
 use Rattle.disk_mem.specs.Events.{Event, wrote}
 use Rattle.disk_mem.specs.Changes.{change_of}
-use Rattle.disk_mem.specs.Calls.{events, record_size-events}
+use Rattle.disk_mem.specs.Calls.{events}
+use Rattle.disk_mem.proofs.CallLemmas.{record_size-events}
 use Rattle.disk_mem.proofs.Noted.{record_size-push, replayed_write, ok_of, whole}
 use Rattle.disk_mem.proofs.recorder.Recorder.note_write.Goals as goal
 

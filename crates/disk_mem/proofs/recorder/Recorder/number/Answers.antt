@@ -1,5 +1,5 @@
 use Rattle.std.proofs.Common.{arith}
-use Rattle.disk_mem.specs.Calls.{length-events}
+use Rattle.disk_mem.proofs.CallLemmas.{length-events}
 use Rattle.disk_mem.proofs.recorder.Recorder.number.Goals as goal
 
 pub returns : goal.returns

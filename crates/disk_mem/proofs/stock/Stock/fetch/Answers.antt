@@ -3,7 +3,8 @@ use Rattle.std.specs.declared.alloc.Global.{Global}
 use Rattle.std.proofs.lemmas.List.{get_or_read}
 use Rattle.std.proofs.Math.ListN.{length-set}
 use Rattle.disk_mem.specs.Recorded.{Recorded}
-use Rattle.disk_mem.specs.Places.{IsPlace, HasNoPlace, disk_under, is_out_under, all_noted, under_get, under_set, under_nowhere, out_set, under_other, out_other, noted_push, name_at_place, all_placed_push, length-all_noted}
+use Rattle.disk_mem.specs.Places.{IsPlace, HasNoPlace, disk_under, is_out_under, all_noted}
+use Rattle.disk_mem.proofs.PlaceLemmas.{under_get, under_set, under_nowhere, out_set, under_other, out_other, noted_push, name_at_place, all_placed_push, length-all_noted}
 use Rattle.disk_mem.proofs.Noted.{went_well}
 use Rattle.disk_mem.proofs.Told.{fresh_count}
 use Rattle.disk_mem.proofs.stock.Stock.fetch.Goals as goal

@@ -2,7 +2,8 @@ use Rattle.std.proofs.Common.{Some, None, Option, List, map, length, string_byte
 use Rattle.std.proofs.lemmas.List.{get_or_read}
 use Rattle.std.specs.declared.alloc.Global.{Global}
 use Rattle.disk_mem.specs.Recorded.{Recorded}
-use Rattle.disk_mem.specs.Places.{IsPlace, HasNoPlace, under_set, under_other, out_set, out_get, out_other, out_nowhere}
+use Rattle.disk_mem.specs.Places.{IsPlace, HasNoPlace}
+use Rattle.disk_mem.proofs.PlaceLemmas.{under_set, under_other, out_set, out_get, out_other, out_nowhere}
 use Rattle.disk_mem.proofs.stock.Stock.give_back.Goals as goal
 
 -- A disk stands there or doesn't.

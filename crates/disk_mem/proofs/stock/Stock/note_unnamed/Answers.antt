@@ -1,5 +1,5 @@
 use Rattle.std.proofs.Common.{None, length, arith}
-use Rattle.disk_mem.specs.Places.{all_placed_push}
+use Rattle.disk_mem.proofs.PlaceLemmas.{all_placed_push}
 use Rattle.disk_mem.proofs.Noted.{went_well}
 use Rattle.disk_mem.proofs.stock.Stock.note_unnamed.Goals as goal
 

@@ -1,7 +1,8 @@
 use Rattle.std.proofs.Common.{ℕ, ◌<◌, ◌++◌, ◌∷◌, [], Some, List, String, map, length, string_bytes, sym, ◌∙◌, ap, subst, arith}
 use Rattle.std.proofs.lemmas.List.{length-map}
 use Rattle.std.specs.declared.alloc.Global.{Global}
-use Rattle.disk_mem.specs.Places.{IsPlace, HasNoPlace, AllPlaced, disk_under, is_out_under, all_noted, all_noted_push, all_placed_more, under_set, out_set, under_other, out_other, under_push, under_push_other, out_push, out_push_other}
+use Rattle.disk_mem.specs.Places.{IsPlace, HasNoPlace, AllPlaced, disk_under, is_out_under, all_noted}
+use Rattle.disk_mem.proofs.PlaceLemmas.{all_noted_push, all_placed_more, under_set, out_set, under_other, out_other, under_push, under_push_other, out_push, out_push_other}
 use Rattle.disk_mem.proofs.stock.Stock.put.Goals as goal
 
 pub returns-in-Some-clause-ok : goal.returns-in-Some-clause-ok

@@ -1,4 +1,4 @@
-use Rattle.std.proofs.Common.{[], ◌∷◌, List, ℕ, ◌≡◌, ◌≢◌, ◌≤◌, length, sym, refl, ◌∙◌, arith}
+use Rattle.std.proofs.Common.{[], ℕ, sym, refl, ◌∙◌, arith}
 use Rattle.std.proofs.lemmas.Bool.{eqb-true, leb-true}
 use Rattle.record_delta.specs.declared.record.Rec.TheVariants.{Base, Delta}
 use Rattle.entry_codec.proofs.SpellingLemmas.{no_text, tail_record}

@@ -1,7 +1,7 @@
 use Rattle.std.proofs.Common.{◌≡◌, true, false, subst, arith}
 use Rattle.std.specs.Prelude.{IsTrue, is_ok}
 use Rattle.std.proofs.lemmas.Result.{err_from_is_err_and}
-use Rattle.disk_trait.specs.Effects.{affects_wider}
+use Rattle.disk_trait.proofs.EffectLemmas.{affects_wider}
 use Rattle.gated_log.proofs.AppendLemmas.{entry_write, write_inside, write_ends, leaves_appended}
 use Rattle.gated_log.proofs.lanes.Lanes.append.Goals as goal
 

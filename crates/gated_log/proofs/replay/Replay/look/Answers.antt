@@ -1,6 +1,6 @@
 use Rattle.std.proofs.Common.{◌≡◌, ◌≤◌, ◌+◌, length, List, ℕ, ap, subst, rules, arith}
 use Rattle.disk_trait.specs.Disk.{part}
-use Rattle.disk_trait.specs.Reads.{only_reads_call, only_reads_wider}
+use Rattle.disk_trait.proofs.ReadLemmas.{only_reads_call, only_reads_wider}
 use Rattle.gated_log.specs.Replay.{ReplayState, next_gate}
 use Rattle.blsm_model.specs.Lanes.{region_length}
 use Rattle.gated_log.proofs.BlockLemmas.{IsOpenBlock, IsBrokenBlock, room_of, open_block, broken_block, open_fits, some_read, damaged_read}

@@ -44,39 +44,18 @@ unreachable-requires c =
 slots_are : (c : After-push) → c.push.new.self.slots ≡ c.self.inside.store.slots ++ (c.args.key.now, c.args.rec.now) ∷ []
 slots_are c = ap (λ (v : Stored). v.slots) c.push.ensures.added
 
-pub add_under-self-inside-requires-clause-tree : goal.add_under-self-inside-requires-clause-tree
-add_under-self-inside-requires-clause-tree c =
-    let b = (goal.at.add_under-self-inside-requires-clause-tree c).After-len-place in
-    let d = (goal.at.add_under-self-inside-requires-clause-tree c).After-push in
-    rw (c.deref_mut.ensures.value, c.in-Ok.ensures.items, slots_are d)
-    (grown_tree c.self.inside.nodes.items c.self.inside.store.slots c.self.inside.root _ _ _ c.self.invariant c.args.key.now c.args.rec.now (absent b) c.weight.ensures.not_empty (fits b) c.alone.result)
-
-pub add_under-self-inside-requires-clause-balanced : goal.add_under-self-inside-requires-clause-balanced
-add_under-self-inside-requires-clause-balanced c =
-    let b = (goal.at.add_under-self-inside-requires-clause-balanced c).After-len-place in
-    let d = (goal.at.add_under-self-inside-requires-clause-balanced c).After-push in
-    rw (c.deref_mut.ensures.value, c.in-Ok.ensures.items)
-    (grown_balanced c.self.inside.nodes.items c.self.inside.store.slots c.self.inside.root _ _ _ c.self.invariant c.args.key.now c.args.rec.now (absent b) c.weight.ensures.not_empty (fits b) c.alone.result)
-
-pub add_under-self-inside-requires-clause-new : goal.add_under-self-inside-requires-clause-new
-add_under-self-inside-requires-clause-new c =
-    let b = (goal.at.add_under-self-inside-requires-clause-new c).After-len-place in
-    let d = (goal.at.add_under-self-inside-requires-clause-new c).After-push in
+pub add_under-self-inside-requires : goal.add_under-self-inside-requires
+add_under-self-inside-requires c =
+    let b = (goal.at.add_under-self-inside-requires c).After-len-place in
+    let d = (goal.at.add_under-self-inside-requires c).After-push in
     rw (c.deref_mut.ensures.value, c.in-Ok.ensures.items, slots_are d, place_is b)
-    (grown_new c.self.inside.nodes.items c.self.inside.store.slots c.self.inside.root _ _ _ c.self.invariant c.args.key.now c.args.rec.now (absent b) c.weight.ensures.not_empty (fits b) c.alone.result)
-
-pub add_under-self-inside-requires-clause-key : goal.add_under-self-inside-requires-clause-key
-add_under-self-inside-requires-clause-key c =
-    let b = (goal.at.add_under-self-inside-requires-clause-key c).After-len-place in
-    let d = (goal.at.add_under-self-inside-requires-clause-key c).After-push in
-    rw (slots_are d, place_is b) (ap (λ (e : Key × _). e.0) (grown_entry c.self.inside.store.slots c.args.key.now c.args.rec.now))
-
-pub add_under-self-inside-requires-clause-low : goal.add_under-self-inside-requires-clause-low
-add_under-self-inside-requires-clause-low c =
-    let b = (goal.at.add_under-self-inside-requires-clause-low c).After-len-place in
-    let d = (goal.at.add_under-self-inside-requires-clause-low c).After-push in
-    rw (c.deref_mut.ensures.value, c.in-Ok.ensures.items)
-    (grown_low c.self.inside.nodes.items c.self.inside.store.slots c.self.inside.root _ _ _ c.self.invariant c.args.key.now c.args.rec.now (absent b) c.weight.ensures.not_empty (fits b) c.alone.result)
+    (record {
+      tree = grown_tree c.self.inside.nodes.items c.self.inside.store.slots c.self.inside.root _ _ _ c.self.invariant c.args.key.now c.args.rec.now (absent b) c.weight.ensures.not_empty (fits b) c.alone.result;
+      balanced = grown_balanced c.self.inside.nodes.items c.self.inside.store.slots c.self.inside.root _ _ _ c.self.invariant c.args.key.now c.args.rec.now (absent b) c.weight.ensures.not_empty (fits b) c.alone.result;
+      new = grown_new c.self.inside.nodes.items c.self.inside.store.slots c.self.inside.root _ _ _ c.self.invariant c.args.key.now c.args.rec.now (absent b) c.weight.ensures.not_empty (fits b) c.alone.result;
+      key = ap (λ (e : Key × _). e.0) (grown_entry c.self.inside.store.slots c.args.key.now c.args.rec.now);
+      low = grown_low c.self.inside.nodes.items c.self.inside.store.slots c.self.inside.root _ _ _ c.self.invariant c.args.key.now c.args.rec.now (absent b) c.weight.ensures.not_empty (fits b) c.alone.result;
+    })
 
 -- the nodes after the tree was changed: the whole lent list
 back : (n : ℕ) (after lent kept : List Node) → length after ≡ length lent → lent ≡ kept → n ≡ length kept → take n (after ++ drop (length after) kept) ≡ after

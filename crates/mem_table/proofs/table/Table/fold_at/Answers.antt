@@ -1,4 +1,4 @@
-use Rattle.std.proofs.Common.{◌≡◌, ◌≤◌, ◌<◌, [], length, Some, ◌∙◌, ap, sym, subst, refl, set, List}
+use Rattle.std.proofs.Common.{◌≡◌, ◌≤◌, ◌<◌, [], length, Some, ◌∙◌, ap, sym, subst, refl, set, List, arith}
 use Rattle.blsm_model.specs.declared.key.Key.{Key}
 use Rattle.record_delta.specs.declared.record.Rec.{Rec}
 use Rattle.record_delta.specs.Records.{weight}
@@ -7,7 +7,7 @@ use Rattle.record_delta.specs.Entries.{Entries, entries_weight, with_record}
 use Rattle.mem_table.specs.Tables.{Contents, place_in, keys_of}
 use Rattle.mem_table.specs.Ways.{entry_at, tree_entries}
 use Rattle.record_delta.specs.declared.record.Rec.TheVariants.{Tomb}
-use Rattle.mem_table.proofs.TableLemmas.{found_at, before_le, arena_folded, folded_fits, entries_folded, arrived_folded}
+use Rattle.mem_table.proofs.TableLemmas.{found_at, before_le, arena_folded, entries_folded, arrived_folded}
 use Rattle.mem_table.proofs.table.Table.fold_at.Goals as goal
 use Rattle.mem_table.proofs.table.Table.fold_at.Goals.{After-self, After-fold-folded}
 
@@ -44,9 +44,10 @@ pub set-requires-clause-fits : goal.set-requires-clause-fits
 set-requires-clause-fits c =
     let s = (goal.at.set-requires-clause-fits c).After-self in
     let b = (goal.at.set-requires-clause-fits c).After-fold-folded in
-    folded_fits c.self.inside.nodes.items c.self.inside.store.slots c.self.inside.root _ _ _ c.self.invariant c.args.key.now c.args.rec.now c.args.place (c.args.key.now, c.fold-folded.result)
+    let folded = arena_folded c.self.inside.nodes.items c.self.inside.store.slots c.self.inside.root _ _ _ c.self.invariant c.args.key.now c.args.rec.now c.args.place (c.args.key.now, c.fold-folded.result)
     c.weight-before.result c.weight.result (came s) refl (folded_is b) c.weight.ensures.not_empty (fits_inside s) (before_is b)
-    (c.weight.ensures.weight ∙ ap (weight c.args.key.now) (folded_is b))
+    (c.weight.ensures.weight ∙ ap (weight c.args.key.now) (folded_is b)) in
+    omega (arith, folded.same_weight, folded.table.fits)
 
 pub invariant_of-self : goal.invariant_of-self
 invariant_of-self c =

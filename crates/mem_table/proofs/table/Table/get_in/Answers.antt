@@ -2,7 +2,7 @@ use Rattle.std.proofs.Common.{◌≡◌, ◌-◌, ◌*◌, ◌^◌, ◌≤◌, [
 use Rattle.record_delta.specs.declared.record.Rec.{Rec}
 use Rattle.record_delta.specs.declared.record.Rec.TheVariants.{Tomb}
 use Rattle.record_delta.specs.Entries.{record_of_key}
-use Rattle.mem_table.specs.Tables.{Contents, place_in, keys_of}
+use Rattle.mem_table.specs.Tables.{Contents}
 use Rattle.mem_table.specs.Ways.{tree_entries}
 use Rattle.mem_table.proofs.TableLemmas.{tree_there, placed, found_at, recorded, absent_without, steps_few, steps_none}
 use Rattle.mem_table.proofs.table.Table.get_in.Goals as goal
@@ -12,14 +12,12 @@ find_in-requires g c = rw c.deref.ensures.value (tree_there c.self.inside.nodes.
 
 pub record_at-requires : goal.record_at-requires
 record_at-requires g c =
-    let is : c.find_in.result ≡ place_in c.args.key.now (keys_of c.self.inside.store.slots) =
-    placed c.self.inside.nodes.items c.self.inside.store.slots c.self.inside.root _ _ _ c.self.invariant c.args.key.now c.find_in.result (rw c.deref.ensures.value at c.find_in.ensures.found) (rw c.deref.ensures.value at c.find_in.ensures.absent) in
+    let is = placed c.self.inside.nodes.items c.self.inside.store.slots c.self.inside.root _ _ _ c.self.invariant c.args.key.now c.find_in.result (rw c.deref.ensures.value at c.find_in.ensures.found) (rw c.deref.ensures.value at c.find_in.ensures.absent) in
     (found_at c.self.inside.nodes.items c.self.inside.store.slots c.self.inside.root _ _ _ c.self.invariant c.args.key.now c.in-Some.place (sym is ∙ c.in-Some.is)).in_range
 
 pub returns-in-Some-clause-record : goal.returns-in-Some-clause-record
 returns-in-Some-clause-record g c =
-    let is : c.find_in.result ≡ place_in c.args.key.now (keys_of c.self.inside.store.slots) =
-    placed c.self.inside.nodes.items c.self.inside.store.slots c.self.inside.root _ _ _ c.self.invariant c.args.key.now c.find_in.result (rw c.deref.ensures.value at c.find_in.ensures.found) (rw c.deref.ensures.value at c.find_in.ensures.absent) in
+    let is = placed c.self.inside.nodes.items c.self.inside.store.slots c.self.inside.root _ _ _ c.self.invariant c.args.key.now c.find_in.result (rw c.deref.ensures.value at c.find_in.ensures.found) (rw c.deref.ensures.value at c.find_in.ensures.absent) in
     let there = recorded c.self.inside.nodes.items c.self.inside.store.slots c.self.inside.root _ _ _ c.self.invariant c.args.key.now c.in-Some.place ([], Tomb) (sym is ∙ c.in-Some.is) in
     rw (← c.self.view_is, there) (ap (λ (r : Rec). Some r) (c.record_at.ensures ([], Tomb)))
 

@@ -1,5 +1,5 @@
 use Rattle.std.proofs.Common.{◌∙◌, ◌≡◌, ◌+◌, ℕ, refl, subst, arith}
-use Rattle.disk_trait.specs.Effects.{affects_length}
+use Rattle.disk_trait.proofs.EffectLemmas.{affects_length}
 use Rattle.disk_mem.specs.Recorded.{told}
 use Rattle.blsm_model.specs.declared.component.Component.{Component}
 use Rattle.page_space.specs.Space.{role_size}

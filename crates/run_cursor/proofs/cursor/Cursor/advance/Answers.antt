@@ -1,6 +1,6 @@
 use Rattle.std.proofs.Common.{◌≡◌, ◌<◌, ◌≤◌, ◌∙◌, [], Err, refl, ap, sym, subst, arith}
 use Rattle.std.proofs.lemmas.Result.{err_from_is_err_and}
-use Rattle.disk_trait.specs.Reads.{only_reads_start}
+use Rattle.disk_trait.proofs.ReadLemmas.{only_reads_start}
 use Rattle.blsm_model.specs.Geometry.{page_count}
 use Rattle.blsm_model.specs.Components.{no_page}
 use Rattle.run_cursor.specs.Cursor.{CursorState, seen, IsStepped}

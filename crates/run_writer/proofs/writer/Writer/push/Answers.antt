@@ -1,5 +1,5 @@
 use Rattle.std.proofs.Common.{◌≡◌, ◌∙◌, ◌≤◌, sym, ap, subst, Some, Bool, [], ◌∷◌, ◌++◌, inl, arith}
-use Rattle.disk_trait.specs.Region.{same_wider}
+use Rattle.disk_trait.proofs.RegionLemmas.{same_wider}
 use Rattle.bloom_bits.specs.Fences.{FencesState}
 use Rattle.record_delta.specs.Entries.{Entries}
 use Rattle.record_delta.specs.Records.{weight}

@@ -1,5 +1,5 @@
 use Rattle.std.proofs.Common.{◌<◌, arith, ap, subst}
-use Rattle.disk_trait.specs.Effects.{affects_wider}
+use Rattle.disk_trait.proofs.EffectLemmas.{affects_wider}
 use Rattle.page_file.specs.File.{page_region}
 use Rattle.run_writer.specs.Writer.{WriterState}
 use Rattle.run_writer.proofs.writer.Writer.write_open.Goals as goal

@@ -1,20 +1,16 @@
-use Rattle.std.proofs.Common.{◌∙◌, Option, Some, Ok, Err, ap, sym, subst}
-use Rattle.std.proofs.lemmas.Result.{err_from_is_err_and}
+use Rattle.std.proofs.Common.{◌∙◌, Option, Some, Ok, ap, sym, subst}
 use Rattle.blsm_model.specs.declared.key.Key.{Key}
 use Rattle.record_delta.specs.Entries.{above, first_of}
-use Rattle.page_file.specs.declared.file.Broken.TheVariants.{Damaged}
 use Rattle.scan_view.specs.Hold.{view_of}
 use Rattle.scan_view.specs.Scan.{IsScan, HaveRead}
-use Rattle.scan_view.proofs.LeftLemmas.{fault_is, not_both, calm_of, same_error}
+use Rattle.scan_view.proofs.LeftLemmas.{not_failed, failed_as, calm_of}
 use Rattle.scan_view.proofs.ReadLemmas.{scan_read_further}
 use Rattle.scan_view.proofs.ScanLemmas.{scan_further}
 use Rattle.scan_view.proofs.scan.Scan.next.Goals as goal
 
 pub returns-in_err-seek_all-clause-list : goal.returns-in_err-seek_all-clause-list
 returns-in_err-seek_all-clause-list g c = λ file xs ys zs is scan other.
-    let p = err_from_is_err_and c.from_residual.result c.from_residual.ensures.1 in
-    let came = c.seek_all.ensures.list file xs ys zs is scan (λ fault. other (p.1 ∙ ap Err (p.2 ∙ fault_is c.seek_all.result c.in_err-seek_all.field-0.0 c.in_err-seek_all.was fault))) in
-    absurd (not_both c.seek_all.result tt c.in_err-seek_all.field-0.0 c.in_err-seek_all.was came.0)
+    absurd (not_failed c.from_residual.ensures.1 c.in_err-seek_all.was other (λ calm. (c.seek_all.ensures.list file xs ys zs is scan calm).0))
 
 pub returns-in_default-clause-list : goal.returns-in_default-clause-list
 returns-in_default-clause-list g c = λ file xs ys zs is scan other.
@@ -58,6 +54,4 @@ returns-clause-read g c = λ file run run_x run_2 read is have.
 
 pub returns-in_err-seek_all-clause-damaged : goal.returns-in_err-seek_all-clause-damaged
 returns-in_err-seek_all-clause-damaged g c = λ k file run run_x run_2 read damaged is have.
-    let p = err_from_is_err_and c.from_residual.result c.from_residual.ensures.1 in
-    let broken = same_error p.0 (Damaged k) (sym p.1 ∙ damaged) in
-    c.seek_all.ensures.damaged k file run run_x run_2 read (c.in_err-seek_all.was ∙ ap Err (sym p.2 ∙ broken)) is have
+    c.seek_all.ensures.damaged k file run run_x run_2 read (failed_as c.from_residual.ensures.1 c.in_err-seek_all.was damaged) is have

@@ -1,27 +1,19 @@
-use Rattle.std.proofs.Common.{◌∙◌, ◌+◌, Err, inl, inr, ap, sym, arith}
-use Rattle.std.proofs.lemmas.Result.{err_from_is_err_and}
-use Rattle.page_file.specs.declared.file.Broken.TheVariants.{Damaged}
-use Rattle.scan_view.proofs.LeftLemmas.{fault_is, not_both, calm_of, same_error, file_on, reads_after, reads_err, map_ok}
+use Rattle.std.proofs.Common.{◌∙◌, ◌+◌, inl, inr, arith}
+use Rattle.std.proofs.lemmas.Result.{on_ok_weaker}
+use Rattle.scan_view.proofs.LeftLemmas.{not_failed, failed_as, calm_of, file_on, reads_after, reads_err}
 use Rattle.scan_view.proofs.scan.Scan.seek_all.Goals as goal
 
 pub returns-in_err-seek-clause-list : goal.returns-in_err-seek-clause-list
-returns-in_err-seek-clause-list g c = λ file xs ys zs is scan other.
-    let p = err_from_is_err_and c.from_residual.result c.from_residual.ensures.1 in
-    let came = c.seek.ensures.list file xs is scan.c1 (λ fault. other (p.1 ∙ ap Err (p.2 ∙ fault_is c.seek.result c.in_err-seek.field-0.0 c.in_err-seek.was fault))) in
-    absurd (not_both c.seek.result tt c.in_err-seek.field-0.0 c.in_err-seek.was came.0)
+returns-in_err-seek-clause-list g c = λ file xs ys zs is scan other. absurd (not_failed c.from_residual.ensures.1 c.in_err-seek.was other (λ calm. (c.seek.ensures.list file xs is scan.c1 calm).0))
 
 pub returns-in_err-seek-2-clause-list : goal.returns-in_err-seek-2-clause-list
 returns-in_err-seek-2-clause-list g c = λ file xs ys zs is scan other.
-    let p = err_from_is_err_and c.from_residual-in_err-seek-2.result c.from_residual-in_err-seek-2.ensures.1 in
-    let came = c.seek-2.ensures.list file ys (file_on c.seek.ensures.reads.effect is) scan.c1x
-    (λ fault. other (p.1 ∙ ap Err (p.2 ∙ fault_is c.seek-2.result c.in_err-seek-2.field-0.0 c.in_err-seek-2.was fault))) in
-    absurd (not_both c.seek-2.result tt c.in_err-seek-2.field-0.0 c.in_err-seek-2.was came.0)
+    absurd (not_failed c.from_residual-in_err-seek-2.ensures.1 c.in_err-seek-2.was other (λ calm. (c.seek-2.ensures.list file ys (file_on c.seek.ensures.reads.effect is) scan.c1x calm).0))
 
 pub returns-in_err-seek-2-clause-reads : goal.returns-in_err-seek-2-clause-reads
 returns-in_err-seek-2-clause-reads g c =
     let total = c.args.self.now.c1.pages + c.args.self.now.c1x.pages + c.args.self.now.c2.pages in
-    let p = err_from_is_err_and c.from_residual-in_err-seek-2.result c.from_residual-in_err-seek-2.ensures.1 in
-    reads_err c.seek-2.result c.from_residual-in_err-seek-2.result c.in_err-seek-2.field-0.0 c.in_err-seek-2.was (p.1 ∙ ap Err p.2)
+    reads_err c.from_residual-in_err-seek-2.ensures.1 c.in_err-seek-2.was
     (reads_after total (g.met.D.Disk.timed c.seek.new.disk) (c.seek.ensures.reads.stands (calm_of c.seek.result tt c.in_ok-seek.was)) c.seek.ensures.reads.effect c.seek-2.ensures.reads
     (omega (arith, c.in_ok-seek.ensures.one_a_page, c.seek-2.ensures.reads.effect.effect.calls)))
 
@@ -41,7 +33,7 @@ returns-clause-read g c = λ file run run_x run_2 read is have.
     let is_mid = file_on c.seek.ensures.reads.effect is in
     let first = c.in_ok-seek.ensures.read file run read.c1 is have.c1 in
     let second = c.in_ok-seek-2.ensures.read file run_x read.c1x is_mid have.c1x in
-    map_ok c.seek-3.result (λ third. (
+    on_ok_weaker c.seek-3.result (λ third. (
       record {
         now = record { c1 = first.0.now; c1x = second.0.now; c2 = third.0.now };
         read = record { c1 = first.0.read; c1x = second.0.read; c2 = third.0.read };
@@ -52,15 +44,11 @@ returns-clause-read g c = λ file run run_x run_2 read is have.
 
 pub returns-in_err-seek-clause-damaged : goal.returns-in_err-seek-clause-damaged
 returns-in_err-seek-clause-damaged g c = λ k file run run_x run_2 read damaged is have.
-    let p = err_from_is_err_and c.from_residual.result c.from_residual.ensures.1 in
-    let broken = same_error p.0 (Damaged k) (sym p.1 ∙ damaged) in
-    inl (c.seek.ensures.damaged k file run read.c1 (c.in_err-seek.was ∙ ap Err (sym p.2 ∙ broken)) is have.c1)
+    inl (c.seek.ensures.damaged k file run read.c1 (failed_as c.from_residual.ensures.1 c.in_err-seek.was damaged) is have.c1)
 
 pub returns-in_err-seek-2-clause-damaged : goal.returns-in_err-seek-2-clause-damaged
 returns-in_err-seek-2-clause-damaged g c = λ k file run run_x run_2 read damaged is have.
-    let p = err_from_is_err_and c.from_residual-in_err-seek-2.result c.from_residual-in_err-seek-2.ensures.1 in
-    let broken = same_error p.0 (Damaged k) (sym p.1 ∙ damaged) in
-    inr (inl (c.seek-2.ensures.damaged k file run_x read.c1x (c.in_err-seek-2.was ∙ ap Err (sym p.2 ∙ broken)) (file_on c.seek.ensures.reads.effect is) have.c1x))
+    inr (inl (c.seek-2.ensures.damaged k file run_x read.c1x (failed_as c.from_residual-in_err-seek-2.ensures.1 c.in_err-seek-2.was damaged) (file_on c.seek.ensures.reads.effect is) have.c1x))
 
 pub returns-clause-damaged : goal.returns-clause-damaged
 returns-clause-damaged g c = λ k file run run_x run_2 read damaged is have.

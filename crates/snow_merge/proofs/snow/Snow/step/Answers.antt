@@ -1,6 +1,6 @@
 use Rattle.std.proofs.Common.{rules, ◌≡◌, ◌∙◌, ◌+◌, ◌≤◌, ℕ, Bool, true, [], ◌∷◌, ◌++◌, Option, Some, None, Ok, Err, refl, ap, sym, subst, inl, inr, arith}
 use Rattle.std.proofs.lemmas.Result.{err_from_is_err_and}
-use Rattle.disk_trait.specs.Reads.{only_reads_same}
+use Rattle.disk_trait.proofs.ReadLemmas.{only_reads_same}
 use Rattle.blsm_model.specs.declared.key.Key.{Key}
 use Rattle.record_delta.specs.Entries.{Entries, entries_weight, first_of, folded_over, above, up_to}
 use Rattle.page_file.specs.Entry.{AreRising}

@@ -2,7 +2,7 @@ use Rattle.std.specs.Prelude.{◌≡◌, ℕ, ◌+◌, ◌≤◌, List, [], ◌�
 use Rattle.std.proofs.Common.{◌∙◌, ap, sym, subst, arith}
 use Rattle.std.proofs.Math.Seq.{take-suc, take-length}
 use Rattle.std.proofs.lemmas.List.Elements.{filter-append}
-use Rattle.disk_trait.specs.Moments.{goes_on_start, goes_on_run}
+use Rattle.disk_trait.proofs.MomentLemmas.{goes_on_start, goes_on_run}
 use Rattle.tree_machine.specs.declared.step.Step.{Step}
 use Rattle.tree_core.specs.Steps.{IsPlayed, admits_fit, those_that_fit}
 use Rattle.tree_core.proofs.PlayLemmas.{none_is_played, both_are_played}

@@ -35,15 +35,15 @@ returns-in-Release-clause-played g c = λ opening m pace honest whole.
 pub returns-in-Release-clause-lasts : goal.returns-in-Release-clause-lasts
 returns-in-Release-clause-lasts g c = λ start since. c.drop_hold.ensures.goes.lasts start since
 
-pub returns-in-Get-clause-played : goal.returns-in-Get-clause-played
-returns-in-Get-clause-played g c = λ opening m pace honest whole.
-    played_by g.D.Disk.state opening c.args.step.now (kind.Get c.in-Get.key) _ c.args.self.now c.get.new.self m pace c.in-Get.is c.requires.may c.get.ensures.reads.effect.goes_on whole (λ may. c.get.ensures.goes.steps opening m pace honest whole)
+pub returns-in-Look-clause-played : goal.returns-in-Look-clause-played
+returns-in-Look-clause-played g c = λ opening m pace honest whole.
+    played_by g.D.Disk.state opening c.args.step.now (kind.Look c.in-Look.op) _ c.args.self.now c.look.new.self m pace c.in-Look.is c.requires.may c.look.ensures.1.reads.effect.goes_on whole (λ may. c.look.ensures.1.goes.steps opening m pace honest whole)
 
-pub returns-in-Get-clause-goes_on : goal.returns-in-Get-clause-goes_on
-returns-in-Get-clause-goes_on g c = c.get.ensures.reads.effect.goes_on
+pub returns-in-Look-clause-goes_on : goal.returns-in-Look-clause-goes_on
+returns-in-Look-clause-goes_on g c = c.look.ensures.1.reads.effect.goes_on
 
-pub returns-in-Get-clause-lasts : goal.returns-in-Get-clause-lasts
-returns-in-Get-clause-lasts g c = λ start since. c.get.ensures.goes.lasts start since
+pub returns-in-Look-clause-lasts : goal.returns-in-Look-clause-lasts
+returns-in-Look-clause-lasts g c = λ start since. c.look.ensures.1.goes.lasts start since
 
 pub returns-in-WorkEnd-clause-goes_on : goal.returns-in-WorkEnd-clause-goes_on
 returns-in-WorkEnd-clause-goes_on g c = goes_still g.D.Disk.state c.work_end.ensures.untouched

@@ -1,6 +1,6 @@
 use Rattle.std.proofs.Common.{◌∙◌, ◌+◌, ℕ, List, Err, IsTrue, ap, sym, subst, refl, arith}
 use Rattle.std.proofs.lemmas.Result.{err_from_is_err_and}
-use Rattle.disk_trait.specs.Reads.{only_reads_same}
+use Rattle.disk_trait.proofs.ReadLemmas.{only_reads_same}
 use Rattle.catalog_swap.specs.declared.catalog.Catalog.{Catalog}
 use Rattle.page_file.specs.Component.{ReadsAs}
 use Rattle.tree_runs.specs.Holding.{IsGuidedBy, KeepsOtherGuides}

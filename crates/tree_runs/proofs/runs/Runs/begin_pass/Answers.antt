@@ -1,12 +1,14 @@
-use Rattle.std.proofs.Common.{rules, ◌∙◌, ◌≡◌, ℕ, Option, Some, None, ap, sym, subst, refl}
+use Rattle.std.proofs.Common.{arith}
+use Rattle.std.proofs.lemmas.Bool.Decides.{nat_tests}
+use Rattle.std.proofs.lemmas.Grind.{common_steps}
+use Rattle.std.proofs.Common.{rules, ◌∙◌, ◌≡◌, ℕ, Some, None, ap, sym, subst}
 use Rattle.std.specs.Prelude.{List}
 use Rattle.blsm_model.specs.declared.component.Component.{Component}
 use Rattle.blsm_model.specs.Sizes.{Sizes}
 use Rattle.catalog_swap.specs.declared.catalog.Catalog.{Catalog}
-use Rattle.page_space.specs.Space.{IsWithin}
 use Rattle.page_file.specs.Component.{ReadsAs}
 use Rattle.snow_merge.specs.Pass.{SnowState, started}
-use Rattle.tree_runs.specs.Runs.{GuideState, RunsState, AreGuides, AreRuns, AreRunning, DeepRuns, IsHeld, PassRuns, guide_at, made_by_pass, pages_in_use, page_share}
+use Rattle.tree_runs.specs.Runs.{GuideState, RunsState, AreGuides, AreRuns, AreRunning, DeepRuns, PassRuns, guide_at}
 use Rattle.tree_runs.specs.Holding.{AreOf, IsDeepOver, IsPassOver, KeepsOtherGuides}
 use Rattle.tree_runs.proofs.GuideLemmas.{all_guided_still}
 use Rattle.tree_runs.proofs.KeptMerges.{elsewhere}
@@ -16,25 +18,7 @@ abbrev begun_with : RunsState → SnowState → List GuideState → RunsState
 begun_with runs snow guides = record runs { pass = Some snow; guides = guides }
 
 runs_begun : (runs : RunsState) (guides : List GuideState) → runs.pass ≡ None → AreRuns runs → AreGuides runs.sizes guides → AreRuns (begun_with runs (started runs.tags.pass runs.catalogue.c1) guides)
-runs_begun runs guides rests are reserved = record {
-  geometry = are.geometry;
-  pages = are.pages;
-  shape = are.shape;
-  tags = are.tags;
-  one_tag = are.one_tag;
-  c1 = are.c1;
-  c1x = are.c1x;
-  c2 = are.c2;
-  pass = subst (λ (p : Option SnowState). IsHeld runs.space runs.tags.pass (made_by_pass p)) rests are.pass;
-  deep = are.deep;
-  pass_tag = refl;
-  deep_tag = are.deep_tag;
-  rests = are.rests;
-  pass_unpinned = are.pass_unpinned;
-  deep_unpinned = are.deep_unpinned;
-  within = subst (λ (p : Option SnowState). IsWithin (pages_in_use (record runs { pass = p })) (page_share runs.sizes) runs.space) rests are.within;
-  guides = reserved;
-}
+runs_begun runs guides rests are reserved = grind (arith, common_steps, nat_tests)
 
 pub returns-clause-begun : goal.returns-clause-begun
 returns-clause-begun c = search rules

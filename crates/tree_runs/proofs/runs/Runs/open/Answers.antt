@@ -1,14 +1,15 @@
-use Rattle.std.proofs.Common.{rules, ◌≡◌, ◌∙◌, ℕ, Bool, true, false, Option, Some, None, sym, subst, ap, refl, arith}
-use Rattle.std.specs.Prelude.{List, if◌then◌else◌, nat_eq}
+use Rattle.std.proofs.lemmas.Bool.Decides.{nat_tests}
+use Rattle.std.proofs.lemmas.Grind.{common_steps}
+use Rattle.std.proofs.Common.{rules, ◌≡◌, ◌∙◌, ℕ, Bool, true, Option, Some, None, sym, subst, ap, arith}
+use Rattle.std.specs.Prelude.{List, if◌then◌else◌}
 use Rattle.std.proofs.lemmas.Bool.{eqb-true}
 use Rattle.blsm_model.specs.Components.{empty_component}
 use Rattle.blsm_model.specs.Sizes.{Sizes}
-use Rattle.blsm_model.specs.declared.component.Component.{Component}
 use Rattle.catalog_swap.specs.declared.catalog.Catalog.{Catalog}
 use Rattle.page_space.specs.Space.{SpaceState}
 use Rattle.page_file.specs.Component.{ReadsAs}
 use Rattle.deep_merge.specs.Merge.{DeepState, started}
-use Rattle.tree_runs.specs.Runs.{GuideState, RunsState, AreGuides, AreRead, AreRuns, AreRunning, AreTags, DeepHasTag, DeepRuns, IsHeld, RestsEmpty, due_deep, due_guides, first_tags, guide_at, made_by_deep, opened}
+use Rattle.tree_runs.specs.Runs.{GuideState, RunsState, AreGuides, AreRead, AreRuns, AreRunning, AreTags, DeepHasTag, DeepRuns, RestsEmpty, due_deep, due_guides, first_tags, guide_at, made_by_deep, opened}
 use Rattle.tree_runs.specs.Holding.{AreGuided, AreOf, IsDeepOver, KeepsOtherGuides}
 use Rattle.tree_runs.proofs.GuideLemmas.{all_guided_still}
 use Rattle.tree_runs.proofs.InstallLemmas.{nothing_held}
@@ -17,23 +18,7 @@ use Rattle.tree_runs.proofs.PinLemmas.{none_pinned}
 use Rattle.tree_runs.proofs.runs.Runs.open.Goals as goal
 
 are_tags : AreTags first_tags
-are_tags = record {
-  c1_below = omega arith;
-  c1x_below = omega arith;
-  c2_below = omega arith;
-  pass_below = omega arith;
-  deep_below = omega arith;
-  c1_c1x = omega arith;
-  c1_c2 = omega arith;
-  c1_pass = omega arith;
-  c1_deep = omega arith;
-  c1x_c2 = omega arith;
-  c1x_pass = omega arith;
-  c1x_deep = omega arith;
-  c2_pass = omega arith;
-  c2_deep = omega arith;
-  pass_deep = omega arith;
-}
+are_tags = grind (arith, common_steps, nat_tests)
 
 -- ---- the merge that begins, whether it does or not
 
@@ -41,49 +26,19 @@ abbrev begun : Bool → ℕ → Catalog → Option DeepState
 begun rests tag catalogue = if rests then None else Some (started tag catalogue.c1x catalogue.c2)
 
 made_none : (rests : Bool) (tag : ℕ) (catalogue : Catalog) → made_by_deep (begun rests tag catalogue) ≡ empty_component
-made_none true tag catalogue = refl
-made_none false tag catalogue = refl
+made_none rests tag catalogue = grind (arith, common_steps, nat_tests)
 
 begun_tag : (rests : Bool) (tag : ℕ) (catalogue : Catalog) → DeepHasTag tag (begun rests tag catalogue)
-begun_tag true tag catalogue = tt
-begun_tag false tag catalogue = refl
+begun_tag rests tag catalogue = grind (arith, common_steps, nat_tests)
 
 begun_empty : (rests : Bool) (tag : ℕ) (catalogue : Catalog) → (rests ≡ true → catalogue.c1x ≡ empty_component) → RestsEmpty (begun rests tag catalogue) catalogue.c1x
-begun_empty true tag catalogue empty = empty refl
-begun_empty false tag catalogue empty = tt
+begun_empty rests tag catalogue empty = grind (arith, common_steps, nat_tests)
 
 -- ---- what the components keep from their opening on
 
 runs_opened : (sizes : Sizes) (catalogue : Catalog) (space : SpaceState) (guides : List GuideState) → AreRead sizes catalogue space → AreGuides sizes (due_guides sizes catalogue guides)
     → AreRuns (opened sizes catalogue space guides)
-runs_opened sizes catalogue space guides read reserved = record {
-  geometry = read.geometry;
-  pages = read.pages;
-  shape = read.shape;
-  tags = are_tags;
-  one_tag = read.one_tag;
-  c1 = read.c1;
-  c1x = read.c1x;
-  c2 = read.c2;
-  pass = nothing_held space 3 read.pass;
-  deep = subst (λ (k : Component). IsHeld space 4 k) (sym none) (nothing_held space 4 read.deep);
-  pass_tag = tt;
-  deep_tag = begun_tag rests 4 catalogue;
-  rests = begun_empty rests 4 catalogue (λ is. read.c1x.filled.none (eqb-true catalogue.c1x.pages 0 is));
-  pass_unpinned = none_pinned space 3 read.shape read.no_pins;
-  deep_unpinned = none_pinned space 4 read.shape read.no_pins;
-  within = record {
-    roles = omega (arith, read.c1.size, read.c1x.size, read.c2.size, read.pass, read.deep);
-    seats = λ seat below. omega (arith, read.no_pins seat below);
-  };
-  guides = reserved;
-}
-  where
-    rests : Bool
-    rests = nat_eq catalogue.c1x.pages 0
-
-    none : made_by_deep (due_deep 4 catalogue) ≡ empty_component
-    none = made_none rests 4 catalogue
+runs_opened sizes catalogue space guides read reserved = grind (arith, common_steps, nat_tests, are_tags, nothing_held, made_none, begun_tag, begun_empty, none_pinned, eqb-true)
 
 pub returns-clause-opened : goal.returns-clause-opened
 returns-clause-opened c = search rules

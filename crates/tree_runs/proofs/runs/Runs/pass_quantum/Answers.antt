@@ -1,9 +1,8 @@
-use Rattle.std.proofs.Common.{rules, ◌≡◌, ◌/◌, ◌+◌, Option, Some, OnOk, sym, subst, refl, arith}
+use Rattle.std.proofs.Common.{rules, ◌≡◌, ◌/◌, ◌+◌, Option, Some, OnOk, ◌∙◌, ap, sym, subst, refl, arith}
 use Rattle.std.specs.Prelude.{List, slice_set}
-use Rattle.disk_trait.specs.Effects.{affects_wider}
+use Rattle.disk_trait.proofs.EffectLemmas.{affects_wider}
 use Rattle.blsm_model.specs.Sizes.{Sizes}
 use Rattle.blsm_model.specs.Geometry.{capacity}
-use Rattle.page_space.specs.Space.{SpaceState}
 use Rattle.merge_ends.specs.Quantum.{Works}
 use Rattle.merge_ends.specs.Progress.{MayGoOn, stage}
 use Rattle.snow_merge.specs.Pass.{SnowState, progress_of_pass}
@@ -23,19 +22,14 @@ quantum-taken-requires-clause-runs g c =
     let now = c.args.self.now in
     let d = g.D.Disk.state c.args.disk.now in
     let order = c.requires.running.in_order in
-    let merge_is : now.pass ≡ Some c.in-Some.snow = search rules in
-    let had : c.self.inside.guides.items ≡ now.guides = search rules in
-    let number : c.number.result ≡ now.tags.pass = search rules in
-    let was = guide_named order.guides had number c.number.ensures.in_range c.guide.view_is c.index_mut-guide.ensures.value in
-    let running = subst (λ (o : Option SnowState). PassRuns now.sizes d.is_honest d.bytes now.space (guide_at now.guides now.tags.pass) o) merge_is c.requires.running.pass in
-    let sizes : c.self.inside.geometry ≡ now.sizes = search rules in
-    let space : c.self.inside.space ≡ now.space = search rules in
-    let room = pass_has_room now c.in-Some.snow c.args.a.now.entries merge_is order c.requires.fits in
-    let fits = pages_within (c.in-Some.snow.writer.component.weight + left_for_pass (Some c.in-Some.snow) c.args.a.now.entries) (capacity now.sizes) (pass_light now c.in-Some.snow c.args.a.now.entries merge_is c.requires.fits) in
+    let is : now.pass ≡ Some c.in-Some.snow = search rules in
+    let was = guide_named c.requires.running.in_order.guides.five (ap (λ (s : RunsState). s.guides) c.self.view_is) (c.number.ensures.number ∙ ap (λ (s : RunsState). s.tags.pass) c.self.view_is) c.number.ensures.in_range c.guide.view_is c.index_mut-guide.ensures.value in
+    let running = subst (λ (o : Option SnowState). PassRuns now.sizes d.is_honest d.bytes now.space (guide_at now.guides now.tags.pass) o) is c.requires.running.pass in
+    let room = pass_has_room now c.in-Some.snow c.args.a.now.entries is order c.requires.fits in
+    let fits = pages_within (c.in-Some.snow.writer.component.weight + left_for_pass (Some c.in-Some.snow) c.args.a.now.entries) (capacity now.sizes) (pass_light now c.in-Some.snow c.args.a.now.entries is c.requires.fits) in
     subst (λ (r : GuideState). MayGoOn c.self.inside.geometry (stage (progress_of_pass c.in-Some.snow c.args.a.now.entries) c.self.inside.space r.filter r.fences d)) (sym was)
-    (subst (λ (s : Sizes). MayGoOn s (stage (progress_of_pass c.in-Some.snow c.args.a.now.entries) c.self.inside.space (guide_at now.guides now.tags.pass).filter (guide_at now.guides now.tags.pass).fences d)) (sym sizes)
-    (subst (λ (s : SpaceState). MayGoOn now.sizes (stage (progress_of_pass c.in-Some.snow c.args.a.now.entries) s (guide_at now.guides now.tags.pass).filter (guide_at now.guides now.tags.pass).fences d)) (sym space)
-    (record { running = running; fences_fit = omega (arith, fits, (order.guides.each now.tags.pass order.tags.pass_below).pages); room = room })))
+    (subst (λ (s : RunsState). MayGoOn s.sizes (stage (progress_of_pass c.in-Some.snow c.args.a.now.entries) s.space (guide_at now.guides now.tags.pass).filter (guide_at now.guides now.tags.pass).fences d)) (sym c.self.view_is)
+    (record { running = running; fences_fit = omega (arith, fits, (order.guides.each now.tags.pass order.tags.pass_below).pages); room = room }))
 
 -- ---- what it ends with
 
@@ -43,10 +37,7 @@ pass_is : (g : _) (c : After-pages-pages g) → c.args.self.now.pass ≡ Some c.
 pass_is g c = search rules
 
 guide_was : (g : _) (c : After-pages-pages g) → ◌≡◌ {A = GuideState} (record { filter = c.guide.inside.filter; fences = c.guide.inside.fences }) (guide_at c.args.self.now.guides c.args.self.now.tags.pass)
-guide_was g c =
-    let had : c.self.inside.guides.items ≡ c.args.self.now.guides = search rules in
-    let number : c.number.result ≡ c.args.self.now.tags.pass = search rules in
-    guide_named c.requires.running.in_order.guides had number c.number.ensures.in_range c.guide.view_is c.index_mut-guide.ensures.value
+guide_was g c = guide_named c.requires.running.in_order.guides.five (ap (λ (s : RunsState). s.guides) c.self.view_is) (c.number.ensures.number ∙ ap (λ (s : RunsState). s.tags.pass) c.self.view_is) c.number.ensures.in_range c.guide.view_is c.index_mut-guide.ensures.value
 
 abbrev guide_after : (g : _) (c : After-pages-pages g) → GuideState
 guide_after g c = record { filter = c.quantum-taken.new.filter; fences = c.quantum-taken.new.fences }
@@ -56,10 +47,8 @@ guides_after g c = slice_set c.self.inside.guides.items c.number.result (guide_a
 
 writes : (g : _) (c : After-pages-pages g) → WritesGuide c.args.self.now.sizes c.args.self.now.tags.pass c.args.self.now.guides (guides_after g c) (guide_after g c)
 writes g c =
-    let had : c.self.inside.guides.items ≡ c.args.self.now.guides = search rules in
-    let number : c.number.result ≡ c.args.self.now.tags.pass = search rules in
     let kept = c.quantum-taken.ensures.numbers.reserves in
-    writes_guide c.requires.running.in_order.guides had number c.number.ensures.in_range (guide_after g c) (guide_was g c) kept.bits kept.fences_are
+    writes_guide _ (guide_after g c) c.requires.running.in_order.guides (ap (λ (s : RunsState). s.guides) c.self.view_is) (c.number.ensures.number ∙ ap (λ (s : RunsState). s.tags.pass) c.self.view_is) c.number.ensures.in_range (guide_was g c) kept.bits kept.fences_are
 
 quantum_is : (g : _) (c : After-pages-pages g) → PassQuantum c.args.self.now.sizes c.args.self.now.space c.quantum-taken.new.space (guide_at c.args.self.now.guides c.args.self.now.tags.pass) (guide_after g c)
     c.in-Some.snow c.quantum-taken.new.self c.args.a.now.entries c.quantum-taken.result (g.D.Disk.state c.args.disk.now) (g.D.Disk.state c.quantum-taken.new.disk)
@@ -67,15 +56,9 @@ quantum_is g c =
     let now = c.args.self.now in
     let old = g.D.Disk.state c.args.disk.now in
     let new = g.D.Disk.state c.quantum-taken.new.disk in
-    let sizes : c.self.inside.geometry ≡ now.sizes = search rules in
-    let space : c.self.inside.space ≡ now.space = search rules in
     subst (λ (r : GuideState). PassQuantum now.sizes now.space c.quantum-taken.new.space r (guide_after g c) c.in-Some.snow c.quantum-taken.new.self c.args.a.now.entries c.quantum-taken.result old new) (guide_was g c)
-    (subst (λ (s : Sizes). PassQuantum s now.space c.quantum-taken.new.space (record { filter = c.guide.inside.filter; fences = c.guide.inside.fences }) (guide_after g c) c.in-Some.snow c.quantum-taken.new.self c.args.a.now.entries c.quantum-taken.result old new) sizes
-    (subst (λ (s : SpaceState). PassQuantum c.self.inside.geometry s c.quantum-taken.new.space (record { filter = c.guide.inside.filter; fences = c.guide.inside.fences }) (guide_after g c) c.in-Some.snow c.quantum-taken.new.self c.args.a.now.entries c.quantum-taken.result old new) space
-    (record {
-      took = c.quantum-taken.ensures.pass;
-      on = c.quantum-taken.ensures.numbers;
-    })))
+    (subst (λ (s : RunsState). PassQuantum s.sizes s.space c.quantum-taken.new.space (record { filter = c.guide.inside.filter; fences = c.guide.inside.fences }) (guide_after g c) c.in-Some.snow c.quantum-taken.new.self c.args.a.now.entries c.quantum-taken.result old new) c.self.view_is
+    (record { took = c.quantum-taken.ensures.pass; on = c.quantum-taken.ensures.numbers }))
 
 works_are : (g : _) (c : After-pages-pages g) → Works c.args.self.now.sizes c.args.self.now.tags.pass (c.args.self.now.sizes.quantum / 7 + 2) c.args.self.now.space c.quantum-taken.new.space
     (g.D.Disk.state c.args.disk.now) (g.D.Disk.state c.quantum-taken.new.disk)

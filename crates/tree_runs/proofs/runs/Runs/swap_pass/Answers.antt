@@ -3,24 +3,28 @@ use Rattle.std.specs.Prelude.{is_ok}
 use Rattle.std.proofs.lemmas.Result.{err_from_is_err_and}
 use Rattle.std.proofs.lemmas.Bool.{false≢true, le-leb, lt-leb}
 use Rattle.disk_trait.specs.Disk.{TellsFaults}
-use Rattle.disk_trait.specs.Effects.{Affects, affects_wider}
+use Rattle.disk_trait.specs.Effects.{Affects}
+use Rattle.disk_trait.proofs.EffectLemmas.{affects_wider}
 use Rattle.blsm_model.specs.declared.component.Component.{Component}
 use Rattle.blsm_model.specs.Sizes.{Sizes}
 use Rattle.blsm_model.specs.Geometry.{file_length}
-use Rattle.catalog_swap.specs.declared.catalog.Catalog.{Catalog}
+use Rattle.scan_view.specs.Pins.{beside_pins}
 use Rattle.record_delta.specs.Entries.{folded_over}
 use Rattle.page_file.specs.Component.{entries_of}
 use Rattle.snow_merge.specs.Pass.{SnowState}
-use Rattle.tree_file.specs.Tree.{HoldsTree}
+use Rattle.tree_file.specs.Tree.{Tree, HoldsTree}
 use Rattle.tree_file.specs.Places.{with_pass, StandsOn}
 use Rattle.tree_runs.specs.Runs.{RunsState, PassRuns, DeepRuns, guide_at, made_by_pass}
-use Rattle.tree_runs.specs.Holding.{AreTagged, IsDeepOver, IsGuidedBy, IsPassSwapped, with_pass_run, is_full}
-use Rattle.tree_runs.specs.Holding.{commit_region}
+use Rattle.tree_runs.specs.Holding.{AreTagged, IsDeepOver, IsGuidedBy, with_pass_run, is_full}
+use Rattle.tree_runs.specs.Holding.{StandOver, commit_region, swap_region}
 use Rattle.tree_runs.proofs.PinLemmas.{run_beside, swap_beside}
 use Rattle.tree_runs.proofs.KeptMerges.{deep_runs_still, deep_over_still}
-use Rattle.tree_runs.proofs.SwapLemmas.{pass_tag, stands_finished, leaves_swapped, leaves_unswapped, swap_effect, swap_keeps, swap_pages, one_page, one_page_entries}
-use Rattle.tree_runs.proofs.Swapped.{Switches, IsFinished, next_version, pass_becomes, pass_swapped, pass_tree, version_of_next}
+use Rattle.tree_runs.proofs.QuantumLemmas.{pass_is_run}
+use Rattle.tree_runs.proofs.SwapLemmas.{stands_finished, leaves_swapped, leaves_unswapped, swap_effect, swap_keeps, swap_pages, one_page, one_page_entries}
+use Rattle.tree_runs.proofs.Swapped.{Switches, IsFinished, PassCommitted, next_version, pass_becomes, pass_swapped}
+use Rattle.tree_runs.proofs.NextTrees.{pass_tree}
 use Rattle.tree_runs.proofs.runs.Runs.swap_pass.Goals as goal
+use Rattle.tree_runs.proofs.runs.Runs.swap_pass.Goals.{After-commit_next}
 
 -- ---- the run's end wasn't written
 
@@ -29,7 +33,7 @@ returns-in_err-made-clause-lists g c = λ tree honest over.
     let now = c.args.self.now in
     let are = c.requires.running.in_order in
     let a = c.args.a.now.entries in
-    let stands = stands_finished now now.tags.pass are (pass_tag now are) over c.finish_pass.ensures.writes.effect honest (g.met.D.Disk.timed c.finish_pass.new.disk) in
+    let stands = stands_finished now now.tags.pass are (pass_is_run now are) over c.finish_pass.ensures.writes.effect honest (g.met.D.Disk.timed c.finish_pass.new.disk) in
     let p = err_from_is_err_and c.from_residual.result c.from_residual.ensures.1 in
     let out = folded_over a (entries_of tree.c1) in
     let full = is_full now.sizes (made_by_pass now.pass) in (
@@ -48,49 +52,48 @@ returns-in_err-made-clause-faults g c =
     let p = err_from_is_err_and c.from_residual.result c.from_residual.ensures.1 in
     subst (λ (r : _). TellsFaults r (g.D.Disk.state c.args.disk.now) (g.D.Disk.state c.finish_pass.new.disk)) (sym p.1) (c.in_err-made.ensures.writes.failed refl)
 
+-- ---- the run's end and the commit together
+
+effect : (g : _) (c : After-commit_next g) → Affects (swap_region c.args.self.now.sizes c.args.self.now.space c.args.self.now.tags.pass c.args.self.now.catalogue) (file_length c.args.self.now.sizes) 9
+    (g.D.Disk.state c.args.disk.now) (g.D.Disk.state c.commit_next.new.disk)
+effect g c =
+    swap_effect c.args.self.now c.args.self.now.tags.pass (g.met.D.Disk.timed c.finish_pass.new.disk) c.in_ok-made.ensures.writes.stands c.finish_pass.ensures.writes.effect
+    (subst (λ (s : RunsState). Affects (commit_region s.sizes s.catalogue) (file_length s.sizes) 8 (g.D.Disk.state c.finish_pass.new.disk) (g.D.Disk.state c.commit_next.new.disk)) (c.self.view_is ∙ c.finish_pass.ensures.same) c.commit_next.ensures.effect)
+
+effect_beside : (g : _) (c : After-commit_next g) → Affects (beside_pins c.args.self.now.sizes c.args.self.now.space.pins) (file_length c.args.self.now.sizes) 9 (g.D.Disk.state c.args.disk.now) (g.D.Disk.state c.commit_next.new.disk)
+effect_beside g c =
+    let now = c.args.self.now in
+    let are = c.requires.running.in_order in
+    affects_wider (swap_beside now.sizes now.space now.tags.pass now.catalogue are.geometry c.requires.roles are.pass_unpinned) (omega arith) (omega arith) (effect g c)
+
+committed : (g : _) (c : After-commit_next g) (b : Bool) → is_full c.args.self.now.sizes (made_by_pass c.args.self.now.pass) ≡ b → (tree : Tree) → IsTrue (g.D.Disk.state c.args.disk.now).is_honest
+    → StandOver c.args.self.now tree c.args.a.now.entries (g.D.Disk.state c.args.disk.now)
+    → PassCommitted c.args.self.now tree c.args.a.now.entries b c.in_ok-made.made c.after_pass-next.result (is_ok c.commit_next.result) (g.D.Disk.state c.args.disk.now) (g.D.Disk.state c.finish_pass.new.disk) (g.D.Disk.state c.commit_next.new.disk)
+committed g c b full tree honest over =
+    let now = c.args.self.now in
+    let finished : IsFinished now tree c.args.a.now.entries now.tags.pass (g.D.Disk.state c.args.disk.now) (g.D.Disk.state c.finish_pass.new.disk) =
+    record { end = file_length now.sizes; running = c.requires.running; over = over; few = c.requires.version; effect = c.finish_pass.ensures.writes.effect; honest = honest; timed = g.met.D.Disk.timed c.finish_pass.new.disk } in
+    let switches = subst (λ (s : RunsState). Switches s.sizes s.catalogue c.after_pass-next.result c.commit_next.result (g.D.Disk.state c.finish_pass.new.disk) (g.D.Disk.state c.commit_next.new.disk)) (c.self.view_is ∙ c.finish_pass.ensures.same) (record { becomes = c.commit_next.ensures.becomes }) in
+    let next_is = subst (λ (s : RunsState). c.after_pass-next.result ≡ with_pass_run s.sizes c.in_ok-made.made s.catalogue) c.finish_pass.ensures.same c.after_pass-next.ensures.next in
+    let list = c.in_ok-made.ensures.list tree.c1 honest over.are_of.pass in
+    pass_becomes now tree c.in_ok-made.made c.after_pass-next.result b full finished c.in_ok-made.ensures.component list.0 list.1 list.2 next_is switches
+
 -- ---- the commit failed
 
 pub returns-in_err-commit_next-clause-lists : goal.returns-in_err-commit_next-clause-lists
 returns-in_err-commit_next-clause-lists g c = λ tree honest over.
     let now = c.args.self.now in
-    let a = c.args.a.now.entries in
-    let mid = g.D.Disk.state c.finish_pass.new.disk in
-    let new = g.D.Disk.state c.commit_next.new.disk in
-    let made = c.in_ok-made.made in
-    let next = c.after_pass-next.result in
-    let same = c.self.view_is ∙ c.finish_pass.ensures.same in
-    let finished : IsFinished now tree a now.tags.pass (g.D.Disk.state c.args.disk.now) mid =
-    record { end = file_length now.sizes; running = c.requires.running; over = over; few = c.requires.version; effect = c.finish_pass.ensures.writes.effect; honest = honest; timed = g.met.D.Disk.timed c.finish_pass.new.disk } in
-    let switches = subst (λ (s : RunsState). Switches s.sizes s.catalogue next c.commit_next.result mid new) same (record { becomes = c.commit_next.ensures.becomes }) in
-    let next_is = subst (λ (s : RunsState). next ≡ with_pass_run s.sizes made s.catalogue) c.finish_pass.ensures.same c.after_pass-next.ensures.next in
-    let list = c.in_ok-made.ensures.list tree.c1 honest over.are_of.pass in
-    let full = is_full now.sizes (made_by_pass now.pass) in
-    let both = pass_becomes now tree made next full (ap (λ (k : Component). is_full now.sizes k) c.in_ok-made.ensures.component) finished c.in_ok-made.ensures.component list.0 list.1 next_is switches in
-    let p = err_from_is_err_and c.from_residual-in_err-commit_next.result c.from_residual-in_err-commit_next.ensures.1 in (
-      pass_tree full next list.0.pages tree,
-      pass_swapped full a tree next list.0.pages list.0.entries_are (version_of_next now tree next over.are_of (ap (λ (k : Catalog). k.version) next_is)),
-      λ table. leaves_swapped now c.finish_pass.new.self tree (pass_tree full next list.0.pages tree) both.0 both.1 (λ well. absurd (false≢true (sym (ap is_ok p.1) ∙ well))),
-    )
+    let done = committed g (goal.at.returns-in_err-commit_next-clause-lists g c).After-commit_next (is_full now.sizes (made_by_pass now.pass)) refl tree honest over in
+    let p = err_from_is_err_and c.from_residual-in_err-commit_next.result c.from_residual-in_err-commit_next.ensures.1 in
+    (_, done.swapped, λ table. leaves_swapped now c.finish_pass.new.self tree _ done.first done.becomes (λ well. absurd (false≢true (sym (ap is_ok p.1) ∙ well))))
 
 pub returns-in_err-commit_next-clause-effect : goal.returns-in_err-commit_next-clause-effect
-returns-in_err-commit_next-clause-effect g c =
-    let now = c.args.self.now in
-    let mid = g.D.Disk.state c.finish_pass.new.disk in
-    let new = g.D.Disk.state c.commit_next.new.disk in
-    affects_wider (swap_beside now.sizes now.space now.tags.pass now.catalogue c.requires.running.in_order.geometry c.requires.roles c.requires.running.in_order.pass_unpinned) (omega arith) (omega arith)
-    (swap_effect now now.tags.pass (g.met.D.Disk.timed c.finish_pass.new.disk) c.in_ok-made.ensures.writes.stands c.finish_pass.ensures.writes.effect
-    (subst (λ (s : RunsState). Affects (commit_region s.sizes s.catalogue) (file_length s.sizes) 8 mid new) (c.self.view_is ∙ c.finish_pass.ensures.same) c.commit_next.ensures.effect))
+returns-in_err-commit_next-clause-effect g c = effect_beside g (goal.at.returns-in_err-commit_next-clause-effect g c).After-commit_next
 
 -- ---- C1 rotates
 
 pub returns-then-rotates-clause-effect : goal.returns-then-rotates-clause-effect
-returns-then-rotates-clause-effect g c =
-    let now = c.args.self.now in
-    let mid = g.D.Disk.state c.finish_pass.new.disk in
-    let new = g.D.Disk.state c.commit_next.new.disk in
-    affects_wider (swap_beside now.sizes now.space now.tags.pass now.catalogue c.requires.running.in_order.geometry c.requires.roles c.requires.running.in_order.pass_unpinned) (omega arith) (omega arith)
-    (swap_effect now now.tags.pass (g.met.D.Disk.timed c.finish_pass.new.disk) c.in_ok-made.ensures.writes.stands c.finish_pass.ensures.writes.effect
-    (subst (λ (s : RunsState). Affects (commit_region s.sizes s.catalogue) (file_length s.sizes) 8 mid new) (c.self.view_is ∙ c.finish_pass.ensures.same) c.commit_next.ensures.effect))
+returns-then-rotates-clause-effect g c = effect_beside g (goal.at.returns-then-rotates-clause-effect g c).After-commit_next
 
 pub returns-then-rotates-clause-running : goal.returns-then-rotates-clause-running
 returns-then-rotates-clause-running g c =
@@ -106,45 +109,30 @@ returns-then-rotates-clause-running g c =
 pub returns-then-rotates-clause-lists : goal.returns-then-rotates-clause-lists
 returns-then-rotates-clause-lists g c = λ tree honest over.
     let now = c.args.self.now in
-    let a = c.args.a.now.entries in
-    let mid = g.D.Disk.state c.finish_pass.new.disk in
     let new = g.D.Disk.state c.commit_next.new.disk in
-    let made = c.in_ok-made.made in
-    let next = c.after_pass-next.result in
-    let same = c.self.view_is ∙ c.finish_pass.ensures.same in
-    let finished : IsFinished now tree a now.tags.pass (g.D.Disk.state c.args.disk.now) mid =
-    record { end = file_length now.sizes; running = c.requires.running; over = over; few = c.requires.version; effect = c.finish_pass.ensures.writes.effect; honest = honest; timed = g.met.D.Disk.timed c.finish_pass.new.disk } in
-    let switches = subst (λ (s : RunsState). Switches s.sizes s.catalogue next c.commit_next.result mid new) same (record { becomes = c.commit_next.ensures.becomes }) in
-    let next_is = subst (λ (s : RunsState). next ≡ with_pass_run s.sizes made s.catalogue) c.finish_pass.ensures.same c.after_pass-next.ensures.next in
-    let list = c.in_ok-made.ensures.list tree.c1 honest over.are_of.pass in
     let after = c.install_rotated_pass.new.self in
+    let made = c.in_ok-made.made in
     let marked : is_full c.self.inside.geometry made ≡ true = ap (λ (n : ℕ). nat_le n made.weight) (sym c.c1_mark.ensures.mark) ∙ le-leb c.c1_mark.result made.weight c.if-rotates.true in
-    let full = subst (λ (s : RunsState). is_full s.sizes made ≡ true) same marked in
+    let full = subst (λ (s : RunsState). is_full s.sizes made ≡ true) (c.self.view_is ∙ c.finish_pass.ensures.same) marked in
     let full_now : is_full now.sizes (made_by_pass now.pass) ≡ true = ap (λ (k : Component). is_full now.sizes k) (sym c.in_ok-made.ensures.component) ∙ full in
-    let both = pass_becomes now tree made next true full finished c.in_ok-made.ensures.component list.0 list.1 next_is switches in
-    let next_tree = with_pass next [] list.0.pages tree.c2 tree in
-    let stands = both.1.stands (ap is_ok c.in_ok-commit_next.was) in
-    let found = subst (λ (s : RunsState). HoldsTree s.sizes next_tree new.bytes × AreTagged s.space s.tags.c2 tree.c2 × AreTagged s.space s.tags.pass list.0.pages
-    × IsGuidedBy (guide_at s.guides s.tags.c2) tree.c2 × IsGuidedBy (guide_at s.guides s.tags.pass) list.0.pages)
-    (sym c.finish_pass.ensures.same) (stands.reads, over.are_of.c2, list.1, over.are_of.guided.c2, λ some. list.2) in (
+    let done = committed g (goal.at.returns-then-rotates-clause-lists g c).After-commit_next true full_now tree honest over in
+    let next_tree = with_pass c.after_pass-next.result [] done.list.pages tree.c2 tree in
+    let stands = done.becomes.stands (ap is_ok c.in_ok-commit_next.was) in
+    let found = subst (λ (s : RunsState). HoldsTree s.sizes next_tree new.bytes × AreTagged s.space s.tags.c2 tree.c2 × AreTagged s.space s.tags.pass done.list.pages
+    × IsGuidedBy (guide_at s.guides s.tags.c2) tree.c2 × IsGuidedBy (guide_at s.guides s.tags.pass) done.list.pages)
+    (sym c.finish_pass.ensures.same) (stands.reads, over.are_of.c2, done.tagged, over.are_of.guided.c2, λ some. done.guided) in (
       next_tree,
-      subst (λ (b : Bool). IsPassSwapped b a tree next_tree) (sym full_now) (pass_swapped true a tree next list.0.pages list.0.entries_are (version_of_next now tree next over.are_of (ap (λ (k : Catalog). k.version) next_is))),
-      λ table. leaves_swapped now after tree next_tree both.0 both.1 (λ well. record {
+      done.swapped,
+      λ table. leaves_swapped now after tree next_tree done.first done.becomes (λ well. record {
         stands = subst (λ (s : Sizes). StandsOn s next_tree new) (sym (c.install_rotated_pass.ensures.swaps.sizes ∙ ap (λ (s : RunsState). s.sizes) c.finish_pass.ensures.same)) stands;
-        are_of = c.install_rotated_pass.ensures.lists tree list.0.pages table new.bytes found.0 found.1 found.2 found.3 found.4;
+        are_of = c.install_rotated_pass.ensures.lists tree done.list.pages table new.bytes found.0 found.1 found.2 found.3 found.4;
       }),
     )
 
 -- ---- or not
 
 pub returns-else-rotates-clause-effect : goal.returns-else-rotates-clause-effect
-returns-else-rotates-clause-effect g c =
-    let now = c.args.self.now in
-    let mid = g.D.Disk.state c.finish_pass.new.disk in
-    let new = g.D.Disk.state c.commit_next.new.disk in
-    affects_wider (swap_beside now.sizes now.space now.tags.pass now.catalogue c.requires.running.in_order.geometry c.requires.roles c.requires.running.in_order.pass_unpinned) (omega arith) (omega arith)
-    (swap_effect now now.tags.pass (g.met.D.Disk.timed c.finish_pass.new.disk) c.in_ok-made.ensures.writes.stands c.finish_pass.ensures.writes.effect
-    (subst (λ (s : RunsState). Affects (commit_region s.sizes s.catalogue) (file_length s.sizes) 8 mid new) (c.self.view_is ∙ c.finish_pass.ensures.same) c.commit_next.ensures.effect))
+returns-else-rotates-clause-effect g c = effect_beside g (goal.at.returns-else-rotates-clause-effect g c).After-commit_next
 
 pub returns-else-rotates-clause-running : goal.returns-else-rotates-clause-running
 returns-else-rotates-clause-running g c =
@@ -153,10 +141,8 @@ returns-else-rotates-clause-running g c =
     let after = c.install_pass.new.self in
     let swaps = c.install_pass.ensures.swaps in
     let now = c.args.self.now in
-    let mid = g.D.Disk.state c.finish_pass.new.disk in
     let new = g.D.Disk.state c.commit_next.new.disk in
-    let effect = swap_effect now now.tags.pass (g.met.D.Disk.timed c.finish_pass.new.disk) c.in_ok-made.ensures.writes.stands c.finish_pass.ensures.writes.effect
-    (subst (λ (s : RunsState). Affects (commit_region s.sizes s.catalogue) (file_length s.sizes) 8 mid new) (c.self.view_is ∙ c.finish_pass.ensures.same) c.commit_next.ensures.effect) in
+    let effect = effect g (goal.at.returns-else-rotates-clause-running g c).After-commit_next in
     let still : new.is_honest ≡ old.is_honest = effect.goes_on.is_honest in
     let keeps = swap_keeps new.is_honest now now.tags.pass now.tags.deep (λ told. subst IsTrue still told) are c.requires.roles are.tags.pass_deep effect in
     let was = subst (λ (h : Bool). DeepRuns now.sizes h old.bytes now.space (guide_at now.guides now.tags.deep) now.deep) (sym still) c.requires.running.deep in
@@ -171,39 +157,28 @@ returns-else-rotates-clause-running g c =
 pub returns-else-rotates-clause-lists : goal.returns-else-rotates-clause-lists
 returns-else-rotates-clause-lists g c = λ tree honest over.
     let now = c.args.self.now in
-    let a = c.args.a.now.entries in
-    let mid = g.D.Disk.state c.finish_pass.new.disk in
     let new = g.D.Disk.state c.commit_next.new.disk in
-    let made = c.in_ok-made.made in
-    let next = c.after_pass-next.result in
-    let same = c.self.view_is ∙ c.finish_pass.ensures.same in
-    let finished : IsFinished now tree a now.tags.pass (g.D.Disk.state c.args.disk.now) mid =
-    record { end = file_length now.sizes; running = c.requires.running; over = over; few = c.requires.version; effect = c.finish_pass.ensures.writes.effect; honest = honest; timed = g.met.D.Disk.timed c.finish_pass.new.disk } in
-    let switches = subst (λ (s : RunsState). Switches s.sizes s.catalogue next c.commit_next.result mid new) same (record { becomes = c.commit_next.ensures.becomes }) in
-    let next_is = subst (λ (s : RunsState). next ≡ with_pass_run s.sizes made s.catalogue) c.finish_pass.ensures.same c.after_pass-next.ensures.next in
-    let list = c.in_ok-made.ensures.list tree.c1 honest over.are_of.pass in
     let are = c.requires.running.in_order in
     let after = c.install_pass.new.self in
+    let made = c.in_ok-made.made in
     let marked : is_full c.self.inside.geometry made ≡ false = ap (λ (n : ℕ). nat_le n made.weight) (sym c.c1_mark.ensures.mark) ∙ lt-leb c.c1_mark.result made.weight c.if-rotates.false in
-    let light = subst (λ (s : RunsState). is_full s.sizes made ≡ false) same marked in
+    let light = subst (λ (s : RunsState). is_full s.sizes made ≡ false) (c.self.view_is ∙ c.finish_pass.ensures.same) marked in
     let light_now : is_full now.sizes (made_by_pass now.pass) ≡ false = ap (λ (k : Component). is_full now.sizes k) (sym c.in_ok-made.ensures.component) ∙ light in
-    let both = pass_becomes now tree made next false light finished c.in_ok-made.ensures.component list.0 list.1 next_is switches in
-    let next_tree = with_pass next list.0.pages tree.c1x tree.c2 tree in
-    let stands = both.1.stands (ap is_ok c.in_ok-commit_next.was) in
-    let effect = swap_effect now now.tags.pass (g.met.D.Disk.timed c.finish_pass.new.disk) c.in_ok-made.ensures.writes.stands c.finish_pass.ensures.writes.effect
-    (subst (λ (s : RunsState). Affects (commit_region s.sizes s.catalogue) (file_length s.sizes) 8 mid new) same c.commit_next.ensures.effect) in
+    let done = committed g (goal.at.returns-else-rotates-clause-lists g c).After-commit_next false light_now tree honest over in
+    let next_tree = with_pass c.after_pass-next.result done.list.pages tree.c1x tree.c2 tree in
+    let stands = done.becomes.stands (ap is_ok c.in_ok-commit_next.was) in
     let deep = deep_over_still c.where_a_run_writes.ensures.pushed c.what_is_ahead.ensures (guide_at now.guides now.tags.deep) now.deep tree.c1x tree.c2
-    (swap_keeps true now now.tags.pass now.tags.deep (λ told. honest) are c.requires.roles are.tags.pass_deep effect)
+    (swap_keeps true now now.tags.pass now.tags.deep (λ told. honest) are c.requires.roles are.tags.pass_deep (effect g (goal.at.returns-else-rotates-clause-lists g c).After-commit_next))
     (swap_pages now now.tags.pass now.tags.c1x are c.requires.roles (λ is. are.tags.c1x_pass (sym is)))
     (swap_pages now now.tags.pass now.tags.c2 are c.requires.roles (λ is. are.tags.c2_pass (sym is))) are.deep_tag over.are_of.c1x over.are_of.c2 over.are_of.deep in
-    let found = subst (λ (s : RunsState). HoldsTree s.sizes next_tree new.bytes × AreTagged s.space s.tags.c1x tree.c1x × AreTagged s.space s.tags.c2 tree.c2 × AreTagged s.space s.tags.pass list.0.pages
-    × IsGuidedBy (guide_at s.guides s.tags.pass) list.0.pages × IsGuidedBy (guide_at s.guides s.tags.c1x) tree.c1x × IsGuidedBy (guide_at s.guides s.tags.c2) tree.c2
+    let found = subst (λ (s : RunsState). HoldsTree s.sizes next_tree new.bytes × AreTagged s.space s.tags.c1x tree.c1x × AreTagged s.space s.tags.c2 tree.c2 × AreTagged s.space s.tags.pass done.list.pages
+    × IsGuidedBy (guide_at s.guides s.tags.pass) done.list.pages × IsGuidedBy (guide_at s.guides s.tags.c1x) tree.c1x × IsGuidedBy (guide_at s.guides s.tags.c2) tree.c2
     × IsDeepOver s.sizes new.bytes s.space (guide_at s.guides s.tags.deep) s.deep tree.c1x tree.c2)
-    (sym c.finish_pass.ensures.same) (stands.reads, over.are_of.c1x, over.are_of.c2, list.1, λ some. list.2, over.are_of.guided.c1x, over.are_of.guided.c2, deep) in (
+    (sym c.finish_pass.ensures.same) (stands.reads, over.are_of.c1x, over.are_of.c2, done.tagged, λ some. done.guided, over.are_of.guided.c1x, over.are_of.guided.c2, deep) in (
       next_tree,
-      subst (λ (b : Bool). IsPassSwapped b a tree next_tree) (sym light_now) (pass_swapped false a tree next list.0.pages list.0.entries_are (version_of_next now tree next over.are_of (ap (λ (k : Catalog). k.version) next_is))),
-      λ table. leaves_swapped now after tree next_tree both.0 both.1 (λ well. record {
+      done.swapped,
+      λ table. leaves_swapped now after tree next_tree done.first done.becomes (λ well. record {
         stands = subst (λ (s : Sizes). StandsOn s next_tree new) (sym (c.install_pass.ensures.swaps.sizes ∙ ap (λ (s : RunsState). s.sizes) c.finish_pass.ensures.same)) stands;
-        are_of = c.install_pass.ensures.lists tree list.0.pages table new.bytes found.0 found.1 found.2 found.3 found.4 found.5 found.6 found.7;
+        are_of = c.install_pass.ensures.lists tree done.list.pages table new.bytes found.0 found.1 found.2 found.3 found.4 found.5 found.6 found.7;
       }),
     )

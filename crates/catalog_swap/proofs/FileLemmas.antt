@@ -1,11 +1,15 @@
--- What holds of the slots of each file.
+-- Files whose slots read the same.
+use Rattle.std.proofs.lemmas.Bool.Decides.{nat_tests}
+use Rattle.std.proofs.lemmas.Grind.{common_steps}
 use Rattle.std.specs.Prelude.{◌≡◌, ℕ, ◌+◌, ◌≤◌, List, take, drop, refl, IsTrue}
 use Rattle.std.proofs.Common.{sym, subst, ◌∙◌, ap, inl, inr, arith}
 use Rattle.std.proofs.lemmas.List.{take-take}
 use Rattle.disk_trait.specs.Disk.{DiskState, Only, part}
 use Rattle.disk_trait.specs.Effects.{Affects}
-use Rattle.disk_trait.specs.Moments.{IsTimed, leaves_only_now}
-use Rattle.disk_trait.specs.Region.{Region, span, AreApart, IsSameOutside, part_apart}
+use Rattle.disk_trait.specs.Moments.{IsTimed}
+use Rattle.disk_trait.proofs.MomentLemmas.{leaves_only_now}
+use Rattle.disk_trait.specs.Region.{Region, span, AreApart, IsSameOutside}
+use Rattle.disk_trait.proofs.RegionLemmas.{part_apart}
 use Rattle.gated_write.specs.Gated.{IsClosed}
 use Rattle.blsm_model.specs.Sizes.{Sizes}
 use Rattle.catalog_swap.specs.declared.catalog.Catalog.{Catalog}
@@ -17,14 +21,11 @@ pub gate_of_slot : (at : ℕ) (file : List ℕ) → part file at 1 ≡ take 1 (p
 gate_of_slot at file = sym (take-take 1 slot_length (drop at file) (omega arith))
 
 pub gate_same : {old new : List ℕ} → AreSameSlots old new → (version : ℕ) → part new (slot_of version) 1 ≡ part old (slot_of version) 1
-gate_same {old} {new} same version =
-    gate_of_slot (slot_of version) new ∙ ap (λ (l : List ℕ). take 1 l) (same.slot version) ∙ sym (gate_of_slot (slot_of version) old)
+gate_same h1 version = grind (arith, common_steps, nat_tests)
 
 -- a slot that has a catalogue is open
 pub has_open : {sizes : Sizes} {at : ℕ} {catalog : Catalog} {file : List ℕ} → HasSlot sizes at catalog file → IsOpen at file
 has_open {sizes} {at} {catalog} {file} has = gate_of_slot at file ∙ ap (λ (l : List ℕ). take 1 l) has.text
-
--- ---- files whose slots read the same
 
 pub closed_same : {old new : List ℕ} → AreSameSlots old new → (version : ℕ) → IsClosed (slot_of version) old → IsClosed (slot_of version) new
 closed_same same version closed = λ opened. closed (sym (gate_same same version) ∙ opened)

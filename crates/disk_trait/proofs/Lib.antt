@@ -1,0 +1,5 @@
+pub mod MomentLemmas
+pub mod EffectLemmas
+pub mod PartLemmas
+pub mod RegionLemmas
+pub mod ReadLemmas
