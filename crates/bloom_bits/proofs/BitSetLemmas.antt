@@ -1,9 +1,11 @@
 -- Which bits are set after a write to the words.
+use Rattle.std.proofs.lemmas.Bool.Decides.{nat_tests}
+use Rattle.std.proofs.lemmas.Grind.{common_steps}
 use Rattle.std.proofs.Common.{◌≡◌, ℕ, zero, ◌*◌, ◌/◌, ◌%◌, ◌^◌, ◌<◌, Bool, true, false, nat_eq, List, length, replicate, get_or, set, bit_and, bit_or, ap, sym, ◌∙◌, inl, inr, arith, w64}
 use Rattle.std.specs.Int.{bit_at}
-use Rattle.std.proofs.lemmas.Bool.{cases_eq, cases_lt}
+use Rattle.std.proofs.lemmas.Bool.{cases_eq}
 use Rattle.std.proofs.lemmas.Nat.Bits.{shr_and_one, bit_at-zero, bit_at_set_same, bit_at_set_other}
-use Rattle.std.proofs.lemmas.List.{length-set, length-replicate, get_or-set_same, get_or-set_other, get_or-replicate, get_or_past, ext_get_or}
+use Rattle.std.proofs.lemmas.List.{length-set, length-replicate, get_or-set_same, get_or-set_other, get_or-replicate, ext_get_or}
 use Rattle.std.proofs.lemmas.List.FromFn.{length-map-range_with_len, get_or-map-range_with_len}
 use Rattle.bloom_bits.specs.BitSet.{bits_in, is_set, with_bit, AreWordsFor}
 
@@ -27,11 +29,7 @@ abbrev pub zeros : ℕ → List ℕ
 zeros n = replicate n 0
 
 zero_word : (n i : ℕ) → get_or (zeros n) i 0 ≡ zero
-zero_word n i =
-    elim (cases_lt i n) [
-      | inl below ↦ get_or-replicate n i 0 0 below
-      | inr past ↦ get_or_past (zeros n) i 0 (omega (arith, length-replicate {A = ℕ} n 0))
-    ]
+zero_word n i = grind (arith, common_steps, nat_tests)
 
 pub bits_none : (bits n : ℕ) → bits_in bits (zeros n) ≡ replicate bits false
 bits_none bits n =

@@ -1,14 +1,15 @@
 -- Where a key is among fences.
-use Rattle.std.proofs.Common.{◌≡◌, ◌≢◌, ◌↔◌, ℕ, ◌+◌, ◌<◌, ◌≤◌, true, false, List, [], ◌∷◌, ◌++◌, length, take, drop, get_or, refl, ap, sym, subst, ◌∙◌, inl, inr, length-append, length-drop, arith}
+use Rattle.std.proofs.lemmas.Bool.Decides.{nat_tests}
+use Rattle.std.proofs.lemmas.Grind.{common_steps}
+use Rattle.std.proofs.Common.{◌≡◌, ◌≢◌, ◌↔◌, ℕ, ◌+◌, ◌<◌, ◌≤◌, true, false, List, [], ◌∷◌, ◌++◌, length, take, drop, get_or, ap, sym, subst, ◌∙◌, inl, inr, length-drop, arith}
 use Rattle.std.specs.List.{AllPairs}
 use Rattle.std.specs.List.Sorted.{IsPartitionedBy, IsPartitionPoint}
 use Rattle.std.specs.Ordering.{is_le, is_lt, ordering_reverse}
 use Rattle.std.specs.declared.cmp.Ordering.{Ordering}
-use Rattle.std.specs.declared.cmp.Ordering.TheVariants.{Less, Equal, Greater}
+use Rattle.std.specs.declared.cmp.Ordering.TheVariants.{Less}
 use Rattle.std.proofs.lemmas.Bool.{true≢false, cases_lt}
 use Rattle.std.proofs.lemmas.Cmp.{nat_list_cmp_total, alike_right}
 use Rattle.std.proofs.lemmas.List.{take-append-drop, drop_more, get_or-drop, get_or_default}
-use Rattle.std.proofs.lemmas.List.Quantifiers.{all_pairs_push}
 use Rattle.blsm_model.specs.declared.key.Key.{Key}
 use Rattle.blsm_model.specs.Keys.{key_cmp}
 use Rattle.bloom_bits.specs.Fences.{IsAboveAll, IsBelowAll, IsPlaceOf, AreFences}
@@ -16,9 +17,7 @@ use Rattle.bloom_bits.specs.Fences.{IsAboveAll, IsBelowAll, IsPlaceOf, AreFences
 -- ---- the order of keys
 
 above_if_not_le : (o : Ordering) → is_le o ≡ false → ordering_reverse o ≡ Less
-above_if_not_le Less test = absurd (true≢false test)
-above_if_not_le Equal test = absurd (true≢false test)
-above_if_not_le Greater test = refl
+above_if_not_le o h1 = grind (arith, common_steps, nat_tests)
 
 -- the test of a key that isn't below a first key, and of one that is
 below : (first key : Key) → is_le (key_cmp first key) ≡ false → key_cmp key first ≡ Less
@@ -29,12 +28,7 @@ not_below first key test less = true≢false (sym test ∙ ap is_le (nat_list_cm
 
 -- a key that isn't below one isn't below a lesser one
 le_before : (a b key : Key) → key_cmp a b ≡ Less → is_le (key_cmp b key) ≡ true → is_le (key_cmp a key) ≡ true
-le_before a b key less test =
-    elim (key_cmp b key) as (λ o. key_cmp b key ≡ o → is_le o ≡ true → is_le (key_cmp a key) ≡ true) [
-      | Less ↦ λ is test. ap is_le (nat_list_cmp_total.trans a b key less is)
-      | Equal ↦ λ is test. ap is_le (sym (alike_right nat_list_cmp_total b key a is) ∙ less)
-      | Greater ↦ λ is test. absurd (true≢false (sym test))
-    ] refl test
+le_before a b key h1 h2 = grind (arith, common_steps, nat_tests, nat_list_cmp_total, alike_right)
 
 -- ---- a place
 
@@ -79,12 +73,7 @@ some_before (f ∷ fences) key at split within below_all = not_below f.0 key (sp
 -- ---- one fence more
 
 pub fences_pushed : (fences : List (Key × ℕ)) (reserved places after : ℕ) (key : Key) (page : ℕ) → AreFences fences reserved places → length fences < reserved → IsAboveAll key fences → after ≡ places → AreFences (fences ++ (key, page) ∷ []) reserved after
-fences_pushed fences reserved places after key page are room above same =
-    record {
-      rise = all_pairs_push (λ f g. key_cmp f.0 g.0 ≡ Less) fences (key, page) are.rise above;
-      fits = omega (arith, length-append fences ((key, page) ∷ []));
-      room = omega (arith, are.room);
-    }
+fences_pushed fences reserved places after key page h1 h2 h3 h4 = grind (arith, common_steps, nat_tests)
 
 pub no_fences : (reserved places : ℕ) → reserved ≤ places → AreFences [] reserved places
 no_fences reserved places room = record { rise = λ i j d before within. absurd (omega arith); fits = omega arith; room = room }
@@ -92,9 +81,7 @@ no_fences reserved places room = record { rise = λ i j d before within. absurd 
 -- ---- whether a fence may be pushed
 
 less_is : (o : Ordering) → is_lt o ≡ true → o ≡ Less
-less_is Less test = refl
-less_is Equal test = absurd (true≢false (sym test))
-less_is Greater test = absurd (true≢false (sym test))
+less_is o h1 = grind (arith, common_steps, nat_tests)
 
 -- the key is above all fences just where it is above the last
 pub above_last : (fences : List (Key × ℕ)) (key : Key) (n : ℕ) (last : Key × ℕ) → AllPairs (λ f g. key_cmp f.0 g.0 ≡ Less) fences → n + 1 ≡ length fences → last ≡ get_or fences n last

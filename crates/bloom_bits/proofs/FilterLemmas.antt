@@ -1,8 +1,9 @@
 -- Which bits are set once keys are added, and what they tell of a key.
-use Rattle.std.proofs.Common.{◌≡◌, ◌↔◌, ◌⊎◌, ℕ, ◌+◌, ◌<◌, ◌≤◌, Bool, true, false, List, [], ◌∷◌, ◌++◌, length, take, get_or, replicate, ap, sym, subst, ◌∙◌, inl, inr, arith}
+use Rattle.std.proofs.lemmas.Bool.Decides.{nat_tests}
+use Rattle.std.proofs.lemmas.Grind.{common_steps}
+use Rattle.std.proofs.Common.{◌≡◌, ◌↔◌, ◌⊎◌, ℕ, ◌+◌, ◌<◌, ◌≤◌, Bool, true, List, [], ◌∷◌, ◌++◌, length, take, get_or, ap, sym, subst, ◌∙◌, inl, inr, arith}
 use Rattle.std.specs.List.{Contains}
-use Rattle.std.proofs.lemmas.Bool.{cases_eq, cases_lt, false≢true}
-use Rattle.std.proofs.lemmas.List.{length-replicate, get_or-replicate, get_or_past, get_or-set_same, get_or-set_other, take_more, take_all, length-set}
+use Rattle.std.proofs.lemmas.List.{take_more, take_all, length-set}
 use Rattle.std.proofs.lemmas.List.Elements.{Contains-push, Contains-push_cases, Contains-append_left}
 use Rattle.blsm_model.specs.declared.key.Key.{Key}
 use Rattle.bloom_bits.specs.BitSet.{BitState, IsSet, with_bit, cleared}
@@ -11,22 +12,7 @@ use Rattle.bloom_bits.specs.Filter.{bit_positions, IsOfOne, HasKeys, AreCovered,
 -- ---- one bit more, and several
 
 bit_more : (bits : List Bool) (p place : ℕ) → p < length bits → IsSet (with_bit bits p) place ↔ (IsSet bits place ⊎ (p ≡ place))
-bit_more bits p place within = (to, from)
-  where
-    to : IsSet (with_bit bits p) place → IsSet bits place ⊎ (p ≡ place)
-    to is_set =
-        elim (cases_eq place p) [
-          | inl same ↦ inr (sym same)
-          | inr differs ↦ inl (sym (get_or-set_other bits p place true false differs) ∙ is_set)
-        ]
-
-    from : IsSet bits place ⊎ (p ≡ place) → IsSet (with_bit bits p) place
-    from (inr same) = subst (λ q. IsSet (with_bit bits p) q) same (get_or-set_same bits p true false within)
-    from (inl was) =
-        elim (cases_eq place p) [
-          | inl same ↦ subst (λ q. IsSet (with_bit bits p) q) (sym same) (get_or-set_same bits p true false within)
-          | inr differs ↦ get_or-set_other bits p place true false differs ∙ was
-        ]
+bit_more bits p place h1 = grind (arith, common_steps, nat_tests)
 
 -- these bits have the places of a list beside those that they had
 pub record AreWith (old new : List Bool) (places : List ℕ) : Type 0 where
@@ -58,31 +44,16 @@ with_more old new after places n d before in_list within after_is =
         ]
 
     from : (place : ℕ) → IsSet old place ⊎ Contains (take (n + 1) places) place → IsSet after place
-    from place (inl first) = back place (inl ((before.set_are place).1 (inl first)))
-    from place (inr has) =
-        elim (Contains-push_cases (take n places) p place (subst (λ (l : List ℕ). Contains l place) (take_more places n d in_list) has)) [
-          | inl earlier ↦ back place (inl ((before.set_are place).1 (inr earlier)))
-          | inr same ↦ back place (inr same)
-        ]
+    from place h1 = grind (arith, common_steps, nat_tests)
 
 pub with_all : (old new : List Bool) (places want : List ℕ) (n : ℕ) → AreWith old new (take n places) → length places ≤ n → places ≡ want → AreWith old new want
 with_all old new places want n are all same = subst (AreWith old new) (take_all n places all ∙ same) are
 
 -- ---- the keys of a filter
 
-none_set : (n place : ℕ) → IsSet (replicate n false) place → ⊥
-none_set n place is_set =
-    elim (cases_lt place n) [
-      | inl below ↦ false≢true (sym (get_or-replicate n place false false below) ∙ is_set)
-      | inr past ↦ false≢true (sym (get_or_past (replicate n false) place false (omega (arith, length-replicate {A = Bool} n false))) ∙ is_set)
-    ]
-
 -- no bit is set, so there is no key
 pub no_keys : (filter : BitState) (reserved n : ℕ) → filter ≡ cleared reserved n → HasKeys filter []
-no_keys filter reserved n is = subst (λ (f : BitState). HasKeys f []) (sym is) (record { just = λ place. (λ is_set. absurd (none_set n place is_set), λ one. absurd (none_of one.0 one.1)) })
-  where
-    none_of : (key : Key) → Contains {X = Key} [] key → ⊥
-    none_of key has = omega (arith, has.1)
+no_keys filter reserved n h1 = grind (arith, common_steps, nat_tests)
 
 pub keys_more : (old new : BitState) (keys : List Key) (key : Key) → AreWith old.bits new.bits (bit_positions (length old.bits) key) → HasKeys old keys → HasKeys new (keys ++ key ∷ [])
 keys_more old new keys key more has = record { just = λ place. (to place, from place) }
@@ -107,5 +78,6 @@ keys_more old new keys key more has = record { just = λ place. (to place, from 
           | inr same ↦ (more.set_are place).1 (inr (subst (λ k. Contains (bit_positions (length old.bits) k) place) (sym same) (before one.0 place one.2)))
         ]
 
-pub covered : (filter : BitState) (keys : List Key) (key : Key) → HasKeys filter keys → MayHave filter key ↔ AreCovered (length filter.bits) keys key
-covered filter keys key has = (λ are_set place its. (has.just place).0 (are_set place its), λ are place its. (has.just place).1 (are place its))
+-- a test that tells whether a filter may have a key tells whether the keys cover it
+pub covered : (filter : BitState) (keys : List Key) (key : Key) (test : Bool) → (test ≡ true) ↔ MayHave filter key → HasKeys filter keys → (test ≡ true) ↔ AreCovered (length filter.bits) keys key
+covered filter keys key test exactly has = (λ yes place its. (has.just place).0 (exactly.0 yes place its), λ are. exactly.1 (λ place its. (has.just place).1 (are place its)))

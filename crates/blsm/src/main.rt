@@ -4,6 +4,7 @@
 ghost use Rattle.std.specs.Prelude.{map, string_bytes};
 ghost use Rattle.std.specs.Process.{exit_status};
 ghost use Rattle.blsm_run.specs.Outcome.{Tells, no_memory};
+ghost use Rattle.blsm_run.specs.Outside.{outside};
 ghost use Rattle.blsm.specs.Program.{EndsWith};
 
 use blsm_model::NoGate;
@@ -31,12 +32,7 @@ fn words<R: Env + Alloc<A = Global>>(rt: &R, alloc: Global) -> Result<Vec<String
 
 // Want of memory before the call: the line and the status that the call has for it.
 fn tell_no_memory<K: Sink>(sink: &mut K) -> Status
-    ensures { Tells (record {
-      held = K.held sink.old;
-      held_after = K.held sink.new;
-      faults = K.faults sink.old;
-      faults_after = K.faults sink.new;
-    }) no_memory result }
+    ensures { Tells (K.state sink.old) (K.state sink.new) no_memory result }
 {
     match write_all(sink, b"no memory\n") {
         Ok(()) => Status::NoMemory,
@@ -53,20 +49,7 @@ fn call<R: Threads + Wait + Sync, S: Source, K: Sink, H: Shelf>(
     sink: &mut K,
     shelf: &mut H,
 ) -> ExitCode
-    ensures { EndsWith H.D.state (record {
-      words = map string_bytes words.now;
-      left = S.left source.old;
-      left_after = S.left source.new;
-      source_faults = S.faults source.old;
-      source_faults_after = S.faults source.new;
-      shelf = H.state shelf.old;
-      shelf_after = H.state shelf.new;
-    }) (record {
-      held = K.held sink.old;
-      held_after = K.held sink.new;
-      faults = K.faults sink.old;
-      faults_after = K.faults sink.new;
-    }) (exit_status result) }
+    ensures { EndsWith H.D.state (outside (map string_bytes words.now) (S.state source.old) (S.state source.new) (H.state shelf.old) (H.state shelf.new)) (K.state sink.old) (K.state sink.new) (exit_status result) }
 {
     let status = blsm_run(rt, alloc, words, source, sink, shelf, &NoGate);
     ExitCode::from(status.code())

@@ -1,57 +1,44 @@
 -- What a step of a call answers is the cause of how the call ends.
-use Rattle.std.proofs.Common.{Result, Ok, Err, IsErr, refl, inl, inr}
+use Rattle.std.proofs.Common.{◌≡◌, Result, Ok, Err, IsErrAnd, sym, subst, inl, inr}
 use Rattle.disk_trait.specs.Disk.{DiskState}
-use Rattle.disk_trait.specs.Shelf.{ShelfState}
 use Rattle.program_words.specs.Words.{ReadsWords}
 use Rattle.program_words.specs.declared.request.Unread.{Unread}
 use Rattle.program_words.specs.declared.request.Unread.TheVariants as unread_words
+use Rattle.tree_reading.specs.declared.found.Unreadable.{Unreadable}
+use Rattle.tree_reading.specs.declared.found.Unreadable.TheVariants as unreadable
+use Rattle.recover_open.specs.declared.making.NotMade.{NotMade}
+use Rattle.recover_open.specs.declared.making.NotMade.TheVariants as not_made
 use Rattle.blsm_run.specs.declared.outcome.Answer.{Answer}
 use Rattle.blsm_run.specs.declared.outcome.Refusal.{Refusal}
 use Rattle.blsm_run.specs.declared.outcome.Refusal.TheVariants as refusal
-use Rattle.blsm_run.specs.Cause.{Cause, AsksInVain, AsksToCheck, AsksToMake, AsksToRun, WasNotRead}
-use Rattle.blsm_run.specs.Outcome.{HasMadeAnswer, outcome_of, refusal_of_words}
-use Rattle.blsm_run.specs.Outside.{Outside, HasNotFetched}
-use Rattle.blsm_run.specs.Reading.{ReadsScript}
-use Rattle.blsm_run.specs.Stores.{ChecksOnShelf, MakesOnShelf, RunsOnShelf}
-
--- no call was made of the shelf
-pub unfetched : {D : Type 0} (shelf : ShelfState D) → HasNotFetched shelf shelf
-unfetched shelf = record { disks = λ tells. record { disks = λ name. refl; out = λ name. refl }; fetches = λ tells. refl; faults = refl }
-
--- a refusal has no history
-pub none_made : (result : Result Answer Refusal) → IsErr result → HasMadeAnswer result
-none_made (Ok answer) is = absurd cc
-none_made (Err why) is = tt
+use Rattle.blsm_run.specs.Cause.{Cause, AsksInVain, HasMade, WasStopped}
+use Rattle.blsm_run.specs.Outcome.{outcome_of, refused, refusal_of_making, refusal_of_store, refusal_of_words}
+use Rattle.blsm_run.specs.Outside.{Outside}
 
 module _ {D : Type 0} (state : D → DiskState) (o : Outside D) where
-  pub not_asked : (why : Unread) → ReadsWords o.words (Err why) → WasNotRead o → HasNotFetched o.shelf o.shelf_after → Cause state o (outcome_of (Err (refusal_of_words why)))
-  not_asked unread_words.Refused says left still = (says, left, still)
-  not_asked unread_words.NoMemory says left still = inl (left, still)
+  -- a refusal that is passed on
+  pub passed_on : (result : Result Answer Refusal) (why : Refusal) → IsErrAnd result (λ r. r ≡ why) → Cause state o (refused why) → Cause state o (outcome_of result)
+  passed_on (Ok answer) why is cause = absurd is
+  passed_on (Err r) why is cause = subst (λ (r : Refusal). Cause state o (refused r)) (sym is) cause
 
-  pub unread : (a : AsksInVain o) (why : Refusal) → ReadsScript o.left o.left_after o.source_faults o.source_faults_after (Err why) → Cause state o (outcome_of (Err why))
-  unread a refusal.SourceFault says = (a, says.0, says.1, says.2)
-  unread a refusal.TooBig says = (a, says.0, says.1, says.2, says.3)
-  unread a (refusal.BadLine n) says = (a, record { left = says.0; calm = says.2 }, says.1)
-  unread a refusal.NoMemory says = inr (inl (a, says.0, says.1, says.2))
-  unread a _ says = absurd says
+  pub not_asked : (why : Unread) → ReadsWords o.words (Err why) → o.source_after ≡ o.source → o.shelf_after ≡ o.shelf → Cause state o (refused (refusal_of_words why))
+  not_asked unread_words.Refused says unread still = (says, unread, still)
+  not_asked unread_words.NoMemory says unread still = inl (unread, still)
 
-  pub not_made : (a : AsksToMake o) (why : Refusal) → MakesOnShelf state a.name a.sizes o.shelf o.shelf_after (Err why) → Cause state o (outcome_of (Err why))
-  not_made a (refusal.NotEmpty n) says = (a, says)
-  not_made a refusal.DiskFault says = inl (a, says)
-  not_made a _ says = absurd says
+  pub in_vain : (why : Refusal) → AsksInVain o why → Cause state o (refused why)
+  in_vain refusal.SourceFault was = was
+  in_vain refusal.TooBig was = was
+  in_vain (refusal.BadLine n) was = was
+  in_vain refusal.NoMemory was = inr (inl was)
+  in_vain _ was = absurd was.0.reads
 
-  pub not_run : (a : AsksToRun o) (why : Refusal) → RunsOnShelf state a.name a.lines a.workers a.turns o.shelf o.shelf_after (Err why) → Cause state o (outcome_of (Err why))
-  not_run a refusal.DiskFault says = inr (inl (a, says))
-  not_run a refusal.NotAStore says = inl (a, says)
-  not_run a (refusal.Damaged place) says = inl (a, says)
-  not_run a (refusal.Worn version) says = inl (a, says)
-  not_run a refusal.NoMemory says = inr (inr (inl (a, says)))
-  not_run a _ says = absurd says
+  pub not_made_so : (why : NotMade) → HasMade state o (Err why) → Cause state o (refused (refusal_of_making why))
+  not_made_so (not_made.NotEmpty n) was = was
+  not_made_so not_made.Fault was = inl was
 
-  pub not_checked : (a : AsksToCheck o) (why : Refusal) → ChecksOnShelf state a.name o.shelf o.shelf_after (Err why) → Cause state o (outcome_of (Err why))
-  not_checked a refusal.DiskFault says = inr (inr (a, says))
-  not_checked a refusal.NotAStore says = inr (a, says)
-  not_checked a (refusal.Damaged place) says = inr (a, says)
-  not_checked a (refusal.Worn version) says = inr (a, says)
-  not_checked a refusal.NoMemory says = inr (inr (inr (a, says)))
-  not_checked a _ says = absurd says
+  pub stopped : (why : Unreadable) → WasStopped state o why → Cause state o (refused (refusal_of_store why))
+  stopped unreadable.Fault was = inr was
+  stopped unreadable.NotAStore was = was
+  stopped (unreadable.Damaged place) was = was
+  stopped (unreadable.Worn version) was = was
+  stopped unreadable.NoMemory was = inr (inr was)

@@ -1,6 +1,7 @@
 -- The whole promise of the program's call.
 use Rattle.std.specs.Prelude.{◌≡◌, ◌⊎◌, ◌≤◌, ⊤, ℕ, [], IsTrue, Some, List, length}
 use Rattle.disk_trait.specs.Disk.{DiskState}
+use Rattle.text_io.specs.Text.{SinkState}
 use Rattle.blsm_model.specs.declared.history.Line.{Line}
 use Rattle.blsm_model.specs.declared.key.Key.{Key}
 use Rattle.blsm_model.specs.declared.row.Value.{Value}
@@ -12,13 +13,13 @@ use Rattle.store_run.specs.Headline.{IsStoreWith}
 use Rattle.blsm_run.specs.declared.status.Status.{Status}
 use Rattle.blsm_run.specs.declared.status.Status.TheVariants.{Done, SinkFault, NoMemory}
 use Rattle.blsm_run.specs.Outside.{Outside, IsQuietCount}
-use Rattle.blsm_run.specs.Outcome.{Outcome, Written, Tells}
+use Rattle.blsm_run.specs.Outcome.{Outcome, Tells}
 use Rattle.blsm_run.specs.Cause.{Cause, WasAsked}
 
 -- the source tells a script within the grammar and the limits
 pub record TellsScript {D : Type 0} (o : Outside D) : Type 0 where
   pub input : List ℕ
-  pub told : o.left ≡ Some input
+  pub told : o.source.left ≡ Some input
   pub short : length input ≤ most_script
   pub lines : List Line
   pub script : IsScript input lines
@@ -43,20 +44,20 @@ CanBeDone state o (check name) = HasDisk state o name IsOpenable
 CanBeDone state o (trial seed count) = ⊤
 
 -- Where the outside does its part: accepted words that ask for something that can be done, and no count that rose.
-pub record IsGranted {D : Type 0} (state : D → DiskState) (o : Outside D) (w : Written) : Type 0 where
+pub record IsGranted {D : Type 0} (state : D → DiskState) (o : Outside D) (sink sink_after : SinkState) : Type 0 where
   pub what : Asked
   pub asked : WasAsked o what
   pub can : CanBeDone state o what
-  pub source_quiet : IsQuietCount o.source_faults o.source_faults_after
+  pub source_quiet : IsQuietCount o.source.faults o.source_after.faults
   pub shelf_quiet : IsQuietCount o.shelf.faults o.shelf_after.faults
-  pub sink_quiet : IsQuietCount w.faults w.faults_after
+  pub sink_quiet : IsQuietCount sink.faults sink_after.faults
 
 -- The call ended in one way: the text that it wrote, its status, and the cause of both.
-pub record Answers {D : Type 0} (state : D → DiskState) (o : Outside D) (w : Written) (status : Status) : Type 0 where
+pub record Answers {D : Type 0} (state : D → DiskState) (o : Outside D) (sink sink_after : SinkState) (status : Status) : Type 0 where
   pub outcome : Outcome
-  pub tells : Tells w outcome status
+  pub tells : Tells sink sink_after outcome status
   pub cause : Cause state o outcome
   -- where the outside does its part, what is asked for is done without a fault, or memory runs out before its first command
-  pub completes : IsGranted state o w → (status ≡ Done) ⊎ (status ≡ NoMemory)
+  pub completes : IsGranted state o sink sink_after → (status ≡ Done) ⊎ (status ≡ NoMemory)
   -- and the words of a trial, whose disk can't fail, ask for no more than a sink that doesn't
   pub tries : (seed count : ℕ) → WasAsked o (trial seed count) → (status ≡ Done) ⊎ (status ≡ SinkFault) ⊎ (status ≡ NoMemory)

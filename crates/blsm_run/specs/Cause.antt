@@ -1,17 +1,19 @@
 -- Why a call ended as it did. Each cause has those of the earlier steps come through, so of two that exclude each other one holds.
-use Rattle.std.specs.Prelude.{◌≡◌, ◌⊎◌, ◌<◌, ◌≤◌, ℕ, true, false, Some, List, [], length, IfSome, Ok, Err}
-use Rattle.text_io.specs.Text.{LosesAtMost, LosesFront, LosesMoreThan}
+use Rattle.std.specs.Prelude.{◌≡◌, ◌⊎◌, ℕ, Some, List, Result, Ok, Err}
 use Rattle.disk_trait.specs.Disk.{DiskState}
 use Rattle.disk_mem.specs.Faultless.{Faultless}
 use Rattle.blsm_model.specs.declared.history.Line.{Line}
-use Rattle.blsm_model.specs.Format.{most_script}
 use Rattle.blsm_model.specs.Sizes.{Sizes}
-use Rattle.script_text.specs.Grammar.{IsScript, IsBadLine}
 use Rattle.program_words.specs.Words.{Asked, AreAccepted, asked_by, make, run, check, trial}
+use Rattle.tree_reading.specs.declared.found.Unreadable.{Unreadable}
+use Rattle.tree_reading.specs.declared.found.Unreadable.TheVariants as unreadable
+use Rattle.tree_reading.specs.declared.report.Report.{Report}
+use Rattle.recover_open.specs.declared.making.NotMade.{NotMade}
+use Rattle.recover_open.specs.declared.making.NotMade.TheVariants as not_made
 use Rattle.store_trial.specs.Trial.{IsTrialOf}
-use Rattle.blsm_run.specs.Outside.{Outside, HasRisenOnce, HasNotFetched, HasFetched}
-use Rattle.blsm_run.specs.Outcome.{Outcome, usage, source_fault, too_big, bad_line, disk_fault, not_a_store, not_empty, damaged, worn, no_memory, made, ran, checked, tried}
-use Rattle.blsm_run.specs.Reading.{most_read}
+use Rattle.blsm_run.specs.Outside.{Outside}
+use Rattle.blsm_run.specs.Outcome.{Outcome, refused, made, ran, checked, tried}
+use Rattle.blsm_run.specs.Reading.{ReadsScript}
 use Rattle.blsm_run.specs.Stores.{MakesOnShelf, RunsOnShelf, ChecksOnShelf, IsRunOnShelf}
 use Rattle.blsm_run.specs.declared.outcome.Refusal.{Refusal}
 use Rattle.blsm_run.specs.declared.outcome.Refusal.TheVariants as refusal
@@ -20,81 +22,49 @@ use Rattle.blsm_run.specs.declared.outcome.Refusal.TheVariants as refusal
 abbrev pub WasAsked : {D : Type 0} → Outside D → Asked → Type 0
 WasAsked o asked = AreAccepted o.words × (asked_by o.words ≡ Some asked)
 
--- nothing was read
-pub record WasNotRead {D : Type 0} (o : Outside D) : Type 0 where
-  pub left : o.left_after ≡ o.left
-  pub faults : o.source_faults_after ≡ o.source_faults
-
--- the source was read to its end
-pub record HasRead {D : Type 0} (o : Outside D) : Type 0 where
-  pub left : IfSome o.left (λ input. (length input ≤ most_script) × (o.left_after ≡ Some []))
-  pub calm : o.source_faults_after ≡ o.source_faults
-
--- A store of these sizes was to be made on the disk of this name, which was fetched for it.
-pub record AsksToMake {D : Type 0} (o : Outside D) : Type 0 where
+-- A store of these sizes was to be made on the disk of this name, and the source wasn't read.
+pub record HasMade {D : Type 0} (state : D → DiskState) (o : Outside D) (result : Result ℕ NotMade) : Type 0 where
   pub name : List ℕ
   pub sizes : Sizes
   pub asked : WasAsked o (make name sizes)
-  pub unread : WasNotRead o
-  pub fetched : HasFetched name true o.shelf o.shelf_after
+  pub unread : o.source_after ≡ o.source
+  pub makes : MakesOnShelf state name sizes o.shelf o.shelf_after result
 
--- The store on the disk of this name was to be checked, and the disk was fetched for it.
-pub record AsksToCheck {D : Type 0} (o : Outside D) : Type 0 where
+-- The store on the disk of this name was to be checked, and the source wasn't read.
+pub record HasChecked {D : Type 0} (state : D → DiskState) (o : Outside D) (result : Result Report Unreadable) : Type 0 where
   pub name : List ℕ
   pub asked : WasAsked o (check name)
-  pub unread : WasNotRead o
-  pub fetched : HasFetched name false o.shelf o.shelf_after
+  pub unread : o.source_after ≡ o.source
+  pub checks : ChecksOnShelf state name o.shelf o.shelf_after result
 
--- The source is this script, which was to be run over the store on the disk of this name, beside so many merge workers with so many turns each, and the
--- disk was fetched for it.
-pub record AsksToRun {D : Type 0} (o : Outside D) : Type 0 where
+-- A script was to be run over the store on the disk of this name, beside so many merge workers with so many turns each, and reading the source answered this.
+pub record AsksToRun {D : Type 0} (o : Outside D) (script : Result (List Line) Refusal) : Type 0 where
   pub name : List ℕ
   pub workers : ℕ
   pub turns : ℕ
   pub asked : WasAsked o (run name workers turns)
-  pub read : HasRead o
-  pub lines : List Line
-  pub script : IfSome o.left (λ input. IsScript input lines)
-  pub fetched : HasFetched name false o.shelf o.shelf_after
+  pub reads : ReadsScript o.source o.source_after script
 
--- what was asked for was refused for this: a run,
-abbrev pub HasRun : {D : Type 0} → (D → DiskState) → Outside D → Refusal → Type 0
-HasRun state o why = (a : AsksToRun o) × RunsOnShelf state a.name a.lines a.workers a.turns o.shelf o.shelf_after (Err why)
-
--- a check,
-abbrev pub HasChecked : {D : Type 0} → (D → DiskState) → Outside D → Refusal → Type 0
-HasChecked state o why = (a : AsksToCheck o) × ChecksOnShelf state a.name o.shelf o.shelf_after (Err why)
-
--- or a making
-abbrev pub HasMade : {D : Type 0} → (D → DiskState) → Outside D → Refusal → Type 0
-HasMade state o why = (a : AsksToMake o) × MakesOnShelf state a.name a.sizes o.shelf o.shelf_after (Err why)
+-- the script wasn't read, for this
+abbrev pub AsksInVain : {D : Type 0} → Outside D → Refusal → Type 0
+AsksInVain o why = AsksToRun o (Err why) × (o.shelf_after ≡ o.shelf)
 
 -- the store was refused for this, to a script or to a check
-abbrev pub WasStopped : {D : Type 0} → (D → DiskState) → Outside D → Refusal → Type 0
-WasStopped state o why = HasRun state o why ⊎ HasChecked state o why
-
--- the words ask for a run, whose script wasn't read
-pub record AsksInVain {D : Type 0} (o : Outside D) : Type 0 where
-  pub name : List ℕ
-  pub workers : ℕ
-  pub turns : ℕ
-  pub asked : WasAsked o (run name workers turns)
-  pub unfetched : HasNotFetched o.shelf o.shelf_after
+abbrev pub WasStopped : {D : Type 0} → (D → DiskState) → Outside D → Unreadable → Type 0
+WasStopped state o why = ((lines : List Line) × (a : AsksToRun o (Ok lines)) × RunsOnShelf state a.name lines a.workers a.turns o.shelf o.shelf_after (Err why)) ⊎ HasChecked state o (Err why)
 
 abbrev pub Cause : {D : Type 0} → (D → DiskState) → Outside D → Outcome → Type 0
-Cause state o usage = (¬ AreAccepted o.words) × WasNotRead o × HasNotFetched o.shelf o.shelf_after
-Cause state o source_fault = AsksInVain o × HasRisenOnce o.source_faults o.source_faults_after × LosesFront o.left o.left_after × LosesAtMost most_read o.left o.left_after
-Cause state o too_big = AsksInVain o × IfSome o.left (λ input. most_script < length input) × LosesMoreThan most_script o.left o.left_after × LosesAtMost most_read o.left o.left_after × (o.source_faults_after ≡ o.source_faults)
-Cause state o (bad_line n) = AsksInVain o × HasRead o × IfSome o.left (λ input. IsBadLine input n)
-Cause state o disk_fault = HasMade state o refusal.DiskFault ⊎ WasStopped state o refusal.DiskFault
-Cause state o not_a_store = WasStopped state o refusal.NotAStore
-Cause state o (not_empty n) = HasMade state o (refusal.NotEmpty n)
-Cause state o (damaged place) = WasStopped state o (refusal.Damaged place)
-Cause state o (worn version) = WasStopped state o (refusal.Worn version)
-Cause state o no_memory = (WasNotRead o × HasNotFetched o.shelf o.shelf_after)
-    ⊎ (AsksInVain o × LosesFront o.left o.left_after × LosesAtMost most_read o.left o.left_after × (o.source_faults_after ≡ o.source_faults))
-    ⊎ WasStopped state o refusal.NoMemory
-Cause state o (made length) = (a : AsksToMake o) × MakesOnShelf state a.name a.sizes o.shelf o.shelf_after (Ok length)
-Cause state o (ran history end) = (a : AsksToRun o) × IsRunOnShelf state a.name a.lines a.workers a.turns history end o.shelf o.shelf_after
-Cause state o (checked report) = (a : AsksToCheck o) × ChecksOnShelf state a.name o.shelf o.shelf_after (Ok report)
-Cause state o (tried seed count history) = WasAsked o (trial seed count) × WasNotRead o × HasNotFetched o.shelf o.shelf_after × (disk : Faultless) × IsTrialOf seed count history disk
+Cause state o (refused refusal.Usage) = (¬ AreAccepted o.words) × (o.source_after ≡ o.source) × (o.shelf_after ≡ o.shelf)
+Cause state o (refused refusal.SourceFault) = AsksInVain o refusal.SourceFault
+Cause state o (refused refusal.TooBig) = AsksInVain o refusal.TooBig
+Cause state o (refused (refusal.BadLine n)) = AsksInVain o (refusal.BadLine n)
+Cause state o (refused refusal.DiskFault) = HasMade state o (Err not_made.Fault) ⊎ WasStopped state o unreadable.Fault
+Cause state o (refused refusal.NotAStore) = WasStopped state o unreadable.NotAStore
+Cause state o (refused (refusal.NotEmpty n)) = HasMade state o (Err (not_made.NotEmpty n))
+Cause state o (refused (refusal.Damaged place)) = WasStopped state o (unreadable.Damaged place)
+Cause state o (refused (refusal.Worn version)) = WasStopped state o (unreadable.Worn version)
+Cause state o (refused refusal.NoMemory) = ((o.source_after ≡ o.source) × (o.shelf_after ≡ o.shelf)) ⊎ AsksInVain o refusal.NoMemory ⊎ WasStopped state o unreadable.NoMemory
+Cause state o (made length) = HasMade state o (Ok length)
+Cause state o (ran history end) = (lines : List Line) × (a : AsksToRun o (Ok lines)) × IsRunOnShelf state a.name lines a.workers a.turns history end o.shelf o.shelf_after
+Cause state o (checked report) = HasChecked state o (Ok report)
+Cause state o (tried seed count history) = WasAsked o (trial seed count) × (o.source_after ≡ o.source) × (o.shelf_after ≡ o.shelf) × (disk : Faultless) × IsTrialOf seed count history disk

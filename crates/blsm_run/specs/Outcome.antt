@@ -1,7 +1,7 @@
 -- How a call ends, and what it writes then.
-use Rattle.std.specs.Prelude.{◌≡◌, ◌⊎◌, ⊤, ℕ, Option, List, [], ◌∷◌, ◌++◌, codes, decimal, Result, Ok, Err}
+use Rattle.std.specs.Prelude.{◌≡◌, ◌⊎◌, ⊤, ℕ, List, [], ◌∷◌, ◌++◌, codes, decimal, Result, Ok, Err}
 use Rattle.std.specs.List.{All}
-use Rattle.text_io.specs.Text.{Adds, AddsFront}
+use Rattle.text_io.specs.Text.{Adds, AddsFront, SinkState}
 use Rattle.blsm_model.specs.declared.component.Component.{Component}
 use Rattle.blsm_model.specs.Printed.{and_number, history_text}
 use Rattle.script_text.specs.Generated.{HasMadeKeys}
@@ -28,16 +28,7 @@ use Rattle.blsm_run.specs.declared.status.Status.TheVariants.{Done, Usage, BadLi
 
 -- how a call ends, if the sink takes all of its text
 pub data Outcome : Type 0 where
-  usage : Outcome
-  source_fault : Outcome
-  too_big : Outcome
-  bad_line : ℕ → Outcome
-  disk_fault : Outcome
-  not_a_store : Outcome
-  not_empty : ℕ → Outcome
-  damaged : Place → Outcome
-  worn : ℕ → Outcome
-  no_memory : Outcome
+  refused : Refusal → Outcome
   -- a store of this length was made
   made : ℕ → Outcome
   -- the script was run, and how that ended
@@ -45,6 +36,10 @@ pub data Outcome : Type 0 where
   checked : Report → Outcome
   -- the script of so many commands from this seed was run
   tried : ℕ → ℕ → Run → Outcome
+
+-- as a program ends that has no memory for its call
+abbrev pub no_memory : Outcome
+no_memory = refused refusal.NoMemory
 
 -- ---- what the program's own answers stand for
 
@@ -68,20 +63,11 @@ outcome_of (Ok (answer.Made length)) = made length
 outcome_of (Ok (answer.Ran finished)) = ran (run_of finished) finished.ending
 outcome_of (Ok (answer.Checked report)) = checked report
 outcome_of (Ok (answer.Tried seed count finished)) = tried seed count (run_of finished)
-outcome_of (Err refusal.Usage) = usage
-outcome_of (Err refusal.SourceFault) = source_fault
-outcome_of (Err refusal.TooBig) = too_big
-outcome_of (Err (refusal.BadLine n)) = bad_line n
-outcome_of (Err refusal.DiskFault) = disk_fault
-outcome_of (Err refusal.NotAStore) = not_a_store
-outcome_of (Err (refusal.NotEmpty n)) = not_empty n
-outcome_of (Err (refusal.Damaged place)) = damaged place
-outcome_of (Err (refusal.Worn version)) = worn version
-outcome_of (Err refusal.NoMemory) = no_memory
+outcome_of (Err why) = refused why
 
 -- the keys of a trial's history are the generator's, by which its summary counts
-abbrev pub HasMadeAnswer : Result Answer Refusal → Type 0
-HasMadeAnswer (Ok (answer.Tried seed count finished)) = All (λ e. HasMadeKeys e.op) finished.annals.entries
+abbrev pub HasMadeAnswer : Answer → Type 0
+HasMadeAnswer (answer.Tried seed count finished) = All (λ e. HasMadeKeys e.op) finished.annals.entries
 HasMadeAnswer _ = ⊤
 
 -- ---- statuses
@@ -106,16 +92,16 @@ status_of_ending ending.Faulted = DiskFault
 status_of_ending ending.Damaged = Damaged
 
 abbrev pub status_of : Outcome → Status
-status_of usage = Usage
-status_of source_fault = SourceFault
-status_of too_big = TooBig
-status_of (bad_line n) = BadLine
-status_of disk_fault = DiskFault
-status_of not_a_store = NotAStore
-status_of (not_empty n) = NotEmpty
-status_of (damaged place) = Damaged
-status_of (worn version) = Damaged
-status_of no_memory = NoMemory
+status_of (refused refusal.Usage) = Usage
+status_of (refused refusal.SourceFault) = SourceFault
+status_of (refused refusal.TooBig) = TooBig
+status_of (refused (refusal.BadLine n)) = BadLine
+status_of (refused refusal.DiskFault) = DiskFault
+status_of (refused refusal.NotAStore) = NotAStore
+status_of (refused (refusal.NotEmpty n)) = NotEmpty
+status_of (refused (refusal.Damaged place)) = Damaged
+status_of (refused (refusal.Worn version)) = Damaged
+status_of (refused refusal.NoMemory) = NoMemory
 status_of (made length) = Done
 status_of (ran run end) = status_of_ending end
 status_of (checked report) = Done
@@ -141,16 +127,16 @@ report_text report =
     ++ and_component (codes " c2") report.c2 ++ codes " lanes" ++ and_number report.lane_a ++ and_number report.lane_b ++ newline
 
 abbrev pub text_of : Outcome → List ℕ
-text_of usage = codes "usage" ++ newline
-text_of source_fault = codes "source fault" ++ newline
-text_of too_big = codes "too big" ++ newline
-text_of (bad_line n) = codes "bad line " ++ decimal n ++ newline
-text_of disk_fault = codes "disk fault" ++ newline
-text_of not_a_store = codes "not a store" ++ newline
-text_of (not_empty n) = codes "not empty " ++ decimal n ++ newline
-text_of (damaged place) = place_text place
-text_of (worn version) = codes "worn " ++ decimal version ++ newline
-text_of no_memory = codes "no memory" ++ newline
+text_of (refused refusal.Usage) = codes "usage" ++ newline
+text_of (refused refusal.SourceFault) = codes "source fault" ++ newline
+text_of (refused refusal.TooBig) = codes "too big" ++ newline
+text_of (refused (refusal.BadLine n)) = codes "bad line " ++ decimal n ++ newline
+text_of (refused refusal.DiskFault) = codes "disk fault" ++ newline
+text_of (refused refusal.NotAStore) = codes "not a store" ++ newline
+text_of (refused (refusal.NotEmpty n)) = codes "not empty " ++ decimal n ++ newline
+text_of (refused (refusal.Damaged place)) = place_text place
+text_of (refused (refusal.Worn version)) = codes "worn " ++ decimal version ++ newline
+text_of (refused refusal.NoMemory) = codes "no memory" ++ newline
 text_of (made length) = codes "made " ++ decimal length ++ newline
 text_of (ran run end) = history_text run.charge run.entries run.quanta run.totals
 text_of (checked report) = report_text report
@@ -158,15 +144,8 @@ text_of (tried seed count run) = summary_text seed count run.entries run.quanta 
 
 -- ---- the sink
 
--- what is seen of the sink: what it held and holds, where it tells it, and its count of faults
-pub record Written : Type 0 where
-  pub held : Option (List ℕ)
-  pub held_after : Option (List ℕ)
-  pub faults : ℕ
-  pub faults_after : ℕ
-
 -- The text is written and the status answered, and the sink's count stands; or the sink failed, once, and a front of the text is written, and its status answered.
-abbrev pub Tells : Written → Outcome → Status → Type 0
-Tells w outcome status =
-    ((status ≡ status_of outcome) × Adds (text_of outcome) w.held w.held_after × (w.faults_after ≡ w.faults))
-    ⊎ ((status ≡ SinkFault) × HasRisenOnce w.faults w.faults_after × AddsFront (text_of outcome) w.held w.held_after)
+abbrev pub Tells : SinkState → SinkState → Outcome → Status → Type 0
+Tells sink sink_after outcome status =
+    ((status ≡ status_of outcome) × Adds (text_of outcome) sink.held sink_after.held × (sink_after.faults ≡ sink.faults))
+    ⊎ ((status ≡ SinkFault) × HasRisenOnce sink.faults sink_after.faults × AddsFront (text_of outcome) sink.held sink_after.held)

@@ -1,18 +1,20 @@
 -- What is seen of one call from outside, but for the text that it writes, and what it did to the shelf.
-use Rattle.std.specs.Prelude.{◌≡◌, ◌⊎◌, ◌<◌, ◌≤◌, ℕ, ◌+◌, ◌-◌, ◌^◌, Bool, IsTrue, Option, Some, None, List, [], ◌∷◌, ◌++◌, length, IfSome, IsSome}
+use Rattle.std.specs.Prelude.{◌≡◌, ◌⊎◌, ◌<◌, ◌≤◌, ℕ, ◌+◌, ◌-◌, ◌^◌, Bool, IsTrue, Some, None, List, [], ◌∷◌, ◌++◌, length}
 use Rattle.refusal.specs.Count.{HasRisen}
 use Rattle.disk_trait.specs.Disk.{DiskState}
-use Rattle.disk_trait.specs.Shelf.{ShelfState, IsFreshCount, KeepsOthers, KeepsDisks}
+use Rattle.disk_trait.specs.Shelf.{ShelfState, IsFreshCount, KeepsOthers}
+use Rattle.text_io.specs.Text.{SourceState}
 
--- The words, what the source had left and has left, where it tells it, its count of faults, and the shelf: before the call and after it.
+-- The words, the source and the shelf: before the call and after it.
 pub record Outside (D : Type 0) : Type 0 where
   pub words : List (List ℕ)
-  pub left : Option (List ℕ)
-  pub left_after : Option (List ℕ)
-  pub source_faults : ℕ
-  pub source_faults_after : ℕ
+  pub source : SourceState
+  pub source_after : SourceState
   pub shelf : ShelfState D
   pub shelf_after : ShelfState D
+
+abbrev pub outside : {D : Type 0} → List (List ℕ) → SourceState → SourceState → ShelfState D → ShelfState D → Outside D
+outside words source source_after shelf shelf_after = record { words = words; source = source; source_after = source_after; shelf = shelf; shelf_after = shelf_after }
 
 -- A count of faults rose, and by one at most: after a call that failed none is made again.
 abbrev pub HasRisenOnce : ℕ → ℕ → Type 0
@@ -22,23 +24,16 @@ HasRisenOnce old new = HasRisen old new × (new ≤ old + 1)
 abbrev pub IsQuietCount : ℕ → ℕ → Type 0
 IsQuietCount old new = (new < 2 ^ 64 - 1) × (new ≡ old)
 
--- no fetch was made
-pub record HasNotFetched {D : Type 0} (old new : ShelfState D) : Type 0 where
-  pub disks : IsTrue old.tells_disks → KeepsDisks old new
-  pub fetches : IsTrue old.tells_fetches → new.fetches ≡ old.fetches
-  pub faults : new.faults ≡ old.faults
-
 -- One fetch was made, of the name, with or without leave to make a missing disk: it is noted so where no count rose, and else so or as one that was
--- refused. What it gave was given back under that name, and no other disk changed.
+-- refused. No other disk changed.
 pub record HasFetched {D : Type 0} (name : List ℕ) (fresh : Bool) (old new : ShelfState D) : Type 0 where
   pub fetches : IsTrue old.tells_fetches → length old.fetches < 2 ^ 64 - 1
       → (new.fetches ≡ old.fetches ++ Some (name, fresh) ∷ []) ⊎ (new.fetches ≡ old.fetches ++ None ∷ [])
   pub named : IsTrue old.tells_fetches → length old.fetches < 2 ^ 64 - 1 → IsQuietCount old.faults new.faults → new.fetches ≡ old.fetches ++ Some (name, fresh) ∷ []
-  pub back : IsTrue old.tells_disks → IsSome (old.disk_at name) → IsSome (new.disk_at name)
   pub others : IsTrue old.tells_disks → KeepsOthers name old new
 
--- Where a disk stood under the name, one stands there again, and this holds of it as it was fetched, its count at 0 and all else as it stood, and as
--- it was given back.
+-- A disk stood under the name, and one stands there again, and this holds of it as it was fetched, its count at 0 and all else as it stood, and as it was
+-- given back.
 abbrev pub OfTheDisk : {D : Type 0} → (D → DiskState) → List ℕ → ShelfState D → ShelfState D → (DiskState → DiskState → Type 0) → Type 0
 OfTheDisk {D} state name old new P = IsTrue old.tells_disks
-    → IfSome (old.disk_at name) (λ stood. (first : D) × (last : D) × IsFreshCount (state stood) (state first) × (new.disk_at name ≡ Some last) × P (state first) (state last))
+    → (stood : D) × (first : D) × (last : D) × (old.disk_at name ≡ Some stood) × IsFreshCount (state stood) (state first) × (new.disk_at name ≡ Some last) × P (state first) (state last)

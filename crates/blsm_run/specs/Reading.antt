@@ -1,7 +1,7 @@
 -- What reading the source as a script answers.
-use Rattle.std.specs.Prelude.{◌≡◌, ◌<◌, ◌≤◌, ◌+◌, ℕ, Option, Some, List, [], length, IfSome, Result, Ok, Err}
+use Rattle.std.specs.Prelude.{◌≡◌, ◌<◌, ◌≤◌, ◌+◌, ℕ, Some, List, [], length, IfSome, Result, Ok, Err}
 use Rattle.text_io.specs.Reading.{piece_length}
-use Rattle.text_io.specs.Text.{LosesAtMost, LosesFront, LosesMoreThan}
+use Rattle.text_io.specs.Text.{Loses, SourceState}
 use Rattle.blsm_model.specs.Format.{most_script}
 use Rattle.script_text.specs.Grammar.{IsScript, IsBadLine}
 use Rattle.blsm_model.specs.declared.history.Line.{Line}
@@ -13,14 +13,15 @@ use Rattle.blsm_run.specs.Outside.{HasRisenOnce}
 abbrev pub most_read : ℕ
 most_read = most_script + piece_length
 
--- the source was read to its end
-abbrev pub WasReadWhole : Option (List ℕ) → Option (List ℕ) → Type 0
-WasReadWhole left left_after = IfSome left (λ input. (length input ≤ most_script) × (left_after ≡ Some []))
+-- the source was read to its end, and this holds of what it had
+pub record HasRead (P : List ℕ → Type 0) (old new : SourceState) : Type 0 where
+  pub whole : IfSome old.left (λ input. (length input ≤ most_script) × (new.left ≡ Some []) × P input)
+  pub calm : new.faults ≡ old.faults
 
-abbrev pub ReadsScript : Option (List ℕ) → Option (List ℕ) → ℕ → ℕ → Result (List Line) Refusal → Type 0
-ReadsScript left left_after faults faults_after (Ok script) = WasReadWhole left left_after × IfSome left (λ input. IsScript input script) × (faults_after ≡ faults)
-ReadsScript left left_after faults faults_after (Err refusal.SourceFault) = HasRisenOnce faults faults_after × LosesFront left left_after × LosesAtMost most_read left left_after
-ReadsScript left left_after faults faults_after (Err refusal.TooBig) = IfSome left (λ input. most_script < length input) × LosesMoreThan most_script left left_after × LosesAtMost most_read left left_after × (faults_after ≡ faults)
-ReadsScript left left_after faults faults_after (Err (refusal.BadLine n)) = WasReadWhole left left_after × IfSome left (λ input. IsBadLine input n) × (faults_after ≡ faults)
-ReadsScript left left_after faults faults_after (Err refusal.NoMemory) = LosesFront left left_after × LosesAtMost most_read left left_after × (faults_after ≡ faults)
-ReadsScript left left_after faults faults_after (Err refusal) = ⊥
+abbrev pub ReadsScript : SourceState → SourceState → Result (List Line) Refusal → Type 0
+ReadsScript old new (Ok lines) = HasRead (λ input. IsScript input lines) old new
+ReadsScript old new (Err refusal.SourceFault) = HasRisenOnce old.faults new.faults × Loses 0 most_read old.left new.left
+ReadsScript old new (Err refusal.TooBig) = IfSome old.left (λ input. most_script < length input) × Loses (most_script + 1) most_read old.left new.left × (new.faults ≡ old.faults)
+ReadsScript old new (Err (refusal.BadLine n)) = HasRead (λ input. IsBadLine input n) old new
+ReadsScript old new (Err refusal.NoMemory) = Loses 0 most_read old.left new.left × (new.faults ≡ old.faults)
+ReadsScript old new (Err refusal) = ⊥

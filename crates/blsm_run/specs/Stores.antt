@@ -1,5 +1,5 @@
 -- What is done to the store on the disk of a name of a shelf, and what that answers.
-use Rattle.std.specs.Prelude.{◌≡◌, ◌⊎◌, ◌<◌, ◌≤◌, ◌+◌, ◌-◌, ◌^◌, ℕ, [], max, min, IsTrue, IsSome, List, Some, length, Result, Ok, Err}
+use Rattle.std.specs.Prelude.{◌≡◌, ◌⊎◌, ◌<◌, ◌≤◌, ◌+◌, ◌-◌, ◌^◌, ℕ, Bool, true, false, [], max, min, IsTrue, List, Some, length, Result, Ok, Err}
 use Rattle.refusal.specs.Count.{HasRisenBy}
 use Rattle.disk_trait.specs.Disk.{DiskState}
 use Rattle.disk_trait.specs.Effects.{Affects}
@@ -24,25 +24,26 @@ use Rattle.tree_reading.specs.declared.found.Unreadable.{Unreadable}
 use Rattle.tree_reading.specs.declared.found.Unreadable.TheVariants as unreadable
 use Rattle.tree_reading.specs.declared.report.Report.{Report}
 use Rattle.recover_open.specs.Making.{IsEmptyOrNone, IsMadeEmpty, WasNotEmpty}
+use Rattle.recover_open.specs.declared.making.NotMade.{NotMade}
+use Rattle.recover_open.specs.declared.making.NotMade.TheVariants as not_made
 use Rattle.recover_open.specs.Opening.{HasLengthOf, KeepsMapOf, ReadsAsNone}
 use Rattle.tree_session.specs.Faults.{Reaches, faults_told}
 use Rattle.store_run.specs.declared.run.Ending.{Ending}
 use Rattle.store_run.specs.declared.run.Finished.{Finished}
 use Rattle.store_run.specs.Headline.{Headline}
 use Rattle.store_run.specs.Run.{Run, AreCounted, CameToEnd, HasCauses, IsEnding, IsRunOf, run_of}
-use Rattle.blsm_run.specs.declared.outcome.Refusal.{Refusal}
-use Rattle.blsm_run.specs.declared.outcome.Refusal.TheVariants as refusal
-use Rattle.blsm_run.specs.Outside.{HasRisenOnce, OfTheDisk}
+use Rattle.blsm_run.specs.Outside.{HasFetched, HasRisenOnce, OfTheDisk}
 
--- The disk of the name was fetched and no call of it failed: one stood there, of which this holds, and the shelf's count of faults stands.
-pub record WasCalm {D : Type 0} (state : D → DiskState) (name : List ℕ) (old new : ShelfState D) (P : DiskState → DiskState → Type 0) : Type 0 where
-  pub stood : IsTrue old.tells_disks → IsSome (old.disk_at name)
+-- The disk of the name was fetched and no call of it failed: this holds of the disk, and the shelf's count of faults stands.
+pub record WasCalm {D : Type 0} (state : D → DiskState) (name : List ℕ) (fresh : Bool) (old new : ShelfState D) (P : DiskState → DiskState → Type 0) : Type 0 where
+  pub fetched : HasFetched name fresh old new
   pub disk : OfTheDisk state name old new P
   pub quiet : new.faults ≤ old.faults
 
--- A call failed, once: the fetch, and no disk has changed, or one of the disk that stood there, of which this holds.
-pub record HasFailedOnce {D : Type 0} (state : D → DiskState) (name : List ℕ) (old new : ShelfState D) (P : DiskState → DiskState → Type 0) : Type 0 where
-  pub disk : (IsTrue old.tells_disks → KeepsDisks old new) ⊎ ((IsTrue old.tells_disks → IsSome (old.disk_at name)) × OfTheDisk state name old new P)
+-- A call failed, once: the fetch, and no disk has changed, or one of the disk, of which this holds.
+pub record HasFailedOnce {D : Type 0} (state : D → DiskState) (name : List ℕ) (fresh : Bool) (old new : ShelfState D) (P : DiskState → DiskState → Type 0) : Type 0 where
+  pub fetched : HasFetched name fresh old new
+  pub disk : (IsTrue old.tells_disks → KeepsDisks old new) ⊎ OfTheDisk state name old new P
   pub rose : HasRisenOnce old.faults new.faults
 
 -- ---- making
@@ -62,21 +63,10 @@ pub record WasMade (sizes : Sizes) (first last : DiskState) : Type 0 where
   pub long : IsTrue first.tells_bytes → length last.bytes ≡ file_length sizes
   pub leaves : LeavesMade sizes first last
 
-abbrev pub MakesOnShelf : {D : Type 0} → (D → DiskState) → List ℕ → Sizes → ShelfState D → ShelfState D → Result ℕ Refusal → Type 0
-MakesOnShelf state name sizes old new (Ok length) = (length ≡ file_length sizes) × WasCalm state name old new (WasMade sizes)
-MakesOnShelf state name sizes old new (Err (refusal.NotEmpty n)) = WasCalm state name old new (WasNotEmpty n)
-MakesOnShelf state name sizes old new (Err refusal.DiskFault) = HasFailedOnce state name old new (LeavesMade sizes)
-MakesOnShelf state name sizes old new (Err refusal) = ⊥
-
--- ---- refusals of a store
-
--- why a store isn't read, where that is the cause
-abbrev pub WhyOf : Refusal → (Unreadable → Type 0) → Type 0
-WhyOf refusal.NotAStore P = P unreadable.NotAStore
-WhyOf (refusal.Damaged place) P = P (unreadable.Damaged place)
-WhyOf (refusal.Worn version) P = P (unreadable.Worn version)
-WhyOf refusal.NoMemory P = P unreadable.NoMemory
-WhyOf refusal P = ⊥
+abbrev pub MakesOnShelf : {D : Type 0} → (D → DiskState) → List ℕ → Sizes → ShelfState D → ShelfState D → Result ℕ NotMade → Type 0
+MakesOnShelf state name sizes old new (Ok length) = (length ≡ file_length sizes) × WasCalm state name true old new (WasMade sizes)
+MakesOnShelf state name sizes old new (Err (not_made.NotEmpty n)) = WasCalm state name true old new (WasNotEmpty n)
+MakesOnShelf state name sizes old new (Err not_made.Fault) = HasFailedOnce state name true old new (LeavesMade sizes)
 
 -- ---- running
 
@@ -115,8 +105,7 @@ pub record IsRunOnShelf {D : Type 0} (state : D → DiskState) (name : List ℕ)
   pub printed : IsRunOf sizes lines workers turns run
   -- how callers and workers ended
   pub came : CameToEnd workers turns run
-  -- one stood there
-  pub stood : IsTrue old.tells_disks → IsSome (old.disk_at name)
+  pub fetched : HasFetched name false old new
   pub disk : OfTheDisk state name old new (HasRunOn state sizes lines workers turns run ending)
   -- why each reply is so, and what stopped the store, by the calls that led to the disk that was given back
   pub last : D
@@ -129,24 +118,20 @@ pub record IsRunOnShelf {D : Type 0} (state : D → DiskState) (name : List ℕ)
   -- faults are told only as often as the shelf's count rose
   pub faults : HasRisenBy (faults_told run.entries) old.faults new.faults
 
-abbrev pub RunsOnShelf : {D : Type 0} → (D → DiskState) → List ℕ → List Line → ℕ → ℕ → ShelfState D → ShelfState D → Result Finished Refusal → Type 0
+abbrev pub RunsOnShelf : {D : Type 0} → (D → DiskState) → List ℕ → List Line → ℕ → ℕ → ShelfState D → ShelfState D → Result Finished Unreadable → Type 0
 RunsOnShelf state name lines workers turns old new (Ok finished) = IsRunOnShelf state name lines workers turns (run_of finished) finished.ending old new
-RunsOnShelf state name lines workers turns old new (Err refusal.DiskFault) = HasFailedOnce state name old new LeavesClosed
-RunsOnShelf state name lines workers turns old new (Err refusal) = WhyOf refusal (λ why. WasCalm state name old new (WasRefused why))
+RunsOnShelf state name lines workers turns old new (Err unreadable.Fault) = HasFailedOnce state name false old new LeavesClosed
+RunsOnShelf state name lines workers turns old new (Err why) = WasCalm state name false old new (WasRefused why)
 
 -- ---- checking
 
--- it was looked at, and this is why it doesn't read
-pub record WasUnreadable (why : Unreadable) (first last : DiskState) : Type 0 where
-  pub because : IsTrue first.is_honest → IsWhy why first.bytes
+-- it was looked at, and this holds of its file
+pub record WasLookedAt (P : List ℕ → Type 0) (first last : DiskState) : Type 0 where
+  pub is : IsTrue first.is_honest → P first.bytes
   pub looked : HasLooked reading_calls first last
 
--- it was looked at, and these are its numbers
-pub record WasChecked (report : Report) (first last : DiskState) : Type 0 where
-  pub tells : IsTrue first.is_honest → IsReportOf report first.bytes
-  pub looked : HasLooked reading_calls first last
-
-abbrev pub ChecksOnShelf : {D : Type 0} → (D → DiskState) → List ℕ → ShelfState D → ShelfState D → Result Report Refusal → Type 0
-ChecksOnShelf state name old new (Ok report) = WasCalm state name old new (WasChecked report)
-ChecksOnShelf state name old new (Err refusal.DiskFault) = HasFailedOnce state name old new (HasLooked reading_calls)
-ChecksOnShelf state name old new (Err refusal) = WhyOf refusal (λ why. WasCalm state name old new (WasUnreadable why))
+-- what its numbers are, or why it doesn't read
+abbrev pub ChecksOnShelf : {D : Type 0} → (D → DiskState) → List ℕ → ShelfState D → ShelfState D → Result Report Unreadable → Type 0
+ChecksOnShelf state name old new (Ok report) = WasCalm state name false old new (WasLookedAt (IsReportOf report))
+ChecksOnShelf state name old new (Err unreadable.Fault) = HasFailedOnce state name false old new (HasLooked reading_calls)
+ChecksOnShelf state name old new (Err why) = WasCalm state name false old new (WasLookedAt (IsWhy why))

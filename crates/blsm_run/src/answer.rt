@@ -1,5 +1,5 @@
 //! What a call answers: the text that it writes, a line in one call of the sink, and its status.
-ghost use Rattle.std.specs.Prelude.{◌≡◌, ◌+◌, ◌≤◌, ◌++◌, decimal, length, Ok, Err};
+ghost use Rattle.std.specs.Prelude.{◌≡◌, ◌+◌, ◌≤◌, ◌++◌, decimal, length, IfOk, Ok, Err};
 ghost use Rattle.text_io.specs.Text.{Writes};
 ghost use Rattle.blsm_run.specs.Outcome.{Tells, HasMadeAnswer, and_component, newline, outcome_of, place_text, report_text, status_of, status_of_ending, text_of};
 
@@ -15,7 +15,7 @@ use text_io::{Sink, write_all};
 // A line with a number at its end.
 fn print_numbered<K: Sink>(sink: &mut K, name: &[u8], number: u64) -> Result<(), Failed>
     requires { length name.now ≤ 100 }
-    ensures { Writes (name.now ++ decimal number ++ newline) result (K.held sink.old) (K.held sink.new) (K.faults sink.old) (K.faults sink.new) }
+    ensures { Writes (name.now ++ decimal number ++ newline) result (K.state sink.old) (K.state sink.new) }
 {
     let mut piece = Piece::new();
     piece.add(name);
@@ -35,7 +35,7 @@ fn add_component(piece: &mut Piece, name: &[u8], component: &Component)
 }
 
 fn print_report<K: Sink>(sink: &mut K, report: &Report) -> Result<(), Failed>
-    ensures { Writes (report_text report.now) result (K.held sink.old) (K.held sink.new) (K.faults sink.old) (K.faults sink.new) }
+    ensures { Writes (report_text report.now) result (K.state sink.old) (K.state sink.new) }
 {
     let mut piece = Piece::new();
     piece.add_named_number(b"ok version", report.version);
@@ -49,7 +49,7 @@ fn print_report<K: Sink>(sink: &mut K, report: &Report) -> Result<(), Failed>
 }
 
 fn print_place<K: Sink>(sink: &mut K, place: Place) -> Result<(), Failed>
-    ensures { Writes (place_text place) result (K.held sink.old) (K.held sink.new) (K.faults sink.old) (K.faults sink.new) }
+    ensures { Writes (place_text place) result (K.state sink.old) (K.state sink.new) }
 {
     match place {
         Place::Slots => write_all(sink, b"damaged slots\n"),
@@ -59,7 +59,7 @@ fn print_place<K: Sink>(sink: &mut K, place: Place) -> Result<(), Failed>
 }
 
 fn print_refusal<K: Sink>(sink: &mut K, refusal: Refusal) -> Result<(), Failed>
-    ensures { Writes (text_of (outcome_of (Err refusal))) result (K.held sink.old) (K.held sink.new) (K.faults sink.old) (K.faults sink.new) }
+    ensures { Writes (text_of (outcome_of (Err refusal))) result (K.state sink.old) (K.state sink.new) }
 {
     match refusal {
         Refusal::Usage => write_all(sink, b"usage\n"),
@@ -77,8 +77,8 @@ fn print_refusal<K: Sink>(sink: &mut K, refusal: Refusal) -> Result<(), Failed>
 
 // What was done: the length of a store that was made, the history of a run, the report of a check, the summary of a trial.
 fn print_done<K: Sink>(sink: &mut K, answer: &Answer) -> Result<(), Failed>
-    requires { HasMadeAnswer (Ok answer.now) }
-    ensures { Writes (text_of (outcome_of (Ok answer.now))) result (K.held sink.old) (K.held sink.new) (K.faults sink.old) (K.faults sink.new) }
+    requires { HasMadeAnswer answer.now }
+    ensures { Writes (text_of (outcome_of (Ok answer.now))) result (K.state sink.old) (K.state sink.new) }
 {
     match answer {
         Answer::Made(length) => print_numbered(sink, b"made ", *length),
@@ -95,8 +95,8 @@ fn print_done<K: Sink>(sink: &mut K, answer: &Answer) -> Result<(), Failed>
 }
 
 fn print_answer<K: Sink>(sink: &mut K, answer: &Result<Answer, Refusal>) -> Result<(), Failed>
-    requires { HasMadeAnswer answer.now }
-    ensures { Writes (text_of (outcome_of answer.now)) result (K.held sink.old) (K.held sink.new) (K.faults sink.old) (K.faults sink.new) }
+    requires { IfOk answer.now HasMadeAnswer }
+    ensures { Writes (text_of (outcome_of answer.now)) result (K.state sink.old) (K.state sink.new) }
 {
     match answer {
         Ok(done) => print_done(sink, done),
@@ -144,13 +144,8 @@ fn status_for(answer: &Result<Answer, Refusal>) -> Status
 
 /// Writes the text of an answer, and answers its status.
 pub(crate) fn tell<K: Sink>(sink: &mut K, answer: &Result<Answer, Refusal>) -> Status
-    requires { HasMadeAnswer answer.now }
-    ensures { Tells (record {
-      held = K.held sink.old;
-      held_after = K.held sink.new;
-      faults = K.faults sink.old;
-      faults_after = K.faults sink.new;
-    }) (outcome_of answer.now) result }
+    requires { IfOk answer.now HasMadeAnswer }
+    ensures { Tells (K.state sink.old) (K.state sink.new) (outcome_of answer.now) result }
 {
     match print_answer(sink, answer) {
         Ok(()) => status_for(answer),

@@ -1,8 +1,9 @@
 //! The steps of a call up to its answer.
-ghost use Rattle.std.specs.Prelude.{◌≡◌, ◌≤◌, ℕ, List, Some, map, string_bytes};
+ghost use Rattle.std.specs.Prelude.{◌≡◌, ◌≤◌, ℕ, IfOk, List, Some, map, string_bytes};
 ghost use Rattle.program_words.specs.Words.{AreAccepted, IsInRange, asked_by, asked_of, most_workers, run};
 ghost use Rattle.blsm_run.specs.Cause.{Cause};
 ghost use Rattle.blsm_run.specs.Outcome.{HasMadeAnswer, outcome_of};
+ghost use Rattle.blsm_run.specs.Outside.{outside};
 
 use crate::outcome::{Answer, Refusal};
 use crate::source::read_source;
@@ -29,16 +30,9 @@ fn run<R: Threads + Wait + Sync, S: Source, H: Shelf, G: Gate + Sync>(
     gate: &G,
 ) -> Result<Answer, Refusal>
     requires few { workers ≤ most_workers }
-    ensures cause { (words : List (List ℕ)) → AreAccepted words → asked_by words ≡ Some (run name.now workers turns) → Cause H.D.state (record {
-      words = words;
-      left = S.left source.old;
-      left_after = S.left source.new;
-      source_faults = S.faults source.old;
-      source_faults_after = S.faults source.new;
-      shelf = H.state shelf.old;
-      shelf_after = H.state shelf.new;
-    }) (outcome_of result) }
-    ensures made { HasMadeAnswer result }
+    ensures cause { (words : List (List ℕ)) → AreAccepted words → asked_by words ≡ Some (run name.now workers turns)
+        → Cause H.D.state (outside words (S.state source.old) (S.state source.new) (H.state shelf.old) (H.state shelf.new)) (outcome_of result) }
+    ensures made { IfOk result HasMadeAnswer }
 {
     let script = read_source(alloc, source)?;
     let finished = run_on_shelf(
@@ -65,16 +59,9 @@ fn carry_out<R: Threads + Wait + Sync, S: Source, H: Shelf, G: Gate + Sync>(
     gate: &G,
 ) -> Result<Answer, Refusal>
     requires range { IsInRange (asked_of request) }
-    ensures cause { (words : List (List ℕ)) → AreAccepted words → asked_by words ≡ Some (asked_of request.entry) → Cause H.D.state (record {
-      words = words;
-      left = S.left source.old;
-      left_after = S.left source.new;
-      source_faults = S.faults source.old;
-      source_faults_after = S.faults source.new;
-      shelf = H.state shelf.old;
-      shelf_after = H.state shelf.new;
-    }) (outcome_of result) }
-    ensures made { HasMadeAnswer result }
+    ensures cause { (words : List (List ℕ)) → AreAccepted words → asked_by words ≡ Some (asked_of request.entry)
+        → Cause H.D.state (outside words (S.state source.old) (S.state source.new) (H.state shelf.old) (H.state shelf.new)) (outcome_of result) }
+    ensures made { IfOk result HasMadeAnswer }
 {
     made_histories();
     match request {
@@ -104,16 +91,8 @@ pub(crate) fn perform<R: Threads + Wait + Sync, S: Source, H: Shelf, G: Gate + S
     shelf: &mut H,
     gate: &G,
 ) -> Result<Answer, Refusal>
-    ensures cause { Cause H.D.state (record {
-      words = map string_bytes words.now;
-      left = S.left source.old;
-      left_after = S.left source.new;
-      source_faults = S.faults source.old;
-      source_faults_after = S.faults source.new;
-      shelf = H.state shelf.old;
-      shelf_after = H.state shelf.new;
-    }) (outcome_of result) }
-    ensures made { HasMadeAnswer result }
+    ensures cause { Cause H.D.state (outside (map string_bytes words.now) (S.state source.old) (S.state source.new) (H.state shelf.old) (H.state shelf.new)) (outcome_of result) }
+    ensures made { IfOk result HasMadeAnswer }
 {
     asked_in_range();
     match read_words(alloc, words) {

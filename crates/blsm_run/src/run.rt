@@ -1,6 +1,7 @@
 //! The program's one call.
 ghost use Rattle.std.specs.Prelude.{map, string_bytes};
 ghost use Rattle.blsm_run.specs.Answer.{Answers};
+ghost use Rattle.blsm_run.specs.Outside.{outside};
 
 use crate::Status;
 use crate::answer::tell;
@@ -25,20 +26,7 @@ pub fn blsm_run<R: Threads + Wait + Sync, S: Source, K: Sink, H: Shelf, G: Gate 
     shelf: &mut H,
     gate: &G,
 ) -> Status
-    ensures { Answers H.D.state (record {
-      words = map string_bytes words.now;
-      left = S.left src.old;
-      left_after = S.left src.new;
-      source_faults = S.faults src.old;
-      source_faults_after = S.faults src.new;
-      shelf = H.state shelf.old;
-      shelf_after = H.state shelf.new;
-    }) (record {
-      held = K.held sink.old;
-      held_after = K.held sink.new;
-      faults = K.faults sink.old;
-      faults_after = K.faults sink.new;
-    }) result }
+    ensures { Answers H.D.state (outside (map string_bytes words.now) (S.state src.old) (S.state src.new) (H.state shelf.old) (H.state shelf.new)) (K.state sink.old) (K.state sink.new) result }
 {
     one_tree();
     a_map_is_read();

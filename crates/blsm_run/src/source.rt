@@ -12,7 +12,7 @@ const MAX_SCRIPT: usize = 8_388_608;
 /// Reads the source to its end, as a script. It stays a call, since a piece of the text and a line are kilobytes on the stack.
 #[inline(never)]
 pub(crate) fn read_source<S: Source>(alloc: Global, source: &mut S) -> Result<Script, Refusal>
-    ensures { ReadsScript (S.left source.old) (S.left source.new) (S.faults source.old) (S.faults source.new) result }
+    ensures { ReadsScript (S.state source.old) (S.state source.new) result }
 {
     let bytes = match read_all(alloc, source, MAX_SCRIPT) {
         Ok(bytes) => bytes,

@@ -1,17 +1,15 @@
 //! What is done to the store on the disk of a name. The disk goes back to the shelf whatever happens. Each stays a call, so
 //! that the frame of who carries a request out has the locals of none.
-ghost use Rattle.std.specs.Prelude.{◌+◌, ◌≤◌, false, sum, true};
+ghost use Rattle.std.specs.Prelude.{◌+◌, ◌≤◌, sum};
 ghost use Rattle.blsm_model.specs.Format.{callers, most_entries, most_rows_asked};
 ghost use Rattle.tree_machine.specs.Machine.{seats};
 ghost use Rattle.store_trial.specs.Trial.{IsRoomOf};
 ghost use Rattle.tree_session.specs.Lines.{AreRunnable};
-ghost use Rattle.blsm_run.specs.Outside.{HasFetched};
 ghost use Rattle.blsm_run.specs.Stores.{ChecksOnShelf, MakesOnShelf, RunsOnShelf};
 
-use crate::outcome::Refusal;
 use blsm_model::{Gate, Geometry, Line, Room};
 use disk_trait::Shelf;
-use recover_open::{Report, check_store, make_store};
+use recover_open::{NotMade, Report, Unreadable, check_store, make_store};
 use std::alloc::Global;
 use std::sync::Wait;
 use std::thread::Threads;
@@ -23,18 +21,17 @@ pub(crate) fn make_on_shelf<H: Shelf>(
     shelf: &mut H,
     name: &str,
     geometry: &Geometry,
-) -> Result<u64, Refusal>
-    ensures fetched { HasFetched name.now true (H.state shelf.old) (H.state shelf.new) }
-    ensures makes { MakesOnShelf H.D.state name.now geometry.now (H.state shelf.old) (H.state shelf.new) result }
+) -> Result<u64, NotMade>
+    ensures { MakesOnShelf H.D.state name.now geometry.now (H.state shelf.old) (H.state shelf.new) result }
 {
     let Ok(mut disk) = shelf.fetch(name, true) else {
-        return Err(Refusal::DiskFault);
+        return Err(NotMade::Fault);
     };
     let made = make_store(&mut disk, geometry);
     shelf.give_back(name, disk);
     match made {
         Ok(()) => Ok(geometry.length()),
-        Err(why) => Err(Refusal::from(why)),
+        Err(why) => Err(why),
     }
 }
 
@@ -50,24 +47,20 @@ pub(crate) fn run_on_shelf<R: Threads + Wait + Sync, H: Shelf, G: Gate + Sync>(
     workers: u32,
     turns: u32,
     gate: &G,
-) -> Result<Finished, Refusal>
+) -> Result<Finished, Unreadable>
     requires entries { sum room.entries ≤ most_entries }
     requires rows { sum room.rows ≤ most_rows_asked }
     requires runnable { AreRunnable lines.now }
     requires room { IsRoomOf room lines.now }
     requires few { callers + workers ≤ seats }
-    ensures fetched { HasFetched name.now false (H.state shelf.old) (H.state shelf.new) }
-    ensures runs { RunsOnShelf H.D.state name.now lines.now workers turns (H.state shelf.old) (H.state shelf.new) result }
+    ensures { RunsOnShelf H.D.state name.now lines.now workers turns (H.state shelf.old) (H.state shelf.new) result }
 {
     let Ok(disk) = shelf.fetch(name, false) else {
-        return Err(Refusal::DiskFault);
+        return Err(Unreadable::Fault);
     };
     let (disk, outcome) = run_over(rt, alloc, disk, lines, room, workers, turns, gate);
     shelf.give_back(name, disk);
-    match outcome {
-        Ok(finished) => Ok(finished),
-        Err(why) => Err(Refusal::from(why)),
-    }
+    outcome
 }
 
 /// Checks the store on the disk of a name.
@@ -76,17 +69,13 @@ pub(crate) fn check_on_shelf<H: Shelf>(
     alloc: Global,
     shelf: &mut H,
     name: &str,
-) -> Result<Report, Refusal>
-    ensures fetched { HasFetched name.now false (H.state shelf.old) (H.state shelf.new) }
-    ensures checks { ChecksOnShelf H.D.state name.now (H.state shelf.old) (H.state shelf.new) result }
+) -> Result<Report, Unreadable>
+    ensures { ChecksOnShelf H.D.state name.now (H.state shelf.old) (H.state shelf.new) result }
 {
     let Ok(mut disk) = shelf.fetch(name, false) else {
-        return Err(Refusal::DiskFault);
+        return Err(Unreadable::Fault);
     };
     let checked = check_store(alloc, &mut disk);
     shelf.give_back(name, disk);
-    match checked {
-        Ok(report) => Ok(report),
-        Err(why) => Err(Refusal::from(why)),
-    }
+    checked
 }

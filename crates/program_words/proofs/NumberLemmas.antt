@@ -1,5 +1,7 @@
 -- What a number that was read is of the text that was found.
-use Rattle.std.proofs.Common.{◌≡◌, ℕ, Bool, true, false, List, Option, Some, None, Result, Ok, Err, option_and_then, cond, ◌≤◌, ap, sym, refl, subst, ◌∙◌}
+use Rattle.std.proofs.lemmas.Bool.Decides.{nat_tests}
+use Rattle.std.proofs.lemmas.Grind.{common_steps}
+use Rattle.std.proofs.Common.{◌≡◌, ℕ, Bool, true, false, List, Option, Some, None, Result, Ok, Err, option_and_then, cond, ◌≤◌, ap, sym, refl, subst, ◌∙◌, arith}
 use Rattle.std.specs.Str.Parse.{ParsesUnsigned, digits_value, without_leading_plus}
 use Rattle.clap.specs.Words.{Text, ReadsOne}
 use Rattle.clap.specs.ValueTests.{is_unsigned_in}
@@ -17,11 +19,7 @@ inside : (number : Number) (text : Text) → is_unsigned_in number.least number.
 inside number text is = ap (λ b. when_in b text) is
 
 outside : (number : Number) (text : Text) → (is_unsigned_in number.least number.most text ≡ true → ⊥) → number_by number text ≡ None
-outside number text never = go (is_unsigned_in number.least number.most text) never
-  where
-    go : (b : Bool) → (b ≡ true → ⊥) → when_in b text ≡ None
-    go true isnt = absurd (isnt refl)
-    go false isnt = refl
+outside number text h1 = grind (arith, common_steps, nat_tests)
 
 -- no number was read
 pub read_none : (E : Type 0) (G : List ℕ → Result ℕ E → Type 0) → ((u : List ℕ) (x : Result ℕ E) → G u x → ParsesUnsigned 64 10 u x)

@@ -1,8 +1,7 @@
 //! A writer as a sink.
-ghost use Rattle.std.specs.Prelude.{◌≡◌, ◌≤◌, None, length, IfOk, OnOk, OnErr};
+ghost use Rattle.std.specs.Prelude.{◌≡◌, ◌≤◌, None, length, IfOk};
 ghost use Rattle.std.specs.Io.KnownBytes.{WriteAppends};
-ghost use Rattle.refusal.specs.Count.{CountsFault};
-ghost use Rattle.text_io.specs.Text.{Takes};
+ghost use Rattle.text_io.specs.Text.{WritesSome};
 
 use refusal::Failed;
 use std::io;
@@ -41,14 +40,10 @@ fn write_through<W: Write>(writer: &mut W, from: &[u8]) -> io::Result<usize>
 }
 
 impl<W: Write> Sink for StdSink<W> {
-    ghost held = { λ _. None };
-
-    ghost faults = { λ s. s.faults };
+    ghost state = { λ s. record { held = None; faults = s.faults } };
 
     fn write(&mut self, from: &[u8]) -> Result<usize, Failed>
-        ensures takes { IfOk result (Takes None None from.now) }
-        ensures calm { OnOk result (self.new.faults ≡ self.old.faults) }
-        ensures cause { CountsFault result self.old.faults self.new.faults }
+        ensures call { WritesSome result from.now (record { held = None; faults = self.old.faults }) (record { held = None; faults = self.new.faults }) }
 
         // A writer that tells its bytes gets those that were taken, and no others.
         ensures bytes { WriteAppends (W.contents self.old.writer) (W.contents self.new.writer) result from.now }

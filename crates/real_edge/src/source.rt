@@ -1,8 +1,7 @@
 //! A reader as a source.
-ghost use Rattle.std.specs.Prelude.{◌≡◌, ◌≤◌, None, length, IfOk, OnOk, OnErr};
+ghost use Rattle.std.specs.Prelude.{◌≡◌, ◌≤◌, None, length, IfOk};
 ghost use Rattle.std.specs.Io.KnownBytes.{ReadConsumes};
-ghost use Rattle.refusal.specs.Count.{CountsFault};
-ghost use Rattle.text_io.specs.Text.{Gives};
+ghost use Rattle.text_io.specs.Text.{ReadsSome};
 
 use refusal::Failed;
 use std::io;
@@ -42,14 +41,10 @@ fn read_through<R: Read>(reader: &mut R, into: &mut [u8]) -> io::Result<usize>
 }
 
 impl<R: Read> Source for StdSource<R> {
-    ghost left = { λ _. None };
-
-    ghost faults = { λ s. s.faults };
+    ghost state = { λ s. record { left = None; faults = s.faults } };
 
     fn read(&mut self, into: &mut [u8]) -> Result<usize, Failed>
-        ensures gives { IfOk result (Gives None None (length into.old) into.new) }
-        ensures calm { OnOk result (self.new.faults ≡ self.old.faults) }
-        ensures cause { CountsFault result self.old.faults self.new.faults }
+        ensures call { ReadsSome result (length into.old) into.new (record { left = None; faults = self.old.faults }) (record { left = None; faults = self.new.faults }) }
 
         // A reader that tells its bytes loses those that were given, and no others.
         ensures bytes { ReadConsumes (R.remaining self.old.reader) (R.remaining self.new.reader) result into.new }

@@ -12,8 +12,7 @@ use Rattle.blsm_model.specs.declared.op.Op.TheVariants.{Put, Add, Del, Get}
 use Rattle.blsm_model.specs.declared.history.Entry.{Entry}
 use Rattle.blsm_model.specs.declared.history.Line.{Line}
 use Rattle.blsm_model.specs.Scripts.{IsOfScript, lines_of, ops_of, rows_of}
-use Rattle.script_text.specs.Grammar.{IsAllowed, IsCommand, IsKey, IsText, IsVisible, all_rows_asked}
-use Rattle.script_text.specs.Script.{AreLines}
+use Rattle.script_text.specs.Grammar.{AreLines, IsAllowed, IsCommand, IsKey, IsText, IsVisible, all_rows_asked}
 use Rattle.script_text.specs.Generated.{HasMadeKeys, IsMade, after_command, generated, key_at, key_count, op_from, op_of, text_at}
 
 -- one command more

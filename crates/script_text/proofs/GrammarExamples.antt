@@ -69,11 +69,11 @@ allowed_both = All-from_recursion IsAllowed (get_a ∷ put_a ∷ []) (a_get.allo
 -- the end of the last line may lack
 ended : IsScript (codes "1 get a" ++ 10 ∷ [] ++ codes "16 put a 5 -" ++ 10 ∷ []) (get_a ∷ put_a ∷ [])
 unfolding digits get_a put_a
-ended = record { allowed = allowed_both; few = omega arith; asked = omega arith; spelled = inl refl }
+ended = record { are = record { allowed = allowed_both; few = omega arith; asked = omega arith }; spelled = inl refl }
 
 unended : IsScript (codes "1 get a" ++ 10 ∷ [] ++ codes "16 put a 5 -") (get_a ∷ put_a ∷ [])
 unfolding digits get_a put_a
-unended = record { allowed = allowed_both; few = omega arith; asked = omega arith; spelled = inr refl }
+unended = record { are = record { allowed = allowed_both; few = omega arith; asked = omega arith }; spelled = inr refl }
 
 -- a key of 65 bytes, and a dash as a text
 long_key : IsKey (replicate 65 97) → ⊥
@@ -140,7 +140,7 @@ allowed_first = All-from_recursion IsAllowed (get_a ∷ []) (a_get.allowed, tt)
 
 second_bad : IsBadLine (codes "1 get a" ++ 10 ∷ codes "1 frob a") 2
 unfolding digits get_a
-second_bad = record { before = get_a ∷ []; rest = codes "1 frob a"; split = refl; allowed = allowed_first; few = omega arith; asked = omega arith; place = refl; there = omega arith; bad = inl frob }
+second_bad = record { before = get_a ∷ []; rest = codes "1 frob a"; split = refl; are = record { allowed = allowed_first; few = omega arith; asked = omega arith }; place = refl; there = omega arith; bad = inl frob }
 
 -- an empty line is bad, and not the line behind it
 nothing : (line : Line) → IsLine [] line → ⊥
@@ -148,7 +148,7 @@ nothing line is = absurd (omega (arith, line_some line is.allowed, ap (λ bytes.
 
 empty_bad : IsBadLine (codes "1 get a" ++ 10 ∷ 10 ∷ codes "1 get a") 2
 unfolding digits get_a
-empty_bad = record { before = get_a ∷ []; rest = 10 ∷ codes "1 get a"; split = refl; allowed = allowed_first; few = omega arith; asked = omega arith; place = refl; there = omega arith; bad = inl nothing }
+empty_bad = record { before = get_a ∷ []; rest = 10 ∷ codes "1 get a"; split = refl; are = record { allowed = allowed_first; few = omega arith; asked = omega arith }; place = refl; there = omega arith; bad = inl nothing }
 
 -- 4,096 nexts of 32 rows ask for as many rows as a script may, and one row more is too much
 full : List Line
@@ -160,7 +160,7 @@ full_asks = sum_by-replicate (λ (l : Line). rows_of l.op) 4096 next_32
 
 full_script : IsScript (lines_text full) full
 unfolding full
-full_script = record { allowed = All-replicate IsAllowed 4096 next_32 a_next.allowed; few = omega (arith, length-replicate 4096 next_32); asked = omega (arith, full_asks); spelled = inl refl }
+full_script = record { are = record { allowed = All-replicate IsAllowed 4096 next_32 a_next.allowed; few = omega (arith, length-replicate 4096 next_32); asked = omega (arith, full_asks) }; spelled = inl refl }
 
 next_1 : Line
 next_1 = record { seat = 0; op = Next 1 }
@@ -176,9 +176,7 @@ past_limit =
       before = full;
       rest = codes "1 next 1";
       split = refl;
-      allowed = full_script.allowed;
-      few = full_script.few;
-      asked = full_script.asked;
+      are = full_script.are;
       place = omega (arith, length-replicate 4096 next_32);
       there = omega arith;
       bad = inr (inr (record { line = next_1; is = one_next; past = omega (arith, full_asks) }));

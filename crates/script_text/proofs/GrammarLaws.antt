@@ -40,40 +40,16 @@ one_put key value (Put k v) (is_key, small, is_text) (is_k, small_v, is_text_v) 
     λ i. Put (same_key i) (same_value i)
 one_put key value _ x y is = absurd (omega (arith, heads is))
 
-one_add : (key : List ℕ) (count : ℕ) (y : Op) → IsCommand (Add key count) → IsCommand y → command_text (Add key count) ≡ command_text y → Add key count ≡ y
-one_add key count y h1 h2 h3 = grind (arith, common_steps, nat_tests, one_cut, decimal, visible_lacks, decimal_injective, heads)
-
-one_tail : (key tail : List ℕ) (y : Op) → IsCommand (Tail key tail) → IsCommand y → command_text (Tail key tail) ≡ command_text y → Tail key tail ≡ y
-one_tail key tail y h1 h2 h3 = grind (arith, common_steps, nat_tests, one_cut, visible_lacks, heads)
-
-one_del : (key : List ℕ) (y : Op) → command_text (Del key) ≡ command_text y → Del key ≡ y
-one_del key y h1 = grind (arith, common_steps, nat_tests)
-
-one_get : (key : List ℕ) (y : Op) → command_text (Get key) ≡ command_text y → Get key ≡ y
-one_get key y h1 = grind (arith, common_steps, nat_tests)
-
-one_hold : (low high : List ℕ) (y : Op) → IsCommand (Hold low high) → IsCommand y → command_text (Hold low high) ≡ command_text y → Hold low high ≡ y
-one_hold low high y h1 h2 h3 = grind (arith, common_steps, nat_tests, one_cut, visible_lacks, heads)
-
-one_next : (n : ℕ) (y : Op) → IsCommand (Next n) → IsCommand y → command_text (Next n) ≡ command_text y → Next n ≡ y
-one_next n y h1 h2 h3 = grind (arith, common_steps, nat_tests, decimal_injective, heads)
-
-one_release : (y : Op) → command_text Release ≡ command_text y → Release ≡ y
-one_release y h1 = grind (arith, common_steps, nat_tests)
-
-one_work : (n : ℕ) (y : Op) → IsCommand (Work n) → IsCommand y → command_text (Work n) ≡ command_text y → Work n ≡ y
-one_work n y h1 h2 h3 = grind (arith, common_steps, nat_tests, decimal_injective, heads)
-
 one_command : (x y : Op) → IsCommand x → IsCommand y → command_text x ≡ command_text y → x ≡ y
 one_command (Put key value) y allowed_x allowed_y is = one_put key value y allowed_x allowed_y is
-one_command (Add key count) y allowed_x allowed_y is = one_add key count y allowed_x allowed_y is
-one_command (Tail key tail) y allowed_x allowed_y is = one_tail key tail y allowed_x allowed_y is
-one_command (Del key) y allowed_x allowed_y is = one_del key y is
-one_command (Get key) y allowed_x allowed_y is = one_get key y is
-one_command (Hold low high) y allowed_x allowed_y is = one_hold low high y allowed_x allowed_y is
-one_command (Next n) y allowed_x allowed_y is = one_next n y allowed_x allowed_y is
-one_command Release y allowed_x allowed_y is = one_release y is
-one_command (Work n) y allowed_x allowed_y is = one_work n y allowed_x allowed_y is
+one_command (Add key count) y allowed_x allowed_y is = grind (arith, common_steps, nat_tests, one_cut, decimal, visible_lacks, decimal_injective, heads)
+one_command (Tail key tail) y allowed_x allowed_y is = grind (arith, common_steps, nat_tests, one_cut, visible_lacks, heads)
+one_command (Del key) y allowed_x allowed_y is = grind (arith, common_steps, nat_tests)
+one_command (Get key) y allowed_x allowed_y is = grind (arith, common_steps, nat_tests)
+one_command (Hold low high) y allowed_x allowed_y is = grind (arith, common_steps, nat_tests, one_cut, visible_lacks, heads)
+one_command (Next n) y allowed_x allowed_y is = grind (arith, common_steps, nat_tests, decimal_injective, heads)
+one_command Release y allowed_x allowed_y is = grind (arith, common_steps, nat_tests)
+one_command (Work n) y allowed_x allowed_y is = grind (arith, common_steps, nat_tests, decimal_injective, heads)
 
 seat_small : (line : Line) → IsAllowed line → line.seat + 1 < 2 ^ 64
 seat_small line allowed = omega (arith, allowed.seat)
@@ -216,17 +192,17 @@ no_lines bytes n bad (z ∷ zs) ws r s allowed first is whole few asked =
 pub script_not_bad : (bytes : List ℕ) (x : List Line) (n : ℕ) → IsScript bytes x → IsBadLine bytes n → ⊥
 script_not_bad bytes x n is_x bad =
     elim is_x.spelled [
-      | inl a ↦ elim (compared x bad.before [] bad.rest is_x.allowed bad.allowed (append-nil (lines_text x) ∙ sym a ∙ bad.split)) [
+      | inl a ↦ elim (compared x bad.before [] bad.rest is_x.are.allowed bad.are.allowed (append-nil (lines_text x) ∙ sym a ∙ bad.split)) [
         | ahead zs more left ↦ omega (arith, bad.there, ap length (nothing_left zs bad.rest left).1)
         | behind zs more left ↦
-            let none = no_lines bytes n bad zs x bad.rest [] (allowed_rest bad.before x zs more is_x.allowed) refl left more is_x.few is_x.asked in
+            let none = no_lines bytes n bad zs x bad.rest [] (allowed_rest bad.before x zs more is_x.are.allowed) refl left more is_x.are.few is_x.are.asked in
             omega (arith, bad.there, ap length (left ∙ ap (λ (l : List Line). lines_text l ++ []) none))
       ]
-      | inr a ↦ elim (compared x bad.before [] (bad.rest ++ 10 ∷ []) is_x.allowed bad.allowed
+      | inr a ↦ elim (compared x bad.before [] (bad.rest ++ 10 ∷ []) is_x.are.allowed bad.are.allowed
           (append-nil (lines_text x) ∙ sym a ∙ ap (λ (l : List ℕ). l ++ 10 ∷ []) bad.split ∙ append_assoc (lines_text bad.before) bad.rest (10 ∷ []))) [
             | ahead zs more left ↦ omega (arith, length-append bad.rest (10 ∷ []), ap length (nothing_left zs (bad.rest ++ 10 ∷ []) left).1)
             | behind zs more left ↦
-                let none = no_lines bytes n bad zs x (bad.rest ++ 10 ∷ []) [] (allowed_rest bad.before x zs more is_x.allowed) (first_line_end bad.rest) left more is_x.few is_x.asked in
+                let none = no_lines bytes n bad zs x (bad.rest ++ 10 ∷ []) [] (allowed_rest bad.before x zs more is_x.are.allowed) (first_line_end bad.rest) left more is_x.are.few is_x.are.asked in
                 omega (arith, length-append bad.rest (10 ∷ []), ap length (left ∙ ap (λ (l : List Line). lines_text l ++ []) none))
           ]
     ]
@@ -234,12 +210,12 @@ script_not_bad bytes x n is_x bad =
 -- and a text has one bad line
 pub one_bad : (bytes : List ℕ) (m n : ℕ) → IsBadLine bytes m → IsBadLine bytes n → m ≡ n
 one_bad bytes m n bad_m bad_n =
-    elim (compared bad_m.before bad_n.before bad_m.rest bad_n.rest bad_m.allowed bad_n.allowed (sym bad_m.split ∙ bad_n.split)) [
+    elim (compared bad_m.before bad_n.before bad_m.rest bad_n.rest bad_m.are.allowed bad_n.are.allowed (sym bad_m.split ∙ bad_n.split)) [
       | ahead zs more left ↦
-          let none = no_lines bytes m bad_m zs bad_n.before bad_m.rest bad_n.rest (allowed_rest bad_m.before bad_n.before zs more bad_n.allowed) refl left more bad_n.few bad_n.asked in
+          let none = no_lines bytes m bad_m zs bad_n.before bad_m.rest bad_n.rest (allowed_rest bad_m.before bad_n.before zs more bad_n.are.allowed) refl left more bad_n.are.few bad_n.are.asked in
           omega (arith, bad_m.place, bad_n.place, ap length more, length-append bad_m.before zs, ap length none)
       | behind zs more left ↦
-          let none = no_lines bytes n bad_n zs bad_m.before bad_n.rest bad_m.rest (allowed_rest bad_n.before bad_m.before zs more bad_m.allowed) refl left more bad_m.few bad_m.asked in
+          let none = no_lines bytes n bad_n zs bad_m.before bad_n.rest bad_m.rest (allowed_rest bad_n.before bad_m.before zs more bad_m.are.allowed) refl left more bad_m.are.few bad_m.are.asked in
           omega (arith, bad_m.place, bad_n.place, ap length more, length-append bad_n.before zs, ap length none)
     ]
 

@@ -152,7 +152,7 @@ recounted flags writes w place within was so_far = by_value (value_at (writes ++
     by_value None true is left = cc
 
 -- the flag of the key that is written is set to whether it is present then
-tells_more : (flags : List Bool) (writes : List Write) (w : Write) (place : ℕ) → place < 1500 → key_of w ≡ key_at place → Tells flags writes → Tells (set flags place (leaves w)) (writes ++ w ∷ [])
+pub tells_more : (flags : List Bool) (writes : List Write) (w : Write) (place : ℕ) → place < 1500 → key_of w ≡ key_at place → Tells flags writes → Tells (set flags place (leaves w)) (writes ++ w ∷ [])
 tells_more flags writes w place below is tells =
     let within : place < length flags = omega (arith, tells.all) in
     record {
@@ -170,18 +170,6 @@ tells_more flags writes w place below is tells =
   where
     apart : (j : ℕ) → j < 1500 → j ≢ place → ties (key_at j) (key_of w) ≡ false
     apart j h1 h2 = grind (arith, common_steps, nat_tests, by_test, one_place, tied)
-
-pub tells_put : (flags : List Bool) (writes : List Write) (key : Key) (value : Value) (place : ℕ) → place < 1500 → key ≡ key_at place → Tells flags writes → Tells (set flags place true) (writes ++ Put key value ∷ [])
-tells_put flags writes key value place below is tells = tells_more flags writes (Put key value) place below is tells
-
-pub tells_add : (flags : List Bool) (writes : List Write) (key : Key) (count place : ℕ) → place < 1500 → key ≡ key_at place → Tells flags writes → Tells (set flags place true) (writes ++ Add key count ∷ [])
-tells_add flags writes key count place below is tells = tells_more flags writes (Add key count) place below is tells
-
-pub tells_tail : (flags : List Bool) (writes : List Write) (key : Key) (tail : List ℕ) (place : ℕ) → place < 1500 → key ≡ key_at place → Tells flags writes → Tells (set flags place true) (writes ++ Tail key tail ∷ [])
-tells_tail flags writes key tail place below is tells = tells_more flags writes (Tail key tail) place below is tells
-
-pub tells_del : (flags : List Bool) (writes : List Write) (key : Key) (place : ℕ) → place < 1500 → key ≡ key_at place → Tells flags writes → Tells (set flags place false) (writes ++ Del key ∷ [])
-tells_del flags writes key place below is tells = tells_more flags writes (Del key) place below is tells
 
 -- at the start no key is present
 pub tells_none : Tells (replicate 1500 false) []

@@ -1,11 +1,11 @@
 -- A text of many pieces, one piece after another.
 use Rattle.std.proofs.lemmas.Bool.Decides.{nat_tests}
-use Rattle.std.proofs.Common.{◌≡◌, ℕ, ◌+◌, ◌<◌, List, [], ◌∷◌, ◌++◌, Option, Result, length, take, drop, get_or, flat_map, sym, ◌∙◌, ap, append_assoc, add-zero, add-one, arith, drop-cons, append-nil}
+use Rattle.std.proofs.Common.{◌≡◌, ℕ, ◌+◌, ◌<◌, List, [], ◌∷◌, ◌++◌, Result, length, take, drop, get_or, flat_map, sym, ◌∙◌, ap, append_assoc, add-zero, add-one, arith, drop-cons, append-nil}
 use Rattle.std.proofs.lemmas.List.{take-append-drop, take_more, length-take-le}
 use Rattle.std.proofs.lemmas.List.Concat.{flat_map-cons}
 use Rattle.std.proofs.lemmas.Grind.{flat_map-append, common_steps}
 use Rattle.blsm_model.specs.declared.history.Entry.{Entry}
-use Rattle.text_io.specs.Text.{Writes}
+use Rattle.text_io.specs.Text.{SinkState, Writes}
 use Rattle.blsm_model.specs.Printed.{entry_text, entries_text}
 
 -- a list is what stands before a place, what stands there, and the rest
@@ -59,6 +59,6 @@ entries_more place es qs i d n same within here =
     ∙ append-nil (entries_text place (take i es) (take i qs) ++ entry_text n (get_or es i d) (get_or qs i 0))
 
 -- a line with rows, in the pieces in which it is written
-pub rows_line : {T E : Type 0} (p r f a b e : List ℕ) {result : Result T E} {old new : Option (List ℕ)} {first second : ℕ}
-    → Writes (((p ++ r) ++ f) ++ ((a ++ b) ++ e)) result old new first second → Writes ((((p ++ (r ++ f)) ++ a) ++ b) ++ e) result old new first second
+pub rows_line : {T E : Type 0} (p r f a b e : List ℕ) {result : Result T E} {old new : SinkState}
+    → Writes (((p ++ r) ++ f) ++ ((a ++ b) ++ e)) result old new → Writes ((((p ++ (r ++ f)) ++ a) ++ b) ++ e) result old new
 rows_line p r f a b e h1 = grind (arith, common_steps, nat_tests)

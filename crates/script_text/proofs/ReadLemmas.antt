@@ -1,7 +1,8 @@
 -- A text is cut in one way, and its parts are spelled in one way.
 use Rattle.std.proofs.lemmas.Bool.Decides.{nat_tests}
 use Rattle.std.proofs.lemmas.Grind.{common_steps}
-use Rattle.std.proofs.Common.{◌≡◌, ◌≢◌, ℕ, ◌+◌, ◌^◌, ◌<◌, List, [], ◌∷◌, ◌++◌, length, drop, get_or, Option, Some, None, Result, Ok, Err, codes, decimal, sym, ◌∙◌, ap, subst, refl, arith}
+use Rattle.std.proofs.Common.{◌≡◌, ◌≢◌, ℕ, ◌+◌, ◌^◌, ◌<◌, ◌≤◌, List, [], ◌∷◌, ◌++◌, length, drop, get_or, Option, Some, None, Result, Ok, Err, codes, decimal, sym, ◌∙◌, ap, subst, refl, arith}
+use Rattle.std.specs.Prelude.{MatchOption}
 use Rattle.std.specs.List.{All}
 use Rattle.std.specs.Option.{option_copied}
 use Rattle.std.specs.Result.{result_ok}
@@ -19,12 +20,13 @@ use Rattle.blsm_model.specs.declared.op.Op.TheVariants.{Put, Add, Tail, Del, Get
 use Rattle.blsm_model.specs.Printed.{command_text, and_value, and_number, and_word}
 use Rattle.script_text.specs.declared.read_line.Verb.{Verb}
 use Rattle.script_text.specs.declared.read_line.Verb.TheVariants as verb
-use Rattle.script_text.specs.Grammar.{IsVisible, IsCommand}
-use Rattle.script_text.specs.Reading.{Reads, Lacks, IsJoined, BeginsAsNumber, SpellsNumber, SpellsSeat, SpellsKeyAndValue, SpellsKeyAndNumber, SpellsKeyAndTail, SpellsArguments, SpellsBare, SpellsCommand, SpellsCount, SpellsTwoKeys, verb_text}
+use Rattle.blsm_model.specs.Format.{callers}
+use Rattle.script_text.specs.Grammar.{IsVisible, IsCommand, IsKey, IsTail, IsText}
+use Rattle.script_text.specs.Reading.{Reads, Lacks, IsJoined, BeginsAsNumber, Spells, SpellsArguments, verb_text}
 
 -- an answer of none
-pub reads_nothing : {X : Type 0} (Spells : List ℕ → X → Type 0) (bytes : List ℕ) (result : Option X) → result ≡ None → ((x : X) → Spells bytes x → ⊥) → Reads Spells bytes result
-reads_nothing Spells bytes result h1 h2 = grind (arith, common_steps, nat_tests)
+pub reads_nothing : {X : Type 0} {P : X → Type 0} {result : Option X} → result ≡ None → ((x : X) → P x → ⊥) → MatchOption result ((x : X) → P x → ⊥) (λ x. P x)
+reads_nothing h1 h2 = grind (arith, common_steps, nat_tests)
 
 -- a list is cut at the first mark in one way
 pub one_cut : (mark : ℕ) (w f r s : List ℕ) → Lacks mark w → Lacks mark f → w ++ mark ∷ r ≡ f ++ mark ∷ s → (w ≡ f) × (r ≡ s)
@@ -75,7 +77,7 @@ pub decimal_begins : (n : ℕ) → n < 2 ^ 64 → BeginsAsNumber (decimal n)
 decimal_begins n h1 = grind (arith, common_steps, nat_tests, decimal_nonempty, get_or, decimal, digit_at, digits_decimal, own, decimal_alone)
 
 -- what `parse` reads, where the first byte is right
-pub number_read : {E : Type 0} (bytes : List ℕ) (r : Result ℕ E) → BeginsAsNumber bytes → ParsesUnsigned 64 10 bytes r → Reads SpellsNumber bytes (result_ok r)
+pub number_read : {E : Type 0} (bytes : List ℕ) (r : Result ℕ E) → BeginsAsNumber bytes → ParsesUnsigned 64 10 bytes r → Reads (Spells decimal (λ n. n < 2 ^ 64)) bytes (result_ok r)
 number_read {E = E} bytes (Ok n) begins parses =
     let read = parse_plain own {E = E} 64 bytes (Ok n) parses (λ (sign : get_or bytes 0 0 ≡ 43). absurd (omega (arith, begins.digit.0))) in
     (sym (decimal-digits_value own bytes read.0.0 begins.some begins.alone read.0.2) ∙ ap decimal (sym read.1), subst (λ (m : ℕ). m < 2 ^ 64) (sym read.1) read.0.2)
@@ -84,46 +86,46 @@ number_read {E = E} bytes (Err e) begins parses =
     λ n (spelled, small). read (subst (λ (b : List ℕ). AllDigits 10 b × (0 < length b) × (digits_value 10 b < 2 ^ 64)) (sym spelled)
     (digits_decimal own n small, decimal_nonempty n small, subst (λ (m : ℕ). m < 2 ^ 64) (sym (digits_value-decimal own n small)) small))
 
-pub number_is_text : (n : ℕ) (bytes : List ℕ) → SpellsNumber bytes n → IsUtf8 bytes
+pub number_is_text : (n : ℕ) (bytes : List ℕ) → (bytes ≡ decimal n) × (n < 2 ^ 64) → IsUtf8 bytes
 number_is_text n bytes (spelled, small) = subst (λ (b : List ℕ). IsUtf8 b) (sym spelled) (IsUtf8-from_ascii (decimal n) (IsAscii-decimal n small))
 
 -- no number but the caller's own is its seat's
-pub seat_is : (n seat : ℕ) (bytes : List ℕ) → SpellsNumber bytes n → SpellsSeat bytes seat → n ≡ seat + 1
+pub seat_is : (n seat : ℕ) (bytes : List ℕ) → (bytes ≡ decimal n) × (n < 2 ^ 64) → (bytes ≡ decimal (seat + 1)) × (seat < callers) → n ≡ seat + 1
 seat_is n seat bytes (spelled, small) (of_seat, within) = decimal_injective n (seat + 1) small (omega arith) (sym spelled ∙ of_seat)
 
 -- no number but this one is read as a count
-pub count_is : (most m n : ℕ) (bytes : List ℕ) → most < 2 ^ 64 → SpellsNumber bytes m → SpellsCount most bytes n → m ≡ n
-count_is most m n bytes little (spelled, small) (of_count, some, few) = decimal_injective m n small (omega arith) (sym spelled ∙ of_count)
+pub count_is : (most m n : ℕ) (bytes : List ℕ) → most < 2 ^ 64 → (bytes ≡ decimal m) × (m < 2 ^ 64) → (bytes ≡ decimal n) × ((1 ≤ n) × (n ≤ most)) → m ≡ n
+count_is most m n bytes little (spelled, small) (of_count, (some, few)) = decimal_injective m n small (omega arith) (sym spelled ∙ of_count)
 
 pub heads : {x y : ℕ} {xs ys : List ℕ} → x ∷ xs ≡ y ∷ ys → x ≡ y
 heads same = cc
 
 -- what isn't a key and a value is no put's arguments
-pub no_put : (bytes : List ℕ) → ((x : List ℕ × Value) → SpellsKeyAndValue bytes x → ⊥) → (op : Op) → SpellsArguments verb.Put bytes op → ⊥
-no_put bytes none (Put key value) (is, (is_key, small, is_text)) = none (key, value) (sym (ap (λ (l : List ℕ). drop 4 l) is), is_key, small, is_text)
+pub no_put : (bytes : List ℕ) → ((x : List ℕ × Value) → (bytes ≡ x.0 ++ and_value x.1) × (IsKey x.0 × (x.1.count < 2 ^ 64) × IsText x.1.text) → ⊥) → (op : Op) → SpellsArguments verb.Put bytes op → ⊥
+no_put bytes none (Put key value) (is, (is_key, small, is_text)) = none (key, value) (sym (ap (λ (l : List ℕ). drop 4 l) is), (is_key, small, is_text))
 no_put bytes none _ (is, allowed) = absurd (omega (arith, heads is))
 
 -- what isn't a key and a number is no add's arguments
-pub no_add : (bytes : List ℕ) → ((x : List ℕ × ℕ) → SpellsKeyAndNumber bytes x → ⊥) → (op : Op) → SpellsArguments verb.Add bytes op → ⊥
-no_add bytes none (Add key count) (is, (is_key, small)) = none (key, count) (sym (ap (λ (l : List ℕ). drop 4 l) is), is_key, small)
+pub no_add : (bytes : List ℕ) → ((x : List ℕ × ℕ) → (bytes ≡ x.0 ++ and_number x.1) × (IsKey x.0 × (x.1 < 2 ^ 64)) → ⊥) → (op : Op) → SpellsArguments verb.Add bytes op → ⊥
+no_add bytes none (Add key count) (is, (is_key, small)) = none (key, count) (sym (ap (λ (l : List ℕ). drop 4 l) is), (is_key, small))
 no_add bytes none _ (is, allowed) = absurd (omega (arith, heads is))
 
 -- what isn't a key and a tail is no tail's arguments
-pub no_tail : (bytes : List ℕ) → ((x : List ℕ × List ℕ) → SpellsKeyAndTail bytes x → ⊥) → (op : Op) → SpellsArguments verb.Tail bytes op → ⊥
-no_tail bytes none (Tail key tail) (is, (is_key, is_tail)) = none (key, tail) (sym (ap (λ (l : List ℕ). drop 5 l) is), is_key, is_tail)
+pub no_tail : (bytes : List ℕ) → ((x : List ℕ × List ℕ) → (bytes ≡ x.0 ++ and_word x.1) × (IsKey x.0 × IsTail x.1) → ⊥) → (op : Op) → SpellsArguments verb.Tail bytes op → ⊥
+no_tail bytes none (Tail key tail) (is, (is_key, is_tail)) = none (key, tail) (sym (ap (λ (l : List ℕ). drop 5 l) is), (is_key, is_tail))
 no_tail bytes none _ (is, allowed) = absurd (omega (arith, heads is))
 
 -- what isn't two keys is no hold's arguments
-pub no_hold : (bytes : List ℕ) → ((x : List ℕ × List ℕ) → SpellsTwoKeys bytes x → ⊥) → (op : Op) → SpellsArguments verb.Hold bytes op → ⊥
-no_hold bytes none (Hold low high) (is, (is_low, is_high)) = none (low, high) (sym (ap (λ (l : List ℕ). drop 5 l) is), is_low, is_high)
+pub no_hold : (bytes : List ℕ) → ((x : List ℕ × List ℕ) → (bytes ≡ x.0 ++ and_word x.1) × (IsKey x.0 × IsKey x.1) → ⊥) → (op : Op) → SpellsArguments verb.Hold bytes op → ⊥
+no_hold bytes none (Hold low high) (is, (is_low, is_high)) = none (low, high) (sym (ap (λ (l : List ℕ). drop 5 l) is), (is_low, is_high))
 no_hold bytes none _ (is, allowed) = absurd (omega (arith, heads is))
 
 -- what isn't a number of rows is no next's argument
-pub no_next : (bytes : List ℕ) → ((n : ℕ) → SpellsCount 32 bytes n → ⊥) → (op : Op) → SpellsArguments verb.Next bytes op → ⊥
+pub no_next : (bytes : List ℕ) → ((n : ℕ) → (bytes ≡ decimal n) × ((1 ≤ n) × (n ≤ 32)) → ⊥) → (op : Op) → SpellsArguments verb.Next bytes op → ⊥
 no_next bytes h1 op h2 = grind (arith, common_steps, nat_tests)
 
 -- what isn't a number of turns is no work's argument
-pub no_work : (bytes : List ℕ) → ((n : ℕ) → SpellsCount 100000 bytes n → ⊥) → (op : Op) → SpellsArguments verb.Work bytes op → ⊥
+pub no_work : (bytes : List ℕ) → ((n : ℕ) → (bytes ≡ decimal n) × ((1 ≤ n) × (n ≤ 100000)) → ⊥) → (op : Op) → SpellsArguments verb.Work bytes op → ⊥
 no_work bytes h1 op h2 = grind (arith, common_steps, nat_tests)
 
 -- a command has a first word and something behind a space, or is a word alone
@@ -147,22 +149,22 @@ pub verb_lacks : (v : Verb) → Lacks 32 (verb_text v)
 verb_lacks v = grind (arith, common_steps, nat_tests)
 
 -- where nothing but a word was found, the command is the one that is a word alone
-bare_is : (bytes front : List ℕ) → Lacks 32 front → bytes ≡ front → (op : Op) → SpellsCommand bytes op → SpellsBare front op
+bare_is : (bytes front : List ℕ) → Lacks 32 front → bytes ≡ front → (op : Op) → (bytes ≡ command_text op) × IsCommand op → (front ≡ command_text op) × (op ≡ Release)
 bare_is bytes front lacks joined op spells =
     elim (form_of op) [
       | worded v rest is ↦ absurd (no_cut 32 (verb_text v) front rest lacks (sym is ∙ sym spells.0 ∙ joined))
-      | bare same ↦ (sym joined ∙ spells.0 ∙ ap command_text same, same)
+      | bare same ↦ (sym joined ∙ spells.0, same)
     ]
 
-pub reads_bare : (bytes front : List ℕ) (result : Option Op) → Lacks 32 front → bytes ≡ front → Reads SpellsBare front result → Reads SpellsCommand bytes result
+pub reads_bare : (bytes front : List ℕ) (result : Option Op) → Lacks 32 front → bytes ≡ front → Reads (Spells command_text (λ op. op ≡ Release)) front result → Reads (Spells command_text IsCommand) bytes result
 reads_bare bytes front None lacks joined none = λ op spells. none op (bare_is bytes front lacks joined op spells)
-reads_bare bytes front (Some op) lacks joined (is, same) = (joined ∙ is ∙ ap command_text (sym same), subst IsCommand (sym same) tt)
+reads_bare bytes front (Some op) lacks joined (is, same) = (joined ∙ is, subst IsCommand (sym same) tt)
 
 drop_lacks : Lacks 32 (codes "drop")
 drop_lacks = All-from_recursion (λ byte. byte ≢ 32) (codes "drop") (λ same. absurd (omega arith), (λ same. absurd (omega arith), (λ same. absurd (omega arith), (λ same. absurd (omega arith), tt))))
 
 -- and where a word was found with something behind it, that is the command's first word and its arguments
-pub worded_is : (bytes front rest : List ℕ) → Lacks 32 front → bytes ≡ front ++ 32 ∷ rest → (op : Op) → SpellsCommand bytes op → (v : Verb) × (front ≡ verb_text v) × SpellsArguments v rest op
+pub worded_is : (bytes front rest : List ℕ) → Lacks 32 front → bytes ≡ front ++ 32 ∷ rest → (op : Op) → (bytes ≡ command_text op) × IsCommand op → (v : Verb) × (front ≡ verb_text v) × SpellsArguments v rest op
 worded_is bytes front rest lacks joined op spells =
     elim (form_of op) [
       | worded v r is ↦

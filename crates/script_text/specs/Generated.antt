@@ -3,7 +3,7 @@
 use Rattle.std.specs.Prelude.{◌≡◌, ℕ, zero, suc, ◌+◌, ◌*◌, ◌/◌, ◌%◌, ◌^◌, ◌<◌, ⊤, List, [], ◌∷◌, if◌then◌else◌, nat_lt, replicate}
 use Rattle.blsm_model.specs.declared.key.Key.{Key}
 use Rattle.blsm_model.specs.declared.op.Op.{Op}
-use Rattle.blsm_model.specs.declared.op.Op.TheVariants.{Put, Add, Tail, Del, Get, Hold, Next, Release, Work}
+use Rattle.blsm_model.specs.declared.op.Op.TheVariants.{Put, Add, Tail, Del, Get, Hold}
 use Rattle.blsm_model.specs.declared.history.Line.{Line}
 
 -- the state after a draw
@@ -69,6 +69,4 @@ HasMadeKeys (Tail key tail) = IsMade key
 HasMadeKeys (Del key) = IsMade key
 HasMadeKeys (Get key) = IsMade key
 HasMadeKeys (Hold low high) = IsMade low × IsMade high
-HasMadeKeys (Next n) = ⊤
-HasMadeKeys Release = ⊤
-HasMadeKeys (Work n) = ⊤
+HasMadeKeys _ = ⊤

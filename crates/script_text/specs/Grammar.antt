@@ -59,15 +59,19 @@ pub record IsLine (bytes : List ℕ) (line : Line) : Type 0 where
 abbrev pub all_rows_asked : List Line → ℕ
 all_rows_asked lines = sum_by (λ line. rows_of line.op) lines
 
+-- the lines of a script
+pub record AreLines (lines : List Line) : Type 0 where
+  pub allowed : All IsAllowed lines
+  pub few : length lines ≤ most_lines
+  pub asked : all_rows_asked lines ≤ most_rows_asked
+
 -- lines, each with its end
 abbrev pub lines_text : List Line → List ℕ
 lines_text lines = flat_map (λ line. line_text line ++ 10 ∷ []) lines
 
 -- the bytes are these lines, each with its end, which the last may lack
 pub record IsScript (bytes : List ℕ) (lines : List Line) : Type 0 where
-  pub allowed : All IsAllowed lines
-  pub few : length lines ≤ most_lines
-  pub asked : all_rows_asked lines ≤ most_rows_asked
+  pub are : AreLines lines
   pub spelled : (bytes ≡ lines_text lines) ⊎ (bytes ++ 10 ∷ [] ≡ lines_text lines)
 
 -- what stands before the first end of a line
@@ -86,9 +90,7 @@ pub record IsBadLine (bytes : List ℕ) (n : ℕ) : Type 0 where
   pub before : List Line
   pub rest : List ℕ
   pub split : bytes ≡ lines_text before ++ rest
-  pub allowed : All IsAllowed before
-  pub few : length before ≤ most_lines
-  pub asked : all_rows_asked before ≤ most_rows_asked
+  pub are : AreLines before
   pub place : n ≡ length before + 1
   pub there : 0 < length rest
   pub bad : ((line : Line) → IsLine (first_line rest) line → ⊥) ⊎ (length before ≡ most_lines) ⊎ AsksTooMuch before (first_line rest)

@@ -2,7 +2,7 @@
 use Rattle.std.specs.Prelude.{◌≡◌, ℕ, ◌+◌, ◌<◌, max, Bool, true, false, if◌then◌else◌, List, [], ◌∷◌, ◌++◌, length, codes, slice_index_or, is_some, count_by}
 use Rattle.blsm_model.specs.declared.op.Write.{Write}
 use Rattle.blsm_model.specs.declared.op.Op.{Op}
-use Rattle.blsm_model.specs.declared.op.Op.TheVariants.{Put, Add, Tail, Get}
+use Rattle.blsm_model.specs.declared.op.Op.TheVariants.{Put, Add, Del, Get}
 use Rattle.blsm_model.specs.declared.history.Reply.{Reply}
 use Rattle.blsm_model.specs.declared.history.Reply.TheVariants.{Full}
 use Rattle.blsm_model.specs.declared.history.Entry.{Entry}
@@ -10,35 +10,23 @@ use Rattle.blsm_model.specs.declared.history.Totals.{Totals}
 use Rattle.blsm_model.specs.Values.{value_at}
 use Rattle.blsm_model.specs.Rows.{map_of}
 use Rattle.blsm_model.specs.Histories.{map_after}
-use Rattle.blsm_model.specs.Legal.{is_del, is_write}
+use Rattle.blsm_model.specs.Legal.{is_write}
 use Rattle.blsm_model.specs.Printed.{and_number}
 use Rattle.script_text.specs.Generated.{key_at, key_count}
 use Rattle.script_text.specs.declared.summary.Kind.{Kind}
 use Rattle.script_text.specs.declared.summary.Kind.TheVariants as kind
 
-abbrev pub is_put : Op → Bool
-is_put (Put key value) = true
-is_put _ = false
+-- whether an entry with such a command and such a reply is of the kind
+abbrev pub is_of_kind : Kind → Op → Reply → Bool
+is_of_kind kind.Puts (Put key value) reply = true
+is_of_kind kind.Adds (Add key count) reply = true
+is_of_kind kind.Dels (Del key) reply = true
+is_of_kind kind.Gets (Get key) reply = true
+is_of_kind kind.Full op (Full charge) = true
+is_of_kind _ _ _ = false
 
-abbrev pub is_add : Op → Bool
-is_add (Add key count) = true
-is_add _ = false
-
-abbrev pub is_get : Op → Bool
-is_get (Get key) = true
-is_get _ = false
-
-abbrev pub is_full : Reply → Bool
-is_full (Full charge) = true
-is_full _ = false
-
--- the entries of a kind: those with such a command, or with such a reply
 abbrev pub is_of : Kind → Entry → Bool
-is_of kind.Puts = λ e. is_put e.op
-is_of kind.Adds = λ e. is_add e.op
-is_of kind.Dels = λ e. is_del e.op
-is_of kind.Gets = λ e. is_get e.op
-is_of kind.Full = λ e. is_full e.reply
+is_of k e = is_of_kind k e.op e.reply
 
 -- the quanta of an entry, where it is a write's
 abbrev pub quanta_of_write : Entry → ℕ → ℕ
@@ -49,26 +37,23 @@ abbrev pub most_quanta : List Entry → List ℕ → ℕ
 most_quanta (e ∷ es) (quanta ∷ more) = max (quanta_of_write e quanta) (most_quanta es more)
 most_quanta _ _ = 0
 
--- the work bound, at the default geometry, of the heaviest write that is made
-abbrev pub made_bound : ℕ
-made_bound = 3
-
 abbrev pub trial_line : ℕ → ℕ → List ℕ
 trial_line seed count = codes "trial seed" ++ and_number seed ++ codes " count" ++ and_number count ++ 10 ∷ []
 
 abbrev pub commands_line : List Entry → List ℕ
 commands_line history =
-    codes "puts" ++ and_number (count_by (λ e. is_put e.op) history) ++ codes " adds" ++ and_number (count_by (λ e. is_add e.op) history)
-    ++ codes " dels" ++ and_number (count_by (λ e. is_del e.op) history) ++ codes " gets" ++ and_number (count_by (λ e. is_get e.op) history) ++ 10 ∷ []
+    codes "puts" ++ and_number (count_by (is_of kind.Puts) history) ++ codes " adds" ++ and_number (count_by (is_of kind.Adds) history)
+    ++ codes " dels" ++ and_number (count_by (is_of kind.Dels) history) ++ codes " gets" ++ and_number (count_by (is_of kind.Gets) history) ++ 10 ∷ []
 
 abbrev pub full_line : List Entry → List ℕ
-full_line history = codes "full" ++ and_number (count_by (λ e. is_full e.reply) history) ++ 10 ∷ []
+full_line history = codes "full" ++ and_number (count_by (is_of kind.Full) history) ++ 10 ∷ []
 
 abbrev pub peak_line : Totals → List ℕ
 peak_line t = codes "c0" ++ and_number t.peak ++ codes " of" ++ and_number t.high ++ 10 ∷ []
 
+-- 3 is the work bound, at the default geometry, of the heaviest write that is made
 abbrev pub largest_line : List Entry → List ℕ → List ℕ
-largest_line history quanta = codes "largest q" ++ and_number (most_quanta history quanta) ++ codes " of" ++ and_number made_bound ++ 10 ∷ []
+largest_line history quanta = codes "largest q" ++ and_number (most_quanta history quanta) ++ codes " of" ++ and_number 3 ++ 10 ∷ []
 
 abbrev pub work_line : Totals → List ℕ
 work_line t = codes "quanta" ++ and_number (t.callers + t.workers) ++ codes " swaps" ++ and_number t.passes ++ and_number t.deeps ++ 10 ∷ []

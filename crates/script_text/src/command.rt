@@ -1,14 +1,14 @@
 // A command as a script spells it.
-ghost use Rattle.std.specs.Prelude.{◌≡◌, ◌+◌, ◌≤◌, ◌++◌, codes, length};
+ghost use Rattle.std.specs.Prelude.{◌+◌, ◌≤◌, ◌++◌, codes, length};
 ghost use Rattle.blsm_model.specs.Printed.{and_number, and_value, and_word, command_text};
+ghost use Rattle.script_text.specs.Pieces.{AddsToPiece};
 
 use crate::piece::{AND_KEY, COMMAND, LONGEST, Piece};
 use blsm_model::{Key, Op, Text, Value};
 
 fn add_named_key(piece: &mut Piece, name: &[u8], key: &Key)
     requires { length piece.old + length name.now + AND_KEY ≤ LONGEST }
-    ensures text { piece.new ≡ piece.old ++ (name.now ++ and_word key.now) }
-    ensures fits { length piece.new ≤ length piece.old + length name.now + AND_KEY }
+    ensures { AddsToPiece piece.old (name.now ++ and_word key.now) (length name.now + AND_KEY) piece.new }
 {
     piece.add(name);
     piece.add_and_key(key);
@@ -16,8 +16,7 @@ fn add_named_key(piece: &mut Piece, name: &[u8], key: &Key)
 
 fn add_put(piece: &mut Piece, key: &Key, value: &Value)
     requires { length piece.old + COMMAND ≤ LONGEST }
-    ensures text { piece.new ≡ piece.old ++ (codes "put" ++ and_word key.now ++ and_value value.now) }
-    ensures fits { length piece.new ≤ length piece.old + COMMAND }
+    ensures { AddsToPiece piece.old (codes "put" ++ and_word key.now ++ and_value value.now) COMMAND piece.new }
 {
     add_named_key(piece, b"put", key);
     piece.add_and_value(value);
@@ -25,8 +24,7 @@ fn add_put(piece: &mut Piece, key: &Key, value: &Value)
 
 fn add_add(piece: &mut Piece, key: &Key, count: u64)
     requires { length piece.old + COMMAND ≤ LONGEST }
-    ensures text { piece.new ≡ piece.old ++ (codes "add" ++ and_word key.now ++ and_number count) }
-    ensures fits { length piece.new ≤ length piece.old + COMMAND }
+    ensures { AddsToPiece piece.old (codes "add" ++ and_word key.now ++ and_number count) COMMAND piece.new }
 {
     add_named_key(piece, b"add", key);
     piece.add_and_number(count);
@@ -34,8 +32,7 @@ fn add_add(piece: &mut Piece, key: &Key, count: u64)
 
 fn add_tail(piece: &mut Piece, key: &Key, tail: &Text)
     requires { length piece.old + COMMAND ≤ LONGEST }
-    ensures text { piece.new ≡ piece.old ++ (codes "tail" ++ and_word key.now ++ and_word tail.now) }
-    ensures fits { length piece.new ≤ length piece.old + COMMAND }
+    ensures { AddsToPiece piece.old (codes "tail" ++ and_word key.now ++ and_word tail.now) COMMAND piece.new }
 {
     add_named_key(piece, b"tail", key);
     piece.add_and_tail(tail);
@@ -43,8 +40,7 @@ fn add_tail(piece: &mut Piece, key: &Key, tail: &Text)
 
 fn add_hold(piece: &mut Piece, low: &Key, high: &Key)
     requires { length piece.old + COMMAND ≤ LONGEST }
-    ensures text { piece.new ≡ piece.old ++ (codes "hold" ++ and_word low.now ++ and_word high.now) }
-    ensures fits { length piece.new ≤ length piece.old + COMMAND }
+    ensures { AddsToPiece piece.old (codes "hold" ++ and_word low.now ++ and_word high.now) COMMAND piece.new }
 {
     add_named_key(piece, b"hold", low);
     piece.add_and_key(high);
@@ -53,8 +49,7 @@ fn add_hold(piece: &mut Piece, low: &Key, high: &Key)
 /// Adds a command.
 pub fn add_command(piece: &mut Piece, op: &Op)
     requires { length piece.old + COMMAND ≤ LONGEST }
-    ensures text { piece.new ≡ piece.old ++ command_text op.now }
-    ensures fits { length piece.new ≤ length piece.old + COMMAND }
+    ensures { AddsToPiece piece.old (command_text op.now) COMMAND piece.new }
 {
     match op {
         Op::Put(key, value) => add_put(piece, key, value),

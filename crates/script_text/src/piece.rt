@@ -2,6 +2,7 @@
 ghost use Rattle.std.specs.Prelude.{◌≡◌, ◌+◌, ◌≤◌, ◌++◌, [], decimal, length};
 ghost use Rattle.blsm_model.specs.Format.{most_text};
 ghost use Rattle.blsm_model.specs.Printed.{and_number, and_value, and_word, spelled};
+ghost use Rattle.script_text.specs.Pieces.{AddsToPiece};
 
 use arrayvec::ArrayVec;
 use blsm_model::{Key, Text, Value};
@@ -91,8 +92,7 @@ impl Piece {
     /// Adds a number in decimal, of 20 bytes at most.
     pub fn add_number(&mut self, n: u64)
         requires { length self.old + NUMBER ≤ LONGEST }
-        ensures text { self.new ≡ self.old ++ decimal n }
-        ensures fits { length self.new ≤ length self.old + NUMBER }
+        ensures { AddsToPiece self.old (decimal n) NUMBER self.new }
     {
         let mut buffer = Buffer::new();
         let digits = buffer.format(n);
@@ -111,8 +111,7 @@ impl Piece {
     /// Adds a number with a space before it.
     pub fn add_and_number(&mut self, n: u64)
         requires { length self.old + AND_NUMBER ≤ LONGEST }
-        ensures text { self.new ≡ self.old ++ and_number n }
-        ensures fits { length self.new ≤ length self.old + AND_NUMBER }
+        ensures { AddsToPiece self.old (and_number n) AND_NUMBER self.new }
     {
         self.add(b" ");
         self.add_number(n);
@@ -121,8 +120,7 @@ impl Piece {
     /// Adds a word, and a number behind a space.
     pub fn add_named_number(&mut self, name: &[u8], n: u64)
         requires { length self.old + length name.now + AND_NUMBER ≤ LONGEST }
-        ensures text { self.new ≡ self.old ++ (name.now ++ and_number n) }
-        ensures fits { length self.new ≤ length self.old + length name.now + AND_NUMBER }
+        ensures { AddsToPiece self.old (name.now ++ and_number n) (length name.now + AND_NUMBER) self.new }
     {
         self.add(name);
         self.add_and_number(n);
@@ -131,8 +129,7 @@ impl Piece {
     /// Adds a word, and the sum of two numbers behind a space.
     pub fn add_named_sum(&mut self, name: &[u8], first: u64, second: u64)
         requires { length self.old + length name.now + AND_SUM ≤ LONGEST }
-        ensures text { self.new ≡ self.old ++ (name.now ++ and_number (first + second)) }
-        ensures fits { length self.new ≤ length self.old + length name.now + AND_SUM }
+        ensures { AddsToPiece self.old (name.now ++ and_number (first + second)) (length name.now + AND_SUM) self.new }
     {
         self.add(name);
         self.add(b" ");
@@ -144,8 +141,7 @@ impl Piece {
     /// Adds a key with a space before it.
     pub fn add_and_key(&mut self, key: &Key)
         requires { length self.old + AND_KEY ≤ LONGEST }
-        ensures text { self.new ≡ self.old ++ and_word key.now }
-        ensures fits { length self.new ≤ length self.old + AND_KEY }
+        ensures { AddsToPiece self.old (and_word key.now) AND_KEY self.new }
     {
         self.add_and_word(key.as_bytes());
     }
@@ -153,8 +149,7 @@ impl Piece {
     // A text with a space before it. A dash stands for the empty one.
     fn add_and_text(&mut self, text: &Text)
         requires { length self.old + AND_TEXT ≤ LONGEST }
-        ensures text { self.new ≡ self.old ++ and_word (spelled text.now) }
-        ensures fits { length self.new ≤ length self.old + AND_TEXT }
+        ensures { AddsToPiece self.old (and_word (spelled text.now)) AND_TEXT self.new }
     {
         self.add_and_word(spelling(text));
     }
@@ -162,8 +157,7 @@ impl Piece {
     /// Adds a tail with a space before it.
     pub fn add_and_tail(&mut self, tail: &Text)
         requires { length self.old + AND_TEXT ≤ LONGEST }
-        ensures text { self.new ≡ self.old ++ and_word tail.now }
-        ensures fits { length self.new ≤ length self.old + AND_TEXT }
+        ensures { AddsToPiece self.old (and_word tail.now) AND_TEXT self.new }
     {
         self.add_and_word(tail.as_bytes());
     }
@@ -171,8 +165,7 @@ impl Piece {
     /// Adds a value's count and text, with a space before each.
     pub fn add_and_value(&mut self, value: &Value)
         requires { length self.old + AND_VALUE ≤ LONGEST }
-        ensures text { self.new ≡ self.old ++ and_value value.now }
-        ensures fits { length self.new ≤ length self.old + AND_VALUE }
+        ensures { AddsToPiece self.old (and_value value.now) AND_VALUE self.new }
     {
         self.add_and_number(value.count);
         self.add_and_text(&value.text);

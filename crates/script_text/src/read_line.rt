@@ -1,7 +1,12 @@
 // One line of a script.
+ghost use Rattle.std.specs.Prelude.{◌≡◌, ℕ, ◌^◌, ◌<◌, List, ◌++◌, decimal};
 ghost use Rattle.std.specs.Option.{option_copied};
-ghost use Rattle.script_text.specs.Grammar.{IsLine};
-ghost use Rattle.script_text.specs.Reading.{IsJoined, Lacks, Reads, SpellsArguments, SpellsBare, SpellsCommand, SpellsKeyAndNumber, SpellsKeyAndTail, SpellsKeyAndValue, SpellsTwoKeys, SpellsValue, SpellsVerb};
+ghost use Rattle.blsm_model.specs.declared.key.Key.{Key};
+ghost use Rattle.blsm_model.specs.declared.op.Op.TheVariants.{Release};
+ghost use Rattle.blsm_model.specs.declared.row.Value.{Value};
+ghost use Rattle.blsm_model.specs.Printed.{and_number, and_value, and_word, command_text, spelled};
+ghost use Rattle.script_text.specs.Grammar.{IsCommand, IsKey, IsLine, IsTail, IsText};
+ghost use Rattle.script_text.specs.Reading.{IsJoined, Lacks, Reads, Spells, SpellsArguments, verb_text};
 
 use crate::read_word::{read_count, read_key, read_number, read_seat, read_tail, read_text};
 use blsm_model::{Key, Line, Op, RowList, Text, Value};
@@ -24,7 +29,7 @@ pub fn cut(bytes: &[u8], mark: u8) -> (&[u8], Option<&[u8]>)
 }
 
 fn read_value(bytes: &[u8]) -> Option<Value>
-    ensures { Reads SpellsValue bytes.now result }
+    ensures { Reads (Spells (λ (v : Value). decimal v.count ++ and_word (spelled v.text)) (λ v. (v.count < 2 ^ 64) × IsText v.text)) bytes.now result }
 {
     let (number, rest) = cut(bytes, b' ');
     let text = rest?;
@@ -34,7 +39,7 @@ fn read_value(bytes: &[u8]) -> Option<Value>
 }
 
 fn read_key_and_value(bytes: &[u8]) -> Option<(Key, Value)>
-    ensures { Reads SpellsKeyAndValue bytes.now result }
+    ensures { Reads (Spells (λ (both : Key × Value). both.0 ++ and_value both.1) (λ both. IsKey both.0 × (both.1.count < 2 ^ 64) × IsText both.1.text)) bytes.now result }
 {
     let (word, rest) = cut(bytes, b' ');
     let rest = rest?;
@@ -44,7 +49,7 @@ fn read_key_and_value(bytes: &[u8]) -> Option<(Key, Value)>
 }
 
 fn read_key_and_number(bytes: &[u8]) -> Option<(Key, u64)>
-    ensures { Reads SpellsKeyAndNumber bytes.now result }
+    ensures { Reads (Spells (λ (both : Key × ℕ). both.0 ++ and_number both.1) (λ both. IsKey both.0 × (both.1 < 2 ^ 64))) bytes.now result }
 {
     let (word, rest) = cut(bytes, b' ');
     let rest = rest?;
@@ -54,7 +59,7 @@ fn read_key_and_number(bytes: &[u8]) -> Option<(Key, u64)>
 }
 
 fn read_key_and_tail(bytes: &[u8]) -> Option<(Key, Text)>
-    ensures { Reads SpellsKeyAndTail bytes.now result }
+    ensures { Reads (Spells (λ (both : Key × List ℕ). both.0 ++ and_word both.1) (λ both. IsKey both.0 × IsTail both.1)) bytes.now result }
 {
     let (word, rest) = cut(bytes, b' ');
     let rest = rest?;
@@ -64,7 +69,7 @@ fn read_key_and_tail(bytes: &[u8]) -> Option<(Key, Text)>
 }
 
 fn read_two_keys(bytes: &[u8]) -> Option<(Key, Key)>
-    ensures { Reads SpellsTwoKeys bytes.now result }
+    ensures { Reads (Spells (λ (both : Key × Key). both.0 ++ and_word both.1) (λ both. IsKey both.0 × IsKey both.1)) bytes.now result }
 {
     let (word, rest) = cut(bytes, b' ');
     let rest = rest?;
@@ -86,7 +91,7 @@ enum Verb {
 }
 
 fn read_verb(word: &[u8]) -> Option<Verb>
-    ensures { Reads SpellsVerb word.now result }
+    ensures { Reads (λ bytes v. bytes ≡ verb_text v) word.now result }
 {
     match word {
         b"put" => Some(Verb::Put),
@@ -103,7 +108,7 @@ fn read_verb(word: &[u8]) -> Option<Verb>
 
 // The command that is a word alone.
 fn read_bare(word: &[u8]) -> Option<Op>
-    ensures { Reads SpellsBare word.now result }
+    ensures { Reads (Spells command_text (λ op. op ≡ Release)) word.now result }
 {
     match word {
         b"drop" => Some(Op::Release),
@@ -140,7 +145,7 @@ fn read_arguments(verb: Verb, bytes: &[u8]) -> Option<Op>
 }
 
 fn read_command(bytes: &[u8]) -> Option<Op>
-    ensures { Reads SpellsCommand bytes.now result }
+    ensures { Reads (Spells command_text IsCommand) bytes.now result }
 {
     let (word, rest) = cut(bytes, b' ');
     match rest {

@@ -1,8 +1,10 @@
 // The words of a line. A reader answers what its word spells, and nothing exactly where that is nothing.
-ghost use Rattle.std.specs.Prelude.{◌↔◌, IsTrue};
+ghost use Rattle.std.specs.Prelude.{◌↔◌, ◌+◌, ◌^◌, ◌<◌, ◌≤◌, IsTrue, decimal};
 ghost use Rattle.std.specs.List.{All};
-ghost use Rattle.script_text.specs.Grammar.{IsVisible};
-ghost use Rattle.script_text.specs.Reading.{BeginsAsNumber, Reads, SpellsCount, SpellsKey, SpellsNumber, SpellsSeat, SpellsTail, SpellsText};
+ghost use Rattle.blsm_model.specs.Format.{callers};
+ghost use Rattle.blsm_model.specs.Printed.{spelled};
+ghost use Rattle.script_text.specs.Grammar.{IsKey, IsTail, IsText, IsVisible};
+ghost use Rattle.script_text.specs.Reading.{BeginsAsNumber, Reads, Spells};
 
 use blsm_model::{CALLERS, Key, Text};
 use std::str;
@@ -26,7 +28,7 @@ fn begins_as_number(word: &[u8]) -> bool
 }
 
 pub fn read_number(word: &[u8]) -> Option<u64>
-    ensures { Reads SpellsNumber word.now result }
+    ensures { Reads (Spells decimal (λ n. n < 2 ^ 64)) word.now result }
 {
     if !begins_as_number(word) {
         return None;
@@ -39,7 +41,7 @@ pub fn read_number(word: &[u8]) -> Option<u64>
 
 // A caller is counted from 1, a seat from 0.
 pub fn read_seat(word: &[u8]) -> Option<u32>
-    ensures { Reads SpellsSeat word.now result }
+    ensures { Reads (Spells (λ seat. decimal (seat + 1)) (λ seat. seat < callers)) word.now result }
 {
     let caller = read_number(word)?;
     if caller == 0 || u64::from(CALLERS) < caller {
@@ -50,7 +52,7 @@ pub fn read_seat(word: &[u8]) -> Option<u32>
 
 // How many a command asks for: one at least, and so many at most.
 pub fn read_count(word: &[u8], most: u32) -> Option<u32>
-    ensures { Reads (SpellsCount most) word.now result }
+    ensures { Reads (Spells decimal (λ n. (1 ≤ n) × (n ≤ most))) word.now result }
 {
     let count = read_number(word)?;
     if count == 0 || u64::from(most) < count {
@@ -60,7 +62,7 @@ pub fn read_count(word: &[u8], most: u32) -> Option<u32>
 }
 
 pub fn read_key(word: &[u8]) -> Option<Key>
-    ensures { Reads SpellsKey word.now result }
+    ensures { Reads (Spells (λ key. key) IsKey) word.now result }
 {
     if is_visible(word) {
         Key::from_bytes(word)
@@ -71,7 +73,7 @@ pub fn read_key(word: &[u8]) -> Option<Key>
 
 // A dash alone is no tail.
 pub fn read_tail(word: &[u8]) -> Option<Text>
-    ensures { Reads SpellsTail word.now result }
+    ensures { Reads (Spells (λ tail. tail) IsTail) word.now result }
 {
     match word {
         b"-" | [] => None,
@@ -82,7 +84,7 @@ pub fn read_tail(word: &[u8]) -> Option<Text>
 
 // A dash alone is the empty text.
 pub fn read_text(word: &[u8]) -> Option<Text>
-    ensures { Reads SpellsText word.now result }
+    ensures { Reads (Spells spelled IsText) word.now result }
 {
     match word {
         b"-" => Some(Text::empty()),

@@ -2,6 +2,7 @@
 ghost use Rattle.std.specs.Prelude.{◌≡◌, ◌+◌, ◌≤◌, ◌++◌, codes, length};
 ghost use Rattle.blsm_model.specs.Printed.{and_row, and_value, and_word, reply_text, why_text};
 ghost use Rattle.blsm_model.specs.Stored.{as_reply};
+ghost use Rattle.script_text.specs.Pieces.{AddsToPiece};
 
 use crate::piece::{AND_KEY, AND_NUMBER, AND_VALUE, LONGEST, Piece, REPLY};
 use blsm_model::{Row, ShortReply, Value, Why};
@@ -13,8 +14,7 @@ const ROW: usize = AND_KEY + AND_VALUE;
 
 fn add_is(piece: &mut Piece, value: &Value)
     requires { length piece.old + REPLY ≤ LONGEST }
-    ensures text { piece.new ≡ piece.old ++ (codes "is" ++ and_value value.now) }
-    ensures fits { length piece.new ≤ length piece.old + REPLY }
+    ensures { AddsToPiece piece.old (codes "is" ++ and_value value.now) REPLY piece.new }
 {
     piece.add(b"is");
     piece.add_and_value(value);
@@ -22,8 +22,7 @@ fn add_is(piece: &mut Piece, value: &Value)
 
 fn add_why(piece: &mut Piece, why: &Why)
     requires { length piece.old + WHY ≤ LONGEST }
-    ensures text { piece.new ≡ piece.old ++ why_text why.now }
-    ensures fits { length piece.new ≤ length piece.old + WHY }
+    ensures { AddsToPiece piece.old (why_text why.now) WHY piece.new }
 {
     match why {
         Why::Faulted(faults) => piece.add_named_number(b"fault", *faults),
@@ -33,8 +32,7 @@ fn add_why(piece: &mut Piece, why: &Why)
 
 fn add_stopped(piece: &mut Piece, why: &Why)
     requires { length piece.old + REPLY ≤ LONGEST }
-    ensures text { piece.new ≡ piece.old ++ (codes "stopped" ++ and_word (why_text why.now)) }
-    ensures fits { length piece.new ≤ length piece.old + REPLY }
+    ensures { AddsToPiece piece.old (codes "stopped" ++ and_word (why_text why.now)) REPLY piece.new }
 {
     piece.add(b"stopped ");
     add_why(piece, why);
@@ -43,8 +41,7 @@ fn add_stopped(piece: &mut Piece, why: &Why)
 /// Adds a reply that gives no rows.
 pub fn add_reply(piece: &mut Piece, reply: &ShortReply)
     requires { length piece.old + REPLY ≤ LONGEST }
-    ensures text { piece.new ≡ piece.old ++ reply_text (as_reply reply.now) }
-    ensures fits { length piece.new ≤ length piece.old + REPLY }
+    ensures { AddsToPiece piece.old (reply_text (as_reply reply.now)) REPLY piece.new }
 {
     match reply {
         ShortReply::Done => piece.add(b"ok"),

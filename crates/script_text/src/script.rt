@@ -4,8 +4,8 @@ ghost use Rattle.std.specs.Option.{option_copied, unwrap_or};
 ghost use Rattle.std.specs.List.{All};
 ghost use Rattle.blsm_model.specs.Format.{callers, most_lines, most_rows_asked};
 ghost use Rattle.blsm_model.specs.Scripts.{lines_of, rows_of, rows_asked};
-ghost use Rattle.script_text.specs.Grammar.{IsAllowed, IsBadLine, IsOnlyBadLine, IsOnlyReading, IsScript, all_rows_asked};
-ghost use Rattle.script_text.specs.Script.{AreLines, IfBad};
+ghost use Rattle.script_text.specs.Grammar.{AreLines, IsAllowed, IsBadLine, IsOnlyBadLine, IsOnlyReading, IsScript, all_rows_asked};
+ghost use Rattle.script_text.specs.Script.{IfBad};
 ghost use Rattle.script_text.specs.declared.script.ScriptFault.TheVariants.{NoMemory};
 
 use crate::read_line::{cut, read_line};
@@ -52,7 +52,7 @@ pub struct Script {
 impl Model for Script {
     ghost use Rattle.std.specs.Prelude.{List};
     ghost use Rattle.blsm_model.specs.declared.history.Line.{Line};
-    ghost use Rattle.script_text.specs.Script.{AreLines};
+    ghost use Rattle.script_text.specs.Grammar.{AreLines};
 
     ghost Value = { List Line };
 

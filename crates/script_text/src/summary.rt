@@ -6,6 +6,7 @@ ghost use Rattle.blsm_model.specs.declared.op.Write.{Write};
 ghost use Rattle.blsm_model.specs.Book.{entry_at};
 ghost use Rattle.blsm_model.specs.Histories.{counted, is_done, map_after, writes_of};
 ghost use Rattle.script_text.specs.Generated.{HasMadeKeys, IsMade, key_at, key_count};
+ghost use Rattle.script_text.specs.Pieces.{AddsToPiece};
 ghost use Rattle.script_text.specs.Summary.{Tells, commands_line, full_line, is_of, keys_line, largest_line, most_quanta, peak_line, quanta_of_write, summary_text, trial_line, work_line};
 
 use crate::generator::MADE_KEYS;
@@ -154,8 +155,7 @@ fn count_keys(annals: &Annals) -> u64
 
 fn add_trial_line(piece: &mut Piece, seed: u64, count: u32)
     requires { length piece.old + LINE ≤ LONGEST }
-    ensures text { piece.new ≡ piece.old ++ trial_line seed count }
-    ensures fits { length piece.new ≤ length piece.old + LINE }
+    ensures { AddsToPiece piece.old (trial_line seed count) LINE piece.new }
 {
     piece.add_named_number(b"trial seed", seed);
     piece.add_named_number(b" count", u64::from(count));
@@ -164,8 +164,7 @@ fn add_trial_line(piece: &mut Piece, seed: u64, count: u32)
 
 fn add_commands_line(piece: &mut Piece, annals: &Annals)
     requires { length piece.old + LINE ≤ LONGEST }
-    ensures text { piece.new ≡ piece.old ++ commands_line annals.now.entries }
-    ensures fits { length piece.new ≤ length piece.old + LINE }
+    ensures { AddsToPiece piece.old (commands_line annals.now.entries) LINE piece.new }
 {
     piece.add_named_number(b"puts", u64::from(count_entries(annals, Kind::Puts)));
     piece.add_named_number(b" adds", u64::from(count_entries(annals, Kind::Adds)));
@@ -176,8 +175,7 @@ fn add_commands_line(piece: &mut Piece, annals: &Annals)
 
 fn add_full_line(piece: &mut Piece, annals: &Annals)
     requires { length piece.old + LINE ≤ LONGEST }
-    ensures text { piece.new ≡ piece.old ++ full_line annals.now.entries }
-    ensures fits { length piece.new ≤ length piece.old + LINE }
+    ensures { AddsToPiece piece.old (full_line annals.now.entries) LINE piece.new }
 {
     piece.add_named_number(b"full", u64::from(count_entries(annals, Kind::Full)));
     piece.add(b"\n");
@@ -185,8 +183,7 @@ fn add_full_line(piece: &mut Piece, annals: &Annals)
 
 fn add_peak_line(piece: &mut Piece, totals: &Totals)
     requires { length piece.old + LINE ≤ LONGEST }
-    ensures text { piece.new ≡ piece.old ++ peak_line totals.now }
-    ensures fits { length piece.new ≤ length piece.old + LINE }
+    ensures { AddsToPiece piece.old (peak_line totals.now) LINE piece.new }
 {
     piece.add_named_number(b"c0", totals.peak);
     piece.add_named_number(b" of", totals.high);
@@ -195,8 +192,7 @@ fn add_peak_line(piece: &mut Piece, totals: &Totals)
 
 fn add_largest_line(piece: &mut Piece, annals: &Annals)
     requires { length piece.old + LINE ≤ LONGEST }
-    ensures text { piece.new ≡ piece.old ++ largest_line annals.now.entries annals.now.quanta }
-    ensures fits { length piece.new ≤ length piece.old + LINE }
+    ensures { AddsToPiece piece.old (largest_line annals.now.entries annals.now.quanta) LINE piece.new }
 {
     piece.add_named_number(b"largest q", most_quanta(annals));
     piece.add_named_number(b" of", MADE_BOUND);
@@ -205,8 +201,7 @@ fn add_largest_line(piece: &mut Piece, annals: &Annals)
 
 fn add_work_line(piece: &mut Piece, totals: &Totals)
     requires { length piece.old + LINE ≤ LONGEST }
-    ensures text { piece.new ≡ piece.old ++ work_line totals.now }
-    ensures fits { length piece.new ≤ length piece.old + LINE }
+    ensures { AddsToPiece piece.old (work_line totals.now) LINE piece.new }
 {
     piece.add_named_sum(b"quanta", totals.callers, totals.workers);
     piece.add_named_number(b" swaps", totals.passes);
@@ -217,8 +212,7 @@ fn add_work_line(piece: &mut Piece, totals: &Totals)
 fn add_keys_line(piece: &mut Piece, annals: &Annals, totals: &Totals)
     requires room { length piece.old + LINE ≤ LONGEST }
     requires keys { All (λ e. HasMadeKeys e.op) annals.now.entries }
-    ensures text { piece.new ≡ piece.old ++ keys_line annals.now.entries totals.now }
-    ensures fits { length piece.new ≤ length piece.old + LINE }
+    ensures { AddsToPiece piece.old (keys_line annals.now.entries totals.now) LINE piece.new }
 {
     piece.add_named_number(b"keys", count_keys(annals));
     piece.add_named_number(b" charge", totals.charge);
@@ -236,7 +230,7 @@ pub fn print_summary<K: Sink>(
     totals: &Totals,
 ) -> Result<(), Failed>
     requires { All (λ e. HasMadeKeys e.op) annals.now.entries }
-    ensures { Writes (summary_text seed count annals.now.entries annals.now.quanta totals.now) result (K.held sink.old) (K.held sink.new) (K.faults sink.old) (K.faults sink.new) }
+    ensures { Writes (summary_text seed count annals.now.entries annals.now.quanta totals.now) result (K.state sink.old) (K.state sink.new) }
 {
     let mut piece = Piece::new();
     add_trial_line(&mut piece, seed, count);

@@ -1,4 +1,3 @@
 pub mod Memory
 pub mod Reading
 pub mod Text
-pub mod Writing

@@ -1,6 +1,7 @@
 -- The answers of reading a source to its end.
-use Rattle.std.specs.Prelude.{◌≡◌, ◌≤◌, ◌+◌, ℕ, Result, Ok, Err}
+use Rattle.std.specs.Prelude.{◌≡◌, ◌≤◌, ◌+◌, ℕ, List, [], Some, IfSome, length}
 use Rattle.refusal.specs.Count.{HasRisen}
+use Rattle.text_io.specs.Text.{SourceState, Loses}
 use Rattle.text_io.specs.declared.whole.ReadFault.{ReadFault}
 use Rattle.text_io.specs.declared.whole.ReadFault.TheVariants.{Failed, TooLong, NoMemory}
 
@@ -8,16 +9,14 @@ use Rattle.text_io.specs.declared.whole.ReadFault.TheVariants.{Failed, TooLong, 
 abbrev pub piece_length : ℕ
 piece_length = 4096
 
--- the fact holds where too much was read
-abbrev pub IfTooLong : {T : Type 0} → Result T ReadFault → Type 0 → Type 0
-IfTooLong (Err TooLong) fact = fact
-IfTooLong (Err Failed) fact = Unit {0}
-IfTooLong (Err NoMemory) fact = Unit {0}
-IfTooLong (Ok value) fact = Unit {0}
+-- these bytes are all that was left, within the limit, and nothing is left
+pub record WasRead (limit : ℕ) (bytes : List ℕ) (old new : SourceState) : Type 0 where
+  pub whole : IfSome old.left (λ left. (bytes ≡ left) × (new.left ≡ Some []))
+  pub within : length bytes ≤ limit
+  pub calm : new.faults ≡ old.faults
 
--- the count of faults has risen by one where a call of the source failed, and stands at any other answer
-abbrev pub CountsRead : {T : Type 0} → Result T ReadFault → ℕ → ℕ → Type 0
-CountsRead (Err Failed) old new = (old ≤ new) × HasRisen old new × (new ≤ old + 1)
-CountsRead (Err TooLong) old new = new ≡ old
-CountsRead (Err NoMemory) old new = new ≡ old
-CountsRead (Ok value) old new = new ≡ old
+-- A front is gone, of more than the limit where that was the cause. The count of faults has risen by one where a call of the source failed, and else stands.
+abbrev pub WasCutShort : ℕ → ReadFault → SourceState → SourceState → Type 0
+WasCutShort limit Failed old new = Loses 0 (limit + piece_length) old.left new.left × (old.faults ≤ new.faults) × HasRisen old.faults new.faults × (new.faults ≤ old.faults + 1)
+WasCutShort limit TooLong old new = Loses (limit + 1) (limit + piece_length) old.left new.left × (new.faults ≡ old.faults)
+WasCutShort limit NoMemory old new = Loses 0 (limit + piece_length) old.left new.left × (new.faults ≡ old.faults)

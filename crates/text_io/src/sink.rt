@@ -1,7 +1,7 @@
 // Where bytes go.
-ghost use Rattle.std.specs.Prelude.{◌≡◌, ◌≤◌, ◌<◌, ◌⊎◌, ◌+◌, ◌↔◌, ℕ, Option, Some, List, [], Contains, ◌++◌, length, IfOk, OnOk, OnErr, is_ok, if◌then◌else◌};
-ghost use Rattle.refusal.specs.Count.{CountsFault, next_count};
-ghost use Rattle.text_io.specs.Text.{Takes};
+ghost use Rattle.std.specs.Prelude.{◌≡◌, ◌<◌, ◌⊎◌, ◌+◌, ◌↔◌, Some, [], Contains, length, IfOk, IsErr, is_ok, if◌then◌else◌};
+ghost use Rattle.refusal.specs.Count.{next_count};
+ghost use Rattle.text_io.specs.Text.{SinkState, WritesSome};
 
 use refusal::{Failed, NoMemory, raise};
 use std::alloc::Global;
@@ -9,19 +9,13 @@ use std::marker::Model;
 
 /// Where bytes go.
 pub trait Sink {
-    /// The bytes that it holds, where it tells them.
-    ghost held: { Self → Option (List ℕ) };
-
-    /// How often it has failed.
-    ghost faults: { Self → ℕ };
+    /// What stands behind it.
+    ghost state: { Self → SinkState };
 
     /// Takes bytes from the front of the piece, and answers how many: one at least, where there is one.
     /// `Failed` takes none.
     fn write(&mut self, from: &[u8]) -> Result<usize, Failed>
-        ensures takes { IfOk result (Takes (held self.old) (held self.new) from.now) }
-        ensures err { OnErr result (held self.new ≡ held self.old) }
-        ensures calm { OnOk result (faults self.new ≡ faults self.old) }
-        ensures cause { CountsFault result (faults self.old) (faults self.new) };
+        ensures { WritesSome result from.now (state self.old) (state self.new) };
 }
 
 /// Bytes in memory, of which it has room for `limit`. The listed calls fail, and a write past the limit, and no others.
@@ -82,23 +76,16 @@ impl MemSink {
 }
 
 impl Sink for MemSink {
-    ghost held = { λ s. Some s.held };
-
-    ghost faults = { λ s. s.faults };
+    ghost state = { λ s. record { held = Some s.held; faults = s.faults } };
 
     fn write(&mut self, from: &[u8]) -> Result<usize, Failed>
-        ensures takes { IfOk result (Takes (Some self.old.held) (Some self.new.held) from.now) }
+        ensures call { WritesSome result from.now (record { held = Some self.old.held; faults = self.old.faults }) (record { held = Some self.new.held; faults = self.new.faults }) }
         ensures whole { IfOk result (λ n. n ≡ length from.now) }
-        ensures err { OnErr result (self.new.held ≡ self.old.held) }
-        ensures within { OnOk result (length self.old.held + length from.now ≤ self.old.limit) }
-        ensures not_listed { OnOk result (¬ Contains self.old.fails (next_count self.old.calls)) }
-        ensures listed_or_past_limit { OnErr result (Contains self.old.fails (next_count self.old.calls) ⊎ (self.old.limit < length self.old.held + length from.now)) }
+        ensures listed_or_past_limit { IsErr result ↔ (Contains self.old.fails (next_count self.old.calls) ⊎ (self.old.limit < length self.old.held + length from.now)) }
         ensures faults { self.new.faults ≡ (if is_ok result then self.old.faults else next_count self.old.faults) }
         ensures calls { self.new.calls ≡ next_count self.old.calls }
         ensures limit { self.new.limit ≡ self.old.limit }
         ensures fails { self.new.fails ≡ self.old.fails }
-        ensures calm { OnOk result (self.new.faults ≡ self.old.faults) }
-        ensures cause { CountsFault result self.old.faults self.new.faults }
     {
         raise(&mut self.calls);
         if self.fails.contains(&self.calls)
@@ -152,20 +139,14 @@ impl FaultlessSink {
 }
 
 impl Sink for FaultlessSink {
-    ghost held = { λ s. Some s.held };
-
-    ghost faults = { λ s. s.faults };
+    ghost state = { λ s. record { held = Some s.held; faults = s.faults } };
 
     fn write(&mut self, from: &[u8]) -> Result<usize, Failed>
-        ensures takes { IfOk result (Takes (Some self.old.held) (Some self.new.held) from.now) }
+        ensures call { WritesSome result from.now (record { held = Some self.old.held; faults = self.old.faults }) (record { held = Some self.new.held; faults = self.new.faults }) }
         ensures whole { IfOk result (λ n. n ≡ length from.now) }
-        ensures err { OnErr result (self.new.held ≡ self.old.held) }
-        ensures within { OnOk result (length self.old.held + length from.now ≤ self.old.limit) }
-        ensures past_limit { OnErr result (self.old.limit < length self.old.held + length from.now) }
+        ensures past_limit { IsErr result ↔ (self.old.limit < length self.old.held + length from.now) }
         ensures faults { self.new.faults ≡ (if is_ok result then self.old.faults else next_count self.old.faults) }
         ensures limit { self.new.limit ≡ self.old.limit }
-        ensures calm { OnOk result (self.new.faults ≡ self.old.faults) }
-        ensures cause { CountsFault result self.old.faults self.new.faults }
     {
         if self.limit as usize - self.bytes.len() < from.len()
             || self.bytes.extend_from_slice(from).is_err()

@@ -1,7 +1,7 @@
 // Bytes that are read to their end.
-ghost use Rattle.std.specs.Prelude.{◌≡◌, ◌≤◌, ◌<◌, ◌↔◌, ℕ, Option, Some, List, Contains, length, drop, min, IfOk, OnOk, OnErr, IsErr, IsOk, is_ok, if◌then◌else◌};
-ghost use Rattle.refusal.specs.Count.{CountsFault, next_count};
-ghost use Rattle.text_io.specs.Text.{Gives};
+ghost use Rattle.std.specs.Prelude.{◌≡◌, ◌≤◌, ◌↔◌, Some, Contains, length, drop, min, IfOk, IsErr, IsOk, is_ok, if◌then◌else◌};
+ghost use Rattle.refusal.specs.Count.{next_count};
+ghost use Rattle.text_io.specs.Text.{Gives, ReadsSome, SourceState};
 
 use refusal::{Failed, NoMemory, raise};
 use std::alloc::Global;
@@ -9,19 +9,13 @@ use std::marker::Model;
 
 /// Where bytes come from.
 pub trait Source {
-    /// The bytes that are left, where it tells them.
-    ghost left: { Self → Option (List ℕ) };
-
-    /// How often it has failed.
-    ghost faults: { Self → ℕ };
+    /// What stands behind it.
+    ghost state: { Self → SourceState };
 
     /// Puts bytes at the front of the slice, and answers how many.
     /// None, for a slice with room, is the end. `Failed` takes none of the bytes.
     fn read(&mut self, into: &mut [u8]) -> Result<usize, Failed>
-        ensures gives { IfOk result (Gives (left self.old) (left self.new) (length into.old) into.new) }
-        ensures err { OnErr result (left self.new ≡ left self.old) }
-        ensures calm { OnOk result (faults self.new ≡ faults self.old) }
-        ensures cause { CountsFault result (faults self.old) (faults self.new) };
+        ensures { ReadsSome result (length into.old) into.new (state self.old) (state self.new) };
 }
 
 // Moves bytes from a place of a text to the front of the slice, as many as both allow.
@@ -79,20 +73,15 @@ impl MemSource {
 }
 
 impl Source for MemSource {
-    ghost left = { λ s. Some s.left };
-
-    ghost faults = { λ s. s.faults };
+    ghost state = { λ s. record { left = Some s.left; faults = s.faults } };
 
     fn read(&mut self, into: &mut [u8]) -> Result<usize, Failed>
-        ensures gives { IfOk result (Gives (Some self.old.left) (Some self.new.left) (length into.old) into.new) }
+        ensures call { ReadsSome result (length into.old) into.new (record { left = Some self.old.left; faults = self.old.faults }) (record { left = Some self.new.left; faults = self.new.faults }) }
         ensures most { IfOk result (λ n. n ≡ min (length into.old) (length self.old.left)) }
-        ensures err { OnErr result (self.new.left ≡ self.old.left) }
         ensures listed { IsErr result ↔ Contains self.old.fails (next_count self.old.calls) }
         ensures faults { self.new.faults ≡ (if is_ok result then self.old.faults else next_count self.old.faults) }
         ensures calls { self.new.calls ≡ next_count self.old.calls }
         ensures fails { self.new.fails ≡ self.old.fails }
-        ensures calm { OnOk result (self.new.faults ≡ self.old.faults) }
-        ensures cause { CountsFault result self.old.faults self.new.faults }
     {
         raise(&mut self.calls);
         if self.fails.contains(&self.calls) {
@@ -133,9 +122,7 @@ impl FaultlessSource {
 }
 
 impl Source for FaultlessSource {
-    ghost left = { λ s. Some s };
-
-    ghost faults = { λ _. 0 };
+    ghost state = { λ s. record { left = Some s; faults = 0 } };
 
     fn read(&mut self, into: &mut [u8]) -> Result<usize, Failed>
         ensures gives { IfOk result (Gives (Some self.old) (Some self.new) (length into.old) into.new) }

@@ -1,7 +1,7 @@
 // A whole text, in as many calls as it takes.
-ghost use Rattle.std.specs.Prelude.{◌≡◌, ◌≤◌, ◌+◌, IfOk, OnErr, length};
-ghost use Rattle.text_io.specs.Text.{LosesAtMost, LosesFront, LosesMoreThan, WasRead, Writes};
-ghost use Rattle.text_io.specs.Reading.{CountsRead, IfTooLong, piece_length};
+ghost use Rattle.std.specs.Prelude.{◌≡◌, IfErr, IfOk};
+ghost use Rattle.text_io.specs.Text.{Writes};
+ghost use Rattle.text_io.specs.Reading.{WasCutShort, WasRead};
 ghost use Rattle.text_io.specs.declared.whole.ReadFault.TheVariants.{Failed, NoMemory};
 
 use crate::{Sink, Source};
@@ -11,7 +11,7 @@ use thiserror::Error;
 
 /// Writes all the bytes. Where it fails, a front of them was written, and not all.
 pub fn write_all<K: Sink>(sink: &mut K, bytes: &[u8]) -> Result<(), Failed>
-    ensures { Writes bytes.now result (K.held sink.old) (K.held sink.new) (K.faults sink.old) (K.faults sink.new) }
+    ensures { Writes bytes.now result (K.state sink.old) (K.state sink.new) }
 {
     let mut done = 0;
     while done < bytes.len() {
@@ -60,12 +60,8 @@ pub fn read_all<S: Source>(
     source: &mut S,
     limit: usize,
 ) -> Result<Vec<u8>, ReadFault>
-    ensures whole { IfOk result (λ bytes. WasRead bytes.items (S.left source.old) (S.left source.new)) }
-    ensures within { IfOk result (λ bytes. length bytes.items ≤ limit) }
-    ensures too_long { IfTooLong result (LosesMoreThan limit (S.left source.old) (S.left source.new)) }
-    ensures err { OnErr result (LosesFront (S.left source.old) (S.left source.new)) }
-    ensures soon { OnErr result (LosesAtMost (limit + piece_length) (S.left source.old) (S.left source.new)) }
-    ensures cause { CountsRead result (S.faults source.old) (S.faults source.new) }
+    ensures ok { IfOk result (λ bytes. WasRead limit bytes.items (S.state source.old) (S.state source.new)) }
+    ensures err { IfErr result (λ why. WasCutShort limit why (S.state source.old) (S.state source.new)) }
 {
     let mut bytes = Vec::new(alloc);
     let mut piece = [0u8; PIECE];

@@ -1,6 +1,6 @@
 use Rattle.std.proofs.Common.{◌-◌, List, length, sym, subst, arith, length-append}
 use Rattle.blsm_model.specs.declared.history.Line.{Line}
-use Rattle.script_text.specs.Script.{AreLines}
+use Rattle.script_text.specs.Grammar.{AreLines}
 use Rattle.script_text.specs.Generated.{generated}
 use Rattle.script_text.proofs.GeneratedLaws.{made_all, made_lines, made_more}
 use Rattle.script_text.proofs.generator.generate.Goals as goal

@@ -5,4 +5,4 @@ use Rattle.blsm_model.specs.Printed.{and_row}
 use Rattle.script_text.proofs.print.print_each_row.Given as goal
 
 abbrev pub invariant-loop-row : goal.invariant-loop-row
-invariant-loop-row g l = Writes {T = Unit {0}} {E = Failed} (flat_map and_row (take l.row-index l.rows)) (Ok tt) (g.K.Sink.held l.fn.sink) (g.K.Sink.held l.sink) (g.K.Sink.faults l.fn.sink) (g.K.Sink.faults l.sink)
+invariant-loop-row g l = Writes {T = Unit {0}} {E = Failed} (flat_map and_row (take l.row-index l.rows)) (Ok tt) (g.K.Sink.state l.fn.sink) (g.K.Sink.state l.sink)

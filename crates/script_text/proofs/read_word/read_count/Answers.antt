@@ -6,4 +6,4 @@ use Rattle.script_text.proofs.read_word.read_count.Goals.{then-count-eq0-via-the
 pub returns-then-count-eq0 : goal.returns-then-count-eq0
 returns-then-count-eq0 c = λ n spells.
     let same : c.in_ok-count.count ≡ n = count_is c.args.most c.in_ok-count.count n c.args.word.now (omega arith) c.in_ok-count.ensures spells in
-    elim c.then-count-eq0.branch [ then-count-eq0-via-then-count-eq0 w ↦ omega (arith, spells.1) | then-count-eq0-via-else-count-eq0+then-from-count w ↦ omega (arith, spells.2) ]
+    elim c.then-count-eq0.branch [ then-count-eq0-via-then-count-eq0 w ↦ omega (arith, spells.1.0) | then-count-eq0-via-else-count-eq0+then-from-count w ↦ omega (arith, spells.1.1) ]

@@ -1,71 +1,51 @@
-use Rattle.std.proofs.Common.{◌≡◌, ◌≤◌, Result, Ok, Err, OnErr, length, ℕ, ◌+◌, ◌<◌, List, ◌++◌, Option, Some, None, take, drop, IfSome, sym, ◌∙◌, ap, subst, append_assoc, arith, length-append, length-drop}
+use Rattle.std.proofs.Common.{◌≡◌, ◌≤◌, Result, Ok, Err, IfErr, IsErrAnd, length, ℕ, ◌+◌, List, ◌++◌, Option, Some, None, take, drop, IfSome, refl, sym, ◌∙◌, ap, subst, append_assoc, arith, length-append}
 use Rattle.std.proofs.lemmas.List.{length-take-le, take-append-drop}
-use Rattle.text_io.specs.Text.{LosesAtMost, LosesFront, LosesMoreThan, Gives}
+use Rattle.refusal.specs.Count.{HasRisen}
+use Rattle.text_io.specs.Text.{Gives, Loses}
 use Rattle.text_io.proofs.whole.read_all.Goals as goal
 
--- what stands at every answer stands at an error
-on_err : {T E : Type 0} (result : Result T E) (P : Type 0) → P → OnErr result P
-on_err (Ok value) P fact = tt
-on_err (Err error) P fact = fact
+-- an error that is passed on
+passed_on : {T E : Type 0} (result : Result T E) (error : E) (P : E → Type 0) → IsErrAnd result (λ e. e ≡ error) → P error → IfErr result P
+passed_on (Ok value) error P is fact = tt
+passed_on (Err e) error P is fact = subst P (sym is) fact
 
 -- what was read so far is a front
-lost : (bytes : List ℕ) (start now new : Option (List ℕ)) → IfSome start (λ left. (rest : List ℕ) × (now ≡ Some rest) × (left ≡ bytes ++ rest)) → new ≡ now → LosesFront start new
-lost bytes None now new read same = tt
-lost bytes (Some left) now new (rest, is, whole) same = (bytes, rest, whole, same ∙ is)
+lost : (bytes : List ℕ) (start now new : Option (List ℕ)) (most : ℕ) → IfSome start (λ left. (rest : List ℕ) × (now ≡ Some rest) × (left ≡ bytes ++ rest)) → new ≡ now → length bytes ≤ most → Loses 0 most start new
+lost bytes None now new most read same few = tt
+lost bytes (Some left) now new most (rest, is, whole) same few = (bytes, rest, omega arith, few, whole, same ∙ is)
 
 -- and one piece more
-lost_more : (bytes : List ℕ) (start now new : Option (List ℕ)) (room : ℕ) (into : List ℕ) (n limit : ℕ) → IfSome start (λ left. (rest : List ℕ) × (now ≡ Some rest) × (left ≡ bytes ++ rest)) → Gives now new room into n → limit < length bytes + n
-    → LosesMoreThan limit start new
-lost_more bytes None now new room into n limit read gives more = tt
-lost_more bytes (Some left) now new room into n limit (rest, is, whole) gives more =
+lost_more : (bytes : List ℕ) (start now new : Option (List ℕ)) (room : ℕ) (into : List ℕ) (n least most : ℕ) → IfSome start (λ left. (rest : List ℕ) × (now ≡ Some rest) × (left ≡ bytes ++ rest)) → Gives now new room into n
+    → least ≤ length bytes + n → length bytes + n ≤ most → Loses least most start new
+lost_more bytes None now new room into n least most read gives many few = tt
+lost_more bytes (Some left) now new room into n least most (rest, is, whole) gives many few =
     let given = subst (λ (o : Option (List ℕ)). IfSome o (λ l. (n ≤ length l) × (take n into ≡ take n l) × (new ≡ Some (drop n l)))) is gives.bytes in
     let taken = length-take-le n rest given.0 in (
       bytes ++ take n rest,
       drop n rest,
       omega (arith, length-append bytes (take n rest)),
+      omega (arith, length-append bytes (take n rest)),
       whole ∙ ap (λ (l : List ℕ). bytes ++ l) (sym (take-append-drop n rest)) ∙ sym (append_assoc bytes (take n rest) (drop n rest)),
       given.2,
     )
 
-front_of_more : (limit : ℕ) (start new : Option (List ℕ)) → LosesMoreThan limit start new → LosesFront start new
-front_of_more limit None new lost = tt
-front_of_more limit (Some left) new (front, rest, more, whole, is) = (front, rest, whole, is)
-
--- where that is a front of at most so many bytes
-lost_few : (bytes : List ℕ) (start now new : Option (List ℕ)) (n : ℕ) → IfSome start (λ left. (rest : List ℕ) × (now ≡ Some rest) × (left ≡ bytes ++ rest)) → new ≡ now → length bytes ≤ n → LosesAtMost n start new
-lost_few bytes None now new n read same few = tt
-lost_few bytes (Some left) now new n (rest, is, whole) same few = (rest, same ∙ is, omega (arith, few, ap length whole, length-append bytes rest))
-
-lost_few_more : (bytes : List ℕ) (start now new : Option (List ℕ)) (room : ℕ) (into : List ℕ) (n limit : ℕ) → IfSome start (λ left. (rest : List ℕ) × (now ≡ Some rest) × (left ≡ bytes ++ rest)) → Gives now new room into n → length bytes + n ≤ limit
-    → LosesAtMost limit start new
-lost_few_more bytes None now new room into n limit read gives few = tt
-lost_few_more bytes (Some left) now new room into n limit (rest, is, whole) gives few =
-    let given = subst (λ (o : Option (List ℕ)). IfSome o (λ l. (n ≤ length l) × (take n into ≡ take n l) × (new ≡ Some (drop n l)))) is gives.bytes in
-    (drop n rest, given.2, omega (arith, few, given.0, ap length whole, length-append bytes rest, length-drop n rest))
-
 pub returns-in_err-n-clause-err : goal.returns-in_err-n-clause-err
-returns-in_err-n-clause-err g c = on_err _ _ (lost c.loop-bytes.bytes.items _ _ _ c.loop-bytes.invariant.read c.in_err-n.ensures.err)
-
-pub returns-then-n-limit-clause-too_long : goal.returns-then-n-limit-clause-too_long
-returns-then-n-limit-clause-too_long g c = lost_more c.loop-bytes.bytes.items _ _ _ _ _ c.in_ok-n.n _ c.loop-bytes.invariant.read c.in_ok-n.ensures.gives (omega arith)
+returns-in_err-n-clause-err g c =
+    let loop = c.loop-bytes.invariant in
+    let call = c.in_err-n.ensures in
+    let new = (g.S.Source.state c.read.new.self).faults in
+    let risen = subst (λ (n : ℕ). (n ≤ new) × HasRisen n new × (new ≤ n + 1)) loop.calm (call.cause.no_fall, call.cause.failed refl, call.cause.one_fault) in
+    passed_on _ _ _ c.from_residual.ensures.1 (lost c.loop-bytes.bytes.items _ _ _ _ loop.read call.err (omega (arith, loop.within)), risen.0, risen.1, risen.2)
 
 pub returns-then-n-limit-clause-err : goal.returns-then-n-limit-clause-err
 returns-then-n-limit-clause-err g c =
-    front_of_more 0 _ _ (lost_more c.loop-bytes.bytes.items _ _ _ _ _ c.in_ok-n.n _ c.loop-bytes.invariant.read c.in_ok-n.ensures.gives (omega arith))
+    let loop = c.loop-bytes.invariant in
+    let call = c.in_ok-n.ensures in
+    (lost_more c.loop-bytes.bytes.items _ _ _ _ _ c.in_ok-n.n _ _ loop.read call.gives (omega arith) (omega (arith, loop.within, call.gives.within)), call.calm ∙ loop.calm)
 
 pub returns-in_err-extend_from_slice-clause-err : goal.returns-in_err-extend_from_slice-clause-err
 returns-in_err-extend_from_slice-clause-err g c =
-    on_err c.from_residual-in_err-extend_from_slice.result _
-    (front_of_more 0 _ _ (lost_more c.loop-bytes.bytes.items _ _ _ _ _ c.in_ok-n.n _ c.loop-bytes.invariant.read c.in_ok-n.ensures.gives (omega arith)))
-
-pub returns-in_err-n-clause-soon : goal.returns-in_err-n-clause-soon
-returns-in_err-n-clause-soon g c = on_err _ _ (lost_few c.loop-bytes.bytes.items _ _ _ _ c.loop-bytes.invariant.read c.in_err-n.ensures.err (omega (arith, c.loop-bytes.invariant.within)))
-
-pub returns-then-n-limit-clause-soon : goal.returns-then-n-limit-clause-soon
-returns-then-n-limit-clause-soon g c =
-    lost_few_more c.loop-bytes.bytes.items _ _ _ _ _ c.in_ok-n.n _ c.loop-bytes.invariant.read c.in_ok-n.ensures.gives (omega (arith, c.loop-bytes.invariant.within, c.in_ok-n.ensures.gives.within))
-
-pub returns-in_err-extend_from_slice-clause-soon : goal.returns-in_err-extend_from_slice-clause-soon
-returns-in_err-extend_from_slice-clause-soon g c =
-    on_err c.from_residual-in_err-extend_from_slice.result _
-    (lost_few_more c.loop-bytes.bytes.items _ _ _ _ _ c.in_ok-n.n _ c.loop-bytes.invariant.read c.in_ok-n.ensures.gives (omega (arith, c.loop-bytes.invariant.within, c.in_ok-n.ensures.gives.within)))
+    let loop = c.loop-bytes.invariant in
+    let call = c.in_ok-n.ensures in
+    passed_on _ _ _ c.from_residual-in_err-extend_from_slice.ensures.1
+    (lost_more c.loop-bytes.bytes.items _ _ _ _ _ c.in_ok-n.n _ _ loop.read call.gives (omega arith) (omega (arith, loop.within, call.gives.within)), call.calm ∙ loop.calm)

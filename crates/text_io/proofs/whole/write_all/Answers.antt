@@ -15,7 +15,7 @@ written_more (Some held) mid new bytes i n first second =
 pub loop-done-preserved : goal.loop-done-preserved
 loop-done-preserved g c =
     let rest = take_rest c.args.bytes.now c.loop-done.done in
-    let takes = subst (λ (l : List ℕ). Takes (g.K.Sink.held c.loop-done.sink) (g.K.Sink.held c.write.new.self) l c.in_ok-done.field-0) rest c.in_ok-done.ensures.takes in
+    let takes = subst (λ (l : List ℕ). Takes (g.K.Sink.state c.loop-done.sink).held (g.K.Sink.state c.write.new.self).held l c.in_ok-done.field-0) rest c.in_ok-done.ensures.takes in
     record {
       in_range = omega (arith, takes.within, length-drop c.loop-done.done c.args.bytes.now);
       written = written_more _ _ _ c.args.bytes.now c.loop-done.done c.in_ok-done.field-0 c.loop-done.invariant.written takes.bytes;

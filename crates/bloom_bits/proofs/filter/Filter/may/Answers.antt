@@ -1,4 +1,4 @@
-use Rattle.std.proofs.Common.{◌≡◌, ℕ, List, length, take, get_or, ap, sym, subst, ◌∙◌, refl, arith}
+use Rattle.std.proofs.Common.{◌≡◌, ℕ, List, false, true, length, take, get_or, ap, sym, subst, ◌∙◌, refl, arith}
 use Rattle.std.specs.List.{Contains}
 use Rattle.std.proofs.lemmas.Bool.{false≢true}
 use Rattle.std.proofs.lemmas.List.{take_all}
@@ -32,13 +32,7 @@ returns-clause-exactly c =
 -- ---- by the keys
 
 pub returns-then-not-has-clause-covered : goal.returns-then-not-has-clause-covered
-returns-then-not-has-clause-covered c = λ keys has.
-    let exactly = returns-then-not-has-clause-exactly c in
-    let both = covered c.args.self.now keys c.args.key.now has in
-    (λ yes. both.0 (exactly.0 yes), λ are. exactly.1 (both.1 are))
+returns-then-not-has-clause-covered c = λ keys has. covered c.args.self.now keys c.args.key.now false (returns-then-not-has-clause-exactly c) has
 
 pub returns-clause-covered : goal.returns-clause-covered
-returns-clause-covered c = λ keys has.
-    let exactly = returns-clause-exactly c in
-    let both = covered c.args.self.now keys c.args.key.now has in
-    (λ yes. both.0 (exactly.0 yes), λ are. exactly.1 (both.1 are))
+returns-clause-covered c = λ keys has. covered c.args.self.now keys c.args.key.now true (returns-clause-exactly c) has

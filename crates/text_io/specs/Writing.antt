@@ -1,1 +1,0 @@
--- The laws of writing one text after another.
