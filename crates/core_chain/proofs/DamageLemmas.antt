@@ -25,7 +25,7 @@ use Rattle.tree_core.specs.declared.answers.Admission.{Admission}
 use Rattle.tree_core.specs.declared.answers.Payment.{Payment}
 use Rattle.core_chain.specs.Damage.{StopsAtPage, merge_at}
 use Rattle.core_chain.proofs.FaultLemmas.{halted_by, pending}
-use Rattle.core_chain.proofs.LinkLemmas.{chain_keeps}
+use Rattle.core_chain.proofs.LinkLemmas.{among_more, chain_keeps}
 use Rattle.core_chain.proofs.TellLemmas.{link_tells}
 
 -- ---- one call
@@ -73,20 +73,7 @@ module _ {D : Type 0} (state : D → DiskState) where
       → AreCalls state calls one.1 end → end.held.book.stopped ≡ Some (BadPage page) → (one.1.held.book.stopped ≡ None → StopsAtPage state calls one.1 end page) → StopsAtPage state (one ∷ calls) start end page
   first_or_behind page one calls start end None is ran call are stops behind =
       let found = behind is in
-      record {
-        step = found.step;
-        old = found.old;
-        new = found.new;
-        among = record {
-          before = one ∷ found.among.before;
-          behind = found.among.behind;
-          parts = ap (λ (l : List (Step × CoreState D)). one ∷ l) found.among.parts;
-          led = (call, found.among.led);
-          call = found.among.call;
-          leads = found.among.leads;
-        };
-        found = found.found;
-      }
+      record { step = found.step; old = found.old; new = found.new; among = among_more one call found.among; found = found.found }
   first_or_behind page one calls start end (Some why) is ran call are stops behind =
       let last = chain_keeps state (λ (core : CoreState D). core.held.book.stopped ≡ Some why) (link_halts why) calls one.1 end are is in
       record {

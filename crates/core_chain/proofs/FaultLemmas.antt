@@ -1,8 +1,8 @@
 -- What the calls tell of faults and of the stop, one after another.
-use Rattle.std.proofs.Common.{◌≡◌, ◌≢◌, ◌⊎◌, ◌∙◌, ⊎_elim, ℕ, ◌+◌, ◌<◌, ◌≤◌, true, false, List, [], ◌∷◌, ◌++◌, Some, None, refl, ap, sym, arith}
+use Rattle.std.proofs.Common.{◌≡◌, ◌≢◌, ◌⊎◌, ◌∙◌, ℕ, ◌+◌, ◌<◌, ◌≤◌, true, false, List, [], ◌∷◌, ◌++◌, Some, None, refl, ap, sym, arith}
 use Rattle.std.proofs.lemmas.Grind.{common_steps}
 use Rattle.std.proofs.lemmas.Bool.Decides.{nat_tests}
-use Rattle.std.specs.Prelude.{Option, zero, suc, slice_index_or, sum_by}
+use Rattle.std.specs.Prelude.{Option, zero, suc, drop, slice_index_or, sum_by}
 use Rattle.std.specs.List.{AllByRecursion}
 use Rattle.std.proofs.lemmas.List.Sums.{sum_by-cons}
 use Rattle.refusal.specs.Count.{HasRisen, HasRisenBy}
@@ -23,6 +23,7 @@ use Rattle.core_moves.specs.declared.held.Held.{Held}
 use Rattle.seat_book.specs.State.{BookState}
 use Rattle.tree_core.specs.Causes.{FoundDamaged, HasFailed, RanOn}
 use Rattle.tree_session.specs.Faults.{NamesCount, NamesStop, TellsFaults, TellsNone, faults_of, faults_of_turn, faults_told, is_by_fault}
+use Rattle.tree_session.proofs.AloneLemmas.{sums_same}
 use Rattle.core_chain.specs.Tells.{lookups_failed}
 
 -- ---- entries
@@ -40,12 +41,7 @@ calm_one op reply few = λ is. omega (arith, few, ap one_if (no_look op reply is
 -- where lookups alone failed
 pub all_calm : (es : List Entry) → faults_told es ≤ lookups_failed es → AllByRecursion (λ (e : Entry). TellsNone e.op e.reply) es
 all_calm [] few = tt
-all_calm (e ∷ es) few =
-    let one = lookup_tells e.op e.reply in
-    let rest = lookups_tell es in
-    let lookups = sum_by-cons (λ (x : Entry). one_if (is_failed_lookup x.op x.reply)) e es in
-    let told = sum_by-cons (λ (x : Entry). faults_of x.reply) e es in
-    (calm_one e.op e.reply (omega (arith, few, rest, lookups, told)), all_calm es (omega (arith, few, one, lookups, told)))
+all_calm (e ∷ es) few = grind (arith, common_steps, nat_tests, lookup_tells, lookups_tell es, calm_one, all_calm es)
 
 -- a write is no lookup
 pub no_lookup : (op : Op) (reply : Reply) → is_write op ≡ true → is_failed_lookup op reply ≡ false
@@ -57,50 +53,28 @@ no_lookup op reply is = no_look op reply (write_is_no_look op is)
 abbrev pub pending : BookState → ℕ
 pending b = sum_by (λ w. faults_of_turn w.last) b.seats.work
 
-works_same : (f : WorkSoFar → ℕ) → f no_work ≡ 0 → (l m : List WorkSoFar) → ((i : ℕ) → slice_index_or m i no_work ≡ slice_index_or l i no_work) → sum_by f m ≡ sum_by f l
-works_same f none [] [] same = refl
-works_same f none [] (y ∷ m) same =
-    let here : f y ≡ f no_work = ap f (same 0) in
-    let rest = works_same f none [] m (λ i. same (suc i)) in
-    omega (arith, here, none, rest, sum_by-cons f y m)
-works_same f none (x ∷ l) [] same =
-    let here : f no_work ≡ f x = ap f (same 0) in
-    let rest = works_same f none l [] (λ i. same (suc i)) in
-    omega (arith, here, none, rest, sum_by-cons f x l)
-works_same f none (x ∷ l) (y ∷ m) same =
-    let here : f y ≡ f x = ap f (same 0) in
-    let rest = works_same f none l m (λ i. same (suc i)) in
-    omega (arith, here, rest, sum_by-cons f x l, sum_by-cons f y m)
-
 -- none is open
 pub works_idle : (f : WorkSoFar → ℕ) → f no_work ≡ 0 → (l : List WorkSoFar) → ((i : ℕ) → slice_index_or l i no_work ≡ no_work) → sum_by f l ≡ 0
-works_idle f none l idle = works_same f none [] l idle
+works_idle f none l idle = sums_same f no_work none [] l (λ i. ap f (idle i))
+
+-- the first one, and the others
+split : (f : WorkSoFar → ℕ) → f no_work ≡ 0 → (l : List WorkSoFar) → sum_by f l ≡ f (slice_index_or l 0 no_work) + sum_by f (drop 1 l)
+split f none [] = omega (arith, none)
+split f none (x ∷ l) = sum_by-cons f x l
+
+later : (l : List WorkSoFar) (i : ℕ) → slice_index_or (drop 1 l) i no_work ≡ slice_index_or l (suc i) no_work
+later [] i = refl
+later (x ∷ l) i = refl
 
 -- where one of them changes
 pub one_changed : (f : WorkSoFar → ℕ) → f no_work ≡ 0 → (l m : List WorkSoFar) (seat : ℕ) → ((i : ℕ) → i ≢ seat → slice_index_or m i no_work ≡ slice_index_or l i no_work)
     → sum_by f m + f (slice_index_or l seat no_work) ≡ sum_by f l + f (slice_index_or m seat no_work)
-one_changed f none [] [] seat others = refl
-one_changed f none [] (y ∷ m) zero others =
-    let rest = works_same f none [] m (λ i. others (suc i) (λ same. omega (arith, same))) in
-    omega (arith, none, rest, sum_by-cons f y m)
-one_changed f none (x ∷ l) [] zero others =
-    let rest = works_same f none l [] (λ i. others (suc i) (λ same. omega (arith, same))) in
-    omega (arith, none, rest, sum_by-cons f x l)
-one_changed f none (x ∷ l) (y ∷ m) zero others =
-    let rest = works_same f none l m (λ i. others (suc i) (λ same. omega (arith, same))) in
-    omega (arith, rest, sum_by-cons f x l, sum_by-cons f y m)
-one_changed f none [] (y ∷ m) (suc seat) others =
-    let first : f y ≡ f no_work = ap f (others 0 (λ same. omega (arith, same))) in
-    let rest = one_changed f none [] m seat (λ i apart. others (suc i) (λ same. apart (omega (arith, same)))) in
-    omega (arith, none, first, rest, sum_by-cons f y m)
-one_changed f none (x ∷ l) [] (suc seat) others =
-    let first : f no_work ≡ f x = ap f (others 0 (λ same. omega (arith, same))) in
-    let rest = one_changed f none l [] seat (λ i apart. others (suc i) (λ same. apart (omega (arith, same)))) in
-    omega (arith, none, first, rest, sum_by-cons f x l)
-one_changed f none (x ∷ l) (y ∷ m) (suc seat) others =
-    let first : f y ≡ f x = ap f (others 0 (λ same. omega (arith, same))) in
-    let rest = one_changed f none l m seat (λ i apart. others (suc i) (λ same. apart (omega (arith, same)))) in
-    omega (arith, first, rest, sum_by-cons f x l, sum_by-cons f y m)
+one_changed f none l m zero others =
+    let rest = sums_same f no_work none (drop 1 l) (drop 1 m) (λ i. ap f (later m i ∙ others (suc i) (λ same. omega (arith, same)) ∙ sym (later l i))) in
+    omega (arith, split f none l, split f none m, rest)
+one_changed f none l m (suc seat) others =
+    let rest = one_changed f none (drop 1 l) (drop 1 m) seat (λ i apart. later m i ∙ others (suc i) (λ same. apart (omega (arith, same))) ∙ sym (later l i)) in
+    omega (arith, split f none l, split f none m, rest, ap f (later l seat), ap f (later m seat), ap f (others 0 (λ same. omega (arith, same))))
 
 -- ---- what one call tells
 
@@ -172,42 +146,7 @@ still_named : (es : List Entry) (old new : Option Why) → ((why : Why) → old 
 still_named [] old new halted all = tt
 still_named (e ∷ es) old new halted all = grind (arith, common_steps, nat_tests, still_named es old new halted all.1)
 
--- a stop that stands, or one by a page or none, counts as before
-same_flag : (old new : Option Why) → (new ≡ old) ⊎ ((is_by_fault old ≡ false) × (is_by_fault new ≡ false)) → is_by_fault new ≡ is_by_fault old
-same_flag old new how = ⊎_elim (λ (same : new ≡ old). ap is_by_fault same) (λ (none : (is_by_fault old ≡ false) × (is_by_fault new ≡ false)). none.1 ∙ sym none.0) how
-
 module _ (start between after : DiskState) (old new : BookState) (grows : between.faults ≤ after.faults) (link : LinkTells old new between after) (so_far : Told start old between) where
-  abbrev StaysNow : Type 0
-  StaysNow = Stays link.lookups link.told (pending old) (pending new) old.stopped new.stopped between after
-
-  abbrev StopsNow : Type 0
-  StopsNow = (link.lookups ≡ 0) × Stops link.told (pending old) (pending new) old.stopped new.stopped between after
-
-  abbrev HowNow : Type 0
-  HowNow = How link.lookups link.told (pending old) (pending new) old.stopped new.stopped between after
-
-  flag : StaysNow → one_if (is_by_fault new.stopped) ≡ one_if (is_by_fault old.stopped)
-  flag s = ap one_if (same_flag old.stopped new.stopped s.stop)
-
-  -- no fault had stopped it, and one does
-  was : StopsNow → one_if (is_by_fault old.stopped) ≡ 0
-  was s = ap (λ (o : Option Why). one_if (is_by_fault o)) s.1.ran
-
-  is : StopsNow → one_if (is_by_fault new.stopped) ≡ 1
-  is s = ap (λ (o : Option Why). one_if (is_by_fault o)) s.1.stop
-
-  counted : HowNow → HasRisenBy (lookups_failed new.book.entries + one_if (is_by_fault new.stopped)) start.faults after.faults
-  counted how = grind (arith, common_steps, nat_tests)
-
-  quiet : HowNow → lookups_failed new.book.entries ≡ 0 → is_by_fault new.stopped ≡ false → after.faults ≡ start.faults
-  quiet how none calm = grind (arith, common_steps, nat_tests)
-
-  stop : HowNow → NamesCount new.stopped start after
-  stop how = grind (arith, common_steps, nat_tests)
-
-  others : HowNow → faults_told new.book.entries + pending new ≤ lookups_failed new.book.entries + one_if (is_by_fault new.stopped)
-  others how = grind (arith, common_steps, nat_tests)
-
   pub told_more : Told start new after
   told_more = grind (arith, common_steps, nat_tests, still_named, halted_by)
 

@@ -1,5 +1,5 @@
 -- One link of a chain: what each kind of call says of it. And what each link keeps, the chain keeps.
-use Rattle.std.proofs.Common.{◌≡◌, ◌∙◌, ℕ, ◌<◌, Bool, true, false, List, [], ◌∷◌, ◌&&◌, ◌==◌, None, sym, subst}
+use Rattle.std.proofs.Common.{◌≡◌, ◌∙◌, ℕ, ◌<◌, Bool, true, false, List, [], ◌∷◌, ◌&&◌, ◌==◌, None, ap, sym, subst}
 use Rattle.std.proofs.lemmas.Grind.{common_steps}
 use Rattle.std.proofs.lemmas.Bool.Decides.{nat_tests}
 use Rattle.std.proofs.Common.{arith}
@@ -28,6 +28,7 @@ use Rattle.tree_core.specs.declared.answers.Admission.TheVariants as admission
 use Rattle.tree_core.specs.declared.answers.Payment.{Payment}
 use Rattle.tree_core.specs.Scanned.{Scanned}
 use Rattle.tree_core.specs.Scanned as scanned
+use Rattle.core_chain.specs.Damage.{IsAmong}
 
 -- ---- one link
 
@@ -119,3 +120,9 @@ pub record Kept {D : Type 0} (state : D → DiskState) (start now : CoreState D)
 
 pub link_kept : {D : Type 0} (state : D → DiskState) (start : CoreState D) (seat : ℕ) (k : Kind) (old new : CoreState D) → IsCall state seat k old new → Kept state start old → Kept state start new
 link_kept state start seat k old new call kept = record { keeps = link_keeps state seat k old new call kept.keeps; sizes = link_sizes state seat k old new call kept.keeps ∙ kept.sizes }
+
+-- a call among these is among more
+pub among_more : {D : Type 0} {state : D → DiskState} {calls : List (Step × CoreState D)} {start end old new : CoreState D} {step : Step} (one : Step × CoreState D) → IsCall state one.0.seat one.0.kind start one.1 → IsAmong state calls one.1 end step old new
+    → IsAmong state (one ∷ calls) start end step old new
+among_more {D} one call found =
+    record { before = one ∷ found.before; behind = found.behind; parts = ap (λ (l : List (Step × CoreState D)). one ∷ l) found.parts; led = (call, found.led); call = found.call; leads = found.leads }

@@ -1,11 +1,12 @@
 -- Which entries the calls note, in order, and that each is a caller's.
-use Rattle.std.proofs.Common.{◌≡◌, ◌∙◌, ℕ, ◌<◌, ◌≤◌, List, [], ◌∷◌, ◌++◌, append-nil, refl, ap, sym, subst, arith}
+use Rattle.std.proofs.Common.{◌≡◌, ◌∙◌, ◌⊎◌, inl, inr, ℕ, ◌<◌, ◌≤◌, true, false, List, [], ◌∷◌, ◌++◌, append-nil, refl, ap, sym, subst, arith}
 use Rattle.std.proofs.lemmas.Grind.{common_steps}
 use Rattle.std.proofs.lemmas.Bool.Decides.{nat_tests}
 use Rattle.std.specs.List.{AllByRecursion}
 use Rattle.blsm_model.specs.Facts.{entries_of}
 use Rattle.blsm_model.specs.Book.{Book}
 use Rattle.blsm_model.specs.Format.{callers}
+use Rattle.blsm_model.specs.Legal.{is_write}
 use Rattle.blsm_model.specs.Scripts.{asked_in}
 use Rattle.blsm_model.specs.declared.history.Entry.{Entry}
 use Rattle.blsm_model.specs.declared.history.Reply.{Reply}
@@ -13,24 +14,27 @@ use Rattle.blsm_model.specs.declared.op.Op.{Op}
 use Rattle.blsm_model.specs.declared.op.Op.TheVariants as op
 use Rattle.disk_trait.specs.Disk.{DiskState}
 use Rattle.seat_book.specs.State.{BookState}
+use Rattle.tree_machine.specs.Plays.{is_help}
 use Rattle.tree_machine.specs.declared.step.Kind.{Kind}
 use Rattle.tree_machine.specs.declared.step.Kind.TheVariants as kind
 use Rattle.tree_machine.specs.declared.step.Step.{Step}
 use Rattle.core_moves.specs.declared.held.Held.{Held}
 use Rattle.tree_core.specs.Answers.{reply_to_drop, reply_to_hold, reply_to_next, reply_to_write}
-use Rattle.tree_core.specs.Calls.{AreCalls, IsCall}
+use Rattle.tree_core.specs.Calls.{AreCalls, IsCall, RepliesBecause}
+use Rattle.tree_core.specs.Causes.{AdmitsBecause}
 use Rattle.tree_core.specs.Core.{CoreState}
 use Rattle.tree_core.specs.Notes.{with_payment}
+use Rattle.tree_core.specs.declared.answers.Admission.{Admission}
 use Rattle.tree_core.specs.declared.answers.Payment.{Payment}
 use Rattle.core_chain.specs.Start.{steps_of}
 use Rattle.core_chain.specs.Tells.{asked_at, asked_by}
-use Rattle.core_chain.proofs.LinkLemmas.{caller_of, chain_keeps}
+use Rattle.core_chain.proofs.LinkLemmas.{caller_of, chain_keeps, writes_as}
 
 -- a payment's quantum counts for an entry, and is none
 pub payment_notes_none : (answer : Payment) (seat : ℕ) (book : Book) → (with_payment answer seat book).entries ≡ book.entries
 payment_notes_none answer seat book = grind (arith, common_steps, nat_tests)
 
--- ---- what a link notes: one entry with its command, or none
+-- ---- what a link notes: one entry, or none
 
 pub record Adds (seat : ℕ) (k : Kind) (old new : List Entry) : Type 0 where
   pub added : List Entry
@@ -38,26 +42,53 @@ pub record Adds (seat : ℕ) (k : Kind) (old new : List Entry) : Type 0 where
   pub asked : asked_in added ≡ asked_at seat k
   pub callers : AllByRecursion (λ e. e.seat < callers) added
 
-none_added : (seat : ℕ) (k : Kind) (old new : List Entry) → asked_at seat k ≡ [] → new ≡ old → Adds seat k old new
-none_added seat k old new none same = record { added = []; entries = same ∙ sym (append-nil old); asked = sym none; callers = tt }
+-- its entry, with its command, and why it is answered so
+pub record One {D : Type 0} (state : D → DiskState) (seat : ℕ) (k : Kind) (old new : CoreState D) : Type 0 where
+  pub op : Op
+  pub reply : Reply
+  pub entries : new.held.book.book.entries ≡ old.held.book.book.entries ++ record { seat = seat; op = op; reply = reply } ∷ []
+  pub asked : asked_at seat k ≡ (seat, op) ∷ []
+  pub because : RepliesBecause state seat op reply old new
 
-one_added : (seat : ℕ) (k : Kind) (op : Op) (reply : Reply) (old new : List Entry) → asked_at seat k ≡ (seat, op) ∷ [] → seat < callers → new ≡ old ++ record { seat = seat; op = op; reply = reply } ∷ [] → Adds seat k old new
-one_added seat k op reply old new one below is = record { added = record { seat = seat; op = op; reply = reply } ∷ []; entries = is; asked = sym one; callers = (below, tt) }
+abbrev pub Notes : {D : Type 0} → (D → DiskState) → ℕ → Kind → CoreState D → CoreState D → Type 0
+Notes state seat k old new = ((new.held.book.book.entries ≡ old.held.book.book.entries) × (asked_at seat k ≡ [])) ⊎ One state seat k old new
+
+write_because : {D : Type 0} (state : D → DiskState) (seat : ℕ) (op : Op) (answer : Admission) (old new : CoreState D) → is_write op ≡ true → AdmitsBecause answer seat op old.held new.held (state old.disk) (state new.disk)
+    → RepliesBecause state seat op (reply_to_write answer) old new
+write_because state seat op answer old new h1 h2 = grind (arith, common_steps, nat_tests)
+
+pub link_notes : {D : Type 0} (state : D → DiskState) (seat : ℕ) (k : Kind) (old new : CoreState D) → IsCall state seat k old new → Notes state seat k old new
+link_notes state seat (kind.Admit op) old new call =
+    inr (record { op = op; reply = reply_to_write call.0; entries = ap (λ (b : Book). b.entries) call.1.notes.annals; asked = refl; because = write_because state seat op call.0 old new (writes_as state seat old op call.1.goes.may).0 call.1.cause })
+link_notes state seat kind.Pay old new call = inl (ap (λ (b : Book). b.entries) call.1.counts.annals ∙ payment_notes_none call.0 seat old.held.book.book, refl)
+link_notes state seat (kind.Look op) old new call = inr (record { op = op; reply = call.0; entries = ap (λ (h : Held). h.book.book.entries) call.1.held; asked = refl; because = call.1.cause })
+link_notes state seat (kind.Hold low high) old new call =
+    inr (record { op = op.Hold low high; reply = reply_to_hold call.0; entries = ap (λ (b : BookState). b.book.entries) call.1.book; asked = refl; because = (call.0, refl, call.1.cause) })
+link_notes state seat (kind.Next n) old new call =
+    inr (record { op = op.Next n; reply = reply_to_next call.0; entries = ap (λ (b : BookState). b.book.entries) call.1.book; asked = refl; because = (call.0, refl, call.1.cause) })
+link_notes state seat kind.Release old new call =
+    inr (record { op = op.Release; reply = reply_to_drop call.0; entries = ap (λ (b : BookState). b.book.entries) call.1.book; asked = refl; because = (call.0, refl, call.1.cause) })
+link_notes state seat kind.WorkTurn old new call = inl (ap (λ (b : Book). b.entries) call.1.counts.annals, refl)
+link_notes state seat (kind.WorkEnd n) old new call =
+    let entries = ap (λ (h : Held). h.book.book.entries) call.1.held ∙ ap (λ (r : Reply). old.held.book.book.entries ++ record { seat = seat; op = op.Work n; reply = r } ∷ []) (sym call.1.reply_is) in
+    inr (record { op = op.Work n; reply = call.0; entries = entries; asked = refl; because = call.1.reply_is })
+link_notes state seat kind.WorkerTurn old new call = inl (ap (λ (b : Book). b.entries) call.1.notes.annals, refl)
+link_notes state seat kind.Leave old new call = inl (ap (λ (h : Held). h.book.book.entries) call.held, refl)
+
+asks_no_help : (seat : ℕ) (k : Kind) (op : Op) → asked_at seat k ≡ (seat, op) ∷ [] → is_help k ≡ false
+asks_no_help seat k op asked = grind (arith, common_steps, nat_tests)
 
 pub link_adds : {D : Type 0} (state : D → DiskState) (seat : ℕ) (k : Kind) (old new : CoreState D) → IsCall state seat k old new → Adds seat k old.held.book.book.entries new.held.book.book.entries
-link_adds state seat (kind.Admit op) old new call = one_added seat (kind.Admit op) op (reply_to_write call.0) _ _ refl (caller_of state seat (kind.Admit op) old new call refl) (ap (λ (b : Book). b.entries) call.1.notes.annals)
-link_adds state seat kind.Pay old new call = none_added seat kind.Pay _ _ refl (ap (λ (b : Book). b.entries) call.1.counts.annals ∙ payment_notes_none call.0 seat old.held.book.book)
-link_adds state seat (kind.Look op) old new call = one_added seat (kind.Look op) op call.0 _ _ refl (caller_of state seat (kind.Look op) old new call refl) (ap (λ (h : Held). h.book.book.entries) call.1.held)
-link_adds state seat (kind.Hold low high) old new call =
-    one_added seat (kind.Hold low high) (op.Hold low high) (reply_to_hold call.0) _ _ refl (caller_of state seat (kind.Hold low high) old new call refl) (ap (λ (b : BookState). b.book.entries) call.1.book)
-link_adds state seat (kind.Next n) old new call = one_added seat (kind.Next n) (op.Next n) (reply_to_next call.0) _ _ refl (caller_of state seat (kind.Next n) old new call refl) (ap (λ (b : BookState). b.book.entries) call.1.book)
-link_adds state seat kind.Release old new call = one_added seat kind.Release op.Release (reply_to_drop call.0) _ _ refl (caller_of state seat kind.Release old new call refl) (ap (λ (b : BookState). b.book.entries) call.1.book)
-link_adds state seat kind.WorkTurn old new call = none_added seat kind.WorkTurn _ _ refl (ap (λ (b : Book). b.entries) call.1.counts.annals)
-link_adds state seat (kind.WorkEnd n) old new call =
-    one_added seat (kind.WorkEnd n) (op.Work n) call.0 _ _ refl (caller_of state seat (kind.WorkEnd n) old new call refl)
-    (ap (λ (h : Held). h.book.book.entries) call.1.held ∙ ap (λ (r : Reply). old.held.book.book.entries ++ record { seat = seat; op = op.Work n; reply = r } ∷ []) (sym call.1.reply_is))
-link_adds state seat kind.WorkerTurn old new call = none_added seat kind.WorkerTurn _ _ refl (ap (λ (b : Book). b.entries) call.1.notes.annals)
-link_adds state seat kind.Leave old new call = none_added seat kind.Leave _ _ refl (ap (λ (h : Held). h.book.book.entries) call.held)
+link_adds state seat k old new call = by (link_notes state seat k old new call)
+  where
+    by : Notes state seat k old new → Adds seat k old.held.book.book.entries new.held.book.book.entries
+    by (inl none) = record { added = []; entries = none.0 ∙ sym (append-nil old.held.book.book.entries); asked = sym none.1; callers = tt }
+    by (inr one) = record {
+      added = record { seat = seat; op = one.op; reply = one.reply } ∷ [];
+      entries = one.entries;
+      asked = sym one.asked;
+      callers = (caller_of state seat k old new call (asks_no_help seat k one.op one.asked), tt);
+    }
 
 -- ---- the chain
 

@@ -5,7 +5,6 @@ use Rattle.std.proofs.lemmas.Bool.Decides.{nat_tests}
 use Rattle.std.specs.Prelude.{zero, suc, length, slice_index, slice_index_or, slice_set, sum, sum_by, take}
 use Rattle.std.proofs.lemmas.Bool.{cases_eq, cases_lt}
 use Rattle.std.proofs.lemmas.List.{get_or-set_same, get_or-set_other}
-use Rattle.std.proofs.lemmas.List.Sums.{sum_by-cons}
 use Rattle.blsm_model.specs.Book.{Book, entry_at, no_entry}
 use Rattle.blsm_model.specs.Format.{callers}
 use Rattle.blsm_model.specs.Geometry.{work_bound}
@@ -14,11 +13,12 @@ use Rattle.blsm_model.specs.Legal.{is_write, total_weight}
 use Rattle.blsm_model.specs.Sizes.{Sizes}
 use Rattle.blsm_model.specs.declared.history.Entry.{Entry}
 use Rattle.blsm_model.specs.declared.history.Reply.{Reply}
+use Rattle.blsm_model.specs.declared.op.Op.{Op}
 use Rattle.blsm_model.specs.declared.op.Op.TheVariants as op
 use Rattle.disk_trait.specs.Disk.{DiskState}
 use Rattle.paced_tree.specs.Numbers.{IsWritten}
 use Rattle.seat_book.specs.Places.{HasWrite}
-use Rattle.seat_book.specs.State.{BookState, work_in}
+use Rattle.seat_book.specs.State.{BookState, noted_in, work_in}
 use Rattle.seat_book.proofs.PlaceLemmas.{write_stands}
 use Rattle.tree_machine.specs.Machine.{Turned, WorkSoFar, no_work}
 use Rattle.tree_machine.specs.Steps.{last_write, work_reply}
@@ -35,6 +35,7 @@ use Rattle.tree_core.specs.Core.{CoreState, IsCore}
 use Rattle.tree_core.specs.declared.answers.Payment.{Payment}
 use Rattle.tree_core.specs.declared.answers.Payment.TheVariants as payment
 use Rattle.tree_session.specs.Session.{TookFew, most_quanta}
+use Rattle.tree_session.proofs.AloneLemmas.{sums_same}
 use Rattle.tree_session.proofs.BookLemmas.{core_bound, core_places, end_counted, ended_empty, most_of_write, written_by}
 use Rattle.tree_session.proofs.RunLemmas.{took_more}
 use Rattle.tree_session.proofs.WorkLemmas.{one_at_most}
@@ -69,6 +70,10 @@ book_stays sizes old new same works so_far = works_stay sizes old new works (sub
 -- one entry is noted, which took none
 notes_one : (sizes : Sizes) (e : Entry) (old new : BookState) → new.book.entries ≡ old.book.entries ++ e ∷ [] → new.book.quanta ≡ old.book.quanta ++ 0 ∷ [] → new.seats.work ≡ old.seats.work → Took sizes old → Took sizes new
 notes_one sizes e old new entries quanta works so_far = grind (arith, common_steps, nat_tests, works_stay, took_more)
+
+notes_in : (sizes : Sizes) (seat : ℕ) (op : Op) (reply : Reply) (old new : BookState) → new ≡ noted_in seat op reply old → Took sizes old → Took sizes new
+notes_in sizes seat op reply old new is so_far =
+    notes_one sizes (record { seat = seat; op = op; reply = reply }) old new (ap (λ (b : BookState). b.book.entries) is) (ap (λ (b : BookState). b.book.quanta) is) (ap (λ (b : BookState). b.seats.work) is) so_far
 
 module _ {D : Type 0} (state : D → DiskState) where
   -- a payment counts for a write, within its bound
@@ -109,10 +114,7 @@ module _ {D : Type 0} (state : D → DiskState) where
   pay_link : (seat : ℕ) (answer : Payment) (old new : CoreState D) → Pays state seat answer old new → seat < callers → IsCore old.held (state old.disk) → IsCore new.held (state new.disk) → new.held.runs.sizes ≡ old.held.runs.sizes → Took old.held.runs.sizes old.held.book
       → Took old.held.runs.sizes new.held.book
   pay_link seat payment.Paid old new call caller keeps keeps_then sizes so_far = works_stay old.held.runs.sizes old.held.book new.held.book call.counts.work (paid_link seat old new call caller keeps keeps_then sizes so_far) so_far
-  pay_link seat payment.Settled old new call caller keeps keeps_then sizes so_far = book_stays old.held.runs.sizes old.held.book new.held.book call.counts.annals call.counts.work so_far
-  pay_link seat payment.Fault old new call caller keeps keeps_then sizes so_far = book_stays old.held.runs.sizes old.held.book new.held.book call.counts.annals call.counts.work so_far
-  pay_link seat (payment.Damaged page) old new call caller keeps keeps_then sizes so_far = book_stays old.held.runs.sizes old.held.book new.held.book call.counts.annals call.counts.work so_far
-  pay_link seat (payment.Stopped why) old new call caller keeps keeps_then sizes so_far = book_stays old.held.runs.sizes old.held.book new.held.book call.counts.annals call.counts.work so_far
+  pay_link seat _ old new call caller keeps keeps_then sizes so_far = book_stays old.held.runs.sizes old.held.book new.held.book call.counts.annals call.counts.work so_far
 
   turn_link : (sizes : Sizes) (seat : ℕ) (answer : Turned) (old new : CoreState D) → seat < callers → TurnsOnce state seat answer old new → Took sizes old.held.book → Took sizes new.held.book
   turn_link sizes seat answer old new caller call so_far = record {
@@ -156,18 +158,10 @@ module _ {D : Type 0} (state : D → DiskState) where
       notes_one old.held.runs.sizes (record { seat = seat; op = op; reply = reply_to_write call.0 }) old.held.book new.held.book (ap (λ (b : Book). b.entries) call.1.notes.annals) (ap (λ (b : Book). b.quanta) call.1.notes.annals) call.1.notes.work so_far
   link_took start seat kind.Pay old new call kept kept_then so_far =
       pay_link seat call.0 old new call.1 (caller_of state seat kind.Pay old new call refl) kept.keeps kept_then.keeps (kept_then.sizes ∙ sym kept.sizes) so_far
-  link_took start seat (kind.Look op) old new call kept kept_then so_far =
-      notes_one old.held.runs.sizes (record { seat = seat; op = op; reply = call.0 }) old.held.book new.held.book (ap (λ (h : Held). h.book.book.entries) call.1.held) (ap (λ (h : Held). h.book.book.quanta) call.1.held)
-      (ap (λ (h : Held). h.book.seats.work) call.1.held) so_far
-  link_took start seat (kind.Hold low high) old new call kept kept_then so_far =
-      notes_one old.held.runs.sizes (record { seat = seat; op = op.Hold low high; reply = reply_to_hold call.0 }) old.held.book new.held.book (ap (λ (b : BookState). b.book.entries) call.1.book) (ap (λ (b : BookState). b.book.quanta) call.1.book)
-      (ap (λ (b : BookState). b.seats.work) call.1.book) so_far
-  link_took start seat (kind.Next n) old new call kept kept_then so_far =
-      notes_one old.held.runs.sizes (record { seat = seat; op = op.Next n; reply = reply_to_next call.0 }) old.held.book new.held.book (ap (λ (b : BookState). b.book.entries) call.1.book) (ap (λ (b : BookState). b.book.quanta) call.1.book)
-      (ap (λ (b : BookState). b.seats.work) call.1.book) so_far
-  link_took start seat kind.Release old new call kept kept_then so_far =
-      notes_one old.held.runs.sizes (record { seat = seat; op = op.Release; reply = reply_to_drop call.0 }) old.held.book new.held.book (ap (λ (b : BookState). b.book.entries) call.1.book) (ap (λ (b : BookState). b.book.quanta) call.1.book)
-      (ap (λ (b : BookState). b.seats.work) call.1.book) so_far
+  link_took start seat (kind.Look op) old new call kept kept_then so_far = notes_in old.held.runs.sizes seat op call.0 old.held.book new.held.book (ap (λ (h : Held). h.book) call.1.held) so_far
+  link_took start seat (kind.Hold low high) old new call kept kept_then so_far = notes_in old.held.runs.sizes seat (op.Hold low high) (reply_to_hold call.0) old.held.book new.held.book call.1.book so_far
+  link_took start seat (kind.Next n) old new call kept kept_then so_far = notes_in old.held.runs.sizes seat (op.Next n) (reply_to_next call.0) old.held.book new.held.book call.1.book so_far
+  link_took start seat kind.Release old new call kept kept_then so_far = notes_in old.held.runs.sizes seat op.Release (reply_to_drop call.0) old.held.book new.held.book call.1.book so_far
   link_took start seat kind.WorkTurn old new call kept kept_then so_far = turn_link old.held.runs.sizes seat call.0 old new (caller_of state seat kind.WorkTurn old new call refl) call.1 so_far
   link_took start seat (kind.WorkEnd n) old new call kept kept_then so_far =
       end_link old.held.runs.sizes seat n call.0 old new (caller_of state seat (kind.WorkEnd n) old new call refl) (core_places old.held (state old.disk) kept.keeps) call.1 so_far
@@ -224,11 +218,4 @@ module _ {D : Type 0} (state : D → DiskState) where
           (cases_lt seat callers)
 
       none_open : ((seat : ℕ) → seat < callers → (work_in seat end.held.book).turns ≡ 0) → sum end.held.book.book.quanta + sum_by (λ (w : WorkSoFar). w.quanta) end.held.book.seats.work ≡ sum end.held.book.book.quanta
-      none_open idle = let none = quanta_none end.held.book.seats.work (idle_one idle) in omega (arith, none)
-        where
-          quanta_none : (l : List WorkSoFar) → ((i : ℕ) → (slice_index_or l i no_work).quanta ≡ 0) → sum_by (λ (w : WorkSoFar). w.quanta) l ≡ 0
-          quanta_none [] none = refl
-          quanta_none (w ∷ l) none =
-              let here : w.quanta ≡ 0 = none 0 in
-              let rest = quanta_none l (λ i. none (suc i)) in
-              omega (arith, here, rest, sum_by-cons (λ (v : WorkSoFar). v.quanta) w l)
+      none_open idle = let none = sums_same (λ (w : WorkSoFar). w.quanta) no_work refl [] end.held.book.seats.work (idle_one idle) in omega (arith, none)

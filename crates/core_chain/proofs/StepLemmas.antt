@@ -2,7 +2,7 @@
 use Rattle.std.proofs.Common.{◌≡◌, ◌∙◌, ℕ, ◌+◌, ◌≤◌, Bool, true, cond, List, [], ◌∷◌, None, Some, length, refl, ap, sym, subst, arith}
 use Rattle.std.proofs.lemmas.Grind.{common_steps}
 use Rattle.std.proofs.lemmas.Bool.Decides.{nat_tests}
-use Rattle.std.specs.Prelude.{IsSome, IsTrue, Option, false, map, suc, take, zero}
+use Rattle.std.specs.Prelude.{IsSome, IsTrue, Option, map, suc, take, zero}
 use Rattle.std.proofs.lemmas.Bool.{false≢true}
 use mathlib.Core.List.{IsPrefix}
 use Rattle.blsm_model.specs.Sizes.{Sizes}
@@ -19,7 +19,7 @@ use Rattle.paced_tree.specs.Kept.{paced_all, paced_one}
 use Rattle.seat_book.specs.State.{BookState}
 use Rattle.tree_machine.specs.Machine as machine
 use Rattle.tree_machine.specs.Machine.{Machine, Turned, is_closed}
-use Rattle.tree_machine.specs.Outcomes.{AreTold, IsPossible, is_broken}
+use Rattle.tree_machine.specs.Outcomes.{AreTold}
 use Rattle.tree_machine.specs.Plays.{is_help, may, played, played_one, stepped_as}
 use Rattle.tree_machine.specs.Steps.{Answer, Outcome, Turn, swaps_due, worker_turning}
 use Rattle.tree_machine.specs.declared.step.Kind.{Kind}
@@ -32,38 +32,13 @@ use Rattle.tree_core.specs.Calls.{AreCalls, IsCall}
 use Rattle.tree_core.specs.Causes.{TurnsNone}
 use Rattle.tree_core.specs.Core.{CoreState, IsCore}
 use Rattle.tree_core.specs.Holds.{StandsWhole}
-use Rattle.tree_core.specs.Steps.{IsPlayed}
+use Rattle.tree_core.specs.Steps.{IsPlayed, IsWholeStep}
 use Rattle.tree_core.proofs.BegunLemmas.{due_agree}
 use Rattle.tree_core.proofs.PlayLemmas.{history_grows, may_agrees, none_is_played, prefix_length}
 use Rattle.core_chain.specs.Steps.{AllMay, AreTimed, ChainIsSteps, IsOver, RestOnceOver, clock_after, outcomes_in}
 use Rattle.core_chain.specs.Tells.{calls_of}
 use Rattle.core_chain.proofs.LinkLemmas.{goes_of, link_keeps, link_rests}
 use Rattle.core_chain.proofs.TellLemmas.{link_reaches}
-
--- ---- one link
-
--- where the machine stands before the call, and the step that the call is
-pub record IsLink {D : Type 0} (state : D → DiskState) (opening : List (Key × Value)) (seat : ℕ) (k : Kind) (old new : CoreState D) (m : Machine) (pace : Pace) : Type 0 where
-  pub outcome : Outcome
-  pub may : may m seat k ≡ true
-  pub possible : IsPossible m seat k outcome (state old.disk).faults (state new.disk).faults
-  pub whole : is_broken outcome ≡ false
-  pub stands : StandsWhole state opening new (stepped_as m seat k outcome).state (pace_after m pace seat k outcome)
-  pub images : LeavesOnly (state old.disk) (state new.disk) (ShowsHistory m.gears.sizes opening (stepped_as m seat k outcome).state.book.entries (length m.book.entries))
-
-pub link_steps : {D : Type 0} (state : D → DiskState) (opening : List (Key × Value)) (seat : ℕ) (k : Kind) (old new : CoreState D) (m : Machine) (pace : Pace) → IsCall state seat k old new → IsTrue (state old.disk).is_honest → StandsWhole state opening old m pace
-    → IsLink state opening seat k old new m pace
-link_steps state opening seat k old new m pace call honest whole =
-    let goes = (goes_of state seat k old new call).1 in
-    let is = goes.steps opening m pace honest whole in
-    record {
-      outcome = is.outcome;
-      may = may_agrees seat k old.held m whole.book whole.gears ∙ goes.may;
-      possible = is.possible;
-      whole = is.whole;
-      stands = is.stands;
-      images = is.images;
-    }
 
 -- ---- how it calls the disk
 
@@ -143,7 +118,7 @@ module _ {D : Type 0} (state : D → DiskState) (opening : List (Key × Value)) 
 -- one call, and then the others
 module _ {D : Type 0} (state : D → DiskState) (opening : List (Key × Value)) (first : Step × CoreState D) (calls : List (Step × CoreState D)) (start end : CoreState D) (m : Machine) (pace : Pace) (timed : IsTimed (state end.disk))
     (rises : (state start.disk).clock ≤ (state first.1.disk).clock) (few : (state first.1.disk).clock ≤ (state start.disk).clock + calls_of m.gears.sizes (swaps_due m) first.0.kind) (faults : (state start.disk).faults ≤ (state first.1.disk).faults) (quiet : IsOver m first.0.kind → (state first.1.disk).clock ≡ (state start.disk).clock)
-    (one : IsLink state opening first.0.seat first.0.kind start first.1 m pace)
+    (answer : Answer) (can : may m first.0.seat first.0.kind ≡ true) (one : IsWholeStep state opening first.0.seat first.0.kind answer start first.1 m pace)
     (rest : ChainIsSteps state opening calls first.1 end (stepped_as m first.0.seat first.0.kind one.outcome).state (pace_after m pace first.0.seat first.0.kind one.outcome)) where
   abbrev next : Machine
   next = (stepped_as m first.0.seat first.0.kind one.outcome).state
@@ -156,16 +131,16 @@ module _ {D : Type 0} (state : D → DiskState) (opening : List (Key × Value)) 
 
   -- the step is made, since it may be
   played_is : played_one m (first.0, one.outcome) ≡ next
-  played_is = ap (λ (b : Bool). cond b next m) one.may
+  played_is = ap (λ (b : Bool). cond b next m) can
 
   paced_is : paced_one m pace (first.0, one.outcome) ≡ next_pace
-  paced_is = ap (λ (b : Bool). cond b next_pace pace) one.may
+  paced_is = ap (λ (b : Bool). cond b next_pace pace) can
 
   same_sizes : next.gears.sizes ≡ m.gears.sizes
-  same_sizes = (step_fixed m first.0.seat first.0.kind one.outcome one.may).0
+  same_sizes = (step_fixed m first.0.seat first.0.kind one.outcome can).0
 
   grows_one : IsPrefix m.book.entries next.book.entries
-  grows_one = history_grows m first.0.seat first.0.kind one.outcome one.may
+  grows_one = history_grows m first.0.seat first.0.kind one.outcome can
 
   -- the rest, from where the step leads
   rest_may : AllMay (played_one m (first.0, one.outcome)) (outcomes_in rest.made)
@@ -210,7 +185,7 @@ module _ {D : Type 0} (state : D → DiskState) (opening : List (Key × Value)) 
     clocks_are = ap (λ (xs : List ℕ). (state first.1.disk).clock ∷ xs) rest.clocks_are;
     timed = (rises, few, subst (λ (x : Machine). AreTimed x (state first.1.disk).clock rest.made (state end.disk).clock) (sym played_is) rest.timed);
     rests = (quiet, subst (λ (x : Machine). RestOnceOver x (state first.1.disk).clock rest.made) (sym played_is) rest.rests);
-    may = (one.may, rest_may);
+    may = (can, rest_may);
     told = ((state first.1.disk).faults, faults, λ can. one.possible, rest_told);
     whole = (one.whole, rest.whole);
     stands = subst (λ (p : Pace). StandsWhole state opening end (played m (outcomes_in made)) p) (sym all_paced) (subst (λ (x : Machine). StandsWhole state opening end x (paced_all next next_pace (outcomes_in rest.made))) (sym all_played) rest.stands);
@@ -228,10 +203,12 @@ chain_is_steps {D} state opening [] start end m pace timed keeps are honest whol
 chain_is_steps {D} state opening (one ∷ calls) start end m pace timed keeps are honest whole =
     let step = one.0 in
     let mid = one.1 in
-    let link = link_steps state opening step.seat step.kind start mid m pace are.0 honest whole in
+    let goes_as = goes_of state step.seat step.kind start mid are.0 in
+    let link = goes_as.1.steps opening m pace honest whole in
+    let can : may m step.seat step.kind ≡ true = may_agrees step.seat step.kind start.held m whole.book whole.gears ∙ goes_as.1.may in
     let reaches = link_reaches state step.seat step.kind start mid are.0 in
     let goes = reaches.goes_on in
     one_step state opening one calls start end m pace timed goes.clock (few_calls state opening step.seat step.kind start mid m pace are.0 keeps honest whole) goes.faults
-    (λ over. ap (λ (d : D). (state d).clock) (over_rests state opening step.seat step.kind start mid m pace are.0 honest whole over)) link
+    (λ over. ap (λ (d : D). (state d).clock) (over_rests state opening step.seat step.kind start mid m pace are.0 honest whole over)) goes_as.0 can link
     (chain_is_steps state opening calls mid end (stepped_as m step.seat step.kind link.outcome).state (pace_after m pace step.seat step.kind link.outcome) timed (link_keeps state step.seat step.kind start mid are.0 keeps) are.1
     (subst IsTrue (sym goes.is_honest) honest) link.stands)

@@ -2,7 +2,7 @@
 use Rattle.std.proofs.Common.{◌≡◌, ◌∙◌, inl, inr, ℕ, ◌+◌, ◌≤◌, true, false, List, [], ◌∷◌, ◌++◌, None, refl, ap, sym, subst, arith}
 use Rattle.std.proofs.lemmas.Grind.{common_steps}
 use Rattle.std.proofs.lemmas.Bool.Decides.{nat_tests}
-use Rattle.std.specs.Prelude.{Option, slice_set, sum_by}
+use Rattle.std.specs.Prelude.{Option, sum_by}
 use Rattle.std.proofs.lemmas.Bool.{false≢true}
 use Rattle.std.proofs.lemmas.List.{get_or-set_other}
 use Rattle.refusal.specs.Count.{HasRisen}
@@ -21,7 +21,7 @@ use Rattle.tree_machine.proofs.TellLemmas.{no_look}
 use Rattle.disk_trait.specs.Disk.{DiskState}
 use Rattle.seat_book.specs.State.{BookState, noted_in, work_in}
 use Rattle.tree_machine.specs.Machine as machine
-use Rattle.tree_machine.specs.Machine.{Turned, WorkSoFar, no_work}
+use Rattle.tree_machine.specs.Machine.{Turned, WorkSoFar}
 use Rattle.tree_machine.specs.Outcomes.{is_failed_lookup}
 use Rattle.tree_machine.specs.Steps.{one_if, work_reply}
 use Rattle.tree_machine.specs.declared.step.Kind.{Kind}
@@ -160,13 +160,12 @@ module _ {D : Type 0} (state : D → DiskState) where
 
       by : (given : Turned) → TurnsBecause given false seat old.held new.held (state old.disk) (state new.disk) → (TurnsNone given → new.disk ≡ old.disk) → pending new.held.book ≤ pending old.held.book + faults_of_turn given
           → How 0 0 (pending old.held.book) (pending new.held.book) old.held.book.stopped new.held.book.stopped (state old.disk) (state new.disk)
-      by machine.Worked cause none within = inl (stays_ran 0 (pending old.held.book) (pending new.held.book) old.held new.held (state old.disk) (state new.disk) cause.0 (omega (arith, within)))
-      by machine.Idle cause none within = inl (stays_ran 0 (pending old.held.book) (pending new.held.book) old.held new.held (state old.disk) (state new.disk) cause.0 (omega (arith, within)))
       by machine.Closed cause none within = absurd (false≢true cause.1)
       by machine.Failed cause none within = inr (refl, stops_failed 0 (pending old.held.book) (pending new.held.book) old.held new.held (state old.disk) (state new.disk) cause (omega (arith, within)))
       by (machine.BadPage page) cause none within = inl (stays_damaged page 0 (pending old.held.book) (pending new.held.book) old.held new.held (state old.disk) (state new.disk) cause (omega (arith, within)))
       by (machine.Halted why) cause none within =
           inl (stays_same 0 (pending old.held.book) (pending new.held.book) old.held.book.stopped new.held.book.stopped (state old.disk) (state new.disk) (call.counts.halted why cause.0 ∙ sym cause.0) (faults_same old new (none tt)) (omega (arith, within)))
+      by _ cause none within = inl (stays_ran 0 (pending old.held.book) (pending new.held.book) old.held new.held (state old.disk) (state new.disk) cause.0 (omega (arith, within)))
 
   end_link : (seat n : ℕ) (reply : Reply) (old new : CoreState D) → EndsWork state seat n reply old new → LinkTells old.held.book new.held.book (state old.disk) (state new.disk)
   end_link seat n reply old new call =
@@ -184,9 +183,6 @@ module _ {D : Type 0} (state : D → DiskState) where
       stopped : new.held.book.stopped ≡ old.held.book.stopped
       stopped = ap (λ (h : Held). h.book.stopped) call.held
 
-      works : new.held.book.seats.work ≡ slice_set old.held.book.seats.work seat no_work
-      works = ap (λ (h : Held). h.book.seats.work) call.held
-
       few : faults_of_turn (work_in seat old.held.book).last + pending new.held.book ≤ pending old.held.book
       few = grind (arith, common_steps, nat_tests, one_changed, get_or-set_other, ended_empty)
 
@@ -199,12 +195,11 @@ module _ {D : Type 0} (state : D → DiskState) where
 
       by : (given : Turned) → TurnsBecause given true seat old.held new.held (state old.disk) (state new.disk) → (TurnsNone given → new.disk ≡ old.disk) → (TurnsNone given → new.held.book.stopped ≡ old.held.book.stopped)
           → How 0 0 (pending old.held.book) (pending new.held.book) old.held.book.stopped new.held.book.stopped (state old.disk) (state new.disk)
-      by machine.Worked cause none still = inl (stays_ran 0 (pending old.held.book) (pending new.held.book) old.held new.held (state old.disk) (state new.disk) cause.0 few)
-      by machine.Idle cause none still = inl (stays_ran 0 (pending old.held.book) (pending new.held.book) old.held new.held (state old.disk) (state new.disk) cause.0 few)
       by machine.Closed cause none still = inl (stays_same 0 (pending old.held.book) (pending new.held.book) old.held.book.stopped new.held.book.stopped (state old.disk) (state new.disk) (still tt) (faults_same old new (none tt)) few)
       by machine.Failed cause none still = inr (refl, stops_failed 0 (pending old.held.book) (pending new.held.book) old.held new.held (state old.disk) (state new.disk) cause (omega (arith, few)))
       by (machine.BadPage page) cause none still = inl (stays_damaged page 0 (pending old.held.book) (pending new.held.book) old.held new.held (state old.disk) (state new.disk) cause few)
       by (machine.Halted why) cause none still = inl (stays_same 0 (pending old.held.book) (pending new.held.book) old.held.book.stopped new.held.book.stopped (state old.disk) (state new.disk) (still tt) (faults_same old new (none tt)) few)
+      by _ cause none still = inl (stays_ran 0 (pending old.held.book) (pending new.held.book) old.held new.held (state old.disk) (state new.disk) cause.0 few)
 
   -- a caller that leaves
   leave_link : (seat : ℕ) (old new : CoreState D) → Leaves state seat old new → LinkTells old.held.book new.held.book (state old.disk) (state new.disk)

@@ -2,7 +2,6 @@ pub mod Start
 pub mod Tells
 pub mod Quanta
 pub mod Steps
-pub mod Rows
 pub mod Damage
 pub mod Holds
 pub mod Replies

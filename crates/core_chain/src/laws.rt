@@ -14,10 +14,12 @@ ghost use Rattle.core_chain.specs.Damage.{StopsAtPage};
 ghost use Rattle.core_chain.specs.Holds.{ChainTellsHolds, HoldsNone};
 ghost use Rattle.core_chain.specs.Quanta.{ChainHelps, ChainTakesFew};
 ghost use Rattle.core_chain.specs.Replies.{IsNoted};
-ghost use Rattle.core_chain.specs.Rows.{RowsStay};
 ghost use Rattle.core_chain.specs.Start.{IsUnasked};
 ghost use Rattle.core_chain.specs.Steps.{ChainIsSteps};
 ghost use Rattle.core_chain.specs.Tells.{ChainTells};
+ghost use mathlib.Core.List.{IsPrefix};
+ghost use Rattle.blsm_model.specs.Facts.{entries_of};
+ghost use Rattle.blsm_model.specs.Histories.{object_after};
 
 use disk_trait::Disk;
 use tree_core::Core;
@@ -70,5 +72,6 @@ pub fn calls_are_steps<D: Disk + Drop>(core: &Core<D>)
 
 /// The rows that a seat has still to read are those after what it saw, where it saw all its own entries.
 pub fn rows_stay()
-    ensures { RowsStay }
+    ensures { (opening : List (Key × Value)) (seen history : List Entry) (seat : ℕ) → IsPrefix seen history → entries_of seat seen ≡ entries_of seat history
+        → (object_after opening seen).held seat ≡ (object_after opening history).held seat }
 {}

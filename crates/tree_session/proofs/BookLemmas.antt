@@ -1,8 +1,8 @@
 -- The annals of a command: its entry, with its quanta; and the seats' works.
-use Rattle.std.specs.Prelude.{◌/◌, IsTrue, nat_lt, ◌==◌, ◌||◌, ◌&&◌, not, slice_index, slice_index_or, slice_set, Option}
+use Rattle.std.specs.Prelude.{◌/◌, IsTrue, slice_index, slice_index_or, slice_set, Option}
 use Rattle.std.proofs.lemmas.Grind.{common_steps}
 use Rattle.std.proofs.lemmas.Bool.Decides.{nat_tests}
-use Rattle.std.proofs.Common.{◌≡◌, ◌≢◌, ◌∙◌, ⊎_elim, ℕ, ◌+◌, ◌-◌, ◌*◌, ◌≤◌, ◌<◌, Bool, true, false, List, [], ◌∷◌, ◌++◌, length, refl, ap, sym, subst, eq-eqb, arith}
+use Rattle.std.proofs.Common.{◌≡◌, ◌∙◌, ⊎_elim, ℕ, ◌+◌, ◌-◌, ◌*◌, ◌≤◌, ◌<◌, true, false, List, [], ◌∷◌, ◌++◌, length, refl, ap, sym, subst, eq-eqb, arith}
 use Rattle.std.proofs.lemmas.Bool.{ltb-true, ltb-false, eqb-false, cases_eq}
 use Rattle.std.proofs.lemmas.List.{get_or-set_same, get_or-append_right, length-set, set-set, set-get_or, set_past, set-append_right}
 use Rattle.blsm_model.specs.Book.{Book, entry_at, no_entry, noted, counted_up, rows_given}
@@ -126,21 +126,11 @@ all_even seat old new even eases here any = ⊎_elim
 
 -- a work is finished where its last turn didn't work
 pub finished_early : (n t : ℕ) (work : WorkSoFar) → work.turns ≡ t + 1 → t < n → is_worked work.last ≡ false → IsTrue (is_finished n work)
-finished_early n t work turns below idle = by (work.turns == n) refl
-  where
-    or_true : (b : Bool) → (b || true) ≡ true
-    or_true b = grind (arith, common_steps, nat_tests)
-
-    early : work.turns ≢ n → (nat_lt 0 work.turns && nat_lt work.turns n && not (is_worked work.last)) ≡ true
-    early other = grind (arith, common_steps, nat_tests)
-
-    by : (b : Bool) → (work.turns == n) ≡ b → IsTrue (is_finished n work)
-    by true is = ap (λ (b : Bool). b || (nat_lt 0 work.turns && nat_lt work.turns n && not (is_worked work.last))) is
-    by false is = ap (λ (b : Bool). (work.turns == n) || b) (early (eqb-false work.turns n is)) ∙ or_true (work.turns == n)
+finished_early n t work turns below idle = grind (arith, common_steps, nat_tests, eqb-false)
 
 -- or all its turns were made
 pub finished_full : (n : ℕ) (work : WorkSoFar) → work.turns ≡ n → IsTrue (is_finished n work)
-finished_full n work turns = ap (λ (b : Bool). b || (nat_lt 0 work.turns && nat_lt work.turns n && not (is_worked work.last))) (eq-eqb work.turns n turns)
+finished_full n work turns = grind (arith, common_steps, nat_tests, eq-eqb)
 
 -- the reply of a work tells its last turn's fault, and no other stop than the store's, and it gives no rows
 pub work_says : (work : WorkSoFar) (stopped : Option Why)

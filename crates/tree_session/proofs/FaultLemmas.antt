@@ -1,8 +1,8 @@
 -- Calls of the core, one after another: what they tell of faults, and what they do to the disk.
-use Rattle.std.specs.Prelude.{◌/◌, IsTrue, Option}
+use Rattle.std.specs.Prelude.{◌/◌, Option}
 use Rattle.std.proofs.lemmas.Grind.{common_steps}
 use Rattle.std.proofs.lemmas.Bool.Decides.{nat_tests}
-use Rattle.std.proofs.Common.{◌≡◌, ◌∙◌, ℕ, ◌+◌, ◌*◌, ◌<◌, ◌≤◌, true, false, Some, None, refl, ap, sym, subst, zero-add, arith}
+use Rattle.std.proofs.Common.{◌≡◌, ◌∙◌, ℕ, ◌+◌, ◌*◌, ◌<◌, ◌≤◌, true, false, None, ap, sym, subst, zero-add, arith}
 use Rattle.std.proofs.lemmas.Bool.{false≢true}
 use Rattle.refusal.specs.Count.{HasRisen}
 use Rattle.blsm_model.specs.declared.key.Key.{Key}
@@ -13,7 +13,6 @@ use Rattle.blsm_model.specs.declared.op.Op.{Op}
 use Rattle.blsm_model.specs.declared.history.Reply.{Reply}
 use Rattle.blsm_model.specs.declared.history.Reply.TheVariants.{Stopped}
 use Rattle.blsm_model.specs.declared.history.Why.{Why}
-use Rattle.blsm_model.specs.declared.history.Why.TheVariants.{Faulted, BadPage}
 use Rattle.blsm_model.specs.Sizes.{Sizes}
 use Rattle.disk_trait.specs.Disk.{DiskState}
 use Rattle.disk_trait.specs.Effects.{Affects}
@@ -45,46 +44,21 @@ use Rattle.tree_session.proofs.AloneLemmas.{alone_by}
 -- ---- what one call tells
 
 tells_ran : {old new : Held} {before after : DiskState} → RanOn old new before after → TellsFaults 0 old new before after
-tells_ran {old} {new} {before} {after} ran = record {
-  risen = omega (arith, ran.faults);
-  quiet = λ none calm. ran.faults;
-  stops = λ runs. subst (λ (o : Option Why). NamesCount o before after) (sym ran.runs) tt;
-  halted = λ why is. absurd (cc (ran.ran, is));
-}
+tells_ran {old} {new} {before} {after} ran = grind (arith, common_steps, nat_tests)
 
 tells_failed : {old new : Held} {before after : DiskState} (told : ℕ) → told ≤ 1 → HasFailed old new before after → TellsFaults told old new before after
-tells_failed {old} {new} {before} {after} told few failed = record {
-  risen = omega (arith, few, failed.faults);
-  quiet = λ none calm. absurd (false≢true (sym calm ∙ ap is_by_fault failed.stopped));
-  stops = λ runs. subst (λ (o : Option Why). NamesCount o before after) (sym failed.stopped) (refl, failed.faults);
-  halted = λ why is. absurd (cc (failed.ran, is));
-}
+tells_failed {old} {new} {before} {after} told few failed = grind (arith, common_steps, nat_tests)
 
 tells_damaged : {plan : Plan} {page : ℕ} {old new : Held} {before after : DiskState} → FoundDamaged plan page old new before after → TellsFaults 0 old new before after
-tells_damaged {plan} {page} {old} {new} {before} {after} found = record {
-  risen = omega (arith, found.faults);
-  quiet = λ none calm. found.faults;
-  stops = λ runs. subst (λ (o : Option Why). NamesCount o before after) (sym found.stopped) tt;
-  halted = λ why is. absurd (cc (found.ran, is));
-}
+tells_damaged {plan} {page} {old} {new} {before} {after} found = grind (arith, common_steps, nat_tests)
 
 -- the stop stands, and no call failed
 pub tells_quiet : {old new : Held} {before after : DiskState} → new.book.stopped ≡ old.book.stopped → after.faults ≡ before.faults → TellsFaults 0 old new before after
-tells_quiet {old} {new} {before} {after} same faults = record {
-  risen = omega (arith, faults);
-  quiet = λ none calm. faults;
-  stops = λ runs. subst (λ (o : Option Why). NamesCount o before after) (sym (same ∙ runs)) tt;
-  halted = λ why is. (same ∙ is, faults);
-}
+tells_quiet {old} {new} {before} {after} same faults = grind (arith, common_steps, nat_tests)
 
 -- a lookup, or a next, failed
 tells_lookup : {old new : Held} {before after : DiskState} → old.book.stopped ≡ None → new.book.stopped ≡ old.book.stopped → HasRisen before.faults after.faults → TellsFaults 1 old new before after
-tells_lookup {old} {new} {before} {after} ran same rose = record {
-  risen = omega (arith, rose);
-  quiet = λ told calm. absurd (omega (arith, told));
-  stops = λ runs. subst (λ (o : Option Why). NamesCount o before after) (sym (same ∙ runs)) tt;
-  halted = λ why is. absurd (cc (ran, is));
-}
+tells_lookup {old} {new} {before} {after} ran same rose = grind (arith, common_steps, nat_tests)
 
 -- the core is as it was, but for what its book says of the run, and so is the disk
 still : {D : Type 0} (state : D → DiskState) (old new : CoreState D) → new.held.book.stopped ≡ old.held.book.stopped → new.disk ≡ old.disk → TellsFaults 0 old.held new.held (state old.disk) (state new.disk)
@@ -159,28 +133,14 @@ names_still told _ old new before after tells names = tt
 -- ---- and one after another
 
 names_from : (o : Option Why) (before between after : DiskState) → before.faults ≤ between.faults → NamesCount o between after → NamesCount o before after
-names_from (Some (Faulted faults)) before between after grows names = (names.0, omega (arith, grows, names.1))
-names_from (Some (BadPage page)) before between after grows names = tt
-names_from None before between after grows names = tt
+names_from o before between after grows names = grind (arith, common_steps, nat_tests)
 
 names_to : (o : Option Why) (before between after : DiskState) → after.faults ≡ between.faults → NamesCount o before between → NamesCount o before after
-names_to (Some (Faulted faults)) before between after same names = (names.0 ∙ sym same, omega (arith, same, names.1))
-names_to (Some (BadPage page)) before between after same names = tt
-names_to None before between after same names = tt
+names_to o before between after same names = grind (arith, common_steps, nat_tests)
 
 pub tells_then : (one two : ℕ) (old mid new : Held) (before between after : DiskState) → before.faults ≤ between.faults → between.faults ≤ after.faults → TellsFaults one old mid before between → TellsFaults two mid new between after
     → TellsFaults (one + two) old new before after
-tells_then one two old mid new before between after grows grows_more first second = record {
-  risen = omega (arith, first.risen, second.risen);
-  quiet = λ none calm. second.quiet (omega (arith, none)) calm ∙ first.quiet (omega (arith, none)) (calm_before two mid new between after second calm);
-  stops = λ ran. stop_of mid.book.stopped refl (first.stops ran);
-  halted = λ why is. let here = first.halted why is in let there = second.halted why here.0 in (there.0, there.1 ∙ here.1);
-}
-  where
-    stop_of : (o : Option Why) → mid.book.stopped ≡ o → NamesCount mid.book.stopped before between → NamesCount new.book.stopped before after
-    stop_of None is names = names_from new.book.stopped before between after grows (second.stops is)
-    stop_of (Some why) is names = let there = second.halted why is in
-        subst (λ (o : Option Why). NamesCount o before after) (is ∙ sym there.0) (names_to mid.book.stopped before between after there.1 names)
+tells_then one two old mid new before between after grows grows_more first second = grind (arith, common_steps, nat_tests, calm_before, names_from, names_to)
 
 -- ---- the disk
 
@@ -190,28 +150,11 @@ reaches_by run = record { goes_on = run.goes_on; calls = run.calls; syncs = run.
 
 -- before the first call
 pub reaches_none : {end most : ℕ} (d : DiskState) → Reaches end most d d
-reaches_none d = record {
-  goes_on = goes_on_start d;
-  calls = omega arith;
-  syncs = syncs_later_start d;
-  sure = λ some within. refl;
-  no_shorter = λ tells. omega arith;
-  no_longer = λ tells. omega arith;
-}
+reaches_none {end} {most} d = grind (arith, common_steps, nat_tests, goes_on_start, syncs_later_start)
 
 -- a run after a run
 pub reaches_then : {end most more : ℕ} {old mid new : DiskState} → Reaches end most old mid → Reaches end more mid new → Reaches end (most + more) old new
-reaches_then {end} {most} {more} {old} {mid} {new} first second = record {
-  goes_on = goes_on_run first.goes_on second.goes_on;
-  calls = omega (arith, first.calls, second.calls);
-  syncs = syncs_later_run first.goes_on.clock first.syncs second.syncs;
-  sure = λ some within. second.sure (omega (arith, first.goes_on.sure_up_to, some)) (omega (arith, first.goes_on.sure_up_to, within)) ∙ first.sure some within;
-  no_shorter = λ tells. omega (arith, first.no_shorter tells, second.no_shorter (still tells));
-  no_longer = λ tells. omega (arith, first.no_longer tells, second.no_longer (still tells));
-}
-  where
-    still : IsTrue old.tells_bytes → IsTrue mid.tells_bytes
-    still tells = subst IsTrue (sym first.goes_on.tells_bytes) tells
+reaches_then {end} {most} {more} {old} {mid} {new} first second = grind (arith, common_steps, nat_tests, goes_on_run, syncs_later_run)
 
 -- with more calls
 pub reaches_wider : {end most most' : ℕ} {old new : DiskState} → most ≤ most' → Reaches end most old new → Reaches end most' old new
@@ -221,13 +164,7 @@ reaches_wider within run = record { goes_on = run.goes_on; calls = omega (arith,
 
 -- no call yet
 pub proceeds_none : {D : Type 0} (state : D → DiskState) (calls : ℕ) (old : CoreState D) → Proceeds state 0 calls old old
-proceeds_none state calls old = record {
-  sizes = refl;
-  effect = reaches_none (state old.disk);
-  tells = tells_quiet refl refl;
-  alone = refl;
-  lasts = λ start since. since;
-}
+proceeds_none state calls old = grind (arith, common_steps, nat_tests, reaches_none, tells_quiet)
 
 -- one call by a caller
 pub proceeds_by : {D : Type 0} {seat : ℕ} {k : Kind} {answer : Answer} (state : D → DiskState) (told calls : ℕ) (old new : CoreState D) → seat < callers → StandsSince state old old → GoesOnAs state seat k answer old new
@@ -235,11 +172,13 @@ pub proceeds_by : {D : Type 0} {seat : ℕ} {k : Kind} {answer : Answer} (state 
 proceeds_by {D} {seat} state told calls old new below begins goes effect tells =
     record { sizes = (goes.lasts old begins).sizes; effect = effect; tells = tells; alone = alone_by seat old.held new.held below goes.follows; lasts = goes.lasts }
 
-pub proceeds_then : {D : Type 0} (state : D → DiskState) (one two few more : ℕ) (old mid new : CoreState D) → Proceeds state one few old mid → Proceeds state two more mid new → Proceeds state (one + two) (few + more) old new
-proceeds_then state one two few more old mid new first second = record {
+-- and then some more, so that these faults are told, with so many calls at most
+pub proceeds_then : {D : Type 0} {one two few more told calls : ℕ} (state : D → DiskState) (old mid new : CoreState D) → Proceeds state one few old mid → Proceeds state two more mid new → one + two ≡ told → few + more ≤ calls → Proceeds state told calls old new
+proceeds_then {D} {one} {two} {few} {more} state old mid new first second sum within = record {
   sizes = second.sizes ∙ first.sizes;
-  effect = reaches_then first.effect (subst (λ (s : Sizes). Reaches (file_length s) more (state mid.disk) (state new.disk)) first.sizes second.effect);
-  tells = tells_then one two old.held mid.held new.held (state old.disk) (state mid.disk) (state new.disk) first.effect.goes_on.faults second.effect.goes_on.faults first.tells second.tells;
+  effect = reaches_wider within (reaches_then first.effect (subst (λ (s : Sizes). Reaches (file_length s) more (state mid.disk) (state new.disk)) first.sizes second.effect));
+  tells = subst (λ (n : ℕ). TellsFaults n old.held new.held (state old.disk) (state new.disk)) sum
+      (tells_then one two old.held mid.held new.held (state old.disk) (state mid.disk) (state new.disk) first.effect.goes_on.faults second.effect.goes_on.faults first.tells second.tells);
   alone = second.alone ∙ first.alone;
   lasts = λ start since. second.lasts start (first.lasts start since);
 }
@@ -252,12 +191,8 @@ proceeds_wider state told calls more old new within run = record { sizes = run.s
 pub proceeds_more : {D : Type 0} (state : D → DiskState) (told n few : ℕ) (old mid new : CoreState D) → Proceeds state 0 (n * (old.held.runs.sizes.quantum / 4 + few)) old mid
     → Proceeds state told (mid.held.runs.sizes.quantum / 4 + few) mid new → Proceeds state told ((n + 1) * (old.held.runs.sizes.quantum / 4 + few)) old new
 proceeds_more state told n few old mid new first second =
-    let share = old.held.runs.sizes.quantum / 4 + few in
-    let same : mid.held.runs.sizes.quantum / 4 + few ≡ share = ap (λ (s : Sizes). s.quantum / 4 + few) first.sizes in
-    let calls : n * share + share ≡ (n + 1) * share = omega arith in
-    subst (λ (all : ℕ). Proceeds state told all old new) calls
-    (subst (λ (sum : ℕ). Proceeds state sum (n * share + share) old new) (zero-add told)
-    (proceeds_then state 0 told (n * share) share old mid new first (subst (λ (all : ℕ). Proceeds state told all mid new) same second)))
+    let same : mid.held.runs.sizes.quantum / 4 + few ≡ old.held.runs.sizes.quantum / 4 + few = ap (λ (s : Sizes). s.quantum / 4 + few) first.sizes in
+    proceeds_then state old mid new first second (zero-add told) (omega (arith, same))
 
 -- the core keeps a pace
 pub core_then : {D : Type 0} {state : D → DiskState} {seat : ℕ} {k : Kind} {answer : Answer} {old new : CoreState D} → GoesOnAs state seat k answer old new → IsCore old.held (state old.disk) → IsCore new.held (state new.disk)

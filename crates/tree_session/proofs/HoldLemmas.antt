@@ -1,7 +1,7 @@
 -- Holds, which are made and dropped in memory alone, and read: each command notes its entry and moves no merge.
 use Rattle.std.proofs.lemmas.Grind.{common_steps}
 use Rattle.std.proofs.lemmas.Bool.Decides.{nat_tests}
-use Rattle.std.proofs.Common.{◌≡◌, ◌∙◌, ℕ, ◌+◌, ◌<◌, ◌≤◌, length, ap, sym, subst, arith}
+use Rattle.std.proofs.Common.{◌≡◌, ◌∙◌, ℕ, ◌<◌, ◌≤◌, length, ap, sym, subst, arith}
 use Rattle.blsm_model.specs.Book.{noted, rows_given}
 use Rattle.blsm_model.specs.Format.{callers}
 use Rattle.blsm_model.specs.Geometry.{file_length}
@@ -10,8 +10,7 @@ use Rattle.blsm_model.specs.declared.history.Reply.{Reply}
 use Rattle.blsm_model.specs.declared.key.Key.{Key}
 use Rattle.blsm_model.specs.declared.op.Op.{Op}
 use Rattle.disk_trait.specs.Disk.{DiskState}
-use Rattle.gear_sched.specs.Gears.{GearState, first_debt, second_debt}
-use Rattle.seat_book.specs.State.{BookState, noted_in, work_in}
+use Rattle.seat_book.specs.State.{BookState, noted_in}
 use Rattle.tree_machine.specs.Steps.{Answer}
 use Rattle.tree_machine.specs.declared.step.Kind.{Kind}
 use Rattle.core_moves.specs.declared.held.Held.{Held}
@@ -38,18 +37,13 @@ use Rattle.blsm_model.specs.Scripts.{rows_of}
 -- ---- a command that notes its entry alone
 
 -- the session rests still: no work was opened, and the debts are the same
-still_rests : {D : Type 0} (seat : ℕ) (op : Op) (reply : Reply) (old new : CoreState D) → LeavesOthers seat old new → new.held.book ≡ noted_in seat op reply old.held.book → Rests old.held → Rests new.held
-still_rests seat op reply old new leaves book rests =
-    let gears : new.held.gears ≡ old.held.gears = ap (λ (h : Held). h.gears) leaves.rest in
-    record {
-      idle = λ any. ap (λ (b : BookState). work_in any b) book ∙ rests.idle any;
-      even = λ runs any. subst (λ (g : GearState). first_debt g any + second_debt g any ≡ 0) (sym gears) (rests.even (sym (ap (λ (b : BookState). b.stopped) book) ∙ runs) any);
-    }
+still_rests : {D : Type 0} (seat : ℕ) (op : Op) (reply : Reply) (old new : CoreState D) → new.held.gears ≡ old.held.gears → new.held.book ≡ noted_in seat op reply old.held.book → Rests old.held → Rests new.held
+still_rests seat op reply old new gears book rests = grind (arith, common_steps, nat_tests)
 
 pub notes_alone : {D : Type 0} {answer : Answer} (state : D → DiskState) (seat : ℕ) (k : Kind) (op : Op) (reply : Reply) (old new : CoreState D) → seat < callers → StandsSince state old old → Rests old.held → GoesOnAs state seat k answer old new → IsCall state seat k old new
-    → LeavesOthers seat old new → new.held.book ≡ noted_in seat op reply old.held.book → length (rows_given reply) ≤ rows_of op → TellsNone op reply → NamesStop reply new.held.book.stopped
+    → new.held.gears ≡ old.held.gears → new.held.book ≡ noted_in seat op reply old.held.book → length (rows_given reply) ≤ rows_of op → TellsNone op reply → NamesStop reply new.held.book.stopped
     → Reaches (file_length old.held.runs.sizes) (most_calls old.held.runs.sizes op 0 (swaps_due_in old.held)) (state old.disk) (state new.disk) → TellsFaults (faults_of reply) old.held new.held (state old.disk) (state new.disk) → Performs state seat op old new
-notes_alone state seat k op reply old new below begins rests goes call leaves book rows calm names effect tells =
+notes_alone state seat k op reply old new below begins rests goes call gears book rows calm names effect tells =
     let entry : Entry = record { seat = seat; op = op; reply = reply } in
     record {
       reply = reply;
@@ -59,7 +53,7 @@ notes_alone state seat k op reply old new below begins rests goes call leaves bo
       rows = rows;
       calm = λ calm_end. calm;
       names = names;
-      rests = still_rests seat op reply old new leaves book rests;
+      rests = still_rests seat op reply old new gears book rests;
       begins = goes.begins;
       proceeds = proceeds_by state (faults_of reply) (most_calls old.held.runs.sizes op 0 (swaps_due_in old.held)) old new below begins goes effect tells;
       made = made_by state seat k old new call;
@@ -71,7 +65,7 @@ pub in_memory : {D : Type 0} {answer : Answer} (state : D → DiskState) (seat :
     → Performs state seat op old new
 in_memory {D} state seat k op reply old new below begins rests goes call leaves book quiet calls names disk =
     let none = tells_quiet (ap (λ (b : BookState). b.stopped) book) (ap (λ (d : D). (state d).faults) disk) in
-    notes_alone state seat k op reply old new below begins rests goes call leaves book (omega (arith, quiet.1)) (none_told op reply quiet.0) names
+    notes_alone state seat k op reply old new below begins rests goes call (ap (λ (h : Held). h.gears) leaves.rest) book (omega (arith, quiet.1)) (none_told op reply quiet.0) names
     (subst (λ (n : ℕ). Reaches (file_length old.held.runs.sizes) n (state old.disk) (state new.disk)) (sym calls) (subst (λ (d : D). Reaches (file_length old.held.runs.sizes) 0 (state old.disk) (state d)) (sym disk) (reaches_none (state old.disk))))
     (subst (λ (told : ℕ). TellsFaults told old.held new.held (state old.disk) (state new.disk)) (sym quiet.0) none)
 

@@ -1,6 +1,6 @@
 -- Lines, one after another.
 use Rattle.std.specs.Prelude.{◌==◌, slice_index, slice_set}
-use Rattle.std.proofs.Common.{◌≡◌, ◌∙◌, ℕ, ◌+◌, ◌-◌, ◌≤◌, ◌<◌, Bool, cond, List, [], ◌∷◌, ◌++◌, length, refl, ap, sym, subst, arith, append-nil, append_assoc}
+use Rattle.std.proofs.Common.{◌≡◌, ◌∙◌, ℕ, ◌+◌, ◌-◌, ◌≤◌, ◌<◌, cond, List, [], ◌∷◌, ◌++◌, length, refl, ap, sym, subst, arith, append-nil, append_assoc}
 use Rattle.std.specs.List.{AllByRecursion}
 use Rattle.std.proofs.lemmas.Bool.Decides.{nat_tests}
 use Rattle.std.proofs.lemmas.Grind.{common_steps}
@@ -17,7 +17,7 @@ use Rattle.disk_trait.specs.Disk.{DiskState}
 use Rattle.core_moves.specs.declared.held.Held.{Held}
 use Rattle.tree_core.specs.Causes.{swaps_due_in}
 use Rattle.tree_core.specs.Core.{CoreState}
-use Rattle.tree_session.specs.Faults.{NamesStop, Proceeds, TellsFaults, TellsNone, faults_of, faults_told}
+use Rattle.tree_session.specs.Faults.{NamesStop, TellsFaults, TellsNone, faults_of, faults_told}
 use Rattle.tree_session.specs.Lines.{HasRoomFor, Rests}
 use Rattle.tree_session.specs.Session.{AreDone, Performs, Runs, TookFew, calls_for, most_calls, most_quanta}
 use Rattle.tree_session.proofs.BookLemmas.{end_counted}
@@ -83,20 +83,7 @@ pub rows_next : (room : Room) (line : Line) (lines : List Line) → line.seat < 
 rows_next room line lines below has = grind (arith, common_steps, nat_tests)
 
 pub room_then : (room : Room) (line : Line) (lines : List Line) (entry : Entry) → entry.seat ≡ line.seat → length (rows_given entry.reply) ≤ rows_of line.op → HasRoomFor room (line ∷ lines) → HasRoomFor (room_after room entry) lines
-room_then room line lines entry same given has = record {
-  entries = λ seat below. grind (arith, common_steps, nat_tests, has.entries seat below);
-  rows = λ seat below.
-      left (line.seat == seat) (rows_asked seat lines) (slice_index room.rows seat) (slice_index (slice_set room.rows entry.seat (slice_index room.rows entry.seat - length (rows_given entry.reply))) seat)
-      (asked_within (asked_first seat line lines) (has.rows seat below))
-      (subst (λ (s : ℕ). slice_index room.rows seat ≤ slice_index (slice_set room.rows entry.seat (slice_index room.rows entry.seat - length (rows_given entry.reply))) seat + cond (s == seat) (length (rows_given entry.reply)) 0) same
-      (rows_less room.rows entry.seat seat (length (rows_given entry.reply))));
-}
-  where
-    asked_within : {all sum most : ℕ} → all ≡ sum → all ≤ most → sum ≤ most
-    asked_within {all} {sum} {most} is within = subst (λ (n : ℕ). n ≤ most) is within
-
-    left : (b : Bool) (rest had has : ℕ) → cond b (rows_of line.op) 0 + rest ≤ had → had ≤ has + cond b (length (rows_given entry.reply)) 0 → rest ≤ has
-    left b rest had has h1 h2 = grind (arith, common_steps, nat_tests)
+room_then room line lines entry same given has = grind (arith, common_steps, nat_tests, asked_first, rows_less)
 
 -- ---- a script
 
@@ -143,10 +130,7 @@ runs_more state lines line old mid new places some so_far did =
           omega (arith, before, now, less, more);
       rests = did.rests;
       alone = did.proceeds.alone ∙ so_far.proceeds.alone;
-      proceeds = subst (λ (told : ℕ). Proceeds state told (calls_for state (lines ++ line ∷ []) old new all.0) old new) (sym (told_more so_far.added entry))
-          (subst (λ (calls : ℕ). Proceeds state (faults_told so_far.added + faults_of did.reply) calls old new) (sym all.1)
-          (proceeds_then state (faults_told so_far.added) (faults_of did.reply) (calls_for state lines old mid so_far.done)
-          (most_calls mid.held.runs.sizes line.op did.quanta (swaps_due_in mid.held)) old mid new so_far.proceeds did.proceeds));
+      proceeds = proceeds_then state old mid new so_far.proceeds did.proceeds (sym (told_more so_far.added entry)) (omega (arith, all.1));
       made = made_then state old mid new so_far.made did.made;
     }
 

@@ -51,20 +51,7 @@ pub record Turning {D : Type 0} (state : D → DiskState) (seat t told : ℕ) (o
   pub made : IsMade state old new
 
 pub turning_none : {D : Type 0} (state : D → DiskState) (seat : ℕ) (old : CoreState D) → Rests old.held → StandsSince state old old → Turning state seat 0 0 old old
-turning_none state seat old rests begins =
-    let none = rests.idle seat in
-    record {
-      annals = refl;
-      turns = ap (λ (w : WorkSoFar). w.turns) none;
-      few = omega (arith, ap (λ (w : WorkSoFar). w.quanta) none);
-      last = ap (λ (w : WorkSoFar). faults_of_turn w.last) none;
-      works = λ other apart. refl;
-      even = λ runs. rests.even runs seat;
-      others = eases_none seat old.held;
-      begins = begins;
-      proceeds = proceeds_none state (0 * (old.held.runs.sizes.quantum / 4 + 9)) old;
-      made = made_none state old;
-    }
+turning_none state seat old rests begins = grind (arith, common_steps, nat_tests, eases_none, proceeds_none, made_none)
 
 pub one_at_most : (ended : Turned) (mv : Move) → quanta_of_turn ended mv ≤ 1
 one_at_most ended mv = grind (arith, common_steps, nat_tests)
@@ -143,14 +130,10 @@ work_ended {D} state seat n reply old mid new below begins rests turns call = re
   begins = call.goes.begins;
   made = made_then state old mid new turns.made (made_by state seat (kind.WorkEnd n) mid new (reply, call));
   proceeds =
-      let most = n * (old.held.runs.sizes.quantum / 4 + 9) in
-      let faults = faults_of_turn (work_in seat mid.held.book).last in
       let ending = proceeds_by state 0 0 mid new below begins call.goes
       (subst (λ (d : D). Reaches (file_length mid.held.runs.sizes) 0 (state mid.disk) (state d)) (sym call.untouched) (reaches_none (state mid.disk)))
       (tells_quiet stops (ap (λ (d : D). (state d).faults) call.untouched)) in
-      let sum : faults + 0 ≡ faults_of says = omega (arith, told.0) in
-      let calls : most + 0 ≡ most = omega arith in
-      subst (λ (told : ℕ). Proceeds state told most old new) sum (subst (λ (few : ℕ). Proceeds state (faults + 0) few old new) calls (proceeds_then state faults 0 most 0 old mid new turns.proceeds ending));
+      proceeds_then state old mid new turns.proceeds ending (omega (arith, told.0)) (omega arith);
 }
   where
     says : Reply

@@ -80,10 +80,10 @@ write_taken state seat op old mid new write below keeps first rests call pays be
     let last = last_is seat op old.held.book mid.held.book write call.notes.annals in
     let annals : new.held.book.book ≡ counted_up (noted old.held.book.book entry) (length old.held.book.book.entries) pays.quanta =
     pays.annals ∙ ap (λ (place : ℕ). counted_up mid.held.book.book place pays.quanta) last.0 ∙ ap (λ (b : Book). counted_up b (length old.held.book.book.entries) pays.quanta) call.notes.annals in
-    let payments = (pays.quanta + 1) * (old.held.runs.sizes.quantum / 4 + 3) in
     let admits = admit_proceeds state seat op admission.Admitted old mid below first call in
     let paid = subst (λ (s : Sizes). Proceeds state 0 ((pays.quanta + 1) * (s.quantum / 4 + 3)) mid new) admits.sizes pays.proceeds in
-    let proceeds = proceeds_then state 0 0 (calls_to_admit old.held) payments old mid new admits paid in
+    let proceeds : Proceeds state 0 (most_calls old.held.runs.sizes op pays.quanta (swaps_due_in old.held)) old new =
+    proceeds_then state old mid new admits paid refl (omega (arith, (of_write old.held.runs.sizes op pays.quanta (swaps_due_in old.held) write).0)) in
     record {
       reply = Done;
       quanta = pays.quanta;
@@ -97,6 +97,6 @@ write_taken state seat op old mid new write below keeps first rests call pays be
         even = λ runs. all_even seat old.held new.held (rests.even call.cause.0.ran) (eases_then seat old.held mid.held new.held (eases_by seat old.held mid.held call.goes.follows) pays.others) (pays.even runs);
       };
       begins = begins;
-      proceeds = subst (λ (calls : ℕ). Proceeds state 0 calls old new) (sym (of_write old.held.runs.sizes op pays.quanta (swaps_due_in old.held) write).0) proceeds;
+      proceeds = proceeds;
       made = made_then state old mid new (made_by state seat (kind.Admit op) old mid (admission.Admitted, call)) pays.made;
     }

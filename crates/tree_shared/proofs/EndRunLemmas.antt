@@ -3,7 +3,7 @@ use Rattle.std.proofs.Common.{◌≡◌, ◌∙◌, ⊎_elim, ℕ, ◌+◌, ◌-
 use Rattle.std.specs.Prelude.{is_some, slice_index}
 use Rattle.std.proofs.lemmas.Bool.{cases_lt, false≢true}
 use Rattle.blsm_model.specs.Format.{callers}
-use Rattle.blsm_model.specs.Scripts.{IsOfScript, lines_of}
+use Rattle.blsm_model.specs.Scripts.{IsOfScript}
 use Rattle.blsm_model.specs.declared.history.Entry.{Entry}
 use Rattle.blsm_model.specs.declared.history.Line.{Line}
 use Rattle.disk_trait.specs.Disk.{DiskState}
@@ -15,7 +15,7 @@ use Rattle.tree_core.specs.Calls.{CameSince}
 use Rattle.tree_core.specs.Core.{CoreState, IsCore}
 use Rattle.tree_session.specs.Lines.{AreRunnable}
 use Rattle.tree_shared.specs.Seats.{IsGone, facts_of}
-use Rattle.tree_shared.specs.Runs.{Ends, IsFresh, RunsAll}
+use Rattle.tree_shared.specs.Runs.{Ends, HasEnded, IsFresh, RunsAll}
 use Rattle.core_chain.proofs.NoteLemmas.{AreCallers, entries_are_callers, none_of_workers}
 use Rattle.tree_shared.proofs.JobLemmas.{lines_none, worker_turns}
 use Rattle.tree_shared.proofs.RestLemmas.{ended_in_value, spare_in_value, told_of}
@@ -24,10 +24,7 @@ use Rattle.tree_shared.proofs.SeatLemmas.{caller_turns, is_a_caller}
 module _ {D : Type 0} (state : D → DiskState) (lines : List Line) (workers turns : ℕ) (start end : CoreState D) (lock : Lock (CoreState D)) (c d : Caller (CoreState D))
     (fresh : IsFresh lines start) (runnable : AreRunnable lines) (few : callers + workers ≤ seats) (opened : IsOpened start lock c) (ends : Ends lines turns lock (callers - 1 + workers) c d)
     (came : CameSince state lock.start end) (known : IsKnown facts_of (CameSince state) lock.start end d.me.0) (keeps : IsCore end.held (state end.disk)) where
-  told : (i : ℕ) → i < callers + workers → (map (λ (e : Entry). e.op) (Rattle.blsm_model.specs.Facts.entries_of i end.held.book.book.entries) ≡ lines_of i lines)
-      × (i < callers → IsGone (is_some end.held.book.stopped) ((facts_of end).part i))
-      × (callers ≤ i → 0 < turns → 0 < ((facts_of end).part i).turns)
-      × (callers ≤ i → (((facts_of end).part i).turns ≤ turns) × (((facts_of end).part i).quanta ≤ ((facts_of end).part i).turns))
+  told : (i : ℕ) → i < callers + workers → HasEnded lines turns (is_some end.held.book.stopped) i end
   told i below = ended_in_value (CameSince state) lines turns lock i d end known (told_of (CameSince state) lines turns lock (callers - 1 + workers) i start c d opened ends (omega (arith, below)))
 
   their_entries : AreCallers end.held.book.book.entries
@@ -36,12 +33,12 @@ module _ {D : Type 0} (state : D → DiskState) (lines : List Line) (workers tur
 
   of_script : IsOfScript lines end.held.book.book.entries
   of_script = λ seat. ⊎_elim
-      (λ (below : seat < callers). (told seat (omega (arith, below))).0)
+      (λ (below : seat < callers). (told seat (omega (arith, below))).asked)
       (λ (above : callers ≤ seat). ap (map (λ (e : Entry). e.op)) (none_of_workers seat end.held.book.book.entries above their_entries) ∙ sym (lines_none seat lines runnable above))
       (cases_lt seat callers)
 
   gone : (seat : ℕ) → seat < callers → IsGone (is_some end.held.book.stopped) ((facts_of end).part seat)
-  gone seat below = (told seat (omega (arith, below))).1 below
+  gone seat below = (told seat (omega (arith, below))).gone below
 
   pub runs_all : RunsAll state lines workers turns start end
   runs_all = record {
@@ -57,9 +54,9 @@ module _ {D : Type 0} (state : D → DiskState) (lines : List Line) (workers tur
     helped = λ some i below.
         let at : callers + i - callers ≡ i = omega arith in
         subst (λ (n : ℕ). 0 < slice_index end.held.book.seats.turns n) at
-        (subst (λ (n : ℕ). 0 < n) (worker_turns (callers + i) end.held.book (omega arith)) ((told (callers + i) (omega (arith, below))).2 (omega arith) some));
+        (subst (λ (n : ℕ). 0 < n) (worker_turns (callers + i) end.held.book (omega arith)) ((told (callers + i) (omega (arith, below))).helped (omega arith) some));
     few = λ i below.
-        let most = (told (callers + i) (omega (arith, below))).3 (omega arith) in
+        let most = (told (callers + i) (omega (arith, below))).few (omega arith) in
         let at : callers + i - callers ≡ i = omega arith in (
           subst (λ (n : ℕ). slice_index end.held.book.seats.turns n ≤ turns) at
               (subst (λ (n : ℕ). n ≤ turns) (worker_turns (callers + i) end.held.book (omega arith)) most.0),

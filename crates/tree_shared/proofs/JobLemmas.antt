@@ -65,9 +65,6 @@ module _ {D : Type 0} (lines : List Line) (lock : Lock (CoreState D)) (c : Calle
   pub new_has_helped : callers ≤ c.number → KnowsOf (HasHelped 0 0) c
   new_has_helped above = record { value = lock.start; more = []; own = new.own; part = (worker_turns c.number lock.start.held.book above ∙ fresh.helped c.number above new.number, omega (arith, fresh.took_none c.number)) }
 
-  none_before : its_entries facts_of c.me.0.own ≡ []
-  none_before = ap (its_entries facts_of) new.own ∙ ap (entries_of c.number) fresh.none
-
   -- ---- after it
 
   noted_all : {state : D → DiskState} (d : Caller (CoreState D)) (es : List Entry) → WentOn state c es d → its_entries facts_of d.me.0.own ≡ es

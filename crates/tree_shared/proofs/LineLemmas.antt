@@ -8,14 +8,15 @@ use Rattle.std.proofs.lemmas.List.Sums.{sum_by-cons}
 use Rattle.blsm_model.specs.Scripts.{lines_of, rows_of, rows_asked}
 use Rattle.blsm_model.specs.declared.history.Entry.{Entry}
 use Rattle.blsm_model.specs.declared.history.Line.{Line}
+use Rattle.blsm_model.specs.declared.history.Reply.{Reply}
 use Rattle.blsm_model.specs.declared.op.Op.{Op}
 use Rattle.disk_trait.specs.Disk.{DiskState}
 use Rattle.turn_lock.specs.Callers.{Held as Caller}
 use Rattle.turn_lock.proofs.TurnLemmas.{went_then}
 use Rattle.tree_core.specs.Calls.{CameSince}
 use Rattle.tree_core.specs.Core.{CoreState}
-use Rattle.tree_shared.specs.Seats.{DidOn, KnowsOf, IsFree, facts_of}
-use Rattle.tree_shared.specs.Runs.{DoesLine, RanLines}
+use Rattle.tree_shared.specs.Seats.{Answered, DidOn, KnowsOf, IsFree, facts_of}
+use Rattle.tree_shared.specs.Runs.{RanLines}
 use Rattle.tree_shared.proofs.CommandLemmas.{frees_less}
 
 lines_here : (n : ℕ) (line : Line) (rest : List Line) → line.seat ≡ n → lines_of n (line ∷ rest) ≡ line.op ∷ lines_of n rest
@@ -44,6 +45,9 @@ module _ {D : Type 0} (state : D → DiskState) (script : List Line) (c : Caller
     more_is : take i script ++ line ∷ [] ≡ take (i + 1) script
     more_is = ap (λ (l : Line). take i script ++ l ∷ []) is ∙ sym (take_more script i line below)
 
+    taken : lines_of c.number (take (i + 1) script) ≡ lines_of c.number (take i script) ++ lines_of c.number (line ∷ [])
+    taken = ap (lines_of c.number) (sym more_is) ∙ lines_both c.number (take i script) (line ∷ [])
+
     room_is : (d : Caller (CoreState D)) → Going state script i c d → line.seat ≡ c.number → KnowsOf (IsFree (length (lines_of c.number (drop (i + 1) script)) + 1) (rows_asked c.number (drop (i + 1) script) + rows_of line.op)) d
     room_is d going here =
         let ls = lines_of c.number (drop (i + 1) script) in
@@ -57,42 +61,34 @@ module _ {D : Type 0} (state : D → DiskState) (script : List Line) (c : Caller
     may_do d going here =
         frees_less (length (lines_of c.number (drop (i + 1) script)) + 1) (rows_asked c.number (drop (i + 1) script) + rows_of line.op) 1 (rows_of line.op) d (omega arith) (omega arith) (room_is d going here)
 
-    pub going_done : (d e : Caller (CoreState D)) (entry : Entry) → Going state script i c d → line.seat ≡ c.number → entry.op ≡ line.op → DidOn state d (entry ∷ []) e
+    going_done : (d e : Caller (CoreState D)) (entry : Entry) → Going state script i c d → line.seat ≡ c.number → entry.op ≡ line.op → DidOn state d (entry ∷ []) e
         → ((entries rows : ℕ) → KnowsOf (IsFree (entries + 1) (rows + rows_of line.op)) d → KnowsOf (IsFree entries rows) e) → Going state script (i + 1) c e
     going_done d e entry going here op did frees = record {
       ran = record {
         entries = going.ran.entries ++ entry ∷ [];
         went = inr (went_then facts_of (CameSince state) c d e going.ran.entries (entry ∷ []) going.ran.went did);
-        ops = map-append (λ (x : Entry). x.op) going.ran.entries (entry ∷ [])
-            ∙ (ap (λ (l : List Op). l ++ entry.op ∷ []) going.ran.ops
-            ∙ (ap (λ (o : Op). lines_of c.number (take i script) ++ o ∷ []) op
-            ∙ (ap (λ (l : List Op). lines_of c.number (take i script) ++ l) (sym (lines_here c.number line [] here))
-            ∙ (sym (lines_both c.number (take i script) (line ∷ [])) ∙ ap (lines_of c.number) more_is))));
+        ops = cc (map-append (λ (x : Entry). x.op) going.ran.entries (entry ∷ []), going.ran.ops, op, lines_here c.number line [] here, taken);
       };
       free = frees (length (lines_of c.number (drop (i + 1) script))) (rows_asked c.number (drop (i + 1) script)) (room_is d going here);
     }
 
-    pub going_passed : (d : Caller (CoreState D)) → Going state script i c d → line.seat ≢ c.number → Going state script (i + 1) c d
+    going_passed : (d : Caller (CoreState D)) → Going state script i c d → line.seat ≢ c.number → Going state script (i + 1) c d
     going_passed d going not = record {
       ran = record {
         entries = going.ran.entries;
         went = going.ran.went;
-        ops = going.ran.ops
-            ∙ (sym (append-nil (lines_of c.number (take i script)))
-            ∙ (ap (λ (l : List Op). lines_of c.number (take i script) ++ l) (sym (lines_other c.number line [] not))
-            ∙ (sym (lines_both c.number (take i script) (line ∷ [])) ∙ ap (lines_of c.number) more_is)));
+        ops = cc (going.ran.ops, append-nil (lines_of c.number (take i script)), lines_other c.number line [] not, taken);
       };
       free = subst (λ (ls : List Op). KnowsOf (IsFree (length ls) (sum_by rows_of ls)) d) (ap (lines_of c.number) rest_is ∙ lines_other c.number line (drop (i + 1) script) not) going.free;
     }
 
     -- whoever's it is
-    pub going_on : (d e : Caller (CoreState D)) → d.number ≡ c.number → Going state script i c d → DoesLine state line d e → Going state script (i + 1) c e
-    going_on d e same going does = ⊎_elim
+    pub going_on : (d e : Caller (CoreState D)) → d.number ≡ c.number → Going state script i c d → (line.seat ≢ d.number → e ≡ d) → (line.seat ≡ d.number → (reply : Reply) × Answered state line.op reply d e)
+        → Going state script (i + 1) c e
+    going_on d e same going others its = ⊎_elim
         (λ (here : line.seat ≡ c.number).
-        let own : line.seat ≡ d.number = here ∙ sym same in
-        let one = does.its own in
-        going_done d e (record { seat = d.number; op = line.op; reply = one.0 }) going here refl one.1 (does.free own))
+        let one = its (here ∙ sym same) in
+        going_done d e (record { seat = d.number; op = line.op; reply = one.0 }) going here refl one.1.did one.1.free)
         (λ (other : line.seat ≢ c.number).
-        let still = does.other (λ (own : line.seat ≡ d.number). other (own ∙ same)) in
-        subst (λ (h : Caller (CoreState D)). Going state script (i + 1) c h) (sym still) (going_passed d going other))
+        subst (λ (h : Caller (CoreState D)). Going state script (i + 1) c h) (sym (others (λ (own : line.seat ≡ d.number). other (own ∙ same)))) (going_passed d going other))
         (cases_eq line.seat c.number)

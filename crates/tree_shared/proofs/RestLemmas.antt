@@ -1,21 +1,18 @@
 -- The jobs of a caller and of those that it splits off, and the end of all.
-use Rattle.std.proofs.Common.{◌≡◌, ◌∙◌, ⊎_elim, inl, inr, ℕ, zero, suc, ◌+◌, ◌-◌, ◌<◌, ◌≤◌, Bool, true, ◌||◌, List, [], ◌∷◌, ◌++◌, length, map, Some, length-append, ap, sym, subst, arith}
+use Rattle.std.proofs.Common.{◌≡◌, ◌∙◌, ⊎_elim, inl, inr, ℕ, zero, suc, ◌+◌, ◌-◌, ◌<◌, ◌≤◌, Bool, true, ◌||◌, List, [], ◌∷◌, ◌++◌, length, map, length-append, ap, sym, subst, arith}
 use Rattle.std.specs.Prelude.{is_some}
 use mathlib.Core.Logic.{dite}
 use native.Mathlib.Decide.{ℕ_discrete}
-use Rattle.blsm_model.specs.Facts.{Eases, entries_of}
-use Rattle.blsm_model.specs.Format.{callers}
-use Rattle.blsm_model.specs.Scripts.{lines_of}
+use Rattle.blsm_model.specs.Facts.{Eases}
 use Rattle.blsm_model.specs.declared.history.Entry.{Entry}
 use Rattle.blsm_model.specs.declared.history.Line.{Line}
 use Rattle.turn_lock.specs.Callers.{Held as Caller, Lock, GaveAway, IsSplitOff, IsOpened, with_me}
 use Rattle.turn_lock.specs.Plays.{Sat}
 use Rattle.turn_lock.specs.Rule.{IsKnown}
-use Rattle.turn_lock.specs.Tallies.{In, IsOf}
+use Rattle.turn_lock.specs.Tallies.{In}
 use Rattle.turn_lock.specs.Views.{Each, Fits, counted_up, first_of, joined, rest_of, size}
-use Rattle.tree_machine.specs.Machine.{seats}
 use Rattle.tree_core.specs.Core.{CoreState}
-use Rattle.tree_shared.specs.Seats.{IsGone, facts_of}
+use Rattle.tree_shared.specs.Seats.{facts_of}
 use Rattle.tree_shared.specs.Runs.{Ends, HasEnded, Starts, TellsEnd}
 use Rattle.tree_shared.proofs.SeatLemmas.{or_left, or_right}
 
@@ -42,39 +39,16 @@ ended_on lines turns i halted later core lasts ended = record {
 module _ {D : Type 0} (st : CoreState D → CoreState D → Type 0) (lines : List Line) (turns : ℕ) (lock : Lock (CoreState D)) where
   -- ---- splitting off
 
-  starts_rest : (m : ℕ) (c d : Caller (CoreState D)) → Starts lock (suc m) c → GaveAway c d → Starts lock m d
-  starts_rest m c d s a = record {
-    new = record {
-      of_lock = (a.table ∙ s.new.of_lock.0, ap (λ (x : Sat (CoreState D)). x.0.start) a.me ∙ s.new.of_lock.1, (ap (λ (x : Sat (CoreState D)). x.0.stage) a.me ∙ s.new.of_lock.2.0, ap (λ (x : Sat (CoreState D)). x.1) a.me));
-      number = subst (λ (n : ℕ). n < seats) (sym a.number) s.new.number;
-      own = ap (λ (x : Sat (CoreState D)). x.0.own) a.me ∙ (s.new.own ∙ ap (λ (n : ℕ). (n, lock.start) ∷ []) (sym a.number));
-    };
-    last = omega (arith, a.next, s.last);
-    spare = ap (λ (x : Sat (CoreState D)). x.0.spare) a.me ∙ (ap rest_of (s.spare ∙ up_one c.next lock.start (omega (arith, s.last))) ∙ ap (λ (n : ℕ). counted_up n (24 - n) lock.start) (sym a.next));
-  }
-
   own_of_other : (m : ℕ) (c o : Caller (CoreState D)) → Starts lock (suc m) c → IsSplitOff c o → o.me.0.own ≡ (o.number, lock.start) ∷ []
   own_of_other m c o s a = ap (λ (x : Sat (CoreState D)). x.0.own) a.me ∙ (ap first_of (s.spare ∙ up_one c.next lock.start (omega (arith, s.last))) ∙ ap (λ (n : ℕ). (n, lock.start) ∷ []) (sym a.number))
 
   one_more : (more : ℕ) → 0 < more → more ≡ suc (more - 1)
   one_more more some = omega (arith, some)
 
-  pub starts_less : (more : ℕ) (c d : Caller (CoreState D)) → 0 < more → Starts lock more c → GaveAway c d → Starts lock (more - 1) d
-  starts_less more c d some s a = starts_rest (more - 1) c d (subst (λ (n : ℕ). Starts lock n c) (one_more more some) s) a
-
   -- ---- coming together
 
   spares_same : (m n : ℕ) → m ≡ n → counted_up m (24 - m) lock.start ≡ counted_up n (24 - n) lock.start
   spares_same m n is = ap (λ (k : ℕ). counted_up k (24 - k) lock.start) is
-
-  pub ends_none : (c d : Caller (CoreState D)) → Starts lock 0 c → size d.me.0 ≡ size c.me.0 → d.me.0.spare ≡ c.me.0.spare → IsOf lock d → TellsEnd lines turns c.number d → Ends lines turns lock 0 c d
-  ends_none c d s sized spare of_lock own = record {
-    of_lock = of_lock;
-    sized = sized;
-    own = own;
-    others = λ i low high. absurd (omega (arith, low, high));
-    spare = spare ∙ (s.spare ∙ spares_same c.next (c.next + 0) (omega arith));
-  }
 
   ends_more : (m : ℕ) (c c1 o d1 d2 d : Caller (CoreState D)) → Starts lock (suc m) c → GaveAway c c1 → IsSplitOff c o → Ends lines turns lock m c1 d1 → size d2.me.0 ≡ size o.me.0 → TellsEnd lines turns o.number d2
       → d ≡ with_me d1 (joined d1.me.0 d2.me.0, []) → Ends lines turns lock (suc m) c d
@@ -108,20 +82,6 @@ module _ {D : Type 0} (st : CoreState D → CoreState D → Type 0) (lines : Lis
 
   -- ---- the first caller
 
-  pub starts_all : (more : ℕ) (core : CoreState D) (c : Caller (CoreState D)) → 1 + more ≤ seats → IsOpened core lock c → Starts lock more c
-  starts_all more core c few o = record {
-    new = record {
-      of_lock = (o.table, ap (λ (x : Sat (CoreState D)). x.0.start) o.me ∙ ap (λ (z : CoreState D). Some z) (sym o.start), (ap (λ (x : Sat (CoreState D)). x.0.stage) o.me, ap (λ (x : Sat (CoreState D)). x.1) o.me));
-      number = omega (arith, o.number);
-      own = ap (λ (x : Sat (CoreState D)). x.0.own) o.me ∙ (ap (λ (n : ℕ). (n, core) ∷ []) (sym o.number) ∙ ap (λ (z : CoreState D). (c.number, z) ∷ []) (sym o.start));
-    };
-    last = omega (arith, o.next, few);
-    spare = ap (λ (x : Sat (CoreState D)). x.0.spare) o.me ∙ (ap (λ (z : CoreState D). counted_up 1 23 z) (sym o.start) ∙ ap (λ (n : ℕ). counted_up n (24 - n) lock.start) (sym o.next));
-  }
-
-  pub whole : (more : ℕ) (core : CoreState D) (c d : Caller (CoreState D)) → IsOpened core lock c → Ends lines turns lock more c d → size d.me.0 ≡ 24
-  whole more core c d o ends = ends.sized ∙ ap (λ (x : Sat (CoreState D)). size x.0) o.me
-
   -- ---- the value in the end
 
   at : (P : ℕ × CoreState D → Type 0) (p : ℕ × CoreState D) (ps : List (ℕ × CoreState D)) → In p ps → Each P ps → P p
@@ -129,23 +89,20 @@ module _ {D : Type 0} (st : CoreState D → CoreState D → Type 0) (lines : Lis
   at P p (q ∷ qs) i each = ⊎_elim (λ (e : p ≡ q). subst P (sym e) each.0) (λ (j : In p qs). at P p qs j each.1) i
 
   -- what one caller tells of it
-  pub ended_in_value : (i : ℕ) (d : Caller (CoreState D)) (end : CoreState D) → IsKnown facts_of st lock.start end d.me.0 → TellsEnd lines turns i d
-      → (map (λ (e : Entry). e.op) (entries_of i end.held.book.book.entries) ≡ lines_of i lines)
-      × (i < callers → IsGone (is_some end.held.book.stopped) ((facts_of end).part i))
-      × (callers ≤ i → 0 < turns → 0 < ((facts_of end).part i).turns)
-      × (callers ≤ i → (((facts_of end).part i).turns ≤ turns) × (((facts_of end).part i).quanta ≤ ((facts_of end).part i).turns))
+  pub ended_in_value : (i : ℕ) (d : Caller (CoreState D)) (end : CoreState D) → IsKnown facts_of st lock.start end d.me.0 → TellsEnd lines turns i d → HasEnded lines turns (is_some end.held.book.stopped) i end
   ended_in_value i d end known t =
       let fits = at (Fits facts_of d.me.0.seen end) (i, t.0) d.me.0.own t.1 known.knows.own in
-      let eases = fits.0.part in (
-        ap (map (λ (e : Entry). e.op)) fits.0.entries ∙ t.2.asked,
-        (λ below. let gone = t.2.gone below in (
+      let eases = fits.0.part in
+      record {
+        asked = ap (map (λ (e : Entry). e.op)) fits.0.entries ∙ t.2.asked;
+        gone = λ below. let gone = t.2.gone below in (
           eases.left ∙ gone.0,
           eases.turns ∙ gone.1,
           ⊎_elim (λ (was : d.me.0.halted ≡ true). inl (known.knows.halted was)) (λ (none : ((facts_of t.0).part i).debt1 + ((facts_of t.0).part i).debt2 ≡ 0). inr (omega (arith, none, eases.debt1, eases.debt2))) gone.2,
-        )),
-        (λ above some. subst (λ (n : ℕ). 0 < n) (sym eases.turns) (t.2.helped above some)),
-        (λ above. let few = t.2.few above in (omega (arith, eases.turns, few.0), omega (arith, eases.quanta, eases.turns, few.1))),
-      )
+        );
+        helped = λ above some. subst (λ (n : ℕ). 0 < n) (sym eases.turns) (t.2.helped above some);
+        few = λ above. let few = t.2.few above in (omega (arith, eases.turns, few.0), omega (arith, eases.quanta, eases.turns, few.1));
+      }
 
   -- a number that nobody had
   in_counted : (from n i : ℕ) → from ≤ i → i < from + n → In (i, lock.start) (counted_up from n lock.start)

@@ -1,10 +1,10 @@
 -- What is known of a seat's part tells which calls may be made for it, and what they leave of it.
-use Rattle.std.proofs.Common.{◌≡◌, ◌∙◌, ⊎_elim, ℕ, zero, suc, ◌+◌, ◌-◌, ◌<◌, Bool, true, cond, ◌==◌, ◌&&◌, ◌||◌, List, [], ◌∷◌, None, length, eq-eqb, refl, ap, arith}
+use Rattle.std.proofs.Common.{◌≡◌, ℕ, zero, suc, ◌+◌, ◌-◌, ◌<◌, ◌≤◌, Bool, true, cond, ◌==◌, ◌||◌, List, [], ◌∷◌, None, length, eq-eqb, refl, ap, arith}
 use Rattle.std.proofs.lemmas.Grind.{common_steps}
 use Rattle.std.proofs.lemmas.Bool.Decides.{nat_tests}
 use Rattle.std.specs.Prelude.{is_some, slice_index, slice_set}
-use Rattle.std.proofs.lemmas.Bool.{false≢true, lt-ltb}
-use Rattle.blsm_model.specs.Book.{rows_given}
+use Rattle.std.proofs.lemmas.Bool.{lt-ltb}
+use Rattle.blsm_model.specs.Book.{noted, rows_given}
 use Rattle.blsm_model.specs.Facts.{Eases, Part, entries_of}
 use Rattle.blsm_model.specs.Format.{callers}
 use Rattle.blsm_model.specs.declared.history.Entry.{Entry}
@@ -16,7 +16,6 @@ use Rattle.seat_book.specs.Seats.{turns_in}
 use Rattle.tree_machine.specs.Machine.{is_caller}
 use Rattle.core_moves.specs.declared.held.Held.{Held}
 use Rattle.tree_core.specs.Core.{facts_of_held}
-use Rattle.tree_core.specs.Notes.{NotesOne}
 use Rattle.tree_shared.specs.Seats.{HasRoomFor, IsEven}
 
 pub or_left : (a b : Bool) → a ≡ true → (a || b) ≡ true
@@ -24,9 +23,6 @@ or_left a b is = ap (λ (x : Bool). x || b) is
 
 pub or_right : (a b : Bool) → b ≡ true → (a || b) ≡ true
 or_right a b h1 = grind (arith, common_steps, nat_tests)
-
-pub both : (a b : Bool) → a ≡ true → b ≡ true → (a && b) ≡ true
-both a b one two = ap (λ (x : Bool). x && b) one ∙ two
 
 -- an entry of the seat is the seat's
 pub its_own : (e : Entry) (seat : ℕ) → e.seat ≡ seat → entries_of seat (e ∷ []) ≡ e ∷ []
@@ -54,13 +50,15 @@ pub even_by : (seat : ℕ) (held : Held) (halted : Bool) (p : Part) → Eases p 
     → first_debt held.gears seat + second_debt held.gears seat ≡ 0
 even_by seat held halted p eases stops even runs = grind (arith, common_steps, nat_tests)
 
--- an entry that was noted leaves one less to note
-pub noted_leaves : (seat entries rows : ℕ) (op : Op) (reply : Reply) (old new : Held) (p : Part) → seat < callers → Eases p ((facts_of_held old).part seat)
-    → HasRoomFor (entries + 1) (rows + length (rows_given reply)) p → p.turns ≡ 0 → NotesOne seat op reply old.book new.book
-    → HasRoomFor entries rows ((facts_of_held new).part seat) × (((facts_of_held new).part seat).turns ≡ 0)
-noted_leaves seat entries rows op reply old new p below eases room idle notes = grind (arith, common_steps, nat_tests)
+-- an entry that gives no more rows than these leaves one less to note
+pub room_left : (seat entries rows n : ℕ) (op : Op) (reply : Reply) (old new : Held) (p : Part) → Eases p ((facts_of_held old).part seat) → HasRoomFor (entries + 1) (rows + n) p
+    → length (rows_given reply) ≤ n → new.book.book.room ≡ (noted old.book.book (record { seat = seat; op = op; reply = reply })).room → HasRoomFor entries rows ((facts_of_held new).part seat)
+room_left seat entries rows n op reply old new p eases room few is = grind (arith, common_steps, nat_tests)
 
--- a call that notes none and leaves the open works leaves the room
-pub same_room : (seat entries rows : ℕ) (old new : Held) (p : Part) → seat < callers → Eases p ((facts_of_held old).part seat) → HasRoomFor entries rows p → p.turns ≡ 0
-    → new.book.book.room ≡ old.book.book.room → new.book.seats.work ≡ old.book.seats.work → HasRoomFor entries rows ((facts_of_held new).part seat) × (((facts_of_held new).part seat).turns ≡ 0)
-same_room seat entries rows old new p below eases room idle same work = grind (arith, common_steps, nat_tests)
+-- a call that notes none leaves the room, and one that leaves the open works leaves a seat without one
+pub room_same : (seat entries rows : ℕ) (old new : Held) (p : Part) → Eases p ((facts_of_held old).part seat) → HasRoomFor entries rows p → new.book.book.room ≡ old.book.book.room
+    → HasRoomFor entries rows ((facts_of_held new).part seat)
+room_same seat entries rows old new p eases room same = grind (arith, common_steps, nat_tests)
+
+pub idle_still : (seat : ℕ) (old new : Held) (p : Part) → seat < callers → Eases p ((facts_of_held old).part seat) → p.turns ≡ 0 → new.book.seats.work ≡ old.book.seats.work → ((facts_of_held new).part seat).turns ≡ 0
+idle_still seat old new p below eases idle same = grind (arith, common_steps, nat_tests)

@@ -1,11 +1,10 @@
 -- Runs of a script by callers and workers.
-use Rattle.std.specs.Prelude.{◌≡◌, ◌⊎◌, ◌≢◌, ℕ, zero, suc, ◌+◌, ◌-◌, ◌<◌, ◌≤◌, Bool, true, None, List, [], ◌∷◌, map, slice_index}
+use Rattle.std.specs.Prelude.{◌≡◌, ◌⊎◌, ℕ, zero, suc, ◌+◌, ◌-◌, ◌<◌, ◌≤◌, Bool, true, None, List, [], ◌∷◌, map, slice_index}
 use Rattle.blsm_model.specs.Facts.{entries_of}
 use Rattle.blsm_model.specs.Format.{callers}
-use Rattle.blsm_model.specs.Scripts.{IsOfScript, lines_of, rows_of}
+use Rattle.blsm_model.specs.Scripts.{IsOfScript, lines_of}
 use Rattle.blsm_model.specs.declared.history.Entry.{Entry}
 use Rattle.blsm_model.specs.declared.history.Line.{Line}
-use Rattle.blsm_model.specs.declared.history.Reply.{Reply}
 use Rattle.disk_trait.specs.Disk.{DiskState}
 use Rattle.seat_book.specs.Seats.{turns_in}
 use Rattle.seat_book.specs.State.{work_in}
@@ -17,15 +16,9 @@ use Rattle.tree_core.specs.Calls.{CameSince}
 use Rattle.tree_core.specs.Core.{CoreState, IsCore}
 use Rattle.tree_core.specs.Notes.{HasLeft, OwesNothing}
 use Rattle.tree_session.specs.Lines.{HasRoomFor, Rests}
-use Rattle.tree_shared.specs.Seats.{DidOn, WentOn, KnowsOf, HasHelped, IsFree, IsGone, facts_of}
+use Rattle.tree_shared.specs.Seats.{WentOn, KnowsOf, HasHelped, IsGone, facts_of}
 
 -- ---- one job
-
--- Another caller's line leaves a caller as it is, and its own is done and answered.
-pub record DoesLine {D : Type 0} (state : D → DiskState) (line : Line) (c d : Held (CoreState D)) : Type 0 where
-  pub other : line.seat ≢ c.number → d ≡ c
-  pub its : line.seat ≡ c.number → (reply : Reply) × DidOn state c (record { seat = c.number; op = line.op; reply = reply } ∷ []) d
-  pub free : line.seat ≡ c.number → (entries rows : ℕ) → KnowsOf (IsFree (entries + 1) (rows + rows_of line.op)) c → KnowsOf (IsFree entries rows) d
 
 -- A caller did its lines, in order, each once.
 pub record RanLines {D : Type 0} (state : D → DiskState) (lines : List Line) (c d : Held (CoreState D)) : Type 0 where

@@ -1,5 +1,5 @@
 -- What a command was answered, and the reply that its entry has.
-use Rattle.std.specs.Prelude.{◌≡◌, List, [], ◌∷◌, length}
+use Rattle.std.specs.Prelude.{◌≡◌, List, length}
 use Rattle.blsm_model.specs.Stored.{as_reply}
 use Rattle.blsm_model.specs.declared.history.Reply.{Reply}
 use Rattle.blsm_model.specs.declared.history.Reply.TheVariants.{Rows}
@@ -8,7 +8,7 @@ use Rattle.blsm_model.specs.declared.row.Row.{Row}
 use Rattle.disk_trait.specs.Disk.{DiskState}
 use Rattle.turn_lock.specs.Callers.{Held}
 use Rattle.tree_core.specs.Core.{CoreState}
-use Rattle.tree_shared.specs.Seats.{DidOn}
+use Rattle.tree_shared.specs.Seats.{Answered}
 use Rattle.tree_shared.specs.declared.told.Told.{Told}
 use Rattle.tree_shared.specs.declared.told.Told.TheVariants as told
 
@@ -17,6 +17,6 @@ abbrev pub Tells : Told → Reply → Type 0
 Tells (told.Short short) reply = reply ≡ as_reply short
 Tells (told.Rows count) reply = (rows : List Row) × (reply ≡ Rows rows) × (count ≡ length rows)
 
--- the caller's command is in the history, with the reply that is told
+-- the caller's command is done, with the reply that is told
 abbrev pub IsAnswered : {D : Type 0} → (D → DiskState) → Op → Told → Held (CoreState D) → Held (CoreState D) → Type 0
-IsAnswered state op answer c d = (reply : Reply) × Tells answer reply × DidOn state c (record { seat = c.number; op = op; reply = reply } ∷ []) d
+IsAnswered state op answer c d = (reply : Reply) × Tells answer reply × Answered state op reply c d

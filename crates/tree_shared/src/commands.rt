@@ -1,12 +1,11 @@
 //! Commands of a caller, in as many holds of the lock as they have steps.
-ghost use Rattle.std.specs.Prelude.{◌≡◌, ◌+◌, ◌<◌, ◌≤◌, ℕ, [], ◌∷◌, IsTrue, false};
-ghost use Rattle.blsm_model.specs.Format.{callers, most_rows, most_turns};
+ghost use Rattle.std.specs.Prelude.{◌≡◌, ◌<◌, ◌≤◌, ℕ, [], IsTrue, false};
+ghost use Rattle.blsm_model.specs.Format.{most_rows, most_turns};
 ghost use Rattle.blsm_model.specs.Legal.{is_write, TailsFit};
 ghost use Rattle.blsm_model.specs.Stored.{as_reply};
 ghost use Rattle.blsm_model.specs.declared.op.Op.TheVariants as op;
-ghost use Rattle.turn_lock.specs.Tallies.{IsOf};
 ghost use Rattle.tree_session.specs.Lines.{IsCommand};
-ghost use Rattle.tree_shared.specs.Seats.{DidOn, WentOn, KnowsOf, IsFinished, IsFree, IsOwing};
+ghost use Rattle.tree_shared.specs.Seats.{Answered, Comes, DidOn, WentOn, KnowsOf, IsFinished, IsFree, IsOwing};
 ghost use Rattle.tree_shared.specs.Told.{IsAnswered};
 ghost use Rattle.blsm_model.specs.Scripts.{rows_of};
 
@@ -27,9 +26,7 @@ fn pay_once<R: Wait, D: Disk + Drop, G: Gate>(
     caller: &mut Caller<Core<D>>,
     gate: &G,
 ) -> bool
-    requires lock { IsOf lock.now caller.old }
-    requires number { caller.old.number < callers }
-    requires owing { KnowsOf (IsOwing 0 0) caller.old }
+    requires comes { Comes lock.now (IsOwing 0 0) caller.old }
     ensures did { DidOn D.state caller.old [] caller.new }
     ensures owing { (entries rows : ℕ) → KnowsOf (IsOwing entries rows) caller.old → KnowsOf (IsOwing entries rows) caller.new }
     ensures free { result ≡ false → (entries rows : ℕ) → KnowsOf (IsOwing entries rows) caller.old → KnowsOf (IsFree entries rows) caller.new }
@@ -50,9 +47,7 @@ fn pay_off<R: Wait, D: Disk + Drop, G: Gate>(
     caller: &mut Caller<Core<D>>,
     gate: &G,
 )
-    requires lock { IsOf lock.now caller.old }
-    requires number { caller.old.number < callers }
-    requires owing { KnowsOf (IsOwing 0 0) caller.old }
+    requires comes { Comes lock.now (IsOwing 0 0) caller.old }
     ensures did { DidOn D.state caller.old [] caller.new }
     ensures free { (entries rows : ℕ) → KnowsOf (IsOwing entries rows) caller.old → KnowsOf (IsFree entries rows) caller.new }
 {
@@ -71,13 +66,10 @@ fn write<R: Wait, D: Disk + Drop, G: Gate>(
     op: &Op,
     gate: &G,
 ) -> ShortReply
-    requires lock { IsOf lock.now caller.old }
-    requires number { caller.old.number < callers }
+    requires comes { Comes lock.now (IsFree 1 0) caller.old }
     requires write { IsTrue (is_write op.now) }
     requires tails { TailsFit op.now }
-    requires free { KnowsOf (IsFree 1 0) caller.old }
-    ensures did { DidOn D.state caller.old (record { seat = caller.old.number; op = op.now; reply = as_reply result } ∷ []) caller.new }
-    ensures free { (entries rows : ℕ) → KnowsOf (IsFree (entries + 1) rows) caller.old → KnowsOf (IsFree entries rows) caller.new }
+    ensures { Answered D.state op.now (as_reply result) caller.old caller.new }
 {
     match admit(rt, lock, caller, op) {
         Admission::Admitted => {
@@ -98,11 +90,8 @@ fn look_up<R: Wait, D: Disk + Drop>(
     caller: &mut Caller<Core<D>>,
     key: &Key,
 ) -> ShortReply
-    requires lock { IsOf lock.now caller.old }
-    requires number { caller.old.number < callers }
-    requires free { KnowsOf (IsFree 1 0) caller.old }
-    ensures did { DidOn D.state caller.old (record { seat = caller.old.number; op = op.Get key.now; reply = as_reply result } ∷ []) caller.new }
-    ensures free { (entries rows : ℕ) → KnowsOf (IsFree (entries + 1) rows) caller.old → KnowsOf (IsFree entries rows) caller.new }
+    requires comes { Comes lock.now (IsFree 1 0) caller.old }
+    ensures { Answered D.state (op.Get key.now) (as_reply result) caller.old caller.new }
 {
     match get(rt, lock, caller, key) {
         Lookup::Is(value) => ShortReply::Is(value),
@@ -121,11 +110,8 @@ fn hold_range<R: Wait, D: Disk + Drop>(
     low: &Key,
     high: &Key,
 ) -> ShortReply
-    requires lock { IsOf lock.now caller.old }
-    requires number { caller.old.number < callers }
-    requires free { KnowsOf (IsFree 1 0) caller.old }
-    ensures did { DidOn D.state caller.old (record { seat = caller.old.number; op = op.Hold low.now high.now; reply = as_reply result } ∷ []) caller.new }
-    ensures free { (entries rows : ℕ) → KnowsOf (IsFree (entries + 1) rows) caller.old → KnowsOf (IsFree entries rows) caller.new }
+    requires comes { Comes lock.now (IsFree 1 0) caller.old }
+    ensures { Answered D.state (op.Hold low.now high.now) (as_reply result) caller.old caller.new }
 {
     match hold(rt, alloc, lock, caller, low, high) {
         Holding::Held => ShortReply::Held,
@@ -140,13 +126,10 @@ fn next<R: Wait, D: Disk + Drop>(
     caller: &mut Caller<Core<D>>,
     n: u32,
 ) -> Told
-    requires lock { IsOf lock.now caller.old }
-    requires number { caller.old.number < callers }
+    requires comes { Comes lock.now (IsFree 1 n) caller.old }
     requires some { 0 < n }
     requires few { n ≤ most_rows }
-    requires free { KnowsOf (IsFree 1 n) caller.old }
-    ensures did { IsAnswered D.state (op.Next n) result caller.old caller.new }
-    ensures free { (entries rows : ℕ) → KnowsOf (IsFree (entries + 1) (rows + n)) caller.old → KnowsOf (IsFree entries rows) caller.new }
+    ensures { IsAnswered D.state (op.Next n) result caller.old caller.new }
 {
     match read_on(rt, lock, caller, n) {
         Scan::Rows(count) => Told::Rows(count),
@@ -162,11 +145,8 @@ fn release<R: Wait, D: Disk + Drop>(
     lock: &TurnLock<Core<D>>,
     caller: &mut Caller<Core<D>>,
 ) -> ShortReply
-    requires lock { IsOf lock.now caller.old }
-    requires number { caller.old.number < callers }
-    requires free { KnowsOf (IsFree 1 0) caller.old }
-    ensures did { DidOn D.state caller.old (record { seat = caller.old.number; op = op.Release; reply = as_reply result } ∷ []) caller.new }
-    ensures free { (entries rows : ℕ) → KnowsOf (IsFree (entries + 1) rows) caller.old → KnowsOf (IsFree entries rows) caller.new }
+    requires comes { Comes lock.now (IsFree 1 0) caller.old }
+    ensures { Answered D.state op.Release (as_reply result) caller.old caller.new }
 {
     match let_go(rt, lock, caller) {
         Release::Done => ShortReply::Done,
@@ -182,11 +162,8 @@ fn turns<R: Wait, D: Disk + Drop>(
     caller: &mut Caller<Core<D>>,
     n: u32,
 )
-    requires lock { IsOf lock.now caller.old }
-    requires number { caller.old.number < callers }
-    requires some { 0 < n }
+    requires comes { Comes lock.now (IsFree 1 0) caller.old }
     requires few { n ≤ most_turns }
-    requires free { KnowsOf (IsFree 1 0) caller.old }
     ensures went { WentOn D.state caller.old [] caller.new }
     ensures finished { (entries rows : ℕ) → KnowsOf (IsFree entries rows) caller.old → KnowsOf (IsFinished n entries rows) caller.new }
 {
@@ -204,13 +181,9 @@ fn work<R: Wait, D: Disk + Drop>(
     caller: &mut Caller<Core<D>>,
     n: u32,
 ) -> ShortReply
-    requires lock { IsOf lock.now caller.old }
-    requires number { caller.old.number < callers }
-    requires some { 0 < n }
+    requires comes { Comes lock.now (IsFree 1 0) caller.old }
     requires few { n ≤ most_turns }
-    requires free { KnowsOf (IsFree 1 0) caller.old }
-    ensures did { DidOn D.state caller.old (record { seat = caller.old.number; op = op.Work n; reply = as_reply result } ∷ []) caller.new }
-    ensures free { (entries rows : ℕ) → KnowsOf (IsFree (entries + 1) rows) caller.old → KnowsOf (IsFree entries rows) caller.new }
+    ensures { Answered D.state (op.Work n) (as_reply result) caller.old caller.new }
 {
     turns(rt, lock, caller, n);
     end_work(rt, lock, caller, n)
@@ -224,12 +197,9 @@ fn perform<R: Wait, D: Disk + Drop, G: Gate>(
     op: &Op,
     gate: &G,
 ) -> Told
-    requires lock { IsOf lock.now caller.old }
-    requires number { caller.old.number < callers }
+    requires comes { Comes lock.now (IsFree 1 (rows_of op.now)) caller.old }
     requires command { IsCommand op.now }
-    requires free { KnowsOf (IsFree 1 (rows_of op.now)) caller.old }
-    ensures did { IsAnswered D.state op.now result caller.old caller.new }
-    ensures free { (entries rows : ℕ) → KnowsOf (IsFree (entries + 1) (rows + rows_of op.now)) caller.old → KnowsOf (IsFree entries rows) caller.new }
+    ensures { IsAnswered D.state op.now result caller.old caller.new }
 {
     match op {
         Op::Put(..) | Op::Add(..) | Op::Tail(..) | Op::Del(_) => Told::Short(write(
@@ -253,12 +223,9 @@ pub fn do_one<R: Wait, D: Disk + Drop, G: Gate>(
     op: &Op,
     gate: &G,
 ) -> Told
-    requires lock { IsOf lock.now caller.old }
-    requires number { caller.old.number < callers }
+    requires comes { Comes lock.now (IsFree 1 (rows_of op.now)) caller.old }
     requires command { IsCommand op.now }
-    requires free { KnowsOf (IsFree 1 (rows_of op.now)) caller.old }
-    ensures did { IsAnswered D.state op.now result caller.old caller.new }
-    ensures free { (entries rows : ℕ) → KnowsOf (IsFree (entries + 1) (rows + rows_of op.now)) caller.old → KnowsOf (IsFree entries rows) caller.new }
+    ensures { IsAnswered D.state op.now result caller.old caller.new }
 {
     let told = perform(rt, alloc, lock, caller, op, gate);
     gate.at(caller.number(), Point::Answered);

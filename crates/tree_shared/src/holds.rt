@@ -1,6 +1,7 @@
 //! One hold of the lock each: the value is taken, one call of the core is made, and the value is given back.
 ghost use Rattle.std.specs.Prelude.{◌≡◌, ◌≢◌, ◌+◌, ◌<◌, ◌≤◌, ℕ, List, [], ◌∷◌, IsTrue, true};
 ghost use Rattle.blsm_model.specs.Format.{callers, most_rows, most_turns};
+ghost use Rattle.blsm_model.specs.Scripts.{rows_of};
 ghost use Rattle.blsm_model.specs.Stored.{as_reply};
 ghost use Rattle.blsm_model.specs.declared.op.Op.TheVariants as op;
 ghost use Rattle.blsm_model.specs.declared.row.Row.{Row};
@@ -12,7 +13,7 @@ ghost use Rattle.tree_core.specs.Answers.{reply_to_drop, reply_to_get, reply_to_
 ghost use Rattle.tree_core.specs.Scanned.{Counts, scanned_by};
 ghost use Rattle.tree_core.specs.declared.answers.Admission.TheVariants as admission;
 ghost use Rattle.tree_core.specs.declared.answers.Payment.TheVariants as payment;
-ghost use Rattle.tree_shared.specs.Seats.{DidOn, KnowsOf, HasHelped, IsFinished, IsFree, IsGone, IsOwing, IsWorking};
+ghost use Rattle.tree_shared.specs.Seats.{Answered, Comes, DidOn, KnowsOf, HasHelped, IsFinished, IsFree, IsGone, IsOwing, IsWorking};
 
 use blsm_model::{Key, Op, ShortReply};
 use disk_trait::Disk;
@@ -29,14 +30,13 @@ pub(crate) fn admit<R: Wait, D: Disk + Drop>(
     caller: &mut Caller<Core<D>>,
     op: &Op,
 ) -> Admission
-    requires lock { IsOf lock.now caller.old }
-    requires number { caller.old.number < callers }
+    requires comes { Comes lock.now (IsFree 1 0) caller.old }
     requires write { IsTrue (is_write op.now) }
     requires tails { TailsFit op.now }
-    requires free { KnowsOf (IsFree 1 0) caller.old }
     ensures did { DidOn D.state caller.old (record { seat = caller.old.number; op = op.now; reply = reply_to_write result } ∷ []) caller.new }
-    ensures owing { (entries rows : ℕ) → KnowsOf (IsFree (entries + 1) rows) caller.old → KnowsOf (IsOwing entries rows) caller.new }
-    ensures free { result ≢ admission.Admitted → (entries rows : ℕ) → KnowsOf (IsFree (entries + 1) rows) caller.old → KnowsOf (IsFree entries rows) caller.new }
+    ensures owing { (entries rows : ℕ) → KnowsOf (IsFree (entries + 1) (rows + rows_of op.now)) caller.old → KnowsOf (IsOwing entries rows) caller.new }
+    ensures free { result ≢ admission.Admitted → (entries rows : ℕ) → KnowsOf (IsFree (entries + 1) (rows + rows_of op.now)) caller.old
+        → KnowsOf (IsFree entries rows) caller.new }
 {
     let seat = caller.number();
     let mut core = lock.take(rt, caller);
@@ -51,9 +51,7 @@ pub(crate) fn pay<R: Wait, D: Disk + Drop>(
     lock: &TurnLock<Core<D>>,
     caller: &mut Caller<Core<D>>,
 ) -> Payment
-    requires lock { IsOf lock.now caller.old }
-    requires number { caller.old.number < callers }
-    requires owing { KnowsOf (IsOwing 0 0) caller.old }
+    requires comes { Comes lock.now (IsOwing 0 0) caller.old }
     ensures did { DidOn D.state caller.old [] caller.new }
     ensures owing { (entries rows : ℕ) → KnowsOf (IsOwing entries rows) caller.old → KnowsOf (IsOwing entries rows) caller.new }
     ensures free { result ≢ payment.Paid → (entries rows : ℕ) → KnowsOf (IsOwing entries rows) caller.old → KnowsOf (IsFree entries rows) caller.new }
@@ -72,11 +70,8 @@ pub(crate) fn get<R: Wait, D: Disk + Drop>(
     caller: &mut Caller<Core<D>>,
     key: &Key,
 ) -> Lookup
-    requires lock { IsOf lock.now caller.old }
-    requires number { caller.old.number < callers }
-    requires free { KnowsOf (IsFree 1 0) caller.old }
-    ensures did { DidOn D.state caller.old (record { seat = caller.old.number; op = op.Get key.now; reply = reply_to_get result } ∷ []) caller.new }
-    ensures free { (entries rows : ℕ) → KnowsOf (IsFree (entries + 1) rows) caller.old → KnowsOf (IsFree entries rows) caller.new }
+    requires comes { Comes lock.now (IsFree 1 0) caller.old }
+    ensures { Answered D.state (op.Get key.now) (reply_to_get result) caller.old caller.new }
 {
     let seat = caller.number();
     let mut core = lock.take(rt, caller);
@@ -94,11 +89,8 @@ pub(crate) fn hold<R: Wait, D: Disk + Drop>(
     low: &Key,
     high: &Key,
 ) -> Holding
-    requires lock { IsOf lock.now caller.old }
-    requires number { caller.old.number < callers }
-    requires free { KnowsOf (IsFree 1 0) caller.old }
-    ensures did { DidOn D.state caller.old (record { seat = caller.old.number; op = op.Hold low.now high.now; reply = reply_to_hold result } ∷ []) caller.new }
-    ensures free { (entries rows : ℕ) → KnowsOf (IsFree (entries + 1) rows) caller.old → KnowsOf (IsFree entries rows) caller.new }
+    requires comes { Comes lock.now (IsFree 1 0) caller.old }
+    ensures { Answered D.state (op.Hold low.now high.now) (reply_to_hold result) caller.old caller.new }
 {
     let seat = caller.number();
     let mut core = lock.take(rt, caller);
@@ -114,15 +106,11 @@ pub(crate) fn read_on<R: Wait, D: Disk + Drop>(
     caller: &mut Caller<Core<D>>,
     n: u32,
 ) -> Scan
-    requires lock { IsOf lock.now caller.old }
-    requires number { caller.old.number < callers }
+    requires comes { Comes lock.now (IsFree 1 n) caller.old }
     requires some { 0 < n }
     requires few { n ≤ most_rows }
-    requires free { KnowsOf (IsFree 1 n) caller.old }
     // The answer tells how many rows the entry has.
-    ensures did { (rows : List Row) × Counts result rows
-        × DidOn D.state caller.old (record { seat = caller.old.number; op = op.Next n; reply = reply_to_next (scanned_by result rows) } ∷ []) caller.new }
-    ensures free { (entries rows : ℕ) → KnowsOf (IsFree (entries + 1) (rows + n)) caller.old → KnowsOf (IsFree entries rows) caller.new }
+    ensures { (rows : List Row) × Counts result rows × Answered D.state (op.Next n) (reply_to_next (scanned_by result rows)) caller.old caller.new }
 {
     let seat = caller.number();
     let mut core = lock.take(rt, caller);
@@ -137,11 +125,8 @@ pub(crate) fn let_go<R: Wait, D: Disk + Drop>(
     lock: &TurnLock<Core<D>>,
     caller: &mut Caller<Core<D>>,
 ) -> Release
-    requires lock { IsOf lock.now caller.old }
-    requires number { caller.old.number < callers }
-    requires free { KnowsOf (IsFree 1 0) caller.old }
-    ensures did { DidOn D.state caller.old (record { seat = caller.old.number; op = op.Release; reply = reply_to_drop result } ∷ []) caller.new }
-    ensures free { (entries rows : ℕ) → KnowsOf (IsFree (entries + 1) rows) caller.old → KnowsOf (IsFree entries rows) caller.new }
+    requires comes { Comes lock.now (IsFree 1 0) caller.old }
+    ensures { Answered D.state op.Release (reply_to_drop result) caller.old caller.new }
 {
     let seat = caller.number();
     let mut core = lock.take(rt, caller);
@@ -157,10 +142,8 @@ pub(crate) fn turn<R: Wait, D: Disk + Drop>(
     caller: &mut Caller<Core<D>>,
     done: u32,
 ) -> Turned
-    requires lock { IsOf lock.now caller.old }
-    requires number { caller.old.number < callers }
+    requires comes { Comes lock.now (IsWorking done 0 0) caller.old }
     requires done { done < most_turns }
-    requires working { KnowsOf (IsWorking done 0 0) caller.old }
     ensures did { DidOn D.state caller.old [] caller.new }
     ensures working { (entries rows : ℕ) → KnowsOf (IsWorking done entries rows) caller.old → KnowsOf (IsWorking (done + 1) entries rows) caller.new }
     ensures early { result ≢ Worked → (n entries rows : ℕ) → done < n → KnowsOf (IsWorking done entries rows) caller.old → KnowsOf (IsFinished n entries rows) caller.new }
@@ -179,11 +162,9 @@ pub(crate) fn end_work<R: Wait, D: Disk + Drop>(
     caller: &mut Caller<Core<D>>,
     n: u32,
 ) -> ShortReply
-    requires lock { IsOf lock.now caller.old }
-    requires number { caller.old.number < callers }
-    requires finished { KnowsOf (IsFinished n 1 0) caller.old }
+    requires comes { Comes lock.now (IsFinished n 1 0) caller.old }
     ensures did { DidOn D.state caller.old (record { seat = caller.old.number; op = op.Work n; reply = as_reply result } ∷ []) caller.new }
-    ensures free { (entries rows : ℕ) → KnowsOf (IsFinished n (entries + 1) rows) caller.old → KnowsOf (IsFree entries rows) caller.new }
+    ensures free { (entries rows : ℕ) → KnowsOf (IsFinished n (entries + 1) (rows + rows_of (op.Work n))) caller.old → KnowsOf (IsFree entries rows) caller.new }
 {
     let seat = caller.number();
     let mut core = lock.take(rt, caller);
@@ -218,9 +199,7 @@ pub(crate) fn leave<R: Wait, D: Disk + Drop>(
     lock: &TurnLock<Core<D>>,
     caller: &mut Caller<Core<D>>,
 )
-    requires lock { IsOf lock.now caller.old }
-    requires number { caller.old.number < callers }
-    requires free { KnowsOf (IsFree 0 0) caller.old }
+    requires comes { Comes lock.now (IsFree 0 0) caller.old }
     ensures did { DidOn D.state caller.old [] caller.new }
     ensures gone { KnowsOf IsGone caller.new }
 {

@@ -1,14 +1,15 @@
 //! The jobs of callers and workers, each in a thread of its own where one can be made.
-ghost use Rattle.std.specs.Prelude.{◌≡◌, ◌+◌, ◌-◌, ◌<◌, ◌≤◌, ℕ, length, MatchResult};
+ghost use Rattle.std.specs.Prelude.{◌≡◌, ◌≢◌, ◌+◌, ◌-◌, ◌<◌, ◌≤◌, ℕ, length, MatchResult};
 ghost use Rattle.std.specs.Thread.{IsSync};
 ghost use Rattle.blsm_model.specs.Format.{callers};
+ghost use Rattle.blsm_model.specs.declared.history.Reply.{Reply};
 ghost use Rattle.blsm_model.specs.Scripts.{lines_of, rows_of, rows_asked};
 ghost use Rattle.turn_lock.specs.Tallies.{IsOf};
 ghost use Rattle.turn_lock.specs.Views.{size};
 ghost use Rattle.tree_machine.specs.Machine.{seats};
 ghost use Rattle.tree_session.specs.Lines.{AreRunnable, IsCommand};
-ghost use Rattle.tree_shared.specs.Seats.{KnowsOf, HasHelped, IsFree, IsGone};
-ghost use Rattle.tree_shared.specs.Runs.{DoesLine, Ends, Helped, IsFresh, IsNew, RanLines, RunsAll, Starts, TellsEnd};
+ghost use Rattle.tree_shared.specs.Seats.{Answered, Comes, KnowsOf, HasHelped, IsFree};
+ghost use Rattle.tree_shared.specs.Runs.{Ends, Helped, IsFresh, IsNew, RanLines, RunsAll, Starts, TellsEnd};
 
 use crate::commands::do_one;
 use crate::holds::{help, leave};
@@ -58,7 +59,9 @@ fn do_line<R: Wait, D: Disk + Drop, G: Gate>(
     requires number { caller.old.number < callers }
     requires command { IsCommand line.now.op }
     requires free { line.now.seat ≡ caller.old.number → KnowsOf (IsFree 1 (rows_of line.now.op)) caller.old }
-    ensures does { DoesLine D.state line.now caller.old caller.new }
+    // Another caller's line leaves a caller as it is, and its own is done and answered.
+    ensures other { line.now.seat ≢ caller.old.number → caller.new ≡ caller.old }
+    ensures its { line.now.seat ≡ caller.old.number → (reply : Reply) × Answered D.state line.now.op reply caller.old caller.new }
 {
     if line.seat == caller.number() {
         let _told = do_one(rt, alloc, lock, caller, &line.op, gate);
@@ -74,10 +77,8 @@ fn do_lines<R: Wait, D: Disk + Drop, G: Gate>(
     script: &[Line],
     gate: &G,
 )
-    requires lock { IsOf lock.now caller.old }
-    requires number { caller.old.number < callers }
+    requires comes { Comes lock.now (IsFree (length (lines_of caller.old.number script.now)) (rows_asked caller.old.number script.now)) caller.old }
     requires runnable { AreRunnable script.now }
-    requires free { KnowsOf (IsFree (length (lines_of caller.old.number script.now)) (rows_asked caller.old.number script.now)) caller.old }
     ensures ran { RanLines D.state script.now caller.old caller.new }
     ensures free { KnowsOf (IsFree 0 0) caller.new }
 {

@@ -4,6 +4,7 @@ use Rattle.std.proofs.lemmas.List.{take_more, drop_more}
 use Rattle.blsm_model.specs.Book.{Book}
 use Rattle.blsm_model.specs.declared.history.Entry.{Entry}
 use Rattle.blsm_model.specs.declared.history.Line.{Line}
+use Rattle.blsm_model.specs.declared.room.Room.{Room}
 use Rattle.tree_session.specs.Lines.{HasRoomFor}
 use Rattle.tree_session.specs.Session.{Runs}
 use Rattle.tree_session.proofs.BookLemmas.{core_places}
@@ -18,22 +19,18 @@ loop-line-init g c = record {
 }
 
 -- the lines that are left begin with this one
-rest_is : (lines : List Line) (i : ℕ) (line : Line) → i < length lines → line ≡ slice_index_or lines i line → drop i lines ≡ line ∷ drop (i + 1) lines
-rest_is lines i line below is = drop_more lines i line below ∙ ap (λ (l : Line). l ∷ drop (i + 1) lines) (sym is)
+left_is : (room : Room) (lines : List Line) (i : ℕ) (line : Line) → i < length lines → line ≡ slice_index_or lines i line → HasRoomFor room (drop i lines) → HasRoomFor room (line ∷ drop (i + 1) lines)
+left_is room lines i line below is has = subst (λ (ls : List Line). HasRoomFor room ls) (drop_more lines i line below ∙ ap (λ (l : Line). l ∷ drop (i + 1) lines) (sym is)) has
 
 pub perform-requires-clause-room : goal.perform-requires-clause-room
 perform-requires-clause-room g c =
-    let lines = c.args.lines.now in
-    let i = c.loop-line.line-index in
-    let line = c.line-item.result in
-    room_next c.loop-line.core.held.book.book.room line (drop (i + 1) lines) (search rules) (subst (λ (ls : List Line). HasRoomFor c.loop-line.core.held.book.book.room ls) (rest_is lines i line (omega arith) c.line-item.is) c.loop-line.invariant.left)
+    let has = left_is c.loop-line.core.held.book.book.room c.args.lines.now c.loop-line.line-index c.line-item.result (omega arith) c.line-item.is c.loop-line.invariant.left in
+    room_next c.loop-line.core.held.book.book.room c.line-item.result (drop (c.loop-line.line-index + 1) c.args.lines.now) (search rules) has
 
 pub perform-requires-clause-rows : goal.perform-requires-clause-rows
 perform-requires-clause-rows g c =
-    let lines = c.args.lines.now in
-    let i = c.loop-line.line-index in
-    let line = c.line-item.result in
-    rows_next c.loop-line.core.held.book.book.room line (drop (i + 1) lines) (search rules) (subst (λ (ls : List Line). HasRoomFor c.loop-line.core.held.book.book.room ls) (rest_is lines i line (omega arith) c.line-item.is) c.loop-line.invariant.left)
+    let has = left_is c.loop-line.core.held.book.book.room c.args.lines.now c.loop-line.line-index c.line-item.result (omega arith) c.line-item.is c.loop-line.invariant.left in
+    rows_next c.loop-line.core.held.book.book.room c.line-item.result (drop (c.loop-line.line-index + 1) c.args.lines.now) (search rules) has
 
 pub loop-line-preserved : goal.loop-line-preserved
 loop-line-preserved g c =
@@ -47,7 +44,7 @@ loop-line-preserved g c =
     let did = c.perform.ensures in
     let below : i < length lines = omega arith in
     let entry : Entry = record { seat = line.seat; op = line.op; reply = did.reply } in
-    let before : HasRoomFor mid.held.book.book.room (line ∷ drop (i + 1) lines) = subst (λ (ls : List Line). HasRoomFor mid.held.book.book.room ls) (rest_is lines i line below c.line-item.is) c.loop-line.invariant.left in
+    let before = left_is mid.held.book.book.room lines i line below c.line-item.is c.loop-line.invariant.left in
     let more : take i lines ++ line ∷ [] ≡ take (i + 1) lines = ap (λ (l : Line). take i lines ++ l ∷ []) c.line-item.is ∙ sym (take_more lines i line below) in
     record {
       runs = subst (λ (ls : List Line). Runs state ls old new) more

@@ -1,12 +1,12 @@
-use Rattle.std.proofs.Common.{◌≡◌, ℕ, subst, arith}
+use Rattle.std.proofs.Common.{◌≡◌, ℕ, [], subst, arith}
 use Rattle.tree_shared.specs.Seats.{KnowsOf, IsWorking}
-use Rattle.tree_shared.proofs.CommandLemmas.{went_on, works_all}
+use Rattle.tree_shared.proofs.CommandLemmas.{comes_on, went_on, works_all}
 use Rattle.tree_shared.proofs.commands.turns.Goals as goal
 
-pub turn-requires-clause-working : goal.turn-requires-clause-working
-turn-requires-clause-working g c =
-    let had = c.loop-done.invariant.1 1 0 c.requires.free in
-    record { value = had.value; more = had.more; own = had.own; part = ((omega arith, omega arith), had.part.1, had.part.2) }
+pub turn-requires-clause-comes : goal.turn-requires-clause-comes
+turn-requires-clause-comes g c =
+    let had = c.loop-done.invariant.1 1 0 c.requires.comes.knows in
+    comes_on g.D.Disk.state [] c.requires.comes c.loop-done.invariant.0 (record { value = had.value; more = had.more; own = had.own; part = ((omega arith, omega arith), had.part.1, had.part.2) })
 
 pub loop-done-preserved : goal.loop-done-preserved
 loop-done-preserved g c =

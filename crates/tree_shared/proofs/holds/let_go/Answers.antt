@@ -1,50 +1,30 @@
-use Rattle.std.proofs.Common.{◌≡◌, ℕ, true, ap, sym, refl, subst}
+use Rattle.std.proofs.Common.{◌∙◌, ℕ, ◌≤◌, ap, subst, arith}
+use Rattle.std.proofs.lemmas.Grind.{common_steps}
+use Rattle.std.proofs.lemmas.Bool.Decides.{nat_tests}
 use Rattle.std.specs.Prelude.{length}
 use Rattle.blsm_model.specs.Book.{rows_given}
-use Rattle.blsm_model.specs.declared.op.Op.TheVariants as op
-use Rattle.seat_book.specs.State.{may_note_in}
 use Rattle.tree_machine.specs.declared.step.Kind.TheVariants as kind
 use Rattle.core_moves.specs.declared.held.Held.{Held}
 use Rattle.tree_core.specs.Answers.{reply_to_drop}
 use Rattle.tree_core.specs.Calls.{LetsGo}
-use Rattle.tree_shared.specs.Seats.{IsFree}
-use Rattle.tree_shared.proofs.HoldLemmas.{came_given, note_ok, turn_by, turn_given}
-use Rattle.tree_shared.proofs.NoteLemmas.{note_did, note_frees_none, notes_one}
 use Rattle.tree_core.specs.declared.answers.Release.{Release}
-use Rattle.tree_core.specs.declared.answers.Release.TheVariants as release
+use Rattle.tree_shared.proofs.HoldLemmas.{calls, came_given, note_ok, table_given, took, turn_given}
+use Rattle.tree_shared.proofs.NoteLemmas.{answers}
 use Rattle.tree_shared.proofs.holds.let_go.Goals as goal
 
-gives_none : (answer : Release) → length (rows_given (reply_to_drop answer)) ≡ 0
-gives_none release.Done = refl
-gives_none release.NoHold = refl
-gives_none (release.Stopped why) = refl
+gives_none : (answer : Release) → length (rows_given (reply_to_drop answer)) ≤ 0
+gives_none answer = grind (arith, common_steps, nat_tests)
 
 pub drop_hold-answer-requires : goal.drop_hold-answer-requires
-drop_hold-answer-requires g c =
-    subst (λ (n : ℕ). may_note_in n 0 c.take-core.result.held.book ≡ true) (sym c.number-seat.ensures) (note_ok g.D.Disk.state c.args.caller.now c.take-core.result c.take-core.ensures.2 0 c.requires.number c.requires.free)
+drop_hold-answer-requires g c = note_ok g.D.Disk.state c.args.caller.now c.take-core.result c.take-core.ensures.2 c.number-seat.ensures 0 c.requires.comes
 
-pub give-requires-clause-turn : goal.give-requires-clause-turn
-give-requires-clause-turn g c = turn_given g.D.Disk.state c.args.caller.now c.take-core.new.caller c.take-core.result c.drop_hold-answer.new.self c.take-core.ensures c.number-seat.result c.number-seat.ensures kind.Release (c.drop_hold-answer.result, c.drop_hold-answer.ensures)
+pub give-requires : goal.give-requires
+give-requires g c =
+    let its = calls g.D.Disk.state kind.Release c.args.caller.now c.take-core.new.caller c.take-core.result c.drop_hold-answer.new.self c.take-core.ensures c.number-seat.ensures (c.drop_hold-answer.result, c.drop_hold-answer.ensures) in
+    record { lock = table_given its ∙ c.requires.comes.of_lock.0; turn = turn_given its; lasts = came_given its }
 
-pub give-requires-clause-lasts : goal.give-requires-clause-lasts
-give-requires-clause-lasts g c = came_given g.D.Disk.state c.args.caller.now c.take-core.new.caller c.take-core.result c.drop_hold-answer.new.self c.take-core.ensures c.number-seat.result c.number-seat.ensures kind.Release (c.drop_hold-answer.result, c.drop_hold-answer.ensures)
-
-pub returns-clause-did : goal.returns-clause-did
-returns-clause-did g c =
-    let state = g.D.Disk.state in
-    let caller = c.args.caller.now in
-    let b = c.take-core.result in
-    let w = c.drop_hold-answer.new.self in
-    let turn = turn_by state caller c.take-core.new.caller c.take-core.result c.drop_hold-answer.new.self c.take-core.ensures c.number-seat.result c.number-seat.ensures kind.Release (c.drop_hold-answer.result, c.drop_hold-answer.ensures) c.give.new.caller c.give.ensures in
-    let its = subst (λ (n : ℕ). LetsGo state n c.drop_hold-answer.result b w) c.number-seat.ensures c.drop_hold-answer.ensures in
-    note_did state caller c.give.new.caller (op.Release) (reply_to_drop c.drop_hold-answer.result) b w c.requires.number turn (notes_one caller.number op.Release (reply_to_drop c.drop_hold-answer.result) b.held.book w.held.book its.book) (ap (λ (h : Held). h.gears) its.others.rest) (IsFree 1 0) c.requires.free
-
-pub returns-clause-free : goal.returns-clause-free
-returns-clause-free g c =
-    let state = g.D.Disk.state in
-    let caller = c.args.caller.now in
-    let b = c.take-core.result in
-    let w = c.drop_hold-answer.new.self in
-    let turn = turn_by state caller c.take-core.new.caller c.take-core.result c.drop_hold-answer.new.self c.take-core.ensures c.number-seat.result c.number-seat.ensures kind.Release (c.drop_hold-answer.result, c.drop_hold-answer.ensures) c.give.new.caller c.give.ensures in
-    let its = subst (λ (n : ℕ). LetsGo state n c.drop_hold-answer.result b w) c.number-seat.ensures c.drop_hold-answer.ensures in
-    note_frees_none state caller c.give.new.caller (op.Release) (reply_to_drop c.drop_hold-answer.result) b w c.requires.number turn (notes_one caller.number op.Release (reply_to_drop c.drop_hold-answer.result) b.held.book w.held.book its.book) (ap (λ (h : Held). h.gears) its.others.rest) (gives_none c.drop_hold-answer.result)
+pub returns : goal.returns
+returns g c =
+    let its = calls g.D.Disk.state kind.Release c.args.caller.now c.take-core.new.caller c.take-core.result c.drop_hold-answer.new.self c.take-core.ensures c.number-seat.ensures (c.drop_hold-answer.result, c.drop_hold-answer.ensures) in
+    let did = subst (λ (n : ℕ). LetsGo g.D.Disk.state n c.drop_hold-answer.result c.take-core.result c.drop_hold-answer.new.self) c.number-seat.ensures c.drop_hold-answer.ensures in
+    answers (took its c.give.ensures) c.requires.comes did.book (ap (λ (h : Held). h.gears) did.others.rest) (gives_none c.drop_hold-answer.result)

@@ -2,8 +2,8 @@ use Rattle.std.proofs.Common.{arith}
 use Rattle.tree_shared.proofs.JobLemmas.{caller_ended, new_has_helped, new_is_free, worker_ended}
 use Rattle.tree_shared.proofs.jobs.run_one.Goals as goal
 
-pub do_lines-requires-clause-free : goal.do_lines-requires-clause-free
-do_lines-requires-clause-free g c = new_is_free c.args.script.now c.args.lock.now c.args.caller c.requires.fresh c.requires.new (omega arith)
+pub do_lines-requires-clause-comes : goal.do_lines-requires-clause-comes
+do_lines-requires-clause-comes g c = record { of_lock = c.requires.new.of_lock; number = omega arith; knows = new_is_free c.args.script.now c.args.lock.now c.args.caller c.requires.fresh c.requires.new (omega arith) }
 
 pub worker-requires-clause-knows : goal.worker-requires-clause-knows
 worker-requires-clause-knows g c = (0, 0, new_has_helped c.args.script.now c.args.lock.now c.args.caller c.requires.fresh c.requires.new (omega arith))
