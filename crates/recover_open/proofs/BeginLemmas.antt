@@ -1,5 +1,7 @@
 -- What was read of a store may be settled.
-use Rattle.std.specs.Prelude.{◌≡◌, ℕ, ◌+◌, ◌-◌, ◌≤◌, Bool, List, [], length, min}
+use Rattle.std.proofs.lemmas.Bool.Decides.{nat_tests}
+use Rattle.std.proofs.lemmas.Grind.{common_steps}
+use Rattle.std.specs.Prelude.{◌≡◌, ℕ, ◌-◌, ◌≤◌, Bool, List, [], length}
 use Rattle.std.proofs.Common.{◌∙◌, refl, ap, sym, subst, arith}
 use Rattle.std.proofs.Math.Seq.{take-length}
 use Rattle.blsm_model.specs.Sizes.{Sizes}
@@ -17,8 +19,8 @@ use Rattle.tree_reading.specs.Reading.{HoldsFound, IsFound}
 use Rattle.tree_runs.specs.Runs.{GuideState, RunsState, first_tags, opened}
 use Rattle.tree_runs.specs.Holding.{AreGuided, AreOf, AreTagged}
 use Rattle.page_space.specs.Space.{SpaceState}
-use Rattle.tree_settling.specs.Settling.{IsDeepLight}
-use Rattle.recover_open.specs.Opening.{BeginsIn, HasBegun}
+use Rattle.tree_settling.specs.Settling.{HasBegun, IsDeepLight}
+use Rattle.recover_open.specs.Opening.{BeginsIn}
 
 abbrev runs_of : Found → List GuideState → RunsState
 runs_of found guides = opened found.geometry found.catalogue found.space guides
@@ -30,21 +32,10 @@ log_in found = record { a = found.a; b = found.b; lanes = found.lanes }
 abbrev pub BeginsLight : Type 0
 BeginsLight = (sizes : Sizes) (catalogue : Catalog) (space : SpaceState) (guides : List GuideState) → IsDeepLight (opened sizes catalogue space guides)
 
--- the table and what stands above it within the room
-within : (room_a table_a table_b components cap high : ℕ) → components ≤ cap → table_a ≤ min high (cap - components) → table_b ≤ min high (cap - components) - table_a
-    → components + (table_a + table_b) ≤ cap
-within room_a table_a table_b components cap high below a b = omega (arith, below, a, b)
-
 -- the log of a tree with these lanes
 log_is : (found : Found) (tree : Tree) → tree.catalogue ≡ found.catalogue → found.lanes.roles ≡ found.catalogue.lanes → found.a.entries ≡ replayed tree.lane_a → found.b.entries ≡ replayed tree.lane_b
     → end_of found.lanes (a_of found.catalogue.lanes) ≡ length (blocks tree.lane_a) → end_of found.lanes (b_of found.catalogue.lanes) ≡ length (blocks tree.lane_b) → IsLogOf tree (log_in found)
-log_is found tree catalogue roles a b end_a end_b = record {
-  roles = roles ∙ ap (λ (c : Catalog). c.lanes) (sym catalogue);
-  end_a = ap (λ (l : List ℕ). end_of found.lanes (a_of l)) roles ∙ end_a;
-  end_b = ap (λ (l : List ℕ). end_of found.lanes (b_of l)) roles ∙ end_b;
-  a = a;
-  b = b;
-}
+log_is found tree h1 h2 h3 h4 h5 h6 = grind (arith, common_steps, nat_tests)
 
 begun : BeginsLight → (found : Found) (guides : List GuideState) (honest : Bool) (file : List ℕ) → IsFound found honest file → HasBegun (runs_of found guides) (log_in found)
 begun light found guides honest file is =

@@ -1,5 +1,7 @@
 -- A core over what was settled.
-use Rattle.std.specs.Prelude.{◌≡◌, ℕ, ◌+◌, ◌≤◌, IsTrue, List, [], Option, if◌then◌else◌, is_some, sum}
+use Rattle.std.proofs.lemmas.Bool.Decides.{nat_tests}
+use Rattle.std.proofs.lemmas.Grind.{common_steps}
+use Rattle.std.specs.Prelude.{◌≡◌, ℕ, ◌+◌, ◌≤◌, IsTrue, List, [], sum}
 use Rattle.std.proofs.Common.{◌∙◌, refl, ap, sym, subst, inl, arith}
 use Rattle.blsm_model.specs.Book.{Book}
 use Rattle.blsm_model.specs.Format.{most_entries}
@@ -10,10 +12,8 @@ use Rattle.blsm_model.specs.declared.row.Value.{Value}
 use Rattle.catalog_swap.specs.declared.catalog.Catalog.{Catalog}
 use Rattle.core_lists.specs.Standing.{catalogue_of}
 use Rattle.core_moves.specs.declared.held.Held.{Held}
-use Rattle.core_moves.specs.Held.{charge_in, components_in}
+use Rattle.core_moves.specs.Held.{charge_in}
 use Rattle.core_pace.specs.Opening.{IsOpened}
-use Rattle.record_delta.specs.Entries.{entries_weight}
-use Rattle.snow_merge.specs.Pass.{SnowState}
 use Rattle.disk_trait.specs.Disk.{DiskState}
 use Rattle.disk_trait.specs.Moments.{IsTimed}
 use Rattle.disk_trait.proofs.MomentLemmas.{leaves_only_start, once_synced_start}
@@ -23,7 +23,7 @@ use Rattle.tree_core.specs.Core.{CoreState}
 use Rattle.tree_core.specs.Holds.{StandsWhole}
 use Rattle.tree_core.specs.Parts.{AreSettled}
 use Rattle.tree_file.specs.Tree.{Tree, HoldsTree, ReadsAsMap, map_of_tree}
-use Rattle.tree_log.specs.Log.{LogState, weight_of_tables}
+use Rattle.tree_log.specs.Log.{LogState}
 use Rattle.tree_machine.specs.Machine.{opened}
 use Rattle.tree_reading.specs.Damage.{most_version}
 use Rattle.tree_runs.specs.Holding.{StandOver}
@@ -41,17 +41,17 @@ ready_settled runs log room d sizes version few ready entries =
       deep = settled.deep;
       running = may.running;
       long = may.long;
-      components = record { geometry = may.running.in_order.geometry; mark = may.mark; full = omega (arith, may.full) };
+      components = record { geometry = may.running.in_order.geometry; mark = may.begun.mark; full = omega (arith, may.begun.full) };
       version = omega (arith, few, ready.commits);
-      roles = may.roles;
-      lanes = may.sizes;
-      lane_roles = may.log_of.roles ∙ ap (λ (c : Catalog). c.lanes) may.lanes_are;
+      roles = may.begun.roles;
+      lanes = may.begun.sizes;
+      lane_roles = may.begun.log_of.roles ∙ ap (λ (c : Catalog). c.lanes) may.begun.lanes_are;
       a = settled.a;
       b = settled.b;
       end_a = settled.end_a;
       end_b = settled.end_b;
-      reserved_a = may.reserved_a;
-      reserved_b = may.reserved_b;
+      reserved_a = may.begun.reserved_a;
+      reserved_b = may.begun.reserved_b;
       entries = refl;
       quanta = refl;
       room = entries;
@@ -104,8 +104,4 @@ keeps_start d sizes pairs timed reads = record {
 
 -- the charge of a core that was just opened
 pub charge_opened : (annals : Book) (faults : ℕ) (held : Held) → IsOpened annals faults held → charge_in held ≡ held.runs.catalogue.c1.weight + held.runs.catalogue.c2.weight
-charge_opened annals faults held is =
-    let none_a : entries_weight held.log.a.entries ≡ 0 = ap entries_weight is.a in
-    let none_b : entries_weight held.log.b.entries ≡ 0 = ap entries_weight is.b in
-    ap (λ (p : Option SnowState). components_in held + (if is_some p then held.gears.pass_memory + held.gears.pass_admitted else weight_of_tables held.log)) is.pass
-    ∙ omega (arith, none_a, none_b, is.c1x)
+charge_opened annals faults held h1 = grind (arith, common_steps, nat_tests)

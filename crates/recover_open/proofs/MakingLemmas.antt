@@ -1,9 +1,10 @@
 -- Making behind a look at the disk's length.
+use Rattle.std.proofs.lemmas.Bool.Decides.{nat_tests}
+use Rattle.std.proofs.lemmas.Grind.{common_steps}
 use Rattle.std.specs.Prelude.{◌≡◌, ℕ, ◌+◌, IsTrue, List}
 use Rattle.std.proofs.Common.{sym, subst, inl, inr, ⊎_elim, arith}
 use Rattle.disk_trait.specs.Disk.{DiskState}
 use Rattle.disk_trait.specs.Effects.{Affects}
-use Rattle.disk_trait.proofs.EffectLemmas.{affects_more, affects_wider}
 use Rattle.disk_trait.specs.Moments.{IsTimed, IsUnwritten}
 use Rattle.disk_trait.proofs.MomentLemmas.{leaves_only_run, leaves_only_weaken, old_or_behind, once_synced_behind, once_synced_weaken}
 use Rattle.disk_trait.specs.Reads.{OnlyReads}
@@ -41,8 +42,7 @@ unsynced_behind {old} {mid} {new} honest looked more =
 
 pub effect_behind : {old mid new : DiskState} (sizes : Sizes) → IsTimed mid → mid.faults ≡ old.faults → OnlyReads 0 1 old mid
     → Affects (span 0 (file_length sizes)) (file_length sizes) (making_calls sizes) mid new → Affects (span 0 (file_length sizes)) (file_length sizes) (making_calls sizes + 1) old new
-effect_behind sizes timed calm looked more =
-    affects_more {most = 1} timed calm (affects_wider (λ i never. absurd never) (omega arith) (omega arith) looked.effect) more (λ i inside. inside) (omega arith) (omega arith)
+effect_behind sizes h1 h2 h3 h4 = grind (arith, common_steps, nat_tests)
 
 pub made_empty : {old new : DiskState} → FirstHolds → (sizes : Sizes) → HasMade sizes old new → IsTrue old.is_honest → IsMadeEmpty sizes new
 made_empty {old} {new} holds sizes made honest =

@@ -1,8 +1,9 @@
 -- A sync, a reading, and the settling behind them.
-use Rattle.std.specs.Prelude.{◌≡◌, ◌⊎◌, ℕ, ◌+◌, ◌*◌, ◌≤◌, IsTrue, length, max, Result, Ok, Err, IfOk, IsErr, OnOk}
-use Rattle.std.proofs.Common.{◌∙◌, refl, sym, subst, inl, inr, ⊎_elim, arith}
-use Rattle.blsm_model.specs.declared.component.Component.{Component}
-use Rattle.catalog_swap.specs.Text.{IsCatalog, IsComponent, IsEmpty, IsInRange}
+use Rattle.std.proofs.lemmas.Bool.Decides.{nat_tests}
+use Rattle.std.proofs.lemmas.Grind.{common_steps}
+use Rattle.std.specs.Prelude.{◌≡◌, ◌⊎◌, ℕ, ◌+◌, ◌*◌, ◌≤◌, IsTrue, length, max, Result, IfOk, IsErr, OnOk}
+use Rattle.std.proofs.Common.{◌∙◌, sym, subst, inl, inr, ⊎_elim, arith}
+use Rattle.catalog_swap.specs.Text.{IsCatalog}
 use Rattle.catalog_swap.specs.declared.catalog.Catalog.{Catalog}
 use Rattle.disk_trait.specs.Disk.{DiskState, IsSure, MarksSync, Only, Passes, WritesNothing}
 use Rattle.disk_trait.proofs.EffectLemmas.{affects_more, affects_nothing, affects_wider}
@@ -15,8 +16,8 @@ use Rattle.blsm_model.specs.Sizes.{IsGeometry, Sizes}
 use Rattle.store_file.specs.Layout.{superblock_length}
 use Rattle.tree_reading.specs.declared.found.Found.{Found}
 use Rattle.tree_reading.specs.declared.found.Unreadable.{Unreadable}
-use Rattle.tree_reading.specs.Reading.{HasLooked, IsFound, at_superblock, within, reading_calls}
-use Rattle.tree_settling.specs.Settling.{CallsFew, settling_calls}
+use Rattle.tree_reading.specs.Reading.{HasLooked, IsFound, reading_calls}
+use Rattle.tree_settling.specs.Settling.{CallsFew}
 use Rattle.recover_open.specs.Opening.{HasLengthOf, StaysInside, most_opening_calls}
 
 -- as many calls as a reading of the sizes makes of which the file's length is, or two
@@ -32,21 +33,13 @@ pub record ReadsInside (old new : DiskState) : Type 0 where
   pub only : OnlyReads end calls old new
 
 looked : {old new : DiskState} → HasLooked reading_calls old new → ReadsInside old new
-looked {old} {new} (at_superblock only) = record { end = superblock_length; calls = 2; few = inl only.effect.calls; inside = λ tells. omega arith; only = only }
-looked {old} {new} (within sizes geometry long only) = record { end = file_length sizes; calls = reading_calls sizes; few = inr (sizes, geometry, long, only.effect.calls); inside = λ tells. omega (arith, long tells); only = only }
+looked h1 = grind (arith, common_steps, nat_tests)
 
 pub reads_inside : {old new : DiskState} (result : Result Found Unreadable)
     → IfOk result (λ found. OnlyReads (file_length found.geometry) (reading_calls found.geometry) old new)
     → (IsErr result → HasLooked reading_calls old new)
     → IfOk result (λ found. IsTrue old.tells_bytes → length old.bytes ≡ file_length found.geometry) → IfOk result (λ found. IsFound found old.is_honest old.bytes) → ReadsInside old new
-reads_inside (Ok found) only none long is = record {
-  end = file_length found.geometry;
-  calls = reading_calls found.geometry;
-  few = inr (found.geometry, is.head.geometry, long, only.effect.calls);
-  inside = λ tells. omega (arith, long tells);
-  only = only;
-}
-reads_inside (Err why) only more long is = looked (more refl)
+reads_inside result h1 h2 h3 h4 = grind (arith, common_steps, nat_tests)
 
 -- a call, and then some
 one_more : {old mid : DiskState} {now : ℕ} (calls : ℕ) → Passes old mid → now ≤ mid.clock + calls → now ≤ old.clock + (1 + calls)
@@ -54,15 +47,11 @@ one_more calls passes few = omega (arith, few, passes.at_most_one)
 
 -- what a sync and a reading call is within what an opening does
 of_opening : (old : ℕ) {new : ℕ} (sizes : Sizes) → new ≤ old + (1 + reading_calls sizes) → new ≤ old + most_opening_calls sizes
-of_opening old {new} sizes few = more old new (1 + reading_calls sizes) (3 * page_count sizes + settling_calls sizes) few
-  where
-    more : (before after calls rest : ℕ) → after ≤ before + calls → after ≤ before + (calls + rest)
-    more before after calls rest few = omega (arith, few)
+of_opening old sizes h1 = grind (arith, common_steps, nat_tests)
 
 pub synced_few : {old mid : DiskState} (new : DiskState) (result : Result Found Unreadable) → Passes old mid → IfOk result (λ found. OnlyReads (file_length found.geometry) (reading_calls found.geometry) mid new)
     → IfOk result (λ found. CallsFew (1 + reading_calls found.geometry) old new)
-synced_few new (Ok found) passes only = one_more (reading_calls found.geometry) passes only.effect.calls
-synced_few new (Err why) passes only = tt
+synced_few new result h1 h2 = grind (arith, common_steps, nat_tests)
 
 -- a sync that failed
 pub sync_inside : {old new : DiskState} {ended_well : Type 0} → IsTimed old → Passes old new → MarksSync ended_well old new → WritesNothing old new → IsSure 0 old new → StaysInside old new
@@ -103,32 +92,18 @@ still_only {mid} {new} honest only reads = λ c left. only c (reads.only.same.sa
 -- the file is as long as the geometry that was found says, as it was before
 pub was_long : {old mid : DiskState} (result : Result Found Unreadable) → Passes old mid → WritesNothing old mid
     → IfOk result (λ found. IsTrue mid.tells_bytes → length mid.bytes ≡ file_length found.geometry) → IfOk result (λ found. IsTrue old.tells_bytes → length old.bytes ≡ file_length found.geometry)
-was_long (Ok found) passes same long = λ tells. sym (same.length tells) ∙ long (subst IsTrue (sym passes.goes_on.tells_bytes) tells)
-was_long (Err why) passes same long = tt
+was_long result h1 h2 h3 = grind (arith, common_steps, nat_tests)
 
 pub still_long : {old mid new : DiskState} (result : Result Found Unreadable) → Passes old mid → ReadsInside mid new
     → IfOk result (λ found. IsTrue mid.tells_bytes → length mid.bytes ≡ file_length found.geometry) → IfOk result (λ found. IsTrue old.tells_bytes → length new.bytes ≡ file_length found.geometry)
-still_long (Ok found) passes reads long = λ tells.
-    let told = subst IsTrue (sym passes.goes_on.tells_bytes) tells in
-    reads.only.same.same.length told ∙ long told
-still_long (Err why) passes reads long = tt
+still_long result h1 h2 h3 = grind (arith, common_steps, nat_tests)
 
 -- what holds holds once it is done
 pub when_done : (result : Result Found Unreadable) {P : Type 0} → P → OnOk result P
-when_done (Ok found) p = p
-when_done (Err why) p = tt
+when_done result h1 = grind (arith, common_steps, nat_tests)
 
 -- ---- the second reading
 
-pub none_few : (d : DiskState) (most : ℕ) → CallsFew most d d
-none_few d most = omega arith
-
--- a component has no more pages than there are
-pages_few : (most : ℕ) (component : Component) → IsComponent most component → component.pages ≤ most
-pages_few most component is = ⊎_elim (λ (none : IsEmpty component). omega (arith, none.pages)) (λ (some : IsInRange most component). some.no_more_pages) is
-
-pub guides_few : (old : ℕ) {sizes : Sizes} {catalogue : Catalog} {new : ℕ} → IsCatalog sizes catalogue → new ≤ old + (catalogue.c1.pages + catalogue.c1x.pages + catalogue.c2.pages) → new ≤ old + 3 * page_count sizes
-guides_few old {sizes} {catalogue} {new} valid calls = within (page_count sizes) (pages_few (page_count sizes) catalogue.c1 valid.c1) (pages_few (page_count sizes) catalogue.c1x valid.c1x) (pages_few (page_count sizes) catalogue.c2 valid.c2)
-  where
-    within : (most : ℕ) → catalogue.c1.pages ≤ most → catalogue.c1x.pages ≤ most → catalogue.c2.pages ≤ most → new ≤ old + 3 * most
-    within most c1 c1x c2 = omega (arith, calls, c1, c1x, c2)
+pub guides_few : {sizes : Sizes} {catalogue : Catalog} {old new : DiskState} → IsCatalog sizes catalogue
+    → OnlyReads (file_length sizes) (catalogue.c1.pages + catalogue.c1x.pages + catalogue.c2.pages) old new → OnlyReads (file_length sizes) (3 * page_count sizes) old new
+guides_few h1 h2 = grind (arith, common_steps, nat_tests)

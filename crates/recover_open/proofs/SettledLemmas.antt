@@ -1,13 +1,14 @@
 -- What was begun with may be settled, and what that leads to, behind a reading that filled the filters and fences.
-use Rattle.std.specs.Prelude.{◌≡◌, ℕ, ◌+◌, ◌≤◌, Bool, IsTrue, List, [], length, Result, Ok, Err, IfOk, IfErr}
+use Rattle.std.proofs.lemmas.Bool.Decides.{nat_tests}
+use Rattle.std.proofs.lemmas.Grind.{common_steps}
+use Rattle.std.specs.Prelude.{◌≡◌, ℕ, ◌+◌, ◌*◌, ◌≤◌, Bool, IsTrue, List, [], length, Result, Ok, Err, IfOk, IfErr}
 use Rattle.std.proofs.Common.{◌∙◌, refl, ap, sym, subst, arith}
 use Rattle.std.proofs.lemmas.List.{nil_from_length}
 use Rattle.blsm_model.specs.declared.key.Key.{Key}
 use Rattle.blsm_model.specs.declared.row.Value.{Value}
-use Rattle.blsm_model.specs.Geometry.{file_length}
+use Rattle.blsm_model.specs.Geometry.{file_length, page_count}
 use Rattle.blsm_model.specs.Sizes.{Sizes}
 use Rattle.catalog_swap.specs.Slots.{AreSameSlots}
-use Rattle.catalog_swap.specs.declared.catalog.Catalog.{Catalog}
 use Rattle.disk_trait.specs.Disk.{DiskState, Only}
 use Rattle.disk_trait.specs.Effects.{Affects}
 use Rattle.disk_trait.proofs.EffectLemmas.{affects_more, affects_wider}
@@ -16,37 +17,23 @@ use Rattle.disk_trait.proofs.MomentLemmas.{leaves_only_run, leaves_only_weaken}
 use Rattle.disk_trait.specs.Reads.{OnlyReads}
 use Rattle.disk_trait.proofs.ReadLemmas.{only_reads_each, only_reads_same}
 use Rattle.gated_log.specs.Lane.{blocks}
-use Rattle.record_delta.specs.Entries.{Entries, entries_weight}
+use Rattle.record_delta.specs.Entries.{Entries}
 use Rattle.tree_file.specs.Tree.{Tree, HoldsTree, ReadsAsMap, map_of_tree}
 use Rattle.tree_log.specs.Log.{LogState, weight_of_tables}
 use Rattle.tree_log.proofs.LogLemmas.{lane_ends}
 use Rattle.tree_reading.specs.declared.found.Found.{Found}
 use Rattle.tree_reading.specs.declared.found.Unreadable.{Unreadable}
 use Rattle.tree_reading.specs.declared.found.Unreadable.TheVariants.{Fault}
-use Rattle.tree_reading.specs.Reading.{HoldsFound, IsWhy}
+use Rattle.tree_reading.specs.Reading.{HoldsFound}
 use Rattle.tree_runs.specs.Runs.{RunsState, AreRunning}
-use Rattle.tree_settling.specs.Settling.{IsSettled, KeepsMap, LeavesMaps, MaySettle, SettlesOn, ShowsMap, anywhere, components_of}
+use Rattle.tree_settling.specs.Settling.{HasBegun, IsSettled, KeepsMap, LeavesMaps, MaySettle, SettlesOn, ShowsMap, anywhere, components_of, settling_calls}
 use Rattle.recover_open.specs.declared.beginning.Begun.{Begun}
-use Rattle.recover_open.specs.Opening.{BeginsIn, HasBegun, IsReady, SparesImages, StandsEmpty, weight_of_tree}
+use Rattle.recover_open.specs.Opening.{BeginsIn, IsReady, StandsEmpty, TellsSettled, weight_of_tree}
 use Rattle.recover_open.proofs.TreeLemmas.{found_reads, spares_fault, why_fault}
 
 pub may_settle : (runs : RunsState) (log : LogState) (d : DiskState) → HasBegun runs log → ((honest : Bool) (file : List ℕ) → AreRunning honest file runs)
     → (IsTrue d.tells_bytes → length d.bytes ≡ file_length runs.sizes) → MaySettle runs log d
-may_settle runs log d begun running long = record {
-  running = running d.is_honest d.bytes;
-  long = long;
-  pass = begun.pass;
-  roles = begun.roles;
-  sizes = begun.sizes;
-  lanes = begun.lanes;
-  lanes_are = begun.lanes_are;
-  log_of = begun.log_of;
-  mark = begun.mark;
-  full = begun.full;
-  deep = begun.deep;
-  reserved_a = begun.reserved_a;
-  reserved_b = begun.reserved_b;
-}
+may_settle runs log d begun running long = record { running = running d.is_honest d.bytes; long = long; begun = begun }
 
 -- the slots of a file are its own
 same_slots : (file : List ℕ) → AreSameSlots file file
@@ -77,17 +64,7 @@ none_at_start entries none = nil_from_length entries (omega (arith, none, lane_e
 
 -- what was begun with weighs what the tree in the file does
 begun_weighs : (runs : RunsState) (log : LogState) (image : Tree) (file : List ℕ) → BeginsIn runs log image file → components_of runs.catalogue + weight_of_tables log ≡ weight_of_tree image
-begun_weighs runs log image file begins =
-    let here = begins.are_of.holds in
-    omega (
-      arith,
-      ap components_of begins.are_of.catalogue,
-      here.c1.weight_is,
-      here.c1x.weight_is,
-      here.c2.weight_is,
-      ap entries_weight begins.log_of.a,
-      ap entries_weight begins.log_of.b,
-    )
+begun_weighs runs log image file h1 = grind (arith, common_steps, nat_tests)
 
 stands_empty : (runs runs' : RunsState) (log log' : LogState) (image : Tree) (old new : DiskState) → IsTrue old.is_honest → BeginsIn runs log image old.bytes
     → ShowsMap runs log (map_of_tree image) old → SettlesOn runs runs' log log' old new → IsSettled runs' log' → StandsEmpty runs' log' image new
@@ -116,26 +93,19 @@ keeps_reading {end} {calls} {old} {new} sizes pairs run honest only reads = reco
   reads = subst (ReadsAsMap sizes pairs) (sym (only_reads_same run honest)) reads;
 }
 
--- calls, by the disk's clock, alone and with others behind them
-pub first_few : (old : ℕ) {new : ℕ} (few more : ℕ) → new ≤ old + few → new ≤ old + (few + more)
-first_few old few more calls = omega (arith, calls)
-
-pub both_few : (old : ℕ) {mid new : ℕ} (few more : ℕ) → mid ≤ old + few → new ≤ mid + more → new ≤ old + (few + more)
-both_few old few more first second = omega (arith, first, second)
-
 -- What a reading filled the filters and fences from was begun with, and then settled.
-pub record IsSettledBehind (found : Found) (result : Result Begun Unreadable) (runs : RunsState) (log : LogState) (calls : ℕ) (old mid new : DiskState) : Type 0 where
+pub record IsSettledBehind (found : Found) (result : Result Begun Unreadable) (runs : RunsState) (log : LogState) (old mid new : DiskState) : Type 0 where
   pub timed : IsTimed mid
-  pub reads : OnlyReads (file_length found.geometry) calls old mid
+  pub reads : OnlyReads (file_length found.geometry) (3 * page_count found.geometry) old mid
   pub calm : mid.faults ≡ old.faults
   pub sizes : runs.sizes ≡ found.geometry
   pub begins : IsTrue old.is_honest → (holds : HoldsFound found old.bytes) → BeginsIn runs log holds.tree old.bytes
-  pub leaves : LeavesMaps runs log mid new
+  pub leaves : LeavesMaps (settling_calls runs.sizes) runs log mid new
   pub on : IfOk result (λ ready. SettlesOn runs ready.runs log ready.log mid new)
   pub settled : IfOk result (λ ready. IsSettled ready.runs ready.log × (ready.runs.catalogue.version ≤ runs.catalogue.version + 5))
   pub why : (pairs : List (Key × Value)) → IsTrue mid.is_honest → ShowsMap runs log pairs mid → IfErr result (λ why. why ≡ Fault)
 
-module _ {found : Found} {result : Result Begun Unreadable} {runs : RunsState} {log : LogState} {calls : ℕ} {old mid new : DiskState} (is : IsSettledBehind found result runs log calls old mid new) where
+module _ {found : Found} {result : Result Begun Unreadable} {runs : RunsState} {log : LogState} {old mid new : DiskState} (is : IsSettledBehind found result runs log old mid new) where
   still : IsTrue old.is_honest → IsTrue mid.is_honest
   still honest = subst IsTrue (sym is.reads.effect.goes_on.is_honest) honest
 
@@ -146,40 +116,30 @@ module _ {found : Found} {result : Result Begun Unreadable} {runs : RunsState} {
   shows honest only holds =
       shows_begun runs log holds.tree mid (λ c left. only c (is.reads.same.same.images honest c left) ∙ sym (only_reads_same is.reads honest)) (begins_still honest holds)
 
-  pub settled_keeps : IsTrue old.is_honest → Only old.bytes old.images → (holds : HoldsFound found old.bytes) → KeepsMap found.geometry (map_of_tree holds.tree) old new
-  settled_keeps honest only holds =
+  stands_by : (image : Tree) (r : Result Begun Unreadable) → IsTrue old.is_honest → BeginsIn runs log image mid.bytes → ShowsMap runs log (map_of_tree image) mid
+      → IfOk r (λ ready. SettlesOn runs ready.runs log ready.log mid new) → IfOk r (λ ready. IsSettled ready.runs ready.log × (ready.runs.catalogue.version ≤ runs.catalogue.version + 5))
+      → IfOk r (λ begun. StandsEmpty begun.runs begun.log image new)
+  stands_by image (Ok ready) honest begins shows on settled = stands_empty runs ready.runs log ready.log image mid new (still honest) begins shows on settled.0
+  stands_by image (Err why) honest begins shows on settled = tt
+
+  pub settled_tells : IsTrue old.is_honest → Only old.bytes old.images → (holds : HoldsFound found old.bytes) → TellsSettled found.geometry holds.tree result old new
+  settled_tells honest only holds =
       let pairs = map_of_tree holds.tree in
+      let shown = shows honest only holds in
       let first = keeps_reading found.geometry pairs is.reads honest only (found_reads found old.bytes holds) in
-      let second = subst (λ (s : Sizes). KeepsMap s pairs mid new) is.sizes (is.leaves.keeps pairs (still honest) (shows honest only holds)) in
-      record { each = leaves_only_run first.each second.each; reads = second.reads }
-
-  pub settled_stands : IsTrue old.is_honest → Only old.bytes old.images → (holds : HoldsFound found old.bytes) → IfOk result (λ begun. StandsEmpty begun.runs begun.log holds.tree new)
-  settled_stands honest only holds = by result is.on is.settled
-    where
-      by : (r : Result Begun Unreadable) → IfOk r (λ ready. SettlesOn runs ready.runs log ready.log mid new)
-          → IfOk r (λ ready. IsSettled ready.runs ready.log × (ready.runs.catalogue.version ≤ runs.catalogue.version + 5)) → IfOk r (λ begun. StandsEmpty begun.runs begun.log holds.tree new)
-      by (Ok ready) on settled = stands_empty runs ready.runs log ready.log holds.tree mid new (still honest) (begins_still honest holds) (shows honest only holds) on settled.0
-      by (Err why) on settled = tt
-
-  pub settled_why : IsTrue old.is_honest → Only old.bytes old.images → HoldsFound found old.bytes → IfErr result (λ why. IsWhy why old.bytes)
-  settled_why honest only holds = why_fault result old.bytes (is.why (map_of_tree holds.tree) (still honest) (shows honest only holds))
-
-  pub settled_spares : IsTrue old.is_honest → Only old.bytes old.images → HoldsFound found old.bytes → IfErr result (λ why. SparesImages why old new)
-  settled_spares honest only holds = spares_fault old new result (is.why (map_of_tree holds.tree) (still honest) (shows honest only holds))
+      let second = subst (λ (s : Sizes). KeepsMap s pairs mid new) is.sizes (is.leaves.keeps pairs (still honest) shown) in
+      let faults = is.why pairs (still honest) shown in
+      record {
+        keeps = record { each = leaves_only_run first.each second.each; reads = second.reads };
+        stands = stands_by holds.tree result honest (begins_still honest holds) shown is.on is.settled;
+        why = why_fault result old.bytes faults;
+        spares = spares_fault old new result faults;
+      }
 
   pub settled_ready : runs.catalogue ≡ found.catalogue → IfOk result (λ begun. IsReady found.geometry found.catalogue.version begun.runs begun.log new)
-  settled_ready same = by result is.on is.settled
-    where
-      by : (r : Result Begun Unreadable) → IfOk r (λ ready. SettlesOn runs ready.runs log ready.log mid new)
-          → IfOk r (λ ready. IsSettled ready.runs ready.log × (ready.runs.catalogue.version ≤ runs.catalogue.version + 5))
-          → IfOk r (λ begun. IsReady found.geometry found.catalogue.version begun.runs begun.log new)
-      by (Ok ready) on settled = record {
-        may = on.may;
-        settled = settled.0;
-        sizes_are = on.sizes ∙ is.sizes;
-        commits = omega (arith, settled.1, ap (λ (k : Catalog). k.version) same);
-      }
-      by (Err why) on settled = tt
+  settled_ready h1 = grind (arith, common_steps, nat_tests)
 
-  pub settled_effect : Affects anywhere (file_length found.geometry) (calls + is.leaves.calls) old new
-  settled_effect = affects_more {most = calls} is.timed is.calm (reads_anywhere is.reads) is.leaves.effect (λ i here. here) (omega (arith, ap file_length is.sizes)) (omega arith)
+  pub settled_effect : Affects anywhere (file_length found.geometry) (3 * page_count found.geometry + settling_calls found.geometry) old new
+  settled_effect =
+      affects_more {most = 3 * page_count found.geometry} is.timed is.calm (reads_anywhere is.reads) is.leaves.effect (λ i here. here) (omega (arith, ap file_length is.sizes))
+      (omega (arith, ap settling_calls is.sizes))

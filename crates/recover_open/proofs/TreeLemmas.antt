@@ -1,6 +1,8 @@
 -- A reading, and settling what was read.
+use Rattle.std.proofs.lemmas.Bool.Decides.{nat_tests}
+use Rattle.std.proofs.lemmas.Grind.{common_steps}
 use Rattle.std.specs.Prelude.{◌≡◌, ℕ, ◌+◌, ◌*◌, ◌≤◌, IsTrue, List, length, max, Result, Ok, Err, IfOk, IfErr}
-use Rattle.std.proofs.Common.{◌∙◌, refl, sym, subst, inl, inr, arith, ap}
+use Rattle.std.proofs.Common.{refl, sym, subst, inl, inr, arith, ap}
 use Rattle.blsm_model.specs.Geometry.{file_length, page_count}
 use Rattle.blsm_model.specs.Sizes.{IsGeometry, Sizes}
 use Rattle.catalog_swap.specs.declared.catalog.Catalog.{Catalog}
@@ -10,8 +12,7 @@ use Rattle.disk_trait.specs.Disk.{DiskState, TellsFaultsBy}
 use Rattle.disk_trait.specs.Effects.{Affects}
 use Rattle.disk_trait.proofs.EffectLemmas.{affects_more, affects_wider}
 use Rattle.disk_trait.specs.Moments.{IsTimed, LeavesOnly, LeavesOnlyOnceSynced, SyncsLater}
-use Rattle.disk_trait.proofs.MomentLemmas.{leaves_only_kept, leaves_only_run, leaves_only_weaken, once_synced_more, once_synced_weaken}
-use Rattle.refusal.specs.Count.{HasRisen}
+use Rattle.disk_trait.proofs.MomentLemmas.{leaves_only_run, leaves_only_weaken, once_synced_more, once_synced_weaken}
 use Rattle.tree_file.specs.Tree.{Tree, FitsSizes, HoldsTree, ReadsAsMap, map_of_tree}
 use Rattle.tree_reading.specs.declared.found.Found.{Found}
 use Rattle.tree_reading.specs.declared.found.Unreadable.{Unreadable}
@@ -38,13 +39,11 @@ found_reads found file holds = record { tree = holds.tree; holds = holds.holds; 
 
 pub ready_as : (result : Result Begun Unreadable) (d : DiskState) (sizes : Sizes) (version : ℕ) → version ≤ most_version → IfOk result (λ begun. IsReady sizes version begun.runs begun.log d)
     → IfOk result (λ begun. (v : ℕ) × (v ≤ most_version) × IsReady begun.runs.sizes v begun.runs begun.log d)
-ready_as (Ok begun) d sizes version few ready = (version, few, record { may = ready.may; settled = ready.settled; sizes_are = refl; commits = ready.commits })
-ready_as (Err why) d sizes version few ready = tt
+ready_as result d sizes version h1 h2 = grind (arith, common_steps, nat_tests)
 
 pub long_as : (result : Result Begun Unreadable) (sizes : Sizes) (version : ℕ) (old new : DiskState) → HasLengthOf sizes old → IfOk result (λ begun. IsReady sizes version begun.runs begun.log new)
     → IfOk result (λ begun. HasLengthOf begun.runs.sizes old)
-long_as (Ok begun) sizes version old new long ready = subst (λ (s : Sizes). HasLengthOf s old) (sym ready.sizes_are) long
-long_as (Err why) sizes version old new long ready = tt
+long_as result sizes version old new h1 h2 = grind (arith, common_steps, nat_tests)
 
 pub stands_as : (result : Result Begun Unreadable) (found : Found) (version : ℕ) (file : List ℕ) (d : DiskState) → (holds : HoldsFound found file) → found.catalogue.version ≤ most_version
     → IfOk result (λ begun. IsReady found.geometry version begun.runs begun.log d) → IfOk result (λ begun. StandsEmpty begun.runs begun.log holds.tree d)
@@ -59,8 +58,7 @@ stands_as (Ok begun) found version file d holds few ready stands = record {
 stands_as (Err why) found version file d holds few ready stands = tt
 
 pub why_fault : (result : Result Begun Unreadable) (file : List ℕ) → IfErr result (λ why. why ≡ Fault) → IfErr result (λ why. IsWhy why file)
-why_fault (Ok begun) file is = tt
-why_fault (Err why) file is = subst (λ (w : Unreadable). IsWhy w file) (sym is) tt
+why_fault result file h1 = grind (arith, common_steps, nat_tests)
 
 -- ---- what stays
 
@@ -82,18 +80,15 @@ keeps_settled {old} {mid} {new} sizes pairs timed timed' first syncs second = re
 
 -- a run that wrote nothing wrote nothing, whatever it answers
 pub spares_all : {old new : DiskState} (result : Result Begun Unreadable) → LeavesOnly old new old.images → IfErr result (λ why. SparesImages why old new)
-spares_all (Ok begun) kept = tt
-spares_all (Err why) kept = λ calm. kept
+spares_all result h1 = grind (arith, common_steps, nat_tests)
 
 pub spares_on : {old mid : DiskState} (new : DiskState) (result : Result Begun Unreadable) → IsTimed mid → LeavesOnly old mid old.images → IfErr result (λ why. SparesImages why mid new)
     → IfErr result (λ why. SparesImages why old new)
-spares_on new (Ok begun) timed kept spares = tt
-spares_on new (Err why) timed kept spares = λ calm. leaves_only_kept timed kept (spares calm)
+spares_on new result h1 h2 h3 = grind (arith, common_steps, nat_tests)
 
 -- what answers nothing but a fault spares the images otherwise
 pub spares_fault : (old new : DiskState) (result : Result Begun Unreadable) → IfErr result (λ why. why ≡ Fault) → IfErr result (λ why. SparesImages why old new)
-spares_fault old new (Ok begun) is = tt
-spares_fault old new (Err why) is = λ calm. absurd (calm is)
+spares_fault old new result h1 = grind (arith, common_steps, nat_tests)
 
 -- what was found reads as the map that the file reads as
 pub keeps_same : {mid new : DiskState} (found : Found) (sizes : Sizes) (pairs : List (Key × Value)) → OneSizes → OneMap → (holds : HoldsFound found mid.bytes) → ReadsAsMap sizes pairs mid.bytes
@@ -115,26 +110,16 @@ stays_on {old} {mid} {new} sizes calls timed calm long geometry few first second
 
 -- a sync and a reading, and then all that is left of an opening
 pub opening_few : (old : ℕ) {mid new : ℕ} (sizes : Sizes) → mid ≤ old + (1 + reading_calls sizes) → new ≤ mid + (3 * page_count sizes + settling_calls sizes) → new ≤ old + most_opening_calls sizes
-opening_few old {mid} {new} sizes first second = both old mid new (1 + reading_calls sizes) (3 * page_count sizes + settling_calls sizes) first second
-  where
-    both : (before between after calls more : ℕ) → between ≤ before + calls → after ≤ between + more → after ≤ before + (calls + more)
-    both before between after calls more first second = omega (arith, first, second)
+opening_few old sizes h1 h2 = grind (arith, common_steps, nat_tests)
 
 pub few_as : (result : Result Begun Unreadable) (sizes : Sizes) (version : ℕ) (old new : DiskState) → CallsFew (most_opening_calls sizes) old new → IfOk result (λ begun. IsReady sizes version begun.runs begun.log new)
     → IfOk result (λ begun. CallsFew (most_opening_calls begun.runs.sizes) old new)
-few_as (Ok begun) sizes version old new few ready = subst (λ (s : Sizes). CallsFew (most_opening_calls s) old new) (sym ready.sizes_are) few
-few_as (Err why) sizes version old new few ready = tt
+few_as result sizes version old new h1 h2 = grind (arith, common_steps, nat_tests)
 
 pub faults_on : {old mid new : DiskState} (result : Result Begun Unreadable) → mid.faults ≡ old.faults → TellsFaultsBy (Err Fault) result mid new → TellsFaultsBy (Err Fault) result old new
-faults_on {old} {mid} {new} result calm faults = record {
-  stands = λ other. faults.stands other ∙ calm;
-  failed = λ same. subst (λ (n : ℕ). HasRisen n new.faults) calm (faults.failed same);
-}
+faults_on result h1 h2 = grind (arith, common_steps, nat_tests)
 
--- a call that answers what another one refused
-pub why_then : (e : Unreadable) (result : Result Begun Unreadable) (file : List ℕ) → result ≡ Err e → IsWhy e file → IfErr result (λ why. IsWhy why file)
-why_then e result file is why = subst (λ (r : Result Begun Unreadable). IfErr r (λ why. IsWhy why file)) (sym is) why
-
+-- a call that refuses as another one did
 pub told_then : {T : Type 0} (e : Unreadable) (result : Result Begun Unreadable) (inner : Result T Unreadable) (old new : DiskState) → inner ≡ Err e → result ≡ Err e
     → TellsFaultsBy (Err Fault) inner old new → TellsFaultsBy (Err Fault) result old new
 told_then e result inner old new was is told = record { stands = λ other. told.stands (λ same. other (cc)); failed = λ fault. told.failed (cc) }

@@ -1,34 +1,33 @@
 -- What opening a store finds, and what it leaves.
-use Rattle.std.specs.Prelude.{◌≡◌, ◌≢◌, ◌⊎◌, ℕ, ◌+◌, ◌*◌, ◌<◌, ◌≤◌, IsTrue, List, [], Option, None, Some, Result, Ok, Err, length, max}
+use Rattle.std.specs.Prelude.{◌≡◌, ◌≢◌, ◌⊎◌, ℕ, ◌+◌, ◌*◌, ◌≤◌, IsTrue, List, [], Option, None, Some, Result, Ok, Err, IfOk, IfErr, length, max}
 use Rattle.disk_trait.specs.Disk.{DiskState}
 use Rattle.disk_trait.specs.Effects.{Affects}
 use Rattle.disk_trait.specs.Moments.{LeavesOnly, LeavesOnlyOnceSynced, IsOldOr}
 use Rattle.blsm_model.specs.Sizes.{IsGeometry, Sizes}
-use Rattle.blsm_model.specs.Geometry.{c1_mark, capacity, file_length, high_mark, page_count}
-use Rattle.blsm_model.specs.Lanes.{AreRoles}
+use Rattle.blsm_model.specs.Geometry.{file_length, page_count}
 use Rattle.blsm_model.specs.Book.{Book}
 use Rattle.blsm_model.specs.declared.room.Room.{Room}
 use Rattle.blsm_model.specs.declared.key.Key.{Key}
 use Rattle.blsm_model.specs.declared.row.Value.{Value}
 use Rattle.store_file.specs.Layout.{superblock_length}
 use Rattle.tree_file.specs.Tree.{Tree, FitsSizes, HoldsTree, ReadsAsMap, components_weight, map_of_tree}
-use Rattle.tree_log.specs.Log.{LogState, IsLogOf, weight_of_tables}
+use Rattle.tree_log.specs.Log.{LogState, IsLogOf}
 use Rattle.tree_runs.specs.Runs.{RunsState}
 use Rattle.tree_runs.specs.Holding.{AreOf, StandOver}
 use Rattle.page_file.specs.Component.{entries_of}
 use Rattle.pacing.specs.Pace.{opened as pace_opened}
 use Rattle.tree_machine.specs.Machine.{opened}
 use Rattle.core_moves.specs.Held.{charge_in}
-use Rattle.core_moves.specs.declared.held.Held.{Held}
 use Rattle.core_lists.specs.Shown.{lanes_weight}
 use Rattle.core_lists.specs.Standing.{catalogue_of}
 use Rattle.tree_core.specs.Core.{CoreState}
 use Rattle.tree_core.specs.Holds.{StandsWhole}
 use Rattle.tree_reading.specs.Damage.{most_version}
-use Rattle.tree_reading.specs.Reading.{reading_calls}
+use Rattle.tree_reading.specs.Reading.{IsWhy, reading_calls}
 use Rattle.tree_reading.specs.declared.found.Unreadable.{Unreadable}
+use Rattle.recover_open.specs.declared.beginning.Begun.{Begun}
 use Rattle.recover_open.specs.declared.opening.NotOpened.{NotOpened}
-use Rattle.tree_settling.specs.Settling.{CallsFew, IsDeepLight, IsSettled, MaySettle, anywhere, components_of, settling_calls}
+use Rattle.tree_settling.specs.Settling.{CallsFew, IsSettled, KeepsMap, MaySettle, anywhere, components_of, settling_calls}
 
 -- Each image of each moment is one from before or reads as this map, and since the first sync each reads so. So the disk does.
 pub record KeepsMapOf (sizes : Sizes) (pairs : List (Key × Value)) (old new : DiskState) : Type 0 where
@@ -62,21 +61,7 @@ pub record HasOpenedOn (runs : RunsState) (log : LogState) (file : List ℕ) (d 
   pub taken : image.catalogue.version ≤ most_version
   pub stands : StandsEmpty runs log image d
 
--- Components and a log that were begun with, on any disk: all that settling wants of them but what the disk says.
-pub record HasBegun (runs : RunsState) (log : LogState) : Type 0 where
-  pub pass : runs.pass ≡ None
-  pub roles : AreRoles runs.catalogue.lanes
-  pub sizes : log.lanes.sizes ≡ runs.sizes
-  pub lanes : Tree
-  pub lanes_are : lanes.catalogue ≡ runs.catalogue
-  pub log_of : IsLogOf lanes log
-  pub mark : runs.catalogue.c1.weight < c1_mark runs.sizes
-  pub full : components_of runs.catalogue + weight_of_tables log ≤ capacity runs.sizes
-  pub deep : IsDeepLight runs
-  pub reserved_a : high_mark runs.sizes ≤ log.a.reserved
-  pub reserved_b : high_mark runs.sizes ≤ log.b.reserved
-
--- In this file they are of this tree, which fits.
+-- In this file components and log are of this tree, which fits.
 pub record BeginsIn (runs : RunsState) (log : LogState) (tree : Tree) (file : List ℕ) : Type 0 where
   pub are_of : AreOf runs tree log.a.entries file
   pub log_of : IsLogOf tree log
@@ -114,6 +99,13 @@ pub record StaysInside (old new : DiskState) : Type 0 where
 -- A refusal without a fault wrote nothing: each image of each moment is one from before.
 abbrev pub SparesImages : Unreadable → DiskState → DiskState → Type 0
 SparesImages why old new = why ≢ Unreadable.Fault → LeavesOnly old new old.images
+
+-- What settling tells of this tree of the file, where a crash leaves nothing but what the disk reads as.
+pub record TellsSettled (sizes : Sizes) (image : Tree) (result : Result Begun Unreadable) (old new : DiskState) : Type 0 where
+  pub keeps : KeepsMap sizes (map_of_tree image) old new
+  pub stands : IfOk result (λ begun. StandsEmpty begun.runs begun.log image new)
+  pub why : IfErr result (λ why. IsWhy why old.bytes)
+  pub spares : IfErr result (λ why. SparesImages why old new)
 
 -- ---- the core
 

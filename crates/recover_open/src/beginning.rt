@@ -5,12 +5,11 @@ ghost use Rattle.disk_trait.specs.Effects.{Affects};
 ghost use Rattle.blsm_model.specs.Geometry.{file_length, page_count};
 ghost use Rattle.blsm_model.specs.declared.key.Key.{Key};
 ghost use Rattle.blsm_model.specs.declared.row.Value.{Value};
-ghost use Rattle.tree_file.specs.Tree.{map_of_tree};
-ghost use Rattle.tree_reading.specs.Reading.{HoldsFound, IsFound, IsWhy};
+ghost use Rattle.tree_reading.specs.Reading.{HoldsFound, IsFound};
 ghost use Rattle.tree_runs.specs.Runs.{AreGuides, AreRunning, first_tags};
 ghost use Rattle.tree_runs.specs.Holding.{AreGuided};
-ghost use Rattle.tree_settling.specs.Settling.{CallsFew, IsSettled, KeepsMap, LeavesMaps, MaySettle, SettlesOn, ShowsMap, anywhere, settling_calls};
-ghost use Rattle.recover_open.specs.Opening.{BeginsIn, HasBegun, IsReady, SparesImages, StandsEmpty};
+ghost use Rattle.tree_settling.specs.Settling.{HasBegun, IsSettled, LeavesMaps, MaySettle, SettlesOn, ShowsMap, anywhere, settling_calls};
+ghost use Rattle.recover_open.specs.Opening.{BeginsIn, IsReady, TellsSettled};
 
 use crate::filters::guides_of;
 use disk_trait::Disk;
@@ -58,12 +57,11 @@ fn begin(found: Found, room: MergeRoom, guides: GuideRoom) -> Begun
 fn settle_begun<D: Disk>(disk: &mut D, begun: Begun) -> Result<Begun, Unreadable>
     requires may { MaySettle begun.runs begun.log (D.state disk.old) }
     requires version { begun.runs.catalogue.version + 5 < 2 ^ 64 }
-    ensures leaves { LeavesMaps begun.runs begun.log (D.state disk.old) (D.state disk.new) }
+    ensures leaves { LeavesMaps (settling_calls begun.runs.sizes) begun.runs begun.log (D.state disk.old) (D.state disk.new) }
     ensures on { IfOk result (λ ready. SettlesOn begun.runs ready.runs begun.log ready.log (D.state disk.old) (D.state disk.new)) }
     ensures settled { IfOk result (λ ready. IsSettled ready.runs ready.log × (ready.runs.catalogue.version ≤ begun.runs.catalogue.version + 5)) }
     ensures why { (pairs : List (Key × Value)) → IsTrue (D.state disk.old).is_honest → ShowsMap begun.runs begun.log pairs (D.state disk.old)
         → IfErr result (λ why. why ≡ Unreadable.Fault) }
-    ensures calls { CallsFew (settling_calls begun.runs.sizes) (D.state disk.old) (D.state disk.new) }
     ensures faults { TellsFaultsBy (Err Unreadable.Fault) result (D.state disk.old) (D.state disk.new) }
 {
     let Begun { mut runs, mut log } = begun;
@@ -84,16 +82,9 @@ pub(crate) fn settle_found<D: Disk>(
     requires found { (honest : Bool) × (file : List ℕ) × IsFound found honest file }
     requires length { IsTrue (D.state disk.old).tells_bytes → length (D.state disk.old).bytes ≡ file_length found.geometry }
     ensures ready { IfOk result (λ begun. IsReady found.geometry found.catalogue.version begun.runs begun.log (D.state disk.new)) }
-    ensures keeps { IsTrue (D.state disk.old).is_honest → Only (D.state disk.old).bytes (D.state disk.old).images → (holds : HoldsFound found (D.state disk.old).bytes)
-        → KeepsMap found.geometry (map_of_tree holds.tree) (D.state disk.old) (D.state disk.new) }
-    ensures stands { IsTrue (D.state disk.old).is_honest → Only (D.state disk.old).bytes (D.state disk.old).images → (holds : HoldsFound found (D.state disk.old).bytes)
-        → IfOk result (λ begun. StandsEmpty begun.runs begun.log holds.tree (D.state disk.new)) }
-    ensures why { IsTrue (D.state disk.old).is_honest → Only (D.state disk.old).bytes (D.state disk.old).images → HoldsFound found (D.state disk.old).bytes
-        → IfErr result (λ why. IsWhy why (D.state disk.old).bytes) }
-    ensures spares { IsTrue (D.state disk.old).is_honest → Only (D.state disk.old).bytes (D.state disk.old).images → HoldsFound found (D.state disk.old).bytes
-        → IfErr result (λ why. SparesImages why (D.state disk.old) (D.state disk.new)) }
-    ensures effect { (calls : ℕ) × Affects anywhere (file_length found.geometry) calls (D.state disk.old) (D.state disk.new) }
-    ensures calls { CallsFew (3 * page_count found.geometry + settling_calls found.geometry) (D.state disk.old) (D.state disk.new) }
+    ensures tells { IsTrue (D.state disk.old).is_honest → Only (D.state disk.old).bytes (D.state disk.old).images → (holds : HoldsFound found (D.state disk.old).bytes)
+        → TellsSettled found.geometry holds.tree result (D.state disk.old) (D.state disk.new) }
+    ensures effect { Affects anywhere (file_length found.geometry) (3 * page_count found.geometry + settling_calls found.geometry) (D.state disk.old) (D.state disk.new) }
     ensures faults { TellsFaultsBy (Err Unreadable.Fault) result (D.state disk.old) (D.state disk.new) }
 {
     let guides = guides_of(alloc, disk, &found)?;

@@ -7,7 +7,6 @@ ghost use Rattle.tree_file.specs.Tree.{Tree, HoldsTree};
 ghost use Rattle.tree_reading.specs.Reading.{IsFound, IsWhy};
 ghost use Rattle.tree_runs.specs.Runs.{AreGuides, first_tags};
 ghost use Rattle.tree_runs.specs.Holding.{AreGuided};
-ghost use Rattle.tree_settling.specs.Settling.{CallsFew};
 
 use disk_trait::Disk;
 use page_file::Broken;
@@ -32,8 +31,7 @@ pub(crate) fn guides_of<D: Disk>(
         → tree.catalogue ≡ found.now.catalogue → IfOk result (λ guides. AreGuided guides first_tags tree) }
     ensures why { (tree : Tree) → IsTrue (D.state disk.old).is_honest → HoldsTree found.now.geometry tree (D.state disk.old).bytes
         → tree.catalogue ≡ found.now.catalogue → IfErr result (λ why. IsWhy why (D.state disk.old).bytes) }
-    ensures reads { (calls : ℕ) × OnlyReads (file_length found.now.geometry) calls (D.state disk.old) (D.state disk.new) }
-    ensures calls { CallsFew (3 * page_count found.now.geometry) (D.state disk.old) (D.state disk.new) }
+    ensures reads { OnlyReads (file_length found.now.geometry) (3 * page_count found.now.geometry) (D.state disk.old) (D.state disk.new) }
     ensures faults { TellsFaultsBy (Err Unreadable.Fault) result (D.state disk.old) (D.state disk.new) }
 {
     let Ok(mut guides) = GuideRoom::reserve(alloc, &found.geometry) else {

@@ -2,7 +2,7 @@
 ghost use Rattle.std.specs.Prelude.{◌≡◌, ◌≢◌, ◌+◌, ◌<◌, [], ℕ, length, Ok, Err, IsTrue, OnOk};
 ghost use Rattle.disk_trait.specs.Disk.{TellsFaultsBy};
 ghost use Rattle.disk_trait.specs.Effects.{Affects};
-ghost use Rattle.disk_trait.specs.Moments.{HasSynced, IsUnwritten};
+ghost use Rattle.disk_trait.specs.Moments.{IsUnwritten};
 ghost use Rattle.disk_trait.specs.Reads.{OnlyReads};
 ghost use Rattle.disk_trait.specs.Region.{span};
 ghost use Rattle.blsm_model.specs.Geometry.{file_length};

@@ -1,10 +1,11 @@
 -- A deep merge that is gone on with to its end and swapped in.
 use Rattle.std.proofs.lemmas.Grind.{common_steps}
 use Rattle.std.proofs.lemmas.Bool.Decides.{nat_tests}
-use Rattle.std.proofs.Common.{◌≡◌, ◌∙◌, ℕ, ◌+◌, ◌≤◌, Bool, List, Option, refl, ap, sym, subst, arith}
+use Rattle.std.proofs.Common.{◌≡◌, ◌∙◌, ℕ, ◌+◌, ◌*◌, ◌≤◌, Bool, List, Option, refl, ap, sym, subst, arith}
 use Rattle.std.specs.Prelude.{IsTrue}
 use Rattle.disk_trait.specs.Disk.{DiskState}
 use Rattle.disk_trait.specs.Effects.{Affects}
+use Rattle.disk_trait.proofs.EffectLemmas.{affects_counted}
 use Rattle.disk_trait.specs.Moments.{IsTimed, LeavesOnly}
 use Rattle.blsm_model.specs.Sizes.{Sizes}
 use Rattle.blsm_model.specs.Geometry.{c1_mark, capacity, file_length, high_mark}
@@ -20,10 +21,10 @@ use Rattle.tree_file.specs.Places.{HoldsEither}
 use Rattle.tree_log.specs.Log.{LogState, IsLogOf, weight_of_tables}
 use Rattle.tree_runs.specs.Runs.{RunsState, AreRunning, left_for_deep, made_by_deep}
 use Rattle.tree_runs.specs.Holding.{IsDeepSwapped, LeavesSwapped, StandOver, SwapsDeep, with_deep_run}
-use Rattle.tree_settling.specs.Settling.{MergesGoOn, IsDeepLight, LeavesMaps, MaySettle, ShowsMap, anywhere, components_of}
+use Rattle.tree_settling.specs.Settling.{CallsFew, merge_calls, taking_calls, MergesGoOn, IsDeepLight, LeavesMaps, MaySettle, ShowsMap, anywhere, components_of}
 use Rattle.tree_settling.proofs.NextLemmas.{Follows, deep_follows}
 use Rattle.tree_settling.proofs.StepLemmas.{honest_still, kept_swapped, stays_long}
-use Rattle.tree_settling.proofs.TakenLemmas.{well_then}
+use Rattle.tree_settling.proofs.TakenLemmas.{goes_then}
 
 -- what is known of it once the swap has answered
 pub record IsDeepSwap (done : Bool) (a : Contents) (runs mid new : RunsState) (log : LogState) (before d after : DiskState) : Type 0 where
@@ -32,8 +33,8 @@ pub record IsDeepSwap (done : Bool) (a : Contents) (runs mid new : RunsState) (l
   pub goes : MergesGoOn a.entries runs mid before d
   pub pass : mid.pass ≡ runs.pass
   pub lists : (tree : Tree) (table : Entries) → IsTrue d.is_honest → StandOver mid tree table d → (next : Tree) × IsDeepSwapped tree next × LeavesSwapped mid new tree next table done d after
-  pub calls : ℕ
-  pub effect : Affects anywhere (file_length mid.sizes) calls d after
+  pub few : CallsFew (taking_calls runs.sizes) before d
+  pub effect : Affects anywhere (file_length mid.sizes) 9 d after
 
 -- the log of a tree of the same lanes
 log_keeps : (old new : Tree) (log : LogState) → new.catalogue.lanes ≡ old.catalogue.lanes → new.lane_a ≡ old.lane_a → new.lane_b ≡ old.lane_b → IsLogOf old log → IsLogOf new log
@@ -49,14 +50,14 @@ module _ {done : Bool} {a : Contents} {runs mid new : RunsState} {log : LogState
       → (next : Tree) × IsDeepSwapped shows.tree next × LeavesSwapped mid new shows.tree next log.a.entries done d after × Follows runs.sizes shows.tree next
   next_of pairs honest shows =
       let over = over_mid pairs honest shows in
-      let x = swap.lists shows.tree log.a.entries (honest_still swap.goes.well.effect honest) (subst (λ (t : Contents). StandOver mid shows.tree t.entries d) swap.table over) in (
+      let x = swap.lists shows.tree log.a.entries (honest_still swap.goes.effect honest) (subst (λ (t : Contents). StandOver mid shows.tree t.entries d) swap.table over) in (
         x.0,
         x.1,
         x.2,
         deep_follows runs.sizes shows.tree x.0 d.bytes (subst (λ (s : Sizes). HoldsTree s shows.tree d.bytes) swap.goes.sizes over.are_of.holds) shows.fits x.1,
       )
 
-  pub deep_leaves : LeavesMaps runs log before after
+  pub deep_leaves : LeavesMaps (1 * merge_calls runs.sizes) runs log before after
   deep_leaves = record {
     keeps = λ pairs honest shows.
         let x = next_of pairs honest shows in
@@ -64,8 +65,7 @@ module _ {done : Bool} {a : Contents} {runs mid new : RunsState} {log : LogState
         (swap.goes.leaves shows.tree honest (subst (λ (t : Contents). StandOver runs shows.tree t.entries before) (sym swap.table) shows.over))
         (subst (λ (s : Sizes). LeavesOnly d after (HoldsEither s shows.tree x.0)) swap.goes.sizes x.2.each)
         (subst (λ (s : Sizes). HoldsEither s shows.tree x.0 after.bytes) swap.goes.sizes x.2.either.reads);
-    calls = swap.goes.well.calls + swap.calls;
-    effect = well_then swap.timed (ap file_length swap.goes.sizes) swap.goes.well swap.effect;
+    effect = affects_counted (omega (arith, swap.few, swap.effect.calls)) (goes_then swap.timed swap.goes swap.effect);
   }
 
   pub deep_shows : IsTrue done → SwapsDeep mid new → (pairs : List (Key × Value)) → IsTrue before.is_honest → ShowsMap runs log pairs before → ShowsMap new log pairs after
@@ -82,7 +82,7 @@ module _ {done : Bool} {a : Contents} {runs mid new : RunsState} {log : LogState
         map_is = x.3.map_is ∙ shows.map_is;
       }
 
-  next_catalogue : SwapsDeep mid new → new.catalogue ≡ with_deep_run (made_by_deep mid.deep) runs.catalogue
+  pub next_catalogue : SwapsDeep mid new → new.catalogue ≡ with_deep_run (made_by_deep mid.deep) runs.catalogue
   next_catalogue swaps = swaps.catalogue ∙ ap (with_deep_run (made_by_deep mid.deep)) swap.goes.catalogue
 
   -- its run weighs no more than C1' and C2, whose place it takes
@@ -96,15 +96,17 @@ module _ {done : Bool} {a : Contents} {runs mid new : RunsState} {log : LogState
       record {
         running = running;
         long = stays_long runs.sizes new.sizes sizes may.long (deep_leaves).effect;
-        pass = swaps.pass ∙ swap.pass ∙ may.pass;
-        roles = subst (λ (c : Catalog). AreRoles c.lanes) (sym catalogue) may.roles;
-        sizes = may.sizes ∙ sym sizes;
-        lanes = record may.lanes { catalogue = new.catalogue };
-        lanes_are = refl;
-        log_of = log_keeps may.lanes (record may.lanes { catalogue = new.catalogue }) log (ap (λ (c : Catalog). c.lanes) catalogue ∙ ap (λ (c : Catalog). c.lanes) (sym may.lanes_are)) refl refl may.log_of;
-        mark = omega (arith, ap (λ (c : Catalog). c.c1.weight) catalogue, ap c1_mark sizes, may.mark);
-        full = omega (arith, deep_light may.deep none swaps, ap capacity sizes, may.full);
-        deep = omega (arith, ap (λ (o : Option DeepState). (made_by_deep o).weight + left_for_deep o) swaps.deep);
-        reserved_a = omega (arith, ap high_mark sizes, may.reserved_a);
-        reserved_b = omega (arith, ap high_mark sizes, may.reserved_b);
+        begun = record {
+          pass = swaps.pass ∙ swap.pass ∙ may.begun.pass;
+          roles = subst (λ (c : Catalog). AreRoles c.lanes) (sym catalogue) may.begun.roles;
+          sizes = may.begun.sizes ∙ sym sizes;
+          lanes = record may.begun.lanes { catalogue = new.catalogue };
+          lanes_are = refl;
+          log_of = log_keeps may.begun.lanes (record may.begun.lanes { catalogue = new.catalogue }) log (ap (λ (c : Catalog). c.lanes) catalogue ∙ ap (λ (c : Catalog). c.lanes) (sym may.begun.lanes_are)) refl refl may.begun.log_of;
+          mark = omega (arith, ap (λ (c : Catalog). c.c1.weight) catalogue, ap c1_mark sizes, may.begun.mark);
+          full = omega (arith, deep_light may.begun.deep none swaps, ap capacity sizes, may.begun.full);
+          deep = omega (arith, ap (λ (o : Option DeepState). (made_by_deep o).weight + left_for_deep o) swaps.deep);
+          reserved_a = omega (arith, ap high_mark sizes, may.begun.reserved_a);
+          reserved_b = omega (arith, ap high_mark sizes, may.begun.reserved_b);
+        };
       }

@@ -48,12 +48,12 @@ ends_at_none end lane is none = is ∙ ap (λ (l : Entries). length (blocks l)) 
 pub is_settled : {T E : Type 0} (result : Result T E) (old new : RunsState) (log log' : LogState) (d e : DiskState) → log.b.entries ≡ [] → OnOk result (SettlesOn old new log log' d e)
     → OnOk result (new.deep ≡ None) → OnOk result (log.b.entries ≡ [] → log'.a.entries ≡ []) → OnOk result (log'.b.entries ≡ []) → OnOk result (IsSettled new log')
 is_settled (Ok value) old new log log' d e none on rests a b = record {
-  pass = on.may.pass;
+  pass = on.may.begun.pass;
   deep = rests;
   a = a none;
   b = b;
-  end_a = ends_at_none (end_of_a log') on.may.lanes.lane_a on.may.log_of.end_a (empty_lane log'.a.entries on.may.lanes.lane_a on.may.log_of.a (a none));
-  end_b = ends_at_none (end_of_b log') on.may.lanes.lane_b on.may.log_of.end_b (empty_lane log'.b.entries on.may.lanes.lane_b on.may.log_of.b b);
+  end_a = ends_at_none (end_of_a log') on.may.begun.lanes.lane_a on.may.begun.log_of.end_a (empty_lane log'.a.entries on.may.begun.lanes.lane_a on.may.begun.log_of.a (a none));
+  end_b = ends_at_none (end_of_b log') on.may.begun.lanes.lane_b on.may.begun.log_of.end_b (empty_lane log'.b.entries on.may.begun.lanes.lane_b on.may.begun.log_of.b b);
   lanes = λ tree is. (empty_lane log'.a.entries tree.lane_a is.a (a none), empty_lane log'.b.entries tree.lane_b is.b b);
 }
 is_settled (Err error) old new log log' d e none on rests a b = tt

@@ -1,11 +1,12 @@
 -- A pass that takes table A and C1 and is swapped in.
-use Rattle.std.proofs.Common.{◌≡◌, ◌∙◌, ℕ, ◌+◌, ◌≤◌, ◌<◌, Bool, List, [], ◌∷◌, Option, None, Some, refl, ap, sym, subst, arith}
+use Rattle.std.proofs.Common.{◌≡◌, ◌∙◌, ℕ, ◌+◌, ◌*◌, ◌≤◌, ◌<◌, Bool, List, [], ◌∷◌, Option, None, Some, refl, ap, sym, subst, arith}
 use Rattle.std.proofs.lemmas.Grind.{common_steps}
 use Rattle.std.proofs.lemmas.Bool.Decides.{nat_tests}
 use Rattle.std.specs.Prelude.{IsTrue, is_some, if◌then◌else◌}
 use Rattle.std.proofs.lemmas.Bool.{false≢true, leb-false}
 use Rattle.disk_trait.specs.Disk.{DiskState}
 use Rattle.disk_trait.specs.Effects.{Affects}
+use Rattle.disk_trait.proofs.EffectLemmas.{affects_counted, affects_wider}
 use Rattle.disk_trait.specs.Moments.{IsTimed, LeavesOnly}
 use Rattle.blsm_model.specs.Sizes.{Sizes}
 use Rattle.blsm_model.specs.Geometry.{c1_mark, capacity, file_length, high_mark}
@@ -25,10 +26,10 @@ use Rattle.tree_file.specs.Places.{HoldsEither, StandsOn, TurnsRoles}
 use Rattle.tree_log.specs.Log.{LogState, IsLogOf, turned_log, weight_of_tables}
 use Rattle.tree_runs.specs.Runs.{GuideState, RunsState, AreRunning, Fits, guide_at, left_for_deep, left_for_pass, made_by_deep, made_by_pass, pass_begun}
 use Rattle.tree_runs.specs.Holding.{AreOf, IsDeepOver, IsPassOver, IsPassSwapped, LeavesSwapped, StandOver, SwapsPass, is_full, with_pass_run}
-use Rattle.tree_settling.specs.Settling.{LeavesMaps, MaySettle, MergesGoOn, ShowsMap, anywhere, components_of}
+use Rattle.tree_settling.specs.Settling.{CallsFew, merge_calls, taking_calls, LeavesMaps, MaySettle, MergesGoOn, ShowsMap, anywhere, components_of}
 use Rattle.tree_settling.proofs.NextLemmas.{Follows, pass_follows}
-use Rattle.tree_settling.proofs.StepLemmas.{honest_still, kept_swapped, left_map, stays_long}
-use Rattle.tree_settling.proofs.TakenLemmas.{well_then}
+use Rattle.tree_settling.proofs.StepLemmas.{honest_still, kept_swapped, stays_long}
+use Rattle.tree_settling.proofs.TakenLemmas.{goes_then}
 
 -- ---- a pass that begins
 
@@ -45,7 +46,7 @@ pub begun_fits : (memory : ℕ) (runs begun : RunsState) (log : LogState) (a : C
 begun_fits memory runs begun log a d is table may =
     subst (λ (r : RunsState). Fits r a.entries) (sym is)
     (subst (λ (t : Contents). Fits (pass_begun memory runs) t.entries) (sym table)
-    (record { live = omega (arith, may.full); made = omega (arith, may.full, may.deep, above_light None log.a.entries) }))
+    (record { live = omega (arith, may.begun.full); made = omega (arith, may.begun.full, may.begun.deep, above_light None log.a.entries) }))
 
 -- its run will weigh no more than what it takes
 pub begun_light : (memory : ℕ) (runs begun : RunsState) (a : Entries) → begun ≡ pass_begun memory runs
@@ -96,8 +97,8 @@ pub record IsPassSwap (done : Bool) (memory : ℕ) (a : Contents) (runs begun mi
   pub none : left_for_pass mid.pass a.entries ≡ 0
   pub lists : (tree : Tree) → IsTrue d.is_honest → StandOver mid tree a.entries d
       → (next : Tree) × IsPassSwapped (is_full mid.sizes (made_by_pass mid.pass)) a.entries tree next × ((table : Entries) → LeavesSwapped mid new tree next table done d after)
-  pub calls : ℕ
-  pub effect : Affects anywhere (file_length mid.sizes) calls d after
+  pub few : CallsFew (taking_calls runs.sizes) before d
+  pub effect : Affects anywhere (file_length mid.sizes) 9 d after
 
 module _ {done : Bool} {memory : ℕ} {a : Contents} {runs begun mid new : RunsState} {log : LogState} {before d after : DiskState} (swap : IsPassSwap done memory a runs begun mid new log before d after) where
   pub same_sizes : mid.sizes ≡ runs.sizes
@@ -122,7 +123,7 @@ module _ {done : Bool} {memory : ℕ} {a : Contents} {runs begun mid new : RunsS
       × ((table : Entries) → LeavesSwapped mid new shows.tree next table done d after) × Follows runs.sizes shows.tree next
   next_of pairs honest shows =
       let over = over_mid pairs honest shows in
-      let x = swap.lists shows.tree (honest_still swap.goes.well.effect honest) over in
+      let x = swap.lists shows.tree (honest_still swap.goes.effect honest) over in
       let table : a.entries ≡ replayed shows.tree.lane_a = ap (λ (t : Contents). t.entries) swap.table ∙ shows.log_of.a in
       let swapped = subst (λ (es : Entries). IsPassSwapped (is_full mid.sizes (made_by_pass mid.pass)) es shows.tree x.0) table x.1 in
       let weighs : entries_weight (folded_over (replayed shows.tree.lane_a) (entries_of shows.tree.c1)) ≡ (made_by_pass mid.pass).weight =
@@ -136,7 +137,7 @@ module _ {done : Bool} {memory : ℕ} {a : Contents} {runs begun mid new : RunsS
             swapped,
       )
 
-  pub pass_leaves : LeavesMaps runs log before after
+  pub pass_leaves : LeavesMaps (1 * merge_calls runs.sizes) runs log before after
   pass_leaves = record {
     keeps = λ pairs honest shows.
         let x = next_of pairs honest shows in
@@ -145,10 +146,9 @@ module _ {done : Bool} {memory : ℕ} {a : Contents} {runs begun mid new : RunsS
         (subst (λ (s : Sizes). LeavesOnly before d (HoldsTree s shows.tree)) (ap (λ (r : RunsState). r.sizes) swap.begins) (swap.goes.leaves shows.tree honest (over_begun pairs shows)))
         (subst (λ (s : Sizes). LeavesOnly d after (HoldsEither s shows.tree x.0)) same_sizes left.each)
         (subst (λ (s : Sizes). HoldsEither s shows.tree x.0 after.bytes) same_sizes left.either.reads);
-    calls = swap.goes.well.calls + swap.calls;
     effect =
-        subst (λ (s : Sizes). Affects anywhere (file_length s) (swap.goes.well.calls + swap.calls) before after) (ap (λ (r : RunsState). r.sizes) swap.begins)
-        (well_then swap.timed (ap file_length swap.goes.sizes) swap.goes.well swap.effect);
+        affects_wider {most = 1 * merge_calls runs.sizes} (λ i here. here) (omega (arith, ap (λ (r : RunsState). file_length r.sizes) swap.begins)) (omega arith)
+        (affects_counted (omega (arith, swap.few, swap.effect.calls)) (goes_then swap.timed swap.goes swap.effect));
   }
 
   -- the log turns with the tree
@@ -170,7 +170,7 @@ module _ {done : Bool} {memory : ℕ} {a : Contents} {runs begun mid new : RunsS
         map_is = x.3.map_is ∙ shows.map_is;
       }
 
-  next_catalogue : SwapsPass mid new → new.catalogue ≡ with_pass_run mid.sizes (made_by_pass mid.pass) runs.catalogue
+  pub next_catalogue : SwapsPass mid new → new.catalogue ≡ with_pass_run mid.sizes (made_by_pass mid.pass) runs.catalogue
   next_catalogue swaps = swaps.catalogue ∙ ap (with_pass_run mid.sizes (made_by_pass mid.pass)) same_catalogue
 
   -- its run weighs no more than table A and C1, which give place to it
@@ -183,49 +183,37 @@ module _ {done : Bool} {memory : ℕ} {a : Contents} {runs begun mid new : RunsS
   pass_may log' may swaps turns turned running =
       let sizes : new.sizes ≡ runs.sizes = swaps.sizes ∙ same_sizes in
       let catalogue : new.catalogue ≡ with_pass_run mid.sizes (made_by_pass mid.pass) runs.catalogue = next_catalogue swaps in
-      let next : Tree = record may.lanes { catalogue = new.catalogue; lane_a = may.lanes.lane_b; lane_b = [] } in
+      let next : Tree = record may.begun.lanes { catalogue = new.catalogue; lane_a = may.begun.lanes.lane_b; lane_b = [] } in
       record {
         running = running;
         long = stays_long runs.sizes new.sizes sizes may.long (pass_leaves).effect;
-        pass = swaps.pass;
-        roles = subst (λ (k : Catalog). AreRoles k.lanes) (sym catalogue) (roles_turned runs.catalogue.lanes may.roles);
-        sizes = ap (λ (l : LogState). l.lanes.sizes) turned ∙ may.sizes ∙ sym sizes;
-        lanes = next;
-        lanes_are = refl;
-        log_of =
-            turns may.lanes next
-            (ap (λ (k : Catalog). k.lanes) catalogue ∙ ap (λ (k : Catalog). b_of k.lanes ∷ spare_of k.lanes ∷ a_of k.lanes ∷ []) (sym may.lanes_are))
-            refl refl may.log_of;
-        mark =
-            omega (
-              arith,
-              ap (λ (k : Catalog). k.c1.weight) catalogue,
-              next_below mid.sizes (made_by_pass mid.pass) runs.catalogue (omega (arith, may.mark, ap c1_mark same_sizes)),
-              ap c1_mark same_sizes,
-              ap c1_mark sizes,
-            );
-        full = omega (arith, pass_light log' swaps turned, ap capacity sizes, may.full);
-        deep =
-            omega (
-              arith,
-              ap (λ (o : Option DeepState). (made_by_deep o).weight + left_for_deep o) swaps.deep,
-              next_deep mid.sizes mid.tags.deep (made_by_pass mid.pass) mid.catalogue mid.deep rests_still,
-              ap (λ (k : Catalog). k.c1x.weight + k.c2.weight) swaps.catalogue,
-            );
-        reserved_a = omega (arith, ap high_mark sizes, ap (λ (l : LogState). l.a.reserved) turned, may.reserved_b);
-        reserved_b = omega (arith, ap high_mark sizes, ap (λ (l : LogState). l.b.reserved) turned, may.reserved_a);
+        begun = record {
+          pass = swaps.pass;
+          roles = subst (λ (k : Catalog). AreRoles k.lanes) (sym catalogue) (roles_turned runs.catalogue.lanes may.begun.roles);
+          sizes = ap (λ (l : LogState). l.lanes.sizes) turned ∙ may.begun.sizes ∙ sym sizes;
+          lanes = next;
+          lanes_are = refl;
+          log_of =
+              turns may.begun.lanes next
+              (ap (λ (k : Catalog). k.lanes) catalogue ∙ ap (λ (k : Catalog). b_of k.lanes ∷ spare_of k.lanes ∷ a_of k.lanes ∷ []) (sym may.begun.lanes_are))
+              refl refl may.begun.log_of;
+          mark =
+              omega (
+                arith,
+                ap (λ (k : Catalog). k.c1.weight) catalogue,
+                next_below mid.sizes (made_by_pass mid.pass) runs.catalogue (omega (arith, may.begun.mark, ap c1_mark same_sizes)),
+                ap c1_mark same_sizes,
+                ap c1_mark sizes,
+              );
+          full = omega (arith, pass_light log' swaps turned, ap capacity sizes, may.begun.full);
+          deep =
+              omega (
+                arith,
+                ap (λ (o : Option DeepState). (made_by_deep o).weight + left_for_deep o) swaps.deep,
+                next_deep mid.sizes mid.tags.deep (made_by_pass mid.pass) mid.catalogue mid.deep rests_still,
+                ap (λ (k : Catalog). k.c1x.weight + k.c2.weight) swaps.catalogue,
+              );
+          reserved_a = omega (arith, ap high_mark sizes, ap (λ (l : LogState). l.a.reserved) turned, may.begun.reserved_b);
+          reserved_b = omega (arith, ap high_mark sizes, ap (λ (l : LogState). l.b.reserved) turned, may.begun.reserved_a);
+        };
       }
-
--- ---- where it failed before the swap
-
-pub begun_left : {runs begun : RunsState} {log : LogState} {a : Contents} {old new : DiskState} (memory : ℕ) → begun ≡ pass_begun memory runs
-    → ((tree : Tree) (a : Entries) (file : List ℕ) → AreOf runs tree a file → AreOf begun tree a file) → a ≡ log.a
-    → ((tree : Tree) → IsTrue old.is_honest → StandOver begun tree a.entries old → StandsOn begun.sizes tree new × LeavesOnly old new (HoldsTree begun.sizes tree))
-    → (calls : ℕ) × Affects anywhere (file_length begun.sizes) calls old new → LeavesMaps runs log old new
-begun_left {runs} {begun} {a = a} {old = old} {new = new} memory begins lists table keeps effect =
-    left_map table
-    (λ tree honest over. subst (λ (s : Sizes). StandsOn s tree new × LeavesOnly old new (HoldsTree s tree)) same (keeps tree honest (begun_over memory runs begun tree a.entries old begins lists over)))
-    (effect.0, subst (λ (s : Sizes). Affects anywhere (file_length s) effect.0 old new) same effect.1)
-  where
-    same : begun.sizes ≡ runs.sizes
-    same = ap (λ (r : RunsState). r.sizes) begins

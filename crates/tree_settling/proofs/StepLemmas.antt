@@ -1,8 +1,9 @@
 -- Steps of settling, one after the other.
-use Rattle.std.proofs.Common.{◌≡◌, ◌∙◌, ℕ, ◌+◌, ◌*◌, ◌≤◌, List, Err, refl, ap, sym, subst, arith, ⊎_elim}
+use Rattle.std.proofs.Common.{◌≡◌, ◌∙◌, ℕ, ◌+◌, ◌*◌, ◌≤◌, List, Ok, Err, refl, ap, sym, subst, arith, ⊎_elim}
 use Rattle.std.proofs.lemmas.Grind.{common_steps}
 use Rattle.std.proofs.lemmas.Bool.Decides.{nat_tests}
-use Rattle.std.specs.Prelude.{IsTrue, length}
+use Rattle.std.specs.Prelude.{IsErrAnd, IsTrue, length}
+use Rattle.std.proofs.lemmas.Result.{on_ok_weaker}
 use Rattle.std.specs.declared.result.Result.{Result}
 use Rattle.disk_trait.specs.Disk.{DiskState, TellsFaultsBy}
 use Rattle.disk_trait.specs.Effects.{Affects}
@@ -23,8 +24,9 @@ use Rattle.tree_file.specs.Places.{StandsOn, HoldsEither}
 use Rattle.tree_log.specs.Log.{LogState}
 use Rattle.tree_runs.specs.Runs.{RunsState}
 use Rattle.tree_runs.specs.Holding.{StandOver}
-use Rattle.tree_settling.specs.Settling.{CallsFew, EndsWell, KeepsMap, LeavesMaps, MaySettle, SettlesOn, anywhere}
+use Rattle.tree_settling.specs.Settling.{KeepsMap, LeavesMaps, MaySettle, Settles, SettlesOn, ShowsMap, TakesAll, anywhere, merge_calls, taking_calls}
 use Rattle.tree_settling.proofs.NextLemmas.{Follows, reads_next}
+use Rattle.tree_settling.proofs.ToldLemmas.{ends_from, fault_then, is_err, on_failed, told_then, well_told}
 
 pub affects_anywhere : {region : Region} {end most : ℕ} {old new : DiskState} → Affects region end most old new → Affects anywhere end most old new
 affects_anywhere {region} {end} {most} {old} {new} effect = affects_wider (λ i here. tt) (omega arith) (omega arith) effect
@@ -36,6 +38,9 @@ honest_still effect honest = subst IsTrue (sym effect.goes_on.is_honest) honest
 pub stays_long : {region : Region} {most : ℕ} {old new : DiskState} (before after : Sizes) → after ≡ before → (IsTrue old.tells_bytes → length old.bytes ≡ file_length before)
     → Affects region (file_length before) most old new → IsTrue new.tells_bytes → length new.bytes ≡ file_length after
 stays_long {region} {most} {old} {new} before after same long effect tells = grind (arith, common_steps, nat_tests)
+
+times_sum : (n m x : ℕ) → (n + m) * x ≡ n * x + m * x
+times_sum n m x = omega arith
 
 -- ---- maps
 
@@ -62,91 +67,104 @@ kept_swapped sizes tree next pairs old mid new fits is follows first second read
     either : (c : List ℕ) → HoldsEither sizes tree next c → ReadsAsMap sizes pairs c
     either c holds = ⊎_elim (reads_shown sizes tree pairs c fits is) (reads_next sizes tree next pairs c follows is) holds
 
--- where a merge that went on failed the tree stands still
-pub left_map : {runs : RunsState} {log : LogState} {a : Contents} {old new : DiskState} → a ≡ log.a
-    → ((tree : Tree) → IsTrue old.is_honest → StandOver runs tree a.entries old → StandsOn runs.sizes tree new × LeavesOnly old new (HoldsTree runs.sizes tree))
-    → (calls : ℕ) × Affects anywhere (file_length runs.sizes) calls old new → LeavesMaps runs log old new
-left_map {runs} {old = old} {new = new} is keeps effect = record {
-  keeps = λ pairs honest shows.
-      let now = keeps shows.tree honest (subst (λ (t : Contents). StandOver runs shows.tree t.entries old) (sym is) shows.over) in
-      kept_standing runs.sizes shows.tree pairs old new shows.fits shows.map_is now.1 now.0.reads;
-  calls = effect.0;
-  effect = effect.1;
-}
-
--- ---- how many calls
-
-pub no_calls : (d : DiskState) (most : ℕ) → CallsFew most d d
-no_calls d most = omega arith
-
--- by the clocks of the disk
-pub calls_and : (old : ℕ) {new : ℕ} (few more : ℕ) → new ≤ old + few → new ≤ old + (few + more)
-calls_and old few more calls = omega (arith, calls)
-
-pub calls_then : (old : ℕ) {mid new : ℕ} (few more : ℕ) → mid ≤ old + few → new ≤ mid + more → new ≤ old + (few + more)
-calls_then old few more first second = omega (arith, first, second)
-
--- those of one merge are within those of two and of five
-pub calls_of_two : (old : ℕ) {new : ℕ} (one : ℕ) → new ≤ old + one → new ≤ old + 2 * one
-calls_of_two old one calls = omega (arith, calls)
-
-pub calls_of_five : (old : ℕ) {new : ℕ} (one : ℕ) → new ≤ old + one → new ≤ old + 5 * one
-calls_of_five old one calls = omega (arith, calls)
-
-pub calls_twice : (old : ℕ) {mid new : ℕ} (one : ℕ) → mid ≤ old + one → new ≤ mid + one → new ≤ old + 2 * one
-calls_twice old one first second = omega (arith, first, second)
-
--- those of a deep merge, and of a pass with the one that follows
-pub calls_thrice : (old : ℕ) {mid new : ℕ} (one : ℕ) → mid ≤ old + one → new ≤ mid + 2 * one → new ≤ old + 5 * one
-calls_thrice old one first second = omega (arith, first, second)
-
-pub calls_all : (old : ℕ) {mid mid' new : ℕ} (one : ℕ) → mid ≤ old + one → mid' ≤ mid + 2 * one → new ≤ mid' + 2 * one → new ≤ old + 5 * one
-calls_all old one first second third = omega (arith, first, second, third)
-
 -- ---- one after the other
 
-pub settles_start : {runs : RunsState} {log : LogState} {d : DiskState} → IsTimed d → MaySettle runs log d → SettlesOn runs runs log log d d
-settles_start {runs} {d = d} timed may = record {
-  leaves = record {
-    keeps = λ pairs honest shows.
-        kept_standing runs.sizes shows.tree pairs d d shows.fits shows.map_is (leaves_only_start d (HoldsTree runs.sizes shows.tree) timed (λ c left. shows.over.stands.each c left)) shows.over.stands.reads;
-    calls = 0;
-    effect = affects_start d timed;
-  };
-  shows = λ pairs honest shows. shows;
-  may = may;
-  light = omega arith;
-  sizes = refl;
-  calm = refl;
-}
-
-pub leaves_run : {old mid : RunsState} {log log' : LogState} {before d after : DiskState} → IsTimed d → SettlesOn old mid log log' before d → LeavesMaps mid log' d after → LeavesMaps old log before after
-leaves_run {d = d} {after = after} timed step rest = record {
+pub leaves_run : (n m : ℕ) {old mid : RunsState} {log log' : LogState} {before d after : DiskState} → IsTimed d → LeavesMaps (n * merge_calls old.sizes) old log before d → SettlesOn old mid log log' before d
+    → LeavesMaps (m * merge_calls mid.sizes) mid log' d after → LeavesMaps ((n + m) * merge_calls old.sizes) old log before after
+leaves_run n m {old} {d = d} {after = after} timed first step rest = record {
   keeps = λ pairs honest shows.
-      let first = step.leaves.keeps pairs honest shows in
-      let second = subst (λ (s : Sizes). KeepsMap s pairs d after) step.sizes (rest.keeps pairs (honest_still step.leaves.effect honest) (step.shows pairs honest shows)) in
-      record { each = leaves_only_run first.each second.each; reads = second.reads };
-  calls = step.leaves.calls + rest.calls;
-  effect = affects_more timed step.calm step.leaves.effect rest.effect (λ i here. here) (omega (arith, ap file_length step.sizes)) (omega arith);
+      let one = first.keeps pairs honest shows in
+      let two = subst (λ (s : Sizes). KeepsMap s pairs d after) step.sizes (rest.keeps pairs (honest_still first.effect honest) (step.shows pairs honest shows)) in
+      record { each = leaves_only_run one.each two.each; reads = two.reads };
+  effect = affects_more timed step.calm first.effect rest.effect (λ i here. here) (omega (arith, ap file_length step.sizes))
+      (omega (arith, times_sum n m (merge_calls old.sizes), ap (λ (s : Sizes). m * merge_calls s) step.sizes));
 }
 
-pub settles_run : {old mid new : RunsState} {log log' log'' : LogState} {before d after : DiskState} → IsTimed d → SettlesOn old mid log log' before d → SettlesOn mid new log' log'' d after
-    → SettlesOn old new log log'' before after
-settles_run timed step rest = record {
-  leaves = leaves_run timed step rest.leaves;
-  shows = λ pairs honest shows. rest.shows pairs (honest_still step.leaves.effect honest) (step.shows pairs honest shows);
+pub settles_run : {region : Region} {end most : ℕ} {old mid new : RunsState} {log log' log'' : LogState} {before d after : DiskState} → Affects region end most before d → SettlesOn old mid log log' before d
+    → SettlesOn mid new log' log'' d after → SettlesOn old new log log'' before after
+settles_run effect step rest = record {
+  shows = λ pairs honest shows. rest.shows pairs (honest_still effect honest) (step.shows pairs honest shows);
   may = rest.may;
   light = omega (arith, step.light, rest.light);
   sizes = rest.sizes ∙ step.sizes;
   calm = rest.calm ∙ step.calm;
 }
 
-pub ends_run : {old mid : RunsState} {log log' : LogState} {before d : DiskState} (result : Result Unit Broken) → SettlesOn old mid log log' before d → EndsWell result mid log' d
-    → EndsWell result old log before
-ends_run result step ends = λ pairs honest shows other. ends pairs (honest_still step.leaves.effect honest) (step.shows pairs honest shows) other
-
 pub told_run : {result : Result Unit Broken} {old mid new : DiskState} → mid.faults ≡ old.faults → TellsFaultsBy (Err Fault) result mid new → TellsFaultsBy (Err Fault) result old new
 told_run {new = new} calm told = record {
   stands = λ other. told.stands other ∙ calm;
   failed = λ fault. subst (λ (n : ℕ). HasRisen n new.faults) calm (told.failed fault);
+}
+
+-- ---- what a step tells
+
+-- it is done
+pub step_done : {most : ℕ} {runs runs' : RunsState} {log log' : LogState} {old new : DiskState} → LeavesMaps (most * merge_calls runs.sizes) runs log old new → SettlesOn runs runs' log log' old new
+    → runs'.catalogue.version ≤ runs.catalogue.version + most → Settles most runs runs' log log' (Ok tt) old new
+step_done {old = old} {new} leaves on version = record { leaves = leaves; on = on; ends = λ pairs honest shows other. refl; version = version; faults = well_told old new on.calm }
+
+-- nothing was due
+pub step_none : {most : ℕ} {runs : RunsState} {log : LogState} {d : DiskState} → IsTimed d → MaySettle runs log d → Settles most runs runs log log (Ok tt) d d
+step_none {runs = runs} {d = d} timed may =
+    step_done
+    (record {
+      keeps = λ pairs honest shows.
+          let stands = shows.over.stands in
+          kept_standing runs.sizes shows.tree pairs d d shows.fits shows.map_is (leaves_only_start d (HoldsTree runs.sizes shows.tree) timed (λ c left. stands.each c left)) stands.reads;
+      effect = affects_start d timed;
+    })
+    (record { shows = λ pairs honest shows. shows; may = may; light = omega arith; sizes = refl; calm = refl }) (omega arith)
+
+-- a fault of the disk ended it, behind calls that went well
+pub step_faulted : {most : ℕ} {runs runs' : RunsState} {log log' : LogState} {result : Result Unit Broken} {old new : DiskState} (mid : DiskState) → mid.faults ≡ old.faults
+    → IsErrAnd result (λ (x : Broken). x ≡ Fault) → HasRisen mid.faults new.faults → LeavesMaps (most * merge_calls runs.sizes) runs log old new → Settles most runs runs' log log' result old new
+step_faulted mid calm failed rises leaves = record {
+  leaves = leaves;
+  on = on_failed _ (is_err failed);
+  ends = λ pairs honest shows other. absurd (other (is_err failed));
+  version = on_failed _ (is_err failed);
+  faults = fault_then mid calm failed rises;
+}
+
+-- its merge failed, which began over the trees of these components
+pub step_untaken : {a : Contents} {runs begun mid runs' : RunsState} {log log' : LogState} {e : Broken} {result inner : Result Unit Broken} {old new : DiskState} → inner ≡ Err e
+    → IsErrAnd result (λ (x : Broken). x ≡ e) → a ≡ log.a → begun.sizes ≡ runs.sizes → ((tree : Tree) → StandOver runs tree a.entries old → StandOver begun tree a.entries old)
+    → TakesAll a.entries begun mid inner old new → Settles 1 runs runs' log log' result old new
+step_untaken {a} {runs} {begun} {log = log} {old = old} {new} was failed table same begins takes = record {
+  leaves = record {
+    keeps = λ pairs honest shows.
+        let now = takes.keeps shows.tree honest (over pairs shows) in
+        kept_standing runs.sizes shows.tree pairs old new shows.fits shows.map_is (subst (λ (s : Sizes). LeavesOnly old new (HoldsTree s shows.tree)) same now.1)
+        (subst (λ (s : Sizes). StandsOn s shows.tree new) same now.0).reads;
+    effect = affects_wider (λ i here. here) (omega (arith, ap file_length same)) (omega (arith, ap taking_calls same)) takes.effect;
+  };
+  on = on_failed _ (is_err failed);
+  ends = λ pairs honest shows. ends_from was failed (takes.ends shows.tree honest (over pairs shows));
+  version = on_failed _ (is_err failed);
+  faults = told_then refl was failed takes.faults;
+}
+  where
+    over : (pairs : List (Key × Value)) (shows : ShowsMap runs log pairs old) → StandOver begun shows.tree a.entries old
+    over pairs shows = begins shows.tree (subst (λ (t : Contents). StandOver runs shows.tree t.entries old) (sym table) shows.over)
+
+-- what is handed on of one that failed
+pub step_failed : {n : ℕ} (more : ℕ) {runs runs' : RunsState} {log log' : LogState} {e : Broken} {result inner : Result Unit Broken} {old new : DiskState} → inner ≡ Err e
+    → IsErrAnd result (λ (x : Broken). x ≡ e) → Settles n runs runs' log log' inner old new → Settles (n + more) runs runs' log log' result old new
+step_failed {n} more {runs} was failed step = record {
+  leaves = record { keeps = step.leaves.keeps; effect = affects_wider (λ i here. here) (omega arith) (omega (arith, times_sum n more (merge_calls runs.sizes))) step.leaves.effect };
+  on = on_failed _ (is_err failed);
+  ends = λ pairs honest shows. ends_from was failed (step.ends pairs honest shows);
+  version = on_failed _ (is_err failed);
+  faults = told_then refl was failed step.faults;
+}
+
+-- and of one behind another that was done
+pub step_then : {n m : ℕ} {old mid new : RunsState} {log log' log'' : LogState} {result : Result Unit Broken} {before d after : DiskState} → IsTimed d → Settles n old mid log log' (Ok tt) before d
+    → Settles m mid new log' log'' result d after → Settles (n + m) old new log log'' result before after
+step_then {n} {m} {old} {result = result} timed one two = record {
+  leaves = leaves_run n m timed one.leaves one.on two.leaves;
+  on = on_ok_weaker result (settles_run one.leaves.effect one.on) two.on;
+  ends = λ pairs honest shows. two.ends pairs (honest_still one.leaves.effect honest) (one.on.shows pairs honest shows);
+  version = on_ok_weaker result (λ more. omega (arith, more, one.version)) two.version;
+  faults = told_run one.on.calm two.faults;
 }

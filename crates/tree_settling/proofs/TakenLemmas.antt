@@ -1,11 +1,12 @@
 -- Merges that go on by quanta.
-use Rattle.std.proofs.Common.{◌≡◌, ◌≢◌, ◌⊎◌, ⊎_elim, ◌∙◌, ℕ, ◌+◌, ◌*◌, ◌/◌, ◌≤◌, ◌<◌, inl, inr, Option, refl, ap, sym, subst, arith}
+use Rattle.std.proofs.Common.{◌≡◌, ◌≢◌, ◌⊎◌, ⊎_elim, ◌∙◌, ℕ, ◌+◌, ◌*◌, ◌/◌, ◌≤◌, ◌<◌, inl, inr, List, Ok, Err, Option, refl, ap, subst, arith}
 use Rattle.std.proofs.lemmas.Grind.{common_steps}
 use Rattle.std.proofs.lemmas.Bool.Decides.{nat_tests}
-use Rattle.std.specs.Prelude.{IsTrue}
+use Rattle.std.specs.Prelude.{IsErrAnd, IsTrue}
+use Rattle.std.specs.declared.result.Result.{Result}
 use Rattle.disk_trait.specs.Disk.{DiskState}
 use Rattle.disk_trait.specs.Effects.{Affects}
-use Rattle.disk_trait.proofs.EffectLemmas.{affects_start, affects_more}
+use Rattle.disk_trait.proofs.EffectLemmas.{affects_counted, affects_start, affects_more}
 use Rattle.disk_trait.specs.Moments.{IsTimed, LeavesOnly}
 use Rattle.disk_trait.proofs.MomentLemmas.{leaves_only_start, leaves_only_run}
 use Rattle.disk_trait.specs.Region.{Region}
@@ -17,29 +18,11 @@ use Rattle.deep_merge.specs.Merge.{DeepState}
 use Rattle.tree_file.specs.Tree.{Tree, HoldsTree}
 use Rattle.tree_file.specs.Places.{StandsOn}
 use Rattle.tree_runs.specs.Runs.{RunsState, AreRunning, left_for_pass, left_for_deep, made_by_pass, made_by_deep}
-use Rattle.tree_runs.specs.Holding.{StandOver, PassTakes, DeepTakes}
-use Rattle.tree_settling.specs.Settling.{CallsFew, MergesGoOn, RunsWell, anywhere, due_to_deep, due_to_pass, quantum_calls, taking_calls}
-
--- ---- calls that went well
-
-pub well_start : (end : ℕ) (d : DiskState) → IsTimed d → RunsWell end d d
-well_start end d timed = record { calls = 0; effect = affects_start d timed; calm = refl }
-
-pub well_then : {region : Region} {most end end' : ℕ} {old mid new : DiskState} → IsTimed mid → end' ≡ end → (well : RunsWell end old mid) → Affects region end' most mid new
-    → Affects anywhere end (well.calls + most) old new
-well_then timed same well run = affects_more timed well.calm well.effect run (λ i here. tt) (omega (arith, same)) (omega arith)
-
-pub well_more : {region : Region} {most end end' : ℕ} {old mid new : DiskState} → IsTimed mid → end' ≡ end → RunsWell end old mid → Affects region end' most mid new → new.faults ≡ mid.faults
-    → RunsWell end old new
-well_more {most = most} timed same well run calm = record {
-  calls = well.calls + most;
-  effect = well_then timed same well run;
-  calm = calm ∙ well.calm;
-}
-
--- it is honest still
-pub well_honest : {end : ℕ} {old new : DiskState} → RunsWell end old new → IsTrue old.is_honest → IsTrue new.is_honest
-well_honest well honest = subst IsTrue (sym well.effect.goes_on.is_honest) honest
+use Rattle.page_file.specs.declared.file.Broken.{Broken}
+use Rattle.tree_runs.specs.Holding.{StandOver, PassTakes, DeepTakes, TellsQuantum}
+use Rattle.tree_settling.specs.Settling.{CallsFew, MergesGoOn, TakesAll, anywhere, due_to_deep, due_to_pass, quantum_calls, taking_calls}
+use Rattle.tree_settling.proofs.StepLemmas.{honest_still}
+use Rattle.tree_settling.proofs.ToldLemmas.{ends_then, is_err, ok_is_no_err, on_failed, told_then, well_told}
 
 -- ---- what a quantum takes, by the numbers
 
@@ -104,32 +87,64 @@ begun {runs = runs} {d = d} timed running = record {
   deep = omega arith;
   stands = λ tree honest over. over;
   leaves = λ tree honest over. leaves_only_start d (HoldsTree runs.sizes tree) timed (λ c left. over.stands.each c left);
-  well = well_start (file_length runs.sizes) d timed;
+  calls = 0;
+  effect = affects_start d timed;
+  calm = refl;
 }
+
+-- with calls behind them
+pub goes_then : {region : Region} {most : ℕ} {a : Entries} {old mid : RunsState} {before d after : DiskState} → IsTimed d → (goes : MergesGoOn a old mid before d)
+    → Affects region (file_length mid.sizes) most d after → Affects anywhere (file_length old.sizes) (goes.calls + most) before after
+goes_then timed goes run = affects_more timed goes.calm goes.effect run (λ i here. tt) (omega (arith, ap file_length goes.sizes)) (omega arith)
 
 -- what a call that leaves a tree standing has left of it from the start on
 pub left_standing : {a : Entries} {old mid : RunsState} {before d : DiskState} (after : DiskState) → MergesGoOn a old mid before d
     → ((tree : Tree) → IsTrue d.is_honest → StandOver mid tree a d → StandsOn mid.sizes tree after × LeavesOnly d after (HoldsTree mid.sizes tree))
     → (tree : Tree) → IsTrue before.is_honest → StandOver old tree a before → StandsOn old.sizes tree after × LeavesOnly before after (HoldsTree old.sizes tree)
 left_standing {d = d} after so_far stands tree honest over =
-    let now = stands tree (well_honest so_far.well honest) (so_far.stands tree honest over) in (
+    let now = stands tree (honest_still so_far.effect honest) (so_far.stands tree honest over) in (
       subst (λ (s : Sizes). StandsOn s tree after) so_far.sizes now.0,
       leaves_only_run (so_far.leaves tree honest over) (subst (λ (s : Sizes). LeavesOnly d after (HoldsTree s tree)) so_far.sizes now.1),
     )
 
 -- one quantum more
-pub more : {region : Region} {most : ℕ} {a : Entries} {old mid new : RunsState} {before d after : DiskState} → IsTimed d → MergesGoOn a old mid before d
-    → new.sizes ≡ mid.sizes → new.catalogue ≡ mid.catalogue → due_to_pass new a ≤ due_to_pass mid a → due_to_deep new ≤ due_to_deep mid
-    → ((tree : Tree) → IsTrue d.is_honest → StandOver mid tree a d → StandsOn mid.sizes tree after × LeavesOnly d after (HoldsTree mid.sizes tree))
-    → ((tree : Tree) → IsTrue d.is_honest → StandOver mid tree a d → StandOver new tree a after)
-    → AreRunning after.is_honest after.bytes new → Affects region (file_length mid.sizes) most d after → after.faults ≡ d.faults → MergesGoOn a old new before after
-more {after = after} timed so_far sizes catalogue pass deep stands lists running effect calm = record {
-  running = running;
+pub more : {most n : ℕ} {took : Tree → ℕ → Type 0} {is_damage : ℕ → List ℕ → Type 0} {a : Entries} {old mid new : RunsState} {before d after : DiskState} → IsTimed d → MergesGoOn a old mid before d
+    → TellsQuantum a a most took is_damage mid new (Ok n) d after → new.sizes ≡ mid.sizes → new.catalogue ≡ mid.catalogue → due_to_pass new a ≤ due_to_pass mid a → due_to_deep new ≤ due_to_deep mid
+    → MergesGoOn a old new before after
+more {most} {n} {after = after} timed so_far told sizes catalogue pass deep = record {
+  running = told.running;
   sizes = sizes ∙ so_far.sizes;
   catalogue = catalogue ∙ so_far.catalogue;
   pass = omega (arith, pass, so_far.pass);
   deep = omega (arith, deep, so_far.deep);
-  stands = λ tree honest over. lists tree (well_honest so_far.well honest) (so_far.stands tree honest over);
-  leaves = λ tree honest over. (left_standing after so_far stands tree honest over).1;
-  well = well_more timed (ap file_length so_far.sizes) so_far.well effect calm;
+  stands = λ tree honest over. (told.lists tree (honest_still so_far.effect honest) (so_far.stands tree honest over) (ok_is_no_err n)).2;
+  leaves = λ tree honest over. (left_standing after so_far told.stands tree honest over).1;
+  calls = so_far.calls + most;
+  effect = goes_then timed so_far told.effect;
+  calm = told.faults.stands (ok_is_no_err n) ∙ so_far.calm;
+}
+
+-- all was taken
+pub took_all : {a : Entries} {old mid : RunsState} {before d : DiskState} (first left : ℕ) → MergesGoOn a old mid before d → CallsSoFar old.sizes first left before d → first ≤ capacity old.sizes
+    → TakesAll a old mid (Ok tt) before d
+took_all {old = old} {before = before} {d} first left so_far calls within = record {
+  keeps = λ tree honest over. (subst (λ (s : Sizes). StandsOn s tree d) so_far.sizes (so_far.stands tree honest over).stands, so_far.leaves tree honest over);
+  ends = λ tree honest over other. refl;
+  goes_on = so_far;
+  effect = affects_counted (calls_done old.sizes first left before d calls within) so_far.effect;
+  faults = well_told before d so_far.calm;
+}
+
+-- a quantum failed
+pub took_less : {most : ℕ} {took : Tree → ℕ → Type 0} {is_damage : ℕ → List ℕ → Type 0} {a : Entries} {old mid new : RunsState} {before d after : DiskState} {e : Broken} {inner : Result ℕ Broken}
+    {result : Result Unit Broken} (first left : ℕ) → IsTimed d → MergesGoOn a old mid before d → CallsSoFar old.sizes first left before d → left ≢ 0 → first ≤ capacity old.sizes → QuantumFits old.sizes
+    → TellsQuantum a a most took is_damage mid new inner d after → most ≤ mid.sizes.quantum / 4 + 3 → inner ≡ Err e → IsErrAnd result (λ (x : Broken). x ≡ e) → TakesAll a old new result before after
+took_less {most} {old = old} {mid} {before = before} {d} {after} first left timed so_far calls some within fits told few was failed = record {
+  keeps = left_standing after so_far told.stands;
+  ends = λ tree honest over. ends_then was failed (λ other. let got = told.lists tree (honest_still so_far.effect honest) (so_far.stands tree honest over) other in (got.0, got.1));
+  goes_on = on_failed _ (is_err failed);
+  effect =
+      affects_counted (calls_failed old.sizes first left most before d after calls some told.effect.calls (quantum_few old.sizes mid.sizes most so_far.sizes fits few).1 within)
+      (goes_then timed so_far told.effect);
+  faults = told_then so_far.calm was failed told.faults;
 }

@@ -1,6 +1,6 @@
 -- What a call hands on of one that failed behind calls that went well.
 use Rattle.std.proofs.Common.{◌≡◌, ◌≢◌, ◌∙◌, ℕ, Bool, true, false, Ok, Err, ap, sym, subst}
-use Rattle.std.specs.Prelude.{◌↔◌, IsErrAnd, IsTrue}
+use Rattle.std.specs.Prelude.{◌↔◌, IsErrAnd, IsTrue, OnOk}
 use Rattle.std.proofs.lemmas.Result.{err_from_is_err_and}
 use Rattle.std.specs.declared.result.Result.{Result}
 use Rattle.disk_trait.specs.Disk.{DiskState, TellsFaultsBy}
@@ -8,8 +8,11 @@ use Rattle.page_file.specs.declared.file.Broken.{Broken}
 use Rattle.page_file.specs.declared.file.Broken.TheVariants.{Fault}
 use Rattle.refusal.specs.Count.{HasRisen}
 
-is_err : {e : Broken} {result : Result Unit Broken} → IsErrAnd result (λ (x : Broken). x ≡ e) → result ≡ Err e
+pub is_err : {e : Broken} {result : Result Unit Broken} → IsErrAnd result (λ (x : Broken). x ≡ e) → result ≡ Err e
 is_err {e} {result} failed = let p = err_from_is_err_and result failed in p.1 ∙ ap (λ (x : Broken). Err x) p.2
+
+pub on_failed : {e : Broken} {result : Result Unit Broken} (P : Type 0) → result ≡ Err e → OnOk result P
+on_failed P is = subst (λ (r : Result Unit Broken). OnOk r P) (sym is) tt
 
 pub told_then : {T : Type 0} {e : Broken} {result : Result Unit Broken} {inner : Result T Broken} {old mid new : DiskState} → mid.faults ≡ old.faults → inner ≡ Err e → IsErrAnd result (λ (x : Broken). x ≡ e)
     → TellsFaultsBy (Err Fault) inner mid new → TellsFaultsBy (Err Fault) result old new

@@ -1,6 +1,6 @@
 -- What settling a tree takes, keeps and reaches. Weights are in bytes.
-use Rattle.std.specs.Prelude.{◌≡◌, ◌≢◌, ⊤, ℕ, ◌+◌, ◌*◌, ◌/◌, ◌<◌, ◌≤◌, [], List, None, Result, Ok, Err, IsTrue, length}
-use Rattle.disk_trait.specs.Disk.{DiskState}
+use Rattle.std.specs.Prelude.{◌≡◌, ◌≢◌, ⊤, ℕ, ◌+◌, ◌*◌, ◌/◌, ◌<◌, ◌≤◌, [], List, None, Result, Ok, Err, IsTrue, OnOk, length}
+use Rattle.disk_trait.specs.Disk.{DiskState, TellsFaultsBy}
 use Rattle.disk_trait.specs.Effects.{Affects}
 use Rattle.disk_trait.specs.Moments.{LeavesOnly}
 use Rattle.disk_trait.specs.Region.{Region}
@@ -14,6 +14,7 @@ use Rattle.page_file.specs.declared.file.Broken.{Broken}
 use Rattle.page_file.specs.declared.file.Broken.TheVariants.{Fault}
 use Rattle.record_delta.specs.Entries.{Entries}
 use Rattle.tree_file.specs.Tree.{Tree, HoldsTree, FitsSizes, ReadsAsMap, map_of_tree}
+use Rattle.tree_file.specs.Places.{StandsOn}
 use Rattle.tree_log.specs.Log.{LogState, IsLogOf, end_of_a, end_of_b, weight_of_tables}
 use Rattle.tree_runs.specs.Runs.{RunsState, AreRunning, left_for_pass, left_for_deep, made_by_pass, made_by_deep}
 use Rattle.tree_runs.specs.Holding.{StandOver}
@@ -25,12 +26,6 @@ components_of catalogue = catalogue.c1.weight + catalogue.c1x.weight + catalogue
 -- nothing is said of where a run of calls writes
 abbrev pub anywhere : Region
 anywhere = λ i. ⊤
-
--- some calls, none of which failed
-pub record RunsWell (end : ℕ) (old new : DiskState) : Type 0 where
-  pub calls : ℕ
-  pub effect : Affects anywhere end calls old new
-  pub calm : new.faults ≡ old.faults
 
 -- ---- how many calls
 
@@ -73,7 +68,17 @@ pub record MergesGoOn (a : Entries) (old new : RunsState) (before after : DiskSt
   pub deep : due_to_deep new ≤ due_to_deep old
   pub stands : (tree : Tree) → IsTrue before.is_honest → StandOver old tree a before → StandOver new tree a after
   pub leaves : (tree : Tree) → IsTrue before.is_honest → StandOver old tree a before → LeavesOnly before after (HoldsTree old.sizes tree)
-  pub well : RunsWell (file_length old.sizes) before after
+  pub calls : ℕ
+  pub effect : Affects anywhere (file_length old.sizes) calls before after
+  pub calm : after.faults ≡ before.faults
+
+-- What going on with a merge tells until it has taken all: over each tree that stood, which stands whatever is answered.
+pub record TakesAll (a : Entries) (runs runs' : RunsState) (result : Result Unit Broken) (old new : DiskState) : Type 0 where
+  pub keeps : (tree : Tree) → IsTrue old.is_honest → StandOver runs tree a old → StandsOn runs.sizes tree new × LeavesOnly old new (HoldsTree runs.sizes tree)
+  pub ends : (tree : Tree) → IsTrue old.is_honest → StandOver runs tree a old → result ≢ Err Fault → result ≡ Ok tt
+  pub goes_on : OnOk result (MergesGoOn a runs runs' old new)
+  pub effect : Affects anywhere (file_length runs.sizes) (taking_calls runs.sizes) old new
+  pub faults : TellsFaultsBy (Err Fault) result old new
 
 -- ---- steps of settling
 
@@ -81,11 +86,9 @@ pub record MergesGoOn (a : Entries) (old new : RunsState) (before after : DiskSt
 abbrev pub IsDeepLight : RunsState → Type 0
 IsDeepLight runs = due_to_deep runs ≤ runs.catalogue.c1x.weight + runs.catalogue.c2.weight
 
--- On any disk: a tree that was read, or is being settled; no pass runs. C1 is below its mark, all is within the capacity, and the tables are
--- what some lanes replay to, behind which they end.
-pub record MaySettle (runs : RunsState) (log : LogState) (d : DiskState) : Type 0 where
-  pub running : AreRunning d.is_honest d.bytes runs
-  pub long : IsTrue d.tells_bytes → length d.bytes ≡ file_length runs.sizes
+-- On any disk: components and a log that were read, or are being settled; no pass runs. C1 is below its mark, all is within the capacity, and the
+-- tables are what some lanes replay to, behind which they end.
+pub record HasBegun (runs : RunsState) (log : LogState) : Type 0 where
   pub pass : runs.pass ≡ None
   pub roles : AreRoles runs.catalogue.lanes
   pub sizes : log.lanes.sizes ≡ runs.sizes
@@ -97,6 +100,12 @@ pub record MaySettle (runs : RunsState) (log : LogState) (d : DiskState) : Type 
   pub deep : IsDeepLight runs
   pub reserved_a : high_mark runs.sizes ≤ log.a.reserved
   pub reserved_b : high_mark runs.sizes ≤ log.b.reserved
+
+-- And the components run on this disk, which has their length.
+pub record MaySettle (runs : RunsState) (log : LogState) (d : DiskState) : Type 0 where
+  pub running : AreRunning d.is_honest d.bytes runs
+  pub long : IsTrue d.tells_bytes → length d.bytes ≡ file_length runs.sizes
+  pub begun : HasBegun runs log
 
 -- On an honest disk: it stands on a tree that reads as this map, and components and log are of it.
 pub record ShowsMap (runs : RunsState) (log : LogState) (pairs : List (Key × Value)) (d : DiskState) : Type 0 where
@@ -111,24 +120,27 @@ pub record KeepsMap (sizes : Sizes) (pairs : List (Key × Value)) (old new : Dis
   pub each : LeavesOnly old new (ReadsAsMap sizes pairs)
   pub reads : ReadsAsMap sizes pairs new.bytes
 
--- What a step of settling leaves, whatever it answers: on an honest disk that showed a map each image of each moment reads as it.
-pub record LeavesMaps (runs : RunsState) (log : LogState) (old new : DiskState) : Type 0 where
+-- What so many calls of settling leave, whatever they answer: on an honest disk that showed a map each image of each moment reads as it.
+pub record LeavesMaps (most : ℕ) (runs : RunsState) (log : LogState) (old new : DiskState) : Type 0 where
   pub keeps : (pairs : List (Key × Value)) → IsTrue old.is_honest → ShowsMap runs log pairs old → KeepsMap runs.sizes pairs old new
-  pub calls : ℕ
-  pub effect : Affects anywhere (file_length runs.sizes) calls old new
+  pub effect : Affects anywhere (file_length runs.sizes) most old new
 
 -- And once it is done: the disk shows the map that it showed, and settling may go on. Components and tables together weigh no more than they did.
 pub record SettlesOn (runs runs' : RunsState) (log log' : LogState) (old new : DiskState) : Type 0 where
-  pub leaves : LeavesMaps runs log old new
   pub shows : (pairs : List (Key × Value)) → IsTrue old.is_honest → ShowsMap runs log pairs old → ShowsMap runs' log' pairs new
   pub may : MaySettle runs' log' new
   pub light : components_of runs'.catalogue + weight_of_tables log' ≤ components_of runs.catalogue + weight_of_tables log
   pub sizes : runs'.sizes ≡ runs.sizes
   pub calm : new.faults ≡ old.faults
 
--- On an honest disk that shows a map nothing but a fault of the disk keeps it from being done.
-abbrev pub EndsWell : Result Unit Broken → RunsState → LogState → DiskState → Type 0
-EndsWell result runs log old = (pairs : List (Key × Value)) → IsTrue old.is_honest → ShowsMap runs log pairs old → result ≢ Err Fault → result ≡ Ok tt
+-- What a step of settling tells, which takes so many merges and commits at most: what it leaves, whatever it answers; what it reaches; and that on an
+-- honest disk which shows a map nothing but a fault of the disk keeps it from being done.
+pub record Settles (most : ℕ) (runs runs' : RunsState) (log log' : LogState) (result : Result Unit Broken) (old new : DiskState) : Type 0 where
+  pub leaves : LeavesMaps (most * merge_calls runs.sizes) runs log old new
+  pub on : OnOk result (SettlesOn runs runs' log log' old new)
+  pub ends : (pairs : List (Key × Value)) → IsTrue old.is_honest → ShowsMap runs log pairs old → result ≢ Err Fault → result ≡ Ok tt
+  pub version : OnOk result (runs'.catalogue.version ≤ runs.catalogue.version + most)
+  pub faults : TellsFaultsBy (Err Fault) result old new
 
 -- No merge runs, and neither table has an entry, nor has its lane, whichever tree's the log is.
 pub record IsSettled (runs : RunsState) (log : LogState) : Type 0 where

@@ -1,7 +1,6 @@
 //! The merges of an opening, in their order.
-ghost use Rattle.std.specs.Prelude.{◌≡◌, ◌+◌, ◌*◌, ◌≤◌, ◌<◌, ◌^◌, [], Err, None, IsSome, OnOk};
-ghost use Rattle.disk_trait.specs.Disk.{TellsFaultsBy};
-ghost use Rattle.tree_settling.specs.Settling.{CallsFew, EndsWell, IsSettled, LeavesMaps, MaySettle, SettlesOn, merge_calls, settling_calls};
+ghost use Rattle.std.specs.Prelude.{◌≡◌, ◌+◌, ◌<◌, ◌^◌, [], None, IsSome, OnOk};
+ghost use Rattle.tree_settling.specs.Settling.{IsSettled, MaySettle, Settles};
 
 use crate::taking::{take_deep, take_pass};
 use disk_trait::Disk;
@@ -14,13 +13,8 @@ fn finish_deep<D: Disk>(disk: &mut D, runs: &mut Runs, log: &LoggedTables) -> Re
     requires runs { IsSome runs.old.deep }
     requires may { MaySettle runs.old log.now (D.state disk.old) }
     requires version { runs.old.catalogue.version + 1 < 2 ^ 64 }
-    ensures leaves { LeavesMaps runs.old log.now (D.state disk.old) (D.state disk.new) }
-    ensures on { OnOk result (SettlesOn runs.old runs.new log.now log.now (D.state disk.old) (D.state disk.new)) }
-    ensures ends { EndsWell result runs.old log.now (D.state disk.old) }
+    ensures step { Settles 1 runs.old runs.new log.now log.now result (D.state disk.old) (D.state disk.new) }
     ensures done { OnOk result (runs.new.deep ≡ None) }
-    ensures version { OnOk result (runs.new.catalogue.version ≤ runs.old.catalogue.version + 1) }
-    ensures calls { CallsFew (merge_calls runs.old.sizes) (D.state disk.old) (D.state disk.new) }
-    ensures faults { TellsFaultsBy (Err Broken.Fault) result (D.state disk.old) (D.state disk.new) }
 {
     take_deep(disk, runs, log.a())?;
     runs.swap_deep(disk)?;
@@ -31,13 +25,8 @@ fn finish_deep<D: Disk>(disk: &mut D, runs: &mut Runs, log: &LoggedTables) -> Re
 fn due_deep<D: Disk>(disk: &mut D, runs: &mut Runs, log: &LoggedTables) -> Result<(), Broken>
     requires may { MaySettle runs.old log.now (D.state disk.old) }
     requires version { runs.old.catalogue.version + 1 < 2 ^ 64 }
-    ensures leaves { LeavesMaps runs.old log.now (D.state disk.old) (D.state disk.new) }
-    ensures on { OnOk result (SettlesOn runs.old runs.new log.now log.now (D.state disk.old) (D.state disk.new)) }
-    ensures ends { EndsWell result runs.old log.now (D.state disk.old) }
+    ensures step { Settles 1 runs.old runs.new log.now log.now result (D.state disk.old) (D.state disk.new) }
     ensures done { OnOk result (runs.new.deep ≡ None) }
-    ensures version { OnOk result (runs.new.catalogue.version ≤ runs.old.catalogue.version + 1) }
-    ensures calls { CallsFew (merge_calls runs.old.sizes) (D.state disk.old) (D.state disk.new) }
-    ensures faults { TellsFaultsBy (Err Broken.Fault) result (D.state disk.old) (D.state disk.new) }
 {
     if runs.in_deep() {
         finish_deep(disk, runs, log)
@@ -51,14 +40,9 @@ fn finish_pass<D: Disk>(disk: &mut D, runs: &mut Runs, log: &mut LoggedTables) -
     requires rests { runs.old.deep ≡ None }
     requires may { MaySettle runs.old log.old (D.state disk.old) }
     requires version { runs.old.catalogue.version + 1 < 2 ^ 64 }
-    ensures leaves { LeavesMaps runs.old log.old (D.state disk.old) (D.state disk.new) }
-    ensures on { OnOk result (SettlesOn runs.old runs.new log.old log.new (D.state disk.old) (D.state disk.new)) }
-    ensures ends { EndsWell result runs.old log.old (D.state disk.old) }
+    ensures step { Settles 1 runs.old runs.new log.old log.new result (D.state disk.old) (D.state disk.new) }
     ensures a { OnOk result (log.new.a.entries ≡ log.old.b.entries) }
     ensures b { OnOk result (log.new.b.entries ≡ []) }
-    ensures version { OnOk result (runs.new.catalogue.version ≤ runs.old.catalogue.version + 1) }
-    ensures calls { CallsFew (merge_calls runs.old.sizes) (D.state disk.old) (D.state disk.new) }
-    ensures faults { TellsFaultsBy (Err Broken.Fault) result (D.state disk.old) (D.state disk.new) }
 {
     runs.begin_pass(log.weight_of_a());
     let a = log.a();
@@ -73,15 +57,10 @@ fn due_pass<D: Disk>(disk: &mut D, runs: &mut Runs, log: &mut LoggedTables) -> R
     requires rests { runs.old.deep ≡ None }
     requires may { MaySettle runs.old log.old (D.state disk.old) }
     requires version { runs.old.catalogue.version + 2 < 2 ^ 64 }
-    ensures leaves { LeavesMaps runs.old log.old (D.state disk.old) (D.state disk.new) }
-    ensures on { OnOk result (SettlesOn runs.old runs.new log.old log.new (D.state disk.old) (D.state disk.new)) }
-    ensures ends { EndsWell result runs.old log.old (D.state disk.old) }
+    ensures step { Settles 2 runs.old runs.new log.old log.new result (D.state disk.old) (D.state disk.new) }
     ensures done { OnOk result (runs.new.deep ≡ None) }
     ensures a { OnOk result (log.old.b.entries ≡ [] → log.new.a.entries ≡ []) }
     ensures b { OnOk result (log.new.b.entries ≡ []) }
-    ensures version { OnOk result (runs.new.catalogue.version ≤ runs.old.catalogue.version + 2) }
-    ensures calls { CallsFew (2 * merge_calls runs.old.sizes) (D.state disk.old) (D.state disk.new) }
-    ensures faults { TellsFaultsBy (Err Broken.Fault) result (D.state disk.old) (D.state disk.new) }
 {
     if log.is_empty() {
         return Ok(());
@@ -100,15 +79,10 @@ pub fn settle<D: Disk>(disk: &mut D, runs: &mut Runs, log: &mut LoggedTables) ->
     requires version { runs.old.catalogue.version + 5 < 2 ^ 64 }
 
     // On an honest disk that shows a map each image of each moment reads as it, whatever is answered; and it is shown still once all is settled.
-    ensures leaves { LeavesMaps runs.old log.old (D.state disk.old) (D.state disk.new) }
-    ensures on { OnOk result (SettlesOn runs.old runs.new log.old log.new (D.state disk.old) (D.state disk.new)) }
-    ensures ends { EndsWell result runs.old log.old (D.state disk.old) }
+    ensures step { Settles 5 runs.old runs.new log.old log.new result (D.state disk.old) (D.state disk.new) }
 
     // On any disk:
     ensures settled { OnOk result (IsSettled runs.new log.new) }
-    ensures version { OnOk result (runs.new.catalogue.version ≤ runs.old.catalogue.version + 5) }
-    ensures calls { CallsFew (settling_calls runs.old.sizes) (D.state disk.old) (D.state disk.new) }
-    ensures faults { TellsFaultsBy (Err Broken.Fault) result (D.state disk.old) (D.state disk.new) }
 {
     due_deep(disk, runs, log)?;
     due_pass(disk, runs, log)?;

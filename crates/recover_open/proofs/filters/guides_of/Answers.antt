@@ -1,11 +1,19 @@
-use Rattle.std.proofs.Common.{◌*◌, refl}
-use Rattle.blsm_model.specs.Geometry.{page_count}
+use Rattle.std.proofs.Common.{refl}
 use Rattle.disk_trait.proofs.ReadLemmas.{only_reads_start}
-use Rattle.recover_open.proofs.OpeningLemmas.{guides_few, none_few}
+use Rattle.recover_open.proofs.OpeningLemmas.{guides_few}
 use Rattle.recover_open.proofs.filters.guides_of.Goals as goal
 
 pub returns-in_default-clause-reads : goal.returns-in_default-clause-reads
-returns-in_default-clause-reads g c = (0, only_reads_start (g.D.Disk.state c.args.disk.now) (g.met.D.Disk.timed c.args.disk.now))
+returns-in_default-clause-reads g c = only_reads_start (g.D.Disk.state c.args.disk.now) (g.met.D.Disk.timed c.args.disk.now)
+
+pub returns-in-Ok-rebuild-clause-reads : goal.returns-in-Ok-rebuild-clause-reads
+returns-in-Ok-rebuild-clause-reads g c = guides_few c.requires.found.2.head.valid c.rebuild.ensures.reads.effect
+
+pub returns-in-Err-Damaged-clause-reads : goal.returns-in-Err-Damaged-clause-reads
+returns-in-Err-Damaged-clause-reads g c = guides_few c.requires.found.2.head.valid c.rebuild.ensures.reads.effect
+
+pub returns-clause-reads : goal.returns-clause-reads
+returns-clause-reads g c = guides_few c.requires.found.2.head.valid c.rebuild.ensures.reads.effect
 
 pub returns-in-Ok-rebuild-clause-guided : goal.returns-in-Ok-rebuild-clause-guided
 returns-in-Ok-rebuild-clause-guided g c = λ tree honest holds is. (c.in-Ok-rebuild.ensures.guided tree honest holds is (λ same. absurd cc)).1
@@ -23,15 +31,3 @@ returns-in-Err-Damaged-clause-faults g c = record { stands = λ other. c.rebuild
 
 pub returns-clause-faults : goal.returns-clause-faults
 returns-clause-faults g c = record { stands = λ other. absurd (other refl); failed = λ same. c.rebuild.ensures.reads.failed cc }
-
-pub returns-in_default-clause-calls : goal.returns-in_default-clause-calls
-returns-in_default-clause-calls g c = none_few (g.D.Disk.state c.args.disk.now) (3 * page_count c.args.found.now.geometry)
-
-pub returns-in-Ok-rebuild-clause-calls : goal.returns-in-Ok-rebuild-clause-calls
-returns-in-Ok-rebuild-clause-calls g c = guides_few _ c.requires.found.2.head.valid c.rebuild.ensures.reads.effect.effect.calls
-
-pub returns-in-Err-Damaged-clause-calls : goal.returns-in-Err-Damaged-clause-calls
-returns-in-Err-Damaged-clause-calls g c = guides_few _ c.requires.found.2.head.valid c.rebuild.ensures.reads.effect.effect.calls
-
-pub returns-clause-calls : goal.returns-clause-calls
-returns-clause-calls g c = guides_few _ c.requires.found.2.head.valid c.rebuild.ensures.reads.effect.effect.calls

@@ -2,7 +2,7 @@ use Rattle.std.proofs.Common.{sym, subst, IsTrue, List, ℕ}
 use Rattle.std.specs.Prelude.{IfErr, IfOk}
 use Rattle.tree_reading.specs.Reading.{HoldsFound, IsWhy}
 use Rattle.tree_settling.specs.Settling.{CallsFew}
-use Rattle.recover_open.specs.Opening.{StandsEmpty, most_opening_calls}
+use Rattle.recover_open.specs.Opening.{StandsEmpty, TellsSettled, most_opening_calls}
 use Rattle.recover_open.proofs.TreeLemmas.{few_as, found_reads, long_as, opening_few, ready_as, stands_as, keeps_read, keeps_settled, keeps_same, spares_all, spares_on, stays_on, faults_on}
 use Rattle.recover_open.proofs.opening.open_tree.Goals as goal
 
@@ -27,35 +27,35 @@ pub returns-clause-long : goal.returns-clause-long
 returns-clause-long g c =
     long_as c.settle_found.result c.in_ok-found.found.geometry _ (g.D.Disk.state c.args.disk.now) (g.D.Disk.state c.settle_found.new.disk) c.in_ok-found.ensures.was_long c.settle_found.ensures.ready
 
+-- what settling tells of what was found, as the file was before
+told : (g : _) (c : goal.After-settle_found g) → IsTrue (g.D.Disk.state c.args.disk.now).is_honest → (holds : HoldsFound c.in_ok-found.found (g.D.Disk.state c.read_synced.new.disk).bytes)
+    → TellsSettled c.in_ok-found.found.geometry holds.tree c.settle_found.result (g.D.Disk.state c.read_synced.new.disk) (g.D.Disk.state c.settle_found.new.disk)
+told g c honest holds = c.settle_found.ensures.tells (subst IsTrue (sym c.read_synced.ensures.effect.effect.goes_on.is_honest) honest) (c.in_ok-found.ensures.only honest) holds
+
+still : (g : _) (c : goal.After-settle_found g) → IsTrue (g.D.Disk.state c.args.disk.now).is_honest → HoldsFound c.in_ok-found.found (g.D.Disk.state c.read_synced.new.disk).bytes
+still g c honest = subst (HoldsFound c.in_ok-found.found) (sym (c.read_synced.ensures.same honest)) (c.in_ok-found.ensures.holds honest)
+
 pub returns-clause-stands : goal.returns-clause-stands
 returns-clause-stands g c = λ honest.
     let f = c.in_ok-found.found in
-    let r = c.read_synced.ensures in
     let holds = c.in_ok-found.ensures.holds honest in
-    let honest' = subst IsTrue (sym r.effect.effect.goes_on.is_honest) honest in
     let stands =
-    subst (λ (file : List ℕ). (holds : HoldsFound f file) → IfOk c.settle_found.result (λ begun. StandsEmpty begun.runs begun.log holds.tree (g.D.Disk.state c.settle_found.new.disk))) (r.same honest)
-    (c.settle_found.ensures.stands honest' (c.in_ok-found.ensures.only honest)) in
+    subst (λ (file : List ℕ). (holds : HoldsFound f file) → IfOk c.settle_found.result (λ begun. StandsEmpty begun.runs begun.log holds.tree (g.D.Disk.state c.settle_found.new.disk)))
+    (c.read_synced.ensures.same honest) (λ now. (told g c honest now).stands) in
     stands_as c.settle_found.result f f.catalogue.version _ _ holds c.in_ok-found.ensures.found.2.head.version c.settle_found.ensures.ready (stands holds)
 
 pub returns-clause-refused : goal.returns-clause-refused
 returns-clause-refused g c = λ honest.
-    let f = c.in_ok-found.found in
-    let r = c.read_synced.ensures in
-    let honest' = subst IsTrue (sym r.effect.effect.goes_on.is_honest) honest in
-    let holds = subst (HoldsFound f) (sym (r.same honest)) (c.in_ok-found.ensures.holds honest) in
-    subst (λ (file : List ℕ). IfErr c.settle_found.result (λ why. IsWhy why file)) (r.same honest) (c.settle_found.ensures.why honest' (c.in_ok-found.ensures.only honest) holds)
+    subst (λ (file : List ℕ). IfErr c.settle_found.result (λ why. IsWhy why file)) (c.read_synced.ensures.same honest) (told g c honest (still g c honest)).why
 
 pub returns-clause-keeps : goal.returns-clause-keeps
 returns-clause-keeps g c = λ sizes pairs honest reads.
-    let f = c.in_ok-found.found in
     let r = c.read_synced.ensures in
     let timed = g.met.D.Disk.timed in
-    let honest' = subst IsTrue (sym r.effect.effect.goes_on.is_honest) honest in
-    let holds = subst (HoldsFound f) (sym (r.same honest)) (c.in_ok-found.ensures.holds honest) in
+    let holds = still g c honest in
     let first = keeps_read sizes pairs reads (r.same honest) (r.kept honest) (r.synced honest) in
-    keeps_settled sizes pairs (timed c.read_synced.new.disk) (timed c.settle_found.new.disk) first c.settle_found.ensures.effect.1.syncs
-    (keeps_same f sizes pairs c.one_tree.ensures.sizes c.one_tree.ensures.map holds first.reads (c.settle_found.ensures.keeps honest' (c.in_ok-found.ensures.only honest) holds))
+    keeps_settled sizes pairs (timed c.read_synced.new.disk) (timed c.settle_found.new.disk) first c.settle_found.ensures.effect.syncs
+    (keeps_same c.in_ok-found.found sizes pairs c.one_tree.ensures.sizes c.one_tree.ensures.map holds first.reads (told g c honest holds).keeps)
 
 pub returns-clause-untouched : goal.returns-clause-untouched
 returns-clause-untouched g c = λ honest none.
@@ -65,15 +65,11 @@ returns-clause-untouched g c = λ honest none.
 
 pub returns-clause-spares : goal.returns-clause-spares
 returns-clause-spares g c = λ honest.
-    let f = c.in_ok-found.found in
-    let r = c.read_synced.ensures in
-    let honest' = subst IsTrue (sym r.effect.effect.goes_on.is_honest) honest in
-    let holds = subst (HoldsFound f) (sym (r.same honest)) (c.in_ok-found.ensures.holds honest) in
-    spares_on (g.D.Disk.state c.settle_found.new.disk) c.settle_found.result (g.met.D.Disk.timed c.read_synced.new.disk) (r.kept honest) (c.settle_found.ensures.spares honest' (c.in_ok-found.ensures.only honest) holds)
+    spares_on (g.D.Disk.state c.settle_found.new.disk) c.settle_found.result (g.met.D.Disk.timed c.read_synced.new.disk) (c.read_synced.ensures.kept honest) (told g c honest (still g c honest)).spares
 
 -- what is called from the start on
 called : (g : _) (c : goal.After-settle_found g) → CallsFew (most_opening_calls c.in_ok-found.found.geometry) (g.D.Disk.state c.args.disk.now) (g.D.Disk.state c.settle_found.new.disk)
-called g c = opening_few _ c.in_ok-found.found.geometry c.in_ok-found.ensures.calls c.settle_found.ensures.calls
+called g c = opening_few _ c.in_ok-found.found.geometry c.in_ok-found.ensures.calls c.settle_found.ensures.effect.calls
 
 pub returns-clause-calls : goal.returns-clause-calls
 returns-clause-calls g c =
@@ -81,9 +77,8 @@ returns-clause-calls g c =
 
 pub returns-clause-effect : goal.returns-clause-effect
 returns-clause-effect g c =
-    let e = c.settle_found.ensures.effect in
-    stays_on c.in_ok-found.found.geometry e.0 (g.met.D.Disk.timed c.read_synced.new.disk) (c.in_ok-found.ensures.faults.stands (λ wrong. absurd cc)) c.in_ok-found.ensures.was_long c.in_ok-found.ensures.found.2.head.geometry (called g c)
-    c.read_synced.ensures.effect e.1
+    stays_on c.in_ok-found.found.geometry _ (g.met.D.Disk.timed c.read_synced.new.disk) (c.in_ok-found.ensures.faults.stands (λ wrong. absurd cc)) c.in_ok-found.ensures.was_long c.in_ok-found.ensures.found.2.head.geometry (called g c)
+    c.read_synced.ensures.effect c.settle_found.ensures.effect
 
 pub returns-clause-faults : goal.returns-clause-faults
 returns-clause-faults g c = faults_on c.settle_found.result (c.in_ok-found.ensures.faults.stands (λ wrong. absurd cc)) c.settle_found.ensures.faults

@@ -1,12 +1,10 @@
 use Rattle.std.specs.Prelude.{is_ok}
-use Rattle.std.proofs.Common.{◌∙◌, ap, sym, subst}
-use Rattle.mem_table.specs.Tables.{Contents}
+use Rattle.std.proofs.Common.{◌∙◌, ap, subst, arith}
+use Rattle.catalog_swap.specs.declared.catalog.Catalog.{Catalog}
 use Rattle.tree_runs.specs.Runs.{RunsState}
-use Rattle.tree_runs.specs.Holding.{StandOver}
 use Rattle.tree_settling.specs.Settling.{CallsFew, taking_calls}
-use Rattle.tree_settling.proofs.PassLemmas.{IsPassSwap, begun_fits, begun_left, begun_over, pass_leaves, pass_light, pass_may, pass_shows, same_sizes}
-use Rattle.tree_settling.proofs.StepLemmas.{affects_anywhere, calls_and, calls_then}
-use Rattle.tree_settling.proofs.ToldLemmas.{ends_from, fault_then, well_told}
+use Rattle.tree_settling.proofs.PassLemmas.{IsPassSwap, begun_fits, begun_over, next_catalogue, pass_leaves, pass_light, pass_may, pass_shows, same_sizes}
+use Rattle.tree_settling.proofs.StepLemmas.{affects_anywhere, step_done, step_faulted, step_untaken}
 use Rattle.tree_settling.proofs.settling.finish_pass.Goals as goal
 use Rattle.tree_settling.proofs.settling.finish_pass.Goals.{After-swap_pass}
 
@@ -16,16 +14,11 @@ take_pass-requires-clause-running g c = c.begin_pass.ensures.running (g.D.Disk.s
 pub take_pass-requires-clause-fits : goal.take_pass-requires-clause-fits
 take_pass-requires-clause-fits g c = begun_fits c.weight_of_a.result c.args.runs.now c.begin_pass.new.self c.args.log.now c.a-a.result.now (g.D.Disk.state c.args.disk.now) c.begin_pass.ensures.begun c.a-a.ensures c.requires.may
 
-pub returns-in_err-take_pass-clause-leaves : goal.returns-in_err-take_pass-clause-leaves
-returns-in_err-take_pass-clause-leaves g c =
-    begun_left c.weight_of_a.result c.begin_pass.ensures.begun c.begin_pass.ensures.lists c.a-a.ensures c.take_pass.ensures.keeps c.take_pass.ensures.effect
-
-pub returns-in_err-take_pass-clause-ends : goal.returns-in_err-take_pass-clause-ends
-returns-in_err-take_pass-clause-ends g c = λ pairs honest shows.
-    ends_from c.in_err-take_pass.was c.from_residual.ensures.1
-    (c.take_pass.ensures.ends shows.tree honest
-    (begun_over c.weight_of_a.result c.args.runs.now c.begin_pass.new.self shows.tree c.a-a.result.now.entries (g.D.Disk.state c.args.disk.now) c.begin_pass.ensures.begun c.begin_pass.ensures.lists
-    (subst (λ (t : Contents). StandOver c.args.runs.now shows.tree t.entries (g.D.Disk.state c.args.disk.now)) (sym c.a-a.ensures) shows.over)))
+pub returns-in_err-take_pass-clause-step : goal.returns-in_err-take_pass-clause-step
+returns-in_err-take_pass-clause-step g c =
+    step_untaken c.in_err-take_pass.was c.from_residual.ensures.1 c.a-a.ensures (ap (λ (r : RunsState). r.sizes) c.begin_pass.ensures.begun)
+    (λ tree over. begun_over c.weight_of_a.result c.args.runs.now c.begin_pass.new.self tree c.a-a.result.now.entries (g.D.Disk.state c.args.disk.now) c.begin_pass.ensures.begun c.begin_pass.ensures.lists over)
+    c.take_pass.ensures.takes
 
 -- the swap, however it ended
 swap : (g : _) (c : After-swap_pass g) → IsPassSwap (is_ok c.swap_pass.result) c.weight_of_a.result c.a-a.result.now c.args.runs.now c.begin_pass.new.self c.take_pass.new.runs c.swap_pass.new.self c.args.log.now
@@ -36,53 +29,30 @@ swap g c = record {
   rests = c.requires.rests;
   begins = c.begin_pass.ensures.begun;
   begun_lists = c.begin_pass.ensures.lists;
-  goes = c.in_ok-take_pass.ensures.goes_on;
+  goes = c.in_ok-take_pass.ensures.takes.goes_on;
   deep = c.in_ok-take_pass.ensures.deep;
   some = c.in_ok-take_pass.ensures.done.0;
   none = c.in_ok-take_pass.ensures.done.1;
   lists = c.swap_pass.ensures.lists;
-  calls = 9;
+  few = subst (λ (r : RunsState). CallsFew (taking_calls r.sizes) (g.D.Disk.state c.args.disk.now) (g.D.Disk.state c.take_pass.new.disk)) c.begin_pass.ensures.begun c.take_pass.ensures.takes.effect.calls;
   effect = affects_anywhere c.swap_pass.ensures.effect;
 }
 
-pub returns-in_err-swap_pass-clause-leaves : goal.returns-in_err-swap_pass-clause-leaves
-returns-in_err-swap_pass-clause-leaves g c = pass_leaves (swap g (goal.at.returns-in_err-swap_pass-clause-leaves g c).After-swap_pass)
+pub returns-in_err-swap_pass-clause-step : goal.returns-in_err-swap_pass-clause-step
+returns-in_err-swap_pass-clause-step g c =
+    step_faulted (g.D.Disk.state c.take_pass.new.disk) c.in_ok-take_pass.ensures.takes.goes_on.calm c.from_residual-in_err-swap_pass.ensures.1 c.in_err-swap_pass.ensures.faults
+    (pass_leaves (swap g (goal.at.returns-in_err-swap_pass-clause-step g c).After-swap_pass))
 
-pub returns-in_err-swap_pass-clause-faults : goal.returns-in_err-swap_pass-clause-faults
-returns-in_err-swap_pass-clause-faults g c =
-    fault_then (g.D.Disk.state c.take_pass.new.disk) c.in_ok-take_pass.ensures.goes_on.well.calm c.from_residual-in_err-swap_pass.ensures.1 c.in_err-swap_pass.ensures.faults
-
-pub returns-clause-on : goal.returns-clause-on
-returns-clause-on g c =
-    let swap = swap g (goal.at.returns-clause-on g c).After-swap_pass in
+pub returns-clause-step : goal.returns-clause-step
+returns-clause-step g c =
+    let swap = swap g (goal.at.returns-clause-step g c).After-swap_pass in
     let swaps = c.in_ok-swap_pass.ensures.swaps in
-    record {
-      leaves = pass_leaves swap;
+    step_done (pass_leaves swap)
+    (record {
       shows = pass_shows swap c.turn.new.self (ap is_ok c.in_ok-swap_pass.was) swaps c.turn.ensures.is_of;
       may = pass_may swap c.turn.new.self c.requires.may swaps c.turn.ensures.is_of c.turn.ensures.log c.in_ok-swap_pass.ensures.running;
       light = pass_light swap c.turn.new.self swaps c.turn.ensures.log;
       sizes = swaps.sizes ∙ same_sizes swap;
-      calm = c.in_ok-swap_pass.ensures.faults ∙ c.in_ok-take_pass.ensures.goes_on.well.calm;
-    }
-
-pub returns-clause-leaves : goal.returns-clause-leaves
-returns-clause-leaves g c = (returns-clause-on g c).leaves
-
-pub returns-clause-faults : goal.returns-clause-faults
-returns-clause-faults g c =
-    well_told (g.D.Disk.state c.args.disk.now) (g.D.Disk.state c.swap_pass.new.disk) (c.in_ok-swap_pass.ensures.faults ∙ c.in_ok-take_pass.ensures.goes_on.well.calm)
-
--- the pass that begins has the same sizes
-pub returns-in_err-take_pass-clause-calls : goal.returns-in_err-take_pass-clause-calls
-returns-in_err-take_pass-clause-calls g c =
-    calls_and _ _ 9 (subst (λ (r : RunsState). CallsFew (taking_calls r.sizes) (g.D.Disk.state c.args.disk.now) (g.D.Disk.state c.take_pass.new.disk)) c.begin_pass.ensures.begun c.take_pass.ensures.calls)
-
-pub returns-in_err-swap_pass-clause-calls : goal.returns-in_err-swap_pass-clause-calls
-returns-in_err-swap_pass-clause-calls g c =
-    calls_then _ _ 9 (subst (λ (r : RunsState). CallsFew (taking_calls r.sizes) (g.D.Disk.state c.args.disk.now) (g.D.Disk.state c.take_pass.new.disk)) c.begin_pass.ensures.begun c.take_pass.ensures.calls)
-    c.swap_pass.ensures.effect.calls
-
-pub returns-clause-calls : goal.returns-clause-calls
-returns-clause-calls g c =
-    calls_then _ _ 9 (subst (λ (r : RunsState). CallsFew (taking_calls r.sizes) (g.D.Disk.state c.args.disk.now) (g.D.Disk.state c.take_pass.new.disk)) c.begin_pass.ensures.begun c.take_pass.ensures.calls)
-    c.swap_pass.ensures.effect.calls
+      calm = c.in_ok-swap_pass.ensures.faults ∙ c.in_ok-take_pass.ensures.takes.goes_on.calm;
+    })
+    (omega (arith, ap (λ (c : Catalog). c.version) (next_catalogue swap swaps)))
